@@ -1,0 +1,30 @@
+# make            builds ./mkpasswd, a copy of the proved program
+# make run        builds what is missing and hashes a first password
+# make check      every test there is, and the gate
+# make install    puts the program under PREFIX/bin (default /usr/local)
+# make clean      removes what was built
+PREFIX ?= /usr/local
+RT ?= rt
+
+SOURCES := $(shell find crates -path '*/out' -prune -o \( -name '*.rt' -o -name '*.antt' \) -print) crates.txt
+
+.PHONY: all run check install clean
+
+all: mkpasswd
+
+mkpasswd: $(SOURCES)
+	cd crates/mkpasswd && $(RT) run -- -m md5crypt -S xxxxxxxx password
+	cp crates/mkpasswd/out/mkpasswd $@
+
+run: mkpasswd
+	@./mkpasswd -m md5crypt -S xxxxxxxx password
+
+check: mkpasswd
+	tools/check-memory ./mkpasswd
+	$(RT) ci
+
+install: mkpasswd
+	install -D -m 755 mkpasswd $(DESTDIR)$(PREFIX)/bin/mkpasswd
+
+clean:
+	rm -rf mkpasswd crates/*/out

@@ -1,0 +1,5 @@
+pub mod CycleLemmas
+pub mod FirstCommand
+pub mod PackingLemmas
+pub mod RequiredTexts
+pub mod Sending

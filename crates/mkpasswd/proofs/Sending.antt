@@ -1,0 +1,71 @@
+-- How far the giving of a text has come.
+use Rattle.std.proofs.Common.{◌≡◌, ℕ, ◌+◌, ◌<◌, ◌≤◌, List, [], ◌++◌, length, take, drop, arith, refl, sym, ◌∙◌, ap, append_assoc, Option, Some, None, false, nat_eq, nat_lt, ◌&&◌, ◌-◌, add-zero}
+use Rattle.std.proofs.lemmas.List.{append-nil, length-append, length-take-le, take-append-drop}
+use Rattle.std.specs.Io.KnownBytes.{Appends, Keeps}
+use Rattle.std.proofs.lemmas.Bool.Decides.{nat_tests}
+use Rattle.mkpasswd.specs.Devices.{Device, count_of}
+use Rattle.mkpasswd.specs.Output.{Takes}
+
+pub Appends-nil : (old : Option (List ℕ)) → Appends old old []
+Appends-nil None = tt
+Appends-nil (Some xs) = sym (append-nil xs)
+
+pub Appends-append : (a b c : Option (List ℕ)) (xs ys : List ℕ) → Appends a b xs → Appends b c ys → Appends a c (xs ++ ys)
+Appends-append None b c xs ys p q = tt
+Appends-append (Some a) None c xs ys p q = absurd p
+Appends-append (Some a) (Some b) None xs ys p q = absurd q
+Appends-append (Some a) (Some b) (Some c) xs ys p q = q ∙ (ap (λ l. l ++ ys) p ∙ append_assoc a xs ys)
+
+pub Appends-keeps : (a b c : Option (List ℕ)) (xs : List ℕ) → Appends a b xs → Keeps b c → Appends a c xs
+Appends-keeps None b c xs p q = tt
+Appends-keeps (Some a) None c xs p q = absurd p
+Appends-keeps (Some a) (Some b) None xs p q = absurd q
+Appends-keeps (Some a) (Some b) (Some c) xs p q = q ∙ p
+
+module _ {T : Type 0} where
+  -- the front of the text was taken, in calls that did not fail and that each took a byte
+  pub record IsUnderWay (contents : T → Option (List ℕ)) (old new : Device T) (text rest : List ℕ) (turns left : ℕ) : Type 0 where
+    pub sent : List ℕ
+    pub split : sent ++ rest ≡ text
+    pub takes : Takes contents old new sent
+    pub unfailed : new.failures ≡ old.failures
+    pub calls : new.calls + left ≡ old.calls + turns
+    pub few_calls : new.calls + old.bytes ≤ old.calls + new.bytes
+
+  -- a `give` that took some bytes of the rest
+  pub under_way-step : (contents : T → Option (List ℕ)) (old mid new : Device T) (text rest next : List ℕ) (turns left count : ℕ)
+      → IsUnderWay contents old mid text rest turns left → 0 < left → 0 < count → count ≤ length rest
+      → Appends (contents mid.inner) (contents new.inner) (take count rest)
+      → new.failures ≡ mid.failures + count_of (nat_eq count 0 && nat_lt 0 (length rest))
+      → new.calls ≡ mid.calls + 1 → new.bytes ≡ mid.bytes + count → next ≡ drop count rest
+      → IsUnderWay contents old new text next turns (left - 1)
+  under_way-step contents old mid new text rest next turns left count before some_left some_taken within appends failures calls bytes next_is =
+      let sent = before.sent in
+      let took = take count rest in
+      let some : nat_eq count 0 ≡ false = grind (arith, nat_tests) in
+      let no_failure : new.failures ≡ mid.failures = rw some at failures ∙ add-zero mid.failures in
+      let size : length took ≡ count = length-take-le count rest within in
+      let counted = before.takes.counted in
+      let were_few = before.few_calls in
+      record {
+        sent = sent ++ took;
+        split = rw next_is (append_assoc sent took (drop count rest) ∙ (ap (λ l. sent ++ l) (take-append-drop count rest) ∙ before.split));
+        takes = record {
+          shown = Appends-append _ (contents mid.inner) _ sent took before.takes.shown appends;
+          counted = omega (arith, length-append sent took, size, counted, bytes);
+        };
+        unfailed = no_failure ∙ before.unfailed;
+        calls = omega (arith, before.calls, calls);
+        few_calls = omega (arith, were_few, calls, bytes);
+      }
+
+  pub under_way-start : (contents : T → Option (List ℕ)) (old : Device T) (text : List ℕ) (turns : ℕ)
+      → IsUnderWay contents old old text text turns turns
+  under_way-start contents old text turns = record {
+    sent = [];
+    split = refl;
+    takes = record { shown = Appends-nil _; counted = omega arith };
+    unfailed = refl;
+    calls = refl;
+    few_calls = omega arith;
+  }

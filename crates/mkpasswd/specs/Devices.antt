@@ -1,0 +1,34 @@
+-- What a contract sees of a device behind its wrapper.
+use Rattle.std.specs.Prelude.{◌≡◌, ℕ, ◌+◌, ◌^◌, ◌≤◌, ◌==◌, ◌&&◌, Bool, true, false, nat_lt, List, length, Result, Ok, Err, refl, if◌then◌else◌}
+use Rattle.std.specs.Coded.{Coded, code_by, coded×, coded_ℕ}
+
+-- the device, how many of its calls failed, how many moved bytes, and how many bytes these moved
+pub record Device (T : Type 0) : Type 0 where
+  pub inner : T
+  pub failures : ℕ
+  pub calls : ℕ
+  pub bytes : ℕ
+
+-- a device is stored as its four parts
+abbrev pub device_code : {T : Type 0} → Coded T → Coded (Device T)
+device_code {T} code =
+    code_by (T × (ℕ × (ℕ × ℕ))) (coded× code (coded× coded_ℕ (coded× coded_ℕ coded_ℕ)))
+    (λ d. (d.inner, (d.failures, (d.calls, d.bytes))))
+    (λ p. record { inner = p.0; failures = p.1.0; calls = p.1.1.0; bytes = p.1.1.1 }) (λ _. refl)
+
+abbrev pub count_of : Bool → ℕ
+count_of seen = if seen then 1 else 0
+
+-- a `give` fails where its call did, or where it took nothing of a piece that isn't empty
+abbrev pub is_failed_give : {E : Type 0} → Result ℕ E → List ℕ → Bool
+is_failed_give (Ok count) piece = count == 0 && nat_lt 0 (length piece)
+is_failed_give (Err e) piece = true
+
+-- how many bytes a `give` took
+abbrev pub taken_by : {E : Type 0} → Result ℕ E → ℕ
+taken_by (Ok count) = count
+taken_by (Err e) = 0
+
+-- the numbers of a device leave room for any run
+abbrev pub HasRoom : {T : Type 0} → Device T → Type 0
+HasRoom d = (d.failures ≤ 2 ^ 62) × (d.calls ≤ 2 ^ 62) × (d.bytes ≤ 2 ^ 62)

@@ -1,0 +1,11 @@
+-- What a run counts of its lines.
+use Rattle.std.specs.Prelude.{ℕ, ◌==◌, ◌&&◌, if◌then◌else◌}
+use Rattle.mkpasswd.specs.declared.tally.Tally.{Tally}
+
+-- a single password is one line, which is neither refused nor answered `no`
+abbrev pub one_line : Tally
+one_line = record { lines = 1; refused = 0; misfits = 0 }
+
+-- 1 where a line was refused or answered `no`
+abbrev pub tally_status : Tally → ℕ
+tally_status tally = if tally.refused == 0 && tally.misfits == 0 then 0 else 1

@@ -1,0 +1,119 @@
+//! The program's devices. A wrapper passes each call on to the device, and keeps count of the calls,
+//! of the bytes that they moved, and of those that failed, so that a contract can tell what was seen.
+ghost use Rattle.std.specs.Prelude.{◌≡◌, ◌+◌, ◌-◌, ◌^◌, ◌<◌, length};
+ghost use Rattle.std.specs.Result.{is_err};
+ghost use Rattle.std.specs.Io.{WritesAtMost};
+ghost use Rattle.std.specs.Io.KnownBytes.{Keeps, WriteAppends};
+ghost use Rattle.mkpasswd.specs.Devices.{count_of, is_failed_give, taken_by};
+
+use std::io;
+use std::io::Write;
+use std::marker::Model;
+
+/// A writer, with the number of its failed calls, of its `give` calls, and of the bytes that these
+/// took. All three are 0 when new.
+#[derive(Drop)]
+pub struct Output<O> {
+    inner: O,
+    failures: u64,
+    calls: u64,
+    bytes: u64,
+}
+
+impl<O> Model for Output<O> {
+    ghost use Rattle.mkpasswd.specs.Devices.{Device, device_code};
+
+    ghost Value = { Device O };
+
+    ghost coded = { device_code O.code };
+
+    ghost view = { λ o. record { inner = o.inner; failures = o.failures; calls = o.calls; bytes = o.bytes } };
+}
+
+impl<O: Write> Output<O> {
+    /// Wraps a writer.
+    pub fn new(inner: O) -> Output<O>
+        ensures { result ≡ record { inner = inner; failures = 0; calls = 0; bytes = 0 } }
+    {
+        Output {
+            inner,
+            failures: 0,
+            calls: 0,
+            bytes: 0,
+        }
+    }
+
+    /// How many calls of the writer failed, or took no byte of a piece that had some.
+    pub fn failures(&self) -> u64
+        ensures { result ≡ self.now.failures }
+    {
+        self.failures
+    }
+
+    /// Passes one `write` of the piece on, and answers what it answered: how many of the piece's
+    /// first bytes were taken.
+    pub fn give(&mut self, piece: &[u8]) -> io::Result<usize>
+        requires failures_room { self.old.failures < 2 ^ 64 - 1 }
+        requires calls_room { self.old.calls < 2 ^ 64 - 1 }
+        requires bytes_room { self.old.bytes + length piece.now < 2 ^ 64 }
+        ensures within { WritesAtMost result piece.now }
+        ensures takes { WriteAppends (O.contents self.old.inner) (O.contents self.new.inner) result piece.now }
+        ensures failures { self.new.failures ≡ self.old.failures + count_of (is_failed_give result piece.now) }
+        ensures calls { self.new.calls ≡ self.old.calls + 1 }
+        ensures bytes { self.new.bytes ≡ self.old.bytes + taken_by result }
+    {
+        self.calls += 1;
+        let answer = self.inner.write(piece);
+        match &answer {
+            Ok(count) => {
+                self.bytes += *count as u64;
+                if *count == 0 && !piece.is_empty() {
+                    self.failures += 1;
+                }
+            }
+            Err(_) => self.failures += 1,
+        }
+        answer
+    }
+
+    /// Passes one `flush` on, and answers what it answered. It takes no byte.
+    pub fn flush(&mut self) -> io::Result<()>
+        requires { self.old.failures < 2 ^ 64 - 1 }
+        ensures keeps { Keeps (O.contents self.old.inner) (O.contents self.new.inner) }
+        ensures failures { self.new.failures ≡ self.old.failures + count_of (is_err result) }
+        ensures calls { self.new.calls ≡ self.old.calls }
+        ensures bytes { self.new.bytes ≡ self.old.bytes }
+    {
+        let answer = self.inner.flush();
+        if answer.is_err() {
+            self.failures += 1;
+        }
+        answer
+    }
+}
+
+#[cfg(test)]
+mod tests {
+    use super::*;
+    use crate::memory::MemoryWriter;
+    use std::test::Fail;
+
+    #[test]
+    fn counts_what_it_saw(rt: HostRuntime) -> Result<(), Fail> {
+        let mut writer = MemoryWriter::new(rt.alloc())
+            .by(2)
+            .failing_at(2)
+            .failing_flush();
+        let mut out = Output::new(&mut writer);
+        assert_eq!(rt; out.failures(), 0);
+        assert_eq!(rt; out.give(b"abc").ok(), Some(2), "the first two bytes");
+        assert_eq!(rt; out.give(b"c").ok(), None, "a failed call");
+        assert_eq!(rt; out.give(b"").ok(), Some(0), "an empty piece");
+        assert_eq!(rt; out.failures(), 1, "an empty piece is no failure");
+        assert!(rt; out.flush().is_err());
+        assert_eq!(rt; out.failures(), 2);
+        drop(out);
+        assert_eq!(rt; writer.taken(), b"ab".as_slice());
+        Ok(())
+    }
+}

@@ -1,0 +1,109 @@
+//! The run for a single password: its hash and a line feed go to the output.
+ghost use Rattle.std.specs.Prelude.{◌≡◌, ◌+◌, ◌-◌, ◌^◌, ◌<◌, ◌≤◌, [], ◌∷◌, ◌++◌, length, IfOk, IfErr, OnOk, OnErr, IsErrOf};
+ghost use Rattle.std.specs.Io.KnownBytes.{Keeps};
+ghost use Rattle.mkpasswd.specs.Crypt.{crypt};
+ghost use Rattle.mkpasswd.specs.Devices.{HasRoom};
+ghost use Rattle.mkpasswd.specs.Output.{IsWithinTurns, Takes, TakesPrefix};
+ghost use Rattle.mkpasswd.specs.Settings.{IsSalt};
+ghost use Rattle.mkpasswd.specs.Tallies.{one_line};
+
+use crate::device::Output;
+use crate::faults::RunFault;
+use crate::md5crypt::md5crypt;
+use crate::pack::put_md5crypt;
+use crate::password::Password;
+use crate::tally::Tally;
+use arrayvec::ArrayVec;
+use std::io::Write;
+
+/// Hashes a password by md5crypt with a salt of 1 to 8 characters of crypt's alphabet, and gives the
+/// hash and a line feed to the output, in at most `turns` calls. It takes no memory.
+///
+/// `Write` is answered where a call of the output fails, and `Turns` where one more call than
+/// `turns` is needed; the output has then taken the first bytes of the answer.
+pub fn run_first<O: Write>(
+    password: &Password,
+    salt: &[u8],
+    out: &mut Output<O>,
+    turns: u64,
+) -> Result<Tally, RunFault>
+    requires salt { IsSalt salt.now }
+    requires turns { turns ≤ 2 ^ 40 }
+    requires room { HasRoom out.old }
+    ensures tally { IfOk result (λ tally. tally ≡ one_line) }
+    ensures whole { OnOk result (Takes O.contents out.old out.new (crypt password.now salt.now ++ 10 ∷ [])) }
+    ensures unfailed { OnOk result (out.new.failures ≡ out.old.failures) }
+    ensures fault { OnErr result (TakesPrefix O.contents out.old out.new (crypt password.now salt.now ++ 10 ∷ [])) }
+    ensures write { IsErrOf result RunFault.Write → out.old.failures < out.new.failures }
+    ensures turns { IsErrOf result RunFault.Turns → out.new.calls ≡ out.old.calls + turns }
+    ensures calls { IsWithinTurns turns out.old out.new }
+{
+    let answer = answer(password, salt);
+    send(out, answer.as_slice(), turns)?;
+    finish(out)?;
+    Ok(Tally {
+        lines: 1,
+        refused: 0,
+        misfits: 0,
+    })
+}
+
+// The hash and a line feed.
+fn answer(password: &Password, salt: &[u8]) -> ArrayVec<u8, 160>
+    requires { IsSalt salt.now }
+    ensures { result.items ≡ crypt password.now salt.now ++ 10 ∷ [] }
+{
+    let digest = md5crypt(password, salt);
+    let mut text = ArrayVec::new();
+    text.try_extend_from_slice(b"$1$").unwrap();
+    text.try_extend_from_slice(salt).unwrap();
+    text.push(b'$');
+    put_md5crypt(&mut text, &digest);
+    text.push(b'\n');
+    text
+}
+
+// Gives the whole text, in as many calls as the device wants.
+fn send<O: Write>(out: &mut Output<O>, text: &[u8], turns: u64) -> Result<(), RunFault>
+    requires turns { turns ≤ 2 ^ 40 }
+    requires room { HasRoom out.old }
+    requires short { length text.now ≤ 160 }
+    ensures whole { OnOk result (Takes O.contents out.old out.new text.now) }
+    ensures unfailed { OnOk result (out.new.failures ≡ out.old.failures) }
+    ensures fault { OnErr result (TakesPrefix O.contents out.old out.new text.now) }
+    ensures write { IsErrOf result RunFault.Write → out.old.failures < out.new.failures }
+    ensures turns { IsErrOf result RunFault.Turns → out.new.calls ≡ out.old.calls + turns }
+    ensures calls { IsWithinTurns turns out.old out.new }
+{
+    let mut rest = text;
+    let mut left = turns;
+    'pieces: while !rest.is_empty() {
+        if left == 0 {
+            return Err(RunFault::Turns);
+        }
+        left -= 1;
+        match out.give(rest) {
+            Ok(count) if count > 0 => rest = &rest[count..],
+            _ => return Err(RunFault::Write),
+        }
+    }
+    Ok(())
+}
+
+// Flushes the output, which takes no byte.
+fn finish<O: Write>(out: &mut Output<O>) -> Result<(), RunFault>
+    requires { out.old.failures < 2 ^ 64 - 1 }
+    ensures keeps { Keeps (O.contents out.old.inner) (O.contents out.new.inner) }
+    ensures counts { (out.new.calls ≡ out.old.calls) × (out.new.bytes ≡ out.old.bytes) }
+    ensures unfailed { OnOk result (out.new.failures ≡ out.old.failures) }
+    ensures write { OnErr result (out.old.failures < out.new.failures) }
+    ensures only { IfErr result (λ fault. fault ≡ RunFault.Write) }
+{
+    match out.flush() {
+        Ok(()) => Ok(()),
+        Err(_) => Err(RunFault::Write),
+    }
+}
+
+#[cfg(test)]
+mod tests;

@@ -1,0 +1,109 @@
+//! The words after the program's name: the command that `clap` reads them by, and what they ask the
+//! program to do. Each refusal has its place in one order; want of memory comes where it arises.
+ghost use Rattle.std.specs.Prelude.{◌≡◌, ◌≢◌, ◌↔◌, false, map, string_bytes, IsTrue, IfOk, IfErr};
+ghost use Rattle.clap.specs.Words.{app_of, kind_of, rule_of};
+ghost use Rattle.mkpasswd.specs.Options.{Gives, IsMd5crypt, Plans, Refuses, first_command};
+ghost use Rattle.mkpasswd.specs.Options.{required_rule, texts};
+ghost use Rattle.mkpasswd.specs.Settings.{IsSalt};
+
+use crate::faults::UsageFault;
+use crate::setting::made_salt;
+use arrayvec::ArrayVec;
+use clap::error::ErrorKind;
+use clap::{Arg, ArgAction, Command};
+use std::alloc::{AllocError, Global};
+
+/// One password, to be hashed by md5crypt.
+#[derive(Debug, Drop)]
+pub struct First {
+    /// The salt as it was given: 1 to 8 characters of crypt's alphabet.
+    pub salt: ArrayVec<u8, 8>,
+    /// The bytes of the password's word, of any number and with any values.
+    pub password: Vec<u8>,
+}
+
+/// The texts of TYPE, SALT and PASSWORD.
+#[derive(Clone, Copy)]
+struct Given<'a> {
+    method: &'a str,
+    salt: &'a str,
+    password: &'a str,
+}
+
+/// Says what the words after the program's name ask for. It answers the first of these refusals that
+/// holds:
+///
+/// - `Parse`: the words are not the command's, or ask for help or the version;
+/// - `Method`: TYPE is neither `md5crypt` nor `md5`;
+/// - `Make`: `made_salt` refuses SALT.
+///
+/// `OutOfMemory` comes at the growth that was refused, before any check after it.
+pub fn plan(alloc: Global, words: &[String]) -> Result<First, UsageFault>
+    ensures planned { Plans (map string_bytes words.now) result }
+    ensures salt { IfOk result (λ first. IsSalt first.salt.items) }
+{
+    let given = read_words(alloc, words)?;
+    if !is_md5crypt(given.method) {
+        return Err(UsageFault::Method);
+    }
+    let salt = made_salt(given.salt.as_bytes())?;
+    let password = Vec::from_slice(alloc, given.password.as_bytes())?;
+    Ok(First { salt, password })
+}
+
+/// Reads the words by the command. An error is `clap`'s own; where memory runs out, its kind says so.
+fn read_words<'a>(alloc: Global, words: &'a [String]) -> Result<Given<'a>, clap::Error>
+    ensures ok { IfOk result (λ given. Gives (map string_bytes words.entry.now) (texts given)) }
+    ensures err { IfErr result (λ error. kind_of error ≢ ErrorKind.OutOfMemory
+        → Refuses (map string_bytes words.entry.now) error) }
+{
+    let matches = command(alloc)?.try_get_matches_from(words)?;
+    // The command requires all three, so each has a text.
+    Ok(Given {
+        method: matches.get_str("method").unwrap(),
+        salt: matches.get_str("salt").unwrap(),
+        password: matches.get_str("password").unwrap(),
+    })
+}
+
+/// The command that the words are read by, with its help.
+fn command<'a>(alloc: Global) -> Result<Command<'a>, AllocError>
+    ensures { IfOk result (λ made. app_of made ≡ first_command) }
+{
+    let method = required(alloc, "method", "TYPE")
+        .short('m')
+        .long("method")
+        .help("The method to hash by: md5crypt, or md5 for short");
+    let salt = required(alloc, "salt", "SALT").short('S').long("salt").help(
+        "The salt: 1 to 8 characters, each a letter, a digit, '.' or '/'",
+    );
+    let password = required(alloc, "password", "PASSWORD").help("The password to hash");
+    Command::new(alloc, "mkpasswd")
+        .version("0.1.0")
+        .about("Prints the crypt(5) hash of a password")
+        .no_binary_name(true)
+        .arg(method)?
+        .arg(salt)?
+        .arg(password)
+}
+
+/// An argument that must be given, with one value.
+fn required<'a>(alloc: Global, id: &'a str, value_name: &'a str) -> Arg<'a>
+    ensures rule { rule_of result ≡ required_rule id.entry.now }
+    ensures local { result.global ≡ false }
+{
+    Arg::new(alloc, id)
+        .value_name(value_name)
+        .action(ArgAction::Set)
+        .required(true)
+}
+
+/// Whether TYPE names md5crypt.
+fn is_md5crypt(name: &str) -> bool
+    ensures { IsTrue result ↔ IsMd5crypt name.now }
+{
+    name == "md5crypt" || name == "md5"
+}
+
+#[cfg(test)]
+mod tests;
