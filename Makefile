@@ -20,6 +20,8 @@ run: mkpasswd
 	@./mkpasswd -m md5crypt -S xxxxxxxx password
 
 check: mkpasswd
+	tools/check-layers --selftest
+	tools/check-layers
 	tools/check-memory ./mkpasswd
 	$(RT) ci
 

@@ -1,14 +1,6 @@
-pub mod Alphabet
-pub mod Crypt
-pub mod Cycle
 pub mod Devices
 pub mod Faults
-pub mod Md5crypt
 pub mod Options
 pub mod Output
-pub mod Packing
-pub mod PasswordFaults
-pub mod Passwords
-pub mod RoundMessage
 pub mod Settings
 pub mod Tallies

@@ -1,10 +1,12 @@
-use Rattle.std.specs.Prelude.{◌≡◌, ◌≢◌, ◌⊎◌, ⊤, List, [], Option, Some, Result, Ok, Err, true, codes}
+use Rattle.std.specs.Prelude.{◌≡◌, ◌≢◌, ⊤, List, [], Option, Some, Result, Ok, Err, true, codes}
 use Rattle.clap.specs.Words.{App, IsAmong, Rule, Text, fault_of, first_of, kind_of, matches_of}
 use Rattle.clap.specs.Words.{new_app, new_rule, takes, with_rule}
 use Rattle.clap.specs.Simple.{on_top}
 use Rattle.clap.specs.declared.builder.ArgAction.TheVariants.{Set}
 use Rattle.clap.specs.declared.error.Error.{Error}
 use Rattle.clap.specs.declared.error.kind.ErrorKind.TheVariants as kind
+use Rattle.crypt_core.specs.Methods.{method_named}
+use Rattle.crypt_core.specs.declared.method.Method.TheVariants.{Md5crypt}
 use Rattle.mkpasswd.specs.Settings.{IsRefusedSalt, IsSalt}
 use Rattle.mkpasswd.specs.declared.faults.UsageFault.{UsageFault}
 use Rattle.mkpasswd.specs.declared.faults.UsageFault.TheVariants.{Parse, Method, Make, OutOfMemory}
@@ -78,7 +80,7 @@ pub record Refuses (words : List Text) (error : Error) : Type 0 where
 
 -- TYPE names md5crypt
 abbrev pub IsMd5crypt : Text → Type 0
-IsMd5crypt name = (name ≡ codes "md5crypt") ⊎ (name ≡ codes "md5")
+IsMd5crypt name = method_named name ≡ Some Md5crypt
 
 -- what the words mean: the first refusal that holds, or else the plan. Memory may run out at any
 -- words.

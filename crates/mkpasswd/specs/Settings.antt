@@ -1,5 +1,5 @@
 use Rattle.std.specs.Prelude.{ℕ, ◌≤◌, List, length, All, Contains}
-use Rattle.mkpasswd.specs.Alphabet.{alphabet}
+use Rattle.prims_core.specs.Alphabet.{alphabet}
 use Rattle.mkpasswd.specs.declared.setting.MakeFault.{MakeFault}
 use Rattle.mkpasswd.specs.declared.setting.MakeFault.TheVariants.{SaltLength, SaltCharacter}
 

@@ -3,26 +3,22 @@
 //! `main` chooses the devices and the number of turns, and tells faults; all else is in the modules.
 #![tactic(auto)]
 
+use crypt_core::{Password, PasswordFault};
 use device::Output;
 use faults::{RunFault, UsageFault};
 use one::run_first;
 use options::plan;
-use password::{Password, PasswordFault};
 use std::alloc::AllocError;
 use std::process::ExitCode;
 use std::{env, io};
 use tally::Tally;
 
-mod alphabet;
 mod device;
 mod faults;
-mod md5crypt;
 #[cfg(test)]
 mod memory;
 mod one;
 mod options;
-mod pack;
-mod password;
 mod setting;
 mod tally;
 

@@ -1,7 +1,7 @@
 //! The run for a single password: its hash and a line feed go to the output.
 ghost use Rattle.std.specs.Prelude.{◌≡◌, ◌+◌, ◌-◌, ◌^◌, ◌<◌, ◌≤◌, [], ◌∷◌, ◌++◌, length, IfOk, IfErr, OnOk, OnErr, IsErrOf};
 ghost use Rattle.std.specs.Io.KnownBytes.{Keeps};
-ghost use Rattle.mkpasswd.specs.Crypt.{crypt};
+ghost use Rattle.crypt_core.specs.Crypt.{crypt};
 ghost use Rattle.mkpasswd.specs.Devices.{HasRoom};
 ghost use Rattle.mkpasswd.specs.Output.{IsWithinTurns, Takes, TakesPrefix};
 ghost use Rattle.mkpasswd.specs.Settings.{IsSalt};
@@ -9,11 +9,12 @@ ghost use Rattle.mkpasswd.specs.Tallies.{one_line};
 
 use crate::device::Output;
 use crate::faults::RunFault;
-use crate::md5crypt::md5crypt;
-use crate::pack::put_md5crypt;
-use crate::password::Password;
 use crate::tally::Tally;
 use arrayvec::ArrayVec;
+use crypt_core::md5crypt::md5crypt;
+use crypt_core::pack::pack;
+use crypt_core::{Method, Password};
+use prims_core::meter::Meter;
 use std::io::Write;
 
 /// Hashes a password by md5crypt with a salt of 1 to 8 characters of crypt's alphabet, and gives the
@@ -53,12 +54,13 @@ fn answer(password: &Password, salt: &[u8]) -> ArrayVec<u8, 160>
     requires { IsSalt salt.now }
     ensures { result.items ≡ crypt password.now salt.now ++ 10 ∷ [] }
 {
-    let digest = md5crypt(password, salt);
+    let digest = md5crypt(password, salt, &mut Meter::new());
     let mut text = ArrayVec::new();
     text.try_extend_from_slice(b"$1$").unwrap();
     text.try_extend_from_slice(salt).unwrap();
     text.push(b'$');
-    put_md5crypt(&mut text, &digest);
+    let packed = pack(Method::Md5crypt, &digest);
+    text.try_extend_from_slice(packed.as_slice()).unwrap();
     text.push(b'\n');
     text
 }

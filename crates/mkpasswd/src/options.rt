@@ -1,8 +1,8 @@
 //! The words after the program's name: the command that `clap` reads them by, and what they ask the
 //! program to do. Each refusal has its place in one order; want of memory comes where it arises.
-ghost use Rattle.std.specs.Prelude.{◌≡◌, ◌≢◌, ◌↔◌, false, map, string_bytes, IsTrue, IfOk, IfErr};
+ghost use Rattle.std.specs.Prelude.{◌≡◌, ◌≢◌, false, map, string_bytes, IfOk, IfErr};
 ghost use Rattle.clap.specs.Words.{app_of, kind_of, rule_of};
-ghost use Rattle.mkpasswd.specs.Options.{Gives, IsMd5crypt, Plans, Refuses, first_command};
+ghost use Rattle.mkpasswd.specs.Options.{Gives, Plans, Refuses, first_command};
 ghost use Rattle.mkpasswd.specs.Options.{required_rule, texts};
 ghost use Rattle.mkpasswd.specs.Settings.{IsSalt};
 
@@ -11,6 +11,7 @@ use crate::setting::made_salt;
 use arrayvec::ArrayVec;
 use clap::error::ErrorKind;
 use clap::{Arg, ArgAction, Command};
+use crypt_core::Method;
 use std::alloc::{AllocError, Global};
 
 /// One password, to be hashed by md5crypt.
@@ -43,9 +44,9 @@ pub fn plan(alloc: Global, words: &[String]) -> Result<First, UsageFault>
     ensures salt { IfOk result (λ first. IsSalt first.salt.items) }
 {
     let given = read_words(alloc, words)?;
-    if !is_md5crypt(given.method) {
+    let Some(Method::Md5crypt) = Method::named(given.method.as_bytes()) else {
         return Err(UsageFault::Method);
-    }
+    };
     let salt = made_salt(given.salt.as_bytes())?;
     let password = Vec::from_slice(alloc, given.password.as_bytes())?;
     Ok(First { salt, password })
@@ -96,13 +97,6 @@ fn required<'a>(alloc: Global, id: &'a str, value_name: &'a str) -> Arg<'a>
         .value_name(value_name)
         .action(ArgAction::Set)
         .required(true)
-}
-
-/// Whether TYPE names md5crypt.
-fn is_md5crypt(name: &str) -> bool
-    ensures { IsTrue result ↔ IsMd5crypt name.now }
-{
-    name == "md5crypt" || name == "md5"
 }
 
 #[cfg(test)]

@@ -3,8 +3,8 @@
 ghost use Rattle.std.specs.Prelude.{◌≡◌, ◌↔◌, IsTrue, MatchResult};
 ghost use Rattle.mkpasswd.specs.Settings.{IsOfAlphabet, IsRefusedSalt, IsSalt};
 
-use crate::alphabet::is_of_alphabet;
 use arrayvec::ArrayVec;
+use prims_core::alphabet::value_of;
 use thiserror::Error;
 
 /// Why a given salt is refused.
@@ -51,5 +51,5 @@ pub fn made_salt(salt: &[u8]) -> Result<ArrayVec<u8, 8>, MakeFault>
 fn is_all_of_alphabet(salt: &[u8]) -> bool
     ensures { IsTrue result ↔ IsOfAlphabet salt.now }
 {
-    salt.iter().all(|byte| is_of_alphabet(*byte))
+    salt.iter().all(|byte| value_of(*byte).is_some())
 }

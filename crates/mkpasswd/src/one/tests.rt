@@ -2,9 +2,9 @@ use super::run_first;
 use crate::device::Output;
 use crate::faults::RunFault;
 use crate::memory::MemoryWriter;
-use crate::password::Password;
 use crate::setting::made_salt;
 use crate::tally::Tally;
+use crypt_core::Password;
 use std::alloc::Global;
 use std::test::Fail;
 

@@ -1,5 +1,5 @@
 use Rattle.std.proofs.Common.{refl}
-use Rattle.mkpasswd.specs.Crypt.{crypt}
+use Rattle.crypt_core.specs.Crypt.{crypt}
 use Rattle.mkpasswd.proofs.one.answer.Goals as goal
 
 pub returns : goal.returns
@@ -7,4 +7,5 @@ unfolding crypt
 returns c =
     let prefix = rw c.unwrap.ensures at c.try_extend_from_slice.ensures.ok in
     let salt = rw c.unwrap-2.ensures at c.try_extend_from_slice-2.ensures.ok in
-    rw (c.push-2.ensures.items, c.put_md5crypt.ensures, c.push.ensures.items, salt, prefix, c.new-text.ensures, c.md5crypt-digest.ensures) refl
+    let packed = rw c.unwrap-3.ensures at c.try_extend_from_slice-3.ensures.ok in
+    rw (c.push-2.ensures.items, packed, c.as_slice.ensures.value, c.pack-packed.ensures.text, c.md5crypt-digest.ensures.digest, c.push.ensures.items, salt, prefix, c.new-text.ensures) refl

@@ -3,7 +3,7 @@ use Rattle.std.proofs.lemmas.Bool.{MatchBool-at_true}
 use Rattle.std.proofs.lemmas.Iterator.{YieldsList-from_slice, cases_from_all}
 use Rattle.std.proofs.lemmas.Iterator.Search.{true_from_All}
 use Rattle.std.proofs.lemmas.List.Elements.{All-from_all_within}
-use Rattle.mkpasswd.specs.Alphabet.{alphabet}
+use Rattle.prims_core.specs.Alphabet.{alphabet}
 use Rattle.mkpasswd.proofs.setting.is_all_of_alphabet.Goals as goal
 
 abbrev Is : ℕ → Type 0

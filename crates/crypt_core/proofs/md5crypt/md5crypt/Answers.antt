@@ -1,0 +1,69 @@
+use Rattle.std.proofs.Common.{◌≡◌, ◌+◌, ◌++◌, length, arith, refl, sym, ◌∙◌, ap}
+use Rattle.std.proofs.lemmas.List.{length-append}
+use Rattle.prims_core.specs.Digests.{md5}
+use Rattle.crypt_core.specs.Md5crypt.{md5crypt_digest, md5crypt_message, opening_message, salted_twice}
+use Rattle.crypt_core.specs.RoundMessage.{round_message}
+use Rattle.crypt_core.specs.Work.{with_digest}
+use Rattle.crypt_core.proofs.Md5cryptLemmas.{length-messages_to, length-opening, length-round_message, message-round, messages-all, messages-more, messages-two}
+use Rattle.crypt_core.proofs.Metering.{digests_more, two_digests}
+use Rattle.crypt_core.proofs.md5crypt.md5crypt.Goals as goal
+
+pub rounds-init : goal.rounds-init
+unfolding md5crypt_message
+rounds-init c =
+    let p = c.bytes-password.result.now in
+    let s = c.args.salt.now in
+    let a = c.args.meter.now in
+    let first = salted_twice p s in
+    let second = opening_message p s in
+    let bytes = ap (λ m. m.bytes) c.opening-digest.ensures.count in
+    let short = c.bytes-password.ensures.password.length_fits in (
+      c.opening-digest.ensures.digest,
+      c.opening-digest.ensures.length,
+      rw (messages-two p s) (two_digests a (with_digest a first) c.opening-digest.new.meter first second refl c.opening-digest.ensures.count),
+      omega (arith, bytes, length-opening p s, length-append (p ++ s) p, length-append p s, short, c.requires.salt, ap length c.bytes-password.ensures.value),
+    )
+
+pub round-digest-requires-clause-digests_room : goal.round-digest-requires-clause-digests_room
+round-digest-requires-clause-digests_room c =
+    let digests = ap (λ m. m.digests) c.rounds.invariant.2 in
+    omega (arith, digests, length-messages_to c.bytes-password.result.now c.args.salt.now (c.rounds.i + 2), c.requires.room.0)
+
+pub rounds-preserved : goal.rounds-preserved
+rounds-preserved c =
+    let p = c.bytes-password.result.now in
+    let s = c.args.salt.now in
+    let i = c.rounds.i in
+    let before = c.as_slice.result.now in
+    let same = ap (λ x. round_message i x p s) (c.as_slice.ensures.value ∙ c.rounds.invariant.0) ∙ sym (message-round p s i) in
+    let next : c.rounds.i + 1 + 1 ≡ c.rounds.i + 2 = omega arith in
+    let later : c.rounds.i + 1 + 2 ≡ c.rounds.i + 2 + 1 = omega arith in
+    let counted = digests_more c.args.meter.now c.rounds.meter c.round-digest.new.meter _ _ c.rounds.invariant.2 c.round-digest.ensures.count in
+    let bytes = ap (λ m. m.bytes) c.round-digest.ensures.count in (
+      rw next (c.round-digest.ensures.digest ∙ ap md5 same),
+      c.round-digest.ensures.length,
+      rw (later, messages-more p s (i + 2), ← same) counted,
+      omega (
+        arith,
+        bytes,
+        ap length c.as_slice.ensures.value,
+        c.rounds.invariant.3,
+        c.rounds.invariant.1,
+        length-round_message i before p s,
+        c.bytes-password.ensures.password.length_fits,
+        ap length c.bytes-password.ensures.value,
+        c.requires.salt,
+      ),
+    )
+
+pub returns-clause-digest : goal.returns-clause-digest
+unfolding md5crypt_digest
+returns-clause-digest c =
+    let last : c.rounds.i + 1 ≡ 1001 = omega arith in
+    let digest = rw (last, c.bytes-password.ensures.value) at c.rounds.invariant.0 in
+    c.copy_from_slice.ensures.after ∙ (c.as_slice-2.ensures.value ∙ digest)
+
+pub returns-clause-count : goal.returns-clause-count
+returns-clause-count c =
+    let last : c.rounds.i + 2 ≡ 1002 = omega arith in
+    rw (← messages-all c.args.password.now c.args.salt.now) (rw (last, c.bytes-password.ensures.value) at c.rounds.invariant.2)

@@ -1,0 +1,51 @@
+use Rattle.std.proofs.Common.{◌≡◌, ℕ, ◌/◌, ◌%◌, List, [], ◌++◌, length, arith, refl, sym, ◌∙◌, ap, append_assoc, cond, nat_eq}
+use Rattle.std.proofs.lemmas.List.{append-nil, length-append}
+use Rattle.crypt_core.specs.Cycle.{digit_pieces}
+use Rattle.crypt_core.proofs.CycleLemmas.{digit_pieces-step, no_pieces}
+use Rattle.crypt_core.proofs.Metering.{bytes_more, bytes_none}
+use Rattle.crypt_core.proofs.messages.feed_digits.Goals as goal
+
+pub digits-init : goal.digits-init
+digits-init g c = ([], (λ m h. rw append-nil h), refl, bytes_none c.args.meter.now)
+
+pub feed-requires : goal.feed-requires
+feed-requires g c =
+    let one = c.args.one.now in
+    let other = c.args.other.now in
+    let n = c.digits.rest in
+    let piece = cond (nat_eq (n % 2) 1) one other in
+    let half = digit_pieces one other (n / 2) in
+    let fed = c.digits.invariant.0 in
+    let bytes = ap (λ m. m.bytes) c.digits.invariant.3 in
+    let all = ap length (rw (digit_pieces-step one other n c.digits-test.true) at c.digits.invariant.2) in
+    rw c.digit_piece.ensures (omega (arith, bytes, all, c.requires, length-append fed (piece ++ half), length-append piece half))
+
+pub digits-preserved : goal.digits-preserved
+digits-preserved g c =
+    let one = c.args.one.now in
+    let other = c.args.other.now in
+    let n = c.digits.rest in
+    let fed = c.digits.invariant.0 in
+    let piece = c.digit_piece.result.now in
+    let half = digit_pieces one other (n / 2) in
+    let split = rw (digit_pieces-step one other n c.digits-test.true, ← c.digit_piece.ensures) at c.digits.invariant.2 in (
+      fed ++ piece,
+      (λ m h. rw (← append_assoc) (c.feed.ensures.message _ (c.digits.invariant.1 m h))),
+      append_assoc fed piece half ∙ split,
+      bytes_more c.args.meter.now c.digits.meter c.feed.new.meter _ _ _ c.digits.invariant.3 c.feed.ensures.count (sym (length-append fed piece)),
+    )
+
+-- where no digit is left, all pieces were fed
+all_fed : (one other fed all : List ℕ) (n : ℕ) → n ≡ 0 → fed ++ digit_pieces one other n ≡ all → fed ≡ all
+all_fed one other fed all n none e =
+    sym (append-nil fed) ∙ (ap (λ rest. fed ++ rest) (sym (no_pieces one other)) ∙ (ap (λ k. fed ++ digit_pieces one other k) (sym none) ∙ e))
+
+pub returns-clause-message : goal.returns-clause-message
+returns-clause-message g c = λ m h.
+    let fed = c.digits.invariant.0 in
+    rw (← all_fed c.args.one.now c.args.other.now fed _ c.digits.rest (omega arith) c.digits.invariant.2) (c.digits.invariant.1 m h)
+
+pub returns-clause-count : goal.returns-clause-count
+returns-clause-count g c =
+    let fed = c.digits.invariant.0 in
+    rw (← all_fed c.args.one.now c.args.other.now fed _ c.digits.rest (omega arith) c.digits.invariant.2) c.digits.invariant.3

@@ -1,0 +1,21 @@
+-- What the schemes make of a length: so many bytes of a digest, and a piece for each of the length's
+-- binary digits.
+use Rattle.std.specs.Prelude.{ℕ, zero, suc, ◌/◌, ◌%◌, ◌==◌, List, [], ◌∷◌, length, map, flat_map, slice_index, if◌then◌else◌}
+use Rattle.std.specs.List.{range_with_len}
+
+-- n bytes, of which byte i is byte (i mod length d) of d
+unfoldable pub cycle : List ℕ → ℕ → List ℕ
+cycle d n = map (λ i. slice_index d (i % length d)) (range_with_len 0 n)
+
+-- the binary digits of n, lowest first, but at most k of them
+abbrev pub digits_up_to : ℕ → ℕ → List ℕ
+digits_up_to zero n = []
+digits_up_to (suc k) n = if n == 0 then [] else n % 2 ∷ digits_up_to k (n / 2)
+
+-- the binary digits of n, lowest first, and none for 0: a number n has at most n digits
+unfoldable pub binary_digits : ℕ → List ℕ
+binary_digits n = digits_up_to n n
+
+-- for each binary digit of n, lowest first, one piece for a 1 and another for a 0
+abbrev pub digit_pieces : List ℕ → List ℕ → ℕ → List ℕ
+digit_pieces one other n = flat_map (λ digit. if digit == 1 then one else other) (binary_digits n)

@@ -1,0 +1,9 @@
+pub mod Crypt
+pub mod Cycle
+pub mod Md5crypt
+pub mod Methods
+pub mod Packing
+pub mod PasswordFaults
+pub mod Passwords
+pub mod RoundMessage
+pub mod Work

@@ -1,0 +1,34 @@
+-- The scheme md5crypt of FreeBSD, whose texts begin with `$1$`: 1,002 messages, each but the first
+-- made with the digest of the one before.
+use Rattle.std.specs.Prelude.{ℕ, zero, suc, List, [], ◌∷◌, ◌++◌, length, take, map, codes}
+use Rattle.std.specs.List.{range_with_len}
+use Rattle.prims_core.specs.Digests.{md5}
+use Rattle.crypt_core.specs.Cycle.{cycle, digit_pieces}
+use Rattle.crypt_core.specs.RoundMessage.{round_message}
+
+-- the first message
+abbrev pub salted_twice : List ℕ → List ℕ → List ℕ
+salted_twice password salt = password ++ salt ++ password
+
+-- the second message; a digit 1 of the password's length stands for a zero byte, and a 0 for the
+-- password's first byte
+abbrev pub opening_message : List ℕ → List ℕ → List ℕ
+opening_message password salt =
+    password ++ codes "$1$" ++ salt
+    ++ cycle (md5 (salted_twice password salt)) (length password)
+    ++ digit_pieces (0 ∷ []) (take 1 password) (length password)
+
+-- message k
+unfoldable pub md5crypt_message : List ℕ → List ℕ → ℕ → List ℕ
+md5crypt_message password salt zero = salted_twice password salt
+md5crypt_message password salt (suc zero) = opening_message password salt
+md5crypt_message password salt (suc (suc i)) =
+    round_message i (md5 (md5crypt_message password salt (suc i))) password salt
+
+-- all messages in order
+unfoldable pub md5crypt_messages : List ℕ → List ℕ → List (List ℕ)
+md5crypt_messages password salt = map (md5crypt_message password salt) (range_with_len 0 1002)
+
+-- the digest of the last message
+unfoldable pub md5crypt_digest : List ℕ → List ℕ → List ℕ
+md5crypt_digest password salt = md5 (md5crypt_message password salt 1001)

@@ -1,0 +1,22 @@
+-- The methods of crypt(5), and the words that name them.
+use Rattle.std.specs.Prelude.{ℕ, List, [], ◌∷◌, Option, codes}
+use Rattle.std.specs.Map.{lookup}
+use Rattle.std.specs.Str.{bytes_eq}
+use Rattle.crypt_core.specs.declared.method.Method.{Method}
+use Rattle.crypt_core.specs.declared.method.Method.TheVariants.{Md5crypt, Sha256crypt, Sha512crypt, Scrypt}
+
+-- each word with its method
+abbrev pub names : List (List ℕ × Method)
+names =
+    (codes "md5crypt", Md5crypt)
+    ∷ (codes "md5", Md5crypt)
+    ∷ (codes "sha256crypt", Sha256crypt)
+    ∷ (codes "sha-256", Sha256crypt)
+    ∷ (codes "sha512crypt", Sha512crypt)
+    ∷ (codes "sha-512", Sha512crypt)
+    ∷ (codes "scrypt", Scrypt)
+    ∷ []
+
+-- the method that a word names, if it is one of these
+abbrev pub method_named : List ℕ → Option Method
+method_named word = lookup (bytes_eq word) names

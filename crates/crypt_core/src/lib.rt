@@ -1,0 +1,11 @@
+//! The schemes of crypt(5): passwords, methods, and the digests and texts of each method.
+#![tactic(auto)]
+
+pub mod md5crypt;
+mod messages;
+pub mod method;
+pub mod pack;
+pub mod password;
+
+pub use method::Method;
+pub use password::{Password, PasswordFault};

@@ -1,0 +1,107 @@
+//! The scheme md5crypt of FreeBSD. Its definition speaks of 1,002 whole messages; here they go into
+//! running digests piece by piece, so that no message is built whole and nothing is allocated.
+ghost use Rattle.std.specs.Prelude.{◌≡◌, ◌+◌, ◌*◌, ◌^◌, ◌<◌, ◌≤◌, length};
+ghost use Rattle.prims_core.specs.Digests.{md5};
+ghost use Rattle.crypt_core.specs.Md5crypt.{md5crypt_digest, md5crypt_message, md5crypt_messages, opening_message, salted_twice};
+ghost use Rattle.crypt_core.specs.Work.{with_digest, with_digests, HasRoom};
+
+use crate::messages::{feed_cycle, feed_digits, round};
+use crate::password::Password;
+use arrayvec::ArrayVec;
+use prims_core::counted::{Counted, CountedMd5};
+use prims_core::meter::Meter;
+
+/// How often the digest is made anew.
+const ROUNDS: u32 = 1000;
+
+/// The digest of a password and a salt of at most 8 bytes. The meter counts each message.
+pub fn md5crypt(password: &Password, salt: &[u8], meter: &mut Meter) -> [u8; 16]
+    requires salt { length salt.now ≤ 8 }
+    requires room { HasRoom meter.old }
+    ensures digest { result ≡ md5crypt_digest password.now salt.now }
+    ensures count { meter.new ≡ with_digests meter.old (md5crypt_messages password.now salt.now) }
+{
+    let password = password.bytes();
+    let mut digest = opening(password, salt, meter);
+    'rounds: for i in 0..ROUNDS {
+        digest = round::<CountedMd5>(i, digest.as_slice(), password, salt, meter);
+    }
+    let mut bytes = [0; 16];
+    bytes.copy_from_slice(digest.as_slice());
+    bytes
+}
+
+// The digest of the first message: the salt between two passwords.
+fn salted(password: &[u8], salt: &[u8], meter: &mut Meter) -> ArrayVec<u8, 64>
+    requires password { length password.now ≤ 512 }
+    requires salt { length salt.now ≤ 8 }
+    requires room { HasRoom meter.old }
+    ensures digest { result.items ≡ md5 (salted_twice password.now salt.now) }
+    ensures length { length result.items ≡ 16 }
+    ensures count { meter.new ≡ with_digest meter.old (salted_twice password.now salt.now) }
+{
+    let mut running = CountedMd5::begin();
+    running.feed(meter, password);
+    running.feed(meter, salt);
+    running.feed(meter, password);
+    running.finish(meter)
+}
+
+// The digest of the second message.
+fn opening(password: &[u8], salt: &[u8], meter: &mut Meter) -> ArrayVec<u8, 64>
+    requires password { length password.now ≤ 512 }
+    requires salt { length salt.now ≤ 8 }
+    requires room { HasRoom meter.old }
+    ensures digest { result.items ≡ md5 (opening_message password.now salt.now) }
+    ensures length { length result.items ≡ 16 }
+    ensures count { meter.new ≡ with_digest (with_digest meter.old (salted_twice password.now salt.now)) (opening_message password.now salt.now) }
+{
+    let salted = salted(password, salt, meter);
+    let mut running = CountedMd5::begin();
+    running.feed(meter, password);
+    running.feed(meter, b"$1$");
+    running.feed(meter, salt);
+    feed_cycle(&mut running, meter, salted.as_slice(), password.len());
+    let first = &password[..password.len().min(1)];
+    feed_digits(&mut running, meter, password.len(), &[0], first);
+    running.finish(meter)
+}
+
+#[cfg(test)]
+mod tests {
+    use super::*;
+    use crate::method::Method;
+    use crate::pack::pack;
+    use std::test::Fail;
+
+    #[test]
+    fn counts_its_messages(rt: HostRuntime) -> Result<(), Fail> {
+        for (len, bytes) in [(0, 21347), (512, 974189)] {
+            let password = vec![in rt.alloc(); b'a'; len]?;
+            let password = Password::new(password.as_slice()).expect(&rt, "a password");
+            let mut meter = Meter::new();
+            let _ = md5crypt(&password, b"xxxxxxxx", &mut meter);
+            assert_eq!(rt;
+                (meter.digests(), meter.bytes()),
+                (1002, bytes),
+                "{len} bytes"
+            );
+            assert_eq!(rt;
+                (meter.mixes(), meter.table(), meter.scratch()),
+                (0, 0, 0),
+                "{len} bytes"
+            );
+        }
+        Ok(())
+    }
+
+    #[test]
+    fn is_the_scheme(rt: HostRuntime) {
+        let password = Password::new(b"password").expect(&rt, "a password");
+        let mut meter = Meter::new();
+        let digest = md5crypt(&password, b"xxxxxxxx", &mut meter);
+        let text = pack(Method::Md5crypt, &digest);
+        assert_eq!(rt; text.as_slice(), b"UYCIxa628.9qXjpQCjM4a.".as_slice());
+        assert_eq!(rt; (meter.digests(), meter.bytes()), (1002, 36239));
+    }
+}

@@ -1,0 +1,77 @@
+//! The parts of messages that md5crypt and SHA-crypt share, fed to a running digest: a digest
+//! repeated, a piece for each binary digit of a length, and the message of a round.
+ghost use Rattle.std.specs.Prelude.{◌≡◌, ℕ, ◌+◌, ◌*◌, ◌^◌, ◌<◌, List, ◌++◌, length, ◌==◌, if◌then◌else◌};
+ghost use Rattle.crypt_core.specs.Cycle.{cycle, digit_pieces};
+ghost use Rattle.crypt_core.specs.RoundMessage.{round_message};
+ghost use Rattle.crypt_core.specs.Work.{with_digest};
+
+use arrayvec::ArrayVec;
+use prims_core::counted::Counted;
+use prims_core::meter::Meter;
+
+/// Feeds `len` bytes of a digest, from its start again and again.
+pub(crate) fn feed_cycle<C: Counted>(running: &mut C, meter: &mut Meter, digest: &[u8], len: usize)
+    requires some { 0 < length digest.now }
+    requires room { meter.old.bytes + len < 2 ^ 128 }
+    ensures message { (m : List ℕ) → C.holds running.old m → C.holds running.new (m ++ cycle digest.now len) }
+    ensures count { meter.new ≡ record meter.old { bytes = meter.old.bytes + len } }
+{
+    'turns: for _ in 0..len / digest.len() {
+        running.feed(meter, digest);
+    }
+    running.feed(meter, &digest[..len % digest.len()]);
+}
+
+/// Feeds a piece for each binary digit of `number`, lowest first: `one` for a 1, `other` for a 0.
+pub(crate) fn feed_digits<C: Counted>(
+    running: &mut C,
+    meter: &mut Meter,
+    number: usize,
+    one: &[u8],
+    other: &[u8],
+)
+    requires { meter.old.bytes + length (digit_pieces one.now other.now number) < 2 ^ 128 }
+    ensures message { (m : List ℕ) → C.holds running.old m
+        → C.holds running.new (m ++ digit_pieces one.now other.now number) }
+    ensures count { meter.new ≡ record meter.old { bytes = meter.old.bytes + length (digit_pieces one.now other.now number) } }
+{
+    let mut rest = number;
+    'digits: while rest > 0 {
+        running.feed(meter, digit_piece(rest % 2, one, other));
+        rest /= 2;
+    }
+}
+
+fn digit_piece<'a>(digit: usize, one: &'a [u8], other: &'a [u8]) -> &'a [u8]
+    ensures { result.now ≡ (if digit == 1 then one.now else other.now) }
+{
+    if digit == 1 { one } else { other }
+}
+
+/// The digest of round `i`: `before` is the digest of the round before, `password` and `salt` are
+/// what stands for the two.
+pub(crate) fn round<C: Counted>(
+    i: u32,
+    before: &[u8],
+    password: &[u8],
+    salt: &[u8],
+    meter: &mut Meter,
+) -> ArrayVec<u8, 64>
+    requires bytes_room { meter.old.bytes + (length before.now + 2 * length password.now + length salt.now) < 2 ^ 128 }
+    requires digests_room { meter.old.digests + 1 < 2 ^ 128 }
+    ensures digest { result.items ≡ C.digest (round_message i before.now password.now salt.now) }
+    ensures length { length result.items ≡ C.LEN }
+    ensures count { meter.new ≡ with_digest meter.old (round_message i before.now password.now salt.now) }
+{
+    let is_odd = i % 2 == 1;
+    let mut running = C::begin();
+    running.feed(meter, if is_odd { password } else { before });
+    if i % 3 != 0 {
+        running.feed(meter, salt);
+    }
+    if i % 7 != 0 {
+        running.feed(meter, password);
+    }
+    running.feed(meter, if is_odd { before } else { password });
+    running.finish(meter)
+}

@@ -1,0 +1,67 @@
+//! The methods by which a password is hashed, and the words that name them.
+
+ghost use Rattle.std.specs.Prelude.{◌≡◌};
+ghost use Rattle.std.specs.Str.{bytes_eq};
+ghost use Rattle.crypt_core.specs.Methods.{method_named};
+
+/// A hashing method of crypt(5).
+#[derive(Clone, Copy, Debug, PartialEq, Eq)]
+pub enum Method {
+    /// FreeBSD's md5crypt, `$1$`.
+    Md5crypt,
+    /// Drepper's SHA-crypt over SHA-256, `$5$`.
+    Sha256crypt,
+    /// Drepper's SHA-crypt over SHA-512, `$6$`.
+    Sha512crypt,
+    /// scrypt (RFC 7914), `$7$`.
+    Scrypt,
+}
+
+impl Method {
+    /// The method of a name or an alias, or `None` for any other word.
+    pub fn named(word: &[u8]) -> Option<Method>
+        ensures { result ≡ method_named word.now }
+    {
+        if is(word, b"md5crypt") || is(word, b"md5") {
+            Some(Method::Md5crypt)
+        } else if is(word, b"sha256crypt") || is(word, b"sha-256") {
+            Some(Method::Sha256crypt)
+        } else if is(word, b"sha512crypt") || is(word, b"sha-512") {
+            Some(Method::Sha512crypt)
+        } else if is(word, b"scrypt") {
+            Some(Method::Scrypt)
+        } else {
+            None
+        }
+    }
+}
+
+fn is(word: &[u8], name: &[u8]) -> bool
+    ensures { result ≡ bytes_eq word.now name.now }
+{
+    word == name
+}
+
+#[cfg(test)]
+mod tests {
+    use super::*;
+
+    #[test]
+    fn seven_words_name_methods(rt: HostRuntime) {
+        let cases = [
+            ("md5crypt", Some(Method::Md5crypt)),
+            ("md5", Some(Method::Md5crypt)),
+            ("sha256crypt", Some(Method::Sha256crypt)),
+            ("sha-256", Some(Method::Sha256crypt)),
+            ("sha512crypt", Some(Method::Sha512crypt)),
+            ("sha-512", Some(Method::Sha512crypt)),
+            ("scrypt", Some(Method::Scrypt)),
+            ("help", None),
+            ("", None),
+            ("MD5", None),
+        ];
+        for (word, method) in cases {
+            assert_eq!(rt; Method::named(word.as_bytes()), method, "{word}");
+        }
+    }
+}

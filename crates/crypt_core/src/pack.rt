@@ -1,0 +1,160 @@
+//! The text of a digest: its bytes in the method's own groups, each as base-64 numerals.
+ghost use Rattle.std.specs.Prelude.{◌≡◌, ℕ, ◌+◌, ◌^◌, ◌<◌, ◌≤◌, ◌++◌, length};
+ghost use Rattle.arrayvec.specs.ArrayVec.{array_vec_len};
+ghost use Rattle.crypt_core.specs.Packing.{digest_len, group_number, groups_in, groups_of, packed, packed_by, packed_len, AreGroups, IsGroup};
+
+use crate::method::Method;
+use arrayvec::ArrayVec;
+use prims_core::alphabet::put_group;
+
+/// The places in the digest that each group takes, the first one highest in the group's number.
+const MD5CRYPT_GROUPS: [&[usize]; 6] = [
+    &[0, 6, 12],
+    &[1, 7, 13],
+    &[2, 8, 14],
+    &[3, 9, 15],
+    &[4, 10, 5],
+    &[11],
+];
+
+const SHA256CRYPT_GROUPS: [&[usize]; 11] = [
+    &[0, 10, 20],
+    &[21, 1, 11],
+    &[12, 22, 2],
+    &[3, 13, 23],
+    &[24, 4, 14],
+    &[15, 25, 5],
+    &[6, 16, 26],
+    &[27, 7, 17],
+    &[18, 28, 8],
+    &[9, 19, 29],
+    &[31, 30],
+];
+
+const SHA512CRYPT_GROUPS: [&[usize]; 22] = [
+    &[0, 21, 42],
+    &[22, 43, 1],
+    &[44, 2, 23],
+    &[3, 24, 45],
+    &[25, 46, 4],
+    &[47, 5, 26],
+    &[6, 27, 48],
+    &[28, 49, 7],
+    &[50, 8, 29],
+    &[9, 30, 51],
+    &[31, 52, 10],
+    &[53, 11, 32],
+    &[12, 33, 54],
+    &[34, 55, 13],
+    &[56, 14, 35],
+    &[15, 36, 57],
+    &[37, 58, 16],
+    &[59, 17, 38],
+    &[18, 39, 60],
+    &[40, 61, 19],
+    &[62, 20, 41],
+    &[63],
+];
+
+const SCRYPT_GROUPS: [&[usize]; 11] = [
+    &[2, 1, 0],
+    &[5, 4, 3],
+    &[8, 7, 6],
+    &[11, 10, 9],
+    &[14, 13, 12],
+    &[17, 16, 15],
+    &[20, 19, 18],
+    &[23, 22, 21],
+    &[26, 25, 24],
+    &[29, 28, 27],
+    &[31, 30],
+];
+
+/// The text of a method's digest: 22, 43, 86 or 43 characters, in the order of `Method`. The digest
+/// has the method's length, which is 16, 32, 64 or 32 bytes.
+pub fn pack(method: Method, digest: &[u8]) -> ArrayVec<u8, 86>
+    requires { length digest.now ≡ digest_len method }
+    ensures text { result.items ≡ packed method digest.now }
+    ensures length { length result.items ≡ packed_len method }
+{
+    let mut text = ArrayVec::new();
+    put_groups(&mut text, digest, groups(method));
+    let mut packed = ArrayVec::new();
+    packed.try_extend_from_slice(text.as_slice()).unwrap();
+    packed
+}
+
+fn groups(method: Method) -> &'static [&'static [usize]]
+    ensures { groups_in result.now ≡ groups_of method }
+{
+    match method {
+        Method::Md5crypt => &MD5CRYPT_GROUPS,
+        Method::Sha256crypt => &SHA256CRYPT_GROUPS,
+        Method::Sha512crypt => &SHA512CRYPT_GROUPS,
+        Method::Scrypt => &SCRYPT_GROUPS,
+    }
+}
+
+// Appends the digest's groups in turn.
+fn put_groups(out: &mut ArrayVec<u8, 160>, digest: &[u8], groups: &[&[usize]])
+    requires groups { AreGroups (length digest.now) (groups_in groups.now) }
+    requires room { array_vec_len out.old + length (packed_by (groups_in groups.now) digest.now) ≤ 160 }
+    ensures { out.new.items ≡ out.old.items ++ packed_by (groups_in groups.now) digest.now }
+{
+    'groups: for places in groups {
+        put_group(out, number_of(digest, places), places.len() + 1);
+    }
+}
+
+// The number of the bytes at the places, the first place highest.
+fn number_of(digest: &[u8], places: &[usize]) -> u32
+    requires { IsGroup (length digest.now) places.now }
+    ensures value { result ≡ group_number digest.now places.now }
+    ensures fits { result < 64 ^ (length places.now + 1) }
+{
+    let mut number = 0;
+    'places: for place in places {
+        number = number * 256 + u32::from(digest[*place]);
+    }
+    number
+}
+
+#[cfg(test)]
+mod tests {
+    use super::*;
+    use std::test::Fail;
+
+    #[test]
+    fn writes_the_groups_of_each_method(rt: HostRuntime) -> Result<(), Fail> {
+        let rising: Vec<u8> = (0..64).collect(rt.alloc())?;
+        let cases = [
+            (Method::Md5crypt, 16, "AM..BQE.CUU.DYk.3c./9.", ""),
+            (Method::Sha256crypt, 32, "Ic..", "Sw/"),
+            (Method::Sha512crypt, 64, "eI/.", "z."),
+            (Method::Scrypt, 32, ".2U.", "Sw/"),
+        ];
+        for (method, len, front, end) in cases {
+            assert!(rt; len <= rising.len());
+            let bytes = &rising.as_slice()[..len];
+            let known = matches!(
+                (method, len),
+                (Method::Md5crypt, 16)
+                    | (Method::Sha256crypt | Method::Scrypt, 32)
+                    | (Method::Sha512crypt, 64)
+            );
+            assert!(rt; known);
+            let text = pack(method, bytes);
+            assert!(rt;
+                text.as_slice().starts_with(front.as_bytes()),
+                "{method:?} begins"
+            );
+            assert!(rt;
+                text.as_slice().ends_with(end.as_bytes()),
+                "{method:?} ends"
+            );
+        }
+        let dots = pack(Method::Md5crypt, &[0; 16]);
+        assert_eq!(rt; dots.as_slice(), b"......................".as_slice());
+        Ok(())
+    }
+}

@@ -1,0 +1,106 @@
+//! Passwords: what they may be, before any scheme sees them.
+ghost use Rattle.std.specs.Prelude.{◌≡◌, ℕ, ◌<◌, ◌≤◌, ◌↔◌, List, length, Contains, IfOk, IsErrOf};
+ghost use Rattle.crypt_core.specs.Passwords.{IsPassword};
+
+use arrayvec::ArrayVec;
+use std::marker::Model;
+use thiserror::Error;
+
+/// The most bytes of a password.
+pub const PASSWORD_LIMIT: usize = 512;
+
+/// Why bytes are no password.
+#[derive(Clone, Copy, Debug, PartialEq, Eq, Error)]
+pub enum PasswordFault {
+    /// More than 512 bytes.
+    #[error("{}", self.text())]
+    TooLong,
+    /// A byte 0, which would end the password in C.
+    #[error("{}", self.text())]
+    HasNul,
+}
+
+impl PasswordFault {
+    ghost use Rattle.crypt_core.specs.PasswordFaults.{password_text};
+
+    /// What is wrong, in words for the user.
+    pub fn text(&self) -> &'static str
+        ensures { result.now ≡ password_text self.now }
+    {
+        match self {
+            PasswordFault::TooLong => "password too long",
+            PasswordFault::HasNul => "password has a zero byte",
+        }
+    }
+}
+
+/// A password of at most 512 bytes, none of them 0. A contract sees it as the list of its bytes.
+#[derive(Drop)]
+pub struct Password {
+    bytes: ArrayVec<u8, PASSWORD_LIMIT>,
+}
+
+impl Model for Password {
+    ghost Value = { List ℕ };
+
+    ghost view = { λ p. p.bytes.items };
+
+    ghost invariant = { λ p. IsPassword p.bytes.items };
+}
+
+impl Password {
+    /// Takes the bytes as a password. Too many bytes are told before a byte 0.
+    pub fn new(bytes: &[u8]) -> Result<Password, PasswordFault>
+        ensures ok { IfOk result (λ password. (password ≡ bytes.now) × IsPassword bytes.now) }
+        ensures too_long { IsErrOf result PasswordFault.TooLong ↔ (512 < length bytes.now) }
+        ensures has_nul { IsErrOf result PasswordFault.HasNul ↔ ((length bytes.now ≤ 512) × Contains bytes.now 0) }
+    {
+        let mut kept = ArrayVec::new();
+        if kept.try_extend_from_slice(bytes).is_err() {
+            return Err(PasswordFault::TooLong);
+        }
+        if bytes.contains(&0) {
+            return Err(PasswordFault::HasNul);
+        }
+        Ok(Password { bytes: kept })
+    }
+
+    /// The bytes.
+    pub fn bytes(&self) -> &[u8]
+        ensures value { result.now ≡ self.now }
+        ensures password { IsPassword self.now }
+    {
+        self.bytes.as_slice()
+    }
+}
+
+#[cfg(test)]
+mod tests {
+    use super::*;
+    use std::test::Fail;
+
+    #[test]
+    fn tells_too_long_before_a_zero_byte(rt: HostRuntime) -> Result<(), Fail> {
+        let alloc = rt.alloc();
+        let cases = [
+            (0, b'a', None),
+            (512, b'a', None),
+            (513, b'a', Some(PasswordFault::TooLong)),
+            (513, 0, Some(PasswordFault::TooLong)),
+            (1, 0, Some(PasswordFault::HasNul)),
+        ];
+        for (count, byte, fault) in cases {
+            let bytes = vec![in alloc; byte; count]?;
+            match Password::new(bytes.as_slice()) {
+                Ok(password) => {
+                    assert_eq!(rt; fault, None, "{count} bytes {byte}");
+                    assert_eq!(rt; password.bytes(), bytes.as_slice(), "{count} bytes {byte}");
+                }
+                Err(refusal) => assert_eq!(rt; Some(refusal), fault, "{count} bytes {byte}"),
+            }
+        }
+        assert_eq!(rt; PasswordFault::TooLong.text(), "password too long");
+        assert_eq!(rt; PasswordFault::HasNul.text(), "password has a zero byte");
+        Ok(())
+    }
+}

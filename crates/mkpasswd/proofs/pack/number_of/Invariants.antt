@@ -1,8 +1,0 @@
-use Rattle.std.proofs.Common.{◌≡◌, ◌^◌, ◌<◌, take}
-use Rattle.mkpasswd.specs.Packing.{group_number}
-use Rattle.mkpasswd.proofs.pack.number_of.Given as goal
-
--- the number of the places so far
-abbrev pub invariant-places : goal.invariant-places
-invariant-places l =
-    (l.number ≡ group_number l.digest (take l.place-index l.places)) × (l.number < 256 ^ l.place-index)

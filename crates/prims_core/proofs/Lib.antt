@@ -1,0 +1,2 @@
+pub mod AlphabetFacts
+pub mod NumeralFacts

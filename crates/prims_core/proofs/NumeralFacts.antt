@@ -1,0 +1,111 @@
+-- Numbers and their numerals.
+use Rattle.std.proofs.Common.{◌≡◌, ℕ, zero, suc, ◌+◌, ◌-◌, ◌*◌, ◌/◌, ◌%◌, ◌^◌, ◌<◌, ◌≤◌, List, [], ◌∷◌, ◌++◌, length, get_or, refl, sym, ◌∙◌, ap, subst, add-one, append_assoc, append-nil, length-append, arith}
+use Rattle.std.specs.Prelude.{Contains, All}
+use Rattle.std.proofs.Math.Nat.{pow-suc}
+use Rattle.std.proofs.Math.Seq.{get_or-append_seam}
+use Rattle.std.proofs.lemmas.Nat.{mod-mul-add, div-mul-add}
+use Rattle.prims_core.specs.Alphabet.{alphabet, character_of, numerals}
+use Rattle.prims_core.proofs.AlphabetFacts.{Contains-character_of, character_of-injective}
+
+-- one character of a number, and the rest of it
+pub numerals-step : (n m value : ℕ) → n ≡ m + 1
+    → numerals n value ≡ character_of (value % 64) ∷ numerals m (value / 64)
+unfolding numerals
+numerals-step n m value is = rw (is, add-one) refl
+
+pub numerals-none : (value : ℕ) → numerals 0 value ≡ []
+unfolding numerals
+numerals-none value = refl
+
+pub length-numerals : (n value : ℕ) → length (numerals n value) ≡ n
+unfolding numerals
+length-numerals zero value = refl
+length-numerals (suc n) value = ap suc (length-numerals n (value / 64))
+
+-- a group that is written up to a character, and with that character
+pub group_more : (out more whole : List ℕ) (character chars count rest : ℕ)
+    → more ≡ out ++ character ∷ [] → character ≡ character_of (rest % 64) → count < chars
+    → out ++ numerals (chars - count) rest ≡ whole
+    → more ++ numerals (chars - (count + 1)) (rest / 64) ≡ whole
+group_more out more whole character chars count rest written is left so_far =
+    let step : numerals (chars - count) rest ≡ character ∷ numerals (chars - (count + 1)) (rest / 64) =
+    rw is (numerals-step (chars - count) (chars - (count + 1)) rest (omega arith)) in
+    rw (written, append_assoc) (ap (λ (xs : List ℕ). out ++ xs) (sym step) ∙ so_far)
+
+pub group_all : (out whole : List ℕ) (chars count rest : ℕ) → chars ≤ count
+    → out ++ numerals (chars - count) rest ≡ whole → out ≡ whole
+group_all out whole chars count rest none so_far =
+    let done : chars - count ≡ 0 = omega arith in
+    let last : out ++ [] ≡ whole =
+    subst (λ (xs : List ℕ). out ++ xs ≡ whole) (ap (λ (n : ℕ). numerals n rest) done ∙ numerals-none rest) so_far in
+    sym (append-nil out) ∙ last
+
+-- a number with one more character below it
+pub numerals-more : (n number v c : ℕ) → v < 64 → character_of v ≡ c
+    → numerals (n + 1) (number * 64 + v) ≡ c ∷ numerals n number
+numerals-more n number v c below is =
+    rw (numerals-step (n + 1) n (number * 64 + v) refl, mod-mul-add number 64 v below, div-mul-add number 64 v below)
+    (ap (λ (d : ℕ). d ∷ numerals n number) is)
+
+pub below-more : (n number v : ℕ) → number < 64 ^ n → v < 64 → number * 64 + v < 64 ^ (n + 1)
+below-more n number v small below =
+    let power : 64 ^ (n + 1) ≡ 64 ^ n * 64 = rw add-one (pow-suc 64 n) in
+    omega arith
+
+-- each numeral is of the alphabet
+pub Contains-numerals : (n value i d : ℕ) → i < n → Contains alphabet (get_or (numerals n value) i d)
+unfolding numerals
+Contains-numerals zero value i d inside = absurd (omega arith)
+Contains-numerals (suc n) value zero d inside =
+    Contains-character_of (character_of (value % 64)) (value % 64) (omega arith) refl
+Contains-numerals (suc n) value (suc i) d inside = Contains-numerals n (value / 64) i d (omega arith)
+
+pub All-numerals : (n value : ℕ) (digits : List ℕ) → numerals n value ≡ digits → All (Contains alphabet) digits
+All-numerals n value digits is i d inside =
+    subst (λ (xs : List ℕ). Contains alphabet (get_or xs i d)) is
+    (Contains-numerals n value i d (omega (arith, ap length is, length-numerals n value)))
+
+-- no two numbers have the same numerals
+pub numerals-injective : (n a b : ℕ) → a < 64 ^ n → b < 64 ^ n → numerals n a ≡ numerals n b → a ≡ b
+unfolding numerals
+numerals-injective zero a b small_a small_b same = omega arith
+numerals-injective (suc n) a b small_a small_b same =
+    let power : 64 ^ suc n ≡ 64 ^ n * 64 = pow-suc 64 n in
+    let first : character_of (a % 64) ≡ character_of (b % 64) = cc in
+    let rest : numerals n (a / 64) ≡ numerals n (b / 64) = cc in
+    let low : a % 64 ≡ b % 64 = character_of-injective (a % 64) (b % 64) (omega arith) (omega arith) first in
+    let high : a / 64 ≡ b / 64 = numerals-injective n (a / 64) (b / 64) (omega arith) (omega arith) rest in
+    omega arith
+
+-- a list with a stranger in it is not all of the alphabet
+pub stranger : (front back digits : List ℕ) (c : ℕ) → (front ++ c ∷ []) ++ back ≡ digits
+    → (Contains alphabet c → ⊥) → All (Contains alphabet) digits → ⊥
+stranger front back digits c is strange all =
+    let whole : front ++ c ∷ back ≡ digits = sym (append_assoc front (c ∷ []) back) ∙ is in
+    let at : get_or digits (length front) 0 ≡ c =
+    subst (λ (xs : List ℕ). get_or xs (length front) 0 ≡ c) whole (get_or-append_seam front c back 0) in
+    let inside : length front < length digits =
+    omega (arith, simp length-append at (ap length is)) in
+    strange (subst (Contains alphabet) at (all (length front) 0 inside))
+
+-- a slice that is read from its end, up to a digit and with that digit
+pub digits_none : (rest digits : List ℕ) → rest ≡ digits → rest ++ numerals 0 0 ≡ digits
+digits_none rest digits is = rw numerals-none (append-nil rest ∙ is)
+
+pub digits_more : (rest fewer digits : List ℕ) (digit v n number : ℕ) → rest ≡ fewer ++ digit ∷ []
+    → v < 64 → character_of v ≡ digit → rest ++ numerals n number ≡ digits
+    → fewer ++ numerals (n + 1) (number * 64 + v) ≡ digits
+digits_more rest fewer digits digit v n number last below is so_far =
+    rw (numerals-more n number v digit below is)
+    (sym (append_assoc fewer (digit ∷ []) (numerals n number))
+    ∙ ap (λ (xs : List ℕ). xs ++ numerals n number) (sym last) ∙ so_far)
+
+pub digits_count : (rest digits : List ℕ) (n number : ℕ) → length rest ≡ 0
+    → rest ++ numerals n number ≡ digits → length digits ≡ n
+digits_count rest digits n number none so_far =
+    omega (arith, simp (length-append, length-numerals) at (ap length so_far))
+
+pub digits_all : (rest digits : List ℕ) (n number : ℕ) → length rest ≡ 0
+    → rest ++ numerals n number ≡ digits → numerals n number ≡ digits
+digits_all [] digits n number none so_far = so_far
+digits_all (x ∷ rest) digits n number none so_far = absurd (omega arith)

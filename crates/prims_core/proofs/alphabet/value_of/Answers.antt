@@ -1,0 +1,76 @@
+use Rattle.std.proofs.Common.{◌≡◌, ℕ, ◌+◌, ◌-◌, ◌<◌, arith, refl, sym, ◌∙◌, ap, inl, inr, Some}
+use Rattle.prims_core.specs.Alphabet.{character_of}
+use Rattle.prims_core.proofs.AlphabetFacts.{character_of-first, character_of-upper, character_of-lower, character_of-injective, Contains-character_of, IsOutside, outside_alphabet, no_value}
+use Rattle.prims_core.proofs.alphabet.value_of.Goals as goal
+
+pub returns-in-46-to-57 : goal.returns-in-46-to-57
+returns-in-46-to-57 c =
+    let byte : ℕ = c.args.character in
+    let value : ℕ = byte - 46 in
+    let below : value < 64 = omega arith in
+    let is : character_of value ≡ byte = character_of-first (byte - 46) (omega arith) ∙ omega arith in
+    record {
+      accepts = ((λ _. Contains-character_of byte value below is), λ _. refl);
+      value = (below, is);
+      inverse = λ v vs same. ap Some (character_of-injective value v below vs (is ∙ sym same));
+    }
+
+pub returns-in-65-to-90 : goal.returns-in-65-to-90
+returns-in-65-to-90 c =
+    let byte : ℕ = c.args.character in
+    let value : ℕ = byte - 65 + 12 in
+    let below : value < 64 = omega arith in
+    let is : character_of value ≡ byte = character_of-upper (byte - 65) (omega arith) ∙ omega arith in
+    record {
+      accepts = ((λ _. Contains-character_of byte value below is), λ _. refl);
+      value = (below, is);
+      inverse = λ v vs same. ap Some (character_of-injective value v below vs (is ∙ sym same));
+    }
+
+pub returns-in-97-to-122 : goal.returns-in-97-to-122
+returns-in-97-to-122 c =
+    let byte : ℕ = c.args.character in
+    let value : ℕ = byte - 97 + 38 in
+    let below : value < 64 = omega arith in
+    let is : character_of value ≡ byte = character_of-lower (byte - 97) (omega arith) ∙ omega arith in
+    record {
+      accepts = ((λ _. Contains-character_of byte value below is), λ _. refl);
+      value = (below, is);
+      inverse = λ v vs same. ap Some (character_of-injective value v below vs (is ∙ sym same));
+    }
+
+pub returns-in_default : goal.returns-in_default
+returns-in_default c =
+    let outside : IsOutside c.args.character = inl (omega arith) in
+    record {
+      accepts = ((λ some. cc), λ has. absurd (outside_alphabet c.args.character outside has));
+      value = tt;
+      inverse = λ v vs same. absurd (no_value c.args.character outside v vs same);
+    }
+
+pub returns-in_default-2 : goal.returns-in_default-2
+returns-in_default-2 c =
+    let outside : IsOutside c.args.character = inr (inl (omega arith, omega arith)) in
+    record {
+      accepts = ((λ some. cc), λ has. absurd (outside_alphabet c.args.character outside has));
+      value = tt;
+      inverse = λ v vs same. absurd (no_value c.args.character outside v vs same);
+    }
+
+pub returns-in_default-3 : goal.returns-in_default-3
+returns-in_default-3 c =
+    let outside : IsOutside c.args.character = inr (inr (inl (omega arith, omega arith))) in
+    record {
+      accepts = ((λ some. cc), λ has. absurd (outside_alphabet c.args.character outside has));
+      value = tt;
+      inverse = λ v vs same. absurd (no_value c.args.character outside v vs same);
+    }
+
+pub returns-in_default-4 : goal.returns-in_default-4
+returns-in_default-4 c =
+    let outside : IsOutside c.args.character = inr (inr (inr (omega arith))) in
+    record {
+      accepts = ((λ some. cc), λ has. absurd (outside_alphabet c.args.character outside has));
+      value = tt;
+      inverse = λ v vs same. absurd (no_value c.args.character outside v vs same);
+    }

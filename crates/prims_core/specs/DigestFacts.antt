@@ -1,0 +1,58 @@
+-- Each digest is made of bytes, whatever the message.
+use Rattle.std.proofs.Common.{ℕ, zero, suc, ◌<◌, List, [], ◌∷◌, arith}
+use Rattle.std.specs.Prelude.{All, slice_index}
+use Rattle.std.specs.Int.{byte_at, bytes_low_first, bytes_high_first}
+use Rattle.std.proofs.lemmas.List.Elements.{All-append}
+use Rattle.md5.specs.Md5 as M5
+use Rattle.sha2.specs.Sha256 as S256
+use Rattle.sha2.specs.Sha512 as S512
+
+-- each number of the list is a byte
+abbrev pub AreBytes : List ℕ → Type 0
+AreBytes = All (λ b. b < 256)
+
+none : AreBytes []
+none k d inside = absurd (omega arith)
+
+more : (x : ℕ) (xs : List ℕ) → x < 256 → AreBytes xs → AreBytes (x ∷ xs)
+more x xs first rest zero d inside = first
+more x xs first rest (suc k) d inside = rest k d (omega arith)
+
+byte_at-lt : (i n : ℕ) → byte_at i n < 256
+byte_at-lt zero n = omega arith
+byte_at-lt (suc i) n = omega arith
+
+low_first : (i k n : ℕ) → AreBytes (bytes_low_first i k n)
+low_first i zero n = none
+low_first i (suc k) n = more (byte_at i n) (bytes_low_first (suc i) k n) (byte_at-lt i n) (low_first (suc i) k n)
+
+high_first : (k n : ℕ) → AreBytes (bytes_high_first k n)
+high_first zero n = none
+high_first (suc k) n = more (byte_at k n) (bytes_high_first k n) (byte_at-lt k n) (high_first k n)
+
+md5_words : (h : List ℕ) (n : ℕ) → AreBytes (M5.digest_bytes h n)
+unfolding M5.digest_bytes
+md5_words h zero = none
+md5_words h (suc n) = All-append (λ b. b < 256) _ _ (md5_words h n) (low_first 0 4 (slice_index h n))
+
+sha256_words : (h : List ℕ) (n : ℕ) → AreBytes (S256.digest_bytes h n)
+unfolding S256.digest_bytes
+sha256_words h zero = none
+sha256_words h (suc n) = All-append (λ b. b < 256) _ _ (sha256_words h n) (high_first 4 (slice_index h n))
+
+sha512_words : (h : List ℕ) (n : ℕ) → AreBytes (S512.digest_bytes h n)
+unfolding S512.digest_bytes
+sha512_words h zero = none
+sha512_words h (suc n) = All-append (λ b. b < 256) _ _ (sha512_words h n) (high_first 8 (slice_index h n))
+
+pub md5_bytes : (m : List ℕ) → AreBytes (M5.md5 m)
+unfolding M5.md5
+md5_bytes m = md5_words _ 4
+
+pub sha256_bytes : (m : List ℕ) → AreBytes (S256.sha256 m)
+unfolding S256.sha256
+sha256_bytes m = sha256_words _ 8
+
+pub sha512_bytes : (m : List ℕ) → AreBytes (S512.sha512 m)
+unfolding S512.sha512
+sha512_bytes m = sha512_words _ 8

@@ -1,0 +1,6 @@
+-- The digests that a meter counts, and what each running digest holds. The functions are those of
+-- the digest crates: MD5 (RFC 1321), SHA-256 and SHA-512 (FIPS 180-4), on whole messages.
+pub use Rattle.md5.specs.Md5.{md5, Holds as HoldsMd5}
+pub use Rattle.sha2.specs.Sha256.{sha256}
+pub use Rattle.sha2.specs.Sha512.{sha512}
+pub use Rattle.sha2.specs.Hashers.{Holds256 as HoldsSha256, Holds512 as HoldsSha512}

@@ -1,0 +1,19 @@
+-- What a meter has counted.
+use Rattle.std.specs.Prelude.{ℕ}
+
+-- the five counts of the work done
+pub record Counts : Type 0 where
+  -- digests finished
+  pub digests : ℕ
+  -- bytes fed to digests
+  pub bytes : ℕ
+  -- mixings of a scrypt block
+  pub mixes : ℕ
+  -- bytes of scrypt's tables
+  pub table : ℕ
+  -- bytes of scrypt's scratch memory
+  pub scratch : ℕ
+
+-- the counts before any work
+abbrev pub no_counts : Counts
+no_counts = record { digests = 0; bytes = 0; mixes = 0; table = 0; scratch = 0 }

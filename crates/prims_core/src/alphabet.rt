@@ -1,0 +1,147 @@
+//! The alphabet of crypt(5) and its base-64 numerals.
+//!
+//! A character has a value from 0 to 63 and stands for six bits. A number is written lowest six
+//! bits first, so that `/...` is the number 1.
+
+ghost use Rattle.std.specs.Prelude.{◌≡◌, ℕ, ◌+◌, ◌^◌, ◌<◌, ◌≤◌, ◌++◌, ◌↔◌, length, All, Contains, IfSome, Some, IsSome};
+ghost use Rattle.arrayvec.specs.ArrayVec.{array_vec_len};
+ghost use Rattle.prims_core.specs.Alphabet.{alphabet, character_of, numerals};
+
+use arrayvec::ArrayVec;
+
+// The characters in the order of their values.
+const CHARACTERS: [u8; 64] = *b"./0123456789ABCDEFGHIJKLMNOPQRSTUVWXYZabcdefghijklmnopqrstuvwxyz";
+
+/// The character of a value below 64.
+pub fn char_of(value: u8) -> u8
+    requires { value < 64 }
+    ensures { result ≡ character_of value }
+{
+    CHARACTERS[value as usize]
+}
+
+/// The value of a character, from 0 to 63, or `None` for a byte outside the alphabet.
+///
+/// It is the inverse of [`char_of`].
+pub fn value_of(character: u8) -> Option<u8>
+    ensures accepts { IsSome result ↔ Contains alphabet character }
+    ensures value { IfSome result (λ v. (v < 64) × (character_of v ≡ character)) }
+    ensures inverse { (v : ℕ) → v < 64 → character_of v ≡ character → result ≡ Some v }
+{
+    match character {
+        // `.` and `/` stand directly before the digits.
+        b'.'..=b'9' => Some(character - b'.'),
+        b'A'..=b'Z' => Some(character - b'A' + 12),
+        b'a'..=b'z' => Some(character - b'a' + 38),
+        _ => None,
+    }
+}
+
+/// Appends the lowest `6 * chars` bits of `value`, as that many characters, lowest six bits first.
+///
+/// The value has no more bits than that, and `out` has room.
+pub fn put_group(out: &mut ArrayVec<u8, 160>, value: u32, chars: usize)
+    requires some { 1 ≤ chars }
+    requires few { chars ≤ 5 }
+    requires fits { value < 64 ^ chars }
+    requires room { array_vec_len out.old + chars ≤ 160 }
+    ensures items { out.new.items ≡ out.old.items ++ numerals chars value }
+    ensures len { array_vec_len out.new ≡ array_vec_len out.old + chars }
+{
+    let mut rest = value;
+    'characters: for _ in 0..chars {
+        out.push(char_of((rest % 64) as u8));
+        rest /= 64;
+    }
+}
+
+/// The number below 2^30 of exactly five characters, lowest six bits first, or `None` for any other
+/// slice.
+pub fn read_30(digits: &[u8]) -> Option<u32>
+    ensures accepts { IsSome result ↔ ((length digits.now ≡ 5) × All (Contains alphabet) digits.now) }
+    ensures number { IfSome result (λ n. (n < 2 ^ 30) × (numerals 5 n ≡ digits.now)) }
+    ensures inverse { (n : ℕ) → n < 2 ^ 30 → numerals 5 n ≡ digits.now → result ≡ Some n }
+{
+    if digits.len() != 5 {
+        return None;
+    }
+    let mut number = 0;
+    'digits: for digit in digits.iter().rev() {
+        number = number * 64 + u32::from(value_of(*digit)?);
+    }
+    Some(number)
+}
+
+#[cfg(test)]
+mod tests {
+    use super::*;
+
+    // A value that is written and read back.
+    fn value_again(value: u8) -> Option<u8>
+        requires { value < 64 }
+        ensures { result ≡ Some value }
+    {
+        value_of(char_of(value))
+    }
+
+    // A number of 30 bits that is written and read back.
+    fn number_again(number: u32) -> Option<u32>
+        requires { number < 2 ^ 30 }
+        ensures { result ≡ Some number }
+    {
+        let mut digits = ArrayVec::new();
+        put_group(&mut digits, number, 5);
+        read_30(&digits)
+    }
+
+    #[test]
+    fn characters_and_values(rt: HostRuntime) {
+        for (value, character) in [
+            (0, b'.'),
+            (1, b'/'),
+            (2, b'0'),
+            (12, b'A'),
+            (38, b'a'),
+            (63, b'z'),
+        ] {
+            assert!(rt; value < 64);
+            assert_eq!(rt; char_of(value), character, "of {value}");
+            assert_eq!(rt; value_of(character), Some(value), "of {character}");
+        }
+        for outside in [b'$', b'-', b':', b'@', b'[', b'`', b'{', 0, 255] {
+            assert_eq!(rt; value_of(outside), None, "of {outside}");
+        }
+    }
+
+    #[test]
+    fn groups(rt: HostRuntime) {
+        let mut out = ArrayVec::new();
+        put_group(&mut out, 1, 4);
+        assert_eq!(rt; out.as_slice(), b"/...".as_slice(), "one");
+        put_group(&mut out, 0xfff, 2);
+        assert_eq!(rt;
+            out.as_slice(),
+            b"/...zz".as_slice(),
+            "after it twelve bits"
+        );
+    }
+
+    #[test]
+    fn numbers_of_five_characters(rt: HostRuntime) {
+        let cases: [(&[u8], Option<u32>); 8] = [
+            (b"6....", Some(8)),
+            (b"U....", Some(32)),
+            (b"zzzzz", Some(1_073_741_823)),
+            (b"./...", Some(64)),
+            (b"6...", None),
+            (b"6...$", None),
+            (b"6.....", None),
+            (b"", None),
+        ];
+        for (digits, number) in cases {
+            assert_eq!(rt; read_30(digits), number, "of {digits:?}");
+        }
+        assert_eq!(rt; value_again(63), Some(63), "the last value");
+        assert_eq!(rt; number_again(0x3fff_fffe), Some(0x3fff_fffe), "thirty bits");
+    }
+}

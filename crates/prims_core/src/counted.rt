@@ -1,0 +1,78 @@
+//! The digests that a meter counts, each behind one trait.
+//!
+//! A running digest is fed a message piece by piece and finished once. Each piece raises the meter's
+//! bytes by its length, and each digest raises its digests by one. These are the only callers of the
+//! digest crates, so that no digest passes the meter by.
+
+ghost use Rattle.std.specs.Prelude.{◌≡◌, ℕ, ◌+◌, ◌^◌, ◌<◌, ◌≤◌, List, [], ◌++◌, length, All};
+
+use crate::meter::Meter;
+use arrayvec::ArrayVec;
+
+mod counted_md5;
+mod counted_sha256;
+mod counted_sha512;
+#[cfg(test)]
+mod tests;
+
+pub use counted_md5::CountedMd5;
+pub use counted_sha256::CountedSha256;
+pub use counted_sha512::CountedSha512;
+
+/// A digest function whose work a meter counts.
+///
+/// What a running digest holds after its pieces is the message that they make, joined in order, so
+/// that the digest is the same however the message is cut.
+pub trait Counted: Drop {
+    // The running digest holds this message.
+    ghost holds: { Self → List ℕ → Type 0 };
+
+    // The digest of a whole message.
+    ghost digest: { List ℕ → List ℕ };
+
+    ghost LEN: { ℕ };
+
+    /// The length of a digest in bytes, from 1 to 64.
+    const LEN: usize;
+
+    /// A running digest of the empty message.
+    fn begin() -> Self
+        ensures { holds result [] };
+
+    /// Adds `piece` to the message, and its length to the meter's bytes.
+    ///
+    /// The meter has room for it.
+    fn feed(&mut self, meter: &mut Meter, piece: &[u8])
+        requires { meter.old.bytes + length piece.now < 2 ^ 128 }
+        ensures message { (m : List ℕ) → holds self.old m → holds self.new (m ++ piece.now) }
+        ensures count { meter.new ≡ record meter.old { bytes = meter.old.bytes + length piece.now } };
+
+    /// The digest of the message, and one more in the meter's digests.
+    ///
+    /// The meter has room for it.
+    fn finish(self, meter: &mut Meter) -> ArrayVec<u8, 64>
+        requires { meter.old.digests + 1 < 2 ^ 128 }
+        ensures digest { (m : List ℕ) → holds self m → result.items ≡ digest m }
+        ensures length { length result.items ≡ LEN }
+        ensures count { meter.new ≡ record meter.old { digests = meter.old.digests + 1 } };
+
+    // A digest has some bytes, and at most 64.
+    ghost at_least_1: { 1 ≤ LEN };
+
+    ghost at_most_64: { LEN ≤ 64 };
+
+    // Each message's digest has that length, and is made of bytes.
+    ghost length_digest: { (m : List ℕ) → length (digest m) ≡ LEN };
+
+    ghost digest_bytes: { (m : List ℕ) → All (λ b. b < 256) (digest m) };
+}
+
+// The bytes of a digest, which are at most 64.
+fn kept<const N: usize>(digest: &[u8; N]) -> ArrayVec<u8, 64>
+    requires { N ≤ 64 }
+    ensures { result.items ≡ digest.now }
+{
+    let mut bytes = ArrayVec::new();
+    bytes.try_extend_from_slice(digest).unwrap();
+    bytes
+}

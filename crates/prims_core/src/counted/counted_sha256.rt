@@ -1,0 +1,60 @@
+//! SHA-256 (FIPS 180-4), counted.
+
+use super::{Counted, kept};
+use crate::meter::Meter;
+use arrayvec::ArrayVec;
+use sha2::{Digest, Sha256};
+use std::marker::Model;
+
+/// A running SHA-256 (FIPS 180-4) digest. Clauses see it as the running digest of the digest crate.
+#[derive(Debug, Drop)]
+pub struct CountedSha256 {
+    running: Sha256,
+}
+
+impl Model for CountedSha256 {
+    ghost use Rattle.sha2.specs.declared.Sha256.{Sha256};
+
+    ghost Value = { Sha256 };
+
+    ghost view = { λ s. s.running };
+}
+
+impl Counted for CountedSha256 {
+    ghost use Rattle.prims_core.specs.Digests.{sha256, HoldsSha256};
+    ghost use Rattle.sha2.proofs.Facts256.{length-sha256};
+    ghost use Rattle.prims_core.specs.DigestFacts.{sha256_bytes};
+    ghost use Rattle.std.proofs.Common.{rules};
+
+    ghost holds = { λ s m. HoldsSha256 s m };
+
+    ghost digest = { sha256 };
+
+    ghost LEN = { 32 };
+
+    const LEN: usize = 32;
+
+    fn begin() -> Self {
+        CountedSha256 {
+            running: Sha256::new(),
+        }
+    }
+
+    fn feed(&mut self, meter: &mut Meter, piece: &[u8]) {
+        self.running.update(piece);
+        meter.count_bytes(piece.len());
+    }
+
+    fn finish(self, meter: &mut Meter) -> ArrayVec<u8, 64> {
+        meter.count_digest();
+        kept(&self.running.finalize())
+    }
+
+    ghost at_least_1 = { Prim.search rules };
+
+    ghost at_most_64 = { Prim.search rules };
+
+    ghost length_digest = { length-sha256 };
+
+    ghost digest_bytes = { sha256_bytes };
+}
