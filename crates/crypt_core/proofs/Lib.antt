@@ -1,4 +1,15 @@
+pub mod AfterFront
+pub mod Canonical
 pub mod CycleLemmas
+pub mod Fields
+pub mod First
+pub mod Making
 pub mod Md5cryptLemmas
 pub mod Metering
+pub mod Numerals
 pub mod PackingLemmas
+pub mod Readings
+pub mod Refusals
+pub mod Rounds
+pub mod Steps
+pub mod Writing

@@ -6,4 +6,5 @@ pub mod Packing
 pub mod PasswordFaults
 pub mod Passwords
 pub mod RoundMessage
+pub mod Settings
 pub mod Work

@@ -1,4 +1,5 @@
--- The methods of crypt(5), and the words that name them.
+-- The methods of crypt(5): the words that name them, the prefixes of their texts, and the salt that
+-- they keep.
 use Rattle.std.specs.Prelude.{ℕ, List, [], ◌∷◌, Option, codes}
 use Rattle.std.specs.Map.{lookup}
 use Rattle.std.specs.Str.{bytes_eq}
@@ -20,3 +21,17 @@ names =
 -- the method that a word names, if it is one of these
 abbrev pub method_named : List ℕ → Option Method
 method_named word = lookup (bytes_eq word) names
+
+-- what a text of the method begins with
+abbrev pub prefix : Method → List ℕ
+prefix Md5crypt = codes "$1$"
+prefix Sha256crypt = codes "$5$"
+prefix Sha512crypt = codes "$6$"
+prefix Scrypt = codes "$7$"
+
+-- the most bytes of salt that the method keeps
+abbrev pub salt_limit : Method → ℕ
+salt_limit Md5crypt = 8
+salt_limit Sha256crypt = 16
+salt_limit Sha512crypt = 16
+salt_limit Scrypt = 86

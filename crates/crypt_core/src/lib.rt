@@ -1,4 +1,4 @@
-//! The schemes of crypt(5): passwords, methods, and the digests and texts of each method.
+//! The schemes of crypt(5): passwords, methods, settings, and the digests and texts of each method.
 #![tactic(auto)]
 
 pub mod md5crypt;
@@ -6,6 +6,9 @@ mod messages;
 pub mod method;
 pub mod pack;
 pub mod password;
+mod scheme;
+pub mod setting;
 
 pub use method::Method;
 pub use password::{Password, PasswordFault};
+pub use setting::{MakeFault, Setting, SettingFault};

@@ -2,7 +2,7 @@
 
 ghost use Rattle.std.specs.Prelude.{◌≡◌};
 ghost use Rattle.std.specs.Str.{bytes_eq};
-ghost use Rattle.crypt_core.specs.Methods.{method_named};
+ghost use Rattle.crypt_core.specs.Methods.{method_named, prefix, salt_limit};
 
 /// A hashing method of crypt(5).
 #[derive(Clone, Copy, Debug, PartialEq, Eq)]
@@ -34,6 +34,29 @@ impl Method {
             None
         }
     }
+
+    // What a text of the method begins with.
+    pub(crate) fn prefix(self) -> &'static [u8]
+        ensures { result.now ≡ prefix self }
+    {
+        match self {
+            Method::Md5crypt => b"$1$",
+            Method::Sha256crypt => b"$5$",
+            Method::Sha512crypt => b"$6$",
+            Method::Scrypt => b"$7$",
+        }
+    }
+
+    // The most bytes of salt that the method keeps.
+    pub(crate) fn salt_limit(self) -> usize
+        ensures { result ≡ salt_limit self }
+    {
+        match self {
+            Method::Md5crypt => 8,
+            Method::Sha256crypt | Method::Sha512crypt => 16,
+            Method::Scrypt => 86,
+        }
+    }
 }
 
 fn is(word: &[u8], name: &[u8]) -> bool
@@ -59,6 +82,7 @@ mod tests {
             ("help", None),
             ("", None),
             ("MD5", None),
+            ("md5cryp", None),
         ];
         for (word, method) in cases {
             assert_eq!(rt; Method::named(word.as_bytes()), method, "{word}");

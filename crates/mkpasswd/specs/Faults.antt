@@ -1,13 +1,12 @@
 use Rattle.std.specs.Prelude.{ℕ, List, [], codes}
 use Rattle.clap.specs.Words.{kind_of}
+use Rattle.crypt_core.specs.Settings.{make_fault_text}
 use Rattle.clap.specs.declared.error.kind.ErrorKind.{ErrorKind}
 use Rattle.clap.specs.declared.error.kind.ErrorKind.TheVariants.{DisplayHelp, DisplayVersion}
 use Rattle.mkpasswd.specs.declared.faults.RunFault.{RunFault}
 use Rattle.mkpasswd.specs.declared.faults.RunFault.TheVariants.{Write, Turns}
 use Rattle.mkpasswd.specs.declared.faults.UsageFault.{UsageFault}
 use Rattle.mkpasswd.specs.declared.faults.UsageFault.TheVariants.{Parse, Method, Make, OutOfMemory}
-use Rattle.mkpasswd.specs.declared.setting.MakeFault.{MakeFault}
-use Rattle.mkpasswd.specs.declared.setting.MakeFault.TheVariants.{SaltLength, SaltCharacter}
 
 -- the exit status after `clap`'s answer: 0 where help or the version was asked for
 abbrev pub parse_status : ErrorKind → ℕ
@@ -22,16 +21,11 @@ usage_status Method = 2
 usage_status (Make fault) = 2
 usage_status OutOfMemory = 3
 
--- what is wrong with a given salt
-abbrev pub make_text : MakeFault → List ℕ
-make_text SaltLength = codes "salt length"
-make_text SaltCharacter = codes "salt character"
-
 -- what is wrong with the words; `clap` has texts of its own
 abbrev pub usage_text : UsageFault → List ℕ
 usage_text (Parse error) = []
 usage_text Method = codes "unknown method"
-usage_text (Make fault) = make_text fault
+usage_text (Make fault) = make_fault_text fault
 usage_text OutOfMemory = codes "out of memory"
 
 -- the exit status after a run that was cut short

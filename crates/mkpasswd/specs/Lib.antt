@@ -2,5 +2,4 @@ pub mod Devices
 pub mod Faults
 pub mod Options
 pub mod Output
-pub mod Settings
 pub mod Tallies

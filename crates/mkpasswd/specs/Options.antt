@@ -6,8 +6,8 @@ use Rattle.clap.specs.declared.builder.ArgAction.TheVariants.{Set}
 use Rattle.clap.specs.declared.error.Error.{Error}
 use Rattle.clap.specs.declared.error.kind.ErrorKind.TheVariants as kind
 use Rattle.crypt_core.specs.Methods.{method_named}
+use Rattle.crypt_core.specs.Settings.{IsMakeable, IsMakeRefused, made_setting}
 use Rattle.crypt_core.specs.declared.method.Method.TheVariants.{Md5crypt}
-use Rattle.mkpasswd.specs.Settings.{IsRefusedSalt, IsSalt}
 use Rattle.mkpasswd.specs.declared.faults.UsageFault.{UsageFault}
 use Rattle.mkpasswd.specs.declared.faults.UsageFault.TheVariants.{Parse, Method, Make, OutOfMemory}
 use Rattle.mkpasswd.specs.declared.options.First.{First}
@@ -86,10 +86,10 @@ IsMd5crypt name = method_named name ≡ Some Md5crypt
 -- words.
 abbrev pub Plans : List Text → Result First UsageFault → Type 0
 Plans words (Ok first) = (texts : Texts) × Gives words texts × IsMd5crypt texts.method
-    × IsSalt texts.salt × (first.salt.items ≡ texts.salt)
+    × IsMakeable Md5crypt 0 texts.salt × (first.setting ≡ made_setting Md5crypt 0 texts.salt)
     × (first.password.items ≡ texts.password)
 Plans words (Err (Parse error)) = Refuses words error
 Plans words (Err Method) = (texts : Texts) × Gives words texts × ¬ IsMd5crypt texts.method
 Plans words (Err (Make fault)) = (texts : Texts) × Gives words texts × IsMd5crypt texts.method
-    × IsRefusedSalt texts.salt fault
+    × IsMakeRefused Md5crypt 0 texts.salt fault
 Plans words (Err OutOfMemory) = ⊤

@@ -3,8 +3,8 @@
 ghost use Rattle.std.specs.Prelude.{◌≡◌, ◌≢◌};
 ghost use Rattle.clap.specs.Words.{kind_of};
 
-use crate::setting::MakeFault;
 use clap::error::ErrorKind;
+use crypt_core::MakeFault;
 use std::alloc::AllocError;
 use thiserror::Error;
 

@@ -19,7 +19,6 @@ mod faults;
 mod memory;
 mod one;
 mod options;
-mod setting;
 mod tally;
 
 /// How many device calls a run may make.
@@ -102,7 +101,7 @@ fn hash(rt: &HostRuntime) -> Result<Tally, Fault> {
     let first = plan(rt.alloc(), words.as_slice())?;
     let password = Password::new(first.password.as_slice())?;
     let mut out = Output::new(rt.stdout());
-    Ok(run_first(&password, first.salt.as_slice(), &mut out, TURNS)?)
+    Ok(run_first(&password, &first.setting, &mut out, TURNS)?)
 }
 
 /// The words after the program's name.

@@ -2,9 +2,9 @@
 ghost use Rattle.std.specs.Prelude.{◌≡◌, ◌+◌, ◌-◌, ◌^◌, ◌<◌, ◌≤◌, [], ◌∷◌, ◌++◌, length, IfOk, IfErr, OnOk, OnErr, IsErrOf};
 ghost use Rattle.std.specs.Io.KnownBytes.{Keeps};
 ghost use Rattle.crypt_core.specs.Crypt.{crypt};
+ghost use Rattle.crypt_core.specs.Settings.{method_of};
 ghost use Rattle.mkpasswd.specs.Devices.{HasRoom};
 ghost use Rattle.mkpasswd.specs.Output.{IsWithinTurns, Takes, TakesPrefix};
-ghost use Rattle.mkpasswd.specs.Settings.{IsSalt};
 ghost use Rattle.mkpasswd.specs.Tallies.{one_line};
 
 use crate::device::Output;
@@ -13,33 +13,33 @@ use crate::tally::Tally;
 use arrayvec::ArrayVec;
 use crypt_core::md5crypt::md5crypt;
 use crypt_core::pack::pack;
-use crypt_core::{Method, Password};
+use crypt_core::{Method, Password, Setting};
 use prims_core::meter::Meter;
 use std::io::Write;
 
-/// Hashes a password by md5crypt with a salt of 1 to 8 characters of crypt's alphabet, and gives the
-/// hash and a line feed to the output, in at most `turns` calls. It takes no memory.
+/// Hashes a password by a setting of md5crypt, and gives the hash and a line feed to the output, in
+/// at most `turns` calls. It takes no memory.
 ///
 /// `Write` is answered where a call of the output fails, and `Turns` where one more call than
 /// `turns` is needed; the output has then taken the first bytes of the answer.
 pub fn run_first<O: Write>(
     password: &Password,
-    salt: &[u8],
+    setting: &Setting,
     out: &mut Output<O>,
     turns: u64,
 ) -> Result<Tally, RunFault>
-    requires salt { IsSalt salt.now }
+    requires method { method_of setting.now.scheme ≡ Method.Md5crypt }
     requires turns { turns ≤ 2 ^ 40 }
     requires room { HasRoom out.old }
     ensures tally { IfOk result (λ tally. tally ≡ one_line) }
-    ensures whole { OnOk result (Takes O.contents out.old out.new (crypt password.now salt.now ++ 10 ∷ [])) }
+    ensures whole { OnOk result (Takes O.contents out.old out.new (crypt password.now setting.now ++ 10 ∷ [])) }
     ensures unfailed { OnOk result (out.new.failures ≡ out.old.failures) }
-    ensures fault { OnErr result (TakesPrefix O.contents out.old out.new (crypt password.now salt.now ++ 10 ∷ [])) }
+    ensures fault { OnErr result (TakesPrefix O.contents out.old out.new (crypt password.now setting.now ++ 10 ∷ [])) }
     ensures write { IsErrOf result RunFault.Write → out.old.failures < out.new.failures }
     ensures turns { IsErrOf result RunFault.Turns → out.new.calls ≡ out.old.calls + turns }
     ensures calls { IsWithinTurns turns out.old out.new }
 {
-    let answer = answer(password, salt);
+    let answer = answer(password, setting);
     send(out, answer.as_slice(), turns)?;
     finish(out)?;
     Ok(Tally {
@@ -50,16 +50,14 @@ pub fn run_first<O: Write>(
 }
 
 // The hash and a line feed.
-fn answer(password: &Password, salt: &[u8]) -> ArrayVec<u8, 160>
-    requires { IsSalt salt.now }
-    ensures { result.items ≡ crypt password.now salt.now ++ 10 ∷ [] }
+fn answer(password: &Password, setting: &Setting) -> ArrayVec<u8, 160>
+    requires { method_of setting.now.scheme ≡ Method.Md5crypt }
+    ensures { result.items ≡ crypt password.now setting.now ++ 10 ∷ [] }
 {
-    let digest = md5crypt(password, salt, &mut Meter::new());
-    let mut text = ArrayVec::new();
-    text.try_extend_from_slice(b"$1$").unwrap();
-    text.try_extend_from_slice(salt).unwrap();
-    text.push(b'$');
+    let digest = md5crypt(password, setting.salt(), &mut Meter::new());
     let packed = pack(Method::Md5crypt, &digest);
+    let mut text = setting.text();
+    text.push(b'$');
     text.try_extend_from_slice(packed.as_slice()).unwrap();
     text.push(b'\n');
     text

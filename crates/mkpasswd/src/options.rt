@@ -4,21 +4,19 @@ ghost use Rattle.std.specs.Prelude.{◌≡◌, ◌≢◌, false, map, string_byt
 ghost use Rattle.clap.specs.Words.{app_of, kind_of, rule_of};
 ghost use Rattle.mkpasswd.specs.Options.{Gives, Plans, Refuses, first_command};
 ghost use Rattle.mkpasswd.specs.Options.{required_rule, texts};
-ghost use Rattle.mkpasswd.specs.Settings.{IsSalt};
+ghost use Rattle.crypt_core.specs.Settings.{method_of};
 
 use crate::faults::UsageFault;
-use crate::setting::made_salt;
-use arrayvec::ArrayVec;
 use clap::error::ErrorKind;
 use clap::{Arg, ArgAction, Command};
-use crypt_core::Method;
+use crypt_core::{Method, Setting};
 use std::alloc::{AllocError, Global};
 
 /// One password, to be hashed by md5crypt.
 #[derive(Debug, Drop)]
 pub struct First {
-    /// The salt as it was given: 1 to 8 characters of crypt's alphabet.
-    pub salt: ArrayVec<u8, 8>,
+    /// The setting of md5crypt with the salt that was given.
+    pub setting: Setting,
     /// The bytes of the password's word, of any number and with any values.
     pub password: Vec<u8>,
 }
@@ -36,20 +34,20 @@ struct Given<'a> {
 ///
 /// - `Parse`: the words are not the command's, or ask for help or the version;
 /// - `Method`: TYPE is neither `md5crypt` nor `md5`;
-/// - `Make`: `made_salt` refuses SALT.
+/// - `Make`: `Setting::make` refuses SALT.
 ///
 /// `OutOfMemory` comes at the growth that was refused, before any check after it.
 pub fn plan(alloc: Global, words: &[String]) -> Result<First, UsageFault>
     ensures planned { Plans (map string_bytes words.now) result }
-    ensures salt { IfOk result (λ first. IsSalt first.salt.items) }
+    ensures method { IfOk result (λ first. method_of first.setting.scheme ≡ Method.Md5crypt) }
 {
     let given = read_words(alloc, words)?;
     let Some(Method::Md5crypt) = Method::named(given.method.as_bytes()) else {
         return Err(UsageFault::Method);
     };
-    let salt = made_salt(given.salt.as_bytes())?;
+    let setting = Setting::make(Method::Md5crypt, 0, given.salt.as_bytes())?;
     let password = Vec::from_slice(alloc, given.password.as_bytes())?;
-    Ok(First { salt, password })
+    Ok(First { setting, password })
 }
 
 /// Reads the words by the command. An error is `clap`'s own; where memory runs out, its kind says so.

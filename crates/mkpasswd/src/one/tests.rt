@@ -2,9 +2,8 @@ use super::run_first;
 use crate::device::Output;
 use crate::faults::RunFault;
 use crate::memory::MemoryWriter;
-use crate::setting::made_salt;
 use crate::tally::Tally;
-use crypt_core::Password;
+use crypt_core::{Method, Password, Setting};
 use std::alloc::Global;
 use std::test::Fail;
 
@@ -25,10 +24,10 @@ fn run_on(
     mut writer: MemoryWriter,
 ) -> (Result<Tally, RunFault>, MemoryWriter) {
     let password = Password::new(password).expect(rt, "a password");
-    let salt = made_salt(salt.as_bytes()).expect(rt, "a salt");
+    let setting = Setting::make(Method::Md5crypt, 0, salt.as_bytes()).expect(rt, "a setting");
     assert!(rt; turns <= 1 << 40);
     let mut out = Output::new(&mut writer);
-    let outcome = run_first(&password, salt.as_slice(), &mut out, turns);
+    let outcome = run_first(&password, &setting, &mut out, turns);
     drop(out);
     (outcome, writer)
 }

@@ -20,9 +20,9 @@ fn plans_one_password(rt: HostRuntime) -> Result<(), Fail> {
         let words = words_of(rt.alloc(), row)?;
         let first = plan(rt.alloc(), words.as_slice())?;
         assert_eq!(rt;
-            first.salt.as_slice(),
-            b"xxxxxxxx".as_slice(),
-            "the salt of {row:?}"
+            first.setting.text().as_slice(),
+            b"$1$xxxxxxxx".as_slice(),
+            "the setting of {row:?}"
         );
         assert_eq!(rt;
             first.password.as_slice(),

@@ -5,7 +5,5 @@ use Rattle.mkpasswd.proofs.one.answer.Goals as goal
 pub returns : goal.returns
 unfolding crypt
 returns c =
-    let prefix = rw c.unwrap.ensures at c.try_extend_from_slice.ensures.ok in
-    let salt = rw c.unwrap-2.ensures at c.try_extend_from_slice-2.ensures.ok in
-    let packed = rw c.unwrap-3.ensures at c.try_extend_from_slice-3.ensures.ok in
-    rw (c.push-2.ensures.items, packed, c.as_slice.ensures.value, c.pack-packed.ensures.text, c.md5crypt-digest.ensures.digest, c.push.ensures.items, salt, prefix, c.new-text.ensures) refl
+    let packed = rw c.unwrap.ensures at c.try_extend_from_slice.ensures.ok in
+    rw (c.push-2.ensures.items, packed, c.as_slice.ensures.value, c.pack-packed.ensures.text, c.md5crypt-digest.ensures.digest, c.push.ensures.items, c.text-text.ensures.canonical, c.salt.ensures.kept) refl

@@ -1,0 +1,191 @@
+-- The canonical text of a setting spells it.
+use Rattle.std.proofs.Common.{◌≡◌, ◌≢◌, ℕ, ◌+◌, ◌≤◌, ◌<◌, ◌^◌, Bool, true, false, ◌⊎◌, inl, inr, List, [], ◌∷◌, ◌++◌, length, take, drop, get_or, All, length-append, append-nil, refl, sym, ap, subst, ◌∙◌, append_assoc, arith}
+use Rattle.std.specs.Prelude.{decimal, codes}
+use Rattle.std.specs.Str.Parse.{AllDigits, digits_value}
+use Rattle.std.proofs.Math.Seq.{take-append_seam, drop-append_seam}
+use Rattle.std.proofs.lemmas.List.{take-append-drop, length-take, take_all}
+use Rattle.std.proofs.lemmas.List.Elements.{All-nil, All-cons, All-from_get_or, All-take, All-drop, All-append, All-from_recursion, All-contains, All-weaker}
+use Rattle.std.proofs.lemmas.Fmt.{decimal_is_IsNumeral, first_decimal, length-decimal-le}
+use Rattle.std.proofs.lemmas.Str.Parse.{digit_at}
+use Rattle.crypt_core.specs.declared.method.Method.{Method}
+use Rattle.crypt_core.specs.declared.method.Method.TheVariants as methods
+use Rattle.crypt_core.specs.declared.scheme.Scheme.{Scheme}
+use Rattle.crypt_core.specs.declared.scheme.Scheme.TheVariants.{Md5crypt, Sha256crypt, Sha512crypt, Scrypt}
+use Rattle.crypt_core.specs.Methods.{prefix, salt_limit}
+use Rattle.crypt_core.specs.Settings.{Kept, method_of, IsSettingByte, dollar, IsField, BeginsWith, rounds_word, rounds_field, IsRoundsNumber, held, SpellsRounds, SpellsCost, HasCost, IsScryptSalt, KeepsSalt, Spells, IsSetting, cost_part, canonical_text}
+use Rattle.crypt_core.proofs.Numerals.{length-scrypt_part}
+
+-- What a setting keeps is bounded
+
+pub held_range : (n : ℕ) → (1000 ≤ held n) × (held n ≤ 999999999)
+held_range n = (omega arith, omega arith)
+
+rounds_range : (count : ℕ) (flag : Bool) (part after : List ℕ) → SpellsRounds (record { count = count; is_written = flag }) part after → (1000 ≤ count) × (count ≤ 999999999)
+rounds_range count true part after s = let r = held_range (digits_value 10 s.0) in (omega (arith, s.3, r.0), omega (arith, s.3, r.1))
+rounds_range count false part after s = (omega (arith, s.1), omega (arith, s.1))
+
+pub cost_bounded : (scheme : Scheme) (part after : List ℕ) → SpellsCost scheme part after → HasCost scheme
+cost_bounded Md5crypt part after s = tt
+cost_bounded (Sha256crypt r) part after s = rounds_range r.count r.is_written part after s
+cost_bounded (Sha512crypt r) part after s = rounds_range r.count r.is_written part after s
+cost_bounded (Scrypt n) part after s = (s.1, s.2)
+
+cut : (n : ℕ) (field salt : List ℕ) → salt ≡ take n field → length salt ≤ n
+cut n field salt e = omega (arith, ap length e, length-take n field)
+
+salt_bounded : (m : Method) (field salt : List ℕ) → KeepsSalt m field salt → length salt ≤ salt_limit m
+salt_bounded methods.Md5crypt field salt k = cut 8 field salt k
+salt_bounded methods.Sha256crypt field salt k = cut 16 field salt k
+salt_bounded methods.Sha512crypt field salt k = cut 16 field salt k
+salt_bounded methods.Scrypt field salt k = omega (arith, ap length k.0, k.1.short)
+
+pub setting_bounded : (kept : Kept) → IsSetting kept → HasCost kept.scheme × (length kept.salt ≤ salt_limit (method_of kept.scheme))
+setting_bounded kept (text, s) =
+    (cost_bounded kept.scheme s.scheme.part (s.field ++ s.rest) s.scheme.cost, salt_bounded (method_of kept.scheme) s.field kept.salt s.salt)
+
+-- Lengths
+
+length_written : (count : ℕ) → count ≤ 999999999 → length (rounds_field (decimal count)) ≤ 17
+length_written count high =
+    omega (arith, length-append (decimal count) (codes "$"), length-append rounds_word (decimal count ++ codes "$"), length-decimal-le 9 count (omega arith) (omega arith) (omega arith))
+
+length_rounds : (count : ℕ) (flag : Bool) → count ≤ 999999999 → length (cost_part (Sha256crypt (record { count = count; is_written = flag }))) ≤ 17
+length_rounds count true high = length_written count high
+length_rounds count false high = omega arith
+
+-- the canonical text has at most 100 bytes
+pub canonical_short : (scheme : Scheme) (salt : List ℕ) → HasCost scheme → length salt ≤ salt_limit (method_of scheme) → length (prefix (method_of scheme)) + (length (cost_part scheme) + length salt) ≤ 100
+canonical_short Md5crypt salt c l = omega arith
+canonical_short (Sha256crypt r) salt c l = omega (arith, length_rounds r.count r.is_written c.1)
+canonical_short (Sha512crypt r) salt c l = omega (arith, length_rounds r.count r.is_written c.1)
+canonical_short (Scrypt n) salt c l = omega (arith, length-scrypt_part n)
+
+-- Digits
+
+number_from : (ds : List ℕ) → 0 < length ds → AllDigits 10 ds → 48 < get_or ds 0 0 → IsRoundsNumber ds
+number_from [] some all first = absurd (omega arith)
+number_from (d ∷ ds) some all first =
+    (omega arith, (digit_at (d ∷ ds) 0 all some).1, All-from_get_or (λ c. (48 ≤ c) × (c ≤ 57)) ds 0 (λ i lt. digit_at ds i all.1 lt))
+
+pub decimal_is_number : (n : ℕ) → 0 < n → n < 2 ^ 64 → IsRoundsNumber (decimal n)
+decimal_is_number n some below =
+    let numeral = (decimal_is_IsNumeral n below).0 in
+    number_from (decimal n) numeral.0 numeral.1 (first_decimal n some below)
+
+apart_from_digits : All (λ b. (b < 48) ⊎ (57 < b)) (codes ":;*!\\")
+apart_from_digits = All-from_recursion (λ b. (b < 48) ⊎ (57 < b)) (codes ":;*!\\") (inr (omega arith), (inr (omega arith), (inl (omega arith), (inl (omega arith), (inr (omega arith), tt)))))
+
+digit_is_byte : (b : ℕ) → (48 ≤ b) × (b ≤ 57) → IsSettingByte b
+digit_is_byte b range = record {
+  from = omega (arith, range);
+  to = omega (arith, range);
+  apart = λ inside. omega (arith, range, All-contains (λ c. (c < 48) ⊎ (57 < c)) (codes ":;*!\\") b apart_from_digits inside);
+}
+
+pub number_bytes : (ds : List ℕ) → IsRoundsNumber ds → All IsSettingByte ds
+number_bytes [] n = absurd n
+number_bytes (d ∷ ds) n = All-cons IsSettingByte d ds (digit_is_byte d (omega (arith, n.0), n.1)) (All-weaker (λ c. (48 ≤ c) × (c ≤ 57)) IsSettingByte digit_is_byte ds n.2)
+
+-- Bytes
+
+all_left : (xs ys : List ℕ) → All IsSettingByte (xs ++ ys) → All IsSettingByte xs
+all_left xs ys all = subst (All IsSettingByte) (take-append_seam xs ys) (All-take IsSettingByte (length xs) (xs ++ ys) all)
+
+all_right : (xs ys : List ℕ) → All IsSettingByte (xs ++ ys) → All IsSettingByte ys
+all_right xs ys all = subst (All IsSettingByte) (drop-append_seam xs ys) (All-drop IsSettingByte (length xs) (xs ++ ys) all)
+
+field_bytes : (digits ds : List ℕ) → All IsSettingByte (rounds_field digits) → IsRoundsNumber ds → All IsSettingByte (rounds_field ds)
+field_bytes digits ds all n =
+    let tail = all_right digits (codes "$") (all_right rounds_word (digits ++ codes "$") all) in
+    All-append IsSettingByte rounds_word (ds ++ codes "$") (all_left rounds_word (digits ++ codes "$") all) (All-append IsSettingByte ds (codes "$") (number_bytes ds n) tail)
+
+rounds_bytes : (count : ℕ) (flag : Bool) (part after : List ℕ) → SpellsRounds (record { count = count; is_written = flag }) part after → All IsSettingByte part → All IsSettingByte (cost_part (Sha256crypt (record { count = count; is_written = flag })))
+rounds_bytes count true part after s all =
+    let range = rounds_range count true part after s in
+    field_bytes s.0 (decimal count) (subst (All IsSettingByte) s.2 all) (decimal_is_number count (omega (arith, range)) (omega (arith, range)))
+rounds_bytes count false part after s all = All-nil IsSettingByte
+
+cost_bytes : (scheme : Scheme) (part after : List ℕ) → SpellsCost scheme part after → All IsSettingByte part → All IsSettingByte (cost_part scheme)
+cost_bytes Md5crypt part after s all = All-nil IsSettingByte
+cost_bytes (Sha256crypt r) part after s all = rounds_bytes r.count r.is_written part after s all
+cost_bytes (Sha512crypt r) part after s all = rounds_bytes r.count r.is_written part after s all
+cost_bytes (Scrypt n) part after s all = subst (All IsSettingByte) s.0 all
+
+-- The salt
+
+-- the salt is a front of its field
+salt_is_front : (m : Method) (field salt : List ℕ) → KeepsSalt m field salt → salt ≡ take (salt_limit m) field
+salt_is_front methods.Md5crypt field salt k = k
+salt_is_front methods.Sha256crypt field salt k = k
+salt_is_front methods.Sha512crypt field salt k = k
+salt_is_front methods.Scrypt field salt k = k.0 ∙ sym (take_all 86 field k.1.short)
+
+-- the salt is what is kept of it
+salt_again : (m : Method) (field salt : List ℕ) → KeepsSalt m field salt → KeepsSalt m salt salt
+salt_again methods.Md5crypt field salt k = sym (take_all 8 salt (cut 8 field salt k))
+salt_again methods.Sha256crypt field salt k = sym (take_all 16 salt (cut 16 field salt k))
+salt_again methods.Sha512crypt field salt k = sym (take_all 16 salt (cut 16 field salt k))
+salt_again methods.Scrypt field salt k = (refl, subst IsScryptSalt (sym k.0) k.1)
+
+salt_is_field : (m : Method) (field rest salt : List ℕ) → IsField field rest → KeepsSalt m field salt → IsField salt []
+salt_is_field m field rest salt f k = record {
+  no_dollar = subst (All (λ b. b ≢ dollar)) (sym (salt_is_front m field salt k)) (All-take (λ b. b ≢ dollar) (salt_limit m) field f.no_dollar);
+  ended = tt;
+}
+
+-- The cost part
+
+-- what the salt begins with, its field does
+begins_longer : (n : ℕ) (field rest salt word : List ℕ) → salt ≡ take n field → BeginsWith (salt ++ []) word → BeginsWith (field ++ rest) word
+begins_longer n field rest salt word e (more, begins) = (
+  more ++ (drop n field ++ rest),
+  ap (λ (x : List ℕ). x ++ rest) (sym (take-append-drop n field) ∙ ap (λ (x : List ℕ). x ++ drop n field) (sym e ∙ sym (append-nil salt) ∙ begins))
+      ∙ append_assoc (word ++ more) (drop n field) rest ∙ append_assoc word more (drop n field ++ rest),
+)
+
+pub held_again : (n : ℕ) → 1000 ≤ n → n ≤ 999999999 → n ≡ held n
+held_again n low high = omega arith
+
+rounds_again : (count : ℕ) (flag : Bool) (n : ℕ) (part field rest salt : List ℕ) → salt ≡ take n field → SpellsRounds (record { count = count; is_written = flag }) part (field ++ rest) → SpellsRounds (record { count = count; is_written = flag }) (cost_part (Sha256crypt (record { count = count; is_written = flag }))) (salt ++ [])
+rounds_again count true n part field rest salt e s =
+    let range = rounds_range count true part (field ++ rest) s in
+    let below : count < 2 ^ 64 = omega (arith, range) in (
+      decimal count,
+      decimal_is_number count (omega (arith, range)) below,
+      refl,
+      held_again count range.0 range.1 ∙ ap held (sym (decimal_is_IsNumeral count below).1),
+    )
+rounds_again count false n part field rest salt e s =
+    (refl, s.1, λ begins. s.2 (begins_longer n field rest salt rounds_word e begins))
+
+cost_again : (scheme : Scheme) (n : ℕ) (part field rest salt : List ℕ) → salt ≡ take n field → SpellsCost scheme part (field ++ rest) → SpellsCost scheme (cost_part scheme) (salt ++ [])
+cost_again Md5crypt n part field rest salt e s = refl
+cost_again (Sha256crypt r) n part field rest salt e s = rounds_again r.count r.is_written n part field rest salt e s
+cost_again (Sha512crypt r) n part field rest salt e s = rounds_again r.count r.is_written n part field rest salt e s
+cost_again (Scrypt c) n part field rest salt e s = (refl, s.1, s.2)
+
+-- what a text spells, its canonical text spells
+pub canonical_spells : (text : List ℕ) (kept : Kept) → Spells text kept → Spells (canonical_text kept) kept
+canonical_spells text kept s =
+    let m : Method = method_of kept.scheme in
+    let all : All IsSettingByte (prefix m ++ (s.scheme.part ++ (s.field ++ s.rest))) = subst (All IsSettingByte) s.scheme.parts s.is_text.bytes in
+    let after : All IsSettingByte (s.scheme.part ++ (s.field ++ s.rest)) = all_right (prefix m) (s.scheme.part ++ (s.field ++ s.rest)) all in
+    let field : All IsSettingByte s.field = all_left s.field s.rest (all_right s.scheme.part (s.field ++ s.rest) after) in
+    let salt : All IsSettingByte kept.salt = subst (All IsSettingByte) (sym (salt_is_front m s.field kept.salt s.salt)) (All-take IsSettingByte (salt_limit m) s.field field) in
+    let bounded = setting_bounded kept (text, s) in
+    record {
+      is_text = record {
+        short = omega (arith, canonical_short kept.scheme kept.salt bounded.0 bounded.1, length-append (prefix m) (cost_part kept.scheme ++ kept.salt), length-append (cost_part kept.scheme) kept.salt);
+        bytes = All-append IsSettingByte (prefix m) (cost_part kept.scheme ++ kept.salt) (all_left (prefix m) (s.scheme.part ++ (s.field ++ s.rest)) all)
+            (All-append IsSettingByte (cost_part kept.scheme) kept.salt (cost_bytes kept.scheme s.scheme.part (s.field ++ s.rest) s.scheme.cost (all_left s.scheme.part (s.field ++ s.rest) after)) salt);
+      };
+      field = kept.salt;
+      rest = [];
+      is_field = salt_is_field m s.field s.rest kept.salt s.is_field s.salt;
+      scheme = record {
+        part = cost_part kept.scheme;
+        parts = ap (λ (x : List ℕ). prefix m ++ (cost_part kept.scheme ++ x)) (sym (append-nil kept.salt));
+        cost = cost_again kept.scheme (salt_limit m) s.scheme.part s.field s.rest kept.salt (salt_is_front m s.field kept.salt s.salt) s.scheme.cost;
+      };
+      salt = salt_again m s.field kept.salt s.salt;
+    }

@@ -1,0 +1,31 @@
+-- Fields that go up to the next `$`.
+use Rattle.std.proofs.Common.{◌≡◌, ◌≢◌, ℕ, List, [], ◌∷◌, ◌++◌, length, refl, sym, subst, arith}
+use Rattle.std.specs.List.{AllByRecursion}
+use Rattle.std.proofs.lemmas.List.Elements.{recursion_from_All}
+use Rattle.crypt_core.specs.Settings.{dollar, IsEndOfField, IsField}
+
+-- lists that are joined in two ways, with fronts of one length
+pub same_front : (a b x y : List ℕ) → length a ≡ length b → a ++ x ≡ b ++ y → (a ≡ b) × (x ≡ y)
+same_front [] [] x y same e = (refl, e)
+same_front [] (d ∷ b) x y same e = absurd (omega arith)
+same_front (c ∷ a) [] x y same e = absurd (omega arith)
+same_front (c ∷ a) (d ∷ b) x y same e =
+    let heads : c ≡ d = cc in
+    let tails : a ++ x ≡ b ++ y = cc in
+    let rest = same_front a b x y (omega arith) tails in
+    ((cc (heads, rest.0)), rest.1)
+
+same_field : (f g r s : List ℕ) → AllByRecursion (λ b. b ≢ dollar) f → AllByRecursion (λ b. b ≢ dollar) g → IsEndOfField r → IsEndOfField s → f ++ r ≡ g ++ s → (f ≡ g) × (r ≡ s)
+same_field [] [] r s hf hg er es e = (refl, e)
+same_field [] (y ∷ g) r s hf hg er es e = absurd (hg.0 (subst IsEndOfField e er))
+same_field (x ∷ f) [] r s hf hg er es e = absurd (hf.0 (subst IsEndOfField (sym e) es))
+same_field (x ∷ f) (y ∷ g) r s hf hg er es e =
+    let heads : x ≡ y = cc in
+    let tails : f ++ r ≡ g ++ s = cc in
+    let rest = same_field f g r s hf.1 hg.1 er es tails in
+    ((cc (heads, rest.0)), rest.1)
+
+-- a list is a field and a rest in one way only
+pub field_unique : (f g r s : List ℕ) → IsField f r → IsField g s → f ++ r ≡ g ++ s → (f ≡ g) × (r ≡ s)
+field_unique f g r s a b e =
+    same_field f g r s (recursion_from_All _ f a.no_dollar) (recursion_from_All _ g b.no_dollar) a.ended b.ended e

@@ -1,0 +1,242 @@
+-- What a method, a cost and a salt make is a setting.
+use Rattle.std.proofs.Common.{◌≡◌, ◌≢◌, ℕ, ◌+◌, ◌≤◌, ◌<◌, ◌^◌, Bool, true, false, not, cond, eqb, inl, inr, ◌&&◌, List, [], ◌++◌, length, get_or, All, length-append, append-nil, refl, sym, ap, subst, ◌∙◌, arith}
+use Rattle.std.specs.Prelude.{decimal, codes, nat_le, Result, Ok, Err, OnOk, IfErr, IsOk}
+use Rattle.std.specs.List.{list_all}
+use Rattle.std.proofs.Math.Pow.{pow_mono}
+use Rattle.std.proofs.lemmas.Bool.{and_parts, not-true, eqb-false, leb-true, ne_eqb, cases_order}
+use Rattle.std.proofs.lemmas.List.{take_all}
+use Rattle.std.proofs.lemmas.List.Sums.{AllPass-from_list_all}
+use Rattle.std.proofs.lemmas.List.Elements.{All-nil, All-append, All-from_recursion, All-contains, All-weaker, All-get_or}
+use Rattle.std.proofs.lemmas.Fmt.{decimal_is_IsNumeral}
+use Rattle.prims_core.specs.Alphabet.{alphabet}
+use Rattle.crypt_core.specs.declared.method.Method.{Method}
+use Rattle.crypt_core.specs.declared.method.Method.TheVariants as methods
+use Rattle.crypt_core.specs.declared.scheme.Scheme.{Scheme}
+use Rattle.crypt_core.specs.declared.scheme.Scheme.TheVariants.{Md5crypt, Sha256crypt, Sha512crypt, Scrypt}
+use Rattle.crypt_core.specs.declared.setting.fault.MakeFault.{MakeFault}
+use Rattle.crypt_core.specs.declared.setting.fault.MakeFault.TheVariants.{SaltLength, SaltCharacter, Cost}
+use Rattle.crypt_core.specs.Methods.{prefix, salt_limit}
+use Rattle.crypt_core.specs.Settings.{Kept, method_of, IsSettingByte, dollar, BeginsWith, rounds_word, rounds_field, IsRoundsNumber, held, SpellsRounds, scrypt_part, SpellsCost, HasCost, IsCharacter, KeepsSalt, IsSetting, cost_part, canonical_text, made_cost, made_scheme, made_setting, TakesCost, IsMakeable, BreaksMake, IsMakeRefused, make_rule_number}
+use Rattle.crypt_core.proofs.Numerals.{all_scrypt_part}
+use Rattle.crypt_core.proofs.Canonical.{canonical_short, decimal_is_number, number_bytes, held_again, held_range}
+
+-- Characters
+
+-- a test that each character of the alphabet passes
+character_passes : (p : ℕ → Bool) → list_all p alphabet ≡ true → (c : ℕ) → IsCharacter c → p c ≡ true
+character_passes p all c h = All-contains (λ x. p x ≡ true) alphabet c (AllPass-from_list_all p alphabet all) h.in_alphabet
+
+differs : ℕ → ℕ → Bool
+differs a b = not (eqb a b)
+
+is_byte : ℕ → Bool
+is_byte b = nat_le 33 b && (nat_le b 126 && (differs 58 b && (differs 59 b && (differs 42 b && (differs 33 b && differs 92 b)))))
+
+differs_means : (a b : ℕ) → differs a b ≡ true → a ≡ b → ⊥
+unfolding differs
+differs_means a b h = eqb-false a b (not-true _ h)
+
+byte_means : (b : ℕ) → is_byte b ≡ true → IsSettingByte b
+unfolding is_byte
+byte_means b h =
+    let t1 = and_parts _ _ h in
+    let t2 = and_parts _ _ t1.1 in
+    let t3 = and_parts _ _ t2.1 in
+    let t4 = and_parts _ _ t3.1 in
+    let t5 = and_parts _ _ t4.1 in
+    let t6 = and_parts _ _ t5.1 in
+    record {
+      from = leb-true 33 b t1.0;
+      to = leb-true b 126 t2.0;
+      apart = λ inside. All-contains (λ x. x ≡ b → ⊥) (codes ":;*!\\") b
+          (All-from_recursion (λ x. x ≡ b → ⊥) (codes ":;*!\\")
+          (differs_means 58 b t3.0, (differs_means 59 b t4.0, (differs_means 42 b t5.0, (differs_means 33 b t6.0, (differs_means 92 b t6.1, tt))))))
+          inside refl;
+    }
+
+bytes_mean : (xs : List ℕ) → list_all is_byte xs ≡ true → All IsSettingByte xs
+bytes_mean xs all = All-weaker (λ x. is_byte x ≡ true) IsSettingByte byte_means xs (AllPass-from_list_all is_byte xs all)
+
+character_is_byte : (c : ℕ) → IsCharacter c → IsSettingByte c
+unfolding is_byte differs alphabet
+character_is_byte c h = byte_means c (character_passes is_byte refl c h)
+
+-- neither `$` nor `=` is a character
+not_dollar : (c : ℕ) → IsCharacter c → c ≢ dollar
+unfolding differs alphabet
+not_dollar c h e = differs_means 36 c (character_passes (differs 36) refl c h) (sym e)
+
+not_equals : (c : ℕ) → IsCharacter c → c ≢ 61
+unfolding differs alphabet
+not_equals c h e = differs_means 61 c (character_passes (differs 61) refl c h) (sym e)
+
+-- Bytes of the canonical text
+
+prefix_bytes : (m : Method) → All IsSettingByte (prefix m)
+unfolding is_byte differs
+prefix_bytes methods.Md5crypt = bytes_mean (codes "$1$") refl
+prefix_bytes methods.Sha256crypt = bytes_mean (codes "$5$") refl
+prefix_bytes methods.Sha512crypt = bytes_mean (codes "$6$") refl
+prefix_bytes methods.Scrypt = bytes_mean (codes "$7$") refl
+
+field_bytes : (ds : List ℕ) → IsRoundsNumber ds → All IsSettingByte (rounds_field ds)
+unfolding is_byte differs
+field_bytes ds n = All-append IsSettingByte rounds_word (ds ++ codes "$") (bytes_mean rounds_word refl) (All-append IsSettingByte ds (codes "$") (number_bytes ds n) (bytes_mean (codes "$") refl))
+
+rounds_bytes : (count : ℕ) (flag : Bool) → 1000 ≤ count → count ≤ 999999999 → All IsSettingByte (cost_part (Sha256crypt (record { count = count; is_written = flag })))
+rounds_bytes count true low high = field_bytes (decimal count) (decimal_is_number count (omega arith) (omega arith))
+rounds_bytes count false low high = All-nil IsSettingByte
+
+cost_bytes : (scheme : Scheme) → HasCost scheme → All IsSettingByte (cost_part scheme)
+cost_bytes Md5crypt c = All-nil IsSettingByte
+cost_bytes (Sha256crypt r) c = rounds_bytes r.count r.is_written c.0 c.1
+cost_bytes (Sha512crypt r) c = rounds_bytes r.count r.is_written c.0 c.1
+cost_bytes (Scrypt n) c = All-weaker IsCharacter IsSettingByte character_is_byte (scrypt_part n) (all_scrypt_part n)
+
+-- The cost part
+
+-- no salt of characters begins with `rounds=`
+no_rounds : (salt : List ℕ) → All IsCharacter salt → BeginsWith (salt ++ []) rounds_word → ⊥
+no_rounds salt all (more, e) =
+    let begins : salt ≡ rounds_word ++ more = sym (append-nil salt) ∙ e in
+    let long : 6 < length salt = omega (arith, ap length begins) in
+    not_equals (get_or salt 6 0) (All-get_or IsCharacter salt 6 0 long all) (ap (λ (xs : List ℕ). get_or xs 6 0) begins)
+
+-- rounds without a field are the default
+abbrev IsMade : Scheme → Type 0
+IsMade Md5crypt = Unit {0}
+IsMade (Sha256crypt r) = r.is_written ≡ false → r.count ≡ 5000
+IsMade (Sha512crypt r) = r.is_written ≡ false → r.count ≡ 5000
+IsMade (Scrypt n) = Unit {0}
+
+rounds_spelled : (count : ℕ) (flag : Bool) (salt : List ℕ) → 1000 ≤ count → count ≤ 999999999 → (flag ≡ false → count ≡ 5000) → All IsCharacter salt → SpellsRounds (record { count = count; is_written = flag }) (cost_part (Sha256crypt (record { count = count; is_written = flag }))) (salt ++ [])
+rounds_spelled count true salt low high made all =
+    let below : count < 2 ^ 64 = omega arith in
+    (decimal count, decimal_is_number count (omega arith) below, refl, held_again count low high ∙ ap held (sym (decimal_is_IsNumeral count below).1))
+rounds_spelled count false salt low high made all = (refl, made refl, no_rounds salt all)
+
+cost_spelled : (scheme : Scheme) (salt : List ℕ) → HasCost scheme → IsMade scheme → All IsCharacter salt → SpellsCost scheme (cost_part scheme) (salt ++ [])
+cost_spelled Md5crypt salt c m all = refl
+cost_spelled (Sha256crypt r) salt c m all = rounds_spelled r.count r.is_written salt c.0 c.1 m all
+cost_spelled (Sha512crypt r) salt c m all = rounds_spelled r.count r.is_written salt c.0 c.1 m all
+cost_spelled (Scrypt n) salt c m all = (refl, c.0, c.1)
+
+salt_kept : (m : Method) (salt : List ℕ) → length salt ≤ salt_limit m → All IsCharacter salt → KeepsSalt m salt salt
+salt_kept methods.Md5crypt salt short all = sym (take_all 8 salt short)
+salt_kept methods.Sha256crypt salt short all = sym (take_all 16 salt short)
+salt_kept methods.Sha512crypt salt short all = sym (take_all 16 salt short)
+salt_kept methods.Scrypt salt short all = (refl, record { short = short; characters = all })
+
+spelled : (scheme : Scheme) (salt : List ℕ) → HasCost scheme → IsMade scheme → length salt ≤ salt_limit (method_of scheme) → All IsCharacter salt → IsSetting (record { scheme = scheme; salt = salt })
+spelled scheme salt c m short all =
+    let kept : Kept = record { scheme = scheme; salt = salt } in (
+      canonical_text kept,
+      record {
+        is_text = record {
+          short = omega (arith, canonical_short scheme salt c short, length-append (prefix (method_of scheme)) (cost_part scheme ++ salt), length-append (cost_part scheme) salt);
+          bytes = All-append IsSettingByte (prefix (method_of scheme)) (cost_part scheme ++ salt) (prefix_bytes (method_of scheme))
+              (All-append IsSettingByte (cost_part scheme) salt (cost_bytes scheme c) (All-weaker IsCharacter IsSettingByte character_is_byte salt all));
+        };
+        field = salt;
+        rest = [];
+        is_field = record { no_dollar = All-weaker IsCharacter (λ b. b ≢ dollar) not_dollar salt all; ended = tt };
+        scheme = record {
+          part = cost_part scheme;
+          parts = ap (λ (x : List ℕ). prefix (method_of scheme) ++ (cost_part scheme ++ x)) (sym (append-nil salt));
+          cost = cost_spelled scheme salt c m all;
+        };
+        salt = salt_kept (method_of scheme) salt short all;
+      },
+    )
+
+-- What is made
+
+pub accepted_at : (log_n : ℕ) → 0 < log_n → log_n ≤ 18 → HasCost (Scrypt (record { log_n = log_n; r = 32; p = 1 }))
+accepted_at log_n some high =
+    let power : 2 ^ log_n ≤ 2 ^ 18 = pow_mono high in (
+      record { log_n = omega arith; r = omega arith; p = omega arith },
+      record {
+        in_range = record { above_one = some; below = omega arith; some_block = omega arith; some_part = omega arith };
+        within = omega (arith, power);
+      },
+    )
+
+-- the numbers of a cost that scrypt takes are accepted
+pub made_cost_accepted : (cost : ℕ) → TakesCost methods.Scrypt cost → HasCost (Scrypt (made_cost cost))
+made_cost_accepted cost (inl none) = subst (λ (c : ℕ). HasCost (Scrypt (made_cost c))) (sym none) (accepted_at 14 (omega arith) (omega arith))
+made_cost_accepted cost (inr range) =
+    let some : eqb cost 0 ≡ false = ne_eqb cost 0 (λ e. omega arith) in
+    subst (λ (b : Bool). HasCost (Scrypt (record { log_n = cond b 7 cost + 7; r = 32; p = 1 }))) (sym some) (accepted_at (cost + 7) (omega arith) (omega arith))
+
+rounds_made : (b : Bool) (cost : ℕ) → HasCost (Sha256crypt (cond b (record { count = 5000; is_written = false }) (record { count = held cost; is_written = true }))) × IsMade (Sha256crypt (cond b (record { count = 5000; is_written = false }) (record { count = held cost; is_written = true })))
+rounds_made true cost = ((omega arith, omega arith), λ e. refl)
+rounds_made false cost = (held_range cost, λ e. absurd (cc e))
+
+made_bounded : (m : Method) (cost : ℕ) → TakesCost m cost → HasCost (made_scheme m cost) × IsMade (made_scheme m cost)
+made_bounded methods.Md5crypt cost c = (tt, tt)
+made_bounded methods.Sha256crypt cost c = rounds_made (eqb cost 0) cost
+made_bounded methods.Sha512crypt cost c = rounds_made (eqb cost 0) cost
+made_bounded methods.Scrypt cost c = (made_cost_accepted cost c, tt)
+
+made_method : (m : Method) (cost : ℕ) → method_of (made_scheme m cost) ≡ m
+made_method methods.Md5crypt cost = refl
+made_method methods.Sha256crypt cost = refl
+made_method methods.Sha512crypt cost = refl
+made_method methods.Scrypt cost = refl
+
+-- where no rule is broken, what is made is a setting
+pub made_is_setting : (m : Method) (cost : ℕ) (salt : List ℕ) → IsMakeable m cost salt → IsSetting (made_setting m cost salt)
+made_is_setting m cost salt h =
+    let bounded = made_bounded m cost h.taken in
+    spelled (made_scheme m cost) salt bounded.0 bounded.1 (subst (λ (k : Method). length salt ≤ salt_limit k) (sym (made_method m cost)) h.short) h.characters
+
+pub limit_below : (m : Method) → salt_limit m ≤ 86
+limit_below methods.Md5crypt = omega arith
+limit_below methods.Sha256crypt = omega arith
+limit_below methods.Sha512crypt = omega arith
+limit_below methods.Scrypt = omega arith
+
+-- Refusals
+
+pub make_refused_cost : (m : Method) (cost : ℕ) (salt : List ℕ) → 0 < length salt → length salt ≤ salt_limit m → All IsCharacter salt → (TakesCost m cost → ⊥) → IsMakeRefused m cost salt Cost
+make_refused_cost m cost salt some short all bad = record { breaks = bad; first = earlier }
+  where
+    earlier : (f : MakeFault) → make_rule_number f < 3 → BreaksMake f m cost salt → ⊥
+    earlier SaltLength below (inl none) = omega arith
+    earlier SaltLength below (inr long) = omega (arith, short, long)
+    earlier SaltCharacter below b = b all
+    earlier Cost below b = omega arith
+
+-- what a setting can be made of breaks no rule
+pub makeable_breaks_none : (m : Method) (cost : ℕ) (salt : List ℕ) → IsMakeable m cost salt → (f : MakeFault) → BreaksMake f m cost salt → ⊥
+makeable_breaks_none m cost salt h SaltLength (inl none) = omega (arith, h.some)
+makeable_breaks_none m cost salt h SaltLength (inr long) = omega (arith, h.short, long)
+makeable_breaks_none m cost salt h SaltCharacter b = b h.characters
+makeable_breaks_none m cost salt h Cost b = b h.taken
+
+make_rules_differ : (f g : MakeFault) → make_rule_number f ≡ make_rule_number g → f ≡ g
+make_rules_differ SaltLength SaltLength e = refl
+make_rules_differ SaltCharacter SaltCharacter e = refl
+make_rules_differ Cost Cost e = refl
+make_rules_differ SaltLength _ e = absurd (omega arith)
+make_rules_differ SaltCharacter _ e = absurd (omega arith)
+make_rules_differ Cost _ e = absurd (omega arith)
+
+-- one refusal at most
+pub make_refusal_unique : (m : Method) (cost : ℕ) (salt : List ℕ) (f g : MakeFault) → IsMakeRefused m cost salt f → IsMakeRefused m cost salt g → f ≡ g
+make_refusal_unique m cost salt f g rf rg = elim (cases_order (make_rule_number f) (make_rule_number g)) [
+  | inl same ↦ make_rules_differ f g same
+  | inr apart ↦ elim apart [
+    | inl below ↦ absurd (rg.first f below rf.breaks)
+    | inr above ↦ absurd (rf.first g above rg.breaks)
+  ]
+]
+
+-- so an answer that is right is the only right one
+pub only_make_refusal : {T : Type 0} (m : Method) (cost : ℕ) (salt : List ℕ) (r : Result T MakeFault) → OnOk r (IsMakeable m cost salt) → IfErr r (IsMakeRefused m cost salt) → (fault : MakeFault) → IsMakeRefused m cost salt fault → r ≡ Err fault
+only_make_refusal m cost salt (Ok x) ok err fault h = absurd (makeable_breaks_none m cost salt ok fault h.breaks)
+only_make_refusal m cost salt (Err f) ok err fault h = ap (λ (g : MakeFault). Err g) (make_refusal_unique m cost salt f fault err h)
+
+pub made_where_makeable : {T : Type 0} (m : Method) (cost : ℕ) (salt : List ℕ) (r : Result T MakeFault) → IfErr r (IsMakeRefused m cost salt) → IsMakeable m cost salt → IsOk r
+made_where_makeable m cost salt (Ok x) err h = refl
+made_where_makeable m cost salt (Err f) err h = absurd (makeable_breaks_none m cost salt h f err.breaks)

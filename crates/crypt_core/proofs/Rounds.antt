@@ -1,0 +1,63 @@
+-- The rounds of SHA-crypt's texts.
+use Rattle.std.proofs.Common.{◌≡◌, ◌≢◌, ℕ, ◌≤◌, Bool, true, false, List, [], ◌∷◌, ◌++◌, refl, sym, ap, subst, ◌∙◌, append_assoc, arith}
+use Rattle.std.specs.Prelude.{min}
+use Rattle.std.specs.Str.Parse.{digits_value}
+use Rattle.std.proofs.lemmas.List.{append_cancel_left}
+use Rattle.std.proofs.lemmas.List.Elements.{All-cons, All-weaker}
+use Rattle.crypt_core.specs.declared.scheme.Rounds.{Rounds}
+use Rattle.crypt_core.specs.Settings.{dollar, IsField, rounds_word, rounds_field, IsRoundsNumber, held, SpellsRounds}
+use Rattle.crypt_core.proofs.Fields.{field_unique}
+
+-- the digits of a proper field go up to its `$`
+pub digits_are_field : (digits rest : List ℕ) → IsRoundsNumber digits → IsField digits (dollar ∷ rest)
+digits_are_field [] rest number = absurd number
+digits_are_field (d ∷ ds) rest number = record {
+  no_dollar = All-cons (λ b. b ≢ dollar) d ds (λ e. omega (arith, number.0)) (All-weaker (λ c. (48 ≤ c) × (c ≤ 57)) (λ b. b ≢ dollar) (λ c range e. omega (arith, range)) ds number.2);
+  ended = refl;
+}
+
+-- what follows the word `rounds=` in a text with a field
+pub field_parts : (digits rest : List ℕ) → rounds_field digits ++ rest ≡ rounds_word ++ (digits ++ (dollar ∷ rest))
+field_parts digits rest = rw (append_assoc, append_assoc) refl
+
+pub digits_unique : (d e x y : List ℕ) → IsRoundsNumber d → IsRoundsNumber e → rounds_field d ++ x ≡ rounds_field e ++ y → (d ≡ e) × (x ≡ y)
+digits_unique d e x y nd ne same =
+    let inner : d ++ (dollar ∷ x) ≡ e ++ (dollar ∷ y) = append_cancel_left rounds_word _ _ (sym (field_parts d x) ∙ same ∙ field_parts e y) in
+    let both = field_unique d e (dollar ∷ x) (dollar ∷ y) (digits_are_field d x nd) (digits_are_field e y ne) inner in
+    (both.0, cc (both.1))
+
+rounds_by : (m n : ℕ) (f g : Bool) (p q x y : List ℕ) → SpellsRounds (record { count = m; is_written = f }) p x → SpellsRounds (record { count = n; is_written = g }) q y → p ++ x ≡ q ++ y → (m ≡ n) × (f ≡ g) × (x ≡ y)
+rounds_by m n true true p q x y a b e =
+    let same : rounds_field a.0 ++ x ≡ rounds_field b.0 ++ y = sym (ap (λ (z : List ℕ). z ++ x) a.2) ∙ e ∙ ap (λ (z : List ℕ). z ++ y) b.2 in
+    let both = digits_unique a.0 b.0 x y a.1 b.1 same in
+    (a.3 ∙ ap (λ (ds : List ℕ). held (digits_value 10 ds)) both.0 ∙ sym b.3, refl, both.1)
+rounds_by m n true false p q x y a b e =
+    let y_is : y ≡ rounds_word ++ (a.0 ++ (dollar ∷ x)) = sym (ap (λ (z : List ℕ). z ++ y) b.0) ∙ sym e ∙ ap (λ (z : List ℕ). z ++ x) a.2 ∙ field_parts a.0 x in
+    absurd (b.2 (a.0 ++ (dollar ∷ x), y_is))
+rounds_by m n false true p q x y a b e =
+    let x_is : x ≡ rounds_word ++ (b.0 ++ (dollar ∷ y)) = sym (ap (λ (z : List ℕ). z ++ x) a.0) ∙ e ∙ ap (λ (z : List ℕ). z ++ y) b.2 ∙ field_parts b.0 y in
+    absurd (a.2 (b.0 ++ (dollar ∷ y), x_is))
+rounds_by m n false false p q x y a b e =
+    (a.1 ∙ sym b.1, refl, sym (ap (λ (z : List ℕ). z ++ x) a.0) ∙ e ∙ ap (λ (z : List ℕ). z ++ y) b.0)
+
+abbrev rounds_of : ℕ → Bool → Rounds
+rounds_of n f = record { count = n; is_written = f }
+
+-- what follows a prefix spells rounds in one way only
+pub rounds_unique : (a b : Rounds) (p q x y : List ℕ) → SpellsRounds a p x → SpellsRounds b q y → p ++ x ≡ q ++ y → (a ≡ b) × (x ≡ y)
+rounds_unique a b p q x y ra rb e =
+    let all = rounds_by a.count b.count a.is_written b.is_written p q x y ra rb e in
+    let count : a.count ≡ b.count = all.0 in
+    let flag : a.is_written ≡ b.is_written = all.1 in
+    (ap (λ (n : ℕ). rounds_of n a.is_written) count ∙ ap (rounds_of b.count) flag, all.2)
+
+held_min : (n : ℕ) → held (min n 999999999) ≡ held n
+held_min n = omega arith
+
+-- a proper field, with its held number
+pub written_rounds : (after field digits rest : List ℕ) (number : ℕ) (r : Rounds) → after ≡ rounds_word ++ field → IsRoundsNumber digits → field ≡ digits ++ (dollar ∷ rest) → number ≡ min (digits_value 10 digits) 999999999 → r ≡ record { count = held number; is_written = true } → (part : List ℕ) × (after ≡ part ++ rest) × SpellsRounds r part rest
+written_rounds after field digits rest number r begins is_number parts is made = (
+  rounds_field digits,
+  begins ∙ ap (λ (x : List ℕ). rounds_word ++ x) parts ∙ sym (field_parts digits rest),
+  subst (λ (s : Rounds). SpellsRounds s (rounds_field digits) rest) (sym made) (digits, is_number, refl, ap held is ∙ held_min (digits_value 10 digits)),
+)

@@ -1,0 +1,135 @@
+-- What the steps of reading find: a field, a number of rounds, scrypt's eleven characters.
+use Rattle.std.proofs.Common.{◌≡◌, ◌≢◌, ℕ, zero, suc, ◌+◌, ◌-◌, ◌*◌, ◌≤◌, ◌<◌, ◌^◌, Bool, true, false, cond, eqb, List, [], ◌∷◌, ◌++◌, length, take, drop, get_or, All, Contains, Option, Some, None, refl, sym, ap, subst, ◌∙◌, append_assoc, add-one, arith}
+use Rattle.std.specs.Prelude.{IfNone, min}
+use Rattle.std.specs.List.{position, position_or_len}
+use Rattle.std.specs.Str.Parse.{digits_value}
+use Rattle.std.proofs.Math.Seq.{drop-cons, take-length}
+use Rattle.std.proofs.lemmas.Bool.{eqb-true, eqb-false, ltb-false}
+use Rattle.std.proofs.lemmas.List.{append-nil, take-append-drop, take-append-le, drop-append-le, get_or-take, get_or_append_left, length-append, length-take, length-drop}
+use Rattle.std.proofs.lemmas.List.Sums.{fails_before_first}
+use Rattle.std.proofs.lemmas.List.Quantifiers.{position-Some}
+use Rattle.std.proofs.lemmas.List.Elements.{All-from_get_or, All-get_or, All-take, All-drop, All-weaker}
+use Rattle.std.proofs.lemmas.Int.Digits.{digits_value_more}
+use Rattle.std.proofs.lemmas.Str.{digit_value_digit}
+use Rattle.prims_core.specs.Alphabet.{alphabet, character_of, numerals}
+use Rattle.crypt_core.specs.Settings.{dollar, IsEndOfField, IsField, IsRoundsNumber, scrypt_part, HasNumerals, IsCharacter, LacksCost}
+use Rattle.crypt_core.proofs.Fields.{field_unique}
+use Rattle.crypt_core.proofs.Rounds.{digits_are_field}
+
+pub on_none : {A : Type 0} (r : Option A) (P : Type 0) → P → IfNone r P
+on_none None P h = h
+on_none (Some x) P h = tt
+
+-- Fields
+
+-- what stands before the first `$`, and what stands from it on
+pub record SplitsAt (xs : List ℕ) (n : ℕ) : Type 0 where
+  pub below : n < length xs
+  pub field : IsField (take n xs) (drop n xs)
+  pub rest : drop n xs ≡ dollar ∷ drop (n + 1) xs
+
+pub field_some : (xs : List ℕ) (n : ℕ) → position (λ b. eqb b dollar) xs ≡ Some n → SplitsAt xs n
+field_some xs n e =
+    let first = position-Some (λ b. eqb b dollar) xs n 0 e in
+    let here : get_or xs n 0 ≡ dollar = eqb-true _ _ first.1 in
+    let rest : drop n xs ≡ dollar ∷ drop (n + 1) xs = drop-cons xs n 0 first.0 ∙ ap (λ (b : ℕ). b ∷ drop (suc n) xs) here ∙ ap (λ (k : ℕ). dollar ∷ drop k xs) (sym (add-one n)) in
+    let length_is : length (take n xs) ≡ n = rw length-take (omega (arith, first.0)) in
+    record {
+      below = first.0;
+      field = record {
+        no_dollar = All-from_get_or (λ b. b ≢ dollar) (take n xs) 0 (λ i lt same.
+            eqb-false _ _ (first.2 i (omega arith)) (sym (get_or-take n xs i 0 (omega arith)) ∙ same));
+        ended = subst IsEndOfField (sym rest) refl;
+      };
+      rest = rest;
+    }
+
+none_from : (b : Bool) (n : ℕ) → cond b (Some n) None ≡ None → b ≡ false
+none_from true n e = cc
+none_from false n e = refl
+
+pub field_none : (xs : List ℕ) → position (λ b. eqb b dollar) xs ≡ None → IsField xs []
+field_none xs e =
+    let all : length xs ≤ position_or_len (λ b. eqb b dollar) xs = ltb-false _ _ (none_from _ _ e) in
+    record {
+      no_dollar = All-from_get_or (λ b. b ≢ dollar) xs 0 (λ i lt. eqb-false _ _ (fails_before_first (λ b. eqb b dollar) xs i 0 (omega arith)));
+      ended = tt;
+    }
+
+-- Numbers of rounds
+
+-- no `$`, no field
+pub no_number : (xs : List ℕ) → position (λ b. eqb b dollar) xs ≡ None → (digits rest : List ℕ) → IsRoundsNumber digits → xs ≡ digits ++ (dollar ∷ rest) → ⊥
+no_number xs e digits rest number parts =
+    let same = field_unique xs digits [] (dollar ∷ rest) (field_none xs e) (digits_are_field digits rest number) (append-nil xs ∙ parts) in
+    cc (same.1)
+
+-- what stands before the first `$` is the only number there may be
+pub only_number : (xs : List ℕ) (n : ℕ) → position (λ b. eqb b dollar) xs ≡ Some n → (IsRoundsNumber (take n xs) → ⊥) → (digits rest : List ℕ) → IsRoundsNumber digits → xs ≡ digits ++ (dollar ∷ rest) → ⊥
+only_number xs n e not_number digits rest number parts =
+    let split = field_some xs n e in
+    let same = field_unique (take n xs) digits (drop n xs) (dollar ∷ rest) split.field (digits_are_field digits rest number) (take-append-drop n xs ∙ parts) in
+    not_number (subst IsRoundsNumber (sym same.0) number)
+
+pub rest_all : (xs : List ℕ) (k : ℕ) → take (length xs - k) (drop k xs) ≡ drop k xs
+rest_all xs k = ap (λ (n : ℕ). take n (drop k xs)) (sym (length-drop k xs)) ∙ take-length (drop k xs)
+
+pub number_parts : (xs : List ℕ) (n : ℕ) → position (λ b. eqb b dollar) xs ≡ Some n → xs ≡ take n xs ++ (dollar ∷ take (length xs - (n + 1)) (drop (n + 1) xs))
+number_parts xs n e =
+    sym (take-append-drop n xs) ∙ ap (λ (r : List ℕ). take n xs ++ r) (field_some xs n e).rest
+    ∙ ap (λ (r : List ℕ). take n xs ++ (dollar ∷ r)) (sym (rest_all xs (n + 1)))
+
+pub digit_range : (ds : List ℕ) (i : ℕ) → IsRoundsNumber ds → i < length ds → (48 ≤ get_or ds i 0) × (get_or ds i 0 ≤ 57)
+digit_range [] i number lt = absurd number
+digit_range (d ∷ ds) zero number lt = (omega (arith, number.0), number.1)
+digit_range (d ∷ ds) (suc i) number lt = number.2 i 0 (omega arith)
+
+-- one more digit, held
+pub held_more : (ds : List ℕ) (i number digit : ℕ) → i < length ds → IsRoundsNumber ds → digit ≡ get_or ds i 0 → number ≡ min (digits_value 10 (take i ds)) 999999999 → min (number * 10 + (digit - 48)) 999999999 ≡ min (digits_value 10 (take (i + 1) ds)) 999999999
+held_more ds i number digit lt is_number is held_so_far =
+    let range = digit_range ds i is_number lt in
+    omega (arith, digits_value_more 10 ds i lt, digit_value_digit (get_or ds i 0) range, range, is, held_so_far)
+
+-- The eleven characters of scrypt's cost part
+
+-- a byte outside the alphabet among the eleven
+pub lacks_first : (after : List ℕ) → (Contains alphabet (get_or after 0 0) → ⊥) → LacksCost after
+lacks_first after outside part rest eleven all parts =
+    outside (subst (λ (xs : List ℕ). Contains alphabet (get_or xs 0 0)) (sym parts)
+    (rw (get_or_append_left part rest 0 0 (omega arith)) (All-get_or IsCharacter part 0 0 (omega arith) all).in_alphabet))
+
+-- five characters of the eleven
+pub lacks_group : (after : List ℕ) (i : ℕ) → i + 5 ≤ 11 → ((length (take 5 (drop i after)) ≡ 5) × All (Contains alphabet) (take 5 (drop i after)) → ⊥) → LacksCost after
+lacks_group after i within outside part rest eleven all parts =
+    let group : take 5 (drop i after) ≡ take 5 (drop i part) =
+    ap (λ (xs : List ℕ). take 5 (drop i xs)) parts
+    ∙ ap (λ (xs : List ℕ). take 5 xs) (drop-append-le i part rest (omega arith))
+    ∙ take-append-le 5 (drop i part) rest (rw length-drop (omega arith)) in
+    outside (
+      ap length group ∙ rw (length-take, length-drop) (omega arith),
+      subst (All (Contains alphabet)) (sym group) (All-weaker IsCharacter (Contains alphabet) (λ c h. h.in_alphabet) (take 5 (drop i part)) (All-take IsCharacter 5 (drop i part) (All-drop IsCharacter i part all))),
+    )
+
+-- too few bytes
+pub lacks_bytes : (after : List ℕ) → length after < 11 → LacksCost after
+lacks_bytes after short part rest eleven all parts = omega (arith, ap length parts, length-append part rest)
+
+one_numeral : (v : ℕ) → v < 64 → numerals 1 v ≡ character_of v ∷ []
+unfolding numerals
+one_numeral v below = ap (λ (w : ℕ). character_of w ∷ []) (omega arith)
+
+-- the three numbers of eleven characters
+pub numbers_parts : (after : List ℕ) (v r p : ℕ) → 11 ≤ length after → v < 64 → character_of v ≡ get_or after 0 0 → r < 2 ^ 30 → numerals 5 r ≡ take 5 (drop 1 after) → p < 2 ^ 30 → numerals 5 p ≡ take 5 (drop 6 after) → (rest : List ℕ) × (after ≡ scrypt_part (record { log_n = v; r = r; p = p }) ++ rest) × HasNumerals (record { log_n = v; r = r; p = p })
+numbers_parts [] v r p long vs v_is rs r_is ps p_is = absurd (omega arith)
+numbers_parts (x ∷ xs) v r p long vs v_is rs r_is ps p_is =
+    let first : numerals 1 v ≡ x ∷ [] = one_numeral v vs ∙ ap (λ (c : ℕ). c ∷ []) v_is in
+    let split : xs ≡ take 5 xs ++ (take 5 (drop 5 xs) ++ drop 5 (drop 5 xs)) =
+    sym (take-append-drop 5 xs) ∙ ap (λ (t : List ℕ). take 5 xs ++ t) (sym (take-append-drop 5 (drop 5 xs))) in
+    let parts : x ∷ xs ≡ (x ∷ []) ++ (take 5 xs ++ (take 5 (drop 5 xs) ++ drop 5 (drop 5 xs))) = ap (λ (t : List ℕ). x ∷ t) split in
+    let named : (x ∷ []) ++ (take 5 xs ++ (take 5 (drop 5 xs) ++ drop 5 (drop 5 xs))) ≡ numerals 1 v ++ (numerals 5 r ++ (numerals 5 p ++ drop 5 (drop 5 xs))) =
+    ap (λ (t : List ℕ). t ++ (take 5 xs ++ (take 5 (drop 5 xs) ++ drop 5 (drop 5 xs)))) (sym first)
+    ∙ ap (λ (t : List ℕ). numerals 1 v ++ (t ++ (take 5 (drop 5 xs) ++ drop 5 (drop 5 xs)))) (sym r_is)
+    ∙ ap (λ (t : List ℕ). numerals 1 v ++ (numerals 5 r ++ (t ++ drop 5 (drop 5 xs)))) (sym p_is) in
+    let joined : numerals 1 v ++ (numerals 5 r ++ (numerals 5 p ++ drop 5 (drop 5 xs))) ≡ scrypt_part (record { log_n = v; r = r; p = p }) ++ drop 5 (drop 5 xs) =
+    sym (append_assoc (numerals 1 v) (numerals 5 r ++ numerals 5 p) (drop 5 (drop 5 xs)) ∙ ap (λ (t : List ℕ). numerals 1 v ++ t) (append_assoc (numerals 5 r) (numerals 5 p) (drop 5 (drop 5 xs)))) in
+    (drop 5 (drop 5 xs), parts ∙ named ∙ joined, record { log_n = vs; r = rs; p = ps })

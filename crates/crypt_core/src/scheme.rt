@@ -1,0 +1,67 @@
+//! What a setting asks for: its method with the cost.
+
+ghost use Rattle.std.specs.Prelude.{◌≡◌, true, false};
+ghost use Rattle.crypt_core.specs.Settings.{held, method_of};
+
+use crate::method::Method;
+use kdf_core::Params;
+
+/// The most rounds.
+pub const MAX_ROUNDS: u64 = 999_999_999;
+
+/// The fewest rounds.
+const MIN_ROUNDS: u64 = 1000;
+
+/// The rounds of a text without a field for them.
+const DEFAULT_ROUNDS: u32 = 5000;
+
+/// The rounds of SHA-crypt, and whether the text has a field for them.
+#[derive(Clone, Copy, Debug, PartialEq, Eq)]
+pub struct Rounds {
+    pub count: u32,
+    pub is_written: bool,
+}
+
+impl Rounds {
+    /// The rounds of a text without a field for them.
+    pub fn unwritten() -> Rounds
+        ensures { result ≡ record { count = 5000; is_written = false } }
+    {
+        Rounds {
+            count: DEFAULT_ROUNDS,
+            is_written: false,
+        }
+    }
+
+    /// The rounds of a field with this number: the nearest from 1000 to 999999999.
+    pub fn written(number: u64) -> Rounds
+        ensures { result ≡ record { count = held number; is_written = true } }
+    {
+        Rounds {
+            count: number.clamp(MIN_ROUNDS, MAX_ROUNDS) as u32,
+            is_written: true,
+        }
+    }
+}
+
+/// A method with its cost.
+#[derive(Clone, Copy, Debug, PartialEq, Eq)]
+pub enum Scheme {
+    Md5crypt,
+    Sha256crypt(Rounds),
+    Sha512crypt(Rounds),
+    Scrypt(Params),
+}
+
+impl Scheme {
+    pub fn method(&self) -> Method
+        ensures { result ≡ method_of self.now }
+    {
+        match self {
+            Scheme::Md5crypt => Method::Md5crypt,
+            Scheme::Sha256crypt(_) => Method::Sha256crypt,
+            Scheme::Sha512crypt(_) => Method::Sha512crypt,
+            Scheme::Scrypt(_) => Method::Scrypt,
+        }
+    }
+}

@@ -1,0 +1,56 @@
+//! Settings: the method, cost and salt that a text of crypt(5) asks for.
+//!
+//! A `Setting` holds what some text spells, and nothing else. [`Setting::read`] takes it from a text
+//! and `Setting::text` gives its one canonical text back.
+
+ghost use Rattle.std.specs.Prelude.{◌≡◌, ◌≤◌, length};
+ghost use Rattle.crypt_core.specs.Methods.{salt_limit};
+ghost use Rattle.crypt_core.specs.Settings.{method_of};
+
+mod fault;
+mod make;
+mod read;
+mod salt;
+#[cfg(test)]
+mod tests;
+mod text;
+
+use crate::method::Method;
+use crate::scheme::Scheme;
+use arrayvec::ArrayVec;
+pub use fault::{MakeFault, SettingFault};
+use std::marker::Model;
+
+/// What a text asks for: a method with its cost, and the salt that is kept of it.
+#[derive(Debug, Drop)]
+pub struct Setting {
+    scheme: Scheme,
+    salt: ArrayVec<u8, 86>,
+}
+
+impl Model for Setting {
+    ghost use Rattle.crypt_core.specs.Settings.{Kept, IsSetting};
+
+    ghost Value = { Kept };
+
+    ghost view = { λ a. record { scheme = a.scheme; salt = a.salt.items } };
+
+    ghost invariant = { λ a. IsSetting (record { scheme = a.scheme; salt = a.salt.items }) };
+}
+
+impl Setting {
+    /// The method.
+    pub fn method(&self) -> Method
+        ensures { result ≡ method_of self.now.scheme }
+    {
+        self.scheme.method()
+    }
+
+    /// The kept salt, undecoded: at most 8, 16, 16 or 86 bytes.
+    pub fn salt(&self) -> &[u8]
+        ensures kept { result.now ≡ self.now.salt }
+        ensures short { length result.now ≤ salt_limit (method_of self.now.scheme) }
+    {
+        self.salt.as_slice()
+    }
+}

@@ -1,0 +1,97 @@
+//! Making a setting of a method, a cost and a salt.
+
+ghost use Rattle.std.specs.Prelude.{◌≡◌, ◌+◌, ◌≤◌, ◌↔◌, IsTrue, IsOk, IfOk, IfErr, OnOk};
+ghost use Rattle.crypt_core.specs.declared.setting.fault.MakeFault.{MakeFault as Fault};
+ghost use Rattle.crypt_core.specs.Settings.{TakesCost, IsMakeable, IsMakeRefused, made_scheme, made_setting, made_rounds};
+
+use super::Setting;
+use super::fault::MakeFault;
+use super::salt::{array, in_alphabet};
+use crate::method::Method;
+use crate::scheme::{Rounds, Scheme};
+use kdf_core::Params;
+
+/// The cost of scrypt that cost 0 stands for, and its block size and parts.
+const DEFAULT_COST: u32 = 7;
+
+const BLOCK_SIZE: u32 = 32;
+
+const PARTS: u32 = 1;
+
+impl Setting {
+    /// The setting of a method with a cost and a salt of crypt's alphabet, or the first fault.
+    ///
+    /// Cost 0 is the method's default. For SHA-crypt any other is a number of rounds, held between
+    /// 1000 and 999999999, and its field is written. For scrypt a cost `c` from 6 to 11 is
+    /// `N = 2^(c + 7)` with r = 32 and p = 1. md5crypt has one cost. The salt has from 1 to 8, 16,
+    /// 16 or 86 characters.
+    pub fn make(method: Method, cost: u32, salt: &[u8]) -> Result<Setting, MakeFault>
+        ensures made { IfOk result (λ setting. setting ≡ made_setting method cost salt.now) }
+        ensures accepted { IsOk result ↔ IsMakeable method cost salt.now }
+
+        ensures refused { IfErr result (IsMakeRefused method cost salt.now) }
+        ensures each_refusal { (fault : Fault) → IsMakeRefused method cost salt.now fault → result ≡ Err fault }
+    {
+        check(method, cost, salt)?;
+        Ok(Setting {
+            scheme: scheme_of(method, cost),
+            salt: array(salt),
+        })
+    }
+}
+
+// The rules on a method, a cost and a salt.
+fn check(method: Method, cost: u32, salt: &[u8]) -> Result<(), MakeFault>
+    ensures ok { OnOk result (IsMakeable method cost salt.now) }
+    ensures err { IfErr result (IsMakeRefused method cost salt.now) }
+{
+    if salt.is_empty() || salt.len() > method.salt_limit() {
+        return Err(MakeFault::SaltLength);
+    }
+    if !in_alphabet(salt) {
+        return Err(MakeFault::SaltCharacter);
+    }
+    if !takes_cost(method, cost) {
+        return Err(MakeFault::Cost);
+    }
+    Ok(())
+}
+
+fn takes_cost(method: Method, cost: u32) -> bool
+    ensures { IsTrue result ↔ TakesCost method cost }
+{
+    match method {
+        Method::Scrypt => matches!(cost, 0 | 6..=11),
+        _ => true,
+    }
+}
+
+fn scheme_of(method: Method, cost: u32) -> Scheme
+    requires { TakesCost method cost }
+    ensures { result ≡ made_scheme method cost }
+{
+    match method {
+        Method::Md5crypt => Scheme::Md5crypt,
+        Method::Sha256crypt => Scheme::Sha256crypt(rounds_of(cost)),
+        Method::Sha512crypt => Scheme::Sha512crypt(rounds_of(cost)),
+        Method::Scrypt if cost == 0 => Scheme::Scrypt(params_of(DEFAULT_COST)),
+        Method::Scrypt => Scheme::Scrypt(params_of(cost)),
+    }
+}
+
+fn params_of(cost: u32) -> Params
+    requires from { 6 ≤ cost }
+    requires to { cost ≤ 11 }
+    ensures { result ≡ record { log_n = cost + 7; r = 32; p = 1 } }
+{
+    Params::new((cost + 7) as u8, BLOCK_SIZE, PARTS).unwrap()
+}
+
+fn rounds_of(cost: u32) -> Rounds
+    ensures { result ≡ made_rounds cost }
+{
+    if cost == 0 {
+        return Rounds::unwritten();
+    }
+    Rounds::written(u64::from(cost))
+}

@@ -1,0 +1,278 @@
+//! Texts and refusals as the formats state them.
+
+use super::*;
+use std::process::Abort;
+use std::test::Fail;
+
+// Reads a text and compares what is kept of it. The canonical text is read again as itself.
+fn reads(rt: &impl Abort, text: &[u8], method: Method, salt: &[u8], canonical: &[u8]) {
+    let found = Setting::read(text);
+    assert!(rt; found.is_ok(), "{text:?} is accepted");
+    if let Ok(setting) = found {
+        assert_eq!(rt; setting.method(), method, "the method of {text:?}");
+        assert_eq!(rt; setting.salt(), salt, "the salt of {text:?}");
+        let written = setting.text();
+        assert_eq!(rt; written.as_slice(), canonical, "the text of {text:?}");
+        let again = Setting::read(written.as_slice());
+        assert!(rt; again.is_ok(), "the text of {text:?} is accepted");
+        if let Ok(again) = again {
+            assert_eq!(rt;
+                again.text().as_slice(),
+                canonical,
+                "the text of {text:?}, read again"
+            );
+        }
+    }
+}
+
+fn refuses(rt: &impl Abort, text: &[u8], wanted: SettingFault) {
+    let found = Setting::read(text);
+    assert_eq!(rt; found.map(|_| ()), Err(wanted), "{text:?}");
+}
+
+#[test]
+fn canonical_texts(rt: HostRuntime) {
+    let rows = [
+        (
+            b"$6$rounds=999$".as_slice(),
+            Method::Sha512crypt,
+            b"".as_slice(),
+            b"$6$rounds=1000$".as_slice(),
+        ),
+        (
+            b"$1$abcdefghij$x",
+            Method::Md5crypt,
+            b"abcdefgh",
+            b"$1$abcdefgh",
+        ),
+        (b"$5$$", Method::Sha256crypt, b"", b"$5$"),
+        (
+            b"$5$rounds=1000$rounds=5",
+            Method::Sha256crypt,
+            b"rounds=5",
+            b"$5$rounds=1000$rounds=5",
+        ),
+        (
+            b"$1$xxxxxxxx$UYCIxa628.9qXjpQCjM4a.",
+            Method::Md5crypt,
+            b"xxxxxxxx",
+            b"$1$xxxxxxxx",
+        ),
+        (
+            b"$5$rounds=123456789012$ab",
+            Method::Sha256crypt,
+            b"ab",
+            b"$5$rounds=999999999$ab",
+        ),
+        (b"$5$rounds", Method::Sha256crypt, b"rounds", b"$5$rounds"),
+        (b"$1$", Method::Md5crypt, b"", b"$1$"),
+        (
+            b"$6$rounds=10000$saltstringsaltstring",
+            Method::Sha512crypt,
+            b"saltstringsaltst",
+            b"$6$rounds=10000$saltstringsaltst",
+        ),
+        (
+            b"$6$rounds=5000$toolongsaltstring",
+            Method::Sha512crypt,
+            b"toolongsaltstrin",
+            b"$6$rounds=5000$toolongsaltstrin",
+        ),
+        (b"$7$J0..../....", Method::Scrypt, b"", b"$7$J0..../...."),
+        (b"$7$J2..../....", Method::Scrypt, b"", b"$7$J2..../...."),
+        (
+            b"$7$C6..../....SodiumChloride$x",
+            Method::Scrypt,
+            b"SodiumChloride",
+            b"$7$C6..../....SodiumChloride",
+        ),
+    ];
+    for (text, method, salt, canonical) in rows {
+        reads(&rt, text, method, salt, canonical);
+    }
+}
+
+#[test]
+fn long_texts(rt: HostRuntime) -> Result<(), Fail> {
+    let mut digits = b"$5$rounds=".to_vec(rt.alloc())?;
+    for _ in 0..300 {
+        digits.push(b'7')?;
+    }
+    digits.extend_from_slice(b"$ab")?;
+    reads(
+        &rt,
+        &digits,
+        Method::Sha256crypt,
+        b"ab",
+        b"$5$rounds=999999999$ab",
+    );
+
+    let mut salt = b"$7$2/..../....".to_vec(rt.alloc())?;
+    for _ in 0..86 {
+        salt.push(b'a')?;
+    }
+    reads(&rt, &salt, Method::Scrypt, &[b'a'; 86], &salt);
+    salt.push(b'a')?;
+    refuses(&rt, &salt, SettingFault::BadSalt);
+
+    let mut full = b"$1$".to_vec(rt.alloc())?;
+    for _ in 0..381 {
+        full.push(b'a')?;
+    }
+    reads(&rt, &full, Method::Md5crypt, b"aaaaaaaa", b"$1$aaaaaaaa");
+    full.push(b'a')?;
+    refuses(&rt, &full, SettingFault::TooLong);
+    Ok(())
+}
+
+#[test]
+fn refusals(rt: HostRuntime) {
+    let rows = [
+        (b"$5$rounds=0$ab".as_slice(), SettingFault::BadRounds),
+        (b"$5$rounds=$ab", SettingFault::BadRounds),
+        (b"$5$rounds=12", SettingFault::BadRounds),
+        (b"$5$rounds=01000$ab", SettingFault::BadRounds),
+        (b"$2b$10$x", SettingFault::UnknownScheme),
+        (b"", SettingFault::UnknownScheme),
+        (b"$1$a:b", SettingFault::BadCharacter),
+        (b"$2b$a b", SettingFault::BadCharacter),
+        (&[b'!'; 385], SettingFault::TooLong),
+        (&[b' '; 385], SettingFault::TooLong),
+        (b"$7$A", SettingFault::BadCost),
+        (b"$7$./..../....", SettingFault::ScryptRange),
+        (b"$7$E/..../....", SettingFault::ScryptRange),
+        (b"$7$J6..../....", SettingFault::AboveCeiling),
+        (b"$7$2/..../....a_b", SettingFault::BadSalt),
+        (b"$7$E/..../....a_b", SettingFault::ScryptRange),
+        (b"$7$J6..../....a_b", SettingFault::AboveCeiling),
+        (b"$7$zzzzzzzzzzz", SettingFault::AboveCeiling),
+        (b"$7$/zzzzz/....", SettingFault::AboveCeiling),
+        (b"$7$z/..../....", SettingFault::ScryptRange),
+        (b"$7$.zzzzzzzzzz", SettingFault::ScryptRange),
+        (b"$7$/...../....", SettingFault::ScryptRange),
+        (b"$5$rounds=0$a b", SettingFault::BadCharacter),
+    ];
+    for (text, fault) in rows {
+        refuses(&rt, text, fault);
+    }
+}
+
+#[test]
+fn prefixes(rt: HostRuntime) {
+    let scrypt = b"$7$C6..../....SodiumChloride";
+    for len in 0..29 {
+        let wanted = match len {
+            0..=2 => Err(SettingFault::UnknownScheme),
+            3..=13 => Err(SettingFault::BadCost),
+            _ => Ok(()),
+        };
+        assert_eq!(rt;
+            Setting::read(&scrypt[..len]).map(|_| ()),
+            wanted,
+            "{len} bytes of scrypt's text"
+        );
+    }
+    let sha = b"$6$rounds=1000$ab";
+    for len in 0..18 {
+        let wanted = match len {
+            0..=2 => Err(SettingFault::UnknownScheme),
+            10..=14 => Err(SettingFault::BadRounds),
+            _ => Ok(()),
+        };
+        assert_eq!(rt;
+            Setting::read(&sha[..len]).map(|_| ()),
+            wanted,
+            "{len} bytes of SHA-crypt's text"
+        );
+    }
+}
+
+#[test]
+fn made(rt: HostRuntime) {
+    let rows = [
+        (
+            Method::Scrypt,
+            0,
+            b"ab".as_slice(),
+            b"$7$CU..../....ab".as_slice(),
+        ),
+        (Method::Scrypt, 11, b"ab", b"$7$GU..../....ab"),
+        (
+            Method::Sha512crypt,
+            0,
+            b"/0..............",
+            b"$6$/0..............",
+        ),
+        (Method::Sha256crypt, 1, b"ab", b"$5$rounds=1000$ab"),
+        (Method::Sha256crypt, 999, b"ab", b"$5$rounds=1000$ab"),
+        (Method::Sha256crypt, 1000, b"ab", b"$5$rounds=1000$ab"),
+        (
+            Method::Sha512crypt,
+            999_999_999,
+            b"ab",
+            b"$6$rounds=999999999$ab",
+        ),
+        (
+            Method::Sha512crypt,
+            4_294_967_295,
+            b"ab",
+            b"$6$rounds=999999999$ab",
+        ),
+        (Method::Md5crypt, 4_294_967_295, b"xxxxxxxx", b"$1$xxxxxxxx"),
+    ];
+    for (method, cost, salt, text) in rows {
+        let made = Setting::make(method, cost, salt);
+        assert!(rt; made.is_ok(), "cost {cost} is accepted");
+        if let Ok(setting) = made {
+            assert_eq!(rt; setting.method(), method, "the method at cost {cost}");
+            assert_eq!(rt; setting.salt(), salt, "the salt at cost {cost}");
+            assert_eq!(rt; setting.text().as_slice(), text, "the text at cost {cost}");
+        }
+    }
+}
+
+#[test]
+fn not_made(rt: HostRuntime) {
+    let rows = [
+        (Method::Scrypt, 5, b"ab".as_slice(), MakeFault::Cost),
+        (Method::Scrypt, 12, b"ab", MakeFault::Cost),
+        (Method::Scrypt, 5, b"a-b", MakeFault::SaltCharacter),
+        (Method::Scrypt, 5, b"", MakeFault::SaltLength),
+        (Method::Md5crypt, 0, b"123456789", MakeFault::SaltLength),
+        (Method::Md5crypt, 0, b"a-b", MakeFault::SaltCharacter),
+        (Method::Sha256crypt, 0, &[b'a'; 17], MakeFault::SaltLength),
+        (Method::Scrypt, 0, &[b'-'; 87], MakeFault::SaltLength),
+    ];
+    for (method, cost, salt, fault) in rows {
+        assert_eq!(rt;
+            Setting::make(method, cost, salt).map(|_| ()),
+            Err(fault),
+            "cost {cost} and salt {salt:?}"
+        );
+    }
+}
+
+#[test]
+fn fault_texts(rt: HostRuntime) {
+    let faults = [
+        (SettingFault::TooLong, "setting too long"),
+        (SettingFault::BadCharacter, "bad character"),
+        (SettingFault::UnknownScheme, "unknown scheme"),
+        (SettingFault::BadRounds, "bad rounds"),
+        (SettingFault::BadCost, "bad cost"),
+        (SettingFault::ScryptRange, "scrypt range"),
+        (SettingFault::AboveCeiling, "above ceiling"),
+        (SettingFault::BadSalt, "bad salt"),
+    ];
+    for (fault, text) in faults {
+        assert_eq!(rt; fault.text(), text, "{fault:?}");
+    }
+    let make_faults = [
+        (MakeFault::SaltLength, "salt length"),
+        (MakeFault::SaltCharacter, "salt character"),
+        (MakeFault::Cost, "cost"),
+    ];
+    for (fault, text) in make_faults {
+        assert_eq!(rt; fault.text(), text, "{fault:?}");
+    }
+}

@@ -1,0 +1,8 @@
+use Rattle.kdf_core.proofs.Ceiling.{within_by_quotient, above_by_power}
+use Rattle.kdf_core.proofs.params.is_within_ceiling.Goals as goal
+
+pub returns-then-log_n-lt24 : goal.returns-then-log_n-lt24
+returns-then-log_n-lt24 c = rw (c.from.ensures, c.from-then-log_n-lt24.ensures) (within_by_quotient c.args.log_n c.args.r c.args.p 8388608)
+
+pub returns-else-log_n-lt24 : goal.returns-else-log_n-lt24
+returns-else-log_n-lt24 c = above_by_power c.args.log_n c.args.r c.args.p c.if-log_n-lt24.false c.requires.in_range.some_block c.requires.in_range.some_part

@@ -1,0 +1,27 @@
+-- The three numbers of scrypt (RFC 7914, section 2), and which of them are accepted.
+use Rattle.std.specs.Prelude.{ℕ, ◌<◌, ◌≤◌, ◌*◌, ◌^◌}
+
+-- the cost N = 2 ^ log_n, the block size r and the number p of parts
+pub record ScryptCost : Type 0 where
+  pub log_n : ℕ
+  pub r : ℕ
+  pub p : ℕ
+
+-- N is a power of two above 1 and below 2 ^ (16 * r); r and p are at least 1
+pub record IsInRange (cost : ScryptCost) : Type 0 where
+  pub above_one : 0 < cost.log_n
+  pub below : cost.log_n < 16 * cost.r
+  pub some_block : 0 < cost.r
+  pub some_part : 0 < cost.p
+
+-- the largest product N * r * p: 2 ^ 23
+abbrev pub ceiling : ℕ
+ceiling = 8388608
+
+abbrev pub IsWithinCeiling : ScryptCost → Type 0
+IsWithinCeiling cost = 2 ^ cost.log_n * cost.r * cost.p ≤ ceiling
+
+-- the numbers that scrypt is run with
+pub record IsAccepted (cost : ScryptCost) : Type 0 where
+  pub in_range : IsInRange cost
+  pub within : IsWithinCeiling cost

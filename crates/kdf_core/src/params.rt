@@ -1,0 +1,105 @@
+//! The parameters of scrypt: N, r and p of RFC 7914, section 2, under a ceiling on their product.
+//!
+//! A `Params` is in range and within the ceiling by its invariant, so whoever holds one may ask for
+//! the memory that it stands for.
+
+ghost use Rattle.std.specs.Prelude.{◌≡◌, ◌↔◌, IfOk, IsOk, IsTrue};
+ghost use Rattle.kdf_core.specs.Params.{ScryptCost, IsInRange, IsWithinCeiling, IsAccepted};
+
+use std::marker::Model;
+use thiserror::Error;
+
+/// The largest product `N * r * p`: 2^23, so that a table of `128 * N * r` bytes has at most 2^30.
+const CEILING: u64 = 8_388_608;
+
+/// Why three numbers are no parameters of scrypt.
+#[derive(Clone, Copy, Debug, PartialEq, Eq, Drop, Error)]
+pub enum ParamFault {
+    /// log2 N, r or p is 0, or log2 N is 16r or more.
+    #[error("scrypt range")]
+    Range,
+    /// The product of N, r and p is above 8388608.
+    #[error("above ceiling")]
+    AboveCeiling,
+}
+
+/// The parameters of scrypt: in the range of RFC 7914, section 2, and with `N * r * p` at most
+/// 8388608.
+#[derive(Clone, Copy, Debug, PartialEq, Eq)]
+pub struct Params {
+    log_n: u8,
+    r: u32,
+    p: u32,
+}
+
+impl Model for Params {
+    ghost use Rattle.kdf_core.specs.Params.{ScryptCost, IsAccepted};
+
+    ghost Value = { ScryptCost };
+
+    ghost view = { λ a. record { log_n = a.log_n; r = a.r; p = a.p } };
+
+    ghost invariant = { λ a. IsAccepted (record { log_n = a.log_n; r = a.r; p = a.p }) };
+
+    ghost inverse = { λ c. record { log_n = c.log_n; r = c.r; p = c.p } };
+}
+
+impl Params {
+    /// The parameters with `N = 2^log_n`, or the first fault: `Range`, then `AboveCeiling`.
+    pub fn new(log_n: u8, r: u32, p: u32) -> Result<Params, ParamFault>
+        ensures numbers { IfOk result (λ params. params ≡ record { log_n = log_n; r = r; p = p }) }
+
+        ensures accepted { IsOk result ↔ IsAccepted (record { log_n = log_n; r = r; p = p }) }
+        ensures range { (result ≡ Err ParamFault.Range) ↔ ¬ IsInRange (record { log_n = log_n; r = r; p = p }) }
+        ensures ceiling { (result ≡ Err ParamFault.AboveCeiling) ↔ (IsInRange (record { log_n = log_n; r = r; p = p }) × ¬ IsWithinCeiling (record { log_n = log_n; r = r; p = p })) }
+    {
+        if !is_in_range(log_n, r, p) {
+            return Err(ParamFault::Range);
+        }
+        if !is_within_ceiling(log_n, r, p) {
+            return Err(ParamFault::AboveCeiling);
+        }
+        Ok(Params { log_n, r, p })
+    }
+
+    /// log2 N.
+    pub fn log_n(&self) -> u8
+        ensures number { result ≡ self.now.log_n }
+        ensures accepted { IsAccepted self.now }
+    {
+        self.log_n
+    }
+
+    /// The block size r, in units of 128 bytes.
+    pub fn r(&self) -> u32
+        ensures number { result ≡ self.now.r }
+        ensures accepted { IsAccepted self.now }
+    {
+        self.r
+    }
+
+    /// The number p of parts.
+    pub fn p(&self) -> u32
+        ensures number { result ≡ self.now.p }
+        ensures accepted { IsAccepted self.now }
+    {
+        self.p
+    }
+}
+
+// Whether N is above 1 and below 2^(16r), and r and p are at least 1.
+fn is_in_range(log_n: u8, r: u32, p: u32) -> bool
+    ensures { IsTrue result ↔ IsInRange (record { log_n = log_n; r = r; p = p }) }
+{
+    log_n > 0 && r > 0 && p > 0 && u64::from(log_n) < 16 * u64::from(r)
+}
+
+// Whether `2^log_n * r * p` is at most 2^23. The product of any `r` and `p` fits 64 bits, and is
+// compared with the ceiling divided by N, so that nothing overflows.
+fn is_within_ceiling(log_n: u8, r: u32, p: u32) -> bool
+    requires in_range { IsInRange (record { log_n = log_n; r = r; p = p }) }
+    ensures { IsTrue result ↔ IsWithinCeiling (record { log_n = log_n; r = r; p = p }) }
+{
+    // From 2^24 on N alone is above the ceiling.
+    log_n < 24 && u64::from(r) * u64::from(p) <= CEILING >> log_n
+}
