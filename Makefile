@@ -13,7 +13,7 @@ SOURCES := $(shell find crates -path '*/out' -prune -o \( -name '*.rt' -o -name 
 all: mkpasswd
 
 mkpasswd: $(SOURCES)
-	cd crates/mkpasswd && $(RT) run -- -m md5crypt -S xxxxxxxx password
+	cd crates/mkpasswd && $(RT) run -- -m md5crypt -S xxxxxxxx password > /dev/null
 	cp crates/mkpasswd/out/mkpasswd $@
 
 run: mkpasswd

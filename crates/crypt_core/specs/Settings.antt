@@ -46,7 +46,7 @@ abbrev pub IsEndOfField : List ℕ → Type 0
 IsEndOfField [] = Unit {0}
 IsEndOfField (b ∷ rest) = b ≡ dollar
 
--- the field goes up to the next `$`, or up to the end; rest is what follows it
+-- the field has no `$`, and the text behind it is empty or goes on with one
 pub record IsField (field rest : List ℕ) : Type 0 where
   pub no_dollar : All (λ b. b ≢ dollar) field
   pub ended : IsEndOfField rest
@@ -59,7 +59,7 @@ BeginsWith text front = (rest : List ℕ) × (text ≡ front ++ rest)
 abbrev pub rounds_word : List ℕ
 rounds_word = codes "rounds="
 
--- one of 1 to 9, and then any number of 0 to 9
+-- the decimal digits of a number, without a leading zero
 abbrev pub IsRoundsNumber : List ℕ → Type 0
 IsRoundsNumber [] = ⊥
 IsRoundsNumber (d ∷ ds) = (49 ≤ d) × (d ≤ 57) × All (λ c. (48 ≤ c) × (c ≤ 57)) ds
@@ -146,7 +146,7 @@ cost_part (Sha256crypt rounds) = if rounds.is_written then rounds_field (decimal
 cost_part (Sha512crypt rounds) = if rounds.is_written then rounds_field (decimal rounds.count) else []
 cost_part (Scrypt cost) = scrypt_part cost
 
--- prefix, cost part and salt, and nothing after the salt
+-- it ends with the salt
 abbrev pub canonical_text : Kept → List ℕ
 canonical_text kept = prefix (method_of kept.scheme) ++ (cost_part kept.scheme ++ kept.salt)
 

@@ -12,6 +12,6 @@ abbrev pub with_digests : Counts → List (List ℕ) → Counts
 with_digests counts messages =
     record counts { digests = counts.digests + length messages; bytes = counts.bytes + sum_by length messages }
 
--- the counts leave room for any hash
+-- the two counts that digests raise leave room for any hash
 abbrev pub HasRoom : Counts → Type 0
 HasRoom counts = (counts.digests ≤ 2 ^ 120) × (counts.bytes ≤ 2 ^ 120)

@@ -7,7 +7,7 @@ pub record ScryptCost : Type 0 where
   pub r : ℕ
   pub p : ℕ
 
--- N is a power of two above 1 and below 2 ^ (16 * r); r and p are at least 1
+-- log2 N is at least 1 and stays below 16 r, and neither r nor p is 0
 pub record IsInRange (cost : ScryptCost) : Type 0 where
   pub above_one : 0 < cost.log_n
   pub below : cost.log_n < 16 * cost.r

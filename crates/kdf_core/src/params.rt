@@ -87,7 +87,7 @@ impl Params {
     }
 }
 
-// Whether N is above 1 and below 2^(16r), and r and p are at least 1.
+// Whether none of the three is 0 and log2 N stays below 16 r.
 fn is_in_range(log_n: u8, r: u32, p: u32) -> bool
     ensures { IsTrue result ↔ IsInRange (record { log_n = log_n; r = r; p = p }) }
 {

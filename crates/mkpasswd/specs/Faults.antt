@@ -1,3 +1,4 @@
+-- The texts and exit statuses of what can end the program early.
 use Rattle.std.specs.Prelude.{ℕ, List, [], codes}
 use Rattle.clap.specs.Words.{kind_of}
 use Rattle.crypt_core.specs.Settings.{make_fault_text}

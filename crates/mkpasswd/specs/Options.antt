@@ -1,3 +1,4 @@
+-- The words after the program's name: the command, the texts that it gives, and what they mean.
 use Rattle.std.specs.Prelude.{◌≡◌, ◌≢◌, ⊤, List, [], Option, Some, Result, Ok, Err, true, codes}
 use Rattle.clap.specs.Words.{App, IsAmong, Rule, Text, fault_of, first_of, kind_of, matches_of}
 use Rattle.clap.specs.Words.{new_app, new_rule, takes, with_rule}

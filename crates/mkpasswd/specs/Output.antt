@@ -1,5 +1,5 @@
 -- What a run leaves in an output.
-use Rattle.std.specs.Prelude.{◌≡◌, ℕ, ◌+◌, ◌≤◌, List, ◌++◌, length, Option}
+use Rattle.std.specs.Prelude.{◌≡◌, ℕ, ◌+◌, ◌<◌, ◌≤◌, List, ◌++◌, length, Option}
 use Rattle.std.specs.Io.KnownBytes.{Appends}
 use Rattle.mkpasswd.specs.Devices.{Device}
 
@@ -15,7 +15,13 @@ module _ {T : Type 0} where
   TakesPrefix contents old new text =
       (sent : List ℕ) × (unsent : List ℕ) × (sent ++ unsent ≡ text) × Takes contents old new sent
 
-  -- at most so many calls were made, and at most two more than the bytes that they took
+  -- it has taken the first bytes of a text, and some are still to come
+  abbrev pub TakesPart : (T → Option (List ℕ)) → Device T → Device T → List ℕ → Type 0
+  TakesPart contents old new text =
+      (sent : List ℕ) × (unsent : List ℕ) × (sent ++ unsent ≡ text) × Takes contents old new sent
+      × (0 < length unsent)
+
+  -- no more calls than `turns`, and each but two of them moved a byte
   pub record IsWithinTurns (turns : ℕ) (old new : Device T) : Type 0 where
     pub at_most_turns : new.calls ≤ old.calls + turns
     pub at_most_bytes : new.calls + old.bytes ≤ old.calls + new.bytes + 2

@@ -11,7 +11,7 @@ use std::io::Write;
 use std::marker::Model;
 
 /// A writer, with the number of its failed calls, of its `give` calls, and of the bytes that these
-/// took. All three are 0 when new.
+/// took. A new wrapper has seen nothing.
 #[derive(Drop)]
 pub struct Output<O> {
     inner: O,

@@ -4,7 +4,7 @@ ghost use Rattle.std.specs.Io.KnownBytes.{Keeps};
 ghost use Rattle.crypt_core.specs.Crypt.{crypt};
 ghost use Rattle.crypt_core.specs.Settings.{method_of};
 ghost use Rattle.mkpasswd.specs.Devices.{HasRoom};
-ghost use Rattle.mkpasswd.specs.Output.{IsWithinTurns, Takes, TakesPrefix};
+ghost use Rattle.mkpasswd.specs.Output.{IsWithinTurns, Takes, TakesPart, TakesPrefix};
 ghost use Rattle.mkpasswd.specs.Tallies.{one_line};
 
 use crate::device::Output;
@@ -20,8 +20,8 @@ use std::io::Write;
 /// Hashes a password by a setting of md5crypt, and gives the hash and a line feed to the output, in
 /// at most `turns` calls. It takes no memory.
 ///
-/// `Write` is answered where a call of the output fails, and `Turns` where one more call than
-/// `turns` is needed; the output has then taken the first bytes of the answer.
+/// `Write` is answered after the first call of the output that fails, and `Turns` where one more call
+/// than `turns` is needed; the output has then taken the first bytes of the answer.
 pub fn run_first<O: Write>(
     password: &Password,
     setting: &Setting,
@@ -35,8 +35,10 @@ pub fn run_first<O: Write>(
     ensures whole { OnOk result (Takes O.contents out.old out.new (crypt password.now setting.now ++ 10 ∷ [])) }
     ensures unfailed { OnOk result (out.new.failures ≡ out.old.failures) }
     ensures fault { OnErr result (TakesPrefix O.contents out.old out.new (crypt password.now setting.now ++ 10 ∷ [])) }
-    ensures write { IsErrOf result RunFault.Write → out.old.failures < out.new.failures }
-    ensures turns { IsErrOf result RunFault.Turns → out.new.calls ≡ out.old.calls + turns }
+    ensures write { IsErrOf result RunFault.Write → out.new.failures ≡ out.old.failures + 1 }
+    ensures turns { IsErrOf result RunFault.Turns → (out.new.calls ≡ out.old.calls + turns)
+        × (out.new.failures ≡ out.old.failures)
+        × TakesPart O.contents out.old out.new (crypt password.now setting.now ++ 10 ∷ []) }
     ensures calls { IsWithinTurns turns out.old out.new }
 {
     let answer = answer(password, setting);
@@ -71,8 +73,9 @@ fn send<O: Write>(out: &mut Output<O>, text: &[u8], turns: u64) -> Result<(), Ru
     ensures whole { OnOk result (Takes O.contents out.old out.new text.now) }
     ensures unfailed { OnOk result (out.new.failures ≡ out.old.failures) }
     ensures fault { OnErr result (TakesPrefix O.contents out.old out.new text.now) }
-    ensures write { IsErrOf result RunFault.Write → out.old.failures < out.new.failures }
-    ensures turns { IsErrOf result RunFault.Turns → out.new.calls ≡ out.old.calls + turns }
+    ensures write { IsErrOf result RunFault.Write → out.new.failures ≡ out.old.failures + 1 }
+    ensures turns { IsErrOf result RunFault.Turns → (out.new.calls ≡ out.old.calls + turns)
+        × (out.new.failures ≡ out.old.failures) × TakesPart O.contents out.old out.new text.now }
     ensures calls { IsWithinTurns turns out.old out.new }
 {
     let mut rest = text;
@@ -96,7 +99,7 @@ fn finish<O: Write>(out: &mut Output<O>) -> Result<(), RunFault>
     ensures keeps { Keeps (O.contents out.old.inner) (O.contents out.new.inner) }
     ensures counts { (out.new.calls ≡ out.old.calls) × (out.new.bytes ≡ out.old.bytes) }
     ensures unfailed { OnOk result (out.new.failures ≡ out.old.failures) }
-    ensures write { OnErr result (out.old.failures < out.new.failures) }
+    ensures write { OnErr result (out.new.failures ≡ out.old.failures + 1) }
     ensures only { IfErr result (λ fault. fault ≡ RunFault.Write) }
 {
     match out.flush() {

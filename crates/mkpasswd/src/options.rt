@@ -13,7 +13,7 @@ use crypt_core::{Method, Setting};
 use std::alloc::{AllocError, Global};
 
 /// One password, to be hashed by md5crypt.
-#[derive(Debug, Drop)]
+#[derive(Drop)]
 pub struct First {
     /// The setting of md5crypt with the salt that was given.
     pub setting: Setting,

@@ -21,10 +21,10 @@ const PARTS: u32 = 1;
 impl Setting {
     /// The setting of a method with a cost and a salt of crypt's alphabet, or the first fault.
     ///
-    /// Cost 0 is the method's default. For SHA-crypt any other is a number of rounds, held between
-    /// 1000 and 999999999, and its field is written. For scrypt a cost `c` from 6 to 11 is
-    /// `N = 2^(c + 7)` with r = 32 and p = 1. md5crypt has one cost. The salt has from 1 to 8, 16,
-    /// 16 or 86 characters.
+    /// Cost 0 is the method's default. SHA-crypt takes any other as a number of rounds, brought into
+    /// range, that the text will show. scrypt takes a cost `c` from 6 to 11, for `N = 2^(c + 7)`,
+    /// r = 32 and p = 1. md5crypt has but one cost. A salt has at least one character, and at most
+    /// as many as the method keeps: 8, 16, 16 or 86.
     pub fn make(method: Method, cost: u32, salt: &[u8]) -> Result<Setting, MakeFault>
         ensures made { IfOk result (λ setting. setting ≡ made_setting method cost salt.now) }
         ensures accepted { IsOk result ↔ IsMakeable method cost salt.now }

@@ -137,7 +137,7 @@ fn number_at(field: &[u8]) -> Option<(u64, &[u8])>
     Some((capped_number(digits), &field[end + 1..]))
 }
 
-// One of 1 to 9, and then any number of 0 to 9.
+// Whether these are the digits of a number without a leading zero.
 fn is_rounds_number(digits: &[u8]) -> bool
     ensures { IsTrue result ↔ IsRoundsNumber digits.now }
 {
@@ -206,7 +206,7 @@ fn salt_at(method: Method, after: &[u8]) -> Option<ArrayVec<u8, 86>>
     Some(array(field))
 }
 
-// The field up to the next `$`, or up to the end.
+// The salt field: all before the first `$`.
 fn field_at(after: &[u8]) -> &[u8]
     ensures { (rest : List ℕ) × (after.now ≡ result.now ++ rest) × IsField result.now rest }
 {

@@ -1,8 +1,17 @@
 //! Texts and refusals as the formats state them.
 
+ghost use Rattle.std.specs.Prelude.{◌≡◌};
+
 use super::*;
 use std::process::Abort;
 use std::test::Fail;
+
+// Reading the text of a setting gives the setting again.
+fn read_again(setting: &Setting) -> Result<Setting, SettingFault>
+    ensures { result ≡ Ok setting.now }
+{
+    Setting::read(setting.text().as_slice())
+}
 
 // Reads a text and compares what is kept of it. The canonical text is read again as itself.
 fn reads(rt: &impl Abort, text: &[u8], method: Method, salt: &[u8], canonical: &[u8]) {
@@ -13,7 +22,7 @@ fn reads(rt: &impl Abort, text: &[u8], method: Method, salt: &[u8], canonical: &
         assert_eq!(rt; setting.salt(), salt, "the salt of {text:?}");
         let written = setting.text();
         assert_eq!(rt; written.as_slice(), canonical, "the text of {text:?}");
-        let again = Setting::read(written.as_slice());
+        let again = read_again(&setting);
         assert!(rt; again.is_ok(), "the text of {text:?} is accepted");
         if let Ok(again) = again {
             assert_eq!(rt;
@@ -218,6 +227,8 @@ fn made(rt: HostRuntime) {
             b"ab",
             b"$6$rounds=999999999$ab",
         ),
+        (Method::Md5crypt, 0, b"xxxxxxxx", b"$1$xxxxxxxx"),
+        (Method::Md5crypt, 5, b"xxxxxxxx", b"$1$xxxxxxxx"),
         (Method::Md5crypt, 4_294_967_295, b"xxxxxxxx", b"$1$xxxxxxxx"),
     ];
     for (method, cost, salt, text) in rows {

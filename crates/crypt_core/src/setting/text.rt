@@ -1,4 +1,4 @@
-//! The canonical text of a setting: prefix, cost part and salt, and nothing after the salt.
+//! The canonical text of a setting, which ends with its salt.
 
 ghost use Rattle.std.specs.Prelude.{◌≡◌, ◌+◌, ◌<◌, ◌≤◌, ◌^◌, ◌++◌, length, decimal};
 ghost use Rattle.arrayvec.specs.ArrayVec.{array_vec_len};
