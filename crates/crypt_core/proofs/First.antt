@@ -9,7 +9,8 @@ use Rattle.crypt_core.specs.declared.scheme.Scheme.TheVariants.{Md5crypt, Sha256
 use Rattle.crypt_core.specs.declared.setting.fault.SettingFault.{SettingFault}
 use Rattle.crypt_core.specs.declared.setting.fault.SettingFault.TheVariants.{TooLong, BadCharacter, UnknownScheme, BadRounds, BadCost, ScryptRange, AboveCeiling, BadSalt}
 use Rattle.crypt_core.specs.Methods.{prefix}
-use Rattle.crypt_core.specs.Settings.{method_of, IsSettingByte, IsSettingText, IsField, BeginsWith, scrypt_part, IsScryptSalt, SpellsCost, SpellsScheme, IsShaText, LacksRounds, LacksCost, IsScryptText, Breaks, IsRefused, rule_number}
+use Rattle.crypt_core.specs.Refusals.{IsShaText, LacksRounds, LacksCost, IsScryptText, Breaks, IsRefused, rule_number}
+use Rattle.crypt_core.specs.Settings.{method_of, IsSettingByte, IsSettingText, IsField, BeginsWith, scrypt_part, IsScryptSalt, SpellsCost, SpellsScheme}
 use Rattle.crypt_core.proofs.Numerals.{scrypt_part_unique, length-scrypt_part, all_scrypt_part}
 use Rattle.crypt_core.proofs.Readings.{prefix_unique}
 use Rattle.crypt_core.proofs.Refusals.{scheme_breaks_none}
@@ -141,21 +142,12 @@ refused_salt text (Sha512crypt r) field rest t s m f bad = absurd cc
 
 -- Fronts that are spelled
 
-drop_front : (text front rest : List ℕ) → text ≡ front ++ rest → drop (length text - length rest) text ≡ rest
-drop_front text front rest e =
-    let amount : length text - length rest ≡ length front = omega (arith, ap length e, length-append front rest) in
-    ap (λ (n : ℕ). drop n text) amount ∙ ap (λ (t : List ℕ). drop (length front) t) e ∙ drop-append_seam front rest
-
 -- a prefix and a cost part, and what comes after them
-pub spelled_front : (text : List ℕ) (scheme : Scheme) (after part rest : List ℕ) → text ≡ prefix (method_of scheme) ++ after → after ≡ part ++ rest → SpellsCost scheme part rest → SpellsScheme text scheme (drop (length text - length rest) text)
+pub spelled_front : (text : List ℕ) (scheme : Scheme) (after part rest : List ℕ) → text ≡ prefix (method_of scheme) ++ after → after ≡ part ++ rest → SpellsCost scheme part rest → SpellsScheme text scheme rest
 spelled_front text scheme after part rest begins parts cost =
-    let whole : text ≡ prefix (method_of scheme) ++ (part ++ rest) = begins ∙ ap (λ (x : List ℕ). prefix (method_of scheme) ++ x) parts in
-    let spelled : SpellsScheme text scheme rest = record { part = part; parts = whole; cost = cost } in
-    subst (SpellsScheme text scheme) (sym (drop_front text (prefix (method_of scheme) ++ part) rest (whole ∙ sym (append_assoc (prefix (method_of scheme)) part rest)))) spelled
+    record { part = part; parts = begins ∙ ap (λ (x : List ℕ). prefix (method_of scheme) ++ x) parts; cost = cost }
 
-pub eleven_within : (text after rest : List ℕ) (n : ScryptCost) → text ≡ prefix methods.Scrypt ++ after → after ≡ scrypt_part n ++ rest → length text - length after + 11 ≡ length text - length rest
-eleven_within text after rest n begins parts =
-    omega (arith, ap length begins, ap length parts, length-append (scrypt_part n) rest, length-scrypt_part n)
-
-pub eleven_fit : (text after rest : List ℕ) (n : ScryptCost) → text ≡ prefix methods.Scrypt ++ after → after ≡ scrypt_part n ++ rest → length text - length after + 11 ≤ length text
-eleven_fit text after rest n begins parts = omega (arith, eleven_within text after rest n begins parts)
+-- what follows the eleven characters of scrypt's numbers
+pub after_numbers : (after rest : List ℕ) (n : ScryptCost) → after ≡ scrypt_part n ++ rest → drop 11 after ≡ rest
+after_numbers after rest n parts =
+    ap (λ (k : ℕ). drop k after) (sym (length-scrypt_part n)) ∙ ap (λ (t : List ℕ). drop (length (scrypt_part n)) t) parts ∙ drop-append_seam (scrypt_part n) rest

@@ -16,7 +16,9 @@ use Rattle.crypt_core.specs.declared.scheme.Scheme.TheVariants.{Md5crypt, Sha256
 use Rattle.crypt_core.specs.declared.setting.fault.MakeFault.{MakeFault}
 use Rattle.crypt_core.specs.declared.setting.fault.MakeFault.TheVariants.{SaltLength, SaltCharacter, Cost}
 use Rattle.crypt_core.specs.Methods.{prefix, salt_limit}
-use Rattle.crypt_core.specs.Settings.{Kept, method_of, IsSettingByte, dollar, BeginsWith, rounds_word, rounds_field, IsRoundsNumber, held, SpellsRounds, scrypt_part, SpellsCost, HasCost, IsCharacter, KeepsSalt, IsSetting, cost_part, canonical_text, made_cost, made_scheme, made_setting, TakesCost, IsMakeable, BreaksMake, IsMakeRefused, make_rule_number}
+use Rattle.crypt_core.specs.MadeSettings.{made_cost, made_scheme, made_setting, TakesCost, IsMakeable, BreaksMake, IsMakeRefused, make_rule_number}
+use Rattle.crypt_core.specs.Private.Costs.{HasCost}
+use Rattle.crypt_core.specs.Settings.{Kept, method_of, IsSettingByte, dollar, BeginsWith, rounds_word, rounds_field, IsRoundsNumber, held, SpellsRounds, scrypt_part, SpellsCost, IsCharacter, KeepsSalt, IsSetting, cost_part, canonical_text}
 use Rattle.crypt_core.proofs.Numerals.{all_scrypt_part}
 use Rattle.crypt_core.proofs.Canonical.{canonical_short, decimal_is_number, number_bytes, held_again, held_range}
 

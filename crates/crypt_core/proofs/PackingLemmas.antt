@@ -9,7 +9,8 @@ use Rattle.std.specs.Prelude.{sum_by}
 use Rattle.crypt_core.specs.declared.method.Method.{Method}
 use Rattle.crypt_core.specs.declared.method.Method.TheVariants.{Md5crypt, Sha256crypt, Sha512crypt, Scrypt}
 use Rattle.prims_core.specs.Alphabet.{numerals}
-use Rattle.crypt_core.specs.Packing.{packed_by, packed_group, group_number, groups_in, is_group, digest_len, groups_of, md5crypt_groups, sha256crypt_groups, sha512crypt_groups, scrypt_groups, packed_len, AreGroups, IsGroup}
+use Rattle.crypt_core.specs.Packing.{packed_by, packed_group, group_number, digest_len, groups_of, md5crypt_groups, sha256crypt_groups, sha512crypt_groups, scrypt_groups, packed_len}
+use Rattle.crypt_core.specs.Private.Tables.{groups_in, is_group, AreGroups, IsGroup}
 
 pub length-numerals : (n value : ℕ) → length (numerals n value) ≡ n
 unfolding numerals

@@ -10,7 +10,8 @@ use Rattle.crypt_core.specs.declared.scheme.Scheme.TheVariants.{Md5crypt, Sha256
 use Rattle.crypt_core.specs.declared.setting.fault.SettingFault.{SettingFault}
 use Rattle.crypt_core.specs.declared.setting.fault.SettingFault.TheVariants.{TooLong, BadCharacter, UnknownScheme, BadRounds, BadCost, ScryptRange, AboveCeiling, BadSalt}
 use Rattle.crypt_core.specs.Methods.{prefix}
-use Rattle.crypt_core.specs.Settings.{Kept, method_of, SpellsRounds, scrypt_part, HasNumerals, IsScryptSalt, KeepsSalt, SpellsScheme, Spells, IsShaText, LacksRounds, IsScryptText, Breaks, IsRefused, rule_number}
+use Rattle.crypt_core.specs.Refusals.{IsShaText, LacksRounds, IsScryptText, Breaks, IsRefused, rule_number}
+use Rattle.crypt_core.specs.Settings.{Kept, method_of, SpellsRounds, scrypt_part, HasNumerals, IsScryptSalt, KeepsSalt, SpellsScheme, Spells}
 use Rattle.crypt_core.proofs.Fields.{field_unique}
 use Rattle.crypt_core.proofs.Numerals.{scrypt_part_unique, length-scrypt_part, all_scrypt_part}
 use Rattle.crypt_core.proofs.Readings.{prefix_unique, setting_unique}

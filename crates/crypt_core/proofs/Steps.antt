@@ -12,7 +12,8 @@ use Rattle.std.proofs.lemmas.List.Elements.{All-from_get_or, All-get_or, All-tak
 use Rattle.std.proofs.lemmas.Int.Digits.{digits_value_more}
 use Rattle.std.proofs.lemmas.Str.{digit_value_digit}
 use Rattle.prims_core.specs.Alphabet.{alphabet, character_of, numerals}
-use Rattle.crypt_core.specs.Settings.{dollar, IsEndOfField, IsField, IsRoundsNumber, scrypt_part, HasNumerals, IsCharacter, LacksCost}
+use Rattle.crypt_core.specs.Refusals.{LacksCost}
+use Rattle.crypt_core.specs.Settings.{dollar, IsEndOfField, IsField, IsRoundsNumber, scrypt_part, HasNumerals, IsCharacter}
 use Rattle.crypt_core.proofs.Fields.{field_unique}
 use Rattle.crypt_core.proofs.Rounds.{digits_are_field}
 

@@ -1,10 +1,14 @@
 pub mod Crypt
 pub mod Cycle
+pub mod MadeSettings
 pub mod Md5crypt
 pub mod Methods
 pub mod Packing
 pub mod PasswordFaults
 pub mod Passwords
+pub mod Private
+pub mod Refusals
 pub mod RoundMessage
+pub mod SettingFaults
 pub mod Settings
 pub mod Work

@@ -1,7 +1,5 @@
 -- How crypt(5) writes a digest: its bytes are taken in groups, in an order of the method's own.
-use Rattle.std.specs.Prelude.{ℕ, ◌+◌, ◌*◌, ◌&&◌, Bool, IsTrue, nat_lt, List, [], ◌∷◌, length, map, fold, slice_index, flat_map}
-use Rattle.std.specs.List.{list_all}
-use Rattle.std.specs.Borrow.{Bor}
+use Rattle.std.specs.Prelude.{ℕ, ◌+◌, ◌*◌, List, [], ◌∷◌, length, fold, slice_index, flat_map}
 use Rattle.prims_core.specs.Alphabet.{numerals}
 use Rattle.crypt_core.specs.declared.method.Method.{Method}
 use Rattle.crypt_core.specs.declared.method.Method.TheVariants.{Md5crypt, Sha256crypt, Sha512crypt, Scrypt}
@@ -71,18 +69,3 @@ packed_len Md5crypt = 22
 packed_len Sha256crypt = 43
 packed_len Sha512crypt = 86
 packed_len Scrypt = 43
-
--- one to three places of a digest of so many bytes
-abbrev pub is_group : ℕ → List ℕ → Bool
-is_group len places =
-    nat_lt 0 (length places) && (nat_lt (length places) 4 && list_all (λ place. nat_lt place len) places)
-
-abbrev pub IsGroup : ℕ → List ℕ → Type 0
-IsGroup len places = IsTrue (is_group len places)
-
-abbrev pub AreGroups : ℕ → List (List ℕ) → Type 0
-AreGroups len groups = IsTrue (list_all (is_group len) groups)
-
--- what a table of the code lists
-abbrev pub groups_in : List (Bor (List ℕ)) → List (List ℕ)
-groups_in table = map (λ group. group.now) table

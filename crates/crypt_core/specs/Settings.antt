@@ -1,17 +1,13 @@
--- Settings: which text spells which, which refusal a text gets, and the one canonical text (crypt(5)).
-use Rattle.std.specs.Prelude.{◌≡◌, ◌≢◌, ℕ, ◌+◌, ◌^◌, ◌<◌, ◌≤◌, ◌⊎◌, ◌==◌, if◌then◌else◌, true, false, min, max, List, [], ◌∷◌, ◌++◌, length, take, All, Contains, MatchBool, decimal, codes}
+-- Settings: which text spells which, and the one canonical text of each (crypt(5)).
+use Rattle.std.specs.Prelude.{◌≡◌, ◌≢◌, ℕ, ◌^◌, ◌<◌, ◌≤◌, if◌then◌else◌, min, max, List, [], ◌∷◌, ◌++◌, length, take, All, Contains, MatchBool, decimal, codes}
 use Rattle.std.specs.Str.Parse.{digits_value}
 use Rattle.prims_core.specs.Alphabet.{alphabet, numerals}
-use Rattle.kdf_core.specs.Params.{ScryptCost, IsInRange, IsWithinCeiling, IsAccepted}
+use Rattle.kdf_core.specs.Params.{ScryptCost, IsAccepted}
 use Rattle.crypt_core.specs.declared.method.Method.{Method}
 use Rattle.crypt_core.specs.declared.method.Method.TheVariants as methods
 use Rattle.crypt_core.specs.declared.scheme.Rounds.{Rounds}
 use Rattle.crypt_core.specs.declared.scheme.Scheme.{Scheme}
 use Rattle.crypt_core.specs.declared.scheme.Scheme.TheVariants.{Md5crypt, Sha256crypt, Sha512crypt, Scrypt}
-use Rattle.crypt_core.specs.declared.setting.fault.SettingFault.{SettingFault}
-use Rattle.crypt_core.specs.declared.setting.fault.SettingFault.TheVariants.{TooLong, BadCharacter, UnknownScheme, BadRounds, BadCost, ScryptRange, AboveCeiling, BadSalt}
-use Rattle.crypt_core.specs.declared.setting.fault.MakeFault.{MakeFault}
-use Rattle.crypt_core.specs.declared.setting.fault.MakeFault.TheVariants.{SaltLength, SaltCharacter, Cost}
 use Rattle.crypt_core.specs.Methods.{prefix, salt_limit}
 
 -- what is kept of a text: the scheme with its cost, and the salt
@@ -131,13 +127,6 @@ pub record Spells (text : List ℕ) (kept : Kept) : Type 0 where
 abbrev pub IsSetting : Kept → Type 0
 IsSetting kept = (text : List ℕ) × Spells text kept
 
--- the cost of a setting: rounds that are held, or numbers that scrypt takes
-abbrev pub HasCost : Scheme → Type 0
-HasCost Md5crypt = Unit {0}
-HasCost (Sha256crypt rounds) = (1000 ≤ rounds.count) × (rounds.count ≤ 999999999)
-HasCost (Sha512crypt rounds) = (1000 ≤ rounds.count) × (rounds.count ≤ 999999999)
-HasCost (Scrypt cost) = HasNumerals cost × IsAccepted cost
-
 -- The canonical text
 
 abbrev pub cost_part : Scheme → List ℕ
@@ -149,116 +138,3 @@ cost_part (Scrypt cost) = scrypt_part cost
 -- it ends with the salt
 abbrev pub canonical_text : Kept → List ℕ
 canonical_text kept = prefix (method_of kept.scheme) ++ (cost_part kept.scheme ++ kept.salt)
-
--- Refusals
-
-abbrev pub rule_number : SettingFault → ℕ
-rule_number TooLong = 1
-rule_number BadCharacter = 2
-rule_number UnknownScheme = 3
-rule_number BadRounds = 4
-rule_number BadCost = 5
-rule_number ScryptRange = 6
-rule_number AboveCeiling = 7
-rule_number BadSalt = 8
-
--- a text of SHA-crypt, and what follows its prefix
-abbrev pub IsShaText : List ℕ → List ℕ → Type 0
-IsShaText text after = (text ≡ prefix methods.Sha256crypt ++ after) ⊎ (text ≡ prefix methods.Sha512crypt ++ after)
-
--- `rounds=` stands there, but no proper field
-pub record LacksRounds (after : List ℕ) : Type 0 where
-  pub begins : BeginsWith after rounds_word
-  pub no_field : (digits rest : List ℕ) → IsRoundsNumber digits → after ≡ rounds_field digits ++ rest → ⊥
-
--- fewer than eleven characters of crypt's alphabet stand there
-abbrev pub LacksCost : List ℕ → Type 0
-LacksCost after = (part rest : List ℕ) → length part ≡ 11 → All IsCharacter part → after ≡ part ++ rest → ⊥
-
--- a text of scrypt with these three numbers, and what follows them
-pub record IsScryptText (text : List ℕ) (cost : ScryptCost) (after : List ℕ) : Type 0 where
-  pub parts : text ≡ prefix methods.Scrypt ++ (scrypt_part cost ++ after)
-  pub numbers : HasNumerals cost
-
--- the rule of a refusal holds of the text
-abbrev pub Breaks : SettingFault → List ℕ → Type 0
-Breaks TooLong text = 384 < length text
-Breaks BadCharacter text = ¬ All IsSettingByte text
-Breaks UnknownScheme text = (method : Method) → ¬ BeginsWith text (prefix method)
-Breaks BadRounds text = (after : List ℕ) × IsShaText text after × LacksRounds after
-Breaks BadCost text = (after : List ℕ) × (text ≡ prefix methods.Scrypt ++ after) × LacksCost after
-Breaks ScryptRange text = (cost : ScryptCost) × (after : List ℕ) × IsScryptText text cost after × (¬ IsInRange cost)
-Breaks AboveCeiling text = (cost : ScryptCost) × (after : List ℕ) × IsScryptText text cost after × (¬ IsWithinCeiling cost)
-Breaks BadSalt text = (cost : ScryptCost) × (field rest : List ℕ) × IsScryptText text cost (field ++ rest) × IsField field rest × (¬ IsScryptSalt field)
-
--- the rule holds of the text, and no earlier one does
-pub record IsRefused (text : List ℕ) (fault : SettingFault) : Type 0 where
-  pub breaks : Breaks fault text
-  pub first : (earlier : SettingFault) → rule_number earlier < rule_number fault → ¬ Breaks earlier text
-
--- Made settings
-
--- 5000 and no field for cost 0, and otherwise a field with the cost, held
-abbrev pub made_rounds : ℕ → Rounds
-made_rounds cost = if cost == 0 then record { count = 5000; is_written = false } else record { count = held cost; is_written = true }
-
--- N = 2 ^ (c + 7), r = 32 and p = 1 for cost c, and cost 0 stands for 7
-abbrev pub made_cost : ℕ → ScryptCost
-made_cost cost = record { log_n = (if cost == 0 then 7 else cost) + 7; r = 32; p = 1 }
-
-abbrev pub made_scheme : Method → ℕ → Scheme
-made_scheme methods.Md5crypt cost = Md5crypt
-made_scheme methods.Sha256crypt cost = Sha256crypt (made_rounds cost)
-made_scheme methods.Sha512crypt cost = Sha512crypt (made_rounds cost)
-made_scheme methods.Scrypt cost = Scrypt (made_cost cost)
-
--- the setting of a method with a cost and a salt
-abbrev pub made_setting : Method → ℕ → List ℕ → Kept
-made_setting method cost salt = record { scheme = made_scheme method cost; salt = salt }
-
--- scrypt takes the costs 0 and 6 to 11, and the other methods take any
-abbrev pub TakesCost : Method → ℕ → Type 0
-TakesCost methods.Scrypt cost = (cost ≡ 0) ⊎ ((6 ≤ cost) × (cost ≤ 11))
-TakesCost method cost = Unit {0}
-
--- one character of crypt's alphabet or more, no more than the method keeps, and a cost that it takes
-pub record IsMakeable (method : Method) (cost : ℕ) (salt : List ℕ) : Type 0 where
-  pub some : 0 < length salt
-  pub short : length salt ≤ salt_limit method
-  pub characters : All IsCharacter salt
-  pub taken : TakesCost method cost
-
--- Refusals of made settings
-
-abbrev pub make_rule_number : MakeFault → ℕ
-make_rule_number SaltLength = 1
-make_rule_number SaltCharacter = 2
-make_rule_number Cost = 3
-
--- the rule of a refusal holds of a method, a cost and a salt
-abbrev pub BreaksMake : MakeFault → Method → ℕ → List ℕ → Type 0
-BreaksMake SaltLength method cost salt = (length salt ≡ 0) ⊎ (salt_limit method < length salt)
-BreaksMake SaltCharacter method cost salt = ¬ All IsCharacter salt
-BreaksMake Cost method cost salt = ¬ TakesCost method cost
-
--- the rule holds, and no earlier one does
-pub record IsMakeRefused (method : Method) (cost : ℕ) (salt : List ℕ) (fault : MakeFault) : Type 0 where
-  pub breaks : BreaksMake fault method cost salt
-  pub first : (earlier : MakeFault) → make_rule_number earlier < make_rule_number fault → ¬ BreaksMake earlier method cost salt
-
--- The texts of the refusals
-
-abbrev pub setting_fault_text : SettingFault → List ℕ
-setting_fault_text TooLong = codes "setting too long"
-setting_fault_text BadCharacter = codes "bad character"
-setting_fault_text UnknownScheme = codes "unknown scheme"
-setting_fault_text BadRounds = codes "bad rounds"
-setting_fault_text BadCost = codes "bad cost"
-setting_fault_text ScryptRange = codes "scrypt range"
-setting_fault_text AboveCeiling = codes "above ceiling"
-setting_fault_text BadSalt = codes "bad salt"
-
-abbrev pub make_fault_text : MakeFault → List ℕ
-make_fault_text SaltLength = codes "salt length"
-make_fault_text SaltCharacter = codes "salt character"
-make_fault_text Cost = codes "cost"

@@ -8,7 +8,3 @@ pub mod pack;
 pub mod password;
 mod scheme;
 pub mod setting;
-
-pub use method::Method;
-pub use password::{Password, PasswordFault};
-pub use setting::{MakeFault, Setting, SettingFault};

@@ -15,6 +15,8 @@ use prims_core::meter::Meter;
 const ROUNDS: u32 = 1000;
 
 /// The digest of a password and a salt of at most 8 bytes. The meter counts each message.
+///
+/// The meter has counted at most 2^120 digests and at most 2^120 bytes before.
 pub fn md5crypt(password: &Password, salt: &[u8], meter: &mut Meter) -> [u8; 16]
     requires salt { length salt.now ≤ 8 }
     requires room { HasRoom meter.old }

@@ -22,13 +22,13 @@ impl Method {
     pub fn named(word: &[u8]) -> Option<Method>
         ensures { result ≡ method_named word.now }
     {
-        if is(word, b"md5crypt") || is(word, b"md5") {
+        if is_word(word, b"md5crypt") || is_word(word, b"md5") {
             Some(Method::Md5crypt)
-        } else if is(word, b"sha256crypt") || is(word, b"sha-256") {
+        } else if is_word(word, b"sha256crypt") || is_word(word, b"sha-256") {
             Some(Method::Sha256crypt)
-        } else if is(word, b"sha512crypt") || is(word, b"sha-512") {
+        } else if is_word(word, b"sha512crypt") || is_word(word, b"sha-512") {
             Some(Method::Sha512crypt)
-        } else if is(word, b"scrypt") {
+        } else if is_word(word, b"scrypt") {
             Some(Method::Scrypt)
         } else {
             None
@@ -59,7 +59,7 @@ impl Method {
     }
 }
 
-fn is(word: &[u8], name: &[u8]) -> bool
+fn is_word(word: &[u8], name: &[u8]) -> bool
     ensures { result ≡ bytes_eq word.now name.now }
 {
     word == name

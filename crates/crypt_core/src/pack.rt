@@ -1,11 +1,13 @@
 //! The text of a digest: its bytes in the method's own groups, each as base-64 numerals.
 ghost use Rattle.std.specs.Prelude.{◌≡◌, ℕ, ◌+◌, ◌^◌, ◌<◌, ◌≤◌, ◌++◌, length};
 ghost use Rattle.arrayvec.specs.ArrayVec.{array_vec_len};
-ghost use Rattle.crypt_core.specs.Packing.{digest_len, group_number, groups_in, groups_of, packed, packed_by, packed_len, AreGroups, IsGroup};
+ghost use Rattle.crypt_core.specs.Packing.{digest_len, group_number, groups_of, packed, packed_by, packed_len};
+ghost use Rattle.crypt_core.specs.Private.Tables.{groups_in, AreGroups, IsGroup};
 
 use crate::method::Method;
 use arrayvec::ArrayVec;
 use prims_core::alphabet::put_group;
+use prims_core::buffer::buffer_of;
 
 /// The places in the digest that each group takes, the first one highest in the group's number.
 const MD5CRYPT_GROUPS: [&[usize]; 6] = [
@@ -79,9 +81,7 @@ pub fn pack(method: Method, digest: &[u8]) -> ArrayVec<u8, 86>
 {
     let mut text = ArrayVec::new();
     put_groups(&mut text, digest, groups(method));
-    let mut packed = ArrayVec::new();
-    packed.try_extend_from_slice(text.as_slice()).unwrap();
-    packed
+    buffer_of(text.as_slice())
 }
 
 fn groups(method: Method) -> &'static [&'static [usize]]

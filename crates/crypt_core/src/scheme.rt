@@ -4,7 +4,7 @@ ghost use Rattle.std.specs.Prelude.{◌≡◌, true, false};
 ghost use Rattle.crypt_core.specs.Settings.{held, method_of};
 
 use crate::method::Method;
-use kdf_core::Params;
+use kdf_core::params::Params;
 
 /// The most rounds.
 pub const MAX_ROUNDS: u64 = 999_999_999;

@@ -1,1 +1,2 @@
+pub mod ParamFaults
 pub mod Params

@@ -1,9 +1,4 @@
 //! Key derivation: the parameters of scrypt (RFC 7914).
 #![tactic(auto)]
 
-mod params;
-
-pub use params::{ParamFault, Params};
-
-#[cfg(test)]
-mod tests;
+pub mod params;

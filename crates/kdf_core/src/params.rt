@@ -16,11 +16,25 @@ const CEILING: u64 = 8_388_608;
 #[derive(Clone, Copy, Debug, PartialEq, Eq, Drop, Error)]
 pub enum ParamFault {
     /// log2 N, r or p is 0, or log2 N is 16r or more.
-    #[error("scrypt range")]
+    #[error("{}", self.text())]
     Range,
     /// The product of N, r and p is above 8388608.
-    #[error("above ceiling")]
+    #[error("{}", self.text())]
     AboveCeiling,
+}
+
+impl ParamFault {
+    ghost use Rattle.kdf_core.specs.ParamFaults.{param_fault_text};
+
+    /// The fault in words.
+    pub fn text(&self) -> &'static str
+        ensures { result.now ≡ param_fault_text self.now }
+    {
+        match self {
+            ParamFault::Range => "scrypt range",
+            ParamFault::AboveCeiling => "above ceiling",
+        }
+    }
 }
 
 /// The parameters of scrypt: in the range of RFC 7914, section 2, and with `N * r * p` at most
@@ -103,3 +117,6 @@ fn is_within_ceiling(log_n: u8, r: u32, p: u32) -> bool
     // From 2^24 on N alone is above the ceiling.
     log_n < 24 && u64::from(r) * u64::from(p) <= CEILING >> log_n
 }
+
+#[cfg(test)]
+mod tests;

@@ -1,7 +1,7 @@
 -- The texts and exit statuses of what can end the program early.
 use Rattle.std.specs.Prelude.{ℕ, List, [], codes}
 use Rattle.clap.specs.Words.{kind_of}
-use Rattle.crypt_core.specs.Settings.{make_fault_text}
+use Rattle.crypt_core.specs.SettingFaults.{make_fault_text}
 use Rattle.clap.specs.declared.error.kind.ErrorKind.{ErrorKind}
 use Rattle.clap.specs.declared.error.kind.ErrorKind.TheVariants.{DisplayHelp, DisplayVersion}
 use Rattle.mkpasswd.specs.declared.faults.RunFault.{RunFault}

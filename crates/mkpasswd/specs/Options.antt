@@ -7,7 +7,7 @@ use Rattle.clap.specs.declared.builder.ArgAction.TheVariants.{Set}
 use Rattle.clap.specs.declared.error.Error.{Error}
 use Rattle.clap.specs.declared.error.kind.ErrorKind.TheVariants as kind
 use Rattle.crypt_core.specs.Methods.{method_named}
-use Rattle.crypt_core.specs.Settings.{IsMakeable, IsMakeRefused, made_setting}
+use Rattle.crypt_core.specs.MadeSettings.{IsMakeable, IsMakeRefused, made_setting}
 use Rattle.crypt_core.specs.declared.method.Method.TheVariants.{Md5crypt}
 use Rattle.mkpasswd.specs.declared.faults.UsageFault.{UsageFault}
 use Rattle.mkpasswd.specs.declared.faults.UsageFault.TheVariants.{Parse, Method, Make, OutOfMemory}

@@ -1,4 +1,4 @@
 pub mod Alphabet
-pub mod DigestFacts
 pub mod Digests
 pub mod Meter
+pub mod Private

@@ -66,13 +66,3 @@ pub trait Counted: Drop {
 
     ghost digest_bytes: { (m : List ℕ) → All (λ b. b < 256) (digest m) };
 }
-
-// The bytes of a digest, which are at most 64.
-fn kept<const N: usize>(digest: &[u8; N]) -> ArrayVec<u8, 64>
-    requires { N ≤ 64 }
-    ensures { result.items ≡ digest.now }
-{
-    let mut bytes = ArrayVec::new();
-    bytes.try_extend_from_slice(digest).unwrap();
-    bytes
-}

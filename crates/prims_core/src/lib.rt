@@ -3,5 +3,6 @@
 #![tactic(auto)]
 
 pub mod alphabet;
+pub mod buffer;
 pub mod counted;
 pub mod meter;

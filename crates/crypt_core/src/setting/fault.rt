@@ -1,36 +1,37 @@
 //! Why a text is no setting, and why a setting can't be made, with the texts that are promised.
 
 ghost use Rattle.std.specs.Prelude.{◌≡◌};
-ghost use Rattle.crypt_core.specs.Settings.{setting_fault_text, make_fault_text};
+ghost use Rattle.crypt_core.specs.SettingFaults.{setting_fault_text, make_fault_text};
 
+use kdf_core::params::ParamFault;
 use thiserror::Error;
 
 /// Why a text is no setting: the first of these that holds.
 #[derive(Clone, Copy, Debug, PartialEq, Eq, Drop, Error)]
 pub enum SettingFault {
     /// More than 384 bytes.
-    #[error("setting too long")]
+    #[error("{}", self.text())]
     TooLong,
     /// A byte that is not printable ASCII, or one of `:`, `;`, `*`, `!` and the backslash.
-    #[error("bad character")]
+    #[error("{}", self.text())]
     BadCharacter,
     /// None of `$1$`, `$5$`, `$6$` and `$7$` stands at the front.
-    #[error("unknown scheme")]
+    #[error("{}", self.text())]
     UnknownScheme,
     /// `rounds=` stands after SHA-crypt's prefix, but no proper field.
-    #[error("bad rounds")]
+    #[error("{}", self.text())]
     BadRounds,
     /// Fewer than 11 characters of crypt's alphabet follow scrypt's prefix.
-    #[error("bad cost")]
+    #[error("{}", self.text())]
     BadCost,
     /// N, r and p are outside scrypt's range.
-    #[error("scrypt range")]
+    #[error("{}", self.text())]
     ScryptRange,
     /// The product of N, r and p is above 8388608.
-    #[error("above ceiling")]
+    #[error("{}", self.text())]
     AboveCeiling,
     /// scrypt's salt has more than 86 bytes, or one outside crypt's alphabet.
-    #[error("bad salt")]
+    #[error("{}", self.text())]
     BadSalt,
 }
 
@@ -45,8 +46,8 @@ impl SettingFault {
             SettingFault::UnknownScheme => "unknown scheme",
             SettingFault::BadRounds => "bad rounds",
             SettingFault::BadCost => "bad cost",
-            SettingFault::ScryptRange => "scrypt range",
-            SettingFault::AboveCeiling => "above ceiling",
+            SettingFault::ScryptRange => ParamFault::Range.text(),
+            SettingFault::AboveCeiling => ParamFault::AboveCeiling.text(),
             SettingFault::BadSalt => "bad salt",
         }
     }
@@ -56,13 +57,13 @@ impl SettingFault {
 #[derive(Clone, Copy, Debug, PartialEq, Eq, Drop, Error)]
 pub enum MakeFault {
     /// The salt is empty, or longer than the method keeps.
-    #[error("salt length")]
+    #[error("{}", self.text())]
     SaltLength,
     /// The salt has a byte outside crypt's alphabet.
-    #[error("salt character")]
+    #[error("{}", self.text())]
     SaltCharacter,
     /// The cost is not one that scrypt takes: 0, or 6 to 11.
-    #[error("cost")]
+    #[error("{}", self.text())]
     Cost,
 }
 

@@ -2,14 +2,15 @@
 
 ghost use Rattle.std.specs.Prelude.{◌≡◌, ◌+◌, ◌≤◌, ◌↔◌, IsTrue, IsOk, IfOk, IfErr, OnOk};
 ghost use Rattle.crypt_core.specs.declared.setting.fault.MakeFault.{MakeFault as Fault};
-ghost use Rattle.crypt_core.specs.Settings.{TakesCost, IsMakeable, IsMakeRefused, made_scheme, made_setting, made_rounds};
+ghost use Rattle.crypt_core.specs.MadeSettings.{TakesCost, IsMakeable, IsMakeRefused, made_scheme, made_setting, made_rounds};
 
 use super::Setting;
 use super::fault::MakeFault;
-use super::salt::{array, in_alphabet};
+use super::salt::in_alphabet;
 use crate::method::Method;
 use crate::scheme::{Rounds, Scheme};
-use kdf_core::Params;
+use kdf_core::params::Params;
+use prims_core::buffer::buffer_of;
 
 /// The cost of scrypt that cost 0 stands for, and its block size and parts.
 const DEFAULT_COST: u32 = 7;
@@ -35,7 +36,7 @@ impl Setting {
         check(method, cost, salt)?;
         Ok(Setting {
             scheme: scheme_of(method, cost),
-            salt: array(salt),
+            salt: buffer_of(salt),
         })
     }
 }

@@ -3,21 +3,24 @@
 //! The prefix, the cost part and the salt are taken off the front, one after another. Nothing is
 //! allocated and nothing hashed, and a number of any length is held while it is read.
 
-ghost use Rattle.std.specs.Prelude.{◌≡◌, ◌≤◌, ◌↔◌, length, ◌∷◌, ◌++◌, ◌==◌, ℕ, List, min, drop, position, IsTrue, All, IfOk, IfErr, OnOk, IfSome, IfNone, MatchOption};
+ghost use Rattle.std.specs.Prelude.{◌≡◌, ◌≤◌, ◌↔◌, length, ◌++◌, ◌==◌, min, drop, position, IsTrue, All, IfOk, IfErr, OnOk, OnSome, IfSome, IfNone, MatchOption};
 ghost use Rattle.std.specs.Str.Parse.{digits_value};
 ghost use Rattle.kdf_core.specs.Params.{ScryptCost, IsAccepted};
 ghost use Rattle.crypt_core.specs.declared.setting.fault.SettingFault.{SettingFault as Fault};
-ghost use Rattle.crypt_core.specs.Methods.{prefix, salt_limit};
-ghost use Rattle.crypt_core.specs.Settings.{Kept, method_of, IsSettingByte, IsSettingText, dollar, IsField, BeginsWith, IsRoundsNumber, SpellsRounds, scrypt_part, HasNumerals, IsCharacter, IsScryptSalt, KeepsSalt, SpellsScheme, Spells, IsShaText, LacksRounds, LacksCost, IsRefused};
+ghost use Rattle.crypt_core.specs.Methods.{prefix};
+ghost use Rattle.crypt_core.specs.Private.Parts.{AllRefused, HasField, HasNumber, HasNumbers, HasRounds, HasSalt, LacksNumber, LacksSalt};
+ghost use Rattle.crypt_core.specs.Refusals.{IsRefused, IsShaText, LacksCost};
+ghost use Rattle.crypt_core.specs.Settings.{Kept, IsSettingByte, IsSettingText, dollar, BeginsWith, IsRoundsNumber, IsCharacter, IsScryptSalt, SpellsScheme, Spells};
 
 use super::Setting;
 use super::fault::SettingFault;
-use super::salt::{array, in_alphabet};
+use super::salt::in_alphabet;
 use crate::method::Method;
 use crate::scheme::{MAX_ROUNDS, Rounds, Scheme};
 use arrayvec::ArrayVec;
-use kdf_core::{ParamFault, Params};
+use kdf_core::params::{ParamFault, Params};
 use prims_core::alphabet::{read_30, value_of};
+use prims_core::buffer::buffer_of;
 
 /// The most bytes of a setting's text.
 const MAX_TEXT: usize = 384;
@@ -45,11 +48,13 @@ fn parse(text: &[u8]) -> Result<Setting, SettingFault>
     ensures refused { IfErr result (IsRefused text.now) }
 {
     check_bytes(text)?;
-    let (scheme, front) = scheme_at(text)?;
-    let Some(salt) = salt_at(scheme.method(), &text[front..]) else {
-        return Err(SettingFault::BadSalt);
-    };
-    Ok(Setting { scheme, salt })
+    match scheme_at(text) {
+        Ok((scheme, after)) => match salt_at(scheme.method(), after) {
+            Some(salt) => Ok(Setting { scheme, salt }),
+            None => Err(SettingFault::BadSalt),
+        },
+        Err(fault) => Err(fault),
+    }
 }
 
 // The rules on the text's bytes.
@@ -72,36 +77,28 @@ fn is_setting_byte(byte: u8) -> bool
     byte.is_ascii_graphic() && !b":;*!\\".contains(&byte)
 }
 
-// The scheme that the text's front spells, and how many bytes prefix and cost part take.
-fn scheme_at(text: &[u8]) -> Result<(Scheme, usize), SettingFault>
+// The scheme that the text's front spells, and what follows its prefix and cost part.
+fn scheme_at(text: &[u8]) -> Result<(Scheme, &[u8]), SettingFault>
     requires { IsSettingText text.now }
-    ensures within { IfOk result (λ x. x.1 ≤ length text.now) }
-    ensures ok { IfOk result (λ x. SpellsScheme text.now x.0 (drop x.1 text.now)) }
+    ensures ok { IfOk result (λ x. SpellsScheme text.now x.0 x.1.now) }
     ensures err { IfErr result (IsRefused text.now) }
 {
     if let Some(after) = after_front(text, Method::Md5crypt.prefix()) {
-        return Ok((Scheme::Md5crypt, text.len() - after.len()));
+        return Ok((Scheme::Md5crypt, after));
     }
     if let Some(after) = after_front(text, Method::Sha256crypt.prefix()) {
-        let Some((rounds, rest)) = rounds_at(after) else {
-            return Err(SettingFault::BadRounds);
-        };
-        return Ok((Scheme::Sha256crypt(rounds), text.len() - rest.len()));
+        let (rounds, rest) = rounds_at(after)?;
+        return Ok((Scheme::Sha256crypt(rounds), rest));
     }
     if let Some(after) = after_front(text, Method::Sha512crypt.prefix()) {
-        let Some((rounds, rest)) = rounds_at(after) else {
-            return Err(SettingFault::BadRounds);
-        };
-        return Ok((Scheme::Sha512crypt(rounds), text.len() - rest.len()));
+        let (rounds, rest) = rounds_at(after)?;
+        return Ok((Scheme::Sha512crypt(rounds), rest));
     }
-    let Some(after) = after_front(text, Method::Scrypt.prefix()) else {
-        return Err(SettingFault::UnknownScheme);
-    };
-    let params = params_at(after)?;
-    Ok((
-        Scheme::Scrypt(params),
-        text.len() - after.len() + COST_CHARACTERS,
-    ))
+    if let Some(after) = after_front(text, Method::Scrypt.prefix()) {
+        let params = params_at(after)?;
+        return Ok((Scheme::Scrypt(params), &after[COST_CHARACTERS..]));
+    }
+    Err(SettingFault::UnknownScheme)
 }
 
 // What follows the front, or `None` where the text doesn't begin with it.
@@ -111,23 +108,24 @@ fn after_front<'a>(text: &'a [u8], front: &[u8]) -> Option<&'a [u8]>
     text.strip_prefix(front)
 }
 
-// The rounds that follow SHA-crypt's prefix, and what comes after their field, or `None` where
-// `rounds=` begins no proper field.
-fn rounds_at(after: &[u8]) -> Option<(Rounds, &[u8])>
-    ensures none { IfNone result (LacksRounds after.now) }
-    ensures some { IfSome result (λ x. (part : List ℕ) × (after.now ≡ part ++ x.1.now) × SpellsRounds x.0 part x.1.now) }
+// The rounds that follow SHA-crypt's prefix, and what comes after their field.
+fn rounds_at(after: &[u8]) -> Result<(Rounds, &[u8]), SettingFault>
+    ensures ok { IfOk result (λ x. HasRounds after.now x.0 x.1.now) }
+    ensures err { IfErr result (AllRefused (λ text. IsShaText text after.now)) }
 {
     let Some(field) = after_front(after, b"rounds=") else {
-        return Some((Rounds::unwritten(), after));
+        return Ok((Rounds::unwritten(), after));
     };
-    let (number, rest) = number_at(field)?;
-    Some((Rounds::written(number), rest))
+    let Some((number, rest)) = number_at(field) else {
+        return Err(SettingFault::BadRounds);
+    };
+    Ok((Rounds::written(number), rest))
 }
 
 // The number of the digits up to a `$`, held at the upper end, and what follows the `$`.
 fn number_at(field: &[u8]) -> Option<(u64, &[u8])>
-    ensures none { IfNone result ((digits rest : List ℕ) → IsRoundsNumber digits → field.now ≡ digits ++ (dollar ∷ rest) → ⊥) }
-    ensures some { IfSome result (λ x. (digits : List ℕ) × IsRoundsNumber digits × (field.now ≡ digits ++ (dollar ∷ x.1.now)) × (x.0 ≡ min (digits_value 10 digits) 999999999)) }
+    ensures none { IfNone result (LacksNumber field.now) }
+    ensures some { IfSome result (λ x. HasNumber field.now x.0 x.1.now) }
 {
     let end = dollar_at(field)?;
     let digits = &field[..end];
@@ -164,8 +162,9 @@ fn capped_number(digits: &[u8]) -> u64
 
 // The parameters that follow scrypt's prefix, by their eleven characters.
 fn params_at(after: &[u8]) -> Result<Params, SettingFault>
-    ensures ok { IfOk result (λ cost. (rest : List ℕ) × (after.now ≡ scrypt_part cost ++ rest) × HasNumerals cost × IsAccepted cost) }
-    ensures err { IfErr result (λ fault. (text : List ℕ) → IsSettingText text → text ≡ prefix Method.Scrypt ++ after.now → IsRefused text fault) }
+    ensures ok { IfOk result (λ cost. HasNumbers after.now cost × IsAccepted cost) }
+    ensures long { OnOk result (11 ≤ length after.now) }
+    ensures err { IfErr result (AllRefused (λ text. text ≡ prefix Method.Scrypt ++ after.now)) }
 {
     let Some((log_n, r, p)) = numbers_at(after) else {
         return Err(SettingFault::BadCost);
@@ -180,7 +179,9 @@ fn params_at(after: &[u8]) -> Result<Params, SettingFault>
 // log2 N, r and p by their eleven characters.
 fn numbers_at(after: &[u8]) -> Option<(u8, u32, u32)>
     ensures none { IfNone result (LacksCost after.now) }
-    ensures some { IfSome result (λ x. let cost : ScryptCost = record { log_n = x.0; r = x.1; p = x.2 } in (rest : List ℕ) × (after.now ≡ scrypt_part cost ++ rest) × HasNumerals cost) }
+    ensures long { OnSome result (11 ≤ length after.now) }
+    ensures some { IfSome result (λ x. let cost : ScryptCost = record { log_n = x.0; r = x.1; p = x.2 } in
+        HasNumbers after.now cost) }
 {
     if after.len() < COST_CHARACTERS {
         return None;
@@ -193,22 +194,22 @@ fn numbers_at(after: &[u8]) -> Option<(u8, u32, u32)>
 
 // What is kept of the salt's field, or `None` where scrypt doesn't take it.
 fn salt_at(method: Method, after: &[u8]) -> Option<ArrayVec<u8, 86>>
-    ensures none { IfNone result ((method ≡ Method.Scrypt) × (field rest : List ℕ) × (after.now ≡ field ++ rest) × IsField field rest × (¬ IsScryptSalt field)) }
-    ensures some { IfSome result (λ salt. (field rest : List ℕ) × (after.now ≡ field ++ rest) × IsField field rest × KeepsSalt method field salt.items) }
+    ensures none { IfNone result (LacksSalt method after.now) }
+    ensures some { IfSome result (λ salt. HasSalt method after.now salt.items) }
 {
     let field = field_at(after);
     if method != Method::Scrypt {
-        return Some(array(&field[..field.len().min(method.salt_limit())]));
+        return Some(buffer_of(&field[..field.len().min(method.salt_limit())]));
     }
     if !is_scrypt_salt(field) {
         return None;
     }
-    Some(array(field))
+    Some(buffer_of(field))
 }
 
 // The salt field: all before the first `$`.
 fn field_at(after: &[u8]) -> &[u8]
-    ensures { (rest : List ℕ) × (after.now ≡ result.now ++ rest) × IsField result.now rest }
+    ensures { HasField after.now result.now }
 {
     match dollar_at(after) {
         Some(end) => &after[..end],

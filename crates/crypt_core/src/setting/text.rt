@@ -2,7 +2,8 @@
 
 ghost use Rattle.std.specs.Prelude.{◌≡◌, ◌+◌, ◌<◌, ◌≤◌, ◌^◌, ◌++◌, length, decimal};
 ghost use Rattle.arrayvec.specs.ArrayVec.{array_vec_len};
-ghost use Rattle.crypt_core.specs.Settings.{HasCost, cost_part, canonical_text, Spells};
+ghost use Rattle.crypt_core.specs.Private.Costs.{HasCost};
+ghost use Rattle.crypt_core.specs.Settings.{cost_part, canonical_text, Spells};
 
 use super::Setting;
 use crate::scheme::Scheme;

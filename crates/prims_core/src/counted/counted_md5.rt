@@ -1,6 +1,7 @@
 //! MD5 (RFC 1321), counted.
 
-use super::{Counted, kept};
+use super::Counted;
+use crate::buffer::buffer_of;
 use crate::meter::Meter;
 use arrayvec::ArrayVec;
 use md5::{Digest, Md5};
@@ -23,7 +24,7 @@ impl Model for CountedMd5 {
 impl Counted for CountedMd5 {
     ghost use Rattle.prims_core.specs.Digests.{md5, HoldsMd5};
     ghost use Rattle.md5.proofs.StandardFacts.{length-md5};
-    ghost use Rattle.prims_core.specs.DigestFacts.{md5_bytes};
+    ghost use Rattle.prims_core.specs.Private.DigestFacts.{md5_bytes};
     ghost use Rattle.std.proofs.Common.{rules};
 
     ghost holds = { λ s m. HoldsMd5 s m };
@@ -47,7 +48,7 @@ impl Counted for CountedMd5 {
 
     fn finish(self, meter: &mut Meter) -> ArrayVec<u8, 64> {
         meter.count_digest();
-        kept(&self.running.finalize())
+        buffer_of(&self.running.finalize())
     }
 
     ghost at_least_1 = { Prim.search rules };

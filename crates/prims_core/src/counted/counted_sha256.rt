@@ -1,6 +1,7 @@
 //! SHA-256 (FIPS 180-4), counted.
 
-use super::{Counted, kept};
+use super::Counted;
+use crate::buffer::buffer_of;
 use crate::meter::Meter;
 use arrayvec::ArrayVec;
 use sha2::{Digest, Sha256};
@@ -23,7 +24,7 @@ impl Model for CountedSha256 {
 impl Counted for CountedSha256 {
     ghost use Rattle.prims_core.specs.Digests.{sha256, HoldsSha256};
     ghost use Rattle.sha2.proofs.Facts256.{length-sha256};
-    ghost use Rattle.prims_core.specs.DigestFacts.{sha256_bytes};
+    ghost use Rattle.prims_core.specs.Private.DigestFacts.{sha256_bytes};
     ghost use Rattle.std.proofs.Common.{rules};
 
     ghost holds = { λ s m. HoldsSha256 s m };
@@ -47,7 +48,7 @@ impl Counted for CountedSha256 {
 
     fn finish(self, meter: &mut Meter) -> ArrayVec<u8, 64> {
         meter.count_digest();
-        kept(&self.running.finalize())
+        buffer_of(&self.running.finalize())
     }
 
     ghost at_least_1 = { Prim.search rules };

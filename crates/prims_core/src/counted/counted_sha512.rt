@@ -1,6 +1,7 @@
 //! SHA-512 (FIPS 180-4), counted.
 
-use super::{Counted, kept};
+use super::Counted;
+use crate::buffer::buffer_of;
 use crate::meter::Meter;
 use arrayvec::ArrayVec;
 use sha2::{Digest, Sha512};
@@ -23,7 +24,7 @@ impl Model for CountedSha512 {
 impl Counted for CountedSha512 {
     ghost use Rattle.prims_core.specs.Digests.{sha512, HoldsSha512};
     ghost use Rattle.sha2.proofs.Facts512.{length-sha512};
-    ghost use Rattle.prims_core.specs.DigestFacts.{sha512_bytes};
+    ghost use Rattle.prims_core.specs.Private.DigestFacts.{sha512_bytes};
     ghost use Rattle.std.proofs.Common.{rules};
 
     ghost holds = { λ s m. HoldsSha512 s m };
@@ -47,7 +48,7 @@ impl Counted for CountedSha512 {
 
     fn finish(self, meter: &mut Meter) -> ArrayVec<u8, 64> {
         meter.count_digest();
-        kept(&self.running.finalize())
+        buffer_of(&self.running.finalize())
     }
 
     ghost at_least_1 = { Prim.search rules };

@@ -1,6 +1,7 @@
 use Rattle.std.proofs.Common.{◌+◌, ◌++◌, [], length, arith, ap, Bor, List, ℕ, get_or, drop}
 use Rattle.std.proofs.lemmas.List.{length-append}
-use Rattle.crypt_core.specs.Packing.{packed_by, packed_group, groups_in, group_number}
+use Rattle.crypt_core.specs.Packing.{packed_by, packed_group, group_number}
+use Rattle.crypt_core.specs.Private.Tables.{groups_in}
 use Rattle.crypt_core.proofs.PackingLemmas.{group_at, group_size, length-numerals, packed-drop}
 use Rattle.crypt_core.proofs.pack.put_groups.Goals as goal
 

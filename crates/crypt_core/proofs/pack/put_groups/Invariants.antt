@@ -1,5 +1,6 @@
 use Rattle.std.proofs.Common.{◌≡◌, ◌++◌, drop}
-use Rattle.crypt_core.specs.Packing.{packed_by, groups_in}
+use Rattle.crypt_core.specs.Packing.{packed_by}
+use Rattle.crypt_core.specs.Private.Tables.{groups_in}
 use Rattle.crypt_core.proofs.pack.put_groups.Given as goal
 
 -- the groups so far and those that are left are all of them

@@ -1,7 +1,7 @@
 use Rattle.std.proofs.Common.{◌∙◌, List, ℕ, ap, refl, subst, sym, Some}
 use Rattle.std.proofs.lemmas.Result.{err_from_is_err_and}
 use Rattle.crypt_core.specs.Methods.{method_named}
-use Rattle.crypt_core.specs.Settings.{IsMakeable, IsMakeRefused, made_setting}
+use Rattle.crypt_core.specs.MadeSettings.{IsMakeable, IsMakeRefused, made_setting}
 use Rattle.crypt_core.specs.declared.method.Method.TheVariants.{Md5crypt}
 use Rattle.mkpasswd.specs.Options.{IsMd5crypt, texts}
 use Rattle.mkpasswd.proofs.options.plan.Goals as goal

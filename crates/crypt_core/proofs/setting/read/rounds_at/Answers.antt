@@ -1,7 +1,13 @@
-use Rattle.crypt_core.proofs.Rounds.{written_rounds}
+use Rattle.crypt_core.proofs.First.{refused_rounds}
+use Rattle.crypt_core.proofs.Rounds.{lacks_rounds, written_rounds}
 use Rattle.crypt_core.proofs.setting.read.rounds_at.Goals as goal
 
-pub returns-clause-some : goal.returns-clause-some
-returns-clause-some c =
-    let found = c.in_ok-number.ensures.some in
-    written_rounds c.args.after.now c.in-Some.field.now found.0 c.in_ok-number.rest.now c.in_ok-number.number c.written.result c.in-Some.ensures found.1 found.2 found.3 c.written.ensures
+pub returns-in_default-number_at-clause-err : goal.returns-in_default-number_at-clause-err
+returns-in_default-number_at-clause-err c = λ text is_text is_sha.
+    refused_rounds text c.args.after.now is_text is_sha
+    (lacks_rounds c.args.after.now c.in-Some.field.now c.in-Some.ensures c.in_default-number_at.ensures.none)
+
+pub returns-clause-ok : goal.returns-clause-ok
+returns-clause-ok c =
+    let found = c.in-Some-number_at.ensures.some in
+    written_rounds c.args.after.now c.in-Some.field.now found.0 c.in-Some-number_at.rest.now c.in-Some-number_at.number c.written.result c.in-Some.ensures found.1 found.2 found.3 c.written.ensures

@@ -1,0 +1,60 @@
+-- Settings that are made of a method, a cost and a salt, and which refusal these get instead.
+use Rattle.std.specs.Prelude.{◌≡◌, ℕ, ◌+◌, ◌<◌, ◌≤◌, ◌⊎◌, ◌==◌, if◌then◌else◌, true, false, List, length, All}
+use Rattle.kdf_core.specs.Params.{ScryptCost}
+use Rattle.crypt_core.specs.declared.method.Method.{Method}
+use Rattle.crypt_core.specs.declared.method.Method.TheVariants as methods
+use Rattle.crypt_core.specs.declared.scheme.Rounds.{Rounds}
+use Rattle.crypt_core.specs.declared.scheme.Scheme.{Scheme}
+use Rattle.crypt_core.specs.declared.scheme.Scheme.TheVariants.{Md5crypt, Sha256crypt, Sha512crypt, Scrypt}
+use Rattle.crypt_core.specs.declared.setting.fault.MakeFault.{MakeFault}
+use Rattle.crypt_core.specs.declared.setting.fault.MakeFault.TheVariants.{SaltLength, SaltCharacter, Cost}
+use Rattle.crypt_core.specs.Methods.{salt_limit}
+use Rattle.crypt_core.specs.Settings.{Kept, held, IsCharacter}
+
+-- 5000 and no field for cost 0, and otherwise a field with the cost, held
+abbrev pub made_rounds : ℕ → Rounds
+made_rounds cost = if cost == 0 then record { count = 5000; is_written = false } else record { count = held cost; is_written = true }
+
+-- N = 2 ^ (c + 7), r = 32 and p = 1 for cost c, and cost 0 stands for 7
+abbrev pub made_cost : ℕ → ScryptCost
+made_cost cost = record { log_n = (if cost == 0 then 7 else cost) + 7; r = 32; p = 1 }
+
+abbrev pub made_scheme : Method → ℕ → Scheme
+made_scheme methods.Md5crypt cost = Md5crypt
+made_scheme methods.Sha256crypt cost = Sha256crypt (made_rounds cost)
+made_scheme methods.Sha512crypt cost = Sha512crypt (made_rounds cost)
+made_scheme methods.Scrypt cost = Scrypt (made_cost cost)
+
+-- the setting of a method with a cost and a salt
+abbrev pub made_setting : Method → ℕ → List ℕ → Kept
+made_setting method cost salt = record { scheme = made_scheme method cost; salt = salt }
+
+-- scrypt takes the costs 0 and 6 to 11, and the other methods take any
+abbrev pub TakesCost : Method → ℕ → Type 0
+TakesCost methods.Scrypt cost = (cost ≡ 0) ⊎ ((6 ≤ cost) × (cost ≤ 11))
+TakesCost method cost = Unit {0}
+
+-- one character of crypt's alphabet or more, no more than the method keeps, and a cost that it takes
+pub record IsMakeable (method : Method) (cost : ℕ) (salt : List ℕ) : Type 0 where
+  pub some : 0 < length salt
+  pub short : length salt ≤ salt_limit method
+  pub characters : All IsCharacter salt
+  pub taken : TakesCost method cost
+
+-- Refusals
+
+abbrev pub make_rule_number : MakeFault → ℕ
+make_rule_number SaltLength = 1
+make_rule_number SaltCharacter = 2
+make_rule_number Cost = 3
+
+-- the rule of a refusal holds of a method, a cost and a salt
+abbrev pub BreaksMake : MakeFault → Method → ℕ → List ℕ → Type 0
+BreaksMake SaltLength method cost salt = (length salt ≡ 0) ⊎ (salt_limit method < length salt)
+BreaksMake SaltCharacter method cost salt = ¬ All IsCharacter salt
+BreaksMake Cost method cost salt = ¬ TakesCost method cost
+
+-- the rule holds, and no earlier one does
+pub record IsMakeRefused (method : Method) (cost : ℕ) (salt : List ℕ) (fault : MakeFault) : Type 0 where
+  pub breaks : BreaksMake fault method cost salt
+  pub first : (earlier : MakeFault) → make_rule_number earlier < make_rule_number fault → ¬ BreaksMake earlier method cost salt

@@ -1,0 +1,4 @@
+-- What only contracts of private functions cite. A reader of the public clauses needs none of it.
+pub mod Costs
+pub mod Parts
+pub mod Tables

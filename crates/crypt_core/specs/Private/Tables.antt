@@ -1,0 +1,19 @@
+-- What is known of a table of groups.
+use Rattle.std.specs.Prelude.{ℕ, ◌&&◌, Bool, IsTrue, nat_lt, List, length, map}
+use Rattle.std.specs.List.{list_all}
+use Rattle.std.specs.Borrow.{Bor}
+
+-- one to three places of a digest of so many bytes
+abbrev pub is_group : ℕ → List ℕ → Bool
+is_group len places =
+    nat_lt 0 (length places) && (nat_lt (length places) 4 && list_all (λ place. nat_lt place len) places)
+
+abbrev pub IsGroup : ℕ → List ℕ → Type 0
+IsGroup len places = IsTrue (is_group len places)
+
+abbrev pub AreGroups : ℕ → List (List ℕ) → Type 0
+AreGroups len groups = IsTrue (list_all (is_group len) groups)
+
+-- what a table of the code lists
+abbrev pub groups_in : List (Bor (List ℕ)) → List (List ℕ)
+groups_in table = map (λ group. group.now) table

@@ -1,0 +1,53 @@
+-- Which refusal a text gets that is no setting: the first rule that it breaks.
+use Rattle.std.specs.Prelude.{◌≡◌, ℕ, ◌<◌, ◌⊎◌, List, ◌++◌, length, All}
+use Rattle.kdf_core.specs.Params.{ScryptCost, IsInRange, IsWithinCeiling}
+use Rattle.crypt_core.specs.declared.method.Method.{Method}
+use Rattle.crypt_core.specs.declared.method.Method.TheVariants as methods
+use Rattle.crypt_core.specs.declared.setting.fault.SettingFault.{SettingFault}
+use Rattle.crypt_core.specs.declared.setting.fault.SettingFault.TheVariants.{TooLong, BadCharacter, UnknownScheme, BadRounds, BadCost, ScryptRange, AboveCeiling, BadSalt}
+use Rattle.crypt_core.specs.Methods.{prefix}
+use Rattle.crypt_core.specs.Settings.{IsSettingByte, IsField, BeginsWith, rounds_word, IsRoundsNumber, rounds_field, scrypt_part, HasNumerals, IsCharacter, IsScryptSalt}
+
+abbrev pub rule_number : SettingFault → ℕ
+rule_number TooLong = 1
+rule_number BadCharacter = 2
+rule_number UnknownScheme = 3
+rule_number BadRounds = 4
+rule_number BadCost = 5
+rule_number ScryptRange = 6
+rule_number AboveCeiling = 7
+rule_number BadSalt = 8
+
+-- a text of SHA-crypt, and what follows its prefix
+abbrev pub IsShaText : List ℕ → List ℕ → Type 0
+IsShaText text after = (text ≡ prefix methods.Sha256crypt ++ after) ⊎ (text ≡ prefix methods.Sha512crypt ++ after)
+
+-- `rounds=` stands there, but no proper field
+pub record LacksRounds (after : List ℕ) : Type 0 where
+  pub begins : BeginsWith after rounds_word
+  pub no_field : (digits rest : List ℕ) → IsRoundsNumber digits → after ≡ rounds_field digits ++ rest → ⊥
+
+-- fewer than eleven characters of crypt's alphabet stand there
+abbrev pub LacksCost : List ℕ → Type 0
+LacksCost after = (part rest : List ℕ) → length part ≡ 11 → All IsCharacter part → after ≡ part ++ rest → ⊥
+
+-- a text of scrypt with these three numbers, and what follows them
+pub record IsScryptText (text : List ℕ) (cost : ScryptCost) (after : List ℕ) : Type 0 where
+  pub parts : text ≡ prefix methods.Scrypt ++ (scrypt_part cost ++ after)
+  pub numbers : HasNumerals cost
+
+-- the rule of a refusal holds of the text
+abbrev pub Breaks : SettingFault → List ℕ → Type 0
+Breaks TooLong text = 384 < length text
+Breaks BadCharacter text = ¬ All IsSettingByte text
+Breaks UnknownScheme text = (method : Method) → ¬ BeginsWith text (prefix method)
+Breaks BadRounds text = (after : List ℕ) × IsShaText text after × LacksRounds after
+Breaks BadCost text = (after : List ℕ) × (text ≡ prefix methods.Scrypt ++ after) × LacksCost after
+Breaks ScryptRange text = (cost : ScryptCost) × (after : List ℕ) × IsScryptText text cost after × (¬ IsInRange cost)
+Breaks AboveCeiling text = (cost : ScryptCost) × (after : List ℕ) × IsScryptText text cost after × (¬ IsWithinCeiling cost)
+Breaks BadSalt text = (cost : ScryptCost) × (field rest : List ℕ) × IsScryptText text cost (field ++ rest) × IsField field rest × (¬ IsScryptSalt field)
+
+-- the rule holds of the text, and no earlier one does
+pub record IsRefused (text : List ℕ) (fault : SettingFault) : Type 0 where
+  pub breaks : Breaks fault text
+  pub first : (earlier : SettingFault) → rule_number earlier < rule_number fault → ¬ Breaks earlier text
