@@ -5,11 +5,13 @@ pub mod Fields
 pub mod First
 pub mod Making
 pub mod Md5cryptLemmas
+pub mod MessageLists
 pub mod Metering
 pub mod Numerals
 pub mod PackingLemmas
 pub mod Readings
 pub mod Refusals
 pub mod Rounds
+pub mod ShaCryptLemmas
 pub mod Steps
 pub mod Writing

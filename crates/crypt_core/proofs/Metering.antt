@@ -45,3 +45,10 @@ pub two_digests : (a b c : Counts) (first second : List ℕ) → b ≡ with_dige
     → c ≡ with_digests a (first ∷ second ∷ [])
 two_digests a b c first second p q =
     digests_more a b c (first ∷ []) second (digests_more a a b [] first (no_digests a) p) q
+
+-- four digests, in one sum
+pub four_digests : (a b c d e : Counts) (first second third fourth : List ℕ) → b ≡ with_digest a first → c ≡ with_digest b second
+    → d ≡ with_digest c third → e ≡ with_digest d fourth → e ≡ with_digests a (first ∷ second ∷ third ∷ fourth ∷ [])
+four_digests a b c d e first second third fourth p q r t =
+    digests_more a d e (first ∷ second ∷ third ∷ []) fourth
+    (digests_more a c d (first ∷ second ∷ []) third (two_digests a b c first second p q) r) t

@@ -11,4 +11,5 @@ pub mod Refusals
 pub mod RoundMessage
 pub mod SettingFaults
 pub mod Settings
+pub mod ShaCrypt
 pub mod Work

@@ -4,11 +4,7 @@ use Rattle.std.specs.Prelude.{ℕ, zero, suc, List, [], ◌∷◌, ◌++◌, len
 use Rattle.std.specs.List.{range_with_len}
 use Rattle.prims_core.specs.Digests.{md5}
 use Rattle.crypt_core.specs.Cycle.{cycle, digit_pieces}
-use Rattle.crypt_core.specs.RoundMessage.{round_message}
-
--- the first message
-abbrev pub salted_twice : List ℕ → List ℕ → List ℕ
-salted_twice password salt = password ++ salt ++ password
+use Rattle.crypt_core.specs.RoundMessage.{round_message, salted_twice}
 
 -- the second message; a digit 1 of the password's length stands for a zero byte, and a 0 for the
 -- password's first byte

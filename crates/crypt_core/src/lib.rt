@@ -8,3 +8,4 @@ pub mod pack;
 pub mod password;
 mod scheme;
 pub mod setting;
+pub mod shacrypt;

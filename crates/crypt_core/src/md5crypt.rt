@@ -2,10 +2,11 @@
 //! running digests piece by piece, so that no message is built whole and nothing is allocated.
 ghost use Rattle.std.specs.Prelude.{◌≡◌, ◌+◌, ◌*◌, ◌^◌, ◌<◌, ◌≤◌, length};
 ghost use Rattle.prims_core.specs.Digests.{md5};
-ghost use Rattle.crypt_core.specs.Md5crypt.{md5crypt_digest, md5crypt_message, md5crypt_messages, opening_message, salted_twice};
+ghost use Rattle.crypt_core.specs.Md5crypt.{md5crypt_digest, md5crypt_message, md5crypt_messages, opening_message};
+ghost use Rattle.crypt_core.specs.RoundMessage.{salted_twice};
 ghost use Rattle.crypt_core.specs.Work.{with_digest, with_digests, HasRoom};
 
-use crate::messages::{feed_cycle, feed_digits, round};
+use crate::messages::{feed_cycle, feed_digits, round, salted};
 use crate::password::Password;
 use arrayvec::ArrayVec;
 use prims_core::counted::{Counted, CountedMd5};
@@ -33,22 +34,6 @@ pub fn md5crypt(password: &Password, salt: &[u8], meter: &mut Meter) -> [u8; 16]
     bytes
 }
 
-// The digest of the first message: the salt between two passwords.
-fn salted(password: &[u8], salt: &[u8], meter: &mut Meter) -> ArrayVec<u8, 64>
-    requires password { length password.now ≤ 512 }
-    requires salt { length salt.now ≤ 8 }
-    requires room { HasRoom meter.old }
-    ensures digest { result.items ≡ md5 (salted_twice password.now salt.now) }
-    ensures length { length result.items ≡ 16 }
-    ensures count { meter.new ≡ with_digest meter.old (salted_twice password.now salt.now) }
-{
-    let mut running = CountedMd5::begin();
-    running.feed(meter, password);
-    running.feed(meter, salt);
-    running.feed(meter, password);
-    running.finish(meter)
-}
-
 // The digest of the second message.
 fn opening(password: &[u8], salt: &[u8], meter: &mut Meter) -> ArrayVec<u8, 64>
     requires password { length password.now ≤ 512 }
@@ -58,7 +43,7 @@ fn opening(password: &[u8], salt: &[u8], meter: &mut Meter) -> ArrayVec<u8, 64>
     ensures length { length result.items ≡ 16 }
     ensures count { meter.new ≡ with_digest (with_digest meter.old (salted_twice password.now salt.now)) (opening_message password.now salt.now) }
 {
-    let salted = salted(password, salt, meter);
+    let salted = salted::<CountedMd5>(password, salt, meter);
     let mut running = CountedMd5::begin();
     running.feed(meter, password);
     running.feed(meter, b"$1$");

@@ -1,13 +1,50 @@
-//! The parts of messages that md5crypt and SHA-crypt share, fed to a running digest: a digest
-//! repeated, a piece for each binary digit of a length, and the message of a round.
-ghost use Rattle.std.specs.Prelude.{◌≡◌, ℕ, ◌+◌, ◌*◌, ◌^◌, ◌<◌, List, ◌++◌, length, ◌==◌, if◌then◌else◌};
+//! The messages, and parts of messages, that md5crypt and SHA-crypt share, fed to a running digest: the
+//! first message, a digest repeated, a piece for each binary digit of a length, the message of a round.
+ghost use Rattle.std.specs.Prelude.{◌≡◌, ℕ, ◌+◌, ◌*◌, ◌^◌, ◌<◌, ◌≤◌, List, ◌++◌, length, ◌==◌, if◌then◌else◌};
+ghost use Rattle.std.specs.List.{repeat};
 ghost use Rattle.crypt_core.specs.Cycle.{cycle, digit_pieces};
-ghost use Rattle.crypt_core.specs.RoundMessage.{round_message};
-ghost use Rattle.crypt_core.specs.Work.{with_digest};
+ghost use Rattle.crypt_core.specs.RoundMessage.{round_message, salted_twice};
+ghost use Rattle.crypt_core.specs.Work.{with_digest, HasRoom};
 
 use arrayvec::ArrayVec;
 use prims_core::counted::Counted;
 use prims_core::meter::Meter;
+
+/// The digest of the salt between two passwords.
+pub(crate) fn salted<C: Counted>(
+    password: &[u8],
+    salt: &[u8],
+    meter: &mut Meter,
+) -> ArrayVec<u8, 64>
+    requires password { length password.now ≤ 512 }
+    requires salt { length salt.now ≤ 16 }
+    requires room { HasRoom meter.old }
+    ensures digest { result.items ≡ C.digest (salted_twice password.now salt.now) }
+    ensures length { length result.items ≡ C.LEN }
+    ensures count { meter.new ≡ with_digest meter.old (salted_twice password.now salt.now) }
+{
+    let mut running = C::begin();
+    running.feed(meter, password);
+    running.feed(meter, salt);
+    running.feed(meter, password);
+    running.finish(meter)
+}
+
+/// Feeds a piece so many times.
+pub(crate) fn feed_repeated<C: Counted>(
+    running: &mut C,
+    meter: &mut Meter,
+    piece: &[u8],
+    times: usize,
+)
+    requires { meter.old.bytes + times * length piece.now < 2 ^ 128 }
+    ensures message { (m : List ℕ) → C.holds running.old m → C.holds running.new (m ++ repeat times piece.now) }
+    ensures count { meter.new ≡ record meter.old { bytes = meter.old.bytes + times * length piece.now } }
+{
+    'turns: for _ in 0..times {
+        running.feed(meter, piece);
+    }
+}
 
 /// Feeds `len` bytes of a digest, from its start again and again.
 pub(crate) fn feed_cycle<C: Counted>(running: &mut C, meter: &mut Meter, digest: &[u8], len: usize)
@@ -16,10 +53,21 @@ pub(crate) fn feed_cycle<C: Counted>(running: &mut C, meter: &mut Meter, digest:
     ensures message { (m : List ℕ) → C.holds running.old m → C.holds running.new (m ++ cycle digest.now len) }
     ensures count { meter.new ≡ record meter.old { bytes = meter.old.bytes + len } }
 {
-    'turns: for _ in 0..len / digest.len() {
-        running.feed(meter, digest);
-    }
+    feed_repeated(running, meter, digest, len / digest.len());
     running.feed(meter, &digest[..len % digest.len()]);
+}
+
+/// `len` bytes of a digest, from its start again and again. They are at most 512.
+pub(crate) fn cycle_of(digest: &[u8], len: usize) -> ArrayVec<u8, 512>
+    requires some { 0 < length digest.now }
+    requires fits { len ≤ 512 }
+    ensures { result.items ≡ cycle digest.now len }
+{
+    let mut bytes = ArrayVec::new();
+    for i in 0..len {
+        bytes.push(digest[i % digest.len()]);
+    }
+    bytes
 }
 
 /// Feeds a piece for each binary digit of `number`, lowest first: `one` for a 1, `other` for a 0.

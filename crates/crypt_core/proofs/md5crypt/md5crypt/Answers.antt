@@ -1,10 +1,11 @@
 use Rattle.std.proofs.Common.{◌≡◌, ◌+◌, ◌++◌, length, arith, refl, sym, ◌∙◌, ap}
 use Rattle.std.proofs.lemmas.List.{length-append}
 use Rattle.prims_core.specs.Digests.{md5}
-use Rattle.crypt_core.specs.Md5crypt.{md5crypt_digest, md5crypt_message, opening_message, salted_twice}
-use Rattle.crypt_core.specs.RoundMessage.{round_message}
+use Rattle.crypt_core.specs.Md5crypt.{md5crypt_digest, md5crypt_message, opening_message}
+use Rattle.crypt_core.specs.RoundMessage.{round_message, salted_twice}
 use Rattle.crypt_core.specs.Work.{with_digest}
-use Rattle.crypt_core.proofs.Md5cryptLemmas.{length-messages_to, length-opening, length-round_message, message-round, messages-all, messages-more, messages-two}
+use Rattle.crypt_core.proofs.Md5cryptLemmas.{length-opening, message-round, messages-all, messages-two}
+use Rattle.crypt_core.proofs.MessageLists.{length-messages_to, length-round_message, messages-more}
 use Rattle.crypt_core.proofs.Metering.{digests_more, two_digests}
 use Rattle.crypt_core.proofs.md5crypt.md5crypt.Goals as goal
 
@@ -27,7 +28,7 @@ rounds-init c =
 pub round-digest-requires-clause-digests_room : goal.round-digest-requires-clause-digests_room
 round-digest-requires-clause-digests_room c =
     let digests = ap (λ m. m.digests) c.rounds.invariant.2 in
-    omega (arith, digests, length-messages_to c.bytes-password.result.now c.args.salt.now (c.rounds.i + 2), c.requires.room.0)
+    omega (arith, digests, length-messages_to (md5crypt_message c.bytes-password.result.now c.args.salt.now) (c.rounds.i + 2), c.requires.room.0)
 
 pub rounds-preserved : goal.rounds-preserved
 rounds-preserved c =
@@ -42,7 +43,7 @@ rounds-preserved c =
     let bytes = ap (λ m. m.bytes) c.round-digest.ensures.count in (
       rw next (c.round-digest.ensures.digest ∙ ap md5 same),
       c.round-digest.ensures.length,
-      rw (later, messages-more p s (i + 2), ← same) counted,
+      rw (later, messages-more (md5crypt_message p s) (i + 2), ← same) counted,
       omega (
         arith,
         bytes,

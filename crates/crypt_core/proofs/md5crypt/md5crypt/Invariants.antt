@@ -2,7 +2,7 @@ use Rattle.std.proofs.Common.{◌≡◌, ◌+◌, ◌*◌, ◌≤◌, length}
 use Rattle.prims_core.specs.Digests.{md5}
 use Rattle.crypt_core.specs.Md5crypt.{md5crypt_message}
 use Rattle.crypt_core.specs.Work.{with_digests}
-use Rattle.crypt_core.proofs.Md5cryptLemmas.{messages_to}
+use Rattle.crypt_core.proofs.MessageLists.{messages_to}
 use Rattle.crypt_core.proofs.md5crypt.md5crypt.Given as goal
 
 -- the digest of the round before, and the messages so far in the meter
@@ -10,5 +10,5 @@ abbrev pub invariant-rounds : goal.invariant-rounds
 invariant-rounds l =
     (l.digest.items ≡ md5 (md5crypt_message l.password l.salt (l.i + 1)))
     × (length l.digest.items ≡ 16)
-    × (l.meter ≡ with_digests l.fn.meter (messages_to l.password l.salt (l.i + 2)))
+    × (l.meter ≡ with_digests l.fn.meter (messages_to (md5crypt_message l.password l.salt) (l.i + 2)))
     × (l.meter.bytes ≤ l.fn.meter.bytes + 2048 * (l.i + 2))

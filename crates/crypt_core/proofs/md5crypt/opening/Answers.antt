@@ -3,7 +3,8 @@ use Rattle.std.proofs.lemmas.List.{length-append, length-take, take_min}
 use Rattle.std.proofs.Math.Nat.{min_comm}
 use Rattle.prims_core.specs.Digests.{md5}
 use Rattle.crypt_core.specs.Cycle.{cycle, digit_pieces}
-use Rattle.crypt_core.specs.Md5crypt.{opening_message, salted_twice}
+use Rattle.crypt_core.specs.Md5crypt.{opening_message}
+use Rattle.crypt_core.specs.RoundMessage.{salted_twice}
 use Rattle.crypt_core.specs.Work.{with_digest}
 use Rattle.crypt_core.proofs.CycleLemmas.{length-cycle, length-digit_pieces}
 use Rattle.crypt_core.proofs.Metering.{bytes_more, digest_after}
@@ -32,7 +33,7 @@ feed_digits-requires c =
       c.requires.salt,
       length-append (p ++ s) p,
       length-append p s,
-      length-digit_pieces (0 ∷ []) first (length p) (omega arith) short,
+      length-digit_pieces 1 (0 ∷ []) first (length p) (omega arith) short,
     )
 
 pub returns-clause-count : goal.returns-clause-count

@@ -1,0 +1,85 @@
+-- Lemmas on the messages of SHA-crypt.
+use Rattle.std.proofs.Common.{◌≡◌, ℕ, zero, suc, ◌+◌, ◌*◌, ◌≤◌, ◌<◌, List, [], ◌∷◌, ◌++◌, length, arith, refl, sym, ap, ◌∙◌}
+use Rattle.std.proofs.lemmas.List.{length-append}
+use Rattle.std.proofs.Math.Nat.{mul-le-mul_right}
+use Rattle.crypt_core.specs.Cycle.{cycle, digit_pieces}
+use Rattle.crypt_core.specs.RoundMessage.{round_message, salted_twice}
+use Rattle.crypt_core.specs.ShaCrypt.{password_repeated, password_string, salt_repeated, salt_string, sha_opening_digest, sha_opening_message, sha_round_message, shacrypt_digest, shacrypt_message, shacrypt_messages}
+use Rattle.crypt_core.proofs.CycleLemmas.{length-cycle, length-digit_pieces}
+use Rattle.crypt_core.proofs.MessageLists.{messages_to}
+
+-- the digest that round i begins with
+unfoldable pub before_round : (List ℕ → List ℕ) → List ℕ → List ℕ → ℕ → List ℕ
+before_round h p s zero = sha_opening_digest h p s
+before_round h p s (suc i) = h (sha_round_message h p s i)
+
+pub before_round-zero : (h : List ℕ → List ℕ) (p s : List ℕ) → before_round h p s 0 ≡ sha_opening_digest h p s
+unfolding before_round
+before_round-zero h p s = refl
+
+pub before_round-more : (h : List ℕ → List ℕ) (p s : List ℕ) (i : ℕ) → before_round h p s (i + 1) ≡ h (sha_round_message h p s i)
+unfolding before_round
+before_round-more h p s i = let next : i + 1 ≡ suc i = omega arith in rw next refl
+
+-- a round's message is made of the digest that the round begins with
+pub message-round : (h : List ℕ → List ℕ) (p s : List ℕ) (i : ℕ)
+    → sha_round_message h p s i ≡ round_message i (before_round h p s i) (password_string h p) (salt_string h p s)
+unfolding sha_round_message before_round
+message-round h p s zero = refl
+message-round h p s (suc i) = refl
+
+-- the message of round i is number i + 4
+pub message-number : (h : List ℕ → List ℕ) (p s : List ℕ) (i : ℕ) → shacrypt_message h p s (i + 4) ≡ sha_round_message h p s i
+unfolding shacrypt_message
+message-number h p s i = let number : i + 4 ≡ suc (suc (suc (suc i))) = omega arith in rw number refl
+
+pub messages-four : (h : List ℕ → List ℕ) (p s : List ℕ)
+    → messages_to (shacrypt_message h p s) 4 ≡ salted_twice p s ∷ sha_opening_message h p s ∷ password_repeated p ∷ salt_repeated h p s ∷ []
+unfolding messages_to shacrypt_message
+messages-four h p s = refl
+
+pub messages-all : (h : List ℕ → List ℕ) (p s : List ℕ) (rounds : ℕ)
+    → messages_to (shacrypt_message h p s) (rounds + 4) ≡ shacrypt_messages h p s rounds
+unfolding messages_to shacrypt_messages
+messages-all h p s rounds = refl
+
+-- what the last round leaves
+pub digest-last : (h : List ℕ → List ℕ) (p s : List ℕ) (rounds : ℕ) → 0 < rounds → shacrypt_digest h p s rounds ≡ before_round h p s rounds
+unfolding shacrypt_digest shacrypt_message before_round
+digest-last h p s zero some = absurd (omega arith)
+digest-last h p s (suc i) some = let number : suc i + 3 ≡ suc (suc (suc (suc i))) = omega arith in rw number refl
+
+pub round_is : (h : List ℕ → List ℕ) (p s : List ℕ) (i : ℕ) (x q r : List ℕ)
+    → x ≡ before_round h p s i → q ≡ password_string h p → r ≡ salt_string h p s → round_message i x q r ≡ sha_round_message h p s i
+round_is h p s i x q r digest password salt =
+    ap (λ y. round_message i y q r) digest
+    ∙ (ap (λ y. round_message i (before_round h p s i) y r) password
+    ∙ (ap (λ y. round_message i (before_round h p s i) (password_string h p) y) salt ∙ sym (message-round h p s i)))
+
+length-sha_opening : (h : List ℕ → List ℕ) (p s : List ℕ) → length p ≤ 512 → length (h (salted_twice p s)) ≤ 512
+    → length (sha_opening_message h p s) ≤ 2 * length p + length s + 262144
+length-sha_opening h p s short small =
+    let b = h (salted_twice p s) in
+    let around = cycle b (length p) in
+    let digits = digit_pieces b p (length p) in
+    omega (
+      arith,
+      length-append (p ++ s ++ around) digits,
+      length-append (p ++ s) around,
+      length-append p s,
+      length-cycle b (length p),
+      length-digit_pieces 512 b p (length p) small short,
+    )
+
+-- the four messages before the rounds have at most 2^20 bytes
+pub start_bytes : (h : List ℕ → List ℕ) (p s : List ℕ) (times : ℕ) → length p ≤ 512 → length s ≤ 16 → length (h (salted_twice p s)) ≤ 512 → times ≤ 271
+    → length (salted_twice p s) + length (sha_opening_message h p s) + length p * length p + times * length s ≤ 1048576
+start_bytes h p s times short salt_short small few =
+    omega (
+      arith,
+      length-append (p ++ s) p,
+      length-append p s,
+      length-sha_opening h p s short small,
+      mul-le-mul_right (length p) short,
+      mul-le-mul_right (length s) few,
+    )

@@ -1,0 +1,134 @@
+use Rattle.std.proofs.Common.{◌≡◌, ◌+◌, ◌*◌, ◌++◌, ◌≤◌, ◌<◌, length, get_or, arith, refl, sym, ◌∙◌, ap}
+use Rattle.std.proofs.lemmas.List.{length-append}
+use Rattle.std.proofs.Math.Nat.{mul-le-mul_right}
+use Rattle.std.specs.List.{repeat}
+use Rattle.crypt_core.specs.Cycle.{cycle}
+use Rattle.crypt_core.specs.RoundMessage.{round_message, salted_twice}
+use Rattle.crypt_core.specs.ShaCrypt.{password_repeated, password_string, salt_repeated, salt_string, sha_opening_digest, sha_opening_message, shacrypt_message}
+use Rattle.crypt_core.specs.Work.{with_digest}
+use Rattle.crypt_core.proofs.CycleLemmas.{length-cycle, length-repeat}
+use Rattle.crypt_core.proofs.MessageLists.{length-messages_to, length-round_message, messages-more}
+use Rattle.crypt_core.proofs.Metering.{digests_more, four_digests}
+use Rattle.crypt_core.proofs.ShaCryptLemmas.{before_round-more, before_round-zero, digest-last, message-number, messages-all, messages-four, round_is, start_bytes}
+use Rattle.crypt_core.proofs.shacrypt.shacrypt.Goals as goal
+
+pub string_of-password_string-requires-clause-bytes_room : goal.string_of-password_string-requires-clause-bytes_room
+string_of-password_string-requires-clause-bytes_room g c =
+    let h = g.H.Counted.digest in
+    let p = c.bytes-password.result.now in
+    let s = c.args.salt.now in
+    let short : length p ≤ 512 = omega (arith, ap length c.bytes-password.ensures.value, c.bytes-password.ensures.password.length_fits) in
+    let small : length (h (salted_twice p s)) ≤ 512 = omega (arith, g.met.H.Counted.length_digest (salted_twice p s), g.met.H.Counted.at_most_64) in
+    omega (arith, ap (λ m. m.bytes) c.opening-digest.ensures.count, start_bytes h p s 0 short c.requires.salt small (omega arith), c.requires.room.1)
+
+pub string_of-salt_string-requires-clause-bytes_room : goal.string_of-salt_string-requires-clause-bytes_room
+string_of-salt_string-requires-clause-bytes_room g c =
+    let h = g.H.Counted.digest in
+    let p = c.bytes-password.result.now in
+    let s = c.args.salt.now in
+    let short : length p ≤ 512 = omega (arith, ap length c.bytes-password.ensures.value, c.bytes-password.ensures.password.length_fits) in
+    let small : length (h (salted_twice p s)) ≤ 512 = omega (arith, g.met.H.Counted.length_digest (salted_twice p s), g.met.H.Counted.at_most_64) in
+    let first = c.from-salt_times.ensures ∙ ap (λ xs. get_or xs 0 0) (c.as_slice.ensures.value ∙ c.opening-digest.ensures.digest) in
+    let some : 0 < length (sha_opening_digest h p s) = omega (arith, g.met.H.Counted.length_digest (sha_opening_message h p s), g.met.H.Counted.at_least_1) in
+    let byte = g.met.H.Counted.digest_bytes (sha_opening_message h p s) 0 0 some in
+    let times : 16 + c.from-salt_times.result ≤ 271 = omega (arith, first, byte) in
+    omega (
+      arith,
+      ap (λ m. m.bytes) c.opening-digest.ensures.count,
+      ap (λ m. m.bytes) c.string_of-password_string.ensures.count,
+      length-repeat (length p) p,
+      start_bytes h p s (16 + c.from-salt_times.result) short c.requires.salt small times,
+      c.requires.room.1,
+    )
+
+pub rounds-init : goal.rounds-init
+rounds-init g c =
+    let h = g.H.Counted.digest in
+    let a = c.args.meter.now in
+    let p = c.args.password.now in
+    let s = c.args.salt.now in
+    let is = c.bytes-password.ensures.value in
+    let opened = rw is at c.opening-digest.ensures.count in
+    let digest = rw is at c.opening-digest.ensures.digest in
+    let repeated = rw is at c.string_of-password_string.ensures.count in
+    let first = c.from-salt_times.ensures ∙ ap (λ xs. get_or xs 0 0) (c.as_slice.ensures.value ∙ digest) in
+    let salted = rw first at c.string_of-salt_string.ensures.count in
+    let short : length p ≤ 512 = c.bytes-password.ensures.password.length_fits in
+    let small : length (h (salted_twice p s)) ≤ 512 = omega (arith, g.met.H.Counted.length_digest (salted_twice p s), g.met.H.Counted.at_most_64) in
+    let some : 0 < length (sha_opening_digest h p s) = omega (arith, g.met.H.Counted.length_digest (sha_opening_message h p s), g.met.H.Counted.at_least_1) in
+    let byte = g.met.H.Counted.digest_bytes (sha_opening_message h p s) 0 0 some in
+    let times : 16 + get_or (sha_opening_digest h p s) 0 0 ≤ 271 = omega (arith, byte) in (
+      digest ∙ sym (before_round-zero h p s),
+      c.opening-digest.ensures.length,
+      rw (messages-four h p s)
+      (four_digests a (with_digest a (salted_twice p s)) c.opening-digest.new.meter c.string_of-password_string.new.meter c.string_of-salt_string.new.meter
+      (salted_twice p s) (sha_opening_message h p s) (password_repeated p) (salt_repeated h p s) refl opened repeated salted),
+      omega (
+        arith,
+        ap (λ m. m.bytes) opened,
+        ap (λ m. m.bytes) repeated,
+        ap (λ m. m.bytes) salted,
+        length-repeat (length p) p,
+        length-repeat (16 + get_or (sha_opening_digest h p s) 0 0) s,
+        start_bytes h p s (16 + get_or (sha_opening_digest h p s) 0 0) short c.requires.salt small times,
+      ),
+    )
+
+pub round-digest-requires-clause-digests_room : goal.round-digest-requires-clause-digests_room
+round-digest-requires-clause-digests_room g c =
+    let digests = ap (λ m. m.digests) c.rounds.invariant.2 in
+    omega (
+      arith,
+      digests,
+      length-messages_to (shacrypt_message g.H.Counted.digest c.args.password.now c.args.salt.now) (c.rounds.i + 4),
+      c.requires.room.0,
+      c.requires.most_rounds,
+    )
+
+pub returns-clause-digest : goal.returns-clause-digest
+returns-clause-digest g c =
+    let h = g.H.Counted.digest in
+    let p = c.args.password.now in
+    let s = c.args.salt.now in
+    let last : c.rounds.i ≡ c.args.rounds = omega arith in
+    rw last at c.rounds.invariant.0 ∙ sym (digest-last h p s c.args.rounds (omega (arith, c.requires.least_rounds)))
+
+pub returns-clause-count : goal.returns-clause-count
+returns-clause-count g c =
+    let last : c.rounds.i ≡ c.args.rounds = omega arith in
+    rw (← messages-all g.H.Counted.digest c.args.password.now c.args.salt.now c.args.rounds) (rw last at c.rounds.invariant.2)
+
+pub rounds-preserved : goal.rounds-preserved
+rounds-preserved g c =
+    let h = g.H.Counted.digest in
+    let p = c.args.password.now in
+    let s = c.args.salt.now in
+    let i = c.rounds.i in
+    let is = c.bytes-password.ensures.value in
+    let short : length p ≤ 512 = c.bytes-password.ensures.password.length_fits in
+    let first = c.from-salt_times.ensures ∙ ap (λ xs. get_or xs 0 0) (c.as_slice.ensures.value ∙ rw is at c.opening-digest.ensures.digest) in
+    let digest_is = c.as_slice-in-rounds.ensures.value ∙ c.rounds.invariant.0 in
+    let password_is = c.as_slice-in-rounds-2.ensures.value ∙ rw is at c.string_of-password_string.ensures.string in
+    let salt_is = c.as_slice-in-rounds-3.ensures.value ∙ rw first at c.string_of-salt_string.ensures.string in
+    let same = round_is h p s i c.as_slice-in-rounds.result.now c.as_slice-in-rounds-2.result.now c.as_slice-in-rounds-3.result.now digest_is password_is salt_is in
+    let next : c.rounds.i + 1 + 4 ≡ c.rounds.i + 4 + 1 = omega arith in
+    let counted = digests_more c.args.meter.now c.rounds.meter c.round-digest.new.meter _ _ c.rounds.invariant.2 c.round-digest.ensures.count in (
+      c.round-digest.ensures.digest ∙ (ap h same ∙ sym (before_round-more h p s i)),
+      c.round-digest.ensures.length,
+      rw (next, messages-more (shacrypt_message h p s) (i + 4), message-number h p s i, ← same) counted,
+      omega (
+        arith,
+        ap (λ m. m.bytes) c.round-digest.ensures.count,
+        length-round_message i c.as_slice-in-rounds.result.now c.as_slice-in-rounds-2.result.now c.as_slice-in-rounds-3.result.now,
+        ap length c.as_slice-in-rounds.ensures.value,
+        ap length password_is,
+        ap length salt_is,
+        length-cycle (h (password_repeated p)) (length p),
+        length-cycle (h (salt_repeated h p s)) (length s),
+        c.rounds.invariant.3,
+        c.rounds.invariant.1,
+        g.met.H.Counted.at_most_64,
+        short,
+        c.requires.salt,
+      ),
+    )

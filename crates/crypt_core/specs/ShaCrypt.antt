@@ -1,0 +1,58 @@
+-- SHA-crypt (Drepper, "Unix crypt using SHA-256 and SHA-512"): R + 4 messages for R rounds. The digest
+-- function h is SHA-256 in the texts that begin with `$5$`, and SHA-512 in those with `$6$`.
+use Rattle.std.specs.Prelude.{ℕ, zero, suc, ◌+◌, List, ◌++◌, length, map, slice_index}
+use Rattle.std.specs.List.{range_with_len, repeat}
+use Rattle.crypt_core.specs.Cycle.{cycle, digit_pieces}
+use Rattle.crypt_core.specs.RoundMessage.{round_message, salted_twice}
+
+-- steps 1 to 12, with B the first message's digest: a digit 1 of the password's length stands for B,
+-- and a 0 for the password
+abbrev pub sha_opening_message : (List ℕ → List ℕ) → List ℕ → List ℕ → List ℕ
+sha_opening_message h password salt =
+    password ++ salt
+    ++ cycle (h (salted_twice password salt)) (length password)
+    ++ digit_pieces (h (salted_twice password salt)) password (length password)
+
+-- the digest of that message, which Drepper calls A
+abbrev pub sha_opening_digest : (List ℕ → List ℕ) → List ℕ → List ℕ → List ℕ
+sha_opening_digest h password salt = h (sha_opening_message h password salt)
+
+-- steps 13 to 15: the password as often as it has bytes
+abbrev pub password_repeated : List ℕ → List ℕ
+password_repeated password = repeat (length password) password
+
+-- steps 17 to 19: the salt 16 times, and once more for each unit of A's first byte
+abbrev pub salt_repeated : (List ℕ → List ℕ) → List ℕ → List ℕ → List ℕ
+salt_repeated h password salt = repeat (16 + slice_index (sha_opening_digest h password salt) 0) salt
+
+-- step 16: what stands for the password in the rounds
+abbrev pub password_string : (List ℕ → List ℕ) → List ℕ → List ℕ
+password_string h password = cycle (h (password_repeated password)) (length password)
+
+-- step 20: what stands for the salt in the rounds
+abbrev pub salt_string : (List ℕ → List ℕ) → List ℕ → List ℕ → List ℕ
+salt_string h password salt = cycle (h (salt_repeated h password salt)) (length salt)
+
+-- step 21: the message of round i. Round 0 begins with A, and each other with the digest of the round
+-- before.
+unfoldable pub sha_round_message : (List ℕ → List ℕ) → List ℕ → List ℕ → ℕ → List ℕ
+sha_round_message h password salt zero =
+    round_message 0 (sha_opening_digest h password salt) (password_string h password) (salt_string h password salt)
+sha_round_message h password salt (suc i) =
+    round_message (suc i) (h (sha_round_message h password salt i)) (password_string h password) (salt_string h password salt)
+
+-- message k
+unfoldable pub shacrypt_message : (List ℕ → List ℕ) → List ℕ → List ℕ → ℕ → List ℕ
+shacrypt_message h password salt zero = salted_twice password salt
+shacrypt_message h password salt (suc zero) = sha_opening_message h password salt
+shacrypt_message h password salt (suc (suc zero)) = password_repeated password
+shacrypt_message h password salt (suc (suc (suc zero))) = salt_repeated h password salt
+shacrypt_message h password salt (suc (suc (suc (suc i)))) = sha_round_message h password salt i
+
+-- all messages of so many rounds, in order
+unfoldable pub shacrypt_messages : (List ℕ → List ℕ) → List ℕ → List ℕ → ℕ → List (List ℕ)
+shacrypt_messages h password salt rounds = map (shacrypt_message h password salt) (range_with_len 0 (rounds + 4))
+
+-- the digest of the last message
+unfoldable pub shacrypt_digest : (List ℕ → List ℕ) → List ℕ → List ℕ → ℕ → List ℕ
+shacrypt_digest h password salt rounds = h (shacrypt_message h password salt (rounds + 3))

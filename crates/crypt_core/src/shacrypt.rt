@@ -1,0 +1,84 @@
+//! SHA-crypt (Drepper, "Unix crypt using SHA-256 and SHA-512"), once for both digests. Its definition
+//! speaks of whole messages; here they go into running digests piece by piece. What stands for the
+//! password and the salt in the rounds is made once, in buffers of fixed capacity.
+ghost use Rattle.std.specs.Prelude.{◌≡◌, ◌+◌, ◌*◌, ◌^◌, ◌<◌, ◌≤◌, length};
+ghost use Rattle.std.specs.List.{repeat};
+ghost use Rattle.crypt_core.specs.Cycle.{cycle};
+ghost use Rattle.crypt_core.specs.RoundMessage.{salted_twice};
+ghost use Rattle.crypt_core.specs.ShaCrypt.{sha_opening_digest, sha_opening_message, shacrypt_digest, shacrypt_messages};
+ghost use Rattle.crypt_core.specs.Work.{with_digest, with_digests, HasRoom};
+
+use crate::messages::{cycle_of, feed_cycle, feed_digits, feed_repeated, round, salted};
+use crate::password::Password;
+use arrayvec::ArrayVec;
+use prims_core::counted::Counted;
+use prims_core::meter::Meter;
+
+/// The digest of a password, a salt of at most 16 bytes, and 1000 to 999999999 rounds, by SHA-crypt
+/// over the digest function `H`. It has `H::LEN` bytes. The meter counts each message.
+///
+/// The meter has counted at most 2^120 digests and at most 2^120 bytes before.
+pub fn shacrypt<H: Counted>(
+    password: &Password,
+    salt: &[u8],
+    rounds: u32,
+    meter: &mut Meter,
+) -> ArrayVec<u8, 64>
+    requires salt { length salt.now ≤ 16 }
+    requires least_rounds { 1000 ≤ rounds }
+    requires most_rounds { rounds ≤ 999999999 }
+    requires room { HasRoom meter.old }
+    ensures digest { result.items ≡ shacrypt_digest H.digest password.now salt.now rounds }
+    ensures length { length result.items ≡ H.LEN }
+    ensures count { meter.new ≡ with_digests meter.old (shacrypt_messages H.digest password.now salt.now rounds) }
+{
+    let password = password.bytes();
+    let mut digest = opening::<H>(password, salt, meter);
+    let salt_times = 16 + usize::from(digest.as_slice()[0]);
+    let password_string = string_of::<H>(password, password.len(), meter);
+    let salt_string = string_of::<H>(salt, salt_times, meter);
+    'rounds: for i in 0..rounds {
+        digest = round::<H>(
+            i,
+            digest.as_slice(),
+            password_string.as_slice(),
+            salt_string.as_slice(),
+            meter,
+        );
+    }
+    digest
+}
+
+// Steps 1 to 12: the digest of the second message.
+fn opening<H: Counted>(password: &[u8], salt: &[u8], meter: &mut Meter) -> ArrayVec<u8, 64>
+    requires password { length password.now ≤ 512 }
+    requires salt { length salt.now ≤ 16 }
+    requires room { HasRoom meter.old }
+    ensures digest { result.items ≡ sha_opening_digest H.digest password.now salt.now }
+    ensures length { length result.items ≡ H.LEN }
+    ensures count { meter.new ≡ with_digest (with_digest meter.old (salted_twice password.now salt.now))
+        (sha_opening_message H.digest password.now salt.now) }
+{
+    let salted = salted::<H>(password, salt, meter);
+    let mut running = H::begin();
+    running.feed(meter, password);
+    running.feed(meter, salt);
+    feed_cycle(&mut running, meter, salted.as_slice(), password.len());
+    feed_digits(&mut running, meter, password.len(), salted.as_slice(), password);
+    running.finish(meter)
+}
+
+// Steps 13 to 16 for the password, and 17 to 20 for the salt: the digest of all the times that the
+// piece is repeated, and as many bytes of it as the piece has.
+fn string_of<H: Counted>(piece: &[u8], times: usize, meter: &mut Meter) -> ArrayVec<u8, 512>
+    requires fits { length piece.now ≤ 512 }
+    requires bytes_room { meter.old.bytes + times * length piece.now < 2 ^ 128 }
+    requires digests_room { meter.old.digests + 1 < 2 ^ 128 }
+    ensures string { result.items ≡ cycle (H.digest (repeat times piece.now)) (length piece.now) }
+    ensures count { meter.new ≡ with_digest meter.old (repeat times piece.now) }
+{
+    let mut running = H::begin();
+    feed_repeated(&mut running, meter, piece, times);
+    let digest = running.finish(meter);
+    cycle_of(digest.as_slice(), piece.len())
+}
