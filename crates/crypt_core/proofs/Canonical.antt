@@ -1,6 +1,7 @@
 -- The canonical text of a setting spells it.
 use Rattle.std.proofs.Common.{◌≡◌, ◌≢◌, ℕ, ◌+◌, ◌≤◌, ◌<◌, ◌^◌, Bool, true, false, ◌⊎◌, inl, inr, List, [], ◌∷◌, ◌++◌, length, take, drop, get_or, All, length-append, append-nil, refl, sym, ap, subst, ◌∙◌, append_assoc, arith}
 use Rattle.std.specs.Prelude.{decimal, codes}
+use Rattle.std.specs.List.{AllByRecursion}
 use Rattle.std.specs.Str.Parse.{AllDigits, digits_value}
 use Rattle.std.proofs.Math.Seq.{take-append_seam, drop-append_seam}
 use Rattle.std.proofs.lemmas.List.{take-append-drop, length-take, take_all}
@@ -12,8 +13,9 @@ use Rattle.crypt_core.specs.declared.method.Method.TheVariants as methods
 use Rattle.crypt_core.specs.declared.scheme.Scheme.{Scheme}
 use Rattle.crypt_core.specs.declared.scheme.Scheme.TheVariants.{Md5crypt, Sha256crypt, Sha512crypt, Scrypt}
 use Rattle.crypt_core.specs.Methods.{prefix, salt_limit}
+use Rattle.crypt_core.specs.Packing.{packed_len}
 use Rattle.crypt_core.specs.Private.Costs.{HasCost}
-use Rattle.crypt_core.specs.Settings.{Kept, method_of, IsSettingByte, dollar, IsField, BeginsWith, rounds_word, rounds_field, IsRoundsNumber, held, SpellsRounds, SpellsCost, IsScryptSalt, KeepsSalt, Spells, IsSetting, cost_part, canonical_text}
+use Rattle.crypt_core.specs.Settings.{Kept, method_of, IsSettingByte, dollar, IsEndOfField, IsField, BeginsWith, rounds_word, rounds_field, IsRoundsNumber, held, SpellsRounds, SpellsCost, IsScryptSalt, KeepsSalt, Spells, IsSetting, cost_part, canonical_text}
 use Rattle.crypt_core.proofs.Numerals.{length-scrypt_part}
 
 -- What a setting keeps is bounded
@@ -128,10 +130,10 @@ salt_again methods.Sha256crypt field salt k = sym (take_all 16 salt (cut 16 fiel
 salt_again methods.Sha512crypt field salt k = sym (take_all 16 salt (cut 16 field salt k))
 salt_again methods.Scrypt field salt k = (refl, subst IsScryptSalt (sym k.0) k.1)
 
-salt_is_field : (m : Method) (field rest salt : List ℕ) → IsField field rest → KeepsSalt m field salt → IsField salt []
-salt_is_field m field rest salt f k = record {
+salt_is_field : (m : Method) (field rest salt tail : List ℕ) → IsField field rest → KeepsSalt m field salt → IsEndOfField tail → IsField salt tail
+salt_is_field m field rest salt tail f k end = record {
   no_dollar = subst (All (λ b. b ≢ dollar)) (sym (salt_is_front m field salt k)) (All-take (λ b. b ≢ dollar) (salt_limit m) field f.no_dollar);
-  ended = tt;
+  ended = end;
 }
 
 -- The cost part
@@ -144,11 +146,25 @@ begins_longer n field rest salt word e (more, begins) = (
       ∙ append_assoc (word ++ more) (drop n field) rest ∙ append_assoc word more (drop n field ++ rest),
 )
 
+-- a word without a `$` stands at the front of a field where it stands at that of the text
+begins_within : (salt tail word : List ℕ) → AllByRecursion (λ b. b ≢ dollar) word → IsEndOfField tail → BeginsWith (salt ++ tail) word → BeginsWith (salt ++ []) word
+begins_within salt tail [] none end b = (salt ++ [], refl)
+begins_within [] [] (w ∷ word) none end (more, e) = absurd (cc e)
+begins_within [] (x ∷ tail) (w ∷ word) none end (more, e) = let heads : x ≡ w = cc in absurd (none.0 (sym heads ∙ end))
+begins_within (y ∷ salt) tail (w ∷ word) none end (more, e) =
+    let heads : y ≡ w = cc in
+    let tails : salt ++ tail ≡ word ++ more = cc in
+    let rest = begins_within salt tail word none.1 end (more, tails) in
+    (rest.0, cc (heads, rest.1))
+
+rounds_word_no_dollar : AllByRecursion (λ b. b ≢ dollar) rounds_word
+rounds_word_no_dollar = (λ e. omega arith, (λ e. omega arith, (λ e. omega arith, (λ e. omega arith, (λ e. omega arith, (λ e. omega arith, (λ e. omega arith, tt)))))))
+
 pub held_again : (n : ℕ) → 1000 ≤ n → n ≤ 999999999 → n ≡ held n
 held_again n low high = omega arith
 
-rounds_again : (count : ℕ) (flag : Bool) (n : ℕ) (part field rest salt : List ℕ) → salt ≡ take n field → SpellsRounds (record { count = count; is_written = flag }) part (field ++ rest) → SpellsRounds (record { count = count; is_written = flag }) (cost_part (Sha256crypt (record { count = count; is_written = flag }))) (salt ++ [])
-rounds_again count true n part field rest salt e s =
+rounds_again : (count : ℕ) (flag : Bool) (n : ℕ) (part field rest salt tail : List ℕ) → salt ≡ take n field → IsEndOfField tail → SpellsRounds (record { count = count; is_written = flag }) part (field ++ rest) → SpellsRounds (record { count = count; is_written = flag }) (cost_part (Sha256crypt (record { count = count; is_written = flag }))) (salt ++ tail)
+rounds_again count true n part field rest salt tail e end s =
     let range = rounds_range count true part (field ++ rest) s in
     let below : count < 2 ^ 64 = omega (arith, range) in (
       decimal count,
@@ -156,19 +172,21 @@ rounds_again count true n part field rest salt e s =
       refl,
       held_again count range.0 range.1 ∙ ap held (sym (decimal_is_IsNumeral count below).1),
     )
-rounds_again count false n part field rest salt e s =
-    (refl, s.1, λ begins. s.2 (begins_longer n field rest salt rounds_word e begins))
+rounds_again count false n part field rest salt tail e end s =
+    (refl, s.1, λ begins. s.2 (begins_longer n field rest salt rounds_word e (begins_within salt tail rounds_word rounds_word_no_dollar end begins)))
 
-cost_again : (scheme : Scheme) (n : ℕ) (part field rest salt : List ℕ) → salt ≡ take n field → SpellsCost scheme part (field ++ rest) → SpellsCost scheme (cost_part scheme) (salt ++ [])
-cost_again Md5crypt n part field rest salt e s = refl
-cost_again (Sha256crypt r) n part field rest salt e s = rounds_again r.count r.is_written n part field rest salt e s
-cost_again (Sha512crypt r) n part field rest salt e s = rounds_again r.count r.is_written n part field rest salt e s
-cost_again (Scrypt c) n part field rest salt e s = (refl, s.1, s.2)
+cost_again : (scheme : Scheme) (n : ℕ) (part field rest salt tail : List ℕ) → salt ≡ take n field → IsEndOfField tail → SpellsCost scheme part (field ++ rest) → SpellsCost scheme (cost_part scheme) (salt ++ tail)
+cost_again Md5crypt n part field rest salt tail e end s = refl
+cost_again (Sha256crypt r) n part field rest salt tail e end s = rounds_again r.count r.is_written n part field rest salt tail e end s
+cost_again (Sha512crypt r) n part field rest salt tail e end s = rounds_again r.count r.is_written n part field rest salt tail e end s
+cost_again (Scrypt c) n part field rest salt tail e end s = (refl, s.1, s.2)
 
--- what a text spells, its canonical text spells
-pub canonical_spells : (text : List ℕ) (kept : Kept) → Spells text kept → Spells (canonical_text kept) kept
-canonical_spells text kept s =
+-- what a text spells, its canonical text spells, whatever stands behind a `$`
+pub canonical_spells_before : (text : List ℕ) (kept : Kept) (tail : List ℕ) → Spells text kept → IsEndOfField tail → All IsSettingByte tail → length tail ≤ 284
+    → Spells (canonical_text kept ++ tail) kept
+canonical_spells_before text kept tail s end tail_bytes short =
     let m : Method = method_of kept.scheme in
+    let part : List ℕ = cost_part kept.scheme in
     let all : All IsSettingByte (prefix m ++ (s.scheme.part ++ (s.field ++ s.rest))) = subst (All IsSettingByte) s.scheme.parts s.is_text.bytes in
     let after : All IsSettingByte (s.scheme.part ++ (s.field ++ s.rest)) = all_right (prefix m) (s.scheme.part ++ (s.field ++ s.rest)) all in
     let field : All IsSettingByte s.field = all_left s.field s.rest (all_right s.scheme.part (s.field ++ s.rest) after) in
@@ -176,17 +194,31 @@ canonical_spells text kept s =
     let bounded = setting_bounded kept (text, s) in
     record {
       is_text = record {
-        short = omega (arith, canonical_short kept.scheme kept.salt bounded.0 bounded.1, length-append (prefix m) (cost_part kept.scheme ++ kept.salt), length-append (cost_part kept.scheme) kept.salt);
-        bytes = All-append IsSettingByte (prefix m) (cost_part kept.scheme ++ kept.salt) (all_left (prefix m) (s.scheme.part ++ (s.field ++ s.rest)) all)
-            (All-append IsSettingByte (cost_part kept.scheme) kept.salt (cost_bytes kept.scheme s.scheme.part (s.field ++ s.rest) s.scheme.cost (all_left s.scheme.part (s.field ++ s.rest) after)) salt);
+        short = omega (arith, canonical_short kept.scheme kept.salt bounded.0 bounded.1, length-append (canonical_text kept) tail, length-append (prefix m) (part ++ kept.salt), length-append part kept.salt, short);
+        bytes = All-append IsSettingByte (canonical_text kept) tail
+            (All-append IsSettingByte (prefix m) (part ++ kept.salt) (all_left (prefix m) (s.scheme.part ++ (s.field ++ s.rest)) all)
+            (All-append IsSettingByte part kept.salt (cost_bytes kept.scheme s.scheme.part (s.field ++ s.rest) s.scheme.cost (all_left s.scheme.part (s.field ++ s.rest) after)) salt))
+            tail_bytes;
       };
       field = kept.salt;
-      rest = [];
-      is_field = salt_is_field m s.field s.rest kept.salt s.is_field s.salt;
+      rest = tail;
+      is_field = salt_is_field m s.field s.rest kept.salt tail s.is_field s.salt end;
       scheme = record {
-        part = cost_part kept.scheme;
-        parts = ap (λ (x : List ℕ). prefix m ++ (cost_part kept.scheme ++ x)) (sym (append-nil kept.salt));
-        cost = cost_again kept.scheme (salt_limit m) s.scheme.part s.field s.rest kept.salt (salt_is_front m s.field kept.salt s.salt) s.scheme.cost;
+        part = part;
+        parts = append_assoc (prefix m) (part ++ kept.salt) tail ∙ ap (λ (x : List ℕ). prefix m ++ x) (append_assoc part kept.salt tail);
+        cost = cost_again kept.scheme (salt_limit m) s.scheme.part s.field s.rest kept.salt tail (salt_is_front m s.field kept.salt s.salt) end s.scheme.cost;
       };
       salt = salt_again m s.field kept.salt s.salt;
     }
+
+pub canonical_spells : (text : List ℕ) (kept : Kept) → Spells text kept → Spells (canonical_text kept) kept
+canonical_spells text kept s =
+    subst (λ (t : List ℕ). Spells t kept) (append-nil (canonical_text kept)) (canonical_spells_before text kept [] s tt (All-nil IsSettingByte) (omega arith))
+
+-- with the text of the method's digest the canonical text has at most 143 bytes
+pub packed_short : (scheme : Scheme) (salt : List ℕ) → HasCost scheme → length salt ≤ salt_limit (method_of scheme)
+    → length (prefix (method_of scheme)) + (length (cost_part scheme) + length salt) + packed_len (method_of scheme) ≤ 143
+packed_short Md5crypt salt c l = omega arith
+packed_short (Sha256crypt r) salt c l = omega (arith, length_rounds r.count r.is_written c.1)
+packed_short (Sha512crypt r) salt c l = omega (arith, length_rounds r.count r.is_written c.1)
+packed_short (Scrypt n) salt c l = omega (arith, length-scrypt_part n)

@@ -3,6 +3,7 @@ pub mod Canonical
 pub mod CycleLemmas
 pub mod Fields
 pub mod First
+pub mod HashedTexts
 pub mod Making
 pub mod Md5cryptLemmas
 pub mod MessageLists

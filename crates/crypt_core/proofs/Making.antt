@@ -59,7 +59,7 @@ byte_means b h =
 bytes_mean : (xs : List ℕ) → list_all is_byte xs ≡ true → All IsSettingByte xs
 bytes_mean xs all = All-weaker (λ x. is_byte x ≡ true) IsSettingByte byte_means xs (AllPass-from_list_all is_byte xs all)
 
-character_is_byte : (c : ℕ) → IsCharacter c → IsSettingByte c
+pub character_is_byte : (c : ℕ) → IsCharacter c → IsSettingByte c
 unfolding is_byte differs alphabet
 character_is_byte c h = byte_means c (character_passes is_byte refl c h)
 

@@ -59,7 +59,7 @@ in_alphabet : (v : ℕ) → Contains alphabet (character_of (v % 64))
 unfolding alphabet
 in_alphabet v = Contains-get_or alphabet (v % 64) 0 (omega arith)
 
-all_numerals : (n value : ℕ) → All (Contains alphabet) (numerals n value)
+pub all_numerals : (n value : ℕ) → All (Contains alphabet) (numerals n value)
 unfolding numerals
 all_numerals zero value = All-nil (Contains alphabet)
 all_numerals (suc n) value =

@@ -3,13 +3,16 @@ use Rattle.std.proofs.Common.{◌≡◌, ℕ, zero, suc, ◌+◌, ◌/◌, ◌^�
 use Rattle.std.proofs.lemmas.List.Sums.{sum_by-cons}
 use Rattle.std.proofs.lemmas.Bool.{and_parts, ltb-true}
 use Rattle.std.proofs.lemmas.List.{length-append}
+use Rattle.std.proofs.lemmas.List.Elements.{All-nil, All-append}
+use Rattle.std.specs.Prelude.{All, Contains}
 use Rattle.std.proofs.Math.Seq.{drop-cons}
 use Rattle.std.specs.List.{list_all}
 use Rattle.std.specs.Prelude.{sum_by}
 use Rattle.crypt_core.specs.declared.method.Method.{Method}
 use Rattle.crypt_core.specs.declared.method.Method.TheVariants.{Md5crypt, Sha256crypt, Sha512crypt, Scrypt}
-use Rattle.prims_core.specs.Alphabet.{numerals}
-use Rattle.crypt_core.specs.Packing.{packed_by, packed_group, group_number, digest_len, groups_of, md5crypt_groups, sha256crypt_groups, sha512crypt_groups, scrypt_groups, packed_len}
+use Rattle.prims_core.specs.Alphabet.{alphabet, numerals}
+use Rattle.crypt_core.specs.Packing.{packed, packed_by, packed_group, group_number, digest_len, groups_of, md5crypt_groups, sha256crypt_groups, sha512crypt_groups, scrypt_groups, packed_len}
+use Rattle.crypt_core.proofs.Numerals.{all_numerals}
 use Rattle.crypt_core.specs.Private.Tables.{groups_in, is_group, AreGroups, IsGroup}
 
 pub length-numerals : (n value : ℕ) → length (numerals n value) ≡ n
@@ -73,3 +76,18 @@ packed_len-small Md5crypt = omega arith
 packed_len-small Sha256crypt = omega arith
 packed_len-small Sha512crypt = omega arith
 packed_len-small Scrypt = omega arith
+
+all_packed_by : (groups : List (List ℕ)) (digest : List ℕ) → All (Contains alphabet) (packed_by groups digest)
+all_packed_by [] digest = All-nil (Contains alphabet)
+all_packed_by (places ∷ groups) digest =
+    All-append (Contains alphabet) (packed_group digest places) (packed_by groups digest)
+    (all_numerals (length places + 1) (group_number digest places)) (all_packed_by groups digest)
+
+-- the text of a digest is made of the alphabet's characters
+pub all_packed : (method : Method) (digest : List ℕ) → All (Contains alphabet) (packed method digest)
+unfolding packed
+all_packed method digest = all_packed_by (groups_of method) digest
+
+pub length-packed_text : (method : Method) (digest : List ℕ) → length (packed method digest) ≡ packed_len method
+unfolding packed
+length-packed_text method digest = length-packed method digest

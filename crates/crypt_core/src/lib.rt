@@ -1,6 +1,7 @@
 //! The schemes of crypt(5): passwords, methods, settings, and the digests and texts of each method.
 #![tactic(auto)]
 
+pub mod hash;
 pub mod md5crypt;
 mod messages;
 pub mod method;

@@ -5,6 +5,7 @@
 
 ghost use Rattle.std.specs.Prelude.{◌≡◌, ◌≤◌, length};
 ghost use Rattle.crypt_core.specs.Methods.{salt_limit};
+ghost use Rattle.crypt_core.specs.Private.Costs.{HasCost};
 ghost use Rattle.crypt_core.specs.Settings.{method_of};
 
 mod fault;
@@ -44,6 +45,14 @@ impl Setting {
         ensures { result ≡ method_of self.now.scheme }
     {
         self.scheme.method()
+    }
+
+    // The method with its cost, which is in range.
+    pub(crate) fn scheme(&self) -> Scheme
+        ensures value { result ≡ self.now.scheme }
+        ensures cost { HasCost self.now.scheme }
+    {
+        self.scheme
     }
 
     /// The kept salt, undecoded: at most 8, 16, 16 or 86 bytes.

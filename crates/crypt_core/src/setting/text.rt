@@ -3,7 +3,8 @@
 ghost use Rattle.std.specs.Prelude.{◌≡◌, ◌+◌, ◌<◌, ◌≤◌, ◌^◌, ◌++◌, length, decimal};
 ghost use Rattle.arrayvec.specs.ArrayVec.{array_vec_len};
 ghost use Rattle.crypt_core.specs.Private.Costs.{HasCost};
-ghost use Rattle.crypt_core.specs.Settings.{cost_part, canonical_text, Spells};
+ghost use Rattle.crypt_core.specs.Packing.{packed_len};
+ghost use Rattle.crypt_core.specs.Settings.{cost_part, canonical_text, method_of, Spells};
 
 use super::Setting;
 use crate::scheme::Scheme;
@@ -11,13 +12,15 @@ use arrayvec::ArrayVec;
 use prims_core::alphabet::put_group;
 
 impl Setting {
-    /// The canonical text, of at most 100 bytes. Read again, it is this setting.
+    /// The canonical text, of at most 100 bytes. Read again, it is this setting. With the text of the
+    /// method's digest it has at most 143 bytes.
     ///
     /// A `rounds=` field stands exactly where the setting had one, with the held number.
     pub fn text(&self) -> ArrayVec<u8, 160>
         ensures canonical { result.items ≡ canonical_text self.now }
         ensures spelled { Spells (canonical_text self.now) self.now }
         ensures short { array_vec_len result ≤ 100 }
+        ensures room { array_vec_len result + packed_len (method_of self.now.scheme) ≤ 143 }
     {
         let mut text = ArrayVec::new();
         append(&mut text, self.scheme.method().prefix());

@@ -1,0 +1,29 @@
+-- The text of a hash spells its setting.
+use Rattle.std.proofs.Common.{◌≡◌, ◌≢◌, ℕ, ◌++◌, List, length, append_assoc, arith, refl, sym, subst}
+use Rattle.std.specs.Prelude.{All, Contains, codes}
+use Rattle.std.proofs.lemmas.List.Elements.{All-cons, All-contains, All-from_recursion, All-weaker}
+use Rattle.prims_core.specs.Alphabet.{alphabet}
+use Rattle.crypt_core.specs.Packing.{packed}
+use Rattle.crypt_core.specs.Settings.{Kept, Spells, IsCharacter, IsSettingByte, canonical_text, method_of}
+use Rattle.crypt_core.proofs.Canonical.{canonical_spells_before}
+use Rattle.crypt_core.proofs.Making.{character_is_byte}
+use Rattle.crypt_core.proofs.PackingLemmas.{all_packed, length-packed_text, packed_len-small}
+
+no_dollar : All (λ b. b ≢ 36) (codes ":;*!\\")
+no_dollar = All-from_recursion (λ b. b ≢ 36) (codes ":;*!\\") (λ e. omega arith, (λ e. omega arith, (λ e. omega arith, (λ e. omega arith, (λ e. omega arith, tt)))))
+
+dollar_is_byte : IsSettingByte 36
+dollar_is_byte = record {
+  from = omega arith;
+  to = omega arith;
+  apart = λ inside. All-contains (λ b. b ≢ 36) (codes ":;*!\\") 36 no_dollar inside refl;
+}
+
+pub hashed_spells : (kept : Kept) (digest : List ℕ) → Spells (canonical_text kept) kept
+    → Spells (canonical_text kept ++ codes "$" ++ packed (method_of kept.scheme) digest) kept
+hashed_spells kept digest spelled =
+    let text = packed (method_of kept.scheme) digest in
+    let bytes = All-weaker (Contains alphabet) IsSettingByte (λ c inside. character_is_byte c (record { in_alphabet = inside })) text (all_packed (method_of kept.scheme) digest) in
+    let whole = canonical_spells_before (canonical_text kept) kept (codes "$" ++ text) spelled refl (All-cons IsSettingByte 36 text dollar_is_byte bytes)
+        (omega (arith, length-packed_text (method_of kept.scheme) digest, packed_len-small (method_of kept.scheme))) in
+    subst (λ (t : List ℕ). Spells t kept) (sym (append_assoc (canonical_text kept) (codes "$") text)) whole
