@@ -1,1 +1,3 @@
+pub mod Hmac
 pub mod Params
+pub mod Pbkdf2

@@ -103,3 +103,6 @@ fn is_within_ceiling(log_n: u8, r: u32, p: u32) -> bool
     // From 2^24 on N alone is above the ceiling.
     log_n < 24 && u64::from(r) * u64::from(p) <= CEILING >> log_n
 }
+
+#[cfg(test)]
+mod tests;
