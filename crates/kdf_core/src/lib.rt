@@ -1,4 +1,8 @@
-//! Key derivation: the parameters of scrypt (RFC 7914).
+//! Key derivation: HMAC (RFC 2104) and PBKDF2 (RFC 8018) over SHA-256, and the parameters of scrypt
+//! (RFC 7914). A meter counts every digest that is made here.
 #![tactic(auto)]
 
+pub mod hmac;
 pub mod params;
+pub mod pbkdf2;
+mod xor;

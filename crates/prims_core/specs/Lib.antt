@@ -2,3 +2,4 @@ pub mod Alphabet
 pub mod Digests
 pub mod Meter
 pub mod Private
+pub mod Words

@@ -1,5 +1,5 @@
 -- What a meter has counted.
-use Rattle.std.specs.Prelude.{ℕ}
+use Rattle.std.specs.Prelude.{ℕ, ◌+◌}
 
 -- the five counts of the work done
 pub record Counts : Type 0 where
@@ -17,3 +17,8 @@ pub record Counts : Type 0 where
 -- the counts before any work
 abbrev pub no_counts : Counts
 no_counts = record { digests = 0; bytes = 0; mixes = 0; table = 0; scratch = 0 }
+
+-- the counts after so many more digests, of so many bytes in all
+abbrev pub with_work : Counts → ℕ → ℕ → Counts
+with_work counts digests bytes =
+    record counts { digests = counts.digests + digests; bytes = counts.bytes + bytes }

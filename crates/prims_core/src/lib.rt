@@ -1,8 +1,9 @@
-//! The ground that every scheme of mkpasswd stands on: crypt's alphabet, the meter of work, and the
-//! digests that a meter counts.
+//! The ground that every scheme of mkpasswd stands on: crypt's alphabet, the meter of work, the
+//! digests that a meter counts, and numbers as bytes.
 #![tactic(auto)]
 
 pub mod alphabet;
 pub mod buffer;
 pub mod counted;
 pub mod meter;
+pub mod words;

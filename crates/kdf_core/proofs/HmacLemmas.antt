@@ -1,0 +1,46 @@
+-- A tag and a key's block, made step by step.
+use Rattle.std.proofs.Common.{◌≡◌, ℕ, ◌-◌, ◌<◌, ◌≤◌, List, [], ◌++◌, length, replicate, drop, sym, ap, ◌∙◌, append_assoc, arith}
+use Rattle.std.proofs.lemmas.List.{append-nil, drop-replicate}
+use Rattle.std.proofs.lemmas.Bool.{cond_below, cond_above}
+use Rattle.prims_core.specs.Digests.{sha256}
+use Rattle.prims_core.specs.Words.{xor_bytes}
+use Rattle.kdf_core.specs.Hmac.{hmac, hmac_sha256, ipad, opad, key_block, padded_key, PaddedKey, IsKeyOf}
+
+-- a tag is the digest of the outer pad and the digest of the inner pad and the text
+pub tag_is : (held : PaddedKey) (key a b text tag : List ℕ) → IsKeyOf held key → text ≡ sha256 (held.inner ++ a ++ b)
+    → tag ≡ sha256 (held.outer ++ text ++ []) → tag ≡ hmac_sha256 key (a ++ b)
+unfolding hmac hmac_sha256
+tag_is held key a b text tag of_key first second =
+    let inner = padded_key sha256 64 key ipad in
+    let outer = padded_key sha256 64 key opad in
+    let text_is : text ≡ sha256 (inner ++ (a ++ b)) =
+    first ∙ ap sha256 (append_assoc held.inner a b ∙ ap (λ (x : List ℕ). x ++ (a ++ b)) of_key.inner) in
+    second ∙ ap sha256 (append-nil (held.outer ++ text)
+    ∙ (ap (λ (x : List ℕ). x ++ text) of_key.outer ∙ ap (λ (x : List ℕ). outer ++ x) text_is))
+
+-- zeros up to a block
+abbrev filled : List ℕ → List ℕ
+filled kept = kept ++ replicate (64 - length kept) 0
+
+-- the block of a key that is longer than a block, whose digest is made in place of it
+pub long_block : (key kept : List ℕ) → 64 < length key → kept ≡ sha256 key → length kept ≡ 32
+    → kept ++ replicate 32 0 ≡ key_block sha256 64 key
+unfolding key_block
+long_block key kept long is length_is =
+    let zeros : 32 ≡ 64 - length kept = omega arith in
+    ap (λ n. kept ++ replicate n 0) zeros ∙ ap filled (is ∙ cond_below 64 (length key) (sha256 key) key long)
+
+-- the block of any other key
+pub short_block : (key kept zeros : List ℕ) → length key ≤ 64 → kept ≡ key → zeros ≡ replicate 64 0
+    → kept ++ drop (length key) zeros ≡ key_block sha256 64 key
+unfolding key_block
+short_block key kept zeros short is zeros_are =
+    let rest : drop (length key) zeros ≡ replicate (64 - length kept) 0 =
+    ap (drop (length key)) zeros_are ∙ drop-replicate (length key) 64 0 ∙ ap (λ (k : List ℕ). replicate (64 - length k) 0) (sym is) in
+    ap (λ (x : List ℕ). kept ++ x) rest ∙ ap filled (cond_above 64 (length key) (sha256 key) key kept short is)
+
+-- a block under a pad
+pub padded_is : (key block padded : List ℕ) (pad : ℕ) → block ≡ key_block sha256 64 key
+    → padded ≡ xor_bytes block (replicate 64 pad) → padded ≡ padded_key sha256 64 key pad
+unfolding padded_key
+padded_is key block padded pad is under = under ∙ ap (λ (b : List ℕ). xor_bytes b (replicate 64 pad)) is

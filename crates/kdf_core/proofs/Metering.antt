@@ -1,0 +1,18 @@
+-- How the work of several calls adds up.
+use Rattle.std.proofs.Common.{◌≡◌, ℕ, ◌+◌, sym, ap, ◌∙◌, add-zero, arith}
+use Rattle.prims_core.specs.Meter.{Counts, with_work}
+
+pub no_work : (m : Counts) → m ≡ with_work m 0 0
+no_work m =
+    ap (λ n. record m { digests = n }) (sym (add-zero m.digests))
+    ∙ ap (λ n. record m { digests = m.digests + 0; bytes = n }) (sym (add-zero m.bytes))
+
+-- some work, and then some more
+pub work_more : (a b c : Counts) (d x e y digests bytes : ℕ) → b ≡ with_work a d x → c ≡ with_work b e y
+    → d + e ≡ digests → x + y ≡ bytes → c ≡ with_work a digests bytes
+work_more a b c d x e y digests bytes first then all_digests all_bytes =
+    let both : a.digests + d + e ≡ a.digests + digests = omega arith in
+    let fed : a.bytes + x + y ≡ a.bytes + bytes = omega arith in
+    then ∙ (ap (λ (m : Counts). with_work m e y) first
+    ∙ (ap (λ n. record a { digests = n; bytes = a.bytes + x + y }) both
+    ∙ ap (λ n. record a { digests = a.digests + digests; bytes = n }) fed))

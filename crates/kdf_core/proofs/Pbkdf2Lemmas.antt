@@ -1,0 +1,82 @@
+-- A block of PBKDF2, round by round, and the derived bytes, block by block.
+use Rattle.std.proofs.Common.{◌≡◌, ℕ, zero, suc, ◌+◌, ◌-◌, ◌*◌, ◌<◌, ◌≤◌, List, [], ◌∷◌, ◌++◌, length, map, take, refl, sym, ap, ◌∙◌, arith}
+use Rattle.std.specs.Prelude.{fold}
+use Rattle.std.specs.List.{flat_map, range_with_len}
+use Rattle.std.proofs.lemmas.List.FromFn.{map-range_with_len_more}
+use Rattle.std.proofs.Math.Seq.{take-append-add}
+use Rattle.std.proofs.lemmas.Grind.{flat_map-append}
+use Rattle.std.proofs.lemmas.List.{append-nil, length-take, take_all}
+use Rattle.std.proofs.lemmas.List.Sums.{fold-append}
+use Rattle.prims_core.specs.Words.{big_bytes, xor_bytes}
+use Rattle.kdf_core.specs.Hmac.{hmac_sha256}
+use Rattle.kdf_core.specs.Pbkdf2.{chain, block, pbkdf2, pbkdf2_sha256}
+use Rattle.std.specs.Int.{div_ceil}
+use Rattle.std.proofs.lemmas.Grind.{div_ceil_times}
+
+-- U_1 is of the salt and the block's number
+pub chain-one : (password salt : List ℕ) (i : ℕ) → chain hmac_sha256 password salt i 1 ≡ hmac_sha256 password (salt ++ big_bytes 4 i)
+unfolding chain
+chain-one password salt i = refl
+
+-- each further one is of the one before, to which no more bytes are joined
+pub chain-more : (password salt : List ℕ) (i j : ℕ)
+    → chain hmac_sha256 password salt i (j + 1) ≡ hmac_sha256 password (chain hmac_sha256 password salt i j ++ [])
+unfolding chain
+chain-more password salt i j =
+    let next : j + 1 ≡ suc j = omega arith in
+    rw (next, append-nil) refl
+
+pub block-one : (password salt : List ℕ) (i : ℕ) → block hmac_sha256 password salt 1 i ≡ chain hmac_sha256 password salt i 1
+unfolding block
+block-one password salt i = refl
+
+pub block-more : (password salt : List ℕ) (i rounds : ℕ) → 1 ≤ rounds
+    → block hmac_sha256 password salt (rounds + 1) i
+    ≡ xor_bytes (block hmac_sha256 password salt rounds i) (chain hmac_sha256 password salt i (rounds + 1))
+unfolding block
+block-more password salt i rounds some =
+    let u : ℕ → List ℕ = chain hmac_sha256 password salt i in
+    let count : rounds + 1 - 1 ≡ rounds - 1 + 1 = omega arith in
+    let more : map u (range_with_len 2 (rounds - 1 + 1)) ≡ map u (range_with_len 2 (rounds - 1)) ++ u (rounds + 1) ∷ [] =
+    map-range_with_len_more u 2 (rounds - 1) (rounds + 1) (omega arith) in
+    ap (λ n. fold xor_bytes (u 1) (map u (range_with_len 2 n))) count
+    ∙ (ap (fold xor_bytes (u 1)) more ∙ fold-append xor_bytes (u 1) (map u (range_with_len 2 (rounds - 1))) (u (rounds + 1) ∷ []))
+
+range-more : (a n : ℕ) → range_with_len a (n + 1) ≡ range_with_len a n ++ (a + n) ∷ []
+range-more a zero = ap (λ (k : ℕ). k ∷ []) (omega arith)
+range-more a (suc n) =
+    let next : suc n + 1 ≡ suc (n + 1) = omega arith in
+    let last : a + 1 + n ≡ a + suc n = omega arith in
+    ap (range_with_len a) next ∙ ap (λ (ks : List ℕ). a ∷ ks) (range-more (a + 1) n ∙ ap (λ (k : ℕ). range_with_len (a + 1) n ++ k ∷ []) last)
+
+-- the blocks so far, of which there is room for each, and one more as far as there is room
+pub front_more : (block : ℕ → List ℕ) (old new part : List ℕ) (room i : ℕ) → 32 * i < room → length old ≡ room
+    → take (32 * i) old ≡ take room (flat_map block (range_with_len 1 i)) → part ≡ block (i + 1)
+    → take (32 * i + 32) new ≡ take (32 * i) old ++ take (room - 32 * i) part
+    → take (32 * (i + 1)) new ≡ take room (flat_map block (range_with_len 1 (i + 1)))
+front_more block old new part room i inside length_is front is written =
+    let blocks = flat_map block (range_with_len 1 i) in
+    let rest = room - 32 * i in
+    let whole : length blocks ≡ 32 * i =
+    omega (arith, ap length front, length-take (32 * i) old, length-take room blocks) in
+    let front_is : take (32 * i) old ≡ blocks = front ∙ take_all room blocks (omega arith) in
+    let place : 32 * (i + 1) ≡ 32 * i + 32 = omega arith in
+    let end : length blocks + rest ≡ room = omega arith in
+    let next : 1 + i ≡ i + 1 = omega arith in
+    let more : flat_map block (range_with_len 1 (i + 1)) ≡ blocks ++ block (i + 1) =
+    ap (flat_map block) (range-more 1 i) ∙ (flat_map-append block (range_with_len 1 i) ((1 + i) ∷ [])
+    ∙ (ap (λ k. blocks ++ (block k ++ [])) next ∙ ap (λ (b : List ℕ). blocks ++ b) (append-nil (block (i + 1))))) in
+    let wanted : take room (flat_map block (range_with_len 1 (i + 1))) ≡ blocks ++ take rest (block (i + 1)) =
+    ap (take room) more ∙ (ap (λ k. take k (blocks ++ block (i + 1))) (sym end) ∙ take-append-add blocks (block (i + 1)) rest) in
+    ap (λ k. take k new) place ∙ (written ∙ (ap (λ (b : List ℕ). b ++ take rest part) front_is
+    ∙ (ap (λ (b : List ℕ). blocks ++ take rest b) is ∙ sym wanted)))
+
+-- where all blocks are written, there is no room left
+pub front_all : (password salt out : List ℕ) (rounds room i : ℕ) → length out ≡ room → i ≡ div_ceil room 32
+    → take (32 * i) out ≡ take room (flat_map (block hmac_sha256 password salt rounds) (range_with_len 1 i))
+    → out ≡ pbkdf2_sha256 password salt rounds room
+unfolding pbkdf2 pbkdf2_sha256
+front_all password salt out rounds room i length_is all front =
+    let within : length out ≤ 32 * i = omega (arith, (div_ceil_times room 32 (omega arith)).0) in
+    sym (take_all (32 * i) out within) ∙ (front
+    ∙ ap (λ n. take room (flat_map (block hmac_sha256 password salt rounds) (range_with_len 1 n))) all)

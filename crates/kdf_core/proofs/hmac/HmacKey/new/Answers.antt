@@ -1,0 +1,12 @@
+use Rattle.kdf_core.specs.Hmac.{ipad, opad}
+use Rattle.kdf_core.proofs.HmacLemmas.{padded_is}
+use Rattle.kdf_core.proofs.hmac.HmacKey.new.Goals as goal
+
+pub returns-clause-key : goal.returns-clause-key
+returns-clause-key c =
+    let key = c.args.key.now in
+    let block = c.block_of-block.result in
+    record {
+      inner = padded_is key block c.padded.result ipad c.block_of-block.ensures.block c.padded.ensures;
+      outer = padded_is key block c.padded-2.result opad c.block_of-block.ensures.block c.padded-2.ensures;
+    }

@@ -1,0 +1,10 @@
+use Rattle.std.proofs.Common.{sym, subst}
+use Rattle.kdf_core.specs.Hmac.{PaddedKey, IsKeyOf}
+use Rattle.kdf_core.proofs.HmacLemmas.{tag_is}
+use Rattle.kdf_core.proofs.hmac.HmacKey.tag.Goals as goal
+
+pub returns-clause-tag : goal.returns-clause-tag
+returns-clause-tag c key of_key =
+    let held : PaddedKey = record { inner = c.self.inside.inner; outer = c.self.inside.outer } in
+    tag_is held key c.args.a.now c.args.b.now _ _ (subst (λ (h : PaddedKey). IsKeyOf h key) (sym c.self.view_is) of_key)
+    c.digest_of-text.ensures.digest c.digest_of.ensures.digest

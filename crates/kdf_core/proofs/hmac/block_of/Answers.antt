@@ -1,0 +1,16 @@
+use Rattle.std.proofs.Common.{◌≡◌, refl, ap, ◌∙◌, arith}
+use Rattle.std.proofs.lemmas.List.{append-nil}
+use Rattle.prims_core.specs.Digests.{sha256}
+use Rattle.kdf_core.proofs.HmacLemmas.{long_block, short_block}
+use Rattle.kdf_core.proofs.hmac.block_of.Goals as goal
+
+pub returns-then-key-gt-BLOCK-clause-block : goal.returns-then-key-gt-BLOCK-clause-block
+returns-then-key-gt-BLOCK-clause-block c =
+    let digest = c.digest_of-digest.result in
+    let kept = c.copy_from_slice.new.self in
+    let digest_is : digest ≡ sha256 c.args.key.now = c.digest_of-digest.ensures.digest ∙ ap sha256 (append-nil _ ∙ append-nil _) in
+    long_block c.args.key.now kept c.if-key-gt-BLOCK.true (c.copy_from_slice.ensures.after ∙ digest_is) (omega arith)
+
+pub returns-else-key-gt-BLOCK-clause-block : goal.returns-else-key-gt-BLOCK-clause-block
+returns-else-key-gt-BLOCK-clause-block c =
+    short_block c.args.key.now _ _ c.if-key-gt-BLOCK.false c.copy_from_slice-else-key-gt-BLOCK.ensures.after refl

@@ -1,0 +1,47 @@
+use Rattle.std.proofs.Common.{◌≡◌, ◌≤◌, ℕ, List, [], ◌+◌, ◌++◌, length, sym, ap, ◌∙◌, arith}
+use Rattle.prims_core.specs.Meter.{with_work}
+use Rattle.prims_core.specs.Words.{xor_bytes}
+use Rattle.kdf_core.specs.Hmac.{hmac_sha256, IsKeyOf, tag_bytes}
+use Rattle.kdf_core.specs.Pbkdf2.{chain, block, block_bytes}
+use Rattle.kdf_core.proofs.Metering.{work_more}
+use Rattle.kdf_core.proofs.Pbkdf2Lemmas.{chain-one, chain-more, block-one, block-more}
+use Rattle.kdf_core.proofs.pbkdf2.derived_block.Goals as goal
+
+-- the first tag is U_1
+first_is : (c : goal.After-tag-last) (password : List ℕ) → IsKeyOf c.args.key.now password
+    → c.tag-last.result ≡ chain hmac_sha256 password c.args.salt.now c.args.number 1
+first_is c password of_key =
+    c.tag-last.ensures.tag password of_key
+    ∙ (ap (λ (x : List ℕ). hmac_sha256 password (c.args.salt.now ++ x)) c.number_be.ensures
+    ∙ sym (chain-one password c.args.salt.now c.args.number))
+
+pub rounds-init : goal.rounds-init
+rounds-init c =
+    let salt = c.args.salt.now in
+    let four : length c.number_be.result ≡ 4 = ap length c.number_be.ensures in
+    let bytes : tag_bytes (length salt + length c.number_be.result) ≡ block_bytes (length salt) 1 = omega arith in
+    record {
+      last = first_is c;
+      sum = λ password of_key. first_is c password of_key ∙ sym (block-one password salt c.args.number);
+      count = c.tag-last.ensures.count ∙ ap (with_work c.args.meter.now 2) bytes;
+    }
+
+pub rounds-preserved : goal.rounds-preserved
+rounds-preserved c =
+    let salt = c.args.salt.now in
+    let i = c.args.number in
+    let n = c.rounds.counter in
+    let before = c.rounds.invariant in
+    let some : 1 ≤ n = omega arith in
+    let last : (password : List ℕ) → IsKeyOf c.args.key.now password → c.tag-last-in-rounds.result ≡ chain hmac_sha256 password salt i (n + 1) =
+    λ password of_key. c.tag-last-in-rounds.ensures.tag password of_key
+    ∙ (ap (λ (x : List ℕ). hmac_sha256 password (x ++ [])) (before.last password of_key) ∙ sym (chain-more password salt i n)) in
+    record {
+      last = last;
+      sum = λ password of_key. c.xor_into.ensures
+          ∙ (ap (λ (x : List ℕ). xor_bytes x c.tag-last-in-rounds.result) (before.sum password of_key)
+          ∙ (ap (λ (x : List ℕ). xor_bytes (block hmac_sha256 password salt n i) x) (last password of_key)
+          ∙ sym (block-more password salt i n some)));
+      count = work_more c.args.meter.now c.rounds.meter c.tag-last-in-rounds.new.meter _ _ _ _ _ _ before.count
+          c.tag-last-in-rounds.ensures.count (omega arith) (omega arith);
+    }

@@ -1,0 +1,115 @@
+//! HMAC over SHA-256 (RFC 2104).
+//!
+//! A key is made ready once, for any number of tags: what is held of it are its block under the
+//! inner pad and under the outer pad. Nothing is allocated.
+
+ghost use Rattle.std.specs.Prelude.{◌≡◌, ℕ, ◌+◌, ◌^◌, ◌<◌, List, ◌++◌, length, replicate};
+ghost use Rattle.prims_core.specs.Digests.{sha256};
+ghost use Rattle.prims_core.specs.Meter.{with_work};
+ghost use Rattle.prims_core.specs.Words.{xor_bytes};
+ghost use Rattle.kdf_core.specs.Hmac.{hmac_sha256, key_block, IsKeyOf, key_digests, key_bytes, tag_bytes};
+
+use crate::xor::xor_into;
+use prims_core::counted::{Counted, CountedSha256};
+use prims_core::meter::Meter;
+use std::marker::Model;
+
+/// The bytes of a block of SHA-256, to which a key is brought.
+const BLOCK: usize = 64;
+
+/// The byte of the inner pad.
+const IPAD: u8 = 0x36;
+
+/// The byte of the outer pad.
+const OPAD: u8 = 0x5c;
+
+/// A key of HMAC-SHA-256, ready for tags. Contracts speak of the key that it was made of, by
+/// `IsKeyOf`.
+#[derive(Drop)]
+pub struct HmacKey {
+    inner: [u8; 64],
+    outer: [u8; 64],
+}
+
+impl Model for HmacKey {
+    ghost use Rattle.kdf_core.specs.Hmac.{PaddedKey};
+
+    ghost Value = { PaddedKey };
+
+    ghost view = { λ k. record { inner = k.inner; outer = k.outer } };
+}
+
+impl HmacKey {
+    /// Makes a key ready (RFC 2104, section 2).
+    ///
+    /// A key of more than 64 bytes costs one digest of it, any other key none. The meter has room for
+    /// that.
+    pub fn new(key: &[u8], meter: &mut Meter) -> HmacKey
+        requires digests_room { meter.old.digests + key_digests (length key.now) < 2 ^ 128 }
+        requires bytes_room { meter.old.bytes + key_bytes (length key.now) < 2 ^ 128 }
+        ensures key { IsKeyOf result key.now }
+        ensures count { meter.new ≡ with_work meter.old (key_digests (length key.now)) (key_bytes (length key.now)) }
+    {
+        let block = block_of(key, meter);
+        HmacKey {
+            inner: padded(&block, IPAD),
+            outer: padded(&block, OPAD),
+        }
+    }
+
+    /// The tag of `a` followed by `b`, which are never joined (RFC 2104, section 2).
+    ///
+    /// It costs two digests, of 160 bytes and those of `a` and `b`. The meter has room for them.
+    pub fn tag(&self, a: &[u8], b: &[u8], meter: &mut Meter) -> [u8; 32]
+        requires digests_room { meter.old.digests + 2 < 2 ^ 128 }
+        requires bytes_room { meter.old.bytes + tag_bytes (length a.now + length b.now) < 2 ^ 128 }
+        ensures tag { (key : List ℕ) → IsKeyOf self.now key → result ≡ hmac_sha256 key (a.now ++ b.now) }
+        ensures count { meter.new ≡ with_work meter.old 2 (tag_bytes (length a.now + length b.now)) }
+    {
+        let text = digest_of(&self.inner, a, b, meter);
+        digest_of(&self.outer, &text, &[], meter)
+    }
+}
+
+// The key as it is, or its digest where it has more bytes than a block, and zeros up to a block.
+fn block_of(key: &[u8], meter: &mut Meter) -> [u8; 64]
+    requires digests_room { meter.old.digests + key_digests (length key.now) < 2 ^ 128 }
+    requires bytes_room { meter.old.bytes + key_bytes (length key.now) < 2 ^ 128 }
+    ensures block { result ≡ key_block sha256 64 key.now }
+    ensures count { meter.new ≡ with_work meter.old (key_digests (length key.now)) (key_bytes (length key.now)) }
+{
+    let mut block = [0; 64];
+    if key.len() > BLOCK {
+        let digest = digest_of(key, &[], &[], meter);
+        block[..32].copy_from_slice(&digest);
+    } else {
+        block[..key.len()].copy_from_slice(key);
+    }
+    block
+}
+
+// A block under a pad.
+fn padded(block: &[u8; 64], pad: u8) -> [u8; 64]
+    ensures { result ≡ xor_bytes block.now (replicate 64 pad) }
+{
+    let mut padded = *block;
+    xor_into(&mut padded, &[pad; 64]);
+    padded
+}
+
+// The digest of three pieces as one message.
+fn digest_of(first: &[u8], second: &[u8], third: &[u8], meter: &mut Meter) -> [u8; 32]
+    requires digests_room { meter.old.digests + 1 < 2 ^ 128 }
+    requires bytes_room { meter.old.bytes + (length first.now + length second.now + length third.now) < 2 ^ 128 }
+    ensures digest { result ≡ sha256 (first.now ++ second.now ++ third.now) }
+    ensures count { meter.new ≡ with_work meter.old 1 (length first.now + length second.now + length third.now) }
+{
+    let mut running = CountedSha256::begin();
+    running.feed(meter, first);
+    running.feed(meter, second);
+    running.feed(meter, third);
+    let digest = running.finish(meter);
+    let mut bytes = [0; 32];
+    bytes.copy_from_slice(digest.as_slice());
+    bytes
+}

@@ -1,0 +1,72 @@
+//! PBKDF2 over HMAC-SHA-256 (RFC 8018, section 5.2).
+//!
+//! Each block is made in arrays of its own and copied to where it belongs, so that nothing is
+//! allocated.
+
+ghost use Rattle.std.specs.Prelude.{◌≡◌, ℕ, ◌+◌, ◌-◌, ◌*◌, ◌^◌, ◌<◌, ◌≤◌, List, ◌++◌, length, take};
+ghost use Rattle.prims_core.specs.Meter.{with_work};
+ghost use Rattle.kdf_core.specs.Hmac.{hmac_sha256, IsKeyOf};
+ghost use Rattle.kdf_core.specs.Pbkdf2.{block, block_bytes, pbkdf2_sha256, pbkdf2_digests, pbkdf2_bytes};
+
+use crate::hmac::HmacKey;
+use crate::xor::xor_into;
+use prims_core::meter::Meter;
+use prims_core::words::number_be;
+
+/// The bytes of a block.
+const BLOCK: usize = 32;
+
+/// Fills `out` with bytes derived from a password, which `key` was made of, and a salt
+/// (RFC 8018, section 5.2).
+///
+/// There is at least one round, and `out` has at most `32 * (2^32 - 1)` bytes. With q blocks of 32
+/// bytes, the last one perhaps cut, and c rounds it costs `2cq` digests of
+/// `q(164 + s) + 192q(c - 1)` bytes for a salt of s bytes. The meter has room for them.
+pub fn pbkdf2(key: &HmacKey, salt: &[u8], rounds: u32, out: &mut [u8], meter: &mut Meter)
+    requires some_round { 1 ≤ rounds }
+    requires few_blocks { length out.old ≤ 32 * (2 ^ 32 - 1) }
+    requires digests_room { meter.old.digests + pbkdf2_digests rounds (length out.old) < 2 ^ 128 }
+    requires bytes_room { meter.old.bytes + pbkdf2_bytes (length salt.now) rounds (length out.old) < 2 ^ 128 }
+    ensures bytes { (password : List ℕ) → IsKeyOf key.now password
+        → out.new ≡ pbkdf2_sha256 password salt.now rounds (length out.old) }
+    ensures count { meter.new ≡ with_work meter.old (pbkdf2_digests rounds (length out.old))
+        (pbkdf2_bytes (length salt.now) rounds (length out.old)) }
+{
+    'filling: for i in 0..out.len().div_ceil(BLOCK) {
+        let block = derived_block(key, salt, rounds, i as u32 + 1, meter);
+        put_block(out, BLOCK * i, &block);
+    }
+}
+
+// Block `number`: the exclusive or of U_1 to U_c.
+fn derived_block(
+    key: &HmacKey,
+    salt: &[u8],
+    rounds: u32,
+    number: u32,
+    meter: &mut Meter,
+) -> [u8; 32]
+    requires some_round { 1 ≤ rounds }
+    requires digests_room { meter.old.digests + 2 * rounds < 2 ^ 128 }
+    requires bytes_room { meter.old.bytes + block_bytes (length salt.now) rounds < 2 ^ 128 }
+    ensures block { (password : List ℕ) → IsKeyOf key.now password
+        → result ≡ block hmac_sha256 password salt.now rounds number }
+    ensures count { meter.new ≡ with_work meter.old (2 * rounds) (block_bytes (length salt.now) rounds) }
+{
+    let mut last = key.tag(salt, &number_be(number), meter);
+    let mut sum = last;
+    'rounds: for _ in 1..rounds {
+        last = key.tag(&last, &[], meter);
+        xor_into(&mut sum, &last);
+    }
+    sum
+}
+
+// Writes a block from `start` on, as far as `out` goes.
+fn put_block(out: &mut [u8], start: usize, block: &[u8; 32])
+    requires { start < length out.old }
+    ensures { take (start + 32) out.new ≡ take start out.old ++ take (length out.old - start) block.now }
+{
+    let count = (out.len() - start).min(BLOCK);
+    out[start..start + count].copy_from_slice(&block[..count]);
+}
