@@ -96,7 +96,7 @@ pub enum RunFault {
     /// A write or a flush of an output failed.
     #[error("{}", self.text())]
     Write,
-    /// The run needs one more call of a device than it may make.
+    /// The run needs one more call to move bytes than it may make.
     #[error("{}", self.text())]
     Turns,
 }

@@ -17,13 +17,13 @@ use tally::Tally;
 
 mod device;
 mod faults;
-#[cfg(test)]
-mod memory;
 mod one;
 mod options;
 mod tally;
+#[cfg(test)]
+mod test_devices;
 
-/// How many device calls a run may make.
+/// How many calls to move bytes a run may make of its devices.
 const TURNS: u64 = 1 << 40;
 
 fn main(rt: HostRuntime) -> ExitCode {

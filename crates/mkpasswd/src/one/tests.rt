@@ -1,10 +1,15 @@
+ghost use Rattle.std.specs.Prelude.{◌≡◌, ◌^◌, ◌≤◌, ◌++◌, OnOk};
+ghost use Rattle.crypt_core.specs.Settings.{method_of};
+ghost use Rattle.mkpasswd.specs.Answers.{hash_line};
+
 use super::run_first;
 use crate::device::Output;
 use crate::faults::RunFault;
-use crate::memory::MemoryWriter;
 use crate::tally::Tally;
+use crate::test_devices::MemoryWriter;
 use crypt_core::{Method, Password, Setting};
 use std::alloc::Global;
+use std::io::ErrorKind;
 use std::test::Fail;
 
 const ONE_LINE: Tally = Tally {
@@ -15,21 +20,36 @@ const ONE_LINE: Tally = Tally {
 
 const ANSWER: &str = "$1$xxxxxxxx$UYCIxa628.9qXjpQCjM4a.\n";
 
-// Runs on a writer, and answers what the run did and the writer.
+// Runs on a writer that tells its bytes, and answers what the run did and the writer. That an answer
+// stands there whole follows from the clauses of `run_first` alone.
 fn run_on(
+    password: &Password,
+    setting: &Setting,
+    writer: MemoryWriter,
+    turns: u64,
+) -> (Result<Tally, RunFault>, MemoryWriter)
+    requires method { method_of setting.now.scheme ≡ Method.Md5crypt }
+    requires turns { turns ≤ 2 ^ 40 }
+    ensures { OnOk result.0
+        (result.1.taken.items ≡ writer.taken.items ++ hash_line password.now setting.now) }
+{
+    let mut out = Output::new(writer);
+    let outcome = run_first(password, setting, &mut out, turns);
+    (outcome, out.into_inner())
+}
+
+// Runs on bytes that a password and a salt of md5crypt are made of.
+fn run_words(
     rt: &impl std::process::Abort,
     password: &[u8],
     salt: &str,
+    writer: MemoryWriter,
     turns: u64,
-    mut writer: MemoryWriter,
 ) -> (Result<Tally, RunFault>, MemoryWriter) {
     let password = Password::new(password).expect(rt, "a password");
     let setting = Setting::make(Method::Md5crypt, 0, salt.as_bytes()).expect(rt, "a setting");
     assert!(rt; turns <= 1 << 40);
-    let mut out = Output::new(&mut writer);
-    let outcome = run_first(&password, &setting, &mut out, turns);
-    drop(out);
-    (outcome, writer)
+    run_on(&password, &setting, writer, turns)
 }
 
 // A password of every kind of byte but 0, as the reference made it.
@@ -64,7 +84,7 @@ fn hashes_as_libcrypt(rt: HostRuntime) -> Result<(), Fail> {
     for (len, salt, text) in TEXTS {
         let password = patterned(rt.alloc(), len)?;
         let writer = MemoryWriter::new(rt.alloc());
-        let (outcome, writer) = run_on(&rt, password.as_slice(), salt, 1 << 40, writer);
+        let (outcome, writer) = run_words(&rt, password.as_slice(), salt, writer, 1 << 40);
         assert_eq!(rt; outcome, Ok(ONE_LINE), "{len} bytes");
         let line = format!(in rt.alloc(); "{text}\n")?;
         assert_eq!(rt; writer.taken(), line.as_bytes(), "{len} bytes");
@@ -100,7 +120,9 @@ fn stops_with_its_devices(rt: HostRuntime) -> Result<(), Fail> {
         ),
         (
             "second write",
-            MemoryWriter::new(alloc).by(10).failing_at(2),
+            MemoryWriter::new(alloc)
+                .by(10)
+                .failing_at(2, ErrorKind::PermissionDenied),
             99,
             Some(RunFault::Write),
             10,
@@ -114,14 +136,14 @@ fn stops_with_its_devices(rt: HostRuntime) -> Result<(), Fail> {
         ),
         (
             "flush",
-            MemoryWriter::new(alloc).failing_flush(),
+            MemoryWriter::new(alloc).failing_flush(ErrorKind::BrokenPipe),
             99,
             Some(RunFault::Write),
             35,
         ),
     ];
     for (what, writer, turns, fault, taken) in cases {
-        let (outcome, writer) = run_on(&rt, b"password", "xxxxxxxx", turns, writer);
+        let (outcome, writer) = run_words(&rt, b"password", "xxxxxxxx", writer, turns);
         assert_eq!(rt; outcome.err(), fault, "{what}");
         assert!(rt; taken <= ANSWER.len(), "{what}");
         assert_eq!(rt; writer.taken(), &ANSWER.as_bytes()[..taken], "{what}");
