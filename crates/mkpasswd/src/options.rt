@@ -85,7 +85,9 @@ fn command<'a>(alloc: Global) -> Result<Command<'a>, AllocError>
     let method = required(alloc, "method", "TYPE")
         .short('m')
         .long("method")
-        .help("The method to hash by: md5crypt, sha256crypt or sha512crypt; or md5, sha-256, sha-512");
+        .help(
+            "The method to hash by: md5crypt, sha256crypt or sha512crypt; or md5, sha-256, sha-512",
+        );
     let salt = required(alloc, "salt", "SALT").short('S').long("salt").help(
         "The salt: 1 to 16 characters, 8 at most for md5crypt, each a letter, a digit, '.' or '/'",
     );
@@ -111,4 +113,4 @@ fn required<'a>(alloc: Global, id: &'a str, value_name: &'a str) -> Arg<'a>
 }
 
 #[cfg(test)]
-mod tests;
+pub(crate) mod tests;

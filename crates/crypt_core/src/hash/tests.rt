@@ -12,7 +12,7 @@ use std::process::Abort;
 use std::test::Fail;
 
 // By length of the patterned password: a setting, and the text of md5crypt.
-const MD5CRYPT_TEXTS: [(usize, &str, &str); 18] = [
+const MD5CRYPT_TEXTS: [(usize, &str, &str); 19] = [
     (0, "$1$", "$1$$qRPK7m23GJusamGpoGLby/"),
     (1, "$1$R", "$1$R$3PO.qyEPPJaJW47aGj1DL0"),
     (15, "$1$2c", "$1$2c$N9Y5iXmkOPW0wT82BZbPf/"),
@@ -31,6 +31,8 @@ const MD5CRYPT_TEXTS: [(usize, &str, &str); 18] = [
     (511, "$1$rjyiLbWw", "$1$rjyiLbWw$6/euL2NHJ6AVIvdJEyGk4."),
     (100, "$1$toolongsalt", "$1$toolongs$7BhZvYYvZICkc2Inkr/vj1"),
     (9, "$1$rounds=5", "$1$rounds=5$w2c5HnAwXDBlwoqm00sZx."),
+    // libxcrypt takes at most 511 bytes; this one is passlib's.
+    (512, "$1$zzzzzzzz", "$1$zzzzzzzz$V8yS6fUhzypu8CmYcRZIt/"),
 ];
 
 // By length of the patterned password: a setting, and the text of sha256crypt.
