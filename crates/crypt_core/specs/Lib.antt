@@ -1,5 +1,6 @@
 pub mod Crypt
 pub mod Cycle
+pub mod HashFaults
 pub mod MadeSettings
 pub mod Md5crypt
 pub mod Methods

@@ -1,4 +1,4 @@
--- The work of digests, as a meter counts it.
+-- The work of digests and of whole hashes, as a meter counts it.
 use Rattle.std.specs.Prelude.{ℕ, ◌^◌, ◌≤◌, List, length, sum_by}
 use Rattle.prims_core.specs.Meter.{Counts, with_work}
 
@@ -11,5 +11,5 @@ abbrev pub with_digests : Counts → List (List ℕ) → Counts
 with_digests counts messages = with_work counts (length messages) (sum_by length messages)
 
 -- the two counts that digests raise leave room for any hash
-abbrev pub HasRoom : Counts → Type 0
-HasRoom counts = (counts.digests ≤ 2 ^ 120) × (counts.bytes ≤ 2 ^ 120)
+abbrev pub HasDigestRoom : Counts → Type 0
+HasDigestRoom counts = (counts.digests ≤ 2 ^ 120) × (counts.bytes ≤ 2 ^ 120)

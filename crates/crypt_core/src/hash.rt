@@ -1,10 +1,9 @@
 //! The text of crypt(3): a password, hashed by a setting.
-ghost use Rattle.std.specs.Prelude.{◌≡◌, ◌≤◌, ◌↔◌, ◌++◌, length, codes, IsNone, IfNone, IfSome, OnSome};
-ghost use Rattle.crypt_core.specs.declared.method.Method.{Method};
-ghost use Rattle.crypt_core.specs.Crypt.{crypt, crypt_messages, digest_by};
+ghost use Rattle.std.specs.Prelude.{◌≡◌, ◌≤◌, ◌++◌, length, codes, IfOk, OnOk, OnErr};
+ghost use Rattle.kdf_core.specs.Scrypt.{scrypt, with_scrypt, HasRoom, IsAfterRefusal};
+ghost use Rattle.crypt_core.specs.Crypt.{crypt, with_crypt, IsRefusedBy};
 ghost use Rattle.crypt_core.specs.Packing.{digest_len, packed};
 ghost use Rattle.crypt_core.specs.Settings.{Spells, canonical_text, method_of};
-ghost use Rattle.crypt_core.specs.Work.{with_digests, HasRoom};
 
 use crate::md5crypt::md5crypt;
 use crate::pack::pack;
@@ -13,10 +12,14 @@ use crate::scheme::Scheme;
 use crate::setting::Setting;
 use crate::shacrypt::shacrypt;
 use arrayvec::ArrayVec;
+use kdf_core::params::Params;
+use kdf_core::scrypt::scrypt;
 use prims_core::buffer::buffer_of;
 use prims_core::counted::{CountedSha256, CountedSha512};
 use prims_core::meter::Meter;
+use std::alloc::{AllocError, Global};
 use std::marker::Model;
+use thiserror::Error;
 
 /// A hashed password, as crypt(3) gives it: a text of at most 144 bytes. A contract sees it as the
 /// list of its bytes.
@@ -45,50 +48,84 @@ impl Hashed {
     }
 }
 
-/// Hashes a password by a setting of md5crypt or SHA-crypt, or answers `None` for one of scrypt. It
-/// takes no memory. The meter counts each message, and nothing where the answer is `None`.
-///
-/// The meter has counted at most 2^120 digests and at most 2^120 bytes before.
-pub fn hash_free(password: &Password, setting: &Setting, meter: &mut Meter) -> Option<Hashed>
-    requires { HasRoom meter.old }
-    ensures none { IsNone result ↔ (method_of setting.now.scheme ≡ Method.Scrypt) }
-    ensures unchanged { IfNone result (meter.new ≡ meter.old) }
-
-    ensures text { IfSome result (λ hashed. hashed ≡ crypt password.now setting.now) }
-    ensures spells { IfSome result (λ hashed. Spells hashed setting.now) }
-    ensures count { OnSome result (meter.new ≡ with_digests meter.old (crypt_messages password.now setting.now)) }
-{
-    let digest = digest_of(password, setting, meter)?;
-    Some(hash_text(setting, digest.as_slice()))
+/// Why a password has no hash.
+#[derive(Clone, Copy, Debug, PartialEq, Eq, Drop, Error)]
+pub enum HashFault {
+    /// Memory ran out, which only scrypt asks for.
+    #[error("{}", self.text())]
+    OutOfMemory,
 }
 
-// The digest that the setting's scheme makes of the password.
-fn digest_of(password: &Password, setting: &Setting, meter: &mut Meter) -> Option<ArrayVec<u8, 64>>
-    requires { HasRoom meter.old }
-    ensures none { IsNone result ↔ (method_of setting.now.scheme ≡ Method.Scrypt) }
-    ensures unchanged { IfNone result (meter.new ≡ meter.old) }
+impl HashFault {
+    ghost use Rattle.crypt_core.specs.HashFaults.{hash_fault_text};
 
-    ensures digest { IfSome result (λ digest. digest.items ≡ digest_by setting.now.scheme password.now setting.now.salt) }
-    ensures length { IfSome result (λ digest. length digest.items ≡ digest_len (method_of setting.now.scheme)) }
-    ensures count { OnSome result (meter.new ≡ with_digests meter.old (crypt_messages password.now setting.now)) }
+    /// The fault in words.
+    pub fn text(&self) -> &'static str
+        ensures { result.now ≡ hash_fault_text self.now }
+    {
+        match self {
+            HashFault::OutOfMemory => "out of memory",
+        }
+    }
+}
+
+impl From<AllocError> for HashFault {
+    fn from(_error: AllocError) -> HashFault {
+        HashFault::OutOfMemory
+    }
+}
+
+/// Hashes a password by a setting. The meter counts all its work: each message that is digested, and
+/// for scrypt each mixing and each byte of memory.
+///
+/// `OutOfMemory` comes only by a setting of scrypt, where one of its three growths was refused. The
+/// meter has then counted the growths before that one and nothing else. No other method takes memory.
+/// Each count of the meter is at most 2^120 before.
+pub fn hash(
+    alloc: Global,
+    password: &Password,
+    setting: &Setting,
+    meter: &mut Meter,
+) -> Result<Hashed, HashFault>
+    requires { HasRoom meter.old }
+    ensures text { IfOk result (λ hashed. hashed ≡ crypt password.now setting.now) }
+    ensures spells { IfOk result (λ hashed. Spells hashed setting.now) }
+    ensures count { OnOk result (meter.new ≡ with_crypt meter.old password.now setting.now) }
+
+    // So an error comes only by a setting of scrypt.
+    ensures refused { OnErr result (IsRefusedBy meter.old setting.now.scheme meter.new) }
 {
     let salt = setting.salt();
-    match setting.scheme() {
-        Scheme::Md5crypt => Some(buffer_of(&md5crypt(password, salt, meter))),
-        Scheme::Sha256crypt(rounds) => Some(shacrypt::<CountedSha256>(
-            password,
-            salt,
-            rounds.count,
-            meter,
-        )),
-        Scheme::Sha512crypt(rounds) => Some(shacrypt::<CountedSha512>(
-            password,
-            salt,
-            rounds.count,
-            meter,
-        )),
-        Scheme::Scrypt(_) => None,
-    }
+    let digest = match setting.scheme() {
+        Scheme::Md5crypt => buffer_of(&md5crypt(password, salt, meter)),
+        Scheme::Sha256crypt(rounds) => {
+            shacrypt::<CountedSha256>(password, salt, rounds.count, meter)
+        }
+        Scheme::Sha512crypt(rounds) => {
+            shacrypt::<CountedSha512>(password, salt, rounds.count, meter)
+        }
+        Scheme::Scrypt(params) => scrypt_digest(alloc, password, salt, &params, meter)?,
+    };
+    Ok(hash_text(setting, digest.as_slice()))
+}
+
+// scrypt's 32 bytes.
+fn scrypt_digest(
+    alloc: Global,
+    password: &Password,
+    salt: &[u8],
+    params: &Params,
+    meter: &mut Meter,
+) -> Result<ArrayVec<u8, 64>, AllocError>
+    requires { HasRoom meter.old }
+    ensures digest { IfOk result (λ digest. digest.items ≡ scrypt password.now salt.now params.now 32) }
+    ensures length { IfOk result (λ digest. length digest.items ≡ 32) }
+    ensures count { OnOk result (meter.new ≡ with_scrypt meter.old params.now (length password.now) (length salt.now) 32) }
+    ensures refused { OnErr result (IsAfterRefusal meter.old params.now meter.new) }
+{
+    let mut digest = [0; 32];
+    scrypt(alloc, password.bytes(), salt, params, &mut digest, meter)?;
+    Ok(buffer_of(&digest))
 }
 
 // The text of a digest by the setting.

@@ -4,7 +4,7 @@ ghost use Rattle.std.specs.Prelude.{◌≡◌, ◌+◌, ◌*◌, ◌^◌, ◌<�
 ghost use Rattle.prims_core.specs.Digests.{md5};
 ghost use Rattle.crypt_core.specs.Md5crypt.{md5crypt_digest, md5crypt_message, md5crypt_messages, opening_message};
 ghost use Rattle.crypt_core.specs.RoundMessage.{salted_twice};
-ghost use Rattle.crypt_core.specs.Work.{with_digest, with_digests, HasRoom};
+ghost use Rattle.crypt_core.specs.Work.{with_digest, with_digests, HasDigestRoom};
 
 use crate::messages::{feed_cycle, feed_digits, round, salted};
 use crate::password::Password;
@@ -20,7 +20,7 @@ const ROUNDS: u32 = 1000;
 /// The meter has counted at most 2^120 digests and at most 2^120 bytes before.
 pub fn md5crypt(password: &Password, salt: &[u8], meter: &mut Meter) -> [u8; 16]
     requires salt { length salt.now ≤ 8 }
-    requires room { HasRoom meter.old }
+    requires room { HasDigestRoom meter.old }
     ensures digest { result ≡ md5crypt_digest password.now salt.now }
     ensures count { meter.new ≡ with_digests meter.old (md5crypt_messages password.now salt.now) }
 {
@@ -38,7 +38,7 @@ pub fn md5crypt(password: &Password, salt: &[u8], meter: &mut Meter) -> [u8; 16]
 fn opening(password: &[u8], salt: &[u8], meter: &mut Meter) -> ArrayVec<u8, 64>
     requires password { length password.now ≤ 512 }
     requires salt { length salt.now ≤ 8 }
-    requires room { HasRoom meter.old }
+    requires room { HasDigestRoom meter.old }
     ensures digest { result.items ≡ md5 (opening_message password.now salt.now) }
     ensures length { length result.items ≡ 16 }
     ensures count { meter.new ≡ with_digest (with_digest meter.old (salted_twice password.now salt.now)) (opening_message password.now salt.now) }

@@ -4,7 +4,7 @@ ghost use Rattle.std.specs.Prelude.{◌≡◌, ℕ, ◌+◌, ◌*◌, ◌^◌, �
 ghost use Rattle.std.specs.List.{repeat};
 ghost use Rattle.crypt_core.specs.Cycle.{cycle, digit_pieces};
 ghost use Rattle.crypt_core.specs.RoundMessage.{round_message, salted_twice};
-ghost use Rattle.crypt_core.specs.Work.{with_digest, HasRoom};
+ghost use Rattle.crypt_core.specs.Work.{with_digest, HasDigestRoom};
 
 use arrayvec::ArrayVec;
 use prims_core::counted::Counted;
@@ -18,7 +18,7 @@ pub(crate) fn salted<C: Counted>(
 ) -> ArrayVec<u8, 64>
     requires password { length password.now ≤ 512 }
     requires salt { length salt.now ≤ 16 }
-    requires room { HasRoom meter.old }
+    requires room { HasDigestRoom meter.old }
     ensures digest { result.items ≡ C.digest (salted_twice password.now salt.now) }
     ensures length { length result.items ≡ C.LEN }
     ensures count { meter.new ≡ with_digest meter.old (salted_twice password.now salt.now) }

@@ -6,7 +6,7 @@ ghost use Rattle.std.specs.List.{repeat};
 ghost use Rattle.crypt_core.specs.Cycle.{cycle};
 ghost use Rattle.crypt_core.specs.RoundMessage.{salted_twice};
 ghost use Rattle.crypt_core.specs.ShaCrypt.{sha_opening_digest, sha_opening_message, shacrypt_digest, shacrypt_messages};
-ghost use Rattle.crypt_core.specs.Work.{with_digest, with_digests, HasRoom};
+ghost use Rattle.crypt_core.specs.Work.{with_digest, with_digests, HasDigestRoom};
 
 use crate::messages::{cycle_of, feed_cycle, feed_digits, feed_repeated, round, salted};
 use crate::password::Password;
@@ -27,7 +27,7 @@ pub fn shacrypt<H: Counted>(
     requires salt { length salt.now ≤ 16 }
     requires least_rounds { 1000 ≤ rounds }
     requires most_rounds { rounds ≤ 999999999 }
-    requires room { HasRoom meter.old }
+    requires room { HasDigestRoom meter.old }
     ensures digest { result.items ≡ shacrypt_digest H.digest password.now salt.now rounds }
     ensures length { length result.items ≡ H.LEN }
     ensures count { meter.new ≡ with_digests meter.old (shacrypt_messages H.digest password.now salt.now rounds) }
@@ -53,7 +53,7 @@ pub fn shacrypt<H: Counted>(
 fn opening<H: Counted>(password: &[u8], salt: &[u8], meter: &mut Meter) -> ArrayVec<u8, 64>
     requires password { length password.now ≤ 512 }
     requires salt { length salt.now ≤ 16 }
-    requires room { HasRoom meter.old }
+    requires room { HasDigestRoom meter.old }
     ensures digest { result.items ≡ sha_opening_digest H.digest password.now salt.now }
     ensures length { length result.items ≡ H.LEN }
     ensures count { meter.new ≡ with_digest (with_digest meter.old (salted_twice password.now salt.now))

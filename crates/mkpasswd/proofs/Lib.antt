@@ -1,4 +1,3 @@
 pub mod FirstCommand
-pub mod Planning
 pub mod RequiredTexts
 pub mod Sending

@@ -1,6 +1,8 @@
 -- The texts and exit statuses of what can end the program early.
 use Rattle.std.specs.Prelude.{ℕ, List, [], codes}
 use Rattle.clap.specs.Words.{kind_of}
+use Rattle.crypt_core.specs.HashFaults.{hash_fault_text}
+use Rattle.crypt_core.specs.declared.hash.HashFault.TheVariants.{OutOfMemory as HashOutOfMemory}
 use Rattle.crypt_core.specs.PasswordFaults.{password_text}
 use Rattle.crypt_core.specs.SettingFaults.{make_fault_text}
 use Rattle.clap.specs.declared.error.kind.ErrorKind.{ErrorKind}
@@ -8,7 +10,7 @@ use Rattle.clap.specs.declared.error.kind.ErrorKind.TheVariants.{DisplayHelp, Di
 use Rattle.mkpasswd.specs.declared.faults.Fault.{Fault}
 use Rattle.mkpasswd.specs.declared.faults.Fault.TheVariants.{Start, Usage, Password, Run}
 use Rattle.mkpasswd.specs.declared.faults.RunFault.{RunFault}
-use Rattle.mkpasswd.specs.declared.faults.RunFault.TheVariants.{Write, Turns}
+use Rattle.mkpasswd.specs.declared.faults.RunFault.TheVariants.{Write, OutOfMemory as NoMemory, Turns}
 use Rattle.mkpasswd.specs.declared.faults.UsageFault.{UsageFault}
 use Rattle.mkpasswd.specs.declared.faults.UsageFault.TheVariants.{Parse, Method, Make, OutOfMemory}
 
@@ -30,16 +32,18 @@ abbrev pub usage_text : UsageFault → List ℕ
 usage_text (Parse error) = []
 usage_text Method = codes "unknown method"
 usage_text (Make fault) = make_fault_text fault
-usage_text OutOfMemory = codes "out of memory"
+usage_text OutOfMemory = hash_fault_text HashOutOfMemory
 
 -- the exit status after a run that was cut short
 abbrev pub run_status : RunFault → ℕ
 run_status Write = 3
+run_status NoMemory = 3
 run_status Turns = 3
 
 -- what cut a run short
 abbrev pub run_text : RunFault → List ℕ
 run_text Write = codes "write fault"
+run_text NoMemory = hash_fault_text HashOutOfMemory
 run_text Turns = codes "too many turns"
 
 -- the exit status after any fault: 2 where the words or the password are wrong, 3 where the machine

@@ -1,5 +1,5 @@
 -- The words after the program's name: the command, the texts that it gives, and what they mean.
-use Rattle.std.specs.Prelude.{◌≡◌, ◌≢◌, ⊤, List, [], Option, Some, Result, Ok, Err, true, codes}
+use Rattle.std.specs.Prelude.{◌≡◌, ◌≢◌, ⊤, List, [], Option, Some, None, Result, Ok, Err, true, codes}
 use Rattle.clap.specs.Words.{App, IsAmong, Rule, Text, fault_of, first_of, kind_of, matches_of}
 use Rattle.clap.specs.Words.{new_app, new_rule, takes, with_rule}
 use Rattle.clap.specs.Simple.{on_top}
@@ -9,7 +9,6 @@ use Rattle.clap.specs.declared.error.kind.ErrorKind.TheVariants as kind
 use Rattle.crypt_core.specs.Methods.{method_named}
 use Rattle.crypt_core.specs.MadeSettings.{IsMakeable, IsMakeRefused, made_setting}
 use Rattle.crypt_core.specs.declared.method.Method.{Method}
-use Rattle.crypt_core.specs.declared.method.Method.TheVariants.{Scrypt}
 use Rattle.mkpasswd.specs.declared.faults.UsageFault.{UsageFault}
 use Rattle.mkpasswd.specs.declared.faults.UsageFault.TheVariants.{Parse, Method as UnknownMethod, Make, OutOfMemory}
 use Rattle.mkpasswd.specs.declared.options.First.{First}
@@ -80,19 +79,14 @@ pub record Refuses (words : List Text) (error : Error) : Type 0 where
 
 -- ---- the plan
 
--- TYPE names this method, and the program hashes by it
-pub record HashesBy (name : Text) (method : Method) : Type 0 where
-  pub named : method_named name ≡ Some method
-  pub without_memory : method ≢ Scrypt
-
 -- what the words mean: the first refusal that holds, or else the plan. Memory may run out at any
 -- words.
 abbrev pub Plans : List Text → Result First UsageFault → Type 0
-Plans words (Ok first) = (texts : Texts) × (method : Method) × Gives words texts × HashesBy texts.method method
+Plans words (Ok first) = (texts : Texts) × (method : Method) × Gives words texts × (method_named texts.method ≡ Some method)
     × IsMakeable method 0 texts.salt × (first.setting ≡ made_setting method 0 texts.salt)
     × (first.password.items ≡ texts.password)
 Plans words (Err (Parse error)) = Refuses words error
-Plans words (Err UnknownMethod) = (texts : Texts) × Gives words texts × ((method : Method) → ¬ HashesBy texts.method method)
-Plans words (Err (Make fault)) = (texts : Texts) × (method : Method) × Gives words texts × HashesBy texts.method method
+Plans words (Err UnknownMethod) = (texts : Texts) × Gives words texts × (method_named texts.method ≡ None)
+Plans words (Err (Make fault)) = (texts : Texts) × (method : Method) × Gives words texts × (method_named texts.method ≡ Some method)
     × IsMakeRefused method 0 texts.salt fault
 Plans words (Err OutOfMemory) = ⊤

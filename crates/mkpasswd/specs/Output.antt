@@ -3,7 +3,7 @@ use Rattle.std.specs.Prelude.{◌≡◌, ◌≢◌, ℕ, ◌+◌, List, [], ◌+
 use Rattle.std.specs.Io.KnownBytes.{Appends}
 use Rattle.mkpasswd.specs.Devices.{Device}
 use Rattle.mkpasswd.specs.declared.faults.RunFault.{RunFault}
-use Rattle.mkpasswd.specs.declared.faults.RunFault.TheVariants.{Write, Turns}
+use Rattle.mkpasswd.specs.declared.faults.RunFault.TheVariants.{Write, OutOfMemory, Turns}
 
 module _ {T : Type 0} where
   -- the output has taken these bytes and no others: the device shows them at its end, where it shows
@@ -26,9 +26,10 @@ module _ {T : Type 0} where
   TakesPart contents old new text =
       (unsent : List ℕ) × TakesAllBut contents unsent old new text × (unsent ≢ [])
 
-  -- a text was given: whole where there is an answer; its first bytes where a call failed; and with
-  -- some still to come where the turns were over
+  -- a text was given: whole where there is an answer; its first bytes where a call failed; with some
+  -- still to come where the turns were over; and nothing of it where memory ran out before
   abbrev pub Delivers : {A : Type 0} → (T → Option (List ℕ)) → Device T → Device T → List ℕ → Result A RunFault → Type 0
   Delivers contents old new text (Ok answer) = Takes contents old new text
   Delivers contents old new text (Err Write) = TakesPrefix contents old new text
+  Delivers contents old new text (Err OutOfMemory) = Takes contents old new []
   Delivers contents old new text (Err Turns) = TakesPart contents old new text

@@ -2,7 +2,7 @@
 use Rattle.std.specs.Prelude.{◌≡◌, ℕ, ◌+◌, ◌≤◌, Result, Ok, Err}
 use Rattle.mkpasswd.specs.Devices.{Device}
 use Rattle.mkpasswd.specs.declared.faults.RunFault.{RunFault}
-use Rattle.mkpasswd.specs.declared.faults.RunFault.TheVariants.{Write, Turns}
+use Rattle.mkpasswd.specs.declared.faults.RunFault.TheVariants.{Write, OutOfMemory, Turns}
 
 module _ {T : Type 0} where
   -- no call failed
@@ -14,10 +14,12 @@ module _ {T : Type 0} where
   FailsOnce old new = new.failures ≡ old.failures + 1
 
   -- an answer comes where no call failed, and a fault only with its cause: one call failed; or
-  -- `turns` calls were made, and none failed
+  -- `turns` calls were made, and none failed. Where memory ran out no call was made.
   abbrev pub ShowsOutcome : {A : Type 0} → ℕ → Device T → Device T → Result A RunFault → Type 0
   ShowsOutcome turns old new (Ok answer) = IsUnfailed old new
   ShowsOutcome turns old new (Err Write) = FailsOnce old new
+  ShowsOutcome turns old new (Err OutOfMemory) =
+      IsUnfailed old new × (new.calls ≡ old.calls)
   ShowsOutcome turns old new (Err Turns) =
       IsUnfailed old new × (new.calls ≡ old.calls + turns)
 

@@ -5,6 +5,7 @@ ghost use Rattle.std.specs.IoError.{error_kind};
 ghost use Rattle.clap.specs.Words.{kind_of};
 
 use clap::error::ErrorKind;
+use crypt_core::hash::HashFault;
 use crypt_core::password::PasswordFault;
 use crypt_core::setting::MakeFault;
 use std::alloc::AllocError;
@@ -51,7 +52,7 @@ impl UsageFault {
             UsageFault::Parse(_) => "",
             UsageFault::Method => "unknown method",
             UsageFault::Make(fault) => fault.text(),
-            UsageFault::OutOfMemory => "out of memory",
+            UsageFault::OutOfMemory => HashFault::OutOfMemory.text(),
         }
     }
 }
@@ -97,6 +98,9 @@ pub enum RunFault {
     /// A write or a flush of an output failed.
     #[error("{}", self.text())]
     Write,
+    /// The memory of scrypt was refused.
+    #[error("{}", self.text())]
+    OutOfMemory,
     /// The run needs one more call to move bytes than it may make.
     #[error("{}", self.text())]
     Turns,
@@ -110,7 +114,7 @@ impl RunFault {
         ensures { result ≡ run_status self.now }
     {
         match self {
-            RunFault::Write | RunFault::Turns => 3,
+            RunFault::Write | RunFault::OutOfMemory | RunFault::Turns => 3,
         }
     }
 
@@ -120,7 +124,20 @@ impl RunFault {
     {
         match self {
             RunFault::Write => "write fault",
+            RunFault::OutOfMemory => HashFault::OutOfMemory.text(),
             RunFault::Turns => "too many turns",
+        }
+    }
+}
+
+impl From<HashFault> for RunFault {
+    ghost use Rattle.mkpasswd.specs.declared.faults.RunFault.TheVariants.{OutOfMemory};
+
+    ghost from_gives = { λ _ fault. fault ≡ OutOfMemory };
+
+    fn from(fault: HashFault) -> RunFault {
+        match fault {
+            HashFault::OutOfMemory => RunFault::OutOfMemory,
         }
     }
 }
@@ -256,6 +273,11 @@ mod tests {
                 "password has a zero byte",
             ),
             (Fault::from(RunFault::Write), 3, "write fault"),
+            (
+                Fault::from(RunFault::from(HashFault::OutOfMemory)),
+                3,
+                "out of memory",
+            ),
             (Fault::from(RunFault::Turns), 3, "too many turns"),
         ];
         for (fault, status, text) in rows {

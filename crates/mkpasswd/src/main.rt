@@ -40,7 +40,7 @@ fn plan_and_run(rt: &HostRuntime) -> Result<Tally, Fault> {
     let first = plan(rt.alloc(), words.as_slice())?;
     let password = Password::new(first.password.as_slice())?;
     let mut out = Output::new(rt.stdout());
-    Ok(run_first(&password, &first.setting, &mut out, TURNS)?)
+    Ok(run_first(rt.alloc(), &password, &first.setting, &mut out, TURNS)?)
 }
 
 /// The words after the program's name.

@@ -1,5 +1,5 @@
 //! The run for a single password: its hash and a line feed go to the output.
-ghost use Rattle.std.specs.Prelude.{◌≡◌, ◌≢◌, ◌-◌, ◌^◌, ◌<◌, ◌≤◌, length, IfOk, IfErr, OnOk, OnErr};
+ghost use Rattle.std.specs.Prelude.{◌≡◌, ◌-◌, ◌^◌, ◌<◌, ◌≤◌, length, IfOk, IfErr, OnOk, OnErr, IsErrOf};
 ghost use Rattle.crypt_core.specs.declared.method.Method.{Method};
 ghost use Rattle.std.specs.Io.KnownBytes.{Keeps};
 ghost use Rattle.crypt_core.specs.Settings.{method_of};
@@ -13,34 +13,37 @@ use crate::device::Output;
 use crate::faults::RunFault;
 use crate::tally::Tally;
 use arrayvec::ArrayVec;
-use crypt_core::hash::hash_free;
+use crypt_core::hash::{HashFault, hash};
 use crypt_core::password::Password;
 use crypt_core::setting::Setting;
 use prims_core::buffer::buffer_of;
 use prims_core::meter::Meter;
+use std::alloc::Global;
 use std::io::Write;
 
-/// Hashes a password by a setting of any method but scrypt, and gives the hash and a line feed to the output, in
-/// at most `turns` calls of `give`, failed ones among them. The flush at the end is not one of them. It
-/// takes no memory.
+/// Hashes a password by a setting, and gives the hash and a line feed to the output, in at most
+/// `turns` calls of `give`, failed ones among them. The flush at the end is not one of them.
 ///
-/// `Write` is answered after the first call of the output that fails, and `Turns` where one more `give`
-/// than `turns` is needed; the output has then taken the first bytes of the answer.
+/// `OutOfMemory` is answered where scrypt's memory was refused, and then nothing was given; no other
+/// method takes memory. `Write` is answered after the first call of the output that fails, and `Turns`
+/// where one more `give` than `turns` is needed; the output has then taken the first bytes of the
+/// answer.
 pub fn run_first<O: Write>(
+    alloc: Global,
     password: &Password,
     setting: &Setting,
     out: &mut Output<O>,
     turns: u64,
 ) -> Result<Tally, RunFault>
-    requires method { method_of setting.now.scheme ≢ Method.Scrypt }
     requires turns { turns ≤ 2 ^ 40 }
     requires room { HasRoomForRun out.old }
     ensures tally { IfOk result (λ tally. tally ≡ one_line) }
     ensures delivers { Delivers O.contents out.old out.new (hash_line password.now setting.now) result }
     ensures outcome { ShowsOutcome turns out.old out.new result }
     ensures within_turns { IsWithinTurns turns out.old out.new }
+    ensures memory { IsErrOf result RunFault.OutOfMemory → method_of setting.now.scheme ≡ Method.Scrypt }
 {
-    let answer = answer(password, setting);
+    let answer = answer(alloc, password, setting)?;
     send(out, answer.as_slice(), turns)?;
     finish(out)?;
     Ok(Tally {
@@ -51,14 +54,18 @@ pub fn run_first<O: Write>(
 }
 
 // The hash and a line feed.
-fn answer(password: &Password, setting: &Setting) -> ArrayVec<u8, 160>
-    requires { method_of setting.now.scheme ≢ Method.Scrypt }
-    ensures { result.items ≡ hash_line password.now setting.now }
+fn answer(
+    alloc: Global,
+    password: &Password,
+    setting: &Setting,
+) -> Result<ArrayVec<u8, 160>, HashFault>
+    ensures line { IfOk result (λ line. line.items ≡ hash_line password.now setting.now) }
+    ensures only_scrypt { OnErr result (method_of setting.now.scheme ≡ Method.Scrypt) }
 {
-    let hashed = hash_free(password, setting, &mut Meter::new()).unwrap();
+    let hashed = hash(alloc, password, setting, &mut Meter::new())?;
     let mut line = buffer_of(hashed.text());
     line.push(b'\n');
-    line
+    Ok(line)
 }
 
 // Gives the whole text, in as many calls as the device wants.

@@ -3,7 +3,7 @@
 ghost use Rattle.std.specs.Prelude.{◌≡◌, ◌≢◌};
 ghost use Rattle.crypt_core.specs.declared.method.Method.{Method as Methods};
 ghost use Rattle.crypt_core.specs.Settings.{method_of};
-ghost use Rattle.crypt_core.specs.Work.{HasRoom};
+ghost use Rattle.crypt_core.specs.Work.{HasDigestRoom};
 
 use super::*;
 use crate::method::Method;
@@ -339,7 +339,7 @@ fn setting_of(rt: &impl Abort, text: &str) -> Setting {
 
 // Reads a hash as a setting again.
 fn setting_again(password: &Password, setting: &Setting, meter: &mut Meter) -> Option<Setting>
-    requires room { HasRoom meter.old }
+    requires room { HasDigestRoom meter.old }
     requires method { method_of setting.now.scheme ≢ Method.Scrypt }
     ensures { result ≡ Some setting.now }
 {

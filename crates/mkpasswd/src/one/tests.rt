@@ -1,6 +1,4 @@
-ghost use Rattle.std.specs.Prelude.{◌≡◌, ◌≢◌, ◌^◌, ◌≤◌, ◌++◌, OnOk};
-ghost use Rattle.crypt_core.specs.declared.method.Method.{Method};
-ghost use Rattle.crypt_core.specs.Settings.{method_of};
+ghost use Rattle.std.specs.Prelude.{◌≡◌, ◌^◌, ◌≤◌, ◌++◌, OnOk};
 ghost use Rattle.mkpasswd.specs.Answers.{hash_line};
 
 use super::run_first;
@@ -30,18 +28,18 @@ const ANSWER: &str = "$1$xxxxxxxx$UYCIxa628.9qXjpQCjM4a.\n";
 // Runs on a writer that tells its bytes, and answers what the run did and the writer. That an answer
 // stands there whole follows from the clauses of `run_first` alone.
 fn run_on(
+    alloc: Global,
     password: &Password,
     setting: &Setting,
     writer: MemoryWriter,
     turns: u64,
 ) -> (Result<Tally, RunFault>, MemoryWriter)
-    requires method { method_of setting.now.scheme ≢ Method.Scrypt }
-    requires turns { turns ≤ 2 ^ 40 }
+    requires { turns ≤ 2 ^ 40 }
     ensures { OnOk result.0
         (result.1.taken.items ≡ writer.taken.items ++ hash_line password.now setting.now) }
 {
     let mut out = Output::new(writer);
-    let outcome = run_first(password, setting, &mut out, turns);
+    let outcome = run_first(alloc, password, setting, &mut out, turns);
     (outcome, out.into_inner())
 }
 
@@ -57,13 +55,13 @@ fn run_words(
     let first = plan(alloc, words.as_slice())?;
     let password = Password::new(first.password.as_slice()).expect(rt, "a password");
     assert!(rt; turns <= 1 << 40);
-    Ok(run_on(&password, &first.setting, writer, turns))
+    Ok(run_on(alloc, &password, &first.setting, writer, turns))
 }
 
-// Published texts: of openssl-passwd(1), and of Drepper's specification.
+// Published texts: of openssl-passwd(1), and of Drepper's specification with its own number of rounds.
 #[test]
 fn prints_the_hash(rt: HostRuntime) -> Result<(), Fail> {
-    let rows: [(&[&str], &str); 4] = [
+    let rows: [(&[&str], &str); 5] = [
         (
             &["-m", "md5crypt", "-S", "xxxxxxxx", "password"],
             "$1$xxxxxxxx$UYCIxa628.9qXjpQCjM4a.\n",
@@ -79,6 +77,11 @@ fn prints_the_hash(rt: HostRuntime) -> Result<(), Fail> {
         (
             &["-m", "sha-512", "-S", "saltstring", "Hello world!"],
             "$6$saltstring$svn8UoSVapNtMuq1ukKS4tPQd8iKwSMHWjl/O817G3uBnIFNjnQJuesI68u4OTLiBFdcbYEdFCoEOfaS35inz1\n",
+        ),
+        // libxcrypt's text.
+        (
+            &["-m", "scrypt", "-S", "ab", "x"],
+            "$7$CU..../....ab$TioQ/OazCAbGpb/E7e054xV/7lAamSWFPOGclTgvmt0\n",
         ),
     ];
     for (words, line) in rows {
