@@ -1,2 +1,6 @@
 pub mod AlphabetFacts
+pub mod ChunkFacts
+pub mod MatrixFacts
+pub mod MixFacts
 pub mod NumeralFacts
+pub mod WordFacts

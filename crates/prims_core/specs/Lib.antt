@@ -1,5 +1,7 @@
 pub mod Alphabet
+pub mod BlockMix
 pub mod Digests
 pub mod Meter
 pub mod Private
+pub mod Salsa
 pub mod Words

@@ -91,6 +91,14 @@ impl Meter {
     {
         self.digests += 1;
     }
+
+    /// Counts a mixing of a scrypt block.
+    pub(crate) fn count_mix(&mut self)
+        requires { self.old.mixes + 1 < 2 ^ 128 }
+        ensures { self.new ≡ record self.old { mixes = self.old.mixes + 1 } }
+    {
+        self.mixes += 1;
+    }
 }
 
 #[cfg(test)]
