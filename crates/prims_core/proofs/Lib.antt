@@ -1,2 +1,3 @@
 pub mod AlphabetFacts
 pub mod NumeralFacts
+pub mod RowFacts

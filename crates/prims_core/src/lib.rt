@@ -6,4 +6,6 @@ pub mod alphabet;
 pub mod buffer;
 pub mod counted;
 pub mod meter;
+pub mod scratch;
+pub mod table;
 pub mod words;
