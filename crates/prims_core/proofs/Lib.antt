@@ -3,4 +3,5 @@ pub mod ChunkFacts
 pub mod MatrixFacts
 pub mod MixFacts
 pub mod NumeralFacts
+pub mod RowFacts
 pub mod WordFacts

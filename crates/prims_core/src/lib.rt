@@ -8,4 +8,6 @@ pub mod counted;
 pub mod meter;
 pub mod mix;
 pub mod salsa;
+pub mod scratch;
+pub mod table;
 pub mod words;
