@@ -1,12 +1,12 @@
 -- Block mixing: the chain of results, and their order.
-use Rattle.std.proofs.Common.{◌≡◌, ◌≢◌, ℕ, zero, suc, ◌+◌, ◌-◌, ◌*◌, ◌/◌, ◌%◌, ◌<◌, ◌≤◌, ◌⊎◌, inl, inr, List, [], ◌∷◌, ◌++◌, length, take, drop, get_or, refl, sym, ◌∙◌, ap, add-one, arith}
+use Rattle.std.proofs.Common.{◌≡◌, ℕ, zero, suc, ◌+◌, ◌-◌, ◌*◌, ◌/◌, ◌%◌, ◌<◌, ◌≤◌, ◌⊎◌, inl, inr, List, [], ◌∷◌, ◌++◌, length, take, drop, get_or, refl, sym, ◌∙◌, ap, add-one, arith}
 use borrow.Rule.Slice.PartMut.{put_mid}
 use Rattle.std.specs.List.{concat, scan}
 use Rattle.std.proofs.lemmas.Bool.{cases_lt}
 use Rattle.std.proofs.lemmas.Slice.{between-put_mid, drop-put_mid, take-put_mid_below}
 use Rattle.std.proofs.lemmas.List.{take_all, drop-take, get_or-drop, get_or_append_left, get_or-append_right, length-append, length-drop}
 use Rattle.prims_core.specs.Words.{chunks_exact}
-use Rattle.prims_core.specs.BlockMix.{mixed_block, mixed_blocks, at_even_places, at_odd_places, block_mix}
+use Rattle.prims_core.specs.BlockMix.{mixed_block, mixed_blocks, at_even_places, at_odd_places}
 use Rattle.prims_core.proofs.ChunkFacts.{joined_from_pieces, length-chunks_exact, get_or-chunks_exact}
 
 length-scan : (f : List ℕ → List ℕ → List ℕ) (a : List ℕ) (xs : List (List ℕ))

@@ -5,6 +5,8 @@
 pub mod alphabet;
 pub mod buffer;
 pub mod counted;
+#[cfg(test)]
+mod hexadecimal;
 pub mod meter;
 pub mod mix;
 pub mod salsa;

@@ -10,6 +10,9 @@ ghost use Rattle.prims_core.specs.Words.{xor_words};
 use crate::meter::Meter;
 use crate::salsa::{BLOCK_WORDS, salsa8};
 
+#[cfg(test)]
+mod tests;
+
 /// Mixes the 2r blocks of `src` into `dst`, and counts one mixing.
 ///
 /// Both have the 32r words of 2r blocks, for one r of at least 1, and the meter has room.

@@ -10,8 +10,11 @@ ghost use Rattle.std.specs.Simd.Lanes.{zip2};
 ghost use Rattle.prims_core.specs.Words.{chunks_exact};
 ghost use Rattle.prims_core.specs.Salsa.{sum_of_words, quarter_round, column_round, row_round, double_round, salsa20_8};
 
+#[cfg(test)]
+mod tests;
+
 /// The words of a block of 64 bytes.
-pub const BLOCK_WORDS: usize = 16;
+pub(crate) const BLOCK_WORDS: usize = 16;
 
 /// Salsa20/8 of the sixteen words of a block, in place: each word is added to its word after eight
 /// rounds.

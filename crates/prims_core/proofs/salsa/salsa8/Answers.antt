@@ -1,4 +1,4 @@
-use Rattle.std.proofs.Common.{ap, ◌∙◌, sym, arith, ◌≡◌, length}
+use Rattle.std.proofs.Common.{ap, ◌∙◌, sym, arith}
 use Rattle.std.specs.Simd.Lanes.{zip2}
 use Rattle.std.specs.List.{concat}
 use Rattle.prims_core.specs.Salsa.{sum_of_words, salsa20_8}
