@@ -42,7 +42,8 @@ block-more password salt i rounds some =
     ap (λ n. fold xor_bytes (u 1) (map u (range_with_len 2 n))) count
     ∙ (ap (fold xor_bytes (u 1)) more ∙ fold-append xor_bytes (u 1) (map u (range_with_len 2 (rounds - 1))) (u (rounds + 1) ∷ []))
 
-range-more : (a n : ℕ) → range_with_len a (n + 1) ≡ range_with_len a n ++ (a + n) ∷ []
+-- a number more
+pub range-more : (a n : ℕ) → range_with_len a (n + 1) ≡ range_with_len a n ++ (a + n) ∷ []
 range-more a zero = ap (λ (k : ℕ). k ∷ []) (omega arith)
 range-more a (suc n) =
     let next : suc n + 1 ≡ suc (n + 1) = omega arith in

@@ -2,3 +2,5 @@ pub mod Hmac
 pub mod ParamFaults
 pub mod Params
 pub mod Pbkdf2
+pub mod Private
+pub mod Scrypt

@@ -5,4 +5,5 @@
 pub mod hmac;
 pub mod params;
 pub mod pbkdf2;
+pub mod scrypt;
 mod xor;

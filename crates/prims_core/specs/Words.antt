@@ -1,9 +1,28 @@
--- Numbers as bytes, and strings of bytes under exclusive or.
-use Rattle.std.specs.Prelude.{List, ℕ, bit_xor}
+-- Numbers as bytes, bytes as words, and lists of either under exclusive or.
+use Rattle.std.specs.Prelude.{ℕ, ◌*◌, ◌/◌, List, length, take, drop, map, bit_xor}
+use Rattle.std.specs.List.{flat_map, range_with_len}
 use Rattle.std.specs.Simd.Lanes.{zip2}
--- the lowest bytes of a number, as many as are wanted, the highest of them first
-pub use Rattle.byteorder.specs.Endian.{big_bytes}
+-- the lowest bytes of a number, as many as are wanted, the highest of them first; the same with the
+-- lowest of them first; and the number that so many bytes are, the lowest first
+pub use Rattle.byteorder.specs.Endian.{big_bytes, little_bytes, little_number}
 
 -- the exclusive or of two strings of one length, byte by byte
 unfoldable pub xor_bytes : List ℕ → List ℕ → List ℕ
 xor_bytes xs ys = zip2 bit_xor xs ys
+
+-- the exclusive or of two lists of words of one length, word by word
+unfoldable pub xor_words : List ℕ → List ℕ → List ℕ
+xor_words xs ys = zip2 bit_xor xs ys
+
+-- the pieces of so many items that a list is made of, in order
+unfoldable pub chunks_exact : List ℕ → ℕ → List (List ℕ)
+chunks_exact items size =
+    map (λ i. take size (drop (size * i) items)) (range_with_len 0 (length items / size))
+
+-- the 32-bit words of bytes, each of four bytes, the lowest byte first (RFC 7914, section 3)
+unfoldable pub words_of : List ℕ → List ℕ
+words_of bytes = map (little_number 4) (chunks_exact bytes 4)
+
+-- the bytes of 32-bit words, in the same order
+unfoldable pub bytes_of_words : List ℕ → List ℕ
+bytes_of_words words = flat_map (little_bytes 4) words

@@ -5,5 +5,11 @@
 pub mod alphabet;
 pub mod buffer;
 pub mod counted;
+#[cfg(test)]
+mod hexadecimal;
 pub mod meter;
+pub mod mix;
+pub mod salsa;
+pub mod scratch;
+pub mod table;
 pub mod words;

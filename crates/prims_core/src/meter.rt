@@ -91,6 +91,30 @@ impl Meter {
     {
         self.digests += 1;
     }
+
+    /// Counts a mixing of a scrypt block.
+    pub(crate) fn count_mix(&mut self)
+        requires { self.old.mixes + 1 < 2 ^ 128 }
+        ensures { self.new ≡ record self.old { mixes = self.old.mixes + 1 } }
+    {
+        self.mixes += 1;
+    }
+
+    /// Counts so many bytes of a scrypt table.
+    pub(crate) fn count_table(&mut self, bytes: usize)
+        requires { self.old.table + bytes < 2 ^ 128 }
+        ensures { self.new ≡ record self.old { table = self.old.table + bytes } }
+    {
+        self.table += bytes as u128;
+    }
+
+    /// Counts so many bytes of scrypt's scratch memory.
+    pub(crate) fn count_scratch(&mut self, bytes: usize)
+        requires { self.old.scratch + bytes < 2 ^ 128 }
+        ensures { self.new ≡ record self.old { scratch = self.old.scratch + bytes } }
+    {
+        self.scratch += bytes as u128;
+    }
 }
 
 #[cfg(test)]

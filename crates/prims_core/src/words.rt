@@ -1,9 +1,12 @@
 //! Numbers as bytes, in the order that a standard asks for.
+//!
+//! Block numbers are written with the highest byte first (RFC 8018), and the words of scrypt's blocks
+//! with the lowest byte first (RFC 7914).
 
-ghost use Rattle.std.specs.Prelude.{◌≡◌};
-ghost use Rattle.prims_core.specs.Words.{big_bytes};
+ghost use Rattle.std.specs.Prelude.{◌≡◌, ◌*◌, length};
+ghost use Rattle.prims_core.specs.Words.{big_bytes, bytes_of_words, words_of};
 
-use byteorder::{BigEndian, ByteOrder};
+use byteorder::{BigEndian, ByteOrder, LittleEndian};
 
 /// The four bytes of a number, the highest first, as RFC 8018, section 5.2, writes the number of a
 /// block.
@@ -13,6 +16,24 @@ pub fn number_be(number: u32) -> [u8; 4]
     let mut bytes = [0; 4];
     BigEndian::write_u32(&mut bytes, number);
     bytes
+}
+
+/// Fills `words` with the words of `bytes`, each of four bytes, the lowest first, as RFC 7914,
+/// section 3, reads a block.
+pub fn load_words(bytes: &[u8], words: &mut [u32])
+    requires { length bytes.now ≡ 4 * length words.old }
+    ensures { words.new ≡ words_of bytes.now }
+{
+    LittleEndian::read_u32_into(bytes, words);
+}
+
+/// Fills `bytes` with the bytes of `words`, four of each, the lowest first: the way back from
+/// [`load_words`].
+pub fn store_words(words: &[u32], bytes: &mut [u8])
+    requires { length bytes.old ≡ 4 * length words.now }
+    ensures { bytes.new ≡ bytes_of_words words.now }
+{
+    LittleEndian::write_u32_into(words, bytes);
 }
 
 #[cfg(test)]
@@ -29,6 +50,26 @@ mod tests {
             (0xffff_ffff, [0xff, 0xff, 0xff, 0xff]),
         ] {
             assert_eq!(rt; number_be(number), bytes, "of {number}");
+        }
+    }
+
+    #[test]
+    fn lowest_byte_first(rt: HostRuntime) {
+        for (bytes, words) in [
+            ([1, 0, 0, 0, 0, 0, 0, 0], [1, 0]),
+            ([0, 0, 0, 1, 0, 1, 0, 0], [0x0100_0000, 0x0100]),
+            (
+                [0x67, 0x45, 0x23, 0x01, 0xef, 0xcd, 0xab, 0x89],
+                [0x0123_4567, 0x89ab_cdef],
+            ),
+            ([0xff; 8], [0xffff_ffff; 2]),
+        ] {
+            let mut loaded = [7; 2];
+            load_words(&bytes, &mut loaded);
+            assert_eq!(rt; loaded, words, "words of {bytes:?}");
+            let mut stored = [7; 8];
+            store_words(&words, &mut stored);
+            assert_eq!(rt; stored, bytes, "bytes of {words:?}");
         }
     }
 }

@@ -4,17 +4,8 @@ ghost use Rattle.std.specs.Prelude.{◌≡◌, ◌+◌, ◌^◌, ◌<◌, ◌++�
 ghost use Rattle.prims_core.specs.Digests.{md5};
 
 use super::*;
-use std::alloc::{AllocError, Global};
+use crate::hexadecimal::hexadecimal;
 use std::test::Fail;
-
-// A digest in hexadecimal, as the standards print it.
-fn hexadecimal(alloc: Global, digest: &[u8]) -> Result<String, AllocError> {
-    let mut text = String::new(alloc);
-    for byte in digest {
-        text.push_str(&format!(in alloc; "{byte:02x}")?)?;
-    }
-    Ok(text)
-}
 
 // The digest of two pieces, under any digest.
 fn digest_of_two<C: Counted>(meter: &mut Meter, first: &[u8], second: &[u8]) -> ArrayVec<u8, 64>

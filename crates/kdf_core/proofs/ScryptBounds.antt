@@ -1,0 +1,90 @@
+-- What the ceiling on N * r * p bounds.
+use Rattle.std.proofs.Common.{◌≡◌, ℕ, ◌+◌, ◌-◌, ◌*◌, ◌^◌, ◌<◌, ◌≤◌, ap, ◌∙◌, true, false, nat_lt, if◌then◌else◌, arith}
+use Rattle.std.proofs.Math.Nat.{le-mul_of_pos_right, mul-le-mul_right, lt_of_not-le}
+use Rattle.std.proofs.Math.Pow.{pow_mono}
+use Rattle.kdf_core.specs.Params.{ScryptCost, IsAccepted}
+use Rattle.kdf_core.specs.Private.Mixing.{IsPower}
+use Rattle.kdf_core.specs.Hmac.{key_bytes}
+use Rattle.kdf_core.specs.Pbkdf2.{block_bytes, pbkdf2_bytes}
+use Rattle.kdf_core.specs.Scrypt.{rows, parts_bytes, table_bytes}
+use Rattle.std.specs.Int.{div_ceil}
+use Rattle.kdf_core.proofs.Ceiling.{above_from_24}
+
+-- the numbers of scrypt, each below its bound
+pub record IsBounded (cost : ScryptCost) : Type 0 where
+  pub log : cost.log_n < 24
+  pub two_rows : 2 ≤ rows cost
+  pub table : rows cost * cost.r ≤ 2 ^ 23
+  pub parts : cost.r * cost.p ≤ 2 ^ 22
+  pub blocks : cost.r ≤ 2 ^ 22
+  pub some_block : 1 ≤ cost.r
+  pub some_part : 1 ≤ cost.p
+  pub mixes : rows cost * cost.p ≤ 2 ^ 23
+
+pub bounded : (cost : ScryptCost) → IsAccepted cost → IsBounded cost
+bounded cost accepted =
+    let n = rows cost in
+    let r = cost.r in
+    let p = cost.p in
+    let some_r : 0 < r = accepted.in_range.some_block in
+    let some_p : 0 < p = accepted.in_range.some_part in
+    let two : 2 ≤ n = let mono : 2 ^ 1 ≤ 2 ^ cost.log_n = pow_mono accepted.in_range.above_one in omega (arith, mono) in
+    let within : n * r * p ≤ 8388608 = accepted.within in
+    let table : n * r ≤ n * r * p = le-mul_of_pos_right (n * r) some_p in
+    let mixes : n * p ≤ n * p * r = le-mul_of_pos_right (n * p) some_r in
+    let parts : 2 * (r * p) ≤ n * (r * p) = mul-le-mul_right (r * p) two in
+    let blocks : r ≤ r * p = le-mul_of_pos_right r some_p in
+    record {
+      log = lt_of_not-le (λ high. above_from_24 cost.log_n r p high some_r some_p within);
+      two_rows = two;
+      table = omega arith;
+      parts = omega arith;
+      blocks = omega arith;
+      some_block = omega arith;
+      some_part = omega arith;
+      mixes = omega arith;
+    }
+
+-- N as a power
+pub rows_power : (cost : ScryptCost) (n : ℕ) → IsAccepted cost → n ≡ rows cost → IsPower n cost.log_n
+rows_power cost n accepted is =
+    let log = (bounded cost accepted).log in
+    record { power = is; above_one = accepted.in_range.above_one; most = omega arith }
+
+-- the bytes of all parts, by the numbers as they are read
+pub parts-product : (cost : ScryptCost) (r p : ℕ) → r ≡ cost.r → p ≡ cost.p → 128 * r * p ≡ parts_bytes cost
+parts-product cost r p r_is p_is = ap (λ n. 128 * n * p) r_is ∙ ap (λ n. 128 * cost.r * n) p_is
+
+pub parts-fit : (cost : ScryptCost) → IsAccepted cost → parts_bytes cost ≤ 2 ^ 29
+parts-fit cost accepted = omega (arith, (bounded cost accepted).parts)
+
+-- and the blocks of a digest in them
+pub parts-blocks : (cost : ScryptCost) → div_ceil (parts_bytes cost) 32 ≡ 4 * (cost.r * cost.p)
+parts-blocks cost =
+    let product : parts_bytes cost ≡ 32 * (4 * (cost.r * cost.p)) = omega arith in
+    ap (λ n. div_ceil n 32) product ∙ omega arith
+
+pub key_bytes-le : (length : ℕ) → key_bytes length ≤ length
+key_bytes-le length =
+    elim (nat_lt 64 length) as (λ b. (if b then 1 else 0) * length ≤ length) [ true ↦ omega arith | false ↦ omega arith ]
+
+-- the bytes that are digested stay far below 2 ^ 128
+pub bytes-fit : (before key blocks each more last : ℕ) → before ≤ 2 ^ 120 → key < 2 ^ 64 → blocks ≤ 2 ^ 24 → each ≤ 2 ^ 65
+    → more ≤ 2 ^ 33 → last ≤ 2 ^ 31 → before + key + blocks * each + more * last < 2 ^ 128
+bytes-fit before key blocks each more last a b c d e f =
+    let derived : blocks * each ≤ 2 ^ 24 * each = mul-le-mul_right each c in
+    let answer : more * last ≤ 2 ^ 33 * last = mul-le-mul_right last e in
+    omega arith
+
+pub table-product : (cost : ScryptCost) (n r : ℕ) → n ≡ rows cost → r ≡ cost.r → 4 * (n * (32 * r)) ≡ table_bytes cost
+table-product cost n r n_is r_is =
+    ap (λ k. 4 * (k * (32 * r))) n_is ∙ (ap (λ k. 4 * (rows cost * (32 * k))) r_is ∙ omega arith)
+
+-- so there is room for all bytes
+pub all_bytes-fit : (before password_length salt_length count first last : ℕ) (cost : ScryptCost) → IsAccepted cost → before ≤ 2 ^ 120
+    → password_length < 2 ^ 64 → salt_length < 2 ^ 64 → count ≤ 32 * (2 ^ 32 - 1) → first ≡ parts_bytes cost → last ≡ parts_bytes cost
+    → before + key_bytes password_length + pbkdf2_bytes salt_length 1 first + pbkdf2_bytes last 1 count < 2 ^ 128
+all_bytes-fit before password_length salt_length count first last cost accepted a b c d first_is last_is =
+    let fit : parts_bytes cost ≤ 2 ^ 29 = parts-fit cost accepted in
+    bytes-fit before (key_bytes password_length) (div_ceil first 32) (block_bytes salt_length 1) (div_ceil count 32) (block_bytes last 1) a
+    (omega (arith, key_bytes-le password_length)) (omega arith) (omega arith) (omega arith) (omega arith)

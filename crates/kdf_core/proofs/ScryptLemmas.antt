@@ -1,0 +1,163 @@
+-- Integerify by one word, mixings one by one, and what a table holds while it is filled.
+use Rattle.std.proofs.Common.{◌≡◌, ℕ, zero, suc, ◌+◌, ◌-◌, ◌*◌, ◌^◌, ◌%◌, ◌<◌, ◌≤◌, ◌≢◌, List, [], ◌∷◌, ◌++◌, length, get_or, set, take, drop, refl, sym, ap, ◌∙◌, arith, below_more, get_or-set_other, get_or-set_same, length-set, subst, ◌/◌}
+use Rattle.std.specs.Fn.{iterate}
+use Rattle.std.specs.List.{flat_map, range_with_len}
+use Rattle.std.proofs.lemmas.Grind.{common_steps, flat_map-append}
+use Rattle.std.proofs.lemmas.List.{append-nil, drop-drop, take_all}
+use Rattle.std.proofs.lemmas.List.Folds.{flat_map-map}
+use borrow.Rule.Slice.PartMut.{put_mid}
+use Rattle.std.proofs.lemmas.Slice.{take-put_mid, drop-put_mid}
+use Rattle.std.proofs.lemmas.Nat.{pow-add, pow_pos}
+use Rattle.std.proofs.Math.Nat.{add-mul-mod_self_left, mul-div_cancel, mul_assoc}
+use Rattle.std.proofs.Math.Seq.{drop-cons}
+use Rattle.prims_core.specs.BlockMix.{block_mix}
+use Rattle.prims_core.specs.Meter.{Counts}
+use Rattle.prims_core.specs.Words.{chunks_exact}
+use Rattle.kdf_core.proofs.Pbkdf2Lemmas.{range-more}
+use Rattle.kdf_core.specs.Private.Mixing.{HasShape, HoldsMixings, IsPower, first_parts}
+use Rattle.kdf_core.specs.Scrypt.{number_of_words, integerify, mixed_part, mixed_parts}
+
+-- one application more
+pub iterate-more : (h : List ℕ → List ℕ) (n : ℕ) (x : List ℕ) → iterate h (n + 1) x ≡ h (iterate h n x)
+iterate-more h zero x = refl
+iterate-more h (suc n) x =
+    let next : suc n + 1 ≡ suc (n + 1) = omega arith in
+    ap (λ k. iterate h k x) next ∙ iterate-more h n (h x)
+
+-- the last block's number modulo a power of two is that of its first word
+pub integerify-mod : (words : List ℕ) (k : ℕ) → 16 ≤ length words → k ≤ 32
+    → integerify words % 2 ^ k ≡ get_or words (length words - 16) 0 % 2 ^ k
+unfolding integerify number_of_words
+integerify-mod words k some most =
+    let at = length words - 16 in
+    let inside : at < length words = omega arith in
+    let above : ℕ = number_of_words (drop (suc at) words) in
+    let bits : 32 ≡ k + (32 - k) = omega arith in
+    let power : 2 ^ 32 ≡ 2 ^ k * 2 ^ (32 - k) = ap (λ e. 2 ^ e) bits ∙ pow-add 2 k (32 - k) in
+    let rest : 2 ^ 32 * above ≡ 2 ^ k * (2 ^ (32 - k) * above) = ap (λ q. q * above) power ∙ mul_assoc (2 ^ k) (2 ^ (32 - k)) above in
+    ap (λ ws. number_of_words ws % 2 ^ k) (drop-cons words at 0 inside)
+    ∙ (ap (λ n. (get_or words at 0 + n) % 2 ^ k) rest
+    ∙ add-mul-mod_self_left (get_or words at 0) (2 ^ k) (2 ^ (32 - k) * above))
+
+-- the length of a row, where one is set
+length-row : (table : List (List ℕ)) (i : ℕ) (row : List ℕ) (k words : ℕ) → length row ≡ words → length (get_or table k []) ≡ words → i < length table
+    → length (get_or (set table i row) k []) ≡ words
+length-row table i row k words same before inside = grind (arith, common_steps)
+
+-- two applications more
+pub iterate-two_more : (h : List ℕ → List ℕ) (n : ℕ) (x a b c : List ℕ) → a ≡ iterate h (2 * n) x → b ≡ h a → c ≡ h b
+    → c ≡ iterate h (2 * (n + 1)) x
+iterate-two_more h n x a b c is first second =
+    let all : 2 * n + 1 + 1 ≡ 2 * (n + 1) = omega arith in
+    let once : b ≡ iterate h (2 * n + 1) x = first ∙ (ap h is ∙ sym (iterate-more h (2 * n) x)) in
+    second ∙ (ap h once ∙ (sym (iterate-more h (2 * n + 1) x) ∙ ap (λ k. iterate h k x) all))
+
+-- N is even
+pub even : (rows k : ℕ) → IsPower rows k → 2 * (rows / 2) ≡ rows
+even rows k is =
+    let next : k ≡ 1 + (k - 1) = omega (arith, is.above_one) in
+    let twice : rows ≡ 2 * 2 ^ (k - 1) = is.power ∙ (ap (λ e. 2 ^ e) next ∙ pow-add 2 1 (k - 1)) in
+    omega (arith, twice)
+
+pub some_row : (rows k : ℕ) → IsPower rows k → 0 < rows
+some_row rows k is = omega (arith, is.power, pow_pos k)
+
+-- a table of which so many rows are filled, with B at `start` and the mixings after those in `last`
+pub record IsFilled (table : List (List ℕ)) (rows count : ℕ) (start last : List ℕ) : Type 0 where
+  pub shape : HasShape table rows (length start)
+  pub held : HoldsMixings table count start
+  pub mixed : last ≡ iterate block_mix count start
+
+-- a row more
+pub filled-more : (old new : List (List ℕ)) (rows count : ℕ) (start last next : List ℕ) → IsFilled old rows count start last
+    → length last ≡ length start → count < rows → new ≡ set old count last → next ≡ block_mix last
+    → IsFilled new rows (count + 1) start next
+filled-more old new rows count start last next before same inside is mixed =
+    let within : count < length old = omega (arith, before.shape.row_count) in
+    let length_is : length (set old count last) ≡ length old = length-set old count last in
+    let after : IsFilled (set old count last) rows (count + 1) start next = record {
+      shape = record {
+        row_count = length_is ∙ before.shape.row_count;
+        row_words = λ k h. length-row old count last k (length start) same (before.shape.row_words k h) within;
+      };
+      held = below_more _ _
+          (λ k h. let other : k ≢ count = omega arith in rw get_or-set_other (before.held k h))
+          (rw get_or-set_same before.mixed);
+      mixed = mixed ∙ (ap block_mix before.mixed ∙ sym (iterate-more block_mix count start));
+    } in
+    subst (λ (t : List (List ℕ)). IsFilled t rows (count + 1) start next) (sym is) after
+
+-- no mixing at first
+pub mixes-none : (m : Counts) (n : ℕ) → m ≡ record m { mixes = m.mixes + n * 0 }
+mixes-none m n = let none : m.mixes ≡ m.mixes + n * 0 = omega arith in ap (λ k. record m { mixes = k }) none
+
+-- the mixings of two calls
+pub mixes-more : (a b c : Counts) (m n all : ℕ) → b ≡ record a { mixes = a.mixes + m } → c ≡ record b { mixes = b.mixes + n } → m + n ≡ all
+    → c ≡ record a { mixes = a.mixes + all }
+mixes-more a b c m n all first then sum =
+    let whole : a.mixes + m + n ≡ a.mixes + all = omega arith in
+    then ∙ (ap (λ (x : Counts). record x { mixes = x.mixes + n }) first ∙ ap (λ k. record a { mixes = k }) whole)
+
+-- no part at first
+pub parts_done-none : (n size : ℕ) (bytes : List ℕ) → take (size * 0) bytes ≡ first_parts n size bytes 0
+unfolding first_parts
+parts_done-none n size bytes = let none : size * 0 ≡ 0 = omega arith in ap (λ m. take m bytes) none
+
+-- a part more
+first_parts-more : (n size : ℕ) (bytes : List ℕ) (i : ℕ)
+    → first_parts n size bytes (i + 1) ≡ first_parts n size bytes i ++ mixed_part n (take size (drop (size * i) bytes))
+unfolding first_parts
+first_parts-more n size bytes i =
+    let each = λ (k : ℕ). mixed_part n (take size (drop (size * k) bytes)) in
+    let here : 0 + i ≡ i = omega arith in
+    ap (flat_map each) (range-more 0 i)
+    ∙ (flat_map-append each (range_with_len 0 i) ((0 + i) ∷ [])
+    ∙ (ap (λ k. flat_map each (range_with_len 0 i) ++ (each k ++ [])) here
+    ∙ ap (λ (b : List ℕ). flat_map each (range_with_len 0 i) ++ b) (append-nil (each i))))
+
+-- the parts in front, where one more is written behind them
+pub parts_done-more : (n size i k : ℕ) (start old part : List ℕ) → size * i + size ≤ length old → k ≡ size
+    → take (size * i) old ≡ first_parts n size start i → drop (size * i) old ≡ drop (size * i) start
+    → part ≡ mixed_part n (take k (drop (size * i) old)) → length part ≡ size
+    → take (size * (i + 1)) (put_mid (size * i) k old part) ≡ first_parts n size start (i + 1)
+parts_done-more n size i k start old part inside k_is done to_come is length_is =
+    let at = size * i in
+    let place : size * (i + 1) ≡ at + size = omega arith in
+    let end : at + size ≡ at + length part = omega arith in
+    let within : at ≤ length old = omega arith in
+    let read : take k (drop at old) ≡ take size (drop at start) = ap (λ m. take m (drop at old)) k_is ∙ ap (take size) to_come in
+    ap (λ m. take m (put_mid at k old part)) place
+    ∙ (take-put_mid at k old part (at + size) end within
+    ∙ (ap (λ (front : List ℕ). front ++ part) done
+    ∙ (ap (λ (b : List ℕ). first_parts n size start i ++ b) (is ∙ ap (mixed_part n) read)
+    ∙ sym (first_parts-more n size start i))))
+
+-- and the parts behind them
+pub parts_to_come-more : (size i k : ℕ) (start old part : List ℕ) → size * i + size ≤ length old → k ≡ size
+    → drop (size * i) old ≡ drop (size * i) start → length part ≡ size
+    → drop (size * (i + 1)) (put_mid (size * i) k old part) ≡ drop (size * (i + 1)) start
+parts_to_come-more size i k start old part inside k_is to_come length_is =
+    let at = size * i in
+    let place : size * (i + 1) ≡ at + size = omega arith in
+    let end : at + k ≤ at + size = omega arith in
+    let within : at ≤ length old = omega arith in
+    let same : length part ≡ k = omega arith in
+    ap (λ m. drop m (put_mid at k old part)) place
+    ∙ (drop-put_mid at k old part (at + size) end within same
+    ∙ (sym (drop-drop size at old)
+    ∙ (ap (drop size) to_come
+    ∙ (drop-drop size at start ∙ ap (λ m. drop m start) (sym place)))))
+
+-- all parts
+pub parts-all : (n size count : ℕ) (start old : List ℕ) → 0 < size → length start ≡ size * count → length old ≡ length start
+    → take (size * count) old ≡ first_parts n size start count → old ≡ mixed_parts n size start
+unfolding mixed_parts chunks_exact first_parts
+parts-all n size count start old some whole same done =
+    let within : length old ≤ size * count = omega arith in
+    let turned : size * count ≡ count * size = omega arith in
+    let quotient : length start / size ≡ count = ap (λ m. m / size) (whole ∙ turned) ∙ mul-div_cancel count some in
+    let cut = λ (i : ℕ). take size (drop (size * i) start) in
+    sym (take_all (size * count) old within)
+    ∙ (done
+    ∙ (ap (λ m. first_parts n size start m) (sym quotient)
+    ∙ sym (flat_map-map (mixed_part n) cut (range_with_len 0 (length start / size)))))

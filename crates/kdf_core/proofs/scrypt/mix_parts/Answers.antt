@@ -1,0 +1,42 @@
+use Rattle.std.proofs.Common.{◌≡◌, ◌+◌, ◌*◌, ◌/◌, ◌≤◌, ◌-◌, ◌∙◌, ℕ, length, take, drop, length-take, length-drop, subst, refl, arith}
+use Rattle.std.proofs.Math.Nat.{mul-le-mul_left}
+use Rattle.kdf_core.specs.Private.Mixing.{HasShape, first_parts}
+use Rattle.kdf_core.proofs.ScryptLemmas.{parts_done-none, parts_done-more, parts_to_come-more, parts-all, mixes-none, mixes-more}
+use Rattle.kdf_core.proofs.scrypt.mix_parts.Goals as goal
+
+pub parts-init : goal.parts-init
+parts-init c = record {
+  done = parts_done-none c.args.rows (2 * length c.args.halves.now) c.args.parts.now;
+  to_come = refl;
+  shape = c.requires.shape;
+  count = mixes-none c.args.meter.now (2 * c.args.rows);
+}
+
+pub parts-preserved : goal.parts-preserved
+parts-preserved c =
+    let size = 2 * length c.args.halves.now in
+    let i = c.parts.i in
+    let parts = c.parts.parts in
+    let before = c.parts.invariant in
+    let next : i + 1 ≤ c.args.count = omega arith in
+    let inside : size * i + size ≤ length parts = omega (arith, c.parts.auto.parts, c.requires.whole, mul-le-mul_left size next) in
+    let width : size * i + size - size * i ≡ size = omega arith in
+    let same : length c.mix_part.new.part ≡ size =
+    c.mix_part.auto.part ∙ omega (arith, length-take (size * i + size - size * i) (drop (size * i) parts), length-drop (size * i) parts) in
+    record {
+      done = parts_done-more c.args.rows size i (size * i + size - size * i) c.args.parts.now parts c.mix_part.new.part inside width
+          before.done before.to_come c.mix_part.ensures.part same;
+      to_come = parts_to_come-more size i (size * i + size - size * i) c.args.parts.now parts c.mix_part.new.part inside width
+          before.to_come same;
+      shape = subst (λ (n : ℕ). HasShape c.mix_part.new.table c.args.rows (n / 2)) c.parts.auto.halves c.mix_part.ensures.shape;
+      count = mixes-more c.args.meter.now c.parts.meter c.mix_part.new.meter (2 * c.args.rows * i) (2 * c.args.rows)
+          (2 * c.args.rows * (i + 1)) before.count c.mix_part.ensures.count (omega arith);
+    }
+
+pub returns-clause-parts : goal.returns-clause-parts
+returns-clause-parts c =
+    let size = 2 * length c.args.halves.now in
+    let all : c.parts.i ≡ c.args.count = omega arith in
+    parts-all c.args.rows size c.args.count c.args.parts.now c.parts.parts (omega (arith, c.requires.some_block.1)) c.requires.whole
+    c.parts.auto.parts
+    (subst (λ (n : ℕ). take (size * n) c.parts.parts ≡ first_parts c.args.rows size c.args.parts.now n) all c.parts.invariant.done)

@@ -1,0 +1,184 @@
+//! scrypt (RFC 7914), over PBKDF2 and block mixing.
+//!
+//! All memory is got before any work: one table, which serves every part in turn, the parts as
+//! bytes, and two halves of words, between which a part goes to and fro while it is mixed.
+
+ghost use Rattle.std.specs.Prelude.{◌≡◌, ℕ, ◌+◌, ◌-◌, ◌*◌, ◌/◌, ◌^◌, ◌%◌, ◌<◌, ◌≤◌, List, length, OnOk, OnErr};
+ghost use Rattle.std.specs.Fn.{iterate};
+ghost use Rattle.prims_core.specs.BlockMix.{block_mix as mixed};
+ghost use Rattle.kdf_core.specs.Private.Mixing.{HasShape, HoldsMixings, AreHalves, IsPower};
+ghost use Rattle.kdf_core.specs.Scrypt.{scrypt, rows, integerify, mixed_back, romix, mixed_part, mixed_parts, with_scrypt, IsAfterRefusal, HasRoom};
+
+use crate::hmac::HmacKey;
+use crate::params::Params;
+use crate::pbkdf2::pbkdf2;
+use crate::xor::xor_words_into;
+use prims_core::meter::Meter;
+use prims_core::mix::block_mix;
+use prims_core::scratch::{ByteScratch, WordScratch};
+use prims_core::table::Table;
+use prims_core::words::{load_words, store_words};
+use std::alloc::{AllocError, Global};
+
+/// The words of a 64-byte block.
+const BLOCK_WORDS: usize = 16;
+
+/// Fills `out` with bytes derived from a password and a salt (RFC 7914, section 6).
+///
+/// `out` has at most `32 * (2^32 - 1)` bytes, and each count of the meter is at most 2^120. Three
+/// growths come before all work, in this order: the table of `128 * N * r` bytes, the parts of
+/// `128 * r * p` bytes, and the halves of `256 * r` bytes. Where one is refused `out` is left as it
+/// was, and the meter has the growths before that one and nothing else.
+///
+/// Otherwise the meter rises by these three, by `2 * N * p` mixings, and with q blocks of 32 bytes in
+/// `out`, a password of L bytes and a salt of s bytes by `8rp + 2q` digests of
+/// `4rp(164 + s) + q(164 + 128rp)` bytes; where L is above 64, by one more of L bytes.
+pub fn scrypt(
+    alloc: Global,
+    password: &[u8],
+    salt: &[u8],
+    params: &Params,
+    out: &mut [u8],
+    meter: &mut Meter,
+) -> Result<(), AllocError>
+    requires few_blocks { length out.old ≤ 32 * (2 ^ 32 - 1) }
+    requires room { HasRoom meter.old }
+    ensures bytes { OnOk result (out.new ≡ scrypt password.now salt.now params.now (length out.old)) }
+    ensures count { OnOk result (meter.new
+        ≡ with_scrypt meter.old params.now (length password.now) (length salt.now) (length out.old)) }
+    ensures unchanged { OnErr result (out.new ≡ out.old) }
+    ensures refused { OnErr result (IsAfterRefusal meter.old params.now meter.new) }
+{
+    let rows = row_count(params);
+    let r = params.r() as usize;
+    let p = params.p() as usize;
+    let mut table = Table::new(alloc, rows, 32 * r, meter)?;
+    let mut parts = ByteScratch::new(alloc, 128 * r * p, meter)?;
+    let mut halves = WordScratch::new(alloc, 64 * r, meter)?;
+    let key = HmacKey::new(password, meter);
+    pbkdf2(&key, salt, 1, parts.bytes_mut(), meter);
+    mix_parts(
+        parts.bytes_mut(),
+        p,
+        rows,
+        &mut table,
+        halves.words_mut(),
+        meter,
+    );
+    pbkdf2(&key, parts.bytes(), 1, out, meter);
+    Ok(())
+}
+
+// N, a power of two of at most 2^22.
+fn row_count(params: &Params) -> usize
+    ensures { result ≡ rows params.now }
+{
+    1 << params.log_n()
+}
+
+// Each of the parts under ROMix, one after another in the same memory.
+fn mix_parts(
+    parts: &mut [u8],
+    count: usize,
+    rows: usize,
+    table: &mut Table,
+    halves: &mut [u32],
+    meter: &mut Meter,
+)
+    requires power { (k : ℕ) × IsPower rows k }
+    requires some_block { (r : ℕ) × (1 ≤ r) × (length halves.old ≡ 64 * r) }
+    requires whole { length parts.old ≡ 2 * length halves.old * count }
+    requires shape { HasShape table.old rows (length halves.old / 2) }
+    requires room { meter.old.mixes + 2 * rows * count < 2 ^ 128 }
+    ensures parts { parts.new ≡ mixed_parts rows (2 * length halves.old) parts.old }
+    ensures count { meter.new ≡ record meter.old { mixes = meter.old.mixes + 2 * rows * count } }
+{
+    let size = 2 * halves.len();
+    'parts: for i in 0..count {
+        mix_part(
+            &mut parts[size * i..size * i + size],
+            rows,
+            table,
+            halves,
+            meter,
+        );
+    }
+}
+
+// A part under ROMix.
+fn mix_part(part: &mut [u8], rows: usize, table: &mut Table, halves: &mut [u32], meter: &mut Meter)
+    requires power { (k : ℕ) × IsPower rows k }
+    requires some_block { (r : ℕ) × (1 ≤ r) × (length halves.old ≡ 64 * r) }
+    requires whole { length part.old ≡ 2 * length halves.old }
+    requires shape { HasShape table.old rows (length halves.old / 2) }
+    requires room { meter.old.mixes + 2 * rows < 2 ^ 128 }
+    ensures part { part.new ≡ mixed_part rows part.old }
+    ensures shape { HasShape table.new rows (length halves.old / 2) }
+    ensures count { meter.new ≡ record meter.old { mixes = meter.old.mixes + 2 * rows } }
+{
+    let half = halves.len() / 2;
+    let (x, y) = halves.split_at_mut(half);
+    load_words(part, x);
+    fill_table(table, rows, x, y, meter);
+    mix_with_rows(table, rows, x, y, meter);
+    store_words(x, part);
+}
+
+// Keeps B after 0, 1, .. N - 1 mixings as the rows, and leaves it in `x` after N. Step by step it goes
+// from `x` to `y` and back, so that no block is copied but into the table.
+fn fill_table(table: &mut Table, rows: usize, x: &mut [u32], y: &mut [u32], meter: &mut Meter)
+    requires power { (k : ℕ) × IsPower rows k }
+    requires halves { (r : ℕ) × AreHalves r x.old y.old }
+    requires shape { HasShape table.old rows (length x.old) }
+    requires room { meter.old.mixes + rows < 2 ^ 128 }
+    ensures shape { HasShape table.new rows (length x.old) }
+    ensures rows { HoldsMixings table.new rows x.old }
+    ensures mixed { x.new ≡ iterate mixed rows x.old }
+    ensures count { meter.new ≡ record meter.old { mixes = meter.old.mixes + rows } }
+{
+    'filling: for i in 0..rows / 2 {
+        table.set_row(2 * i, x);
+        block_mix(x, y, meter);
+        table.set_row(2 * i + 1, y);
+        block_mix(y, x, meter);
+    }
+}
+
+// N times F, to and fro again.
+fn mix_with_rows(table: &Table, rows: usize, x: &mut [u32], y: &mut [u32], meter: &mut Meter)
+    requires power { (k : ℕ) × IsPower rows k }
+    requires halves { (r : ℕ) × AreHalves r x.old y.old }
+    requires shape { HasShape table.now rows (length x.old) }
+    requires room { meter.old.mixes + rows < 2 ^ 128 }
+    ensures mixed { (start : List ℕ) → HoldsMixings table.now rows start
+        → x.new ≡ iterate (mixed_back rows start) rows x.old }
+    ensures count { meter.new ≡ record meter.old { mixes = meter.old.mixes + rows } }
+{
+    'mixing: for _ in 0..rows / 2 {
+        mix_back(table, rows, x, y, meter);
+        mix_back(table, rows, y, x, meter);
+    }
+}
+
+// F of `x`, in `y`. What `x` is left with has no meaning.
+fn mix_back(table: &Table, rows: usize, x: &mut [u32], y: &mut [u32], meter: &mut Meter)
+    requires power { (k : ℕ) × IsPower rows k }
+    requires halves { (r : ℕ) × AreHalves r x.old y.old }
+    requires shape { HasShape table.now rows (length x.old) }
+    requires room { meter.old.mixes + 1 < 2 ^ 128 }
+    ensures mixed { (start : List ℕ) → HoldsMixings table.now rows start → y.new ≡ mixed_back rows start x.old }
+    ensures count { meter.new ≡ record meter.old { mixes = meter.old.mixes + 1 } }
+{
+    let row = table.row(index(x, rows));
+    xor_words_into(x, row);
+    block_mix(x, y, meter);
+}
+
+// Integerify (X) mod N. As N is a power of two of at most 2^32, the block's first word decides.
+fn index(words: &[u32], rows: usize) -> usize
+    requires power { (k : ℕ) × IsPower rows k }
+    requires some_block { 16 ≤ length words.now }
+    ensures { result ≡ integerify words.now % rows }
+{
+    words[words.len() - BLOCK_WORDS] as usize % rows
+}

@@ -1,0 +1,46 @@
+-- A list and the pieces of one size that it is made of.
+use Rattle.std.proofs.Common.{◌≡◌, ℕ, suc, ◌+◌, ◌*◌, ◌/◌, ◌<◌, List, [], ◌∷◌, ◌++◌, length, take, drop, get_or, sym, ◌∙◌, ap, ap₂, arith}
+use Rattle.std.specs.List.{concat}
+use Rattle.std.proofs.Math.Nat.{mul-div_cancel_left}
+use Rattle.std.proofs.lemmas.List.{take-append-drop, nil_from_length, drop-drop, length-drop}
+use Rattle.std.proofs.lemmas.List.FromFn.{length-map-range_with_len, get_or-map-range_with_len}
+use Rattle.prims_core.specs.Words.{chunks_exact}
+
+pub length-chunks_exact : (items : List ℕ) (size count : ℕ) → 0 < size → length items ≡ size * count
+    → length (chunks_exact items size) ≡ count
+unfolding chunks_exact
+length-chunks_exact items size count some whole =
+    length-map-range_with_len (λ i. take size (drop (size * i) items)) 0 (length items / size)
+    ∙ ap (λ (n : ℕ). n / size) whole ∙ mul-div_cancel_left count some
+
+-- the piece at a place
+pub get_or-chunks_exact : (items : List ℕ) (size count i : ℕ) → 0 < size → length items ≡ size * count → i < count
+    → get_or (chunks_exact items size) i [] ≡ take size (drop (size * i) items)
+unfolding chunks_exact
+get_or-chunks_exact items size count i some whole inside =
+    let pieces : length items / size ≡ count =
+    ap (λ (n : ℕ). n / size) whole ∙ mul-div_cancel_left count some in
+    get_or-map-range_with_len (λ i. take size (drop (size * i) items)) 0 (length items / size) i i [] (omega arith) (omega arith)
+
+-- a list whose pieces these are is these joined
+pub joined_from_pieces : (size : ℕ) (pieces : List (List ℕ)) (items : List ℕ) → length items ≡ size * length pieces
+    → ((i : ℕ) → i < length pieces → get_or pieces i [] ≡ take size (drop (size * i) items))
+    → items ≡ concat pieces
+joined_from_pieces size [] items whole each = nil_from_length items (omega arith)
+joined_from_pieces size (piece ∷ pieces) items whole each =
+    let none : size * 0 ≡ 0 = omega arith in
+    let first : piece ≡ take size items = rw none at (each 0 (omega arith)) in
+    let rest : drop size items ≡ concat pieces =
+    joined_from_pieces size pieces (drop size items) (omega (arith, length-drop size items)) (λ i inside.
+    let place : size * suc i ≡ size + size * i = omega arith in
+    let there = each (suc i) (omega arith) in
+    rw (drop-drop, ← place) there) in
+    sym (take-append-drop size items) ∙ ap₂ ◌++◌ (sym first) rest
+
+-- cut and joined
+pub concat-chunks_exact : (items : List ℕ) (size count : ℕ) → 0 < size → length items ≡ size * count
+    → concat (chunks_exact items size) ≡ items
+concat-chunks_exact items size count some whole =
+    let all : length (chunks_exact items size) ≡ count = length-chunks_exact items size count some whole in
+    sym (joined_from_pieces size (chunks_exact items size) items (rw all whole)
+    (λ i inside. get_or-chunks_exact items size count i some whole (omega arith)))

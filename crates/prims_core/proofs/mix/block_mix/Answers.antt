@@ -1,0 +1,45 @@
+use Rattle.std.proofs.Common.{◌≡◌, ℕ, ◌+◌, ◌-◌, ◌*◌, ◌/◌, [], length, take, drop, get_or, ap, ap₂, sym, ◌∙◌, arith}
+use Rattle.std.proofs.lemmas.List.{take_rest}
+use Rattle.prims_core.specs.BlockMix.{mixed_block, block_mix}
+use Rattle.prims_core.proofs.MixFacts.{results, result-first, result-step, result_before-more, length-results, placed_more, in_order}
+use Rattle.prims_core.proofs.mix.block_mix.Goals as goal
+
+pub mixing-init : goal.mixing-init
+mixing-init c =
+    let src = c.args.src.now in
+    let half = length src / 32 in
+    let whole : length src ≡ 16 * (2 * half) = omega arith in record {
+      sixteen = c.copy_from_slice.ensures.len;
+      before =
+          c.copy_from_slice.ensures.after ∙ take_rest src (length src - 16)
+          ∙ sym (result-first src (2 * half) whole (omega arith));
+      placed = λ k none. absurd (omega arith);
+    }
+
+pub mixing-preserved : goal.mixing-preserved
+mixing-preserved c =
+    let src = c.args.src.now in
+    let i = c.mixing.i in
+    let half = length src / 32 in
+    let whole : length src ≡ 16 * (2 * half) = omega arith in
+    let start : 16 * i + 16 - 16 * i ≡ 16 = omega arith in
+    let is : c.mix_in.new.x ≡ get_or (results src) i [] =
+    c.mix_in.ensures
+    ∙ ap₂ mixed_block c.mixing.invariant.before (ap (λ (n : ℕ). take n (drop (16 * i) src)) start)
+    ∙ sym (result-step src (2 * half) i whole c.mixing-test.true) in record {
+      sixteen = omega arith;
+      before = is ∙ sym (result_before-more src i);
+      placed =
+          placed_more half i _ (results src) c.mixing.dst c.copy_from_slice-in-mixing.new.self (omega arith)
+          c.mixing-test.true (omega arith) (omega arith) (c.copy_from_slice-in-mixing.ensures.after ∙ is)
+          c.mixing.invariant.placed;
+    }
+
+pub returns-clause-mixed : goal.returns-clause-mixed
+unfolding block_mix
+returns-clause-mixed c =
+    let src = c.args.src.now in
+    let half = length src / 32 in
+    let whole : length src ≡ 16 * (2 * half) = omega arith in
+    in_order half (results src) c.mixing.dst (length-results src (2 * half) whole) (omega arith)
+    (λ k inside. c.mixing.invariant.placed k (omega arith))

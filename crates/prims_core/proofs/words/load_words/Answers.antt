@@ -1,0 +1,7 @@
+use Rattle.std.proofs.Common.{arith}
+use Rattle.prims_core.proofs.WordFacts.{words_of-from_places}
+use Rattle.prims_core.proofs.words.load_words.Goals as goal
+
+pub returns : goal.returns
+returns c =
+    words_of-from_places c.args.bytes.now c.read_u32_into.new.dst (omega arith) c.read_u32_into.ensures

@@ -1,0 +1,21 @@
+-- The memory of scrypt: how a table lies in one list, and what is lent of a scratch.
+use Rattle.std.specs.Prelude.{ℕ, zero, suc, List, [], ◌∷◌, ◌++◌, length, take, drop}
+use Rattle.std.specs.Borrow.{Lends, MutBor, Fml, Array, u8, u32}
+use Rattle.prims_core.specs.contracts.scratch.ByteScratch as bytes
+use Rattle.prims_core.specs.contracts.scratch.WordScratch as words
+
+-- so many rows of so many words, which lie in a list one behind another
+unfoldable pub rows_of : ℕ → ℕ → List ℕ → List (List ℕ)
+rows_of zero row_words list = []
+rows_of (suc rows) row_words list = take row_words list ∷ rows_of rows row_words (drop row_words list)
+
+-- a list with new items in place of the old ones, as many as there were: a slice keeps its length
+abbrev pub written_over : List ℕ → List ℕ → List ℕ
+written_over old new = take (length old) (new ++ drop (length new) old)
+
+-- r lends all of the scratch: what is last written through r is what it then holds
+abbrev pub LendsBytes : MutBor (List ℕ) → MutBor (List ℕ) → Fml
+LendsBytes scratch r = Lends bytes.the_row (Array u8 0) scratch r (written_over scratch.now)
+
+abbrev pub LendsWords : MutBor (List ℕ) → MutBor (List ℕ) → Fml
+LendsWords scratch r = Lends words.the_row (Array u32 0) scratch r (written_over scratch.now)

@@ -1,0 +1,114 @@
+//! The standard's vector, and blocks mixed by an independent program.
+
+use super::*;
+use crate::hexadecimal::hexadecimal;
+use crate::words::{load_words, store_words};
+use std::test::Fail;
+
+// The input of RFC 7914, section 9.
+const BLOCKS: [u8; 128] = [
+    0xf7, 0xce, 0x0b, 0x65, 0x3d, 0x2d, 0x72, 0xa4, 0x10, 0x8c, 0xf5, 0xab, 0xe9, 0x12, 0xff, 0xdd,
+    0x77, 0x76, 0x16, 0xdb, 0xbb, 0x27, 0xa7, 0x0e, 0x82, 0x04, 0xf3, 0xae, 0x2d, 0x0f, 0x6f, 0xad,
+    0x89, 0xf6, 0x8f, 0x48, 0x11, 0xd1, 0xe8, 0x7b, 0xcc, 0x3b, 0xd7, 0x40, 0x0a, 0x9f, 0xfd, 0x29,
+    0x09, 0x4f, 0x01, 0x84, 0x63, 0x95, 0x74, 0xf3, 0x9a, 0xe5, 0xa1, 0x31, 0x52, 0x17, 0xbc, 0xd7,
+    0x89, 0x49, 0x91, 0x44, 0x72, 0x13, 0xbb, 0x22, 0x6c, 0x25, 0xb5, 0x4d, 0xa8, 0x63, 0x70, 0xfb,
+    0xcd, 0x98, 0x43, 0x80, 0x37, 0x46, 0x66, 0xbb, 0x8f, 0xfc, 0xb5, 0xbf, 0x40, 0xc2, 0x54, 0xb0,
+    0x67, 0xd2, 0x7c, 0x51, 0xce, 0x4a, 0xd5, 0xfe, 0xd8, 0x29, 0xc9, 0x0b, 0x50, 0x5a, 0x57, 0x1b,
+    0x7f, 0x4d, 0x1c, 0xad, 0x6a, 0x52, 0x3c, 0xda, 0x77, 0x0e, 0x67, 0xbc, 0xea, 0xaf, 0x7e, 0x89,
+];
+
+#[test]
+fn vector(rt: HostRuntime) -> Result<(), Fail> {
+    let mut meter = Meter::new();
+    let mut words = [0; 32];
+    load_words(&BLOCKS, &mut words);
+    let mut mixed = [7; 32];
+    block_mix(&words, &mut mixed, &mut meter);
+    let mut bytes = [0; 128];
+    store_words(&mixed, &mut bytes);
+    assert_eq!(rt;
+        hexadecimal(rt.alloc(), &bytes)?.as_str(),
+        "a41f859c6608cc993b81cacb020cef05044b2181a2fd337dfd7b1c6396682f29\
+         b4393168e3c9e6bcfe6bc5b7a06d96bae424cc102c91745c24ad673dc7618f81\
+         20edc975323881a80540f64c162dcd3c21077cfe5f8d5fe2b1a4168f953678b7\
+         7d3b3d803b60e4ab920996e59b4d53b65d2a225877d5edf5842cb9f14eefe425",
+        "RFC 7914, section 9"
+    );
+    Ok(())
+}
+
+#[test]
+fn zeros_stay_and_are_counted(rt: HostRuntime) {
+    let mut meter = Meter::new();
+    let mut mixed = [7; 32];
+    block_mix(&[0; 32], &mut mixed, &mut meter);
+    assert_eq!(rt; mixed, [0; 32], "32 zero words");
+    assert_eq!(rt;
+        (meter.mixes(), meter.digests(), meter.bytes()),
+        (1, 0, 0),
+        "the work"
+    );
+    assert_eq!(rt; (meter.table(), meter.scratch()), (0, 0), "no memory");
+}
+
+// Fills `bytes` with 3, 10, 17, and so on, modulo 256.
+fn step_by_seven(bytes: &mut [u8]) {
+    let mut next = 3u8;
+    for byte in bytes.iter_mut() {
+        *byte = next;
+        next = next.wrapping_add(7);
+    }
+}
+
+// The next two were mixed by a Python program, which gives the vector above too.
+#[test]
+fn four_blocks(rt: HostRuntime) -> Result<(), Fail> {
+    let mut bytes = [0; 256];
+    step_by_seven(&mut bytes);
+    let mut words = [0; 64];
+    load_words(&bytes, &mut words);
+    let mut mixed = [0; 64];
+    block_mix(&words, &mut mixed, &mut Meter::new());
+    store_words(&mixed, &mut bytes);
+    assert_eq!(rt;
+        hexadecimal(rt.alloc(), &bytes)?.as_str(),
+        "1797e97728e17b455604424c859d75e3ad4985db0d2dabe9161bc7d889bdb3c5\
+         175a653a1a790a4a149fff864e1a5240b04095fa990bbd42c0654b4ed2f293e1\
+         1c27dd0c4cd87a06d1aeb7aa91c8fced92b9eed5900266a9f2114735a2ca03a8\
+         f6844ea7fa47153ac7f30a7b7161f022da42007050e738cb5ec5ae66992572ff\
+         f08d8c7d9bb5ce20820920ebbf09c2225f04199091baa62ff95a522661d0b59a\
+         94e58d784383a8429975d9940d2a90e3609399ab937e0bde8de0cdab253f5ae3\
+         3e720bbe8986464d22d21c7e8aad9064cd0931437c3f313733a6b86373979143\
+         1865c7c10ce987e75042d58560bc586d34db17fe750f916071666493313678cf",
+        "r = 2"
+    );
+    Ok(())
+}
+
+#[test]
+fn six_blocks(rt: HostRuntime) -> Result<(), Fail> {
+    let mut bytes = [0; 384];
+    step_by_seven(&mut bytes);
+    let mut words = [0; 96];
+    load_words(&bytes, &mut words);
+    let mut mixed = [0; 96];
+    block_mix(&words, &mut mixed, &mut Meter::new());
+    store_words(&mixed, &mut bytes);
+    assert_eq!(rt;
+        hexadecimal(rt.alloc(), &bytes)?.as_str(),
+        "4fb7a2efeaaddc99385730727f8b650c117668403c5295e77a8ab5dc08e0fd72\
+         aaef3c87684080e72b26a0604dd772abfc358b7a4f3dce8707fab7aee0bc7afa\
+         40980007a4d0f7bec4a16ae3df00d79e3da9d9c9b2f659ee10acb505637b7bcf\
+         37c206748f8408c8f08baa832dc9eca3bc190549c2e27745df7508835af4bb93\
+         04e54bce38e865acda95703e0a514d033d26ce0b6ec2534f2b5e74c478e40208\
+         53fd7a4ac12b7c74c5ff8a21d26ef96c922aec3b2035db1302d885fcff520452\
+         a35c7ae917ad0a8fa92e1887075796ab8666a4d5cc484f31667f6b86ebf85869\
+         7ce1c4f78ef818dda237b7ea980bf4be80ea0623d3553e28bbe15d4fe01940ec\
+         93bcb937921e5f9adbc6c03ea7033b231a032a74d529f00960869d1a2714a479\
+         03593df12a59fbfd7bbea4bbdb191b74e7029df55c7bd0c331bc268a79c35d52\
+         6742e0ed420ea026930296fdbacd76453df8545d03b318937bd3f7a8c773d98e\
+         47ae752cc19ff0b4943fabe6c57d5d5c90ee5ee240c66dce1b63ea42aadb9a4d",
+        "r = 3"
+    );
+    Ok(())
+}

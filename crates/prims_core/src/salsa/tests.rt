@@ -1,0 +1,37 @@
+//! The standard's vector, and a block that stays.
+
+use super::*;
+use crate::hexadecimal::hexadecimal;
+use crate::words::{load_words, store_words};
+use std::test::Fail;
+
+// The input of RFC 7914, section 8.
+const BLOCK: [u8; 64] = [
+    0x7e, 0x87, 0x9a, 0x21, 0x4f, 0x3e, 0xc9, 0x86, 0x7c, 0xa9, 0x40, 0xe6, 0x41, 0x71, 0x8f, 0x26,
+    0xba, 0xee, 0x55, 0x5b, 0x8c, 0x61, 0xc1, 0xb5, 0x0d, 0xf8, 0x46, 0x11, 0x6d, 0xcd, 0x3b, 0x1d,
+    0xee, 0x24, 0xf3, 0x19, 0xdf, 0x9b, 0x3d, 0x85, 0x14, 0x12, 0x1e, 0x4b, 0x5a, 0xc5, 0xaa, 0x32,
+    0x76, 0x02, 0x1d, 0x29, 0x09, 0xc7, 0x48, 0x29, 0xed, 0xeb, 0xc6, 0x8d, 0xb8, 0xb8, 0xc2, 0x5e,
+];
+
+#[test]
+fn vector(rt: HostRuntime) -> Result<(), Fail> {
+    let mut words = [0; 16];
+    load_words(&BLOCK, &mut words);
+    salsa8(&mut words);
+    let mut bytes = [0; 64];
+    store_words(&words, &mut bytes);
+    assert_eq!(rt;
+        hexadecimal(rt.alloc(), &bytes)?.as_str(),
+        "a41f859c6608cc993b81cacb020cef05044b2181a2fd337dfd7b1c6396682f29\
+         b4393168e3c9e6bcfe6bc5b7a06d96bae424cc102c91745c24ad673dc7618f81",
+        "RFC 7914, section 8"
+    );
+    Ok(())
+}
+
+#[test]
+fn zeros_stay(rt: HostRuntime) {
+    let mut words = [0; 16];
+    salsa8(&mut words);
+    assert_eq!(rt; words, [0; 16], "sixteen zero words");
+}

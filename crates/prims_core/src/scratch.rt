@@ -1,0 +1,111 @@
+//! The scratch memory of scrypt: bytes, and 32-bit words.
+//!
+//! Each is one growth, made at once in its full size.
+
+ghost use Rattle.std.specs.Prelude.{◌≡◌, ◌+◌, ◌*◌, ◌^◌, ◌<◌, ◌≤◌, replicate, IfOk, OnOk, OnErr};
+ghost use Rattle.std.specs.Borrow.{sem};
+ghost use Rattle.prims_core.specs.Memory.{LendsBytes, LendsWords};
+
+use crate::meter::Meter;
+use std::alloc::{AllocError, Global};
+use std::marker::Model;
+
+#[cfg(test)]
+mod tests;
+
+/// The bytes of a word.
+const WORD: usize = 4;
+
+/// Bytes to work on.
+#[derive(Drop)]
+pub struct ByteScratch {
+    items: Vec<u8>,
+}
+
+impl Model for ByteScratch {
+    ghost use Rattle.std.specs.Prelude.{ℕ, List};
+
+    ghost Value = { List ℕ };
+
+    ghost view = { λ s. s.items.items };
+}
+
+impl ByteScratch {
+    /// So many zeros, which the meter counts as scratch.
+    ///
+    /// They are at most 2^30 bytes, and the meter has room for them. Where memory is refused,
+    /// nothing is counted.
+    pub fn new(alloc: Global, len: usize, meter: &mut Meter) -> Result<ByteScratch, AllocError>
+        requires fits { len ≤ 2 ^ 30 }
+        requires room { meter.old.scratch + len < 2 ^ 128 }
+        ensures zeros { IfOk result (λ scratch. scratch ≡ replicate len 0) }
+        ensures count { OnOk result (meter.new ≡ record meter.old { scratch = meter.old.scratch + len }) }
+        ensures refused { OnErr result (meter.new ≡ meter.old) }
+    {
+        let items = vec![in alloc; 0; len]?;
+        meter.count_scratch(len);
+        Ok(ByteScratch { items })
+    }
+
+    /// All the bytes.
+    pub fn bytes(&self) -> &[u8]
+        ensures { result.now ≡ self.now }
+    {
+        &self.items
+    }
+
+    /// All the bytes, to be written to.
+    pub fn bytes_mut(&mut self) -> &mut [u8]
+        ensures* writes_back { sem 𝓛 (LendsBytes self.entry result) }
+        ensures value { result.now ≡ self.old }
+    {
+        self.items.as_mut_slice()
+    }
+}
+
+/// Words to work on.
+#[derive(Drop)]
+pub struct WordScratch {
+    items: Vec<u32>,
+}
+
+impl Model for WordScratch {
+    ghost use Rattle.std.specs.Prelude.{ℕ, List};
+
+    ghost Value = { List ℕ };
+
+    ghost view = { λ s. s.items.items };
+}
+
+impl WordScratch {
+    /// So many zeros, whose bytes, four a word, the meter counts as scratch.
+    ///
+    /// They are at most 2^30 bytes, and the meter has room for them. Where memory is refused,
+    /// nothing is counted.
+    pub fn new(alloc: Global, words: usize, meter: &mut Meter) -> Result<WordScratch, AllocError>
+        requires fits { 4 * words ≤ 2 ^ 30 }
+        requires room { meter.old.scratch + 4 * words < 2 ^ 128 }
+        ensures zeros { IfOk result (λ scratch. scratch ≡ replicate words 0) }
+        ensures count { OnOk result (meter.new ≡ record meter.old { scratch = meter.old.scratch + 4 * words }) }
+        ensures refused { OnErr result (meter.new ≡ meter.old) }
+    {
+        let items = vec![in alloc; 0; words]?;
+        meter.count_scratch(WORD * words);
+        Ok(WordScratch { items })
+    }
+
+    /// All the words.
+    pub fn words(&self) -> &[u32]
+        ensures { result.now ≡ self.now }
+    {
+        &self.items
+    }
+
+    /// All the words, to be written to.
+    pub fn words_mut(&mut self) -> &mut [u32]
+        ensures* writes_back { sem 𝓛 (LendsWords self.entry result) }
+        ensures value { result.now ≡ self.old }
+    {
+        self.items.as_mut_slice()
+    }
+}

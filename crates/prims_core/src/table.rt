@@ -1,0 +1,118 @@
+//! The table of scrypt: rows of 32-bit words, all of one length.
+//!
+//! All rows lie in one vector, one behind another, so that a table is one growth, made at once in
+//! its full size.
+
+ghost use Rattle.std.specs.Prelude.{◌≡◌, ◌+◌, ◌*◌, ◌^◌, ◌<◌, ◌≤◌, [], length, replicate, slice_index_or, slice_set, IfOk, OnOk, OnErr};
+
+use crate::meter::Meter;
+use std::alloc::{AllocError, Global};
+use std::marker::Model;
+
+/// The bytes of a word.
+const WORD: usize = 4;
+
+/// Rows of words, all of one length.
+#[derive(Drop)]
+pub struct Table {
+    words: Vec<u32>,
+    rows: usize,
+    row_words: usize,
+}
+
+impl Model for Table {
+    ghost use Rattle.std.specs.Prelude.{◌≡◌, ℕ, ◌*◌, List, vec_len};
+    ghost use Rattle.prims_core.specs.Memory.{rows_of};
+
+    ghost Value = { List (List ℕ) };
+
+    ghost view = { λ t. rows_of t.rows t.row_words t.words.items };
+
+    ghost invariant = { λ t. vec_len t.words ≡ t.rows * t.row_words };
+}
+
+impl Table {
+    /// So many rows of so many zeros, whose bytes, four a word, the meter counts as table.
+    ///
+    /// They are at most 2^30 bytes, and the meter has room for them. Where memory is refused,
+    /// nothing is counted.
+    pub fn new(
+        alloc: Global,
+        rows: usize,
+        row_words: usize,
+        meter: &mut Meter,
+    ) -> Result<Table, AllocError>
+        requires fits { 4 * (rows * row_words) ≤ 2 ^ 30 }
+        requires room { meter.old.table + 4 * (rows * row_words) < 2 ^ 128 }
+        ensures zeros { IfOk result (λ table. table ≡ replicate rows (replicate row_words 0)) }
+        ensures count { OnOk result (meter.new
+            ≡ record meter.old { table = meter.old.table + 4 * (rows * row_words) }) }
+        ensures refused { OnErr result (meter.new ≡ meter.old) }
+    {
+        let words = vec![in alloc; 0; rows * row_words]?;
+        meter.count_table(WORD * (rows * row_words));
+        Ok(Table {
+            words,
+            rows,
+            row_words,
+        })
+    }
+
+    /// Row `i`.
+    pub fn row(&self, i: usize) -> &[u32]
+        requires { i < length self.now }
+        ensures { result.now ≡ slice_index_or self.now i [] }
+    {
+        let start = i * self.row_words;
+        &self.words[start..start + self.row_words]
+    }
+
+    /// Makes row `i` a copy of `row`, which has the same length. The other rows stay.
+    pub fn set_row(&mut self, i: usize, row: &[u32])
+        requires inside { i < length self.old }
+        requires same_length { length row.now ≡ length (slice_index_or self.old i []) }
+        ensures { self.new ≡ slice_set self.old i row.now }
+    {
+        let start = i * self.row_words;
+        let end = start + self.row_words;
+        self.words[start..end].copy_from_slice(row);
+    }
+}
+
+#[cfg(test)]
+mod tests {
+    use super::*;
+    use std::test::Fail;
+
+    #[test]
+    fn rows(rt: HostRuntime) -> Result<(), Fail> {
+        let mut meter = Meter::new();
+        let mut table = Table::new(rt.alloc(), 3, 32, &mut meter)?;
+        let mut row = [0; 32];
+        for (i, word) in row.iter_mut().enumerate() {
+            *word = i as u32 + 1;
+        }
+        table.set_row(1, &row);
+        assert_eq!(rt; table.row(0), [0; 32].as_slice(), "row 0 is zeros");
+        assert_eq!(rt; table.row(1), row.as_slice(), "row 1 is the words 1 to 32");
+        assert_eq!(rt; table.row(2), [0; 32].as_slice(), "row 2 is zeros");
+        Ok(())
+    }
+
+    #[test]
+    fn counts(rt: HostRuntime) -> Result<(), Fail> {
+        for (rows, row_words, bytes) in [(2, 32, 256), (16, 32, 2048), (0, 32, 0), (3, 0, 0)] {
+            let mut meter = Meter::new();
+            let _table = Table::new(rt.alloc(), rows, row_words, &mut meter)?;
+            assert_eq!(rt; meter.table(), bytes, "{rows} rows of {row_words} words");
+            let others = (
+                meter.digests(),
+                meter.bytes(),
+                meter.mixes(),
+                meter.scratch(),
+            );
+            assert_eq!(rt; others, (0, 0, 0, 0), "no other count");
+        }
+        Ok(())
+    }
+}
