@@ -1,7 +1,7 @@
 //! The text of crypt(3): a password, hashed by a setting.
 ghost use Rattle.std.specs.Prelude.{◌≡◌, ◌≤◌, ◌++◌, length, codes, IfOk, OnOk, OnErr};
 ghost use Rattle.kdf_core.specs.Scrypt.{scrypt, with_scrypt, HasRoom, IsAfterRefusal};
-ghost use Rattle.crypt_core.specs.Crypt.{crypt, with_crypt, IsRefusedBy};
+ghost use Rattle.crypt_core.specs.Crypt.{crypt, digest_by, with_crypt, IsRefusedBy};
 ghost use Rattle.crypt_core.specs.Packing.{digest_len, packed};
 ghost use Rattle.crypt_core.specs.Settings.{Spells, canonical_text, method_of};
 
@@ -95,18 +95,41 @@ pub fn hash(
     // So an error comes only by a setting of scrypt.
     ensures refused { OnErr result (IsRefusedBy meter.old setting.now.scheme meter.new) }
 {
-    let salt = setting.salt();
-    let digest = match setting.scheme() {
-        Scheme::Md5crypt => buffer_of(&md5crypt(password, salt, meter)),
-        Scheme::Sha256crypt(rounds) => {
-            shacrypt::<CountedSha256>(password, salt, rounds.count, meter)
-        }
-        Scheme::Sha512crypt(rounds) => {
-            shacrypt::<CountedSha512>(password, salt, rounds.count, meter)
-        }
-        Scheme::Scrypt(params) => scrypt_digest(alloc, password, salt, &params, meter)?,
-    };
+    let digest = digest_of(alloc, password, setting, meter)?;
     Ok(hash_text(setting, digest.as_slice()))
+}
+
+// The digest that the setting's scheme makes of the password.
+fn digest_of(
+    alloc: Global,
+    password: &Password,
+    setting: &Setting,
+    meter: &mut Meter,
+) -> Result<ArrayVec<u8, 64>, AllocError>
+    requires { HasRoom meter.old }
+    ensures digest { IfOk result (λ digest. digest.items
+        ≡ digest_by setting.now.scheme password.now setting.now.salt) }
+    ensures length { IfOk result (λ digest. length digest.items ≡ digest_len (method_of setting.now.scheme)) }
+    ensures count { OnOk result (meter.new ≡ with_crypt meter.old password.now setting.now) }
+    ensures refused { OnErr result (IsRefusedBy meter.old setting.now.scheme meter.new) }
+{
+    let salt = setting.salt();
+    match setting.scheme() {
+        Scheme::Md5crypt => Ok(buffer_of(&md5crypt(password, salt, meter))),
+        Scheme::Sha256crypt(rounds) => Ok(shacrypt::<CountedSha256>(
+            password,
+            salt,
+            rounds.count,
+            meter,
+        )),
+        Scheme::Sha512crypt(rounds) => Ok(shacrypt::<CountedSha512>(
+            password,
+            salt,
+            rounds.count,
+            meter,
+        )),
+        Scheme::Scrypt(params) => scrypt_digest(alloc, password, salt, &params, meter),
+    }
 }
 
 // scrypt's 32 bytes.
@@ -120,7 +143,8 @@ fn scrypt_digest(
     requires { HasRoom meter.old }
     ensures digest { IfOk result (λ digest. digest.items ≡ scrypt password.now salt.now params.now 32) }
     ensures length { IfOk result (λ digest. length digest.items ≡ 32) }
-    ensures count { OnOk result (meter.new ≡ with_scrypt meter.old params.now (length password.now) (length salt.now) 32) }
+    ensures count { OnOk result (meter.new
+        ≡ with_scrypt meter.old params.now (length password.now) (length salt.now) 32) }
     ensures refused { OnErr result (IsAfterRefusal meter.old params.now meter.new) }
 {
     let mut digest = [0; 32];
@@ -131,7 +155,8 @@ fn scrypt_digest(
 // The text of a digest by the setting.
 fn hash_text(setting: &Setting, digest: &[u8]) -> Hashed
     requires { length digest.now ≡ digest_len (method_of setting.now.scheme) }
-    ensures text { result ≡ canonical_text setting.now ++ codes "$" ++ packed (method_of setting.now.scheme) digest.now }
+    ensures text { result
+        ≡ canonical_text setting.now ++ codes "$" ++ packed (method_of setting.now.scheme) digest.now }
     ensures spells { Spells result setting.now }
 {
     let packed = pack(setting.method(), digest);

@@ -41,7 +41,8 @@ fn opening(password: &[u8], salt: &[u8], meter: &mut Meter) -> ArrayVec<u8, 64>
     requires room { HasDigestRoom meter.old }
     ensures digest { result.items ≡ md5 (opening_message password.now salt.now) }
     ensures length { length result.items ≡ 16 }
-    ensures count { meter.new ≡ with_digest (with_digest meter.old (salted_twice password.now salt.now)) (opening_message password.now salt.now) }
+    ensures count { meter.new ≡ with_digest (with_digest meter.old (salted_twice password.now salt.now))
+        (opening_message password.now salt.now) }
 {
     let salted = salted::<CountedMd5>(password, salt, meter);
     let mut running = CountedMd5::begin();

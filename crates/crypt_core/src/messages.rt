@@ -81,7 +81,8 @@ pub(crate) fn feed_digits<C: Counted>(
     requires { meter.old.bytes + length (digit_pieces one.now other.now number) < 2 ^ 128 }
     ensures message { (m : List ℕ) → C.holds running.old m
         → C.holds running.new (m ++ digit_pieces one.now other.now number) }
-    ensures count { meter.new ≡ record meter.old { bytes = meter.old.bytes + length (digit_pieces one.now other.now number) } }
+    ensures count { meter.new
+        ≡ record meter.old { bytes = meter.old.bytes + length (digit_pieces one.now other.now number) } }
 {
     let mut rest = number;
     'digits: while rest > 0 {

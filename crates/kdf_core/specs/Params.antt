@@ -7,6 +7,9 @@ pub record ScryptCost : Type 0 where
   pub r : ℕ
   pub p : ℕ
 
+abbrev pub cost_of : ℕ → ℕ → ℕ → ScryptCost
+cost_of log_n r p = record { log_n = log_n; r = r; p = p }
+
 -- log2 N is at least 1 and stays below 16 r, and neither r nor p is 0
 pub record IsInRange (cost : ScryptCost) : Type 0 where
   pub above_one : 0 < cost.log_n

@@ -4,7 +4,7 @@
 //! the memory that it stands for.
 
 ghost use Rattle.std.specs.Prelude.{◌≡◌, ◌↔◌, IfOk, IsOk, IsTrue};
-ghost use Rattle.kdf_core.specs.Params.{ScryptCost, IsInRange, IsWithinCeiling, IsAccepted};
+ghost use Rattle.kdf_core.specs.Params.{cost_of, IsInRange, IsWithinCeiling, IsAccepted};
 
 use std::marker::Model;
 use thiserror::Error;
@@ -61,11 +61,12 @@ impl Model for Params {
 impl Params {
     /// The parameters with `N = 2^log_n`, or the first fault: `Range`, then `AboveCeiling`.
     pub fn new(log_n: u8, r: u32, p: u32) -> Result<Params, ParamFault>
-        ensures numbers { IfOk result (λ params. params ≡ record { log_n = log_n; r = r; p = p }) }
+        ensures numbers { IfOk result (λ params. params ≡ cost_of log_n r p) }
 
-        ensures accepted { IsOk result ↔ IsAccepted (record { log_n = log_n; r = r; p = p }) }
-        ensures range { (result ≡ Err ParamFault.Range) ↔ ¬ IsInRange (record { log_n = log_n; r = r; p = p }) }
-        ensures ceiling { (result ≡ Err ParamFault.AboveCeiling) ↔ (IsInRange (record { log_n = log_n; r = r; p = p }) × ¬ IsWithinCeiling (record { log_n = log_n; r = r; p = p })) }
+        ensures accepted { IsOk result ↔ IsAccepted (cost_of log_n r p) }
+        ensures range { (result ≡ Err ParamFault.Range) ↔ ¬ IsInRange (cost_of log_n r p) }
+        ensures ceiling { (result ≡ Err ParamFault.AboveCeiling)
+            ↔ (IsInRange (cost_of log_n r p) × ¬ IsWithinCeiling (cost_of log_n r p)) }
     {
         if !is_in_range(log_n, r, p) {
             return Err(ParamFault::Range);
@@ -103,7 +104,7 @@ impl Params {
 
 // Whether none of the three is 0 and log2 N stays below 16 r.
 fn is_in_range(log_n: u8, r: u32, p: u32) -> bool
-    ensures { IsTrue result ↔ IsInRange (record { log_n = log_n; r = r; p = p }) }
+    ensures { IsTrue result ↔ IsInRange (cost_of log_n r p) }
 {
     log_n > 0 && r > 0 && p > 0 && u64::from(log_n) < 16 * u64::from(r)
 }
@@ -111,8 +112,8 @@ fn is_in_range(log_n: u8, r: u32, p: u32) -> bool
 // Whether `2^log_n * r * p` is at most 2^23. The product of any `r` and `p` fits 64 bits, and is
 // compared with the ceiling divided by N, so that nothing overflows.
 fn is_within_ceiling(log_n: u8, r: u32, p: u32) -> bool
-    requires in_range { IsInRange (record { log_n = log_n; r = r; p = p }) }
-    ensures { IsTrue result ↔ IsWithinCeiling (record { log_n = log_n; r = r; p = p }) }
+    requires in_range { IsInRange (cost_of log_n r p) }
+    ensures { IsTrue result ↔ IsWithinCeiling (cost_of log_n r p) }
 {
     // From 2^24 on N alone is above the ceiling.
     log_n < 24 && u64::from(r) * u64::from(p) <= CEILING >> log_n

@@ -23,7 +23,7 @@ module _ {T : Type 0} where
   ShowsOutcome turns old new (Err Turns) =
       IsUnfailed old new × (new.calls ≡ old.calls + turns)
 
-  -- no more than `turns` calls were made, and each but two of them moved a byte
+  -- no more than `turns` calls were made, and at most two more than bytes were moved
   pub record IsWithinTurns (turns : ℕ) (old new : Device T) : Type 0 where
     pub at_most_turns : new.calls ≤ old.calls + turns
     pub at_most_bytes : new.calls + old.bytes ≤ old.calls + new.bytes + 2

@@ -18,7 +18,7 @@ pub enum UsageFault {
     /// `clap` did not take the words, or shows help or the version. Its text is the user's.
     #[error("{0}")]
     Parse(clap::Error),
-    /// The method has no such name.
+    /// TYPE names no method.
     #[error("{}", self.text())]
     Method,
     /// The salt that was given is refused.

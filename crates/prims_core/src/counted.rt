@@ -1,8 +1,7 @@
 //! The digests that a meter counts, each behind one trait.
 //!
 //! A running digest is fed a message piece by piece and finished once. Each piece raises the meter's
-//! bytes by its length, and each digest raises its digests by one. These are the only callers of the
-//! digest crates, so that no digest passes the meter by.
+//! bytes by its length, and each digest raises its digests by one.
 
 ghost use Rattle.std.specs.Prelude.{◌≡◌, ℕ, ◌+◌, ◌^◌, ◌<◌, ◌≤◌, List, [], ◌++◌, length, All};
 

@@ -1,7 +1,7 @@
 //! Reading a setting's text, or naming the first rule that it breaks.
 //!
-//! The prefix, the cost part and the salt are taken off the front, one after another. Nothing is
-//! allocated and nothing hashed, and a number of any length is held while it is read.
+//! The prefix, the cost part and the salt are taken off the front, one after another. It takes no
+//! memory and no meter, and a number of any length is held while it is read.
 
 ghost use Rattle.std.specs.Prelude.{◌≡◌, ◌≤◌, ◌↔◌, length, ◌++◌, ◌==◌, min, drop, position, IsTrue, All, IfOk, IfErr, OnOk, OnSome, IfSome, IfNone, MatchOption};
 ghost use Rattle.std.specs.Str.Parse.{digits_value};

@@ -1,6 +1,6 @@
 use Rattle.std.proofs.Common.{refl, ◌∙◌}
 use Rattle.crypt_core.specs.Crypt.{crypt}
-use Rattle.crypt_core.proofs.hash.hash_free.Goals as goal
+use Rattle.crypt_core.proofs.hash.hash.Goals as goal
 
 pub returns-clause-text : goal.returns-clause-text
 unfolding crypt
