@@ -8,7 +8,10 @@ mod tables;
 use super::*;
 use std::process::Abort;
 use std::test::Fail;
-use tables::{COUNTS, MD5CRYPT_TEXTS, NAMED, SCRYPT_COUNTS, SCRYPT_TEXTS, SHA256CRYPT_TEXTS, SHA512CRYPT_TEXTS};
+use tables::{
+    COUNTS, MD5CRYPT_TEXTS, NAMED, SCRYPT_COUNTS, SCRYPT_TEXTS, SHA256CRYPT_TEXTS,
+    SHA512CRYPT_TEXTS,
+};
 
 // A password of every kind of byte but 0.
 fn patterned(rt: &impl Abort, alloc: Global, len: usize) -> Result<Password, Fail> {
@@ -47,23 +50,27 @@ fn setting_again(
     Setting::read(hashed.text()).ok()
 }
 
-#[test]
-fn hashes_as_libcrypt(rt: HostRuntime) -> Result<(), Fail> {
-    let tables: [&[(usize, &str, &str)]; 4] = [
-        &MD5CRYPT_TEXTS,
-        &SHA256CRYPT_TEXTS,
-        &SHA512CRYPT_TEXTS,
-        &SCRYPT_TEXTS,
-    ];
-    for table in tables {
-        for (len, setting, text) in table {
-            let password = patterned(&rt, rt.alloc(), *len)?;
-            let setting = setting_of(&rt, setting);
-            let hashed = hash(rt.alloc(), &password, &setting, &mut Meter::new()).expect(&rt, text);
-            assert_eq!(rt; hashed.text(), text.as_bytes(), "{len} bytes");
-        }
+// Hashes as the table has it.
+fn try_texts(rt: &HostRuntime, table: &[(usize, &str, &str)]) -> Result<(), Fail> {
+    for (len, setting, text) in table {
+        let password = patterned(rt, rt.alloc(), *len)?;
+        let setting = setting_of(rt, setting);
+        let hashed = hash(rt.alloc(), &password, &setting, &mut Meter::new()).expect(rt, text);
+        assert_eq!(rt; hashed.text(), text.as_bytes(), "{len} bytes");
     }
     Ok(())
+}
+
+#[test]
+fn hashes_as_libcrypt(rt: HostRuntime) -> Result<(), Fail> {
+    try_texts(&rt, &MD5CRYPT_TEXTS)?;
+    try_texts(&rt, &SHA256CRYPT_TEXTS)?;
+    try_texts(&rt, &SHA512CRYPT_TEXTS)
+}
+
+#[test]
+fn hashes_by_scrypt_as_libcrypt(rt: HostRuntime) -> Result<(), Fail> {
+    try_texts(&rt, &SCRYPT_TEXTS)
 }
 
 #[test]
@@ -73,7 +80,11 @@ fn counts_each_message(rt: HostRuntime) -> Result<(), Fail> {
         let mut meter = Meter::new();
         let hashed = hash(rt.alloc(), &password, &setting_of(&rt, setting), &mut meter);
         assert!(rt; hashed.is_ok(), "{len} bytes by {setting}");
-        assert_eq!(rt; counts(&meter), [digests, bytes, 0, 0, 0], "{len} bytes by {setting}");
+        assert_eq!(rt;
+            counts(&meter),
+            [digests, bytes, 0, 0, 0],
+            "{len} bytes by {setting}"
+        );
     }
     Ok(())
 }
@@ -105,7 +116,12 @@ fn counts_the_work_of_scrypt(rt: HostRuntime) {
 #[test]
 fn a_hash_is_its_setting(rt: HostRuntime) {
     let password = Password::new(b"Hello world!").expect(&rt, "a password");
-    for text in ["$1$abc", "$5$rounds=1000$saltstring", "$6$ab", "$7$2/..../....ab"] {
+    for text in [
+        "$1$abc",
+        "$5$rounds=1000$saltstring",
+        "$6$ab",
+        "$7$2/..../....ab",
+    ] {
         let setting = setting_of(&rt, text);
         let again = setting_again(rt.alloc(), &password, &setting, &mut Meter::new());
         let again = again.expect(&rt, text);

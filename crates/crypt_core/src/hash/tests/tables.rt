@@ -340,11 +340,11 @@ pub const SCRYPT_TEXTS: [(usize, &str, &str); 15] = [
     (63, "$7$5/..../....qqqqqqqqqqqqqqqqqqqqqq", "$7$5/..../....qqqqqqqqqqqqqqqqqqqqqq$jfcXok3CyTeLofzs2Ssz4KswJ0R0U8BCnAePXfmBCZ1"),
     (64, "$7$2/..../....key.of.a.block", "$7$2/..../....key.of.a.block$4nQpTRvM2o8nmfIqVNtl0.hbjgDG7UXUEUrLcwgD4I7"),
     (65, "$7$2/..../....longer.key", "$7$2/..../....longer.key$ACxjd07ghsZ2BlxKC.ZhZr3FRLyQ.hIx9uSU7S0LMc2"),
-    (127, "$7$86..../....SodiumChloride", "$7$86..../....SodiumChloride$Wg.5nl/N.QUJLNsqWnpwcYTE0P4y/daj22ZxwhbMnPA"),
+    (127, "$7$66..../....SodiumChloride", "$7$66..../....SodiumChloride$x7StqAqeR5vlfflmGan271GG8yTGdxrtCDSFLwzZFM8"),
     (128, "$7$02....2....xxxxxxxxxxxxxxxxxxxxxxxxxxxxxxxxxxxxxxxxxxx", "$7$02....2....xxxxxxxxxxxxxxxxxxxxxxxxxxxxxxxxxxxxxxxxxxx$7bda7LsKhYhUfjs02TIMyLiAegR.8Wmo1vTfalruut0"),
-    (255, "$7$60....E....many.parts", "$7$60....E....many.parts$qljf27TTffxdgoweA0UNaUGfaqYwpvTmRM2xue7VEk5"),
-    (511, "$7$96..../....yyyyyyyyyyyyyyyyyyyyyyyyyyyyyyyyyyyyyyyyyyyyyyyyyyyyyyyyyyyyyyyyyyyyyyyyyyyyyyyyyyyyyy", "$7$96..../....yyyyyyyyyyyyyyyyyyyyyyyyyyyyyyyyyyyyyyyyyyyyyyyyyyyyyyyyyyyyyyyyyyyyyyyyyyyyyyyyyyyyyy$9VpQ0saXt581QZBFMn5YCSepACYgAUzyO/5zFL9K13."),
-    (13, "$7$C/..../....large.N", "$7$C/..../....large.N$AWaJPpumh6MSmU6uoTZysmjNkmS9dg/dSQ1DTS02IAB"),
+    (255, "$7$50....E....many.parts", "$7$50....E....many.parts$95adkr0JmJ5/YIBZqgGm7Vv7wUWZrKelbbgLDpZ9rQ0"),
+    (511, "$7$76..../....yyyyyyyyyyyyyyyyyyyyyyyyyyyyyyyyyyyyyyyyyyyyyyyyyyyyyyyyyyyyyyyyyyyyyyyyyyyyyyyyyyyyyy", "$7$76..../....yyyyyyyyyyyyyyyyyyyyyyyyyyyyyyyyyyyyyyyyyyyyyyyyyyyyyyyyyyyyyyyyyyyyyyyyyyyyyyyyyyyyyy$3rbYuzjbUvKfAfbHjW/x754unkQxTYeh1PlAyCi8yZ6"),
+    (13, "$7$9/..../....large.N", "$7$9/..../....large.N$9nNmFO.JwBNgdTdApEQbrtNefeGqENGk/nkOa9z8o3C"),
 ];
 
 // Published vectors and others of scrypt: a password, a setting, the counts of digests, bytes,
