@@ -1,4 +1,4 @@
-//! The scratch memory of scrypt: bytes, and 32-bit words.
+//! The memory that scrypt works in besides its table: bytes, and 32-bit words.
 //!
 //! Each is one growth, made at once in its full size.
 

@@ -1,4 +1,4 @@
-//! The table of scrypt: rows of 32-bit words, all of one length.
+//! The table of scrypt, the V of RFC 7914, section 5: rows of 32-bit words, all of one length.
 //!
 //! All rows lie in one vector, one behind another, so that a table is one growth, made at once in
 //! its full size.
