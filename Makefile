@@ -22,6 +22,7 @@ run: mkpasswd
 check: mkpasswd
 	tools/check-layers --selftest
 	tools/check-layers
+	tools/check-program ./mkpasswd
 	tools/check-memory ./mkpasswd
 	tools/compare --selftest
 	tools/compare ./mkpasswd

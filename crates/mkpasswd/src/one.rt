@@ -76,6 +76,7 @@ fn send<O: Write>(out: &mut Output<O>, text: &[u8], turns: u64) -> Result<(), Ru
     ensures delivers { Delivers O.contents out.old out.new text.now result }
     ensures outcome { ShowsOutcome turns out.old out.new result }
     ensures within_turns { IsWithinTurns turns out.old out.new }
+    ensures memory { ¬ IsErrOf result RunFault.OutOfMemory }
 {
     let mut rest = text;
     let mut left = turns;

@@ -5,9 +5,6 @@ use Rattle.crypt_core.specs.Methods.{method_named}
 use Rattle.mkpasswd.specs.Options.{texts}
 use Rattle.mkpasswd.proofs.options.plan.Goals as goal
 
-pub returns-in_default-clause-planned : goal.returns-in_default
-returns-in_default-clause-planned c = ?
-
 pub returns-in_err-setting : goal.returns-in_err-setting
 returns-in_err-setting c =
     let given = c.in_ok-given.given in
