@@ -1,9 +1,11 @@
-//! Key derivation: HMAC (RFC 2104) and PBKDF2 (RFC 8018) over SHA-256, and the parameters of scrypt
-//! (RFC 7914). A meter counts every digest that is made here.
+//! Key derivation: HMAC (RFC 2104) and PBKDF2 (RFC 8018) over SHA-256, and scrypt (RFC 7914) with its
+//! parameters. A meter counts all work that is done here.
 #![tactic(auto)]
 
 pub mod hmac;
 pub mod params;
 pub mod pbkdf2;
 pub mod scrypt;
+#[cfg(test)]
+mod tests;
 mod xor;
