@@ -17,5 +17,6 @@ written_over old new = take (length old) (new ++ drop (length new) old)
 abbrev pub LendsBytes : MutBor (List ℕ) → MutBor (List ℕ) → Fml
 LendsBytes scratch r = Lends bytes.the_row (Array u8 0) scratch r (written_over scratch.now)
 
+-- the same of words
 abbrev pub LendsWords : MutBor (List ℕ) → MutBor (List ℕ) → Fml
 LendsWords scratch r = Lends words.the_row (Array u32 0) scratch r (written_over scratch.now)

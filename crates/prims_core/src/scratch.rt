@@ -1,4 +1,4 @@
-//! The scratch memory of scrypt: bytes, and 32-bit words.
+//! The memory that scrypt works in besides its table: bytes, and 32-bit words.
 //!
 //! Each is one growth, made at once in its full size.
 
@@ -9,17 +9,15 @@ ghost use Rattle.prims_core.specs.Memory.{LendsBytes, LendsWords};
 use crate::meter::Meter;
 use std::alloc::{AllocError, Global};
 use std::marker::Model;
+use std::mem::size_of;
 
 #[cfg(test)]
 mod tests;
 
-/// The bytes of a word.
-const WORD: usize = 4;
-
 /// Bytes to work on.
 #[derive(Drop)]
 pub struct ByteScratch {
-    items: Vec<u8>,
+    bytes: Vec<u8>,
 }
 
 impl Model for ByteScratch {
@@ -27,7 +25,7 @@ impl Model for ByteScratch {
 
     ghost Value = { List ℕ };
 
-    ghost view = { λ s. s.items.items };
+    ghost view = { λ s. s.bytes.items };
 }
 
 impl ByteScratch {
@@ -42,16 +40,16 @@ impl ByteScratch {
         ensures count { OnOk result (meter.new ≡ record meter.old { scratch = meter.old.scratch + len }) }
         ensures refused { OnErr result (meter.new ≡ meter.old) }
     {
-        let items = vec![in alloc; 0; len]?;
+        let bytes = vec![in alloc; 0; len]?;
         meter.count_scratch(len);
-        Ok(ByteScratch { items })
+        Ok(ByteScratch { bytes })
     }
 
     /// All the bytes.
     pub fn bytes(&self) -> &[u8]
         ensures { result.now ≡ self.now }
     {
-        &self.items
+        &self.bytes
     }
 
     /// All the bytes, to be written to.
@@ -59,14 +57,14 @@ impl ByteScratch {
         ensures* writes_back { sem 𝓛 (LendsBytes self.entry result) }
         ensures value { result.now ≡ self.old }
     {
-        self.items.as_mut_slice()
+        self.bytes.as_mut_slice()
     }
 }
 
 /// Words to work on.
 #[derive(Drop)]
 pub struct WordScratch {
-    items: Vec<u32>,
+    words: Vec<u32>,
 }
 
 impl Model for WordScratch {
@@ -74,7 +72,7 @@ impl Model for WordScratch {
 
     ghost Value = { List ℕ };
 
-    ghost view = { λ s. s.items.items };
+    ghost view = { λ s. s.words.items };
 }
 
 impl WordScratch {
@@ -89,16 +87,16 @@ impl WordScratch {
         ensures count { OnOk result (meter.new ≡ record meter.old { scratch = meter.old.scratch + 4 * words }) }
         ensures refused { OnErr result (meter.new ≡ meter.old) }
     {
-        let items = vec![in alloc; 0; words]?;
-        meter.count_scratch(WORD * words);
-        Ok(WordScratch { items })
+        let zeros = vec![in alloc; 0; words]?;
+        meter.count_scratch(words * size_of::<u32>());
+        Ok(WordScratch { words: zeros })
     }
 
     /// All the words.
     pub fn words(&self) -> &[u32]
         ensures { result.now ≡ self.now }
     {
-        &self.items
+        &self.words
     }
 
     /// All the words, to be written to.
@@ -106,6 +104,6 @@ impl WordScratch {
         ensures* writes_back { sem 𝓛 (LendsWords self.entry result) }
         ensures value { result.now ≡ self.old }
     {
-        self.items.as_mut_slice()
+        self.words.as_mut_slice()
     }
 }

@@ -1,4 +1,4 @@
-//! The table of scrypt: rows of 32-bit words, all of one length.
+//! The table of scrypt, the V of RFC 7914, section 5: rows of 32-bit words, all of one length.
 //!
 //! All rows lie in one vector, one behind another, so that a table is one growth, made at once in
 //! its full size.
@@ -8,9 +8,7 @@ ghost use Rattle.std.specs.Prelude.{◌≡◌, ◌+◌, ◌*◌, ◌^◌, ◌<�
 use crate::meter::Meter;
 use std::alloc::{AllocError, Global};
 use std::marker::Model;
-
-/// The bytes of a word.
-const WORD: usize = 4;
+use std::mem::size_of;
 
 /// Rows of words, all of one length.
 #[derive(Drop)]
@@ -50,7 +48,7 @@ impl Table {
         ensures refused { OnErr result (meter.new ≡ meter.old) }
     {
         let words = vec![in alloc; 0; rows * row_words]?;
-        meter.count_table(WORD * (rows * row_words));
+        meter.count_table(rows * row_words * size_of::<u32>());
         Ok(Table {
             words,
             rows,
@@ -59,6 +57,7 @@ impl Table {
     }
 
     /// Row `i`.
+    #[tactic(auto, using(crate::proofs::RowFacts::row_end))]
     pub fn row(&self, i: usize) -> &[u32]
         requires { i < length self.now }
         ensures { result.now ≡ slice_index_or self.now i [] }
@@ -68,6 +67,7 @@ impl Table {
     }
 
     /// Makes row `i` a copy of `row`, which has the same length. The other rows stay.
+    #[tactic(auto, using(crate::proofs::RowFacts::row_end))]
     pub fn set_row(&mut self, i: usize, row: &[u32])
         requires inside { i < length self.old }
         requires same_length { length row.now ≡ length (slice_index_or self.old i []) }

@@ -5,18 +5,6 @@ use Rattle.prims_core.specs.Memory.{rows_of}
 use Rattle.prims_core.proofs.RowFacts.{row_end, length-row, row_written}
 use Rattle.prims_core.proofs.table.Table.set_row.Goals as goal
 
-pub overflow_mul-start : goal.overflow_mul-start
-overflow_mul-start c = omega (arith, row_end _ _ _ _ c.args.i c.self.view_is c.requires.inside)
-
-pub overflow_add-end : goal.overflow_add-end
-overflow_add-end c = omega (arith, row_end _ _ _ _ c.args.i c.self.view_is c.requires.inside)
-
-pub offset_bounds-deref_mut-start : goal.offset_bounds-deref_mut-start
-offset_bounds-deref_mut-start c = omega (arith, row_end _ _ _ _ c.args.i c.self.view_is c.requires.inside)
-
-pub slice_bounds-copy_from_slice-end : goal.slice_bounds-copy_from_slice-end
-slice_bounds-copy_from_slice-end c = omega (arith, row_end _ _ _ _ c.args.i c.self.view_is c.requires.inside)
-
 pub copy_from_slice-requires : goal.copy_from_slice-requires
 copy_from_slice-requires c =
     let long : length c.args.row.now ≡ c.self.inside.row_words =
