@@ -8,8 +8,7 @@ use Rattle.prims_core.specs.Salsa.{salsa20_8}
 abbrev pub mixed_block : List ℕ → List ℕ → List ℕ
 mixed_block x block = salsa20_8 (xor_words x block)
 
--- Y[0], Y[1], .., each mixed of its block and the result before it; before the first stands the last
--- block
+-- Y[0], Y[1], ..: each block mixed with the result before it, and the first with the last block
 unfoldable pub mixed_blocks : List (List ℕ) → List (List ℕ)
 mixed_blocks blocks =
     scan mixed_block mixed_block (slice_index_or blocks (length blocks - 1) []) blocks

@@ -14,7 +14,7 @@ xor_bytes xs ys = zip2 bit_xor xs ys
 unfoldable pub xor_words : List ℕ → List ℕ → List ℕ
 xor_words xs ys = zip2 bit_xor xs ys
 
--- the pieces of so many items that a list is made of, in order
+-- a list in pieces of so many items, as `chunks_exact` cuts a slice
 unfoldable pub chunks_exact : List ℕ → ℕ → List (List ℕ)
 chunks_exact items size =
     map (λ i. take size (drop (size * i) items)) (range_with_len 0 (length items / size))

@@ -1,5 +1,5 @@
 //! The ground that every scheme of mkpasswd stands on: crypt's alphabet, the meter of work, the
-//! digests that a meter counts, and numbers as bytes.
+//! digests that a meter counts, numbers as bytes, and the mixing of scrypt's blocks.
 #![tactic(auto)]
 
 pub mod alphabet;

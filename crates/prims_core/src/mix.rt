@@ -8,10 +8,13 @@ ghost use Rattle.prims_core.specs.BlockMix.{block_mix, mixed_block};
 ghost use Rattle.prims_core.specs.Words.{xor_words};
 
 use crate::meter::Meter;
-use crate::salsa::{BLOCK_WORDS, salsa8};
+use crate::salsa::salsa8;
 
 #[cfg(test)]
 mod tests;
+
+// The words of a block.
+const BLOCK_WORDS: usize = 16;
 
 /// Mixes the 2r blocks of `src` into `dst`, and counts one mixing.
 ///
@@ -22,6 +25,7 @@ pub fn block_mix(src: &[u32], dst: &mut [u32], meter: &mut Meter)
     ensures mixed { dst.new ≡ block_mix src.now }
     ensures count { meter.new ≡ record meter.old { mixes = meter.old.mixes + 1 } }
 {
+    // As many blocks stand at even places as at odd ones.
     let half = src.len() / (2 * BLOCK_WORDS);
     let mut x = [0; BLOCK_WORDS];
     x.copy_from_slice(&src[src.len() - BLOCK_WORDS..]);

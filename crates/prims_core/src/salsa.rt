@@ -1,8 +1,8 @@
 //! The Salsa20/8 core of scrypt (RFC 7914, section 3), after Bernstein's Salsa20 specification.
 //!
-//! The sixteen words of a block are a matrix, row by row. The column round and the row round give
-//! each column and each row a quarter round, begun at its place on the diagonal; four times both are
-//! the eight rounds.
+//! The sixteen words of a block are a matrix of four rows. A column round is a quarter round of each
+//! column, and a row round one of each row, each begun on the diagonal; four times both are the eight
+//! rounds.
 
 ghost use Rattle.std.specs.Prelude.{◌≡◌, [], ◌∷◌};
 ghost use Rattle.std.specs.Fn.{iterate};
@@ -12,9 +12,6 @@ ghost use Rattle.prims_core.specs.Salsa.{sum_of_words, quarter_round, column_rou
 
 #[cfg(test)]
 mod tests;
-
-/// The words of a block of 64 bytes.
-pub(crate) const BLOCK_WORDS: usize = 16;
 
 /// Salsa20/8 of the sixteen words of a block, in place: each word is added to its word after eight
 /// rounds.
