@@ -23,6 +23,8 @@ check: mkpasswd
 	tools/check-layers --selftest
 	tools/check-layers
 	tools/check-memory ./mkpasswd
+	tools/compare --selftest
+	tools/compare ./mkpasswd
 	$(RT) ci
 
 install: mkpasswd

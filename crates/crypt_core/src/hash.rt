@@ -63,11 +63,7 @@ pub fn hash_free(password: &Password, setting: &Setting, meter: &mut Meter) -> O
 }
 
 // The digest that the setting's scheme makes of the password.
-fn digest_of(
-    password: &Password,
-    setting: &Setting,
-    meter: &mut Meter,
-) -> Option<ArrayVec<u8, 64>>
+fn digest_of(password: &Password, setting: &Setting, meter: &mut Meter) -> Option<ArrayVec<u8, 64>>
     requires { HasRoom meter.old }
     ensures none { IsNone result ↔ (method_of setting.now.scheme ≡ Method.Scrypt) }
     ensures unchanged { IfNone result (meter.new ≡ meter.old) }

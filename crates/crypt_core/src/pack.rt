@@ -124,18 +124,31 @@ mod tests {
     use super::*;
     use std::test::Fail;
 
+    // The texts were computed from the published tables, and the tables' reading was tried on whole
+    // texts of libxcrypt.
     #[test]
     fn writes_the_groups_of_each_method(rt: HostRuntime) -> Result<(), Fail> {
         let rising: Vec<u8> = (0..64).collect(rt.alloc())?;
         let cases = [
-            (Method::Md5crypt, 16, "AM..BQE.CUU.DYk.3c./9.", ""),
-            (Method::Sha256crypt, 32, "Ic..", "Sw/"),
-            (Method::Sha512crypt, 64, "eI/.", "z."),
-            (Method::Scrypt, 32, ".2U.", "Sw/"),
+            (Method::Md5crypt, 16, "AM..BQE.CUU.DYk.3c./9."),
+            (
+                Method::Sha256crypt,
+                32,
+                "Ic..92E30M/1Lok.CE.43Yl1O.V/FQk46kV2RAF0Sw/",
+            ),
+            (
+                Method::Sha512crypt,
+                64,
+                "eI/./gW3L6.9hUl.2sG4OIk9kgV/5215RUUAnsF08En5UgEBq201BQX6Xs.CtEm1EcH7a2lCwQW2Ho18dEVDz.",
+            ),
+            (
+                Method::Scrypt,
+                32,
+                ".2U.1EE/4Q.07ck0AoU1D.F2GA/3JMl3MYV4PkF5Sw/",
+            ),
         ];
-        for (method, len, front, end) in cases {
+        for (method, len, packed) in cases {
             assert!(rt; len <= rising.len());
-            let bytes = &rising.as_slice()[..len];
             let known = matches!(
                 (method, len),
                 (Method::Md5crypt, 16)
@@ -143,15 +156,8 @@ mod tests {
                     | (Method::Sha512crypt, 64)
             );
             assert!(rt; known);
-            let text = pack(method, bytes);
-            assert!(rt;
-                text.as_slice().starts_with(front.as_bytes()),
-                "{method:?} begins"
-            );
-            assert!(rt;
-                text.as_slice().ends_with(end.as_bytes()),
-                "{method:?} ends"
-            );
+            let text = pack(method, &rising.as_slice()[..len]);
+            assert_eq!(rt; text.as_slice(), packed.as_bytes(), "{method:?}");
         }
         let dots = pack(Method::Md5crypt, &[0; 16]);
         assert_eq!(rt; dots.as_slice(), b"......................".as_slice());

@@ -64,7 +64,13 @@ fn opening<H: Counted>(password: &[u8], salt: &[u8], meter: &mut Meter) -> Array
     running.feed(meter, password);
     running.feed(meter, salt);
     feed_cycle(&mut running, meter, salted.as_slice(), password.len());
-    feed_digits(&mut running, meter, password.len(), salted.as_slice(), password);
+    feed_digits(
+        &mut running,
+        meter,
+        password.len(),
+        salted.as_slice(),
+        password,
+    );
     running.finish(meter)
 }
 

@@ -1,11 +1,6 @@
 -- How the work of several calls adds up.
-use Rattle.std.proofs.Common.{◌≡◌, ℕ, ◌+◌, sym, ap, ◌∙◌, add-zero, arith}
+use Rattle.std.proofs.Common.{◌≡◌, ℕ, ◌+◌, ap, ◌∙◌, arith}
 use Rattle.prims_core.specs.Meter.{Counts, with_work}
-
-pub no_work : (m : Counts) → m ≡ with_work m 0 0
-no_work m =
-    ap (λ n. record m { digests = n }) (sym (add-zero m.digests))
-    ∙ ap (λ n. record m { digests = m.digests + 0; bytes = n }) (sym (add-zero m.bytes))
 
 -- some work, and then some more
 pub work_more : (a b c : Counts) (d x e y digests bytes : ℕ) → b ≡ with_work a d x → c ≡ with_work b e y

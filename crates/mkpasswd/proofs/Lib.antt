@@ -1,3 +1,4 @@
 pub mod FirstCommand
+pub mod Planning
 pub mod RequiredTexts
 pub mod Sending

@@ -1,26 +1,11 @@
 -- How far the giving of a text has come.
-use Rattle.std.proofs.Common.{◌≡◌, ℕ, ◌+◌, ◌<◌, ◌≤◌, List, [], ◌++◌, length, take, drop, arith, refl, sym, ◌∙◌, ap, append_assoc, Option, Some, None, false, nat_eq, nat_lt, ◌&&◌, ◌-◌, add-zero}
-use Rattle.std.proofs.lemmas.List.{append-nil, length-append, length-take-le, take-append-drop}
-use Rattle.std.specs.Io.KnownBytes.{Appends, Keeps}
+use Rattle.std.proofs.Common.{◌≡◌, ℕ, ◌+◌, ◌<◌, ◌≤◌, List, [], ◌++◌, length, take, drop, arith, refl, ◌∙◌, ap, append_assoc, Option, false, nat_eq, nat_lt, ◌&&◌, ◌-◌, add-zero}
+use Rattle.std.proofs.lemmas.List.{length-append, length-take-le, take-append-drop}
+use Rattle.std.specs.Io.KnownBytes.{Appends}
+use Rattle.std.proofs.KnownBytes.{Appends-nil, Appends-trans}
 use Rattle.std.proofs.lemmas.Bool.Decides.{nat_tests}
-use Rattle.mkpasswd.specs.Devices.{Device, count_of}
+use Rattle.mkpasswd.specs.Devices.{Device, as_count}
 use Rattle.mkpasswd.specs.Output.{Takes}
-
-pub Appends-nil : (old : Option (List ℕ)) → Appends old old []
-Appends-nil None = tt
-Appends-nil (Some xs) = sym (append-nil xs)
-
-pub Appends-append : (a b c : Option (List ℕ)) (xs ys : List ℕ) → Appends a b xs → Appends b c ys → Appends a c (xs ++ ys)
-Appends-append None b c xs ys p q = tt
-Appends-append (Some a) None c xs ys p q = absurd p
-Appends-append (Some a) (Some b) None xs ys p q = absurd q
-Appends-append (Some a) (Some b) (Some c) xs ys p q = q ∙ (ap (λ l. l ++ ys) p ∙ append_assoc a xs ys)
-
-pub Appends-keeps : (a b c : Option (List ℕ)) (xs : List ℕ) → Appends a b xs → Keeps b c → Appends a c xs
-Appends-keeps None b c xs p q = tt
-Appends-keeps (Some a) None c xs p q = absurd p
-Appends-keeps (Some a) (Some b) None xs p q = absurd q
-Appends-keeps (Some a) (Some b) (Some c) xs p q = q ∙ p
 
 module _ {T : Type 0} where
   -- the front of the text was taken, in calls that did not fail and that each took a byte
@@ -36,7 +21,7 @@ module _ {T : Type 0} where
   pub under_way-step : (contents : T → Option (List ℕ)) (old mid new : Device T) (text rest next : List ℕ) (turns left count : ℕ)
       → IsUnderWay contents old mid text rest turns left → 0 < left → 0 < count → count ≤ length rest
       → Appends (contents mid.inner) (contents new.inner) (take count rest)
-      → new.failures ≡ mid.failures + count_of (nat_eq count 0 && nat_lt 0 (length rest))
+      → new.failures ≡ mid.failures + as_count (nat_eq count 0 && nat_lt 0 (length rest))
       → new.calls ≡ mid.calls + 1 → new.bytes ≡ mid.bytes + count → next ≡ drop count rest
       → IsUnderWay contents old new text next turns (left - 1)
   under_way-step contents old mid new text rest next turns left count before some_left some_taken within appends failures calls bytes next_is =
@@ -51,7 +36,7 @@ module _ {T : Type 0} where
         sent = sent ++ took;
         split = rw next_is (append_assoc sent took (drop count rest) ∙ (ap (λ l. sent ++ l) (take-append-drop count rest) ∙ before.split));
         takes = record {
-          shown = Appends-append _ (contents mid.inner) _ sent took before.takes.shown appends;
+          shown = Appends-trans _ (contents mid.inner) _ sent took before.takes.shown appends;
           counted = omega (arith, length-append sent took, size, counted, bytes);
         };
         unfailed = no_failure ∙ before.unfailed;

@@ -2,7 +2,8 @@
 use Rattle.std.specs.Prelude.{ℕ, ◌^◌, ◌≤◌, ◌==◌, ◌&&◌, Bool, true, nat_lt, List, length, Result, Ok, Err, refl, if◌then◌else◌}
 use Rattle.std.specs.Coded.{Coded, code_by, coded×, coded_ℕ}
 
--- the device, how many of its calls failed, how many moved bytes, and how many bytes these moved
+-- the device; how many of its calls failed; how many calls were made to move bytes, failed ones
+-- among them; and how many bytes these moved. An output moves bytes by `give`, and not by `flush`
 pub record Device (T : Type 0) : Type 0 where
   pub inner : T
   pub failures : ℕ
@@ -16,8 +17,9 @@ device_code {T} code =
     (λ d. (d.inner, (d.failures, (d.calls, d.bytes))))
     (λ p. record { inner = p.0; failures = p.1.0; calls = p.1.1.0; bytes = p.1.1.1 }) (λ _. refl)
 
-abbrev pub count_of : Bool → ℕ
-count_of seen = if seen then 1 else 0
+-- 1 where it was seen, else 0
+abbrev pub as_count : Bool → ℕ
+as_count seen = if seen then 1 else 0
 
 -- a `give` fails where its call did, or where it took nothing of a piece that isn't empty
 abbrev pub is_failed_give : {E : Type 0} → Result ℕ E → List ℕ → Bool
@@ -30,5 +32,5 @@ taken_by (Ok count) = count
 taken_by (Err e) = 0
 
 -- the numbers of a device leave room for any run
-abbrev pub HasRoom : {T : Type 0} → Device T → Type 0
-HasRoom d = (d.failures ≤ 2 ^ 62) × (d.calls ≤ 2 ^ 62) × (d.bytes ≤ 2 ^ 62)
+abbrev pub HasRoomForRun : {T : Type 0} → Device T → Type 0
+HasRoomForRun d = (d.failures ≤ 2 ^ 62) × (d.calls ≤ 2 ^ 62) × (d.bytes ≤ 2 ^ 62)

@@ -1,9 +1,12 @@
 -- The texts and exit statuses of what can end the program early.
 use Rattle.std.specs.Prelude.{ℕ, List, [], codes}
 use Rattle.clap.specs.Words.{kind_of}
+use Rattle.crypt_core.specs.PasswordFaults.{password_text}
 use Rattle.crypt_core.specs.SettingFaults.{make_fault_text}
 use Rattle.clap.specs.declared.error.kind.ErrorKind.{ErrorKind}
 use Rattle.clap.specs.declared.error.kind.ErrorKind.TheVariants.{DisplayHelp, DisplayVersion}
+use Rattle.mkpasswd.specs.declared.faults.Fault.{Fault}
+use Rattle.mkpasswd.specs.declared.faults.Fault.TheVariants.{Start, Usage, Password, Run}
 use Rattle.mkpasswd.specs.declared.faults.RunFault.{RunFault}
 use Rattle.mkpasswd.specs.declared.faults.RunFault.TheVariants.{Write, Turns}
 use Rattle.mkpasswd.specs.declared.faults.UsageFault.{UsageFault}
@@ -38,3 +41,18 @@ run_status Turns = 3
 abbrev pub run_text : RunFault → List ℕ
 run_text Write = codes "write fault"
 run_text Turns = codes "too many turns"
+
+-- the exit status after any fault: 2 where the words or the password are wrong, 3 where the machine
+-- refused
+abbrev pub fault_status : Fault → ℕ
+fault_status Start = 3
+fault_status (Usage fault) = usage_status fault
+fault_status (Password fault) = 2
+fault_status (Run fault) = run_status fault
+
+-- what keeps the program from its answer
+abbrev pub fault_text : Fault → List ℕ
+fault_text Start = codes "start fault"
+fault_text (Usage fault) = usage_text fault
+fault_text (Password fault) = password_text fault
+fault_text (Run fault) = run_text fault

@@ -8,9 +8,10 @@ use Rattle.clap.specs.declared.error.Error.{Error}
 use Rattle.clap.specs.declared.error.kind.ErrorKind.TheVariants as kind
 use Rattle.crypt_core.specs.Methods.{method_named}
 use Rattle.crypt_core.specs.MadeSettings.{IsMakeable, IsMakeRefused, made_setting}
-use Rattle.crypt_core.specs.declared.method.Method.TheVariants.{Md5crypt}
+use Rattle.crypt_core.specs.declared.method.Method.{Method}
+use Rattle.crypt_core.specs.declared.method.Method.TheVariants.{Scrypt}
 use Rattle.mkpasswd.specs.declared.faults.UsageFault.{UsageFault}
-use Rattle.mkpasswd.specs.declared.faults.UsageFault.TheVariants.{Parse, Method, Make, OutOfMemory}
+use Rattle.mkpasswd.specs.declared.faults.UsageFault.TheVariants.{Parse, Method as UnknownMethod, Make, OutOfMemory}
 use Rattle.mkpasswd.specs.declared.options.First.{First}
 use Rattle.mkpasswd.specs.declared.options.Given.{Given}
 
@@ -79,18 +80,19 @@ pub record Refuses (words : List Text) (error : Error) : Type 0 where
 
 -- ---- the plan
 
--- TYPE names md5crypt
-abbrev pub IsMd5crypt : Text → Type 0
-IsMd5crypt name = method_named name ≡ Some Md5crypt
+-- TYPE names this method, and the program hashes by it
+pub record HashesBy (name : Text) (method : Method) : Type 0 where
+  pub named : method_named name ≡ Some method
+  pub without_memory : method ≢ Scrypt
 
 -- what the words mean: the first refusal that holds, or else the plan. Memory may run out at any
 -- words.
 abbrev pub Plans : List Text → Result First UsageFault → Type 0
-Plans words (Ok first) = (texts : Texts) × Gives words texts × IsMd5crypt texts.method
-    × IsMakeable Md5crypt 0 texts.salt × (first.setting ≡ made_setting Md5crypt 0 texts.salt)
+Plans words (Ok first) = (texts : Texts) × (method : Method) × Gives words texts × HashesBy texts.method method
+    × IsMakeable method 0 texts.salt × (first.setting ≡ made_setting method 0 texts.salt)
     × (first.password.items ≡ texts.password)
 Plans words (Err (Parse error)) = Refuses words error
-Plans words (Err Method) = (texts : Texts) × Gives words texts × ¬ IsMd5crypt texts.method
-Plans words (Err (Make fault)) = (texts : Texts) × Gives words texts × IsMd5crypt texts.method
-    × IsMakeRefused Md5crypt 0 texts.salt fault
+Plans words (Err UnknownMethod) = (texts : Texts) × Gives words texts × ((method : Method) → ¬ HashesBy texts.method method)
+Plans words (Err (Make fault)) = (texts : Texts) × (method : Method) × Gives words texts × HashesBy texts.method method
+    × IsMakeRefused method 0 texts.salt fault
 Plans words (Err OutOfMemory) = ⊤

@@ -4,14 +4,15 @@ ghost use Rattle.std.specs.Prelude.{◌≡◌, ◌+◌, ◌-◌, ◌^◌, ◌<�
 ghost use Rattle.std.specs.Result.{is_err};
 ghost use Rattle.std.specs.Io.{WritesAtMost};
 ghost use Rattle.std.specs.Io.KnownBytes.{Keeps, WriteAppends};
-ghost use Rattle.mkpasswd.specs.Devices.{count_of, is_failed_give, taken_by};
+ghost use Rattle.mkpasswd.specs.Devices.{as_count, is_failed_give, taken_by};
 
 use std::io;
 use std::io::Write;
 use std::marker::Model;
 
-/// A writer, with the number of its failed calls, of its `give` calls, and of the bytes that these
-/// took. A new wrapper has seen nothing.
+/// A writer, with the number of its failed calls, of its `give` calls, failed ones among them, and of
+/// the bytes that these took. A `flush` counts only as a failed call, where it is one. A new wrapper
+/// has seen nothing.
 #[derive(Drop)]
 pub struct Output<O> {
     inner: O,
@@ -50,6 +51,14 @@ impl<O: Write> Output<O> {
         self.failures
     }
 
+    /// Gives the writer back.
+    #[cfg(test)]
+    pub fn into_inner(self) -> O
+        ensures { result ≡ self.inner }
+    {
+        self.inner
+    }
+
     /// Passes one `write` of the piece on, and answers what it answered: how many of the piece's
     /// first bytes were taken.
     pub fn give(&mut self, piece: &[u8]) -> io::Result<usize>
@@ -58,7 +67,7 @@ impl<O: Write> Output<O> {
         requires bytes_room { self.old.bytes + length piece.now < 2 ^ 64 }
         ensures within { WritesAtMost result piece.now }
         ensures takes { WriteAppends (O.contents self.old.inner) (O.contents self.new.inner) result piece.now }
-        ensures failures { self.new.failures ≡ self.old.failures + count_of (is_failed_give result piece.now) }
+        ensures failures { self.new.failures ≡ self.old.failures + as_count (is_failed_give result piece.now) }
         ensures calls { self.new.calls ≡ self.old.calls + 1 }
         ensures bytes { self.new.bytes ≡ self.old.bytes + taken_by result }
     {
@@ -80,7 +89,7 @@ impl<O: Write> Output<O> {
     pub fn flush(&mut self) -> io::Result<()>
         requires { self.old.failures < 2 ^ 64 - 1 }
         ensures keeps { Keeps (O.contents self.old.inner) (O.contents self.new.inner) }
-        ensures failures { self.new.failures ≡ self.old.failures + count_of (is_err result) }
+        ensures failures { self.new.failures ≡ self.old.failures + as_count (is_err result) }
         ensures calls { self.new.calls ≡ self.old.calls }
         ensures bytes { self.new.bytes ≡ self.old.bytes }
     {
@@ -95,22 +104,39 @@ impl<O: Write> Output<O> {
 #[cfg(test)]
 mod tests {
     use super::*;
-    use crate::memory::MemoryWriter;
+    use crate::test_devices::MemoryWriter;
+    use std::io::ErrorKind;
     use std::test::Fail;
+
+    // The kind of the error, where there is one.
+    fn fault_of<T: Drop>(answer: io::Result<T>) -> Option<ErrorKind> {
+        match answer {
+            Ok(_) => None,
+            Err(error) => Some(error.kind()),
+        }
+    }
 
     #[test]
     fn counts_what_it_saw(rt: HostRuntime) -> Result<(), Fail> {
         let mut writer = MemoryWriter::new(rt.alloc())
             .by(2)
-            .failing_at(2)
-            .failing_flush();
+            .failing_at(2, ErrorKind::PermissionDenied)
+            .failing_flush(ErrorKind::BrokenPipe);
         let mut out = Output::new(&mut writer);
         assert_eq!(rt; out.failures(), 0);
         assert_eq!(rt; out.give(b"abc").ok(), Some(2), "the first two bytes");
-        assert_eq!(rt; out.give(b"c").ok(), None, "a failed call");
+        assert_eq!(rt;
+            fault_of(out.give(b"c")),
+            Some(ErrorKind::PermissionDenied),
+            "the failed call's own error"
+        );
         assert_eq!(rt; out.give(b"").ok(), Some(0), "an empty piece");
         assert_eq!(rt; out.failures(), 1, "an empty piece is no failure");
-        assert!(rt; out.flush().is_err());
+        assert_eq!(rt;
+            fault_of(out.flush()),
+            Some(ErrorKind::BrokenPipe),
+            "the failed flush's own error"
+        );
         assert_eq!(rt; out.failures(), 2);
         drop(out);
         assert_eq!(rt; writer.taken(), b"ab".as_slice());

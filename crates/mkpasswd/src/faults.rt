@@ -1,11 +1,14 @@
 //! What can end the program early, with the text and the exit status of each fault. The text is
 //! without the program's name; a request for help or the version is a fault too, of status 0.
 ghost use Rattle.std.specs.Prelude.{◌≡◌, ◌≢◌};
+ghost use Rattle.std.specs.IoError.{error_kind};
 ghost use Rattle.clap.specs.Words.{kind_of};
 
 use clap::error::ErrorKind;
-use crypt_core::MakeFault;
+use crypt_core::password::PasswordFault;
+use crypt_core::setting::MakeFault;
 use std::alloc::AllocError;
+use std::io;
 use thiserror::Error;
 
 /// Why the words after the program's name give no plan.
@@ -94,7 +97,7 @@ pub enum RunFault {
     /// A write or a flush of an output failed.
     #[error("{}", self.text())]
     Write,
-    /// The run needs one more call of a device than it may make.
+    /// The run needs one more call to move bytes than it may make.
     #[error("{}", self.text())]
     Turns,
 }
@@ -122,37 +125,142 @@ impl RunFault {
     }
 }
 
+/// What keeps the program from its answer.
+#[derive(Debug, Drop)]
+pub enum Fault {
+    /// The arguments can't be read as text.
+    Start,
+    /// The words give no plan, or memory ran out.
+    Usage(UsageFault),
+    /// The password is refused.
+    Password(PasswordFault),
+    /// The run was cut short.
+    Run(RunFault),
+}
+
+impl Fault {
+    ghost use Rattle.mkpasswd.specs.Faults.{fault_status, fault_text};
+
+    /// The exit status: 2 after a mistake in the words or the password, 3 where the machine refused,
+    /// and 0 after help or the version.
+    pub fn status(&self) -> u8
+        ensures { result ≡ fault_status self.now }
+    {
+        match self {
+            Fault::Start => 3,
+            Fault::Usage(fault) => fault.status(),
+            Fault::Password(_) => 2,
+            Fault::Run(fault) => fault.status(),
+        }
+    }
+
+    /// What went wrong, in words for the user. It is empty where `clap` has the text.
+    pub fn text(&self) -> &'static str
+        ensures { result.now ≡ fault_text self.now }
+    {
+        match self {
+            Fault::Start => "start fault",
+            Fault::Usage(fault) => fault.text(),
+            Fault::Password(fault) => fault.text(),
+            Fault::Run(fault) => fault.text(),
+        }
+    }
+}
+
+impl From<io::Error> for Fault {
+    ghost use Rattle.mkpasswd.specs.declared.faults.Fault.TheVariants.{Start, Usage};
+    ghost use Rattle.mkpasswd.specs.declared.faults.UsageFault.TheVariants.{OutOfMemory};
+    ghost use Rattle.std.specs.declared.io.ErrorKind.TheVariants as kind;
+
+    ghost from_gives = { λ error fault. (error_kind error ≡ kind.OutOfMemory → fault ≡ Usage OutOfMemory)
+        × (error_kind error ≢ kind.OutOfMemory → fault ≡ Start) };
+
+    fn from(error: io::Error) -> Fault {
+        match error.kind() {
+            io::ErrorKind::OutOfMemory => Fault::Usage(UsageFault::OutOfMemory),
+            _ => Fault::Start,
+        }
+    }
+}
+
+impl From<AllocError> for Fault {
+    ghost use Rattle.mkpasswd.specs.declared.faults.Fault.TheVariants.{Usage};
+    ghost use Rattle.mkpasswd.specs.declared.faults.UsageFault.TheVariants.{OutOfMemory};
+
+    ghost from_gives = { λ _ fault. fault ≡ Usage OutOfMemory };
+
+    fn from(_error: AllocError) -> Fault {
+        Fault::Usage(UsageFault::OutOfMemory)
+    }
+}
+
+impl From<UsageFault> for Fault {
+    ghost use Rattle.mkpasswd.specs.declared.faults.Fault.TheVariants.{Usage};
+
+    ghost from_gives = { λ fault outer. outer ≡ Usage fault };
+
+    fn from(fault: UsageFault) -> Fault {
+        Fault::Usage(fault)
+    }
+}
+
+impl From<PasswordFault> for Fault {
+    ghost use Rattle.mkpasswd.specs.declared.faults.Fault.TheVariants.{Password};
+
+    ghost from_gives = { λ fault outer. outer ≡ Password fault };
+
+    fn from(fault: PasswordFault) -> Fault {
+        Fault::Password(fault)
+    }
+}
+
+impl From<RunFault> for Fault {
+    ghost use Rattle.mkpasswd.specs.declared.faults.Fault.TheVariants.{Run};
+
+    ghost from_gives = { λ fault outer. outer ≡ Run fault };
+
+    fn from(fault: RunFault) -> Fault {
+        Fault::Run(fault)
+    }
+}
+
 #[cfg(test)]
 mod tests {
     use super::*;
 
     #[test]
-    fn tells_usage_faults(rt: HostRuntime) {
+    fn tells_faults(rt: HostRuntime) {
         let rows = [
-            (UsageFault::Method, 2, "unknown method"),
-            (UsageFault::Make(MakeFault::SaltLength), 2, "salt length"),
+            (Fault::Start, 3, "start fault"),
+            (Fault::from(UsageFault::Method), 2, "unknown method"),
             (
-                UsageFault::Make(MakeFault::SaltCharacter),
+                Fault::from(UsageFault::from(MakeFault::SaltLength)),
+                2,
+                "salt length",
+            ),
+            (
+                Fault::from(UsageFault::from(MakeFault::SaltCharacter)),
                 2,
                 "salt character",
             ),
-            (UsageFault::from(AllocError), 3, "out of memory"),
+            (
+                Fault::from(UsageFault::from(AllocError)),
+                3,
+                "out of memory",
+            ),
+            (Fault::from(AllocError), 3, "out of memory"),
+            (Fault::from(PasswordFault::TooLong), 2, "password too long"),
+            (
+                Fault::from(PasswordFault::HasNul),
+                2,
+                "password has a zero byte",
+            ),
+            (Fault::from(RunFault::Write), 3, "write fault"),
+            (Fault::from(RunFault::Turns), 3, "too many turns"),
         ];
         for (fault, status, text) in rows {
-            assert_eq!(rt; fault.status(), status, "the status of {fault}");
-            assert_eq!(rt; fault.text(), text, "the text of {fault}");
-        }
-    }
-
-    #[test]
-    fn tells_run_faults(rt: HostRuntime) {
-        let rows = [
-            (RunFault::Write, 3, "write fault"),
-            (RunFault::Turns, 3, "too many turns"),
-        ];
-        for (fault, status, text) in rows {
-            assert_eq!(rt; fault.status(), status, "the status of {fault}");
-            assert_eq!(rt; fault.text(), text, "the text of {fault}");
+            assert_eq!(rt; fault.status(), status, "the status of {fault:?}");
+            assert_eq!(rt; fault.text(), text, "the text of {fault:?}");
         }
     }
 }

@@ -3,100 +3,39 @@
 //! `main` chooses the devices and the number of turns, and tells faults; all else is in the modules.
 #![tactic(auto)]
 
-use crypt_core::{Password, PasswordFault};
+ghost use Rattle.std.specs.Prelude.{◌≡◌, ◌⊎◌};
+ghost use Rattle.mkpasswd.specs.Faults.{fault_status};
+
+use crypt_core::password::Password;
 use device::Output;
-use faults::{RunFault, UsageFault};
+use faults::{Fault, RunFault, UsageFault};
 use one::run_first;
 use options::plan;
-use std::alloc::AllocError;
+use std::env;
 use std::process::ExitCode;
-use std::{env, io};
 use tally::Tally;
 
 mod device;
 mod faults;
-#[cfg(test)]
-mod memory;
 mod one;
 mod options;
 mod tally;
+#[cfg(test)]
+mod test_devices;
 
-/// How many device calls a run may make.
+/// How many calls to move bytes a run may make of its devices.
 const TURNS: u64 = 1 << 40;
 
-/// What keeps the program from its answer.
-#[derive(Debug, Drop)]
-enum Fault {
-    /// The arguments can't be read as text.
-    Start,
-    Usage(UsageFault),
-    Password(PasswordFault),
-    Run(RunFault),
-}
-
-impl Fault {
-    fn status(&self) -> u8 {
-        match self {
-            Fault::Start => 3,
-            Fault::Usage(fault) => fault.status(),
-            Fault::Password(_) => 2,
-            Fault::Run(fault) => fault.status(),
-        }
-    }
-
-    fn text(&self) -> &'static str {
-        match self {
-            Fault::Start => "start fault",
-            Fault::Usage(fault) => fault.text(),
-            Fault::Password(fault) => fault.text(),
-            Fault::Run(fault) => fault.text(),
-        }
-    }
-}
-
-impl From<io::Error> for Fault {
-    fn from(error: io::Error) -> Fault {
-        match error.kind() {
-            io::ErrorKind::OutOfMemory => Fault::Usage(UsageFault::OutOfMemory),
-            _ => Fault::Start,
-        }
-    }
-}
-
-impl From<AllocError> for Fault {
-    fn from(_error: AllocError) -> Fault {
-        Fault::Usage(UsageFault::OutOfMemory)
-    }
-}
-
-impl From<UsageFault> for Fault {
-    fn from(fault: UsageFault) -> Fault {
-        Fault::Usage(fault)
-    }
-}
-
-impl From<PasswordFault> for Fault {
-    fn from(fault: PasswordFault) -> Fault {
-        Fault::Password(fault)
-    }
-}
-
-impl From<RunFault> for Fault {
-    fn from(fault: RunFault) -> Fault {
-        Fault::Run(fault)
-    }
-}
-
 fn main(rt: HostRuntime) -> ExitCode {
-    let status = match hash(&rt) {
+    let status = match plan_and_run(&rt) {
         Ok(tally) => tally.status(),
         Err(fault) => tell(&rt, &fault),
     };
     ExitCode::from(status)
 }
 
-/// Reads the words, plans and runs.
-fn hash(rt: &HostRuntime) -> Result<Tally, Fault> {
+/// Reads the words, plans by them, and runs the plan on standard output.
+fn plan_and_run(rt: &HostRuntime) -> Result<Tally, Fault> {
     let words = words(rt)?;
     let first = plan(rt.alloc(), words.as_slice())?;
     let password = Password::new(first.password.as_slice())?;
@@ -111,8 +50,12 @@ fn words(rt: &HostRuntime) -> Result<Vec<String>, Fault> {
     Ok(words.collect(rt.alloc())?)
 }
 
-/// Tells a fault on standard error, or `clap`'s text where `clap` wants it, and answers the status.
-fn tell(rt: &HostRuntime, fault: &Fault) -> u8 {
+/// Tells a fault on standard error, or `clap`'s text where `clap` wants it, and answers the fault's
+/// status. Where help or the version can't be written, that is a fault too, and its status is the
+/// answer.
+fn tell(rt: &HostRuntime, fault: &Fault) -> u8
+    ensures { (result ≡ fault_status fault.now) ⊎ ((fault_status fault.now ≡ 0) × (result ≡ 3)) }
+{
     if let Fault::Usage(UsageFault::Parse(error)) = fault {
         if error.print(rt).is_err() && !error.use_stderr() {
             return tell_line(rt, &Fault::Run(RunFault::Write));
@@ -123,7 +66,9 @@ fn tell(rt: &HostRuntime, fault: &Fault) -> u8 {
 }
 
 /// Tells a fault as one line. Where standard error itself fails, the status is all that is left.
-fn tell_line(rt: &HostRuntime, fault: &Fault) -> u8 {
+fn tell_line(rt: &HostRuntime, fault: &Fault) -> u8
+    ensures { result ≡ fault_status fault.now }
+{
     let text = fault.text();
     let _ = eprintln!(rt; "mkpasswd: {text}");
     fault.status()

@@ -1,26 +1,30 @@
 //! The run for a single password: its hash and a line feed go to the output.
-ghost use Rattle.std.specs.Prelude.{◌≡◌, ◌+◌, ◌-◌, ◌^◌, ◌<◌, ◌≤◌, [], ◌∷◌, ◌++◌, length, IfOk, IfErr, OnOk, OnErr, IsErrOf};
+ghost use Rattle.std.specs.Prelude.{◌≡◌, ◌≢◌, ◌-◌, ◌^◌, ◌<◌, ◌≤◌, length, IfOk, IfErr, OnOk, OnErr};
+ghost use Rattle.crypt_core.specs.declared.method.Method.{Method};
 ghost use Rattle.std.specs.Io.KnownBytes.{Keeps};
-ghost use Rattle.crypt_core.specs.Crypt.{crypt};
 ghost use Rattle.crypt_core.specs.Settings.{method_of};
-ghost use Rattle.mkpasswd.specs.Devices.{HasRoom};
-ghost use Rattle.mkpasswd.specs.Output.{IsWithinTurns, Takes, TakesPart, TakesPrefix};
+ghost use Rattle.mkpasswd.specs.Answers.{hash_line};
+ghost use Rattle.mkpasswd.specs.Devices.{HasRoomForRun};
+ghost use Rattle.mkpasswd.specs.Output.{Delivers};
+ghost use Rattle.mkpasswd.specs.Runs.{FailsOnce, IsUnfailed, IsWithinTurns, ShowsOutcome};
 ghost use Rattle.mkpasswd.specs.Tallies.{one_line};
 
 use crate::device::Output;
 use crate::faults::RunFault;
 use crate::tally::Tally;
 use arrayvec::ArrayVec;
-use crypt_core::md5crypt::md5crypt;
-use crypt_core::pack::pack;
-use crypt_core::{Method, Password, Setting};
+use crypt_core::hash::hash_free;
+use crypt_core::password::Password;
+use crypt_core::setting::Setting;
+use prims_core::buffer::buffer_of;
 use prims_core::meter::Meter;
 use std::io::Write;
 
-/// Hashes a password by a setting of md5crypt, and gives the hash and a line feed to the output, in
-/// at most `turns` calls. It takes no memory.
+/// Hashes a password by a setting of any method but scrypt, and gives the hash and a line feed to the output, in
+/// at most `turns` calls of `give`, failed ones among them. The flush at the end is not one of them. It
+/// takes no memory.
 ///
-/// `Write` is answered after the first call of the output that fails, and `Turns` where one more call
+/// `Write` is answered after the first call of the output that fails, and `Turns` where one more `give`
 /// than `turns` is needed; the output has then taken the first bytes of the answer.
 pub fn run_first<O: Write>(
     password: &Password,
@@ -28,18 +32,13 @@ pub fn run_first<O: Write>(
     out: &mut Output<O>,
     turns: u64,
 ) -> Result<Tally, RunFault>
-    requires method { method_of setting.now.scheme ≡ Method.Md5crypt }
+    requires method { method_of setting.now.scheme ≢ Method.Scrypt }
     requires turns { turns ≤ 2 ^ 40 }
-    requires room { HasRoom out.old }
+    requires room { HasRoomForRun out.old }
     ensures tally { IfOk result (λ tally. tally ≡ one_line) }
-    ensures whole { OnOk result (Takes O.contents out.old out.new (crypt password.now setting.now ++ 10 ∷ [])) }
-    ensures unfailed { OnOk result (out.new.failures ≡ out.old.failures) }
-    ensures fault { OnErr result (TakesPrefix O.contents out.old out.new (crypt password.now setting.now ++ 10 ∷ [])) }
-    ensures write { IsErrOf result RunFault.Write → out.new.failures ≡ out.old.failures + 1 }
-    ensures turns { IsErrOf result RunFault.Turns → (out.new.calls ≡ out.old.calls + turns)
-        × (out.new.failures ≡ out.old.failures)
-        × TakesPart O.contents out.old out.new (crypt password.now setting.now ++ 10 ∷ []) }
-    ensures calls { IsWithinTurns turns out.old out.new }
+    ensures delivers { Delivers O.contents out.old out.new (hash_line password.now setting.now) result }
+    ensures outcome { ShowsOutcome turns out.old out.new result }
+    ensures within_turns { IsWithinTurns turns out.old out.new }
 {
     let answer = answer(password, setting);
     send(out, answer.as_slice(), turns)?;
@@ -53,30 +52,23 @@ pub fn run_first<O: Write>(
 
 // The hash and a line feed.
 fn answer(password: &Password, setting: &Setting) -> ArrayVec<u8, 160>
-    requires { method_of setting.now.scheme ≡ Method.Md5crypt }
-    ensures { result.items ≡ crypt password.now setting.now ++ 10 ∷ [] }
+    requires { method_of setting.now.scheme ≢ Method.Scrypt }
+    ensures { result.items ≡ hash_line password.now setting.now }
 {
-    let digest = md5crypt(password, setting.salt(), &mut Meter::new());
-    let packed = pack(Method::Md5crypt, &digest);
-    let mut text = setting.text();
-    text.push(b'$');
-    text.try_extend_from_slice(packed.as_slice()).unwrap();
-    text.push(b'\n');
-    text
+    let hashed = hash_free(password, setting, &mut Meter::new()).unwrap();
+    let mut line = buffer_of(hashed.text());
+    line.push(b'\n');
+    line
 }
 
 // Gives the whole text, in as many calls as the device wants.
 fn send<O: Write>(out: &mut Output<O>, text: &[u8], turns: u64) -> Result<(), RunFault>
     requires turns { turns ≤ 2 ^ 40 }
-    requires room { HasRoom out.old }
+    requires room { HasRoomForRun out.old }
     requires short { length text.now ≤ 160 }
-    ensures whole { OnOk result (Takes O.contents out.old out.new text.now) }
-    ensures unfailed { OnOk result (out.new.failures ≡ out.old.failures) }
-    ensures fault { OnErr result (TakesPrefix O.contents out.old out.new text.now) }
-    ensures write { IsErrOf result RunFault.Write → out.new.failures ≡ out.old.failures + 1 }
-    ensures turns { IsErrOf result RunFault.Turns → (out.new.calls ≡ out.old.calls + turns)
-        × (out.new.failures ≡ out.old.failures) × TakesPart O.contents out.old out.new text.now }
-    ensures calls { IsWithinTurns turns out.old out.new }
+    ensures delivers { Delivers O.contents out.old out.new text.now result }
+    ensures outcome { ShowsOutcome turns out.old out.new result }
+    ensures within_turns { IsWithinTurns turns out.old out.new }
 {
     let mut rest = text;
     let mut left = turns;
@@ -98,8 +90,8 @@ fn finish<O: Write>(out: &mut Output<O>) -> Result<(), RunFault>
     requires { out.old.failures < 2 ^ 64 - 1 }
     ensures keeps { Keeps (O.contents out.old.inner) (O.contents out.new.inner) }
     ensures counts { (out.new.calls ≡ out.old.calls) × (out.new.bytes ≡ out.old.bytes) }
-    ensures unfailed { OnOk result (out.new.failures ≡ out.old.failures) }
-    ensures write { OnErr result (out.new.failures ≡ out.old.failures + 1) }
+    ensures unfailed { OnOk result (IsUnfailed out.old out.new) }
+    ensures write { OnErr result (FailsOnce out.old out.new) }
     ensures only { IfErr result (λ fault. fault ≡ RunFault.Write) }
 {
     match out.flush() {

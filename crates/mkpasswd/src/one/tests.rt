@@ -1,10 +1,20 @@
+ghost use Rattle.std.specs.Prelude.{◌≡◌, ◌≢◌, ◌^◌, ◌≤◌, ◌++◌, OnOk};
+ghost use Rattle.crypt_core.specs.declared.method.Method.{Method};
+ghost use Rattle.crypt_core.specs.Settings.{method_of};
+ghost use Rattle.mkpasswd.specs.Answers.{hash_line};
+
 use super::run_first;
 use crate::device::Output;
 use crate::faults::RunFault;
-use crate::memory::MemoryWriter;
+use crate::options::plan;
+use crate::options::tests::words_of;
 use crate::tally::Tally;
-use crypt_core::{Method, Password, Setting};
+use crate::test_devices::MemoryWriter;
+use crypt_core::password::Password;
+use crypt_core::setting::Setting;
 use std::alloc::Global;
+use std::io::ErrorKind;
+use std::process::Abort;
 use std::test::Fail;
 
 const ONE_LINE: Tally = Tally {
@@ -13,61 +23,70 @@ const ONE_LINE: Tally = Tally {
     misfits: 0,
 };
 
+const WORDS: [&str; 5] = ["-m", "md5crypt", "-S", "xxxxxxxx", "password"];
+
 const ANSWER: &str = "$1$xxxxxxxx$UYCIxa628.9qXjpQCjM4a.\n";
 
-// Runs on a writer, and answers what the run did and the writer.
+// Runs on a writer that tells its bytes, and answers what the run did and the writer. That an answer
+// stands there whole follows from the clauses of `run_first` alone.
 fn run_on(
-    rt: &impl std::process::Abort,
-    password: &[u8],
-    salt: &str,
+    password: &Password,
+    setting: &Setting,
+    writer: MemoryWriter,
     turns: u64,
-    mut writer: MemoryWriter,
-) -> (Result<Tally, RunFault>, MemoryWriter) {
-    let password = Password::new(password).expect(rt, "a password");
-    let setting = Setting::make(Method::Md5crypt, 0, salt.as_bytes()).expect(rt, "a setting");
+) -> (Result<Tally, RunFault>, MemoryWriter)
+    requires method { method_of setting.now.scheme ≢ Method.Scrypt }
+    requires turns { turns ≤ 2 ^ 40 }
+    ensures { OnOk result.0
+        (result.1.taken.items ≡ writer.taken.items ++ hash_line password.now setting.now) }
+{
+    let mut out = Output::new(writer);
+    let outcome = run_first(password, setting, &mut out, turns);
+    (outcome, out.into_inner())
+}
+
+// Plans by the words, and runs the plan.
+fn run_words(
+    rt: &impl Abort,
+    alloc: Global,
+    words: &[&str],
+    writer: MemoryWriter,
+    turns: u64,
+) -> Result<(Result<Tally, RunFault>, MemoryWriter), Fail> {
+    let words = words_of(alloc, words)?;
+    let first = plan(alloc, words.as_slice())?;
+    let password = Password::new(first.password.as_slice()).expect(rt, "a password");
     assert!(rt; turns <= 1 << 40);
-    let mut out = Output::new(&mut writer);
-    let outcome = run_first(&password, &setting, &mut out, turns);
-    drop(out);
-    (outcome, writer)
+    Ok(run_on(&password, &first.setting, writer, turns))
 }
 
-// A password of every kind of byte but 0, as the reference made it.
-fn patterned(alloc: Global, len: usize) -> Result<Vec<u8>, Fail> {
-    let mut bytes = Vec::new(alloc);
-    for i in 0..len {
-        bytes.push((i.wrapping_mul(31).wrapping_add(len) % 255) as u8 + 1)?;
-    }
-    Ok(bytes)
-}
-
-// Texts of perl's `crypt`, which is libxcrypt; the longest, which libxcrypt refuses, is passlib's.
-const TEXTS: [(usize, &str, &str); 14] = [
-    (0, "a", "$1$a$8CfZSfErbeskipdhZHtvu."),
-    (1, "./", "$1$./$oeBjaDiik9sTv4Tv/dSZh0"),
-    (7, "Zz9", "$1$Zz9$gho34r/Kw7c0L3i23hyfn1"),
-    (8, "xxxx", "$1$xxxx$75wz4.ee/n0foABgKeL.H."),
-    (15, "salt5", "$1$salt5$Lkm4H5gJ5MEPKFpzK.cfk0"),
-    (16, "sixsix", "$1$sixsix$8A17d4Vh2vUyE1iPF6S7S/"),
-    (17, "seven..", "$1$seven..$xZENXpD6YLG1Qk7SD4bQR/"),
-    (31, "eight/89", "$1$eight/89$A2FAfRqKNy9f8kqXtNUmo0"),
-    (63, "deadbeef", "$1$deadbeef$b8cxqkvwVc1muxEON.H/z."),
-    (64, "A", "$1$A$TtnWdxmCPbJbvIgAYXm3p0"),
-    (65, "0b", "$1$0b$.Armdh550YeTbqYixJ9K7."),
-    (128, "cDe", "$1$cDe$b6.xLNfMUCHkxtHnRdzOu0"),
-    (255, "//..", "$1$//..$PKAYU7wm4L3hB9E1ePmQ40"),
-    (512, "zzzzzzzz", "$1$zzzzzzzz$V8yS6fUhzypu8CmYcRZIt/"),
-];
-
+// Published texts: of openssl-passwd(1), and of Drepper's specification.
 #[test]
-fn hashes_as_libcrypt(rt: HostRuntime) -> Result<(), Fail> {
-    for (len, salt, text) in TEXTS {
-        let password = patterned(rt.alloc(), len)?;
+fn prints_the_hash(rt: HostRuntime) -> Result<(), Fail> {
+    let rows: [(&[&str], &str); 4] = [
+        (
+            &["-m", "md5crypt", "-S", "xxxxxxxx", "password"],
+            "$1$xxxxxxxx$UYCIxa628.9qXjpQCjM4a.\n",
+        ),
+        (
+            &["-m", "sha256crypt", "-S", "saltstring", "Hello world!"],
+            "$5$saltstring$5B8vYYiY.CVt1RlTTf8KbXBH3hsxY/GNooZaBBGWEc5\n",
+        ),
+        (
+            &["-m", "sha-256", "-S", "saltstring", "Hello world!"],
+            "$5$saltstring$5B8vYYiY.CVt1RlTTf8KbXBH3hsxY/GNooZaBBGWEc5\n",
+        ),
+        (
+            &["-m", "sha-512", "-S", "saltstring", "Hello world!"],
+            "$6$saltstring$svn8UoSVapNtMuq1ukKS4tPQd8iKwSMHWjl/O817G3uBnIFNjnQJuesI68u4OTLiBFdcbYEdFCoEOfaS35inz1\n",
+        ),
+    ];
+    for (words, line) in rows {
         let writer = MemoryWriter::new(rt.alloc());
-        let (outcome, writer) = run_on(&rt, password.as_slice(), salt, 1 << 40, writer);
-        assert_eq!(rt; outcome, Ok(ONE_LINE), "{len} bytes");
-        let line = format!(in rt.alloc(); "{text}\n")?;
-        assert_eq!(rt; writer.taken(), line.as_bytes(), "{len} bytes");
+        let (outcome, writer) = run_words(&rt, rt.alloc(), words, writer, 1 << 40)?;
+        assert_eq!(rt; outcome, Ok(ONE_LINE), "{words:?}");
+        assert_eq!(rt; writer.taken(), line.as_bytes(), "{words:?}");
+        assert_eq!(rt; ONE_LINE.status(), 0, "{words:?}");
     }
     Ok(())
 }
@@ -100,7 +119,9 @@ fn stops_with_its_devices(rt: HostRuntime) -> Result<(), Fail> {
         ),
         (
             "second write",
-            MemoryWriter::new(alloc).by(10).failing_at(2),
+            MemoryWriter::new(alloc)
+                .by(10)
+                .failing_at(2, ErrorKind::PermissionDenied),
             99,
             Some(RunFault::Write),
             10,
@@ -114,14 +135,14 @@ fn stops_with_its_devices(rt: HostRuntime) -> Result<(), Fail> {
         ),
         (
             "flush",
-            MemoryWriter::new(alloc).failing_flush(),
+            MemoryWriter::new(alloc).failing_flush(ErrorKind::BrokenPipe),
             99,
             Some(RunFault::Write),
             35,
         ),
     ];
     for (what, writer, turns, fault, taken) in cases {
-        let (outcome, writer) = run_on(&rt, b"password", "xxxxxxxx", turns, writer);
+        let (outcome, writer) = run_words(&rt, alloc, &WORDS, writer, turns)?;
         assert_eq!(rt; outcome.err(), fault, "{what}");
         assert!(rt; taken <= ANSWER.len(), "{what}");
         assert_eq!(rt; writer.taken(), &ANSWER.as_bytes()[..taken], "{what}");

@@ -1,7 +1,8 @@
 use super::*;
 use std::test::Fail;
 
-fn words_of(alloc: Global, words: &[&str]) -> Result<Vec<String>, AllocError> {
+// The words that a shell would hand in.
+pub(crate) fn words_of(alloc: Global, words: &[&str]) -> Result<Vec<String>, AllocError> {
     let mut owned = Vec::new(alloc);
     for word in words {
         owned.push(String::from_str(alloc, word)?)?;
@@ -11,17 +12,31 @@ fn words_of(alloc: Global, words: &[&str]) -> Result<Vec<String>, AllocError> {
 
 #[test]
 fn plans_one_password(rt: HostRuntime) -> Result<(), Fail> {
-    let rows: [&[&str]; 3] = [
-        &["-m", "md5crypt", "-S", "xxxxxxxx", "password"],
-        &["password", "--salt=xxxxxxxx", "--method", "md5"],
-        &["-mmd5", "-Sxxxxxxxx", "--", "password"],
+    let rows: [(&[&str], &str); 8] = [
+        (
+            &["-m", "md5crypt", "-S", "xxxxxxxx", "password"],
+            "$1$xxxxxxxx",
+        ),
+        (
+            &["password", "--salt=xxxxxxxx", "--method", "md5"],
+            "$1$xxxxxxxx",
+        ),
+        (&["-mmd5", "-Sxxxxxxxx", "--", "password"], "$1$xxxxxxxx"),
+        (&["-m", "sha256crypt", "-S", "ab", "password"], "$5$ab"),
+        (&["-m", "sha-256", "-S", "ab", "password"], "$5$ab"),
+        (&["-m", "sha512crypt", "-S", "ab", "password"], "$6$ab"),
+        (&["-m", "sha-512", "-S", "ab", "password"], "$6$ab"),
+        (
+            &["-m", "sha-512", "-S", "sixteen/letters.", "password"],
+            "$6$sixteen/letters.",
+        ),
     ];
-    for row in rows {
+    for (row, setting) in rows {
         let words = words_of(rt.alloc(), row)?;
         let first = plan(rt.alloc(), words.as_slice())?;
         assert_eq!(rt;
             first.setting.text().as_slice(),
-            b"$1$xxxxxxxx".as_slice(),
+            setting.as_bytes(),
             "the setting of {row:?}"
         );
         assert_eq!(rt;
@@ -35,10 +50,22 @@ fn plans_one_password(rt: HostRuntime) -> Result<(), Fail> {
 
 #[test]
 fn refuses_in_order(rt: HostRuntime) -> Result<(), Fail> {
-    let rows: [(&[&str], u8, &str); 11] = [
+    let rows: [(&[&str], u8, &str); 15] = [
         (&["-m", "sha1", "-S", "ab", "x"], 2, "unknown method"),
         (&["-m", "help", "-S", "ab", "x"], 2, "unknown method"),
         (&["-m", "sha1", "-S", "a-b", "x"], 2, "unknown method"),
+        (&["-m", "scrypt", "-S", "ab", "x"], 2, "unknown method"),
+        (
+            &["-m", "sha256crypt", "-S", "seventeen.letters", "x"],
+            2,
+            "salt length",
+        ),
+        (
+            &["-m", "sha-512", "-S", "seventeen.letters", "x"],
+            2,
+            "salt length",
+        ),
+        (&["-m", "sha-512", "-S", "a b", "x"], 2, "salt character"),
         (&["-m", "md5", "-S", "123456789", "x"], 2, "salt length"),
         (&["-m", "md5", "-S", "1234-6789", "x"], 2, "salt length"),
         (&["-m", "md5", "-S", "", "x"], 2, "salt length"),

@@ -8,6 +8,6 @@ pub returns-clause-spells : goal.returns-clause-spells
 returns-clause-spells c =
     let kept = c.args.setting.now in
     let text_is : c.try_extend_from_slice.new.self.items ≡ canonical_text c.args.setting.now ++ codes "$" ++ packed (method_of c.args.setting.now.scheme) c.args.digest.now =
-        (rw c.unwrap.ensures at c.try_extend_from_slice.ensures.ok)
-        ∙ rw (c.as_slice.ensures.value, c.pack-packed.ensures.text, c.push.ensures.items, c.text-text.ensures.canonical, c.method.ensures) refl in
+    (rw c.unwrap.ensures at c.try_extend_from_slice.ensures.ok)
+    ∙ rw (c.as_slice.ensures.value, c.pack-packed.ensures.text, c.push.ensures.items, c.text-text.ensures.canonical, c.method.ensures) refl in
     subst (λ (t : List ℕ). Spells t kept) (sym text_is) (hashed_spells kept c.args.digest.now c.text-text.ensures.spelled)

@@ -61,8 +61,8 @@ rounds-init g c =
       digest ∙ sym (before_round-zero h p s),
       c.opening-digest.ensures.length,
       rw (messages-four h p s)
-      (four_digests a (with_digest a (salted_twice p s)) c.opening-digest.new.meter c.string_of-password_string.new.meter c.string_of-salt_string.new.meter
-      (salted_twice p s) (sha_opening_message h p s) (password_repeated p) (salt_repeated h p s) refl opened repeated salted),
+          (four_digests a (with_digest a (salted_twice p s)) c.opening-digest.new.meter c.string_of-password_string.new.meter c.string_of-salt_string.new.meter
+          (salted_twice p s) (sha_opening_message h p s) (password_repeated p) (salt_repeated h p s) refl opened repeated salted),
       omega (
         arith,
         ap (λ m. m.bytes) opened,

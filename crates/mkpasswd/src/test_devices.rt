@@ -1,4 +1,7 @@
-//! Devices over memory, for tests.
+//! Devices over memory, for tests. Each tells contracts its bytes, and fails with a kind of error that
+//! the test chooses, so that the test can tell it from any other.
+ghost use Rattle.std.specs.Prelude.{Some};
+
 use std::alloc::Global;
 use std::io;
 use std::io::{ErrorKind, Write};
@@ -8,8 +11,8 @@ use std::io::{ErrorKind, Write};
 pub struct MemoryWriter {
     taken: Vec<u8>,
     most: usize,
-    failing_call: Option<u64>,
-    fails_flush: bool,
+    write_fault: Option<(u64, ErrorKind)>,
+    flush_fault: Option<ErrorKind>,
     calls: u64,
 }
 
@@ -19,8 +22,8 @@ impl MemoryWriter {
         MemoryWriter {
             taken: Vec::new(alloc),
             most: usize::MAX,
-            failing_call: None,
-            fails_flush: false,
+            write_fault: None,
+            flush_fault: None,
             calls: 0,
         }
     }
@@ -31,15 +34,15 @@ impl MemoryWriter {
         self
     }
 
-    /// Fails at this call, counted from 1.
-    pub fn failing_at(mut self, call: u64) -> MemoryWriter {
-        self.failing_call = Some(call);
+    /// Fails at this call, counted from 1, with an error of this kind.
+    pub fn failing_at(mut self, call: u64, kind: ErrorKind) -> MemoryWriter {
+        self.write_fault = Some((call, kind));
         self
     }
 
-    /// Fails at a flush.
-    pub fn failing_flush(mut self) -> MemoryWriter {
-        self.fails_flush = true;
+    /// Fails at a flush, with an error of this kind.
+    pub fn failing_flush(mut self, kind: ErrorKind) -> MemoryWriter {
+        self.flush_fault = Some(kind);
         self
     }
 
@@ -50,10 +53,14 @@ impl MemoryWriter {
 }
 
 impl Write for MemoryWriter {
+    ghost contents = { λ writer. Some writer.taken.items };
+
     fn write(&mut self, buf: &[u8]) -> io::Result<usize> {
         self.calls = self.calls.saturating_add(1);
-        if self.failing_call == Some(self.calls) {
-            return Err(io::Error::from(ErrorKind::Other));
+        if let Some((call, kind)) = self.write_fault {
+            if call == self.calls {
+                return Err(io::Error::from(kind));
+            }
         }
         let count = buf.len().min(self.most);
         self.taken.extend_from_slice(&buf[..count])?;
@@ -61,9 +68,9 @@ impl Write for MemoryWriter {
     }
 
     fn flush(&mut self) -> io::Result<()> {
-        if self.fails_flush {
-            return Err(io::Error::from(ErrorKind::Other));
+        match self.flush_fault {
+            Some(kind) => Err(io::Error::from(kind)),
+            None => Ok(()),
         }
-        Ok(())
     }
 }
