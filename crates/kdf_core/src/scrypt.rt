@@ -182,3 +182,6 @@ fn index(words: &[u32], rows: usize) -> usize
 {
     words[words.len() - BLOCK_WORDS] as usize % rows
 }
+
+#[cfg(test)]
+mod tests;

@@ -13,7 +13,7 @@ use std::alloc::{AllocError, Global};
 use std::test::Fail;
 
 // Bytes in hexadecimal, as the standards print them.
-fn hexadecimal(alloc: Global, bytes: &[u8]) -> Result<String, AllocError> {
+pub(crate) fn hexadecimal(alloc: Global, bytes: &[u8]) -> Result<String, AllocError> {
     let mut text = String::new(alloc);
     for byte in bytes {
         text.push_str(&format!(in alloc; "{byte:02x}")?)?;
