@@ -26,7 +26,10 @@ fn plans_one_password(rt: HostRuntime) -> Result<(), Fail> {
         (&["-m", "sha-256", "-S", "ab", "password"], "$5$ab"),
         (&["-m", "sha512crypt", "-S", "ab", "password"], "$6$ab"),
         (&["-m", "sha-512", "-S", "ab", "password"], "$6$ab"),
-        (&["-m", "scrypt", "-S", "ab", "password"], "$7$CU..../....ab"),
+        (
+            &["-m", "scrypt", "-S", "ab", "password"],
+            "$7$CU..../....ab",
+        ),
         (
             &["-m", "sha-512", "-S", "sixteen/letters.", "password"],
             "$6$sixteen/letters.",
