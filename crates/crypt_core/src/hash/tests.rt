@@ -51,11 +51,11 @@ fn setting_again(
 }
 
 // Hashes as the table has it.
-fn try_texts(rt: &HostRuntime, table: &[(usize, &str, &str)]) -> Result<(), Fail> {
+fn try_texts(rt: &impl Abort, alloc: Global, table: &[(usize, &str, &str)]) -> Result<(), Fail> {
     for (len, setting, text) in table {
-        let password = patterned(rt, rt.alloc(), *len)?;
+        let password = patterned(rt, alloc, *len)?;
         let setting = setting_of(rt, setting);
-        let hashed = hash(rt.alloc(), &password, &setting, &mut Meter::new()).expect(rt, text);
+        let hashed = hash(alloc, &password, &setting, &mut Meter::new()).expect(rt, text);
         assert_eq!(rt; hashed.text(), text.as_bytes(), "{len} bytes");
     }
     Ok(())
@@ -63,14 +63,14 @@ fn try_texts(rt: &HostRuntime, table: &[(usize, &str, &str)]) -> Result<(), Fail
 
 #[test]
 fn hashes_as_libcrypt(rt: HostRuntime) -> Result<(), Fail> {
-    try_texts(&rt, &MD5CRYPT_TEXTS)?;
-    try_texts(&rt, &SHA256CRYPT_TEXTS)?;
-    try_texts(&rt, &SHA512CRYPT_TEXTS)
+    try_texts(&rt, rt.alloc(), &MD5CRYPT_TEXTS)?;
+    try_texts(&rt, rt.alloc(), &SHA256CRYPT_TEXTS)?;
+    try_texts(&rt, rt.alloc(), &SHA512CRYPT_TEXTS)
 }
 
 #[test]
 fn hashes_by_scrypt_as_libcrypt(rt: HostRuntime) -> Result<(), Fail> {
-    try_texts(&rt, &SCRYPT_TEXTS)
+    try_texts(&rt, rt.alloc(), &SCRYPT_TEXTS)
 }
 
 #[test]
