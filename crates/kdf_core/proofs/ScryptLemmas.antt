@@ -14,7 +14,7 @@ use Rattle.prims_core.specs.BlockMix.{block_mix}
 use Rattle.prims_core.specs.Meter.{Counts}
 use Rattle.prims_core.specs.Words.{chunks_exact}
 use Rattle.kdf_core.proofs.Pbkdf2Lemmas.{range-more}
-use Rattle.kdf_core.specs.Private.Mixing.{HasShape, HoldsMixings, IsPower, first_parts}
+use Rattle.kdf_core.specs.Private.Mixing.{HasShape, HoldsMixings, IsPower}
 use Rattle.kdf_core.specs.Scrypt.{number_of_words, integerify, mixed_part, mixed_parts}
 
 -- one application more
@@ -97,6 +97,11 @@ pub mixes-more : (a b c : Counts) (m n all : ℕ) → b ≡ record a { mixes = a
 mixes-more a b c m n all first then sum =
     let whole : a.mixes + m + n ≡ a.mixes + all = omega arith in
     then ∙ (ap (λ (x : Counts). record x { mixes = x.mixes + n }) first ∙ ap (λ k. record a { mixes = k }) whole)
+
+-- the first parts, each of `size` bytes, under ROMix
+unfoldable pub first_parts : ℕ → ℕ → List ℕ → ℕ → List ℕ
+first_parts n size bytes count =
+    flat_map (λ i. mixed_part n (take size (drop (size * i) bytes))) (range_with_len 0 count)
 
 -- no part at first
 pub parts_done-none : (n size : ℕ) (bytes : List ℕ) → take (size * 0) bytes ≡ first_parts n size bytes 0

@@ -54,26 +54,28 @@ scrypt password salt cost count =
     let derived = pbkdf2_sha256 password salt 1 (parts_bytes cost) in
     pbkdf2_sha256 password (mixed_parts (rows cost) (part_bytes cost) derived) 1 count
 
--- the work of scrypt, for a password, a salt and a result of so many bytes
+-- The work of scrypt, for a password, a salt and a result of so many bytes.
+
 -- digests: two for each 32 bytes of all parts and of the result, and one of a key longer than 64 bytes
 unfoldable pub scrypt_digests : ScryptCost → ℕ → ℕ → ℕ
 scrypt_digests cost password_length count =
     8 * (cost.r * cost.p) + 2 * div_ceil count 32 + key_digests password_length
 
--- bytes of those digests
+-- the bytes of those digests
 unfoldable pub scrypt_bytes : ScryptCost → ℕ → ℕ → ℕ → ℕ
 scrypt_bytes cost password_length salt_length count =
     key_bytes password_length + 4 * (cost.r * cost.p) * (164 + salt_length)
     + div_ceil count 32 * (164 + 128 * (cost.r * cost.p))
 
--- mixings: N for the rows and N with them, for each part
+-- mixings: N to make the rows and N to mix with them, for each part
 abbrev pub scrypt_mixes : ScryptCost → ℕ
 scrypt_mixes cost = 2 * rows cost * cost.p
 
--- bytes of the one table, and of the two halves in which a part is mixed
+-- the bytes of the one table
 abbrev pub table_bytes : ScryptCost → ℕ
 table_bytes cost = 128 * (rows cost * cost.r)
 
+-- the bytes of the two halves in which a part is mixed
 abbrev pub halves_bytes : ScryptCost → ℕ
 halves_bytes cost = 256 * cost.r
 

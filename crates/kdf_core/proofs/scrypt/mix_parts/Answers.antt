@@ -1,7 +1,7 @@
 use Rattle.std.proofs.Common.{◌≡◌, ◌+◌, ◌*◌, ◌/◌, ◌≤◌, ◌-◌, ◌∙◌, ℕ, length, take, drop, length-take, length-drop, subst, refl, arith}
 use Rattle.std.proofs.Math.Nat.{mul-le-mul_left}
-use Rattle.kdf_core.specs.Private.Mixing.{HasShape, first_parts}
-use Rattle.kdf_core.proofs.ScryptLemmas.{parts_done-none, parts_done-more, parts_to_come-more, parts-all, mixes-none, mixes-more}
+use Rattle.kdf_core.specs.Private.Mixing.{HasShape}
+use Rattle.kdf_core.proofs.ScryptLemmas.{first_parts, parts_done-none, parts_done-more, parts_to_come-more, parts-all, mixes-none, mixes-more}
 use Rattle.kdf_core.proofs.scrypt.mix_parts.Goals as goal
 
 pub parts-init : goal.parts-init

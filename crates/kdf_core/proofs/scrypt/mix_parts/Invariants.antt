@@ -1,5 +1,6 @@
 use Rattle.std.proofs.Common.{◌≡◌, ◌+◌, ◌*◌, ◌/◌, length, take, drop}
-use Rattle.kdf_core.specs.Private.Mixing.{HasShape, first_parts}
+use Rattle.kdf_core.specs.Private.Mixing.{HasShape}
+use Rattle.kdf_core.proofs.ScryptLemmas.{first_parts}
 use Rattle.kdf_core.proofs.scrypt.mix_parts.Given as goal
 
 -- the parts so far are mixed, and those to come are as they were

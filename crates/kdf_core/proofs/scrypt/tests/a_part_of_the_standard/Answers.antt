@@ -1,4 +1,4 @@
-use Rattle.std.proofs.Common.{◌≡◌, ◌*◌, refl, lit≤, length, ap, arith}
+use Rattle.std.proofs.Common.{refl, arith}
 use Rattle.kdf_core.proofs.scrypt.tests.a_part_of_the_standard.Goals as goal
 
 pub mix_part-requires-clause-power : goal.mix_part-requires-clause-power
