@@ -93,9 +93,9 @@ mod tests {
             *word = i as u32 + 1;
         }
         table.set_row(1, &row);
-        assert_eq!(rt; table.row(0), [0; 32].as_slice(), "row 0 is zeros");
-        assert_eq!(rt; table.row(1), row.as_slice(), "row 1 is the words 1 to 32");
-        assert_eq!(rt; table.row(2), [0; 32].as_slice(), "row 2 is zeros");
+        assert_eq!(rt; table.row(0), [0; 32].as_slice(), "the first row is zeros");
+        assert_eq!(rt; table.row(1), row.as_slice(), "the second is the words 1 to 32");
+        assert_eq!(rt; table.row(2), [0; 32].as_slice(), "the third is zeros");
         Ok(())
     }
 
