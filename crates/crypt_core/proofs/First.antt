@@ -1,5 +1,5 @@
 -- Which rule is the first that a text breaks.
-use Rattle.std.proofs.Common.{◌≡◌, ℕ, ◌+◌, ◌-◌, ◌≤◌, ◌<◌, inl, inr, List, ◌++◌, length, drop, append_assoc, length-append, All, sym, ap, subst, ◌∙◌, arith}
+use Rattle.std.proofs.Common.{◌≡◌, ℕ, ◌≤◌, ◌<◌, inl, inr, List, ◌++◌, length, drop, All, sym, ap, subst, ◌∙◌, arith}
 use Rattle.std.proofs.Math.Seq.{drop-append_seam}
 use Rattle.kdf_core.specs.Params.{ScryptCost, IsInRange, IsWithinCeiling}
 use Rattle.crypt_core.specs.declared.method.Method.{Method}

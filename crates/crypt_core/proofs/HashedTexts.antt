@@ -1,10 +1,10 @@
 -- The text of a hash spells its setting.
-use Rattle.std.proofs.Common.{◌≡◌, ◌≢◌, ℕ, ◌++◌, List, length, append_assoc, arith, refl, sym, subst}
+use Rattle.std.proofs.Common.{◌≢◌, ℕ, ◌++◌, List, append_assoc, arith, refl, sym, subst}
 use Rattle.std.specs.Prelude.{All, Contains, codes}
 use Rattle.std.proofs.lemmas.List.Elements.{All-cons, All-contains, All-from_recursion, All-weaker}
 use Rattle.prims_core.specs.Alphabet.{alphabet}
 use Rattle.crypt_core.specs.Packing.{packed}
-use Rattle.crypt_core.specs.Settings.{Kept, Spells, IsCharacter, IsSettingByte, canonical_text, method_of}
+use Rattle.crypt_core.specs.Settings.{Kept, Spells, IsSettingByte, canonical_text, method_of}
 use Rattle.crypt_core.proofs.Canonical.{canonical_spells_before}
 use Rattle.crypt_core.proofs.Making.{character_is_byte}
 use Rattle.crypt_core.proofs.PackingLemmas.{all_packed, length-packed_text, packed_len-small}

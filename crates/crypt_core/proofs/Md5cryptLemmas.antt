@@ -1,8 +1,6 @@
 -- Lemmas on the messages of md5crypt.
-use Rattle.std.proofs.Common.{◌≡◌, ℕ, suc, ◌+◌, ◌*◌, ◌%◌, ◌≤◌, Bool, true, false, cond, nat_eq, List, [], ◌∷◌, ◌++◌, length, map, take, codes, arith, refl}
-use Rattle.std.specs.List.{range_with_len}
+use Rattle.std.proofs.Common.{◌≡◌, ℕ, suc, ◌+◌, ◌*◌, ◌≤◌, List, [], ◌∷◌, ◌++◌, length, take, codes, arith, refl}
 use Rattle.std.proofs.lemmas.List.{length-append, length-take}
-use Rattle.std.proofs.lemmas.List.FromFn.{length-map-range_with_len, map-range_with_len_more}
 use Rattle.prims_core.specs.Digests.{md5}
 use Rattle.crypt_core.specs.Cycle.{cycle, digit_pieces}
 use Rattle.crypt_core.proofs.CycleLemmas.{length-cycle, length-digit_pieces}

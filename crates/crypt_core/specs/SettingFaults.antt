@@ -1,5 +1,5 @@
 -- What is wrong with a text that is no setting, and why a setting can't be made.
-use Rattle.std.specs.Prelude.{ℕ, List, length, codes}
+use Rattle.std.specs.Prelude.{ℕ, List, codes}
 use Rattle.kdf_core.specs.ParamFaults.{param_fault_text}
 use Rattle.kdf_core.specs.declared.params.ParamFault.TheVariants as params
 use Rattle.crypt_core.specs.declared.setting.fault.SettingFault.{SettingFault}

@@ -71,11 +71,9 @@ fn command<'a>(alloc: Global) -> Result<Command<'a>, AllocError>
     let method = required(alloc, "method", "TYPE")
         .short('m')
         .long("method")
-        .help(
-            "The method to hash by: md5crypt, sha256crypt or sha512crypt; or md5, sha-256, sha-512",
-        );
+        .help("The method: md5crypt, sha256crypt, sha512crypt, scrypt; or md5, sha-256, sha-512");
     let salt = required(alloc, "salt", "SALT").short('S').long("salt").help(
-        "The salt: 1 to 8, 16, 16 or 86 characters, in that order, each a letter, a digit, '.' or '/'",
+        "The salt: up to 8, 16, 16 or 86 characters, in that order, of letters, digits, '.' and '/'",
     );
     let password = required(alloc, "password", "PASSWORD").help("The password to hash");
     Command::new(alloc, "mkpasswd")

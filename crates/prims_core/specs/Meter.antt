@@ -7,7 +7,7 @@ pub record Counts : Type 0 where
   pub digests : ℕ
   -- bytes fed to digests
   pub bytes : ℕ
-  -- mixings of a scrypt block
+  -- mixings of 2r blocks by scrypt
   pub mixes : ℕ
   -- bytes of scrypt's tables
   pub table : ℕ

@@ -8,7 +8,7 @@ ghost use Rattle.prims_core.specs.Meter.{no_counts};
 
 use std::marker::Model;
 
-/// Counts of the work done: digests, bytes fed to them, mixings of a scrypt block, and bytes of
+/// Counts of the work done: digests, bytes fed to them, mixings of 2r blocks by scrypt, and bytes of
 /// scrypt's tables and scratch memory.
 #[derive(Debug, Drop)]
 pub struct Meter {
@@ -55,7 +55,7 @@ impl Meter {
         self.bytes
     }
 
-    /// How many mixings of a scrypt block were made.
+    /// How many mixings of 2r blocks by scrypt were made.
     pub fn mixes(&self) -> u128
         ensures { result ≡ self.now.mixes }
     {
@@ -92,7 +92,7 @@ impl Meter {
         self.digests += 1;
     }
 
-    /// Counts a mixing of a scrypt block.
+    /// Counts a mixing of 2r blocks by scrypt.
     pub(crate) fn count_mix(&mut self)
         requires { self.old.mixes + 1 < 2 ^ 128 }
         ensures { self.new ≡ record self.old { mixes = self.old.mixes + 1 } }

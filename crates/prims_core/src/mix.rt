@@ -44,13 +44,13 @@ fn mix_in(x: &mut [u32; 16], block: &[u32])
     requires { length block.now ≡ 16 }
     ensures { x.new ≡ mixed_block x.old block.now }
 {
-    xor_into(x, block);
+    xor_block_into(x, block);
     salsa8(x);
 }
 
 // Adds a block to `sum` by exclusive or.
 #[inline(always)]
-fn xor_into(sum: &mut [u32; 16], block: &[u32])
+fn xor_block_into(sum: &mut [u32; 16], block: &[u32])
     requires { length block.now ≡ 16 }
     ensures { sum.new ≡ xor_words sum.old block.now }
 {

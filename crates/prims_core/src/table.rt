@@ -94,7 +94,11 @@ mod tests {
         }
         table.set_row(1, &row);
         assert_eq!(rt; table.row(0), [0; 32].as_slice(), "the first row is zeros");
-        assert_eq!(rt; table.row(1), row.as_slice(), "the second is the words 1 to 32");
+        assert_eq!(rt;
+            table.row(1),
+            row.as_slice(),
+            "the second is the words 1 to 32"
+        );
         assert_eq!(rt; table.row(2), [0; 32].as_slice(), "the third is zeros");
         Ok(())
     }

@@ -117,7 +117,6 @@ fn counts(meter: &Meter) -> (u128, u128, u128, u128, u128) {
     )
 }
 
-// Where memory is refused the row still says what is left.
 #[test]
 fn rows_of_the_standard(rt: HostRuntime) -> Result<(), Fail> {
     for row in ROWS {
@@ -126,43 +125,54 @@ fn rows_of_the_standard(rt: HostRuntime) -> Result<(), Fail> {
         let params = Params::new(log_n, r, p)?;
         let mut out = vec![in rt.alloc(); 7; count]?;
         let mut meter = Meter::new();
-        let (digests, bytes, mixes, table, scratch) = row.work;
-        match scrypt(
+        scrypt(
             rt.alloc(),
             row.password,
             row.salt,
             &params,
             &mut out,
             &mut meter,
-        ) {
-            Ok(()) => {
-                let text = hexadecimal(rt.alloc(), &out)?;
-                assert_eq!(rt;
-                    text.as_str(),
-                    row.wanted,
-                    "of {log_n}, {r}, {p}, {count} bytes"
-                );
-                let work = (digests, bytes, mixes, table, scratch);
-                assert_eq!(rt;
-                    counts(&meter),
-                    work,
-                    "work of {log_n}, {r}, {p}, {count} bytes"
-                );
-            }
-            Err(_) => {
-                assert!(rt;
-                    out.iter().all(|byte| *byte == 7),
-                    "out of {log_n}, {r}, {p}"
-                );
-                let parts = 128 * u128::from(r) * u128::from(p);
-                let left = counts(&meter);
-                let known = left == (0, 0, 0, 0, 0)
-                    || left == (0, 0, 0, table, 0)
-                    || left == (0, 0, 0, table, parts);
-                assert!(rt; known, "left of {log_n}, {r}, {p}: {left:?}");
-            }
-        }
+        )?;
+        let text = hexadecimal(rt.alloc(), &out)?;
+        assert_eq!(rt;
+            text.as_str(),
+            row.wanted,
+            "of {log_n}, {r}, {p}, {count} bytes"
+        );
+        assert_eq!(rt;
+            counts(&meter),
+            row.work,
+            "work of {log_n}, {r}, {p}, {count} bytes"
+        );
     }
+    Ok(())
+}
+
+// RFC 7914's third vector with as little as one growth refused, by `rt try --test --fail-alloc N`: the
+// output is as it was, and what was got before is counted. With ample memory all of it is.
+#[test]
+fn what_a_refused_growth_leaves(rt: HostRuntime) -> Result<(), Fail> {
+    let params = Params::new(14, 8, 1)?;
+    let mut out = [7; 32];
+    let mut meter = Meter::new();
+    let known = match scrypt(
+        rt.alloc(),
+        b"pleaseletmein",
+        b"SodiumChloride",
+        &params,
+        &mut out,
+        &mut meter,
+    ) {
+        Ok(()) => counts(&meter) == (66, 6884, 32768, 16_777_216, 3072),
+        Err(_) => {
+            let left = counts(&meter);
+            out == [7; 32]
+                && (left == (0, 0, 0, 0, 0)
+                    || left == (0, 0, 0, 16_777_216, 0)
+                    || left == (0, 0, 0, 16_777_216, 1024))
+        }
+    };
+    assert!(rt; known);
     Ok(())
 }
 

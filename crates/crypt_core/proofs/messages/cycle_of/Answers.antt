@@ -1,4 +1,4 @@
-use Rattle.std.proofs.Common.{◌∙◌, length, arith, sym, ap, [], ◌++◌, ◌∷◌, get_or, ◌%◌, ◌<◌}
+use Rattle.std.proofs.Common.{◌∙◌, length, arith, sym, ap, [], ◌++◌, ◌∷◌, get_or, ◌%◌}
 use Rattle.crypt_core.proofs.CycleLemmas.{cycle-more, cycle-none, length-cycle}
 use Rattle.crypt_core.proofs.messages.cycle_of.Goals as goal
 

@@ -1,6 +1,5 @@
-use Rattle.std.proofs.Common.{◌≡◌, ◌+◌, ◌*◌, ◌≤◌, length, arith, refl, sym, ap, append_assoc}
+use Rattle.std.proofs.Common.{◌≡◌, ◌+◌, ◌*◌, length, arith, append_assoc}
 use Rattle.std.proofs.lemmas.List.{append-nil}
-use Rattle.std.proofs.Math.Nat.{mul-le-mul_right}
 use Rattle.crypt_core.proofs.CycleLemmas.{repeat-more}
 use Rattle.crypt_core.proofs.Metering.{bytes_more, bytes_none}
 use Rattle.crypt_core.proofs.messages.feed_repeated.Goals as goal

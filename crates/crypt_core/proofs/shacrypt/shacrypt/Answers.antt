@@ -1,10 +1,6 @@
-use Rattle.std.proofs.Common.{◌≡◌, ◌+◌, ◌*◌, ◌++◌, ◌≤◌, ◌<◌, length, get_or, arith, refl, sym, ◌∙◌, ap}
-use Rattle.std.proofs.lemmas.List.{length-append}
-use Rattle.std.proofs.Math.Nat.{mul-le-mul_right}
-use Rattle.std.specs.List.{repeat}
-use Rattle.crypt_core.specs.Cycle.{cycle}
-use Rattle.crypt_core.specs.RoundMessage.{round_message, salted_twice}
-use Rattle.crypt_core.specs.ShaCrypt.{password_repeated, password_string, salt_repeated, salt_string, sha_opening_digest, sha_opening_message, shacrypt_message}
+use Rattle.std.proofs.Common.{◌≡◌, ◌+◌, ◌≤◌, ◌<◌, length, get_or, arith, refl, sym, ◌∙◌, ap}
+use Rattle.crypt_core.specs.RoundMessage.{salted_twice}
+use Rattle.crypt_core.specs.ShaCrypt.{password_repeated, salt_repeated, sha_opening_digest, sha_opening_message, shacrypt_message}
 use Rattle.crypt_core.specs.Work.{with_digest}
 use Rattle.crypt_core.proofs.CycleLemmas.{length-cycle, length-repeat}
 use Rattle.crypt_core.proofs.MessageLists.{length-messages_to, length-round_message, messages-more}

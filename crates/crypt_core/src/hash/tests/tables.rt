@@ -409,7 +409,7 @@ pub const SCRYPT_TEXTS: [(usize, &str, &str); 15] = [
 
 // Published vectors and others of scrypt: a password, a setting, the counts of digests, bytes,
 // mixings, table and scratch, and the text.
-pub const SCRYPT_COUNTS: [(&[u8], &str, [u128; 5], &str); 4] = [
+pub const SCRYPT_COUNTS: [(&[u8], &str, [u128; 5], &str); 5] = [
     (
         b"",
         "$7$2/..../....",
@@ -427,6 +427,12 @@ pub const SCRYPT_COUNTS: [(&[u8], &str, [u128; 5], &str); 4] = [
         "$7$C6..../....SodiumChloride",
         [66, 6884, 32768, 16777216, 3072],
         "$7$C6..../....SodiumChloride$kBGj9fHznVYFQMEn/qDCfrDevf9YDtcDdKvEqHJLV8D",
+    ),
+    (
+        &[b'a'; 64],
+        "$7$2/..../....",
+        [10, 948, 32, 2048, 384],
+        "$7$2/..../....$R2TGGIuO0DtNG3.9FFyCrypzGtH.uoe5tuengH.xpR1",
     ),
     (
         &[b'a'; 65],

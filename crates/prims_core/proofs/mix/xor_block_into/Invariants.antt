@@ -1,5 +1,5 @@
 use Rattle.std.proofs.Common.{◌≡◌, ℕ, ◌<◌, ◌≤◌, bit_xor, length, get_or}
-use Rattle.prims_core.proofs.mix.xor_into.Given as goal
+use Rattle.prims_core.proofs.mix.xor_block_into.Given as goal
 
 -- the words below place k are added, and the others are as they were
 abbrev pub invariant-places : goal.invariant-places

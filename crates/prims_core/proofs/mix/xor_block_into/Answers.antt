@@ -1,6 +1,6 @@
 use Rattle.std.proofs.Common.{arith}
 use Rattle.prims_core.proofs.WordFacts.{xor_words-from_places}
-use Rattle.prims_core.proofs.mix.xor_into.Goals as goal
+use Rattle.prims_core.proofs.mix.xor_block_into.Goals as goal
 
 pub returns : goal.returns
 returns c =
