@@ -1,13 +1,12 @@
--- The text that crypt(3) gives for a password and a setting, and what is digested for it.
-use Rattle.std.specs.Prelude.{ℕ, List, ◌++◌, length, codes}
+-- The text that crypt(3) gives for a password and a setting.
+use Rattle.std.specs.Prelude.{ℕ, List, ◌++◌, codes}
 use Rattle.prims_core.specs.Digests.{sha256, sha512}
 use Rattle.prims_core.specs.Meter.{Counts}
-use Rattle.kdf_core.specs.Scrypt.{scrypt, with_scrypt, IsAfterRefusal}
-use Rattle.crypt_core.specs.Md5crypt.{md5crypt_digest, md5crypt_messages}
+use Rattle.kdf_core.specs.Scrypt.{scrypt, IsAfterRefusal}
+use Rattle.crypt_core.specs.Md5crypt.{md5crypt_digest}
 use Rattle.crypt_core.specs.Packing.{packed}
 use Rattle.crypt_core.specs.Settings.{Kept, canonical_text, method_of}
-use Rattle.crypt_core.specs.ShaCrypt.{shacrypt_digest, shacrypt_messages}
-use Rattle.crypt_core.specs.Work.{with_digests}
+use Rattle.crypt_core.specs.ShaCrypt.{shacrypt_digest}
 use Rattle.crypt_core.specs.declared.scheme.Scheme.{Scheme}
 use Rattle.crypt_core.specs.declared.scheme.Scheme.TheVariants.{Md5crypt, Sha256crypt, Sha512crypt, Scrypt}
 
@@ -22,19 +21,6 @@ digest_by (Scrypt cost) password salt = scrypt password salt cost 32
 unfoldable pub crypt : List ℕ → Kept → List ℕ
 crypt password kept =
     canonical_text kept ++ codes "$" ++ packed (method_of kept.scheme) (digest_by kept.scheme password kept.salt)
-
--- the counts after that hash: a digest and its length for each message of md5crypt and SHA-crypt, and
--- scrypt's own work
-abbrev pub with_work_by : Counts → Scheme → List ℕ → List ℕ → Counts
-with_work_by counts Md5crypt password salt = with_digests counts (md5crypt_messages password salt)
-with_work_by counts (Sha256crypt rounds) password salt =
-    with_digests counts (shacrypt_messages sha256 password salt rounds.count)
-with_work_by counts (Sha512crypt rounds) password salt =
-    with_digests counts (shacrypt_messages sha512 password salt rounds.count)
-with_work_by counts (Scrypt cost) password salt = with_scrypt counts cost (length password) (length salt) 32
-
-abbrev pub with_crypt : Counts → List ℕ → Kept → Counts
-with_crypt counts password kept = with_work_by counts kept.scheme password kept.salt
 
 -- the counts where a growth of scrypt was refused; no other scheme asks for one
 abbrev pub IsRefusedBy : Counts → Scheme → Counts → Type 0

@@ -1,6 +1,19 @@
--- The work of digests and of whole hashes, as a meter counts it.
-use Rattle.std.specs.Prelude.{ℕ, ◌^◌, ◌≤◌, List, length, sum_by}
+-- The work of a hash, as a meter counts it: the messages that are digested, and for scrypt the mixings
+-- and the memory, in closed form by the lengths of the password and the salt.
+use Rattle.std.specs.Prelude.{ℕ, ◌+◌, ◌-◌, ◌*◌, ◌^◌, ◌≤◌, ◌<◌, ◌==◌, List, length, slice_index, sum_by, if◌then◌else◌}
+use Rattle.std.specs.Int.{div_ceil}
+use Rattle.prims_core.specs.Digests.{sha256, sha512}
 use Rattle.prims_core.specs.Meter.{Counts, with_work}
+use Rattle.kdf_core.specs.Params.{ScryptCost}
+use Rattle.kdf_core.specs.Scrypt.{halves_bytes, parts_bytes, scrypt_bytes, scrypt_digests, scrypt_mixes, table_bytes}
+use Rattle.crypt_core.specs.Cycle.{binary_digits}
+use Rattle.crypt_core.specs.Settings.{Kept}
+use Rattle.crypt_core.specs.ShaCrypt.{sha_opening_digest}
+use Rattle.crypt_core.specs.declared.scheme.Scheme.{Scheme}
+use Rattle.crypt_core.specs.declared.scheme.Scheme.TheVariants.{Md5crypt, Sha256crypt, Sha512crypt, Scrypt}
+use Rattle.crypt_core.specs.declared.work.Work.{Work}
+
+-- Counting
 
 -- the meter after the digest of a message
 abbrev pub with_digest : Counts → List ℕ → Counts
@@ -13,3 +26,99 @@ with_digests counts messages = with_work counts (length messages) (sum_by length
 -- the two counts that digests raise leave room for any hash
 abbrev pub HasDigestRoom : Counts → Type 0
 HasDigestRoom counts = (counts.digests ≤ 2 ^ 120) × (counts.bytes ≤ 2 ^ 120)
+
+-- the meter, raised by some work in all five counts
+abbrev pub raised_by : Counts → Work → Counts
+raised_by counts work = record {
+  digests = counts.digests + work.digests;
+  bytes = counts.bytes + work.bytes;
+  mixes = counts.mixes + work.mixes;
+  table = counts.table + work.table;
+  scratch = counts.scratch + work.scratch;
+}
+
+-- The digested bytes of each scheme, for a password and a salt of so many bytes
+
+-- the bytes of n rounds whose digests have so many bytes: a digest and a password in each; the salt in all
+-- but every third, and the password again in all but every seventh, both from round 0 on
+abbrev pub rounds_bytes : ℕ → ℕ → ℕ → ℕ → ℕ
+rounds_bytes n digest password salt =
+    n * (digest + password) + (n - div_ceil n 3) * salt + (n - div_ceil n 7) * password
+
+-- md5crypt: two passwords and a salt; the same, with the prefix and a byte for each binary digit of the
+-- password's length; 1000 rounds
+abbrev pub md5crypt_bytes : ℕ → ℕ → ℕ
+md5crypt_bytes password salt =
+    2 * password + salt + (2 * password + salt + 3 + length (binary_digits password))
+    + rounds_bytes 1000 16 password salt
+
+-- a digest for each binary digit 1 of the password's length, and the password for each 0
+abbrev pub digit_bytes : ℕ → ℕ → ℕ
+digit_bytes digest password =
+    sum_by (λ digit. if digit == 1 then digest else password) (binary_digits password)
+
+-- SHA-crypt: two passwords and a salt; the same, with a piece for each binary digit; the password as
+-- often as it has bytes; the salt 16 times and once more for each unit of a; the rounds
+abbrev pub shacrypt_bytes : ℕ → ℕ → ℕ → ℕ → ℕ → ℕ
+shacrypt_bytes digest a rounds password salt =
+    2 * password + salt + (2 * password + salt + digit_bytes digest password)
+    + password * password + (16 + a) * salt + rounds_bytes rounds digest password salt
+
+-- The work of each scheme
+
+-- md5crypt and SHA-crypt mix nothing and take no memory
+abbrev pub digests_alone : ℕ → ℕ → Work
+digests_alone digests bytes = record { digests = digests; bytes = bytes; mixes = 0; table = 0; scratch = 0 }
+
+-- for a password and a salt of so many bytes, where a is the first byte of the digest that Drepper calls
+-- A; only SHA-crypt has it
+abbrev pub work_by : Scheme → ℕ → ℕ → ℕ → Work
+work_by Md5crypt a password salt = digests_alone 1002 (md5crypt_bytes password salt)
+work_by (Sha256crypt rounds) a password salt =
+    digests_alone (rounds.count + 4) (shacrypt_bytes 32 a rounds.count password salt)
+work_by (Sha512crypt rounds) a password salt =
+    digests_alone (rounds.count + 4) (shacrypt_bytes 64 a rounds.count password salt)
+work_by (Scrypt cost) a password salt = record {
+  digests = scrypt_digests cost password 32;
+  bytes = scrypt_bytes cost password salt 32;
+  mixes = scrypt_mixes cost;
+  table = table_bytes cost;
+  scratch = parts_bytes cost + halves_bytes cost;
+}
+
+-- A's first byte, for a digest function
+abbrev pub first_byte : (List ℕ → List ℕ) → List ℕ → List ℕ → ℕ
+first_byte h password salt = slice_index (sha_opening_digest h password salt) 0
+
+-- and for a scheme, where it stands for nothing but in SHA-crypt
+abbrev pub first_byte_by : Scheme → List ℕ → List ℕ → ℕ
+first_byte_by (Sha256crypt rounds) password salt = first_byte sha256 password salt
+first_byte_by (Sha512crypt rounds) password salt = first_byte sha512 password salt
+first_byte_by scheme password salt = 0
+
+-- the work of the hash of a password by a setting
+abbrev pub work : List ℕ → Kept → Work
+work password kept =
+    work_by kept.scheme (first_byte_by kept.scheme password kept.salt) (length password) (length kept.salt)
+
+-- The bound that is known before hashing
+
+-- the same for a password of so many bytes, with the greatest byte in place of a
+abbrev pub work_bound : Kept → ℕ → Work
+work_bound kept password = work_by kept.scheme 255 password (length kept.salt)
+
+-- no count is above that of the other
+pub record IsWithin (work most : Work) : Type 0 where
+  pub digests : work.digests ≤ most.digests
+  pub bytes : work.bytes ≤ most.bytes
+  pub mixes : work.mixes ≤ most.mixes
+  pub table : work.table ≤ most.table
+  pub scratch : work.scratch ≤ most.scratch
+
+-- each count is below a number
+pub record IsBelow (work : Work) (limit : ℕ) : Type 0 where
+  pub digests : work.digests < limit
+  pub bytes : work.bytes < limit
+  pub mixes : work.mixes < limit
+  pub table : work.table < limit
+  pub scratch : work.scratch < limit

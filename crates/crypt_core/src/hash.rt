@@ -1,9 +1,10 @@
 //! The text of crypt(3): a password, hashed by a setting.
 ghost use Rattle.std.specs.Prelude.{◌≡◌, ◌≤◌, ◌++◌, length, codes, IfOk, OnOk, OnErr};
 ghost use Rattle.kdf_core.specs.Scrypt.{scrypt, with_scrypt, HasRoom, IsAfterRefusal};
-ghost use Rattle.crypt_core.specs.Crypt.{crypt, digest_by, with_crypt, IsRefusedBy};
+ghost use Rattle.crypt_core.specs.Crypt.{crypt, digest_by, IsRefusedBy};
 ghost use Rattle.crypt_core.specs.Packing.{digest_len, packed};
 ghost use Rattle.crypt_core.specs.Settings.{Spells, canonical_text, method_of};
+ghost use Rattle.crypt_core.specs.Work.{raised_by, work};
 
 use crate::md5crypt::md5crypt;
 use crate::pack::pack;
@@ -90,7 +91,7 @@ pub fn hash(
     requires { HasRoom meter.old }
     ensures text { IfOk result (λ hashed. hashed ≡ crypt password.now setting.now) }
     ensures spells { IfOk result (λ hashed. Spells hashed setting.now) }
-    ensures count { OnOk result (meter.new ≡ with_crypt meter.old password.now setting.now) }
+    ensures count { OnOk result (meter.new ≡ raised_by meter.old (work password.now setting.now)) }
 
     // So an error comes only by a setting of scrypt.
     ensures refused { OnErr result (IsRefusedBy meter.old setting.now.scheme meter.new) }
@@ -110,7 +111,7 @@ fn digest_of(
     ensures digest { IfOk result (λ digest. digest.items
         ≡ digest_by setting.now.scheme password.now setting.now.salt) }
     ensures length { IfOk result (λ digest. length digest.items ≡ digest_len (method_of setting.now.scheme)) }
-    ensures count { OnOk result (meter.new ≡ with_crypt meter.old password.now setting.now) }
+    ensures count { OnOk result (meter.new ≡ raised_by meter.old (work password.now setting.now)) }
     ensures refused { OnErr result (IsRefusedBy meter.old setting.now.scheme meter.new) }
 {
     let salt = setting.salt();

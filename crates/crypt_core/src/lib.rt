@@ -10,3 +10,4 @@ pub mod password;
 mod scheme;
 pub mod setting;
 pub mod shacrypt;
+pub mod work;

@@ -2,9 +2,10 @@
 //! running digests piece by piece, so that no message is built whole and nothing is allocated.
 ghost use Rattle.std.specs.Prelude.{◌≡◌, ◌+◌, ◌*◌, ◌^◌, ◌<◌, ◌≤◌, length};
 ghost use Rattle.prims_core.specs.Digests.{md5};
+ghost use Rattle.prims_core.specs.Meter.{with_work, AreInAll};
 ghost use Rattle.crypt_core.specs.Md5crypt.{md5crypt_digest, md5crypt_message, md5crypt_messages, opening_message};
 ghost use Rattle.crypt_core.specs.RoundMessage.{salted_twice};
-ghost use Rattle.crypt_core.specs.Work.{with_digest, with_digests, HasDigestRoom};
+ghost use Rattle.crypt_core.specs.Work.{md5crypt_bytes, with_digest, HasDigestRoom};
 
 use crate::messages::{feed_cycle, feed_digits, round, salted};
 use crate::password::Password;
@@ -15,14 +16,16 @@ use prims_core::meter::Meter;
 /// How often the digest is made anew.
 const ROUNDS: u32 = 1000;
 
-/// The digest of a password and a salt of at most 8 bytes. The meter counts each message.
+/// The digest of a password and a salt of at most 8 bytes. The meter counts each of the 1,002 messages.
 ///
 /// The meter has counted at most 2^120 digests and at most 2^120 bytes before.
 pub fn md5crypt(password: &Password, salt: &[u8], meter: &mut Meter) -> [u8; 16]
     requires salt { length salt.now ≤ 8 }
     requires room { HasDigestRoom meter.old }
     ensures digest { result ≡ md5crypt_digest password.now salt.now }
-    ensures count { meter.new ≡ with_digests meter.old (md5crypt_messages password.now salt.now) }
+    ensures count { meter.new ≡ with_work meter.old 1002 (md5crypt_bytes (length password.now) (length salt.now)) }
+    ensures specified { AreInAll (md5crypt_messages password.now salt.now) 1002
+        (md5crypt_bytes (length password.now) (length salt.now)) }
 {
     let password = password.bytes();
     let mut digest = opening(password, salt, meter);

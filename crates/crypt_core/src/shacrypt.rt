@@ -3,10 +3,11 @@
 //! password and the salt in the rounds is made once, in buffers of fixed capacity.
 ghost use Rattle.std.specs.Prelude.{◌≡◌, ◌+◌, ◌*◌, ◌^◌, ◌<◌, ◌≤◌, length};
 ghost use Rattle.std.specs.List.{repeat};
+ghost use Rattle.prims_core.specs.Meter.{with_work, AreInAll};
 ghost use Rattle.crypt_core.specs.Cycle.{cycle};
 ghost use Rattle.crypt_core.specs.RoundMessage.{salted_twice};
 ghost use Rattle.crypt_core.specs.ShaCrypt.{sha_opening_digest, sha_opening_message, shacrypt_digest, shacrypt_messages};
-ghost use Rattle.crypt_core.specs.Work.{with_digest, with_digests, HasDigestRoom};
+ghost use Rattle.crypt_core.specs.Work.{first_byte, shacrypt_bytes, with_digest, HasDigestRoom};
 
 use crate::messages::{cycle_of, feed_cycle, feed_digits, feed_repeated, round, salted};
 use crate::password::Password;
@@ -15,7 +16,7 @@ use prims_core::counted::Counted;
 use prims_core::meter::Meter;
 
 /// The digest of a password, a salt of at most 16 bytes, and 1000 to 999999999 rounds, by SHA-crypt
-/// over the digest function `H`. It has `H::LEN` bytes. The meter counts each message.
+/// over the digest function `H`. It has `H::LEN` bytes. The meter counts each of the `rounds + 4` messages.
 ///
 /// The meter has counted at most 2^120 digests and at most 2^120 bytes before.
 pub fn shacrypt<H: Counted>(
@@ -30,7 +31,10 @@ pub fn shacrypt<H: Counted>(
     requires room { HasDigestRoom meter.old }
     ensures digest { result.items ≡ shacrypt_digest H.digest password.now salt.now rounds }
     ensures length { length result.items ≡ H.LEN }
-    ensures count { meter.new ≡ with_digests meter.old (shacrypt_messages H.digest password.now salt.now rounds) }
+    ensures count { meter.new ≡ with_work meter.old (rounds + 4) (shacrypt_bytes H.LEN
+        (first_byte H.digest password.now salt.now) rounds (length password.now) (length salt.now)) }
+    ensures specified { AreInAll (shacrypt_messages H.digest password.now salt.now rounds) (rounds + 4)
+        (shacrypt_bytes H.LEN (first_byte H.digest password.now salt.now) rounds (length password.now) (length salt.now)) }
 {
     let password = password.bytes();
     let mut digest = opening::<H>(password, salt, meter);

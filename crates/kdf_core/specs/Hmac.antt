@@ -1,5 +1,5 @@
 -- HMAC (RFC 2104, section 2), over a digest function that works on blocks of `size` bytes.
-use Rattle.std.specs.Prelude.{◌≡◌, ℕ, ◌+◌, ◌-◌, ◌*◌, List, ◌++◌, length, replicate, nat_lt, if◌then◌else◌}
+use Rattle.std.specs.Prelude.{◌≡◌, ℕ, ◌+◌, ◌-◌, ◌*◌, List, [], ◌∷◌, ◌++◌, length, replicate, nat_lt, if◌then◌else◌}
 use Rattle.prims_core.specs.Digests.{sha256}
 use Rattle.prims_core.specs.Words.{xor_bytes}
 
@@ -38,6 +38,18 @@ pub record PaddedKey : Type 0 where
 pub record IsKeyOf (held : PaddedKey) (key : List ℕ) : Type 0 where
   pub inner : held.inner ≡ padded_key sha256 64 key ipad
   pub outer : held.outer ≡ padded_key sha256 64 key opad
+
+-- The messages that are digested, and their work
+
+-- for a key: the key itself, where it is longer than a block
+abbrev pub key_messages : List ℕ → List (List ℕ)
+key_messages key = if nat_lt 64 (length key) then key ∷ [] else []
+
+-- for a tag: the text behind the inner pad, and the digest of that behind the outer pad
+abbrev pub tag_messages : List ℕ → List ℕ → List (List ℕ)
+tag_messages key text =
+    let inner = padded_key sha256 64 key ipad ++ text in
+    inner ∷ (padded_key sha256 64 key opad ++ sha256 inner) ∷ []
 
 -- the digests that making a key takes: one where it is longer than a block
 abbrev pub key_digests : ℕ → ℕ

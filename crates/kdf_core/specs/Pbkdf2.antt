@@ -3,7 +3,7 @@ use Rattle.std.specs.Prelude.{ℕ, zero, suc, ◌+◌, ◌-◌, ◌*◌, List, �
 use Rattle.std.specs.List.{flat_map, range_with_len}
 use Rattle.std.specs.Int.{div_ceil}
 use Rattle.prims_core.specs.Words.{big_bytes, xor_bytes}
-use Rattle.kdf_core.specs.Hmac.{hmac_sha256, tag_bytes}
+use Rattle.kdf_core.specs.Hmac.{hmac_sha256, tag_bytes, tag_messages}
 
 -- U_j of block i, where S || INT (i) stands for U_0: each is PRF (P, U) of the one before
 unfoldable pub chain : (List ℕ → List ℕ → List ℕ) → List ℕ → List ℕ → ℕ → ℕ → List ℕ
@@ -24,6 +24,16 @@ pbkdf2 prf size password salt rounds count =
 -- PBKDF2 over HMAC-SHA-256, whose blocks have 32 bytes
 unfoldable pub pbkdf2_sha256 : List ℕ → List ℕ → ℕ → ℕ → List ℕ
 pbkdf2_sha256 = pbkdf2 hmac_sha256 32
+
+-- the messages that are digested for block i: those of the tags U_1 to U_c
+unfoldable pub block_messages : List ℕ → List ℕ → ℕ → ℕ → List (List ℕ)
+block_messages password salt rounds i =
+    flat_map (λ j. tag_messages password (chain hmac_sha256 password salt i j)) (range_with_len 0 rounds)
+
+-- and for so many bytes: those of T_1, T_2, ..
+unfoldable pub pbkdf2_messages : List ℕ → List ℕ → ℕ → ℕ → List (List ℕ)
+pbkdf2_messages password salt rounds count =
+    flat_map (block_messages password salt rounds) (range_with_len 1 (div_ceil count 32))
 
 -- the bytes that the digests of one block take: a tag of the salt and INT (i), and the other tags
 abbrev pub block_bytes : ℕ → ℕ → ℕ

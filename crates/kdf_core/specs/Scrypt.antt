@@ -1,14 +1,14 @@
 -- scrypt (RFC 7914, sections 5 and 6).
-use Rattle.std.specs.Prelude.{◌≡◌, ℕ, ◌+◌, ◌-◌, ◌*◌, ◌^◌, ◌%◌, ◌≤◌, ◌⊎◌, List, [], ◌∷◌, length, drop}
+use Rattle.std.specs.Prelude.{◌≡◌, ℕ, ◌+◌, ◌-◌, ◌*◌, ◌^◌, ◌%◌, ◌≤◌, ◌⊎◌, List, [], ◌∷◌, ◌++◌, length, drop}
 use Rattle.std.specs.Fn.{iterate}
 use Rattle.std.specs.Int.{div_ceil}
 use Rattle.std.specs.List.{flat_map}
 use Rattle.prims_core.specs.BlockMix.{block_mix}
 use Rattle.prims_core.specs.Meter.{Counts}
 use Rattle.prims_core.specs.Words.{words_of, bytes_of_words, xor_words, chunks_exact}
-use Rattle.kdf_core.specs.Hmac.{key_digests, key_bytes}
+use Rattle.kdf_core.specs.Hmac.{key_digests, key_bytes, key_messages}
 use Rattle.kdf_core.specs.Params.{ScryptCost}
-use Rattle.kdf_core.specs.Pbkdf2.{pbkdf2_sha256}
+use Rattle.kdf_core.specs.Pbkdf2.{pbkdf2_messages, pbkdf2_sha256}
 
 -- the number of which these are the 32-bit words, the lowest first
 unfoldable pub number_of_words : List ℕ → ℕ
@@ -53,6 +53,14 @@ unfoldable pub scrypt : List ℕ → List ℕ → ScryptCost → ℕ → List �
 scrypt password salt cost count =
     let derived = pbkdf2_sha256 password salt 1 (parts_bytes cost) in
     pbkdf2_sha256 password (mixed_parts (rows cost) (part_bytes cost) derived) 1 count
+
+-- the messages that are digested: the password where it is longer than a block of SHA-256, and then those
+-- of both derivations
+unfoldable pub scrypt_messages : List ℕ → List ℕ → ScryptCost → ℕ → List (List ℕ)
+scrypt_messages password salt cost count =
+    let derived = pbkdf2_sha256 password salt 1 (parts_bytes cost) in
+    key_messages password ++ pbkdf2_messages password salt 1 (parts_bytes cost)
+    ++ pbkdf2_messages password (mixed_parts (rows cost) (part_bytes cost) derived) 1 count
 
 -- The work of scrypt, for a password, a salt and a result of so many bytes.
 

@@ -1,5 +1,5 @@
 -- What a meter has counted.
-use Rattle.std.specs.Prelude.{ℕ, ◌+◌}
+use Rattle.std.specs.Prelude.{◌≡◌, ℕ, ◌+◌, List, length, sum_by}
 
 -- the five counts of the work done
 pub record Counts : Type 0 where
@@ -22,3 +22,8 @@ no_counts = record { digests = 0; bytes = 0; mixes = 0; table = 0; scratch = 0 }
 abbrev pub with_work : Counts → ℕ → ℕ → Counts
 with_work counts digests bytes =
     record counts { digests = counts.digests + digests; bytes = counts.bytes + bytes }
+
+-- these messages are so many, and have so many bytes in all: their digests are that much work
+pub record AreInAll (messages : List (List ℕ)) (digests bytes : ℕ) : Type 0 where
+  pub number : length messages ≡ digests
+  pub sum : sum_by length messages ≡ bytes
