@@ -25,7 +25,8 @@ pbkdf2 prf size password salt rounds count =
 unfoldable pub pbkdf2_sha256 : List ℕ → List ℕ → ℕ → ℕ → List ℕ
 pbkdf2_sha256 = pbkdf2 hmac_sha256 32
 
--- the messages that are digested for block i: those of the tags U_1 to U_c
+-- the messages that are digested for block i: those of the tags U_1 to U_c, each of the one before, where
+-- the salt and INT (i) stand before the first
 unfoldable pub block_messages : List ℕ → List ℕ → ℕ → ℕ → List (List ℕ)
 block_messages password salt rounds i =
     flat_map (λ j. tag_messages password (chain hmac_sha256 password salt i j)) (range_with_len 0 rounds)
