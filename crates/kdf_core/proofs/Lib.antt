@@ -1,6 +1,8 @@
 pub mod Ceiling
 pub mod HmacLemmas
+pub mod MessageCounts
 pub mod Metering
+pub mod MixedLengths
 pub mod Pbkdf2Lemmas
 pub mod ScryptBounds
 pub mod ScryptLemmas

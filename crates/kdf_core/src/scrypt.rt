@@ -6,8 +6,9 @@
 ghost use Rattle.std.specs.Prelude.{◌≡◌, ℕ, ◌+◌, ◌-◌, ◌*◌, ◌/◌, ◌^◌, ◌%◌, ◌<◌, ◌≤◌, List, length, OnOk, OnErr};
 ghost use Rattle.std.specs.Fn.{iterate};
 ghost use Rattle.prims_core.specs.BlockMix.{block_mix as mixed};
+ghost use Rattle.prims_core.specs.Meter.{AreInAll};
 ghost use Rattle.kdf_core.specs.Private.Mixing.{HasShape, HoldsMixings, AreHalves, IsPower};
-ghost use Rattle.kdf_core.specs.Scrypt.{scrypt, rows, integerify, mixed_back, romix, mixed_part, mixed_parts, with_scrypt, IsAfterRefusal, HasRoom};
+ghost use Rattle.kdf_core.specs.Scrypt.{scrypt, rows, integerify, mixed_back, romix, mixed_part, mixed_parts, scrypt_bytes, scrypt_digests, scrypt_messages, with_scrypt, IsAfterRefusal, HasRoom};
 
 use crate::hmac::HmacKey;
 use crate::params::Params;
@@ -46,6 +47,9 @@ pub fn scrypt(
     ensures bytes { OnOk result (out.new ≡ scrypt password.now salt.now params.now (length out.old)) }
     ensures count { OnOk result (meter.new
         ≡ with_scrypt meter.old params.now (length password.now) (length salt.now) (length out.old)) }
+    ensures specified { AreInAll (scrypt_messages password.now salt.now params.now (length out.old))
+        (scrypt_digests params.now (length password.now) (length out.old))
+        (scrypt_bytes params.now (length password.now) (length salt.now) (length out.old)) }
     ensures unchanged { OnErr result (out.new ≡ out.old) }
     ensures refused { OnErr result (IsAfterRefusal meter.old params.now meter.new) }
 {

@@ -3,6 +3,7 @@ use Rattle.std.proofs.lemmas.List.{length-replicate}
 use Rattle.kdf_core.specs.Scrypt.{rows, parts_bytes, table_bytes, halves_bytes, scrypt_mixes, with_scrypt, IsAfterRefusal}
 use Rattle.kdf_core.specs.Pbkdf2.{pbkdf2_sha256, pbkdf2_digests, pbkdf2_bytes}
 use Rattle.kdf_core.specs.Hmac.{key_digests, key_bytes}
+use Rattle.kdf_core.proofs.MessageCounts.{scrypt-in_all}
 use Rattle.kdf_core.proofs.ScryptBounds.{bounded, rows_power, parts-product, parts-fit, table-product, all_bytes-fit}
 use Rattle.kdf_core.proofs.ScryptValue.{after_two_growths, same_length, counts-are, same_counts, digests-are, bytes-are, value-is}
 use Rattle.kdf_core.proofs.scrypt.scrypt.Goals as goal
@@ -119,3 +120,15 @@ returns-clause-count c =
     c.in_ok-halves.ensures.count c.new-key.ensures.count c.pbkdf2.ensures.count c.mix_parts.ensures.count c.pbkdf2-2.ensures.count
     ∙ same_counts _ (with_scrypt before cost password_length salt_length count) (omega (arith, digests)) (omega (arith, bytes))
     (ap (λ k. before.mixes + k) mixes) (ap (λ k. before.table + k) table) (omega (arith, product, halves))
+
+pub returns-in_err-table-clause-specified : goal.returns-in_err-table-clause-specified
+returns-in_err-table-clause-specified c = scrypt-in_all c.args.password.now c.args.salt.now c.args.params.now (length c.args.out.now)
+
+pub returns-in_err-parts-clause-specified : goal.returns-in_err-parts-clause-specified
+returns-in_err-parts-clause-specified c = scrypt-in_all c.args.password.now c.args.salt.now c.args.params.now (length c.args.out.now)
+
+pub returns-in_err-halves-clause-specified : goal.returns-in_err-halves-clause-specified
+returns-in_err-halves-clause-specified c = scrypt-in_all c.args.password.now c.args.salt.now c.args.params.now (length c.args.out.now)
+
+pub returns-clause-specified : goal.returns-clause-specified
+returns-clause-specified c = scrypt-in_all c.args.password.now c.args.salt.now c.args.params.now (length c.args.out.now)

@@ -1,0 +1,220 @@
+-- Block mixing, ROMix and the mixing of all parts keep the length of what they are given.
+use Rattle.std.proofs.Common.{◌≡◌, ℕ, zero, suc, ◌+◌, ◌-◌, ◌*◌, ◌/◌, ◌%◌, ◌<◌, ◌≤◌, List, [], ◌∷◌, length, get_or, take, drop, map, refl, sym, ap, ◌∙◌, arith}
+use Rattle.std.specs.Prelude.{All, slice_index, slice_index_or}
+use Rattle.std.specs.Fn.{iterate}
+use Rattle.std.specs.List.{concat, enumerate_from, flat_map, range_with_len, scan}
+use Rattle.std.proofs.Math.Nat.{mul-div-le, mul-div_cancel_left, mul-le-mul_left}
+use Rattle.std.proofs.lemmas.List.{length-append, length-drop, length-map, length-take, length-take-le}
+use Rattle.std.proofs.lemmas.List.Concat.{concat_is}
+use Rattle.std.proofs.lemmas.List.Elements.{All-cons, All-head, All-map, All-tail}
+use Rattle.std.proofs.lemmas.List.Folds.{concat-append}
+use Rattle.std.proofs.lemmas.List.FromFn.{get_or-enumerate_from, get_or-range_with_len, length-enumerate_from, length-map-range_with_len, length-range_with_len}
+use Rattle.std.proofs.lemmas.Simd.{length-zip2}
+use Rattle.prims_core.specs.BlockMix.{mixed_block, mixed_blocks, at_even_places, at_odd_places, block_mix}
+use Rattle.prims_core.specs.Salsa.{sum_of_words, quarter_round, begun_at, row_round, transpose, column_round, double_round, salsa20_8}
+use Rattle.prims_core.specs.Words.{little_bytes, xor_words, chunks_exact, words_of, bytes_of_words}
+use Rattle.kdf_core.specs.Scrypt.{integerify, mixed_back, romix, mixed_part, mixed_parts}
+
+-- each of the pieces has so many items
+abbrev HaveSize : ℕ → List (List ℕ) → Type 0
+HaveSize size = All (λ piece. length piece ≡ size)
+
+-- lists of one length, joined
+pub length-flat_map_same : {X : Type 0} (f : X → List ℕ) (size : ℕ) (xs : List X) → All (λ x. length (f x) ≡ size) xs
+    → length (flat_map f xs) ≡ length xs * size
+length-flat_map_same f size [] each = omega arith
+length-flat_map_same {X = X} f size (x ∷ xs) each =
+    let first : length (f x) ≡ size = All-head (λ (y : X). length (f y) ≡ size) x xs each in
+    let rest : length (flat_map f xs) ≡ length xs * size =
+    length-flat_map_same f size xs (All-tail (λ (y : X). length (f y) ≡ size) x xs each) in
+    omega (arith, length-append (f x) (flat_map f xs))
+
+length-concat : (size : ℕ) (pieces : List (List ℕ)) → HaveSize size pieces → length (concat pieces) ≡ length pieces * size
+length-concat size pieces each = ap length (concat_is pieces) ∙ length-flat_map_same (λ (piece : List ℕ). piece) size pieces each
+
+-- what each step keeps is kept by any number of them
+iterate-keeps : {A : Type 0} (P : A → Type 0) (step : A → A) → ((x : A) → P x → P (step x)) → (n : ℕ) (x : A) → P x → P (iterate step n x)
+iterate-keeps P step keeps zero x holds = holds
+iterate-keeps P step keeps (suc n) x holds = iterate-keeps P step keeps n (step x) (keeps x holds)
+
+-- how many pieces a list is cut into, and their size
+length-chunks_exact : (items : List ℕ) (size : ℕ) → length (chunks_exact items size) ≡ length items / size
+unfolding chunks_exact
+length-chunks_exact items size = length-map-range_with_len (λ i. take size (drop (size * i) items)) 0 (length items / size)
+
+size-chunks_exact : (items : List ℕ) (size : ℕ) → HaveSize size (chunks_exact items size)
+unfolding chunks_exact
+size-chunks_exact items size =
+    let count : ℕ = length items / size in
+    All-map (λ (piece : List ℕ). length piece ≡ size) (λ i. take size (drop (size * i) items)) (range_with_len 0 count)
+    (λ k d inside.
+    let i : ℕ = get_or (range_with_len 0 count) k d in
+    let within : k < count = omega (arith, length-range_with_len 0 count) in
+    let next : i + 1 ≤ count = omega (arith, get_or-range_with_len 0 count k d within) in
+    let room : size * (i + 1) ≤ size * count = mul-le-mul_left size next in
+    length-take-le size (drop (size * i) items) (omega (arith, room, mul-div-le (length items) size, length-drop (size * i) items)))
+
+-- The four rows of four words that Salsa20/8 works on
+
+record IsMatrix (rows : List (List ℕ)) : Type 0 where
+  four : length rows ≡ 4
+  each : HaveSize 4 rows
+
+length-quarter_round : (row : List ℕ) → length row ≡ 4 → length (quarter_round row) ≡ 4
+unfolding quarter_round
+length-quarter_round [] four = absurd (omega arith)
+length-quarter_round (a ∷ []) four = absurd (omega arith)
+length-quarter_round (a ∷ b ∷ []) four = absurd (omega arith)
+length-quarter_round (a ∷ b ∷ c ∷ []) four = absurd (omega arith)
+length-quarter_round (a ∷ b ∷ c ∷ d ∷ []) four = refl
+length-quarter_round (a ∷ b ∷ c ∷ d ∷ e ∷ rest) four = absurd (omega arith)
+
+length-begun_at : (place : ℕ) (row : List ℕ) → length (begun_at place row) ≡ length row
+length-begun_at place row =
+    omega (arith, length-append (drop place row) (take place row), length-drop place row, length-take place row)
+
+matrix-row_round : (rows : List (List ℕ)) → IsMatrix rows → IsMatrix (row_round rows)
+unfolding row_round
+matrix-row_round rows is =
+    let turned : ℕ × List ℕ → List ℕ = λ p. begun_at (4 - p.0) (quarter_round (begun_at p.0 p.1)) in
+    record {
+      four = length-map (enumerate_from 0 rows) turned ∙ (length-enumerate_from 0 rows ∙ is.four);
+      each = All-map (λ (row : List ℕ). length row ≡ 4) turned (enumerate_from 0 rows) (λ k d inside.
+          let p : ℕ × List ℕ = get_or (enumerate_from 0 rows) k d in
+          let within : k < length rows = omega (arith, length-enumerate_from 0 rows) in
+          let row : length p.1 ≡ 4 =
+          ap (λ (q : ℕ × List ℕ). length q.1) (get_or-enumerate_from 0 rows k d within) ∙ is.each k d.1 within in
+          length-begun_at (4 - p.0) (quarter_round (begun_at p.0 p.1))
+          ∙ length-quarter_round (begun_at p.0 p.1) (length-begun_at p.0 p.1 ∙ row));
+    }
+
+matrix-transpose : (rows : List (List ℕ)) → IsMatrix rows → IsMatrix (transpose rows)
+unfolding transpose
+matrix-transpose rows is =
+    let column : ℕ → List ℕ = λ i. map (λ row. slice_index row i) rows in
+    record {
+      four = length-map-range_with_len column 0 4;
+      each = All-map (λ (row : List ℕ). length row ≡ 4) column (range_with_len 0 4)
+          (λ k d inside. length-map rows (λ row. slice_index row (get_or (range_with_len 0 4) k d)) ∙ is.four);
+    }
+
+matrix-double_round : (rows : List (List ℕ)) → IsMatrix rows → IsMatrix (double_round rows)
+unfolding double_round column_round
+matrix-double_round rows is =
+    matrix-row_round (column_round rows)
+    (matrix-transpose (row_round (transpose rows)) (matrix-row_round (transpose rows) (matrix-transpose rows is)))
+
+-- sixteen words under Salsa20/8
+length-salsa20_8 : (words : List ℕ) → length words ≡ 16 → length (salsa20_8 words) ≡ 16
+unfolding salsa20_8
+length-salsa20_8 words sixteen =
+    let cut : IsMatrix (chunks_exact words 4) =
+    record { four = length-chunks_exact words 4 ∙ omega arith; each = size-chunks_exact words 4 } in
+    let rounds = iterate double_round 4 (chunks_exact words 4) in
+    let mixed : IsMatrix rounds = iterate-keeps IsMatrix double_round matrix-double_round 4 (chunks_exact words 4) cut in
+    let joined : length (concat rounds) ≡ 16 = length-concat 4 rounds mixed.each ∙ ap (λ n. n * 4) mixed.four in
+    length-zip2 sum_of_words words (concat rounds) (sixteen ∙ sym joined) ∙ sixteen
+
+-- The blocks of sixteen words that are mixed
+
+size-mixed_block : (x block : List ℕ) → length x ≡ 16 → length block ≡ 16 → length (mixed_block x block) ≡ 16
+unfolding xor_words
+size-mixed_block x block first second =
+    length-salsa20_8 (xor_words x block) (length-zip2 _ x block (first ∙ sym second) ∙ first)
+
+length-scan : (a : List ℕ) (blocks : List (List ℕ)) → length (scan mixed_block mixed_block a blocks) ≡ length blocks
+length-scan a [] = refl
+length-scan a (block ∷ blocks) = ap suc (length-scan (mixed_block a block) blocks)
+
+size-scan : (a : List ℕ) (blocks : List (List ℕ)) → length a ≡ 16 → HaveSize 16 blocks → HaveSize 16 (scan mixed_block mixed_block a blocks)
+size-scan a [] first each = each
+size-scan a (block ∷ blocks) first each =
+    let size = λ (piece : List ℕ). length piece ≡ 16 in
+    let next : length (mixed_block a block) ≡ 16 = size-mixed_block a block first (All-head size block blocks each) in
+    All-cons size (mixed_block a block) (scan mixed_block mixed_block (mixed_block a block) blocks) next
+    (size-scan (mixed_block a block) blocks next (All-tail size block blocks each))
+
+length-mixed_blocks : (blocks : List (List ℕ)) → length (mixed_blocks blocks) ≡ length blocks
+unfolding mixed_blocks
+length-mixed_blocks blocks = length-scan (slice_index_or blocks (length blocks - 1) []) blocks
+
+size-mixed_blocks : (blocks : List (List ℕ)) → HaveSize 16 blocks → HaveSize 16 (mixed_blocks blocks)
+unfolding mixed_blocks
+size-mixed_blocks [] each = each
+size-mixed_blocks (block ∷ blocks) each =
+    let all = block ∷ blocks in
+    size-scan (slice_index_or all (length all - 1) []) all (each (length all - 1) [] (omega arith)) each
+
+-- the first block is at an even place, and those behind it change their places
+even-next : (x : List ℕ) (blocks : List (List ℕ)) → at_even_places (x ∷ blocks) ≡ x ∷ at_even_places (drop 1 blocks)
+unfolding at_even_places
+even-next x [] = refl
+even-next x (y ∷ blocks) = refl
+
+-- the blocks at even places and those at odd places are all blocks
+length-even_odd : (blocks : List (List ℕ))
+    → length (concat (at_even_places blocks)) + length (concat (at_even_places (drop 1 blocks))) ≡ length (concat blocks)
+unfolding at_even_places
+length-even_odd [] = refl
+length-even_odd (x ∷ blocks) =
+    let rest = length-even_odd blocks in
+    let first = ap (λ (pieces : List (List ℕ)). length (concat pieces)) (even-next x blocks) in
+    omega (
+      arith,
+      first,
+      rest,
+      length-append x (concat (at_even_places (drop 1 blocks))),
+      length-append x (concat blocks),
+    )
+
+length-block_mix : (words : List ℕ) (count : ℕ) → length words ≡ 16 * count → length (block_mix words) ≡ 16 * count
+unfolding block_mix at_odd_places
+length-block_mix words count is =
+    let blocks = chunks_exact words 16 in
+    let y = mixed_blocks blocks in
+    let number : length blocks ≡ count = length-chunks_exact words 16 ∙ (ap (λ n. n / 16) is ∙ mul-div_cancel_left count (omega arith)) in
+    let all : length (concat y) ≡ length y * 16 = length-concat 16 y (size-mixed_blocks blocks (size-chunks_exact words 16)) in
+    ap length (concat-append (at_even_places y) (at_odd_places y))
+    ∙ (length-append (concat (at_even_places y)) (concat (at_odd_places y))
+    ∙ (length-even_odd y ∙ omega (arith, all, length-mixed_blocks blocks, number)))
+
+-- The parts under ROMix
+
+length-mixed_back : (n : ℕ) (start : List ℕ) (count : ℕ) → length start ≡ 16 * count
+    → (words : List ℕ) → length words ≡ 16 * count → length (mixed_back n start words) ≡ 16 * count
+unfolding mixed_back xor_words
+length-mixed_back n start count first words is =
+    let row = iterate block_mix (integerify words % n) start in
+    let row_is : length row ≡ 16 * count =
+    iterate-keeps (λ (x : List ℕ). length x ≡ 16 * count) block_mix (λ x. length-block_mix x count) (integerify words % n) start first in
+    length-block_mix (xor_words words row) count (length-zip2 _ words row (is ∙ sym row_is) ∙ is)
+
+length-romix : (n : ℕ) (start : List ℕ) (count : ℕ) → length start ≡ 16 * count → length (romix n start) ≡ 16 * count
+unfolding romix
+length-romix n start count is =
+    let whole = λ (x : List ℕ). length x ≡ 16 * count in
+    iterate-keeps whole (mixed_back n start) (length-mixed_back n start count is) n (iterate block_mix n start)
+    (iterate-keeps whole block_mix (λ x. length-block_mix x count) n start is)
+
+length-mixed_part : (n : ℕ) (bytes : List ℕ) (count : ℕ) → length bytes ≡ 64 * count → length (mixed_part n bytes) ≡ 64 * count
+unfolding mixed_part words_of bytes_of_words
+length-mixed_part n bytes count is =
+    let words : length (words_of bytes) ≡ 16 * count =
+    length-map (chunks_exact bytes 4) _ ∙ (length-chunks_exact bytes 4 ∙ omega (arith, is)) in
+    length-flat_map_same (little_bytes 4) 4 (romix n (words_of bytes)) (λ k d inside. refl)
+    ∙ omega (arith, length-romix n (words_of bytes) count words)
+
+-- all parts, each of so many blocks of 64 bytes
+pub length-mixed_parts : (n size blocks count : ℕ) (bytes : List ℕ) → size ≡ 64 * blocks → length bytes ≡ size * count
+    → length (mixed_parts n size bytes) ≡ length bytes
+unfolding mixed_parts
+length-mixed_parts n size blocks count bytes size_is whole =
+    let parts = chunks_exact bytes size in
+    length-flat_map_same (mixed_part n) size parts
+    (λ k d inside. length-mixed_part n (get_or parts k d) blocks (size-chunks_exact bytes size k d inside ∙ size_is) ∙ sym size_is)
+    ∙ (ap (λ m. m * size) (length-chunks_exact bytes size) ∙ divided size whole) where
+      divided : (size : ℕ) → length bytes ≡ size * count → length bytes / size * size ≡ length bytes
+      divided zero is = omega arith
+      divided (suc size) is =
+          let quotient : length bytes / suc size ≡ count = ap (λ n. n / suc size) is ∙ mul-div_cancel_left count (omega arith) in
+          ap (λ n. n * suc size) quotient ∙ omega arith
