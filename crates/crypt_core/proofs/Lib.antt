@@ -6,6 +6,7 @@ pub mod First
 pub mod HashedTexts
 pub mod Making
 pub mod Md5cryptLemmas
+pub mod MadeSaltLemmas
 pub mod MessageLists
 pub mod Metering
 pub mod Numerals

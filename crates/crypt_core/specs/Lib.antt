@@ -1,6 +1,7 @@
 pub mod Crypt
 pub mod Cycle
 pub mod HashFaults
+pub mod MadeSalts
 pub mod MadeSettings
 pub mod Md5crypt
 pub mod Methods

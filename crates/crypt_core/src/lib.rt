@@ -2,6 +2,7 @@
 #![tactic(auto)]
 
 pub mod hash;
+pub mod made_salt;
 pub mod md5crypt;
 mod messages;
 pub mod method;

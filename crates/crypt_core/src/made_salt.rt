@@ -1,0 +1,39 @@
+//! Salts made of random words: three words of 64 bits are drawn, and their bits are read as
+//! characters of crypt's alphabet.
+
+ghost use Rattle.std.specs.Prelude.{◌≡◌, ◌≤◌, length, All};
+ghost use Rattle.crypt_core.specs.MadeSalts.{made_salt, three_words};
+ghost use Rattle.crypt_core.specs.Settings.{IsCharacter};
+
+#[cfg(test)]
+mod tests;
+
+use arrayvec::ArrayVec;
+use prims_core::alphabet::char_of;
+use rand_core::Rng;
+
+/// The salt of `len` characters, at most 22, that three random words give.
+///
+/// Each word gives ten characters, six bits for each, lowest bits first; its highest four bits are
+/// not used. A salt of 1 to 22 characters is one that [`Setting::make`](crate::setting::Setting::make)
+/// takes for each method that keeps as many.
+pub fn salt_of(words: [u64; 3], len: usize) -> ArrayVec<u8, 22>
+    requires { len ≤ 22 }
+    ensures items { result.items ≡ made_salt words len }
+    ensures length { length result.items ≡ len }
+    ensures characters { All IsCharacter result.items }
+{
+    let mut salt = ArrayVec::new();
+    'characters: for i in 0..len {
+        let value = (words[i / 10] >> (6 * (i % 10))) & 63;
+        salt.push(char_of(value as u8));
+    }
+    salt
+}
+
+/// The next three words of the generator, in the order in which it gives them.
+pub fn draw<R: Rng>(rng: &mut R) -> [u64; 3]
+    ensures { (result, R.stream rng.new) ≡ three_words (R.stream rng.old) }
+{
+    [rng.next_u64(), rng.next_u64(), rng.next_u64()]
+}
