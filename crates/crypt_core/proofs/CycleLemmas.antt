@@ -1,13 +1,18 @@
 -- Lemmas on `cycle` and on binary digits.
 use Rattle.std.proofs.Common.{◌≡◌, ℕ, zero, suc, ◌+◌, ◌*◌, ◌/◌, ◌%◌, ◌<◌, ◌≤◌, List, [], ◌∷◌, ◌++◌, length, take, get_or, arith, refl, sym, ap, ◌∙◌, append_assoc, cond, nat_eq, Bool, true, false, flat_map}
+use Rattle.std.specs.List.{repeat}
+use Rattle.std.specs.Prelude.{sum_by}
 use Rattle.std.proofs.lemmas.List.{append-nil, length-append, take_all}
+use Rattle.std.proofs.lemmas.List.Concat.{length-flat_map}
 use Rattle.std.proofs.lemmas.List.FromFn.{length-map-range_with_len, map-range_with_len_more}
+use Rattle.std.proofs.lemmas.List.Sums.{sum_by-cons, sum_by-le}
 use Rattle.std.proofs.lemmas.Nat.{mod-mul-add}
 use Rattle.std.proofs.lemmas.Bool.Decides.{nat_tests}
 use Rattle.std.proofs.Math.Nat.{mul-le-mul_right}
+use Rattle.std.proofs.Math.Path.{fun_ext}
 use Rattle.std.proofs.Math.Seq.{take-suc}
-use Rattle.std.specs.List.{repeat}
 use Rattle.crypt_core.specs.Cycle.{cycle, binary_digits, digit_pieces, digits_up_to}
+use Rattle.crypt_core.specs.Work.{digit_bytes}
 
 -- a byte more
 pub cycle-more : (d : List ℕ) (n : ℕ) → cycle d (n + 1) ≡ cycle d n ++ get_or d (n % length d) 0 ∷ []
@@ -88,22 +93,40 @@ length-digits_up_to (suc k) n = go (nat_eq n 0) (digits_up_to k (n / 2)) k (leng
   go true rest m h = omega arith
   go false rest m h = omega arith
 
--- pieces of at most w bytes are at most so many times the digits
-length-pieces : (w : ℕ) (one other digits : List ℕ) → length one ≤ w → length other ≤ w
-    → length (flat_map (λ digit. cond (nat_eq digit 1) one other) digits) ≤ length digits * w
-length-pieces w one other [] a b = omega arith
-length-pieces w one other (digit ∷ digits) a b =
-    let piece = cond (nat_eq digit 1) one other in
-    let rest = flat_map (λ digit. cond (nat_eq digit 1) one other) digits in
-    omega (arith, length-append piece rest, short (nat_eq digit 1), length-pieces w one other digits a b) where
-      short : (b : Bool) → length (cond b one other) ≤ w
-      short true = a
-      short false = b
-
-pub length-digit_pieces : (w : ℕ) (one other : List ℕ) (n : ℕ) → length one ≤ w → length other ≤ w
-    → length (digit_pieces one other n) ≤ n * w
+-- a number has at most as many digits as its value
+pub length-binary_digits : (n : ℕ) → length (binary_digits n) ≤ n
 unfolding binary_digits
-length-digit_pieces w one other n a b =
-    let digits = length-pieces w one other (digits_up_to n n) a b in
-    let few = mul-le-mul_right w (length-digits_up_to n n) in
-    omega (arith, digits, few)
+length-binary_digits n = length-digits_up_to n n
+
+-- the length of one list or another
+pub length-cond : (b : Bool) (one other : List ℕ) → length (cond b one other) ≡ cond b (length one) (length other)
+length-cond true one other = refl
+length-cond false one other = refl
+
+-- all pieces have the bytes of the one for each digit 1, and of the other for each 0
+pub length-digit_pieces : (one other : List ℕ) (n : ℕ)
+    → length (digit_pieces one other n) ≡ sum_by (λ digit. cond (nat_eq digit 1) (length one) (length other)) (binary_digits n)
+length-digit_pieces one other n =
+    length-flat_map _ (binary_digits n)
+    ∙ ap (λ f. sum_by f (binary_digits n)) (fun_ext (λ digit. length-cond (nat_eq digit 1) one other))
+
+-- two pieces of a byte each: as many bytes as there are digits
+pub length-single_pieces : (a b n : ℕ) → length (digit_pieces (a ∷ []) (b ∷ []) n) ≡ length (binary_digits n)
+length-single_pieces a b n = length-digit_pieces (a ∷ []) (b ∷ []) n ∙ go (binary_digits n) where
+  same : (b : Bool) → ◌≡◌ {A = ℕ} (cond b 1 1) 1
+  same true = refl
+  same false = refl
+
+  go : (digits : List ℕ) → sum_by (λ digit. cond (nat_eq digit 1) 1 1) digits ≡ length digits
+  go [] = refl
+  go (digit ∷ digits) =
+      omega (arith, sum_by-cons (λ d. cond (nat_eq d 1) 1 1) digit digits, same (nat_eq digit 1), go digits)
+
+-- a digest and a password of at most m bytes each
+pub digit_bytes-small : (digest n m : ℕ) → digest ≤ m → n ≤ m → digit_bytes digest n ≤ n * m
+digit_bytes-small digest n m a b =
+    let all = sum_by-le (λ digit. cond (nat_eq digit 1) digest n) m (binary_digits n) (λ k d inside. small (nat_eq (get_or (binary_digits n) k d) 1)) in
+    omega (arith, all, mul-le-mul_right m (length-binary_digits n)) where
+      small : (b : Bool) → cond b digest n ≤ m
+      small true = a
+      small false = b

@@ -16,4 +16,5 @@ pub mod Refusals
 pub mod Rounds
 pub mod ShaCryptLemmas
 pub mod Steps
+pub mod WorkSums
 pub mod Writing

@@ -1,9 +1,10 @@
--- Lists of messages that are given by their number, and the message of a round.
+-- Lists of messages that are given by their number, the first message, and the message of a round.
 use Rattle.std.proofs.Common.{◌≡◌, ℕ, ◌+◌, ◌*◌, ◌%◌, ◌≤◌, Bool, true, false, cond, nat_eq, List, [], ◌∷◌, ◌++◌, length, map, arith}
 use Rattle.std.specs.List.{range_with_len}
 use Rattle.std.proofs.lemmas.List.{length-append}
 use Rattle.std.proofs.lemmas.List.FromFn.{length-map-range_with_len, map-range_with_len_more}
-use Rattle.crypt_core.specs.RoundMessage.{round_message}
+use Rattle.crypt_core.proofs.CycleLemmas.{length-cond}
+use Rattle.crypt_core.specs.RoundMessage.{round_message, salted_twice}
 
 -- the first n messages
 unfoldable pub messages_to : (ℕ → List ℕ) → ℕ → List (List ℕ)
@@ -17,8 +18,15 @@ pub length-messages_to : (message : ℕ → List ℕ) (n : ℕ) → length (mess
 unfolding messages_to
 length-messages_to message n = length-map-range_with_len message 0 n
 
--- a round's message has the digest and the password once, and may have the salt and the password again
-pub length-round_message : (i : ℕ) (x p q : List ℕ) → length (round_message i x p q) ≤ length x + 2 * length p + length q
+pub length-salted_twice : (p s : List ℕ) → length (salted_twice p s) ≡ 2 * length p + length s
+length-salted_twice p s = omega (arith, length-append (p ++ s) p, length-append p s)
+
+-- the length of round i's message, by those of what it is made of
+abbrev pub round_length : ℕ → ℕ → ℕ → ℕ → ℕ
+round_length i x p q = x + p + cond (nat_eq (i % 3) 0) 0 q + cond (nat_eq (i % 7) 0) 0 p
+
+pub length-round_message : (i : ℕ) (x p q : List ℕ)
+    → length (round_message i x p q) ≡ round_length i (length x) (length p) (length q)
 length-round_message i x p q = go (nat_eq (i % 2) 1) (nat_eq (i % 3) 0) (nat_eq (i % 7) 0) where
   sum : (first salt again last : List ℕ) → length (first ++ salt ++ again ++ last) ≡ length first + length salt + length again + length last
   sum first salt again last =
@@ -28,11 +36,22 @@ length-round_message i x p q = go (nat_eq (i % 2) 1) (nat_eq (i % 3) 0) (nat_eq 
   ends true = omega arith
   ends false = omega arith
 
-  skipped : (skip : Bool) (part : List ℕ) → length (cond skip [] part) ≤ length part
-  skipped true part = omega arith
-  skipped false part = omega arith
-
   go : (odd third seventh : Bool)
-      → length (cond odd p x ++ cond third [] q ++ cond seventh [] p ++ cond odd x p) ≤ length x + 2 * length p + length q
+      → length (cond odd p x ++ cond third [] q ++ cond seventh [] p ++ cond odd x p)
+      ≡ length x + length p + cond third 0 (length q) + cond seventh 0 (length p)
   go odd third seventh =
-      omega (arith, sum (cond odd p x) (cond third [] q) (cond seventh [] p) (cond odd x p), ends odd, skipped third q, skipped seventh p)
+      omega (
+        arith,
+        sum (cond odd p x) (cond third [] q) (cond seventh [] p) (cond odd x p),
+        ends odd,
+        length-cond third [] q,
+        length-cond seventh [] p,
+      )
+
+-- it has the digest and the password once, and may have the salt and the password again
+pub round_length-small : (i x p q : ℕ) → round_length i x p q ≤ x + 2 * p + q
+round_length-small i x p q =
+    omega (arith, skipped (nat_eq (i % 3) 0) q, skipped (nat_eq (i % 7) 0) p) where
+      skipped : (skip : Bool) (part : ℕ) → cond skip 0 part ≤ part
+      skipped true part = omega arith
+      skipped false part = omega arith

@@ -3,7 +3,7 @@ use Rattle.std.proofs.Common.{◌≡◌, ℕ, ◌+◌, List, [], ◌∷◌, ◌+
 use Rattle.std.specs.Prelude.{sum_by}
 use Rattle.std.proofs.lemmas.List.{length-append}
 use Rattle.std.proofs.lemmas.List.Sums.{sum_by-append}
-use Rattle.prims_core.specs.Meter.{Counts}
+use Rattle.prims_core.specs.Meter.{Counts, with_work, AreInAll}
 use Rattle.crypt_core.specs.Work.{with_digest, with_digests}
 
 -- no bytes change nothing
@@ -52,3 +52,9 @@ pub four_digests : (a b c d e : Counts) (first second third fourth : List ℕ) �
 four_digests a b c d e first second third fourth p q r t =
     digests_more a d e (first ∷ second ∷ third ∷ []) fourth
     (digests_more a c d (first ∷ second ∷ []) third (two_digests a b c first second p q) r) t
+
+-- the digests of messages that are so many and have so many bytes in all
+pub digests_in_all : (m : Counts) (messages : List (List ℕ)) (digests bytes : ℕ) → AreInAll messages digests bytes
+    → with_digests m messages ≡ with_work m digests bytes
+digests_in_all m messages digests bytes all =
+    ap (λ n. with_work m n (sum_by length messages)) all.number ∙ ap (with_work m digests) all.sum

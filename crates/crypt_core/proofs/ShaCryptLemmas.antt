@@ -1,12 +1,16 @@
 -- Lemmas on the messages of SHA-crypt.
 use Rattle.std.proofs.Common.{◌≡◌, ℕ, zero, suc, ◌+◌, ◌*◌, ◌≤◌, ◌<◌, List, [], ◌∷◌, ◌++◌, length, arith, refl, sym, ap, ◌∙◌}
+use Rattle.std.specs.Prelude.{sum_by}
 use Rattle.std.proofs.lemmas.List.{length-append}
 use Rattle.std.proofs.Math.Nat.{mul-le-mul_right}
+use Rattle.prims_core.specs.Meter.{AreInAll}
 use Rattle.crypt_core.specs.Cycle.{cycle, digit_pieces}
 use Rattle.crypt_core.specs.RoundMessage.{round_message, salted_twice}
 use Rattle.crypt_core.specs.ShaCrypt.{password_repeated, password_string, salt_repeated, salt_string, sha_opening_digest, sha_opening_message, sha_round_message, shacrypt_digest, shacrypt_message, shacrypt_messages}
-use Rattle.crypt_core.proofs.CycleLemmas.{length-cycle, length-digit_pieces}
-use Rattle.crypt_core.proofs.MessageLists.{messages_to}
+use Rattle.crypt_core.specs.Work.{digit_bytes, first_byte, shacrypt_bytes}
+use Rattle.crypt_core.proofs.CycleLemmas.{digit_bytes-small, length-cycle, length-digit_pieces, length-repeat}
+use Rattle.crypt_core.proofs.MessageLists.{length-messages_to, length-round_message, length-salted_twice, messages_to, round_length}
+use Rattle.crypt_core.proofs.WorkSums.{rounds_sum}
 
 -- the digest that round i begins with
 unfoldable pub before_round : (List ℕ → List ℕ) → List ℕ → List ℕ → ℕ → List ℕ
@@ -56,9 +60,9 @@ round_is h p s i x q r digest password salt =
     ∙ (ap (λ y. round_message i (before_round h p s i) y r) password
     ∙ (ap (λ y. round_message i (before_round h p s i) (password_string h p) y) salt ∙ sym (message-round h p s i)))
 
-length-sha_opening : (h : List ℕ → List ℕ) (p s : List ℕ) → length p ≤ 512 → length (h (salted_twice p s)) ≤ 512
-    → length (sha_opening_message h p s) ≤ 2 * length p + length s + 262144
-length-sha_opening h p s short small =
+pub length-sha_opening : (h : List ℕ → List ℕ) (p s : List ℕ)
+    → length (sha_opening_message h p s) ≡ 2 * length p + length s + digit_bytes (length (h (salted_twice p s))) (length p)
+length-sha_opening h p s =
     let b = h (salted_twice p s) in
     let around = cycle b (length p) in
     let digits = digit_pieces b p (length p) in
@@ -68,7 +72,7 @@ length-sha_opening h p s short small =
       length-append (p ++ s) around,
       length-append p s,
       length-cycle b (length p),
-      length-digit_pieces 512 b p (length p) small short,
+      length-digit_pieces b p (length p),
     )
 
 -- the four messages before the rounds have at most 2^20 bytes
@@ -77,9 +81,40 @@ pub start_bytes : (h : List ℕ → List ℕ) (p s : List ℕ) (times : ℕ) →
 start_bytes h p s times short salt_short small few =
     omega (
       arith,
-      length-append (p ++ s) p,
-      length-append p s,
-      length-sha_opening h p s short small,
+      length-salted_twice p s,
+      length-sha_opening h p s,
+      digit_bytes-small (length (h (salted_twice p s))) (length p) 512 small short,
       mul-le-mul_right (length p) short,
       mul-le-mul_right (length s) few,
     )
+
+-- where each digest has so many bytes
+module _ (h : List ℕ → List ℕ) (digest : ℕ) (length-digest : (m : List ℕ) → length (h m) ≡ digest) (p s : List ℕ) where
+  length-before_round : (i : ℕ) → length (before_round h p s i) ≡ digest
+  unfolding before_round
+  length-before_round zero = length-digest (sha_opening_message h p s)
+  length-before_round (suc i) = length-digest (sha_round_message h p s i)
+
+  length-message_round : (i : ℕ) → length (shacrypt_message h p s (i + 4)) ≡ round_length i digest (length p) (length s)
+  length-message_round i =
+      let whole = length-round_message i (before_round h p s i) (password_string h p) (salt_string h p s) in
+      let password = length-cycle (h (password_repeated p)) (length p) in
+      let salt = length-cycle (h (salt_repeated h p s)) (length s) in
+      rw (message-number h p s i, message-round h p s i, whole, length-before_round i, password, salt) refl
+
+  -- all messages: how many, and how many bytes
+  pub messages-in_all : (rounds : ℕ)
+      → AreInAll (shacrypt_messages h p s rounds) (rounds + 4) (shacrypt_bytes digest (first_byte h p s) rounds (length p) (length s))
+  messages-in_all rounds = rw (← messages-all h p s rounds) (record {
+    number = length-messages_to (shacrypt_message h p s) (rounds + 4);
+    sum = omega (
+      arith,
+      rounds_sum (shacrypt_message h p s) 4 digest (length p) (length s) length-message_round rounds,
+      ap (sum_by length) (messages-four h p s),
+      length-salted_twice p s,
+      length-sha_opening h p s,
+      ap (λ w. digit_bytes w (length p)) (length-digest (salted_twice p s)),
+      length-repeat (length p) p,
+      length-repeat (16 + first_byte h p s) s,
+    );
+  })

@@ -1,12 +1,12 @@
-use Rattle.std.proofs.Common.{◌≡◌, ◌+◌, ◌++◌, length, arith, refl, sym, ◌∙◌, ap}
-use Rattle.std.proofs.lemmas.List.{length-append}
+use Rattle.std.proofs.Common.{◌≡◌, ◌+◌, length, arith, refl, sym, ◌∙◌, ap}
 use Rattle.prims_core.specs.Digests.{md5}
-use Rattle.crypt_core.specs.Md5crypt.{md5crypt_digest, md5crypt_message, opening_message}
+use Rattle.crypt_core.specs.Md5crypt.{md5crypt_digest, md5crypt_message, md5crypt_messages, opening_message}
 use Rattle.crypt_core.specs.RoundMessage.{round_message, salted_twice}
 use Rattle.crypt_core.specs.Work.{with_digest}
-use Rattle.crypt_core.proofs.Md5cryptLemmas.{length-opening, message-round, messages-all, messages-two}
-use Rattle.crypt_core.proofs.MessageLists.{length-messages_to, length-round_message, messages-more}
-use Rattle.crypt_core.proofs.Metering.{digests_more, two_digests}
+use Rattle.crypt_core.proofs.CycleLemmas.{length-binary_digits}
+use Rattle.crypt_core.proofs.Md5cryptLemmas.{length-opening, message-round, messages-all, messages-in_all, messages-two}
+use Rattle.crypt_core.proofs.MessageLists.{length-messages_to, length-round_message, length-salted_twice, messages-more, round_length-small}
+use Rattle.crypt_core.proofs.Metering.{digests_in_all, digests_more, two_digests}
 use Rattle.crypt_core.proofs.md5crypt.md5crypt.Goals as goal
 
 pub rounds-init : goal.rounds-init
@@ -22,7 +22,16 @@ rounds-init c =
       c.opening-digest.ensures.digest,
       c.opening-digest.ensures.length,
       rw (messages-two p s) (two_digests a (with_digest a first) c.opening-digest.new.meter first second refl c.opening-digest.ensures.count),
-      omega (arith, bytes, length-opening p s, length-append (p ++ s) p, length-append p s, short, c.requires.salt, ap length c.bytes-password.ensures.value),
+      omega (
+        arith,
+        bytes,
+        length-salted_twice p s,
+        length-opening p s,
+        length-binary_digits (length p),
+        short,
+        c.requires.salt,
+        ap length c.bytes-password.ensures.value,
+      ),
     )
 
 pub round-digest-requires-clause-digests_room : goal.round-digest-requires-clause-digests_room
@@ -51,6 +60,7 @@ rounds-preserved c =
         c.rounds.invariant.3,
         c.rounds.invariant.1,
         length-round_message i before p s,
+        round_length-small i (length before) (length p) (length s),
         c.bytes-password.ensures.password.length_fits,
         ap length c.bytes-password.ensures.value,
         c.requires.salt,
@@ -66,5 +76,11 @@ returns-clause-digest c =
 
 pub returns-clause-count : goal.returns-clause-count
 returns-clause-count c =
+    let p = c.args.password.now in
+    let s = c.args.salt.now in
     let last : c.rounds.i + 2 ≡ 1002 = omega arith in
-    rw (← messages-all c.args.password.now c.args.salt.now) (rw (last, c.bytes-password.ensures.value) at c.rounds.invariant.2)
+    let counted = rw (last, c.bytes-password.ensures.value, messages-all p s) at c.rounds.invariant.2 in
+    counted ∙ digests_in_all c.args.meter.now (md5crypt_messages p s) 1002 _ (messages-in_all p s)
+
+pub returns-clause-specified : goal.returns-clause-specified
+returns-clause-specified c = messages-in_all c.args.password.now c.args.salt.now

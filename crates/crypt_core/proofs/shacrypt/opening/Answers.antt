@@ -1,17 +1,16 @@
-use Rattle.std.proofs.Common.{◌≡◌, ◌+◌, ◌≤◌, ◌++◌, length, arith, refl, ◌∙◌, ap}
-use Rattle.std.proofs.lemmas.List.{length-append}
-use Rattle.crypt_core.specs.Cycle.{cycle, digit_pieces}
+use Rattle.std.proofs.Common.{◌≤◌, length, arith, refl, ◌∙◌, ap}
 use Rattle.crypt_core.specs.RoundMessage.{salted_twice}
 use Rattle.crypt_core.specs.ShaCrypt.{sha_opening_message}
 use Rattle.crypt_core.specs.Work.{with_digest}
-use Rattle.crypt_core.proofs.CycleLemmas.{length-cycle, length-digit_pieces}
+use Rattle.crypt_core.proofs.CycleLemmas.{digit_bytes-small, length-digit_pieces}
+use Rattle.crypt_core.proofs.MessageLists.{length-salted_twice}
 use Rattle.crypt_core.proofs.Metering.{bytes_more, digest_after}
+use Rattle.crypt_core.proofs.ShaCryptLemmas.{length-sha_opening}
 use Rattle.crypt_core.proofs.shacrypt.opening.Goals as goal
 
 pub feed_digits-requires : goal.feed_digits-requires
 feed_digits-requires g c =
     let p = c.args.password.now in
-    let s = c.args.salt.now in
     let b = c.as_slice-2.result.now in
     let small : length b ≤ 512 = omega (arith, ap length c.as_slice-2.ensures.value, c.salted-salted.ensures.length, g.met.H.Counted.at_most_64) in
     omega (
@@ -23,9 +22,9 @@ feed_digits-requires g c =
       c.requires.room.1,
       c.requires.password,
       c.requires.salt,
-      length-append (p ++ s) p,
-      length-append p s,
-      length-digit_pieces 512 b p (length p) small c.requires.password,
+      length-salted_twice p c.args.salt.now,
+      length-digit_pieces b p (length p),
+      digit_bytes-small (length b) (length p) 512 small c.requires.password,
     )
 
 pub returns-clause-count : goal.returns-clause-count
@@ -35,20 +34,10 @@ returns-clause-count g c =
     let s = c.args.salt.now in
     let b = h (salted_twice p s) in
     let before = c.salted-salted.new.meter in
-    let around = cycle b (length p) in
-    let digits = digit_pieces b p (length p) in
     let last = rw (c.as_slice-2.ensures.value ∙ c.salted-salted.ensures.digest) at c.feed_digits.ensures.count in
     let two = bytes_more before _ c.feed-2.new.meter _ _ _ c.feed.ensures.count c.feed-2.ensures.count refl in
     let three = bytes_more before _ c.feed_cycle.new.meter _ _ _ two c.feed_cycle.ensures.count refl in
     let four = bytes_more before _ c.feed_digits.new.meter _ _ _ three last refl in
-    let total = length p + length s + length p + length digits in
-    let whole : length p + length s + length p + length digits ≡ length (sha_opening_message h p s) =
-    omega (
-      arith,
-      length-append (p ++ s ++ around) digits,
-      length-append (p ++ s) around,
-      length-append p s,
-      length-cycle b (length p),
-    ) in
-    digest_after before c.feed_digits.new.meter c.finish.new.meter (sha_opening_message h p s) total four c.finish.ensures.count whole
+    digest_after before c.feed_digits.new.meter c.finish.new.meter (sha_opening_message h p s) _ four c.finish.ensures.count
+    (omega (arith, length-sha_opening h p s, length-digit_pieces b p (length p)))
     ∙ ap (λ m. with_digest m (sha_opening_message h p s)) c.salted-salted.ensures.count

@@ -1,11 +1,11 @@
 use Rattle.std.proofs.Common.{◌≡◌, ◌+◌, ◌≤◌, ◌<◌, length, get_or, arith, refl, sym, ◌∙◌, ap}
 use Rattle.crypt_core.specs.RoundMessage.{salted_twice}
-use Rattle.crypt_core.specs.ShaCrypt.{password_repeated, salt_repeated, sha_opening_digest, sha_opening_message, shacrypt_message}
+use Rattle.crypt_core.specs.ShaCrypt.{password_repeated, salt_repeated, sha_opening_digest, sha_opening_message, shacrypt_message, shacrypt_messages}
 use Rattle.crypt_core.specs.Work.{with_digest}
 use Rattle.crypt_core.proofs.CycleLemmas.{length-cycle, length-repeat}
-use Rattle.crypt_core.proofs.MessageLists.{length-messages_to, length-round_message, messages-more}
-use Rattle.crypt_core.proofs.Metering.{digests_more, four_digests}
-use Rattle.crypt_core.proofs.ShaCryptLemmas.{before_round-more, before_round-zero, digest-last, message-number, messages-all, messages-four, round_is, start_bytes}
+use Rattle.crypt_core.proofs.MessageLists.{length-messages_to, length-round_message, messages-more, round_length-small}
+use Rattle.crypt_core.proofs.Metering.{digests_in_all, digests_more, four_digests}
+use Rattle.crypt_core.proofs.ShaCryptLemmas.{before_round-more, before_round-zero, digest-last, message-number, messages-all, messages-four, messages-in_all, round_is, start_bytes}
 use Rattle.crypt_core.proofs.shacrypt.shacrypt.Goals as goal
 
 pub string_of-password_string-requires-clause-bytes_room : goal.string_of-password_string-requires-clause-bytes_room
@@ -91,8 +91,18 @@ returns-clause-digest g c =
 
 pub returns-clause-count : goal.returns-clause-count
 returns-clause-count g c =
+    let h = g.H.Counted.digest in
+    let p = c.args.password.now in
+    let s = c.args.salt.now in
     let last : c.rounds.i ≡ c.args.rounds = omega arith in
-    rw (← messages-all g.H.Counted.digest c.args.password.now c.args.salt.now c.args.rounds) (rw last at c.rounds.invariant.2)
+    let counted = rw (last, messages-all h p s c.args.rounds) at c.rounds.invariant.2 in
+    counted
+    ∙ digests_in_all c.args.meter.now (shacrypt_messages h p s c.args.rounds) (c.args.rounds + 4) _
+    (messages-in_all h g.H.Counted.LEN g.met.H.Counted.length_digest p s c.args.rounds)
+
+pub returns-clause-specified : goal.returns-clause-specified
+returns-clause-specified g c =
+    messages-in_all g.H.Counted.digest g.H.Counted.LEN g.met.H.Counted.length_digest c.args.password.now c.args.salt.now c.args.rounds
 
 pub rounds-preserved : goal.rounds-preserved
 rounds-preserved g c =
@@ -116,6 +126,7 @@ rounds-preserved g c =
         arith,
         ap (λ m. m.bytes) c.round-digest.ensures.count,
         length-round_message i c.as_slice-in-rounds.result.now c.as_slice-in-rounds-2.result.now c.as_slice-in-rounds-3.result.now,
+        round_length-small i (length c.as_slice-in-rounds.result.now) (length c.as_slice-in-rounds-2.result.now) (length c.as_slice-in-rounds-3.result.now),
         ap length c.as_slice-in-rounds.ensures.value,
         ap length password_is,
         ap length salt_is,
