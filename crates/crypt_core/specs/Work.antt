@@ -4,7 +4,6 @@ use Rattle.std.specs.Prelude.{ℕ, ◌+◌, ◌-◌, ◌*◌, ◌^◌, ◌≤◌
 use Rattle.std.specs.Int.{div_ceil}
 use Rattle.prims_core.specs.Digests.{sha256, sha512}
 use Rattle.prims_core.specs.Meter.{Counts, with_work}
-use Rattle.kdf_core.specs.Params.{ScryptCost}
 use Rattle.kdf_core.specs.Scrypt.{halves_bytes, parts_bytes, scrypt_bytes, scrypt_digests, scrypt_mixes, table_bytes}
 use Rattle.crypt_core.specs.Cycle.{binary_digits}
 use Rattle.crypt_core.specs.Settings.{Kept}
