@@ -15,4 +15,5 @@ pub mod Refusals
 pub mod Rounds
 pub mod ShaCryptLemmas
 pub mod Steps
+pub mod WorkBounds
 pub mod Writing
