@@ -1,11 +1,28 @@
 //! The work of a hash, known before hashing, so that a service can refuse a setting that would cost it
-//! too much.
-ghost use Rattle.std.specs.Prelude.{◌≡◌, ℕ, ◌^◌, ◌≤◌, List, length};
+//! too much. It is the closed form of what the meter counts, step by step of each scheme.
+ghost use Rattle.std.specs.Prelude.{◌≡◌, ℕ, ◌+◌, ◌^◌, ◌<◌, ◌≤◌, ◌==◌, List, length, sum_by, if◌then◌else◌};
+ghost use Rattle.kdf_core.specs.Scrypt.{parts_bytes, rows};
+ghost use Rattle.crypt_core.specs.Cycle.{binary_digits};
 ghost use Rattle.crypt_core.specs.Passwords.{IsPassword};
-ghost use Rattle.crypt_core.specs.Work.{work, work_bound, IsBelow, IsWithin};
+ghost use Rattle.crypt_core.specs.Work.{digests_alone, first_byte, md5crypt_bytes, rounds_bytes, shacrypt_bytes, work, work_bound, work_by, IsBelow, IsWithin};
 
 use crate::scheme::Scheme;
 use crate::setting::Setting;
+use kdf_core::params::Params;
+use prims_core::counted::{Counted, CountedMd5, CountedSha256, CountedSha512};
+
+/// The rounds of md5crypt.
+const MD5CRYPT_ROUNDS: u64 = 1000;
+
+/// The greatest byte.
+const GREATEST_BYTE: u64 = 255;
+
+/// The bytes of a key that HMAC over SHA-256 takes as they are.
+const HMAC_BLOCK: u64 = 64;
+
+/// The bytes that a tag of PBKDF2 digests beside its salt: two padded keys of 64 bytes, a digest of 32, and
+/// the number of the block in 4.
+const TAG_BYTES: u64 = 164;
 
 /// What a meter counts of a hash.
 #[derive(Clone, Copy, Debug, PartialEq, Eq)]
@@ -34,5 +51,142 @@ pub fn bound(setting: &Setting, password_len: usize) -> Work
         → IsWithin (work password setting.now) result }
     ensures below { IsBelow result (2 ^ 41) }
 {
-    unreachable!()
+    let password = password_len as u64;
+    let salt = setting.salt().len() as u64;
+    match setting.scheme() {
+        Scheme::Md5crypt => md5crypt_bound(password, salt),
+        Scheme::Sha256crypt(rounds) => {
+            shacrypt_bound::<CountedSha256>(rounds.count, password, salt)
+        }
+        Scheme::Sha512crypt(rounds) => {
+            shacrypt_bound::<CountedSha512>(rounds.count, password, salt)
+        }
+        Scheme::Scrypt(params) => scrypt_bound(&params, password, salt),
+    }
 }
+
+// The second message of md5crypt has the three bytes `$1$`, and one byte for each binary digit of the
+// password's length.
+fn md5crypt_bound(password: u64, salt: u64) -> Work
+    requires password { password ≤ 512 }
+    requires salt { salt ≤ 8 }
+    ensures bound { result ≡ digests_alone 1002 (md5crypt_bytes password salt) }
+    ensures below { IsBelow result (2 ^ 41) }
+{
+    let salted = 2 * password + salt;
+    let opening = salted + 3 + digit_bytes(password, 1, 1);
+    let digest = CountedMd5::LEN as u64;
+    digests_alone(
+        MD5CRYPT_ROUNDS + 2,
+        salted + opening + rounds_bytes(MD5CRYPT_ROUNDS, digest, password, salt),
+    )
+}
+
+// SHA-crypt repeats the salt 16 times, and once more for each unit of a byte that only hashing tells.
+fn shacrypt_bound<H: Counted>(rounds: u32, password: u64, salt: u64) -> Work
+    requires rounds { rounds ≤ 999999999 }
+    requires password { password ≤ 512 }
+    requires salt { salt ≤ 16 }
+    ensures bound { result ≡ digests_alone (rounds + 4) (shacrypt_bytes H.LEN 255 rounds password salt) }
+    ensures never_passed { (p s : List ℕ) → length p ≡ password → length s ≡ salt
+        → let a = first_byte H.digest p s in
+        IsWithin (digests_alone (rounds + 4) (shacrypt_bytes H.LEN a rounds password salt)) result }
+    ensures below { IsBelow result (2 ^ 41) }
+{
+    let rounds = u64::from(rounds);
+    let digest = H::LEN as u64;
+    let salted = 2 * password + salt;
+    let opening = salted + digit_bytes(password, digest, password);
+    let repeated = password * password + (16 + GREATEST_BYTE) * salt;
+    digests_alone(
+        rounds + 4,
+        salted + opening + repeated + rounds_bytes(rounds, digest, password, salt),
+    )
+}
+
+// Each 32 bytes of the parts are a tag over the salt, and scrypt's 32 bytes are one over the parts. A tag
+// has two digests, and a password that is longer than a block is digested once more, before all tags.
+fn scrypt_bound(params: &Params, password: u64, salt: u64) -> Work
+    requires password { password ≤ 512 }
+    requires salt { salt ≤ 86 }
+    ensures bound { result ≡ work_by (Scheme.Scrypt params.now) 255 password salt }
+    ensures below { IsBelow result (2 ^ 41) }
+{
+    let rows = row_count(params);
+    let r = u64::from(params.r());
+    let p = u64::from(params.p());
+    let parts = parts_bytes(params);
+    let tags = parts / 32;
+    let key_digests = u64::from(password > HMAC_BLOCK);
+    Work {
+        digests: key_digests + 2 * (tags + 1),
+        bytes: key_digests * password + tags * (TAG_BYTES + salt) + TAG_BYTES + parts,
+        mixes: 2 * rows * p,
+        table: 128 * rows * r,
+        scratch: parts + 256 * r,
+    }
+}
+
+// N, a power of two.
+fn row_count(params: &Params) -> u64
+    ensures rows { result ≡ rows params.now }
+    ensures few { result ≤ 2 ^ 23 }
+{
+    1 << params.log_n()
+}
+
+// The bytes of all parts of scrypt.
+fn parts_bytes(params: &Params) -> u64
+    ensures bytes { result ≡ parts_bytes params.now }
+    ensures few { result ≤ 2 ^ 29 }
+{
+    128 * u64::from(params.r()) * u64::from(params.p())
+}
+
+// The work of a scheme that mixes nothing and takes no memory.
+fn digests_alone(digests: u64, bytes: u64) -> Work
+    ensures { result ≡ digests_alone digests bytes }
+{
+    Work {
+        digests,
+        bytes,
+        mixes: 0,
+        table: 0,
+        scratch: 0,
+    }
+}
+
+// The bytes of a piece for each binary digit of `number`: so many for a 1, and so many for a 0.
+fn digit_bytes(number: u64, one: u64, other: u64) -> u64
+    requires number { number ≤ 512 }
+    requires one { one ≤ 512 }
+    requires other { other ≤ 512 }
+    ensures bytes { result ≡ sum_by (λ digit. if digit == 1 then one else other) (binary_digits number) }
+    ensures few { result ≤ 2 ^ 18 }
+{
+    let mut rest = number;
+    let mut bytes = 0;
+    'digits: while rest > 0 {
+        bytes += if rest % 2 == 1 { one } else { other };
+        rest /= 2;
+    }
+    bytes
+}
+
+// The bytes of so many rounds. The salt is left out of every third and the password's second place of
+// every seventh, from round 0 on.
+fn rounds_bytes(rounds: u64, digest: u64, password: u64, salt: u64) -> u64
+    requires rounds { rounds ≤ 999999999 }
+    requires digest { digest ≤ 64 }
+    requires password { password ≤ 512 }
+    requires salt { salt ≤ 16 }
+    ensures bytes { result ≡ rounds_bytes rounds digest password salt }
+    ensures below { result < 2 ^ 40 }
+{
+    let with_salt = rounds - rounds.div_ceil(3);
+    let with_password_twice = rounds - rounds.div_ceil(7);
+    rounds * (digest + password) + with_salt * salt + with_password_twice * password
+}
+
+#[cfg(test)]
+mod tests;

@@ -1,0 +1,10 @@
+use Rattle.std.proofs.Common.{ap, ◌∙◌, arith}
+use Rattle.crypt_core.specs.Cycle.{binary_digits}
+use Rattle.crypt_core.specs.Work.{digests_alone}
+use Rattle.crypt_core.proofs.WorkBounds.{pieces-ones}
+use Rattle.crypt_core.proofs.work.md5crypt_bound.Goals as goal
+
+pub returns-clause-bound : goal.returns-clause-bound
+returns-clause-bound c =
+    let digits = c.digit_bytes.ensures.bytes ∙ pieces-ones (binary_digits c.args.password) in
+    c.digests_alone.ensures ∙ ap (digests_alone 1002) (omega (arith, digits, c.rounds_bytes.ensures.bytes))

@@ -1,0 +1,141 @@
+//! Bounds as the formats state them, and hashes that stay within theirs.
+
+use super::*;
+use crate::hash::hash;
+use crate::method::Method;
+use crate::password::Password;
+use prims_core::meter::Meter;
+use std::process::Abort;
+use std::test::Fail;
+
+// A setting, the length of a password, and its bound: digests, bytes, mixings, table and scratch.
+const BOUNDS: [(&str, usize, [u64; 5]); 13] = [
+    ("$1$xxxxxxxx", 0, [1002, 21347, 0, 0, 0]),
+    ("$1$xxxxxxxx", 8, [1002, 36239, 0, 0, 0]),
+    ("$1$xxxxxxxx", 512, [1002, 974189, 0, 0, 0]),
+    ("$5$", 0, [5004, 160000, 0, 0, 0]),
+    ("$5$saltstring", 12, [5004, 307760, 0, 0, 0]),
+    (
+        "$6$rounds=999999999$saltstringsaltst",
+        512,
+        [1_000_000_003, 1_025_524_081_584, 0, 0, 0],
+    ),
+    ("$7$2/..../....", 0, [10, 948, 32, 2048, 384]),
+    ("$7$2/..../....", 64, [10, 948, 32, 2048, 384]),
+    ("$7$2/..../....", 65, [11, 1013, 32, 2048, 384]),
+    (
+        "$7$86....E....NaCl",
+        8,
+        [1026, 102564, 32768, 1_048_576, 18432],
+    ),
+    (
+        "$7$C6..../....SodiumChloride",
+        13,
+        [66, 6884, 32768, 16_777_216, 3072],
+    ),
+    // The most bytes of a table, and with them the most of scratch memory.
+    (
+        "$7$J2..../....",
+        0,
+        [34, 3300, 4_194_304, 1_073_741_824, 1536],
+    ),
+    (
+        "$7$/...E./....",
+        512,
+        [33_554_435, 3_288_335_012, 4, 1_073_741_824, 1_610_612_736],
+    ),
+];
+
+// Settings that are cheap to hash by, and the length of a password.
+const HASHED: [(&str, usize); 28] = [
+    ("$1$", 0),
+    ("$1$ab", 1),
+    ("$1$xxxxxxxx", 7),
+    ("$1$xxxxxxxx", 8),
+    ("$1$", 64),
+    ("$1$xxxxxxxx", 511),
+    ("$5$rounds=1000$", 0),
+    ("$5$rounds=1000$saltstring", 1),
+    ("$5$rounds=1001$0123456789abcdef", 7),
+    ("$5$rounds=1003$ab", 8),
+    ("$5$rounds=1000$", 63),
+    ("$5$rounds=1000$ab", 65),
+    ("$5$rounds=1000$saltstring", 512),
+    ("$6$rounds=1000$saltstringsaltst", 0),
+    ("$6$rounds=1002$ab", 1),
+    ("$6$rounds=1000$", 8),
+    ("$6$rounds=1006$saltstringsaltst", 63),
+    ("$6$rounds=1000$ab", 64),
+    ("$6$rounds=1000$saltstring", 511),
+    ("$7$2/..../....", 0),
+    ("$7$2/..../....ab", 1),
+    ("$7$20..../....ab", 7),
+    ("$7$2/....0....", 8),
+    ("$7$20....1....NaCl", 63),
+    ("$7$2/..../....ab", 64),
+    ("$7$2/..../....ab", 65),
+    ("$7$20....1....SodiumChloride", 511),
+    ("$7$2/..../....", 512),
+];
+
+fn setting_of(rt: &impl Abort, text: &str) -> Setting {
+    Setting::read(text.as_bytes()).expect(rt, "a setting")
+}
+
+#[test]
+fn bounds(rt: HostRuntime) {
+    for (text, len, counts) in BOUNDS {
+        let work = bound(&setting_of(&rt, text), len);
+        assert_eq!(rt;
+            [
+                work.digests,
+                work.bytes,
+                work.mixes,
+                work.table,
+                work.scratch
+            ],
+            counts,
+            "{len} bytes by {text}"
+        );
+    }
+}
+
+#[test]
+fn digests_at_every_length(rt: HostRuntime) {
+    let setting = setting_of(&rt, "$5$rounds=123456789012$ab");
+    for len in 0..513 {
+        let work = bound(&setting, len);
+        assert_eq!(rt; work.digests, 1_000_000_003, "{len} bytes");
+    }
+}
+
+#[test]
+fn hashes_stay_within(rt: HostRuntime) -> Result<(), Fail> {
+    for (text, len) in HASHED {
+        let setting = setting_of(&rt, text);
+        let password = vec![in rt.alloc(); b'a'; len]?;
+        let password = Password::new(password.as_slice()).expect(&rt, "a password");
+        let mut meter = Meter::new();
+        let hashed = hash(rt.alloc(), &password, &setting, &mut meter);
+        assert!(rt; hashed.is_ok(), "{len} bytes by {text}");
+        let work = bound(&setting, len);
+        assert_eq!(rt;
+            [
+                meter.digests(),
+                meter.mixes(),
+                meter.table(),
+                meter.scratch()
+            ],
+            [work.digests, work.mixes, work.table, work.scratch].map(u128::from),
+            "{len} bytes by {text}"
+        );
+        let slack = match setting.method() {
+            Method::Sha256crypt | Method::Sha512crypt => 255 * setting.salt().len() as u128,
+            Method::Md5crypt | Method::Scrypt => 0,
+        };
+        let most = u128::from(work.bytes);
+        let within = meter.bytes() <= most && most <= meter.bytes().saturating_add(slack);
+        assert!(rt; within, "{len} bytes by {text}");
+    }
+    Ok(())
+}
