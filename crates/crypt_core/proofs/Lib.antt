@@ -16,9 +16,6 @@ pub mod Refusals
 pub mod Rounds
 pub mod ShaCryptLemmas
 pub mod Steps
-<<<<<<< HEAD
 pub mod WorkSums
-=======
 pub mod WorkBounds
->>>>>>> da35bbee99eeb1d12189e0e95d5c3eb0b0ff1d1c
 pub mod Writing
