@@ -4,9 +4,9 @@ pub mod CycleLemmas
 pub mod Fields
 pub mod First
 pub mod HashedTexts
+pub mod MadeSaltLemmas
 pub mod Making
 pub mod Md5cryptLemmas
-pub mod MadeSaltLemmas
 pub mod MessageLists
 pub mod Metering
 pub mod Numerals
@@ -16,6 +16,6 @@ pub mod Refusals
 pub mod Rounds
 pub mod ShaCryptLemmas
 pub mod Steps
-pub mod WorkSums
 pub mod WorkBounds
+pub mod WorkSums
 pub mod Writing
