@@ -123,7 +123,7 @@ length-single_pieces a b n = length-digit_pieces (a ∷ []) (b ∷ []) n ∙ go 
       omega (arith, sum_by-cons (λ d. cond (nat_eq d 1) 1 1) digit digits, same (nat_eq digit 1), go digits)
 
 -- a digest and a password of at most m bytes each
-pub digit_bytes-small : (digest n m : ℕ) → digest ≤ m → n ≤ m → digit_bytes digest n ≤ n * m
+pub digit_bytes-small : (digest n m : ℕ) → digest ≤ m → n ≤ m → digit_bytes digest n n ≤ n * m
 digit_bytes-small digest n m a b =
     let all = sum_by-le (λ digit. cond (nat_eq digit 1) digest n) m (binary_digits n) (λ k d inside. small (nat_eq (get_or (binary_digits n) k d) 1)) in
     omega (arith, all, mul-le-mul_right m (length-binary_digits n)) where

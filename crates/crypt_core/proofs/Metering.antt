@@ -4,7 +4,11 @@ use Rattle.std.specs.Prelude.{sum_by}
 use Rattle.std.proofs.lemmas.List.{length-append}
 use Rattle.std.proofs.lemmas.List.Sums.{sum_by-append}
 use Rattle.prims_core.specs.Meter.{Counts, with_work, AreInAll}
-use Rattle.crypt_core.specs.Work.{with_digest, with_digests}
+use Rattle.crypt_core.specs.Private.Counting.{with_digest}
+
+-- the meter after the digest of each message
+abbrev pub with_digests : Counts → List (List ℕ) → Counts
+with_digests counts messages = with_work counts (length messages) (sum_by length messages)
 
 -- no bytes change nothing
 pub bytes_none : (m : Counts) → m ≡ record m { bytes = m.bytes + 0 }

@@ -61,7 +61,7 @@ round_is h p s i x q r digest password salt =
     ∙ (ap (λ y. round_message i (before_round h p s i) (password_string h p) y) salt ∙ sym (message-round h p s i)))
 
 pub length-sha_opening : (h : List ℕ → List ℕ) (p s : List ℕ)
-    → length (sha_opening_message h p s) ≡ 2 * length p + length s + digit_bytes (length (h (salted_twice p s))) (length p)
+    → length (sha_opening_message h p s) ≡ 2 * length p + length s + digit_bytes (length (h (salted_twice p s))) (length p) (length p)
 length-sha_opening h p s =
     let b = h (salted_twice p s) in
     let around = cycle b (length p) in
@@ -113,7 +113,7 @@ module _ (h : List ℕ → List ℕ) (digest : ℕ) (length-digest : (m : List �
       ap (sum_by length) (messages-four h p s),
       length-salted_twice p s,
       length-sha_opening h p s,
-      ap (λ w. digit_bytes w (length p)) (length-digest (salted_twice p s)),
+      ap (λ w. digit_bytes w (length p) (length p)) (length-digest (salted_twice p s)),
       length-repeat (length p) p,
       length-repeat (16 + first_byte h p s) s,
     );

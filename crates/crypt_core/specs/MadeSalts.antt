@@ -4,7 +4,7 @@ use Rattle.std.specs.List.{range_with_len}
 use Rattle.rand_core.specs.Stream.{Stream, next_u64}
 use Rattle.prims_core.specs.Alphabet.{character_of}
 
--- each word gives ten characters, six bits for each, lowest bits first
+-- character i: a word gives up to ten characters, six bits for each, lowest bits first
 abbrev pub made_character : List ℕ → ℕ → ℕ
 made_character words i = character_of (slice_index words (i / 10) / 2 ^ (6 * (i % 10)) % 64)
 

@@ -1,4 +1,5 @@
 -- What only contracts of private functions cite. A reader of the public clauses needs none of it.
 pub mod Costs
+pub mod Counting
 pub mod Parts
 pub mod Tables

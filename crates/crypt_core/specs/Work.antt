@@ -3,7 +3,9 @@
 use Rattle.std.specs.Prelude.{ℕ, ◌+◌, ◌-◌, ◌*◌, ◌^◌, ◌≤◌, ◌<◌, ◌==◌, List, length, slice_index, sum_by, if◌then◌else◌}
 use Rattle.std.specs.Int.{div_ceil}
 use Rattle.prims_core.specs.Digests.{sha256, sha512}
-use Rattle.prims_core.specs.Meter.{Counts, with_work}
+use Rattle.prims_core.specs.Meter.{Counts}
+-- all five counts leave room for any hash: what `hash` wants of a meter
+pub use Rattle.kdf_core.specs.Scrypt.{HasRoom}
 use Rattle.kdf_core.specs.Scrypt.{halves_bytes, parts_bytes, scrypt_bytes, scrypt_digests, scrypt_mixes, table_bytes}
 use Rattle.crypt_core.specs.Cycle.{binary_digits}
 use Rattle.crypt_core.specs.Settings.{Kept}
@@ -13,14 +15,6 @@ use Rattle.crypt_core.specs.declared.scheme.Scheme.TheVariants.{Md5crypt, Sha256
 use Rattle.crypt_core.specs.declared.work.Work.{Work}
 
 -- Counting
-
--- the meter after the digest of a message
-abbrev pub with_digest : Counts → List ℕ → Counts
-with_digest counts message = with_work counts 1 (length message)
-
--- the meter after the digest of each message
-abbrev pub with_digests : Counts → List (List ℕ) → Counts
-with_digests counts messages = with_work counts (length messages) (sum_by length messages)
 
 -- the two counts that digests raise leave room for any hash
 abbrev pub HasDigestRoom : Counts → Type 0
@@ -51,16 +45,15 @@ md5crypt_bytes password salt =
     2 * password + salt + (2 * password + salt + 3 + length (binary_digits password))
     + rounds_bytes 1000 16 password salt
 
--- a digest for each binary digit 1 of the password's length, and the password for each 0
-abbrev pub digit_bytes : ℕ → ℕ → ℕ
-digit_bytes digest password =
-    sum_by (λ digit. if digit == 1 then digest else password) (binary_digits password)
+-- the bytes of a piece for each binary digit of n: so many for a 1, and so many for a 0
+abbrev pub digit_bytes : ℕ → ℕ → ℕ → ℕ
+digit_bytes one other n = sum_by (λ digit. if digit == 1 then one else other) (binary_digits n)
 
--- SHA-crypt: two passwords and a salt; the same, with a piece for each binary digit; the password as
--- often as it has bytes; the salt 16 times and once more for each unit of a; the rounds
+-- SHA-crypt: two passwords and a salt; the same, with a digest for each binary digit 1 of the password's
+-- length and the password for each 0; the password as often as it has bytes; the salt 16 times and once more for each unit of a; the rounds
 abbrev pub shacrypt_bytes : ℕ → ℕ → ℕ → ℕ → ℕ → ℕ
 shacrypt_bytes digest a rounds password salt =
-    2 * password + salt + (2 * password + salt + digit_bytes digest password)
+    2 * password + salt + (2 * password + salt + digit_bytes digest password password)
     + password * password + (16 + a) * salt + rounds_bytes rounds digest password salt
 
 -- The work of each scheme

@@ -14,7 +14,7 @@ use rand_core::Rng;
 
 /// The salt of `len` characters, at most 22, that three random words give.
 ///
-/// Each word gives ten characters, six bits for each, lowest bits first; its highest four bits are
+/// A word gives up to ten characters, six bits for each, lowest bits first; its highest four bits are
 /// not used. A salt of 1 to 22 characters is one that [`Setting::make`](crate::setting::Setting::make)
 /// takes for each method that keeps as many.
 pub fn salt_of(words: [u64; 3], len: usize) -> ArrayVec<u8, 22>

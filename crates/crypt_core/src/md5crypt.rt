@@ -5,7 +5,8 @@ ghost use Rattle.prims_core.specs.Digests.{md5};
 ghost use Rattle.prims_core.specs.Meter.{with_work, AreInAll};
 ghost use Rattle.crypt_core.specs.Md5crypt.{md5crypt_digest, md5crypt_message, md5crypt_messages, opening_message};
 ghost use Rattle.crypt_core.specs.RoundMessage.{salted_twice};
-ghost use Rattle.crypt_core.specs.Work.{md5crypt_bytes, with_digest, HasDigestRoom};
+ghost use Rattle.crypt_core.specs.Private.Counting.{with_digest};
+ghost use Rattle.crypt_core.specs.Work.{md5crypt_bytes, HasDigestRoom};
 
 use crate::messages::{feed_cycle, feed_digits, round, salted};
 use crate::password::Password;
@@ -14,7 +15,7 @@ use prims_core::counted::{Counted, CountedMd5};
 use prims_core::meter::Meter;
 
 /// How often the digest is made anew.
-const ROUNDS: u32 = 1000;
+pub(crate) const ROUNDS: u32 = 1000;
 
 /// The digest of a password and a salt of at most 8 bytes. The meter counts each of the 1,002 messages.
 ///

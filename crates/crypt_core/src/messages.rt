@@ -4,7 +4,8 @@ ghost use Rattle.std.specs.Prelude.{◌≡◌, ℕ, ◌+◌, ◌*◌, ◌^◌, �
 ghost use Rattle.std.specs.List.{repeat};
 ghost use Rattle.crypt_core.specs.Cycle.{cycle, digit_pieces};
 ghost use Rattle.crypt_core.specs.RoundMessage.{round_message, salted_twice};
-ghost use Rattle.crypt_core.specs.Work.{with_digest, HasDigestRoom};
+ghost use Rattle.crypt_core.specs.Private.Counting.{with_digest};
+ghost use Rattle.crypt_core.specs.Work.{HasDigestRoom};
 
 use arrayvec::ArrayVec;
 use prims_core::counted::Counted;

@@ -7,7 +7,8 @@ ghost use Rattle.prims_core.specs.Meter.{with_work, AreInAll};
 ghost use Rattle.crypt_core.specs.Cycle.{cycle};
 ghost use Rattle.crypt_core.specs.RoundMessage.{salted_twice};
 ghost use Rattle.crypt_core.specs.ShaCrypt.{sha_opening_digest, sha_opening_message, shacrypt_digest, shacrypt_messages};
-ghost use Rattle.crypt_core.specs.Work.{first_byte, shacrypt_bytes, with_digest, HasDigestRoom};
+ghost use Rattle.crypt_core.specs.Private.Counting.{with_digest};
+ghost use Rattle.crypt_core.specs.Work.{first_byte, shacrypt_bytes, HasDigestRoom};
 
 use crate::messages::{cycle_of, feed_cycle, feed_digits, feed_repeated, round, salted};
 use crate::password::Password;

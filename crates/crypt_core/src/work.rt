@@ -1,18 +1,15 @@
 //! The work of a hash, known before hashing, so that a service can refuse a setting that would cost it
 //! too much. It is the closed form of what the meter counts, step by step of each scheme.
-ghost use Rattle.std.specs.Prelude.{◌≡◌, ℕ, ◌+◌, ◌^◌, ◌<◌, ◌≤◌, ◌==◌, List, length, sum_by, if◌then◌else◌};
+ghost use Rattle.std.specs.Prelude.{◌≡◌, ℕ, ◌+◌, ◌^◌, ◌<◌, ◌≤◌, List, length};
 ghost use Rattle.kdf_core.specs.Scrypt.{parts_bytes, rows};
-ghost use Rattle.crypt_core.specs.Cycle.{binary_digits};
 ghost use Rattle.crypt_core.specs.Passwords.{IsPassword};
-ghost use Rattle.crypt_core.specs.Work.{digests_alone, first_byte, md5crypt_bytes, rounds_bytes, shacrypt_bytes, work, work_bound, work_by, IsBelow, IsWithin};
+ghost use Rattle.crypt_core.specs.Work.{digests_alone, digit_bytes, first_byte, md5crypt_bytes, rounds_bytes, shacrypt_bytes, work, work_bound, work_by, IsBelow, IsWithin};
 
+use crate::md5crypt::ROUNDS;
 use crate::scheme::Scheme;
 use crate::setting::Setting;
 use kdf_core::params::Params;
 use prims_core::counted::{Counted, CountedMd5, CountedSha256, CountedSha512};
-
-/// The rounds of md5crypt.
-const MD5CRYPT_ROUNDS: u64 = 1000;
 
 /// The greatest byte.
 const GREATEST_BYTE: u64 = 255;
@@ -31,7 +28,8 @@ pub struct Work {
     pub digests: u64,
     /// Bytes digested.
     pub bytes: u64,
-    /// Mixings of 2r blocks of 64 bytes, which scrypt alone makes.
+    /// Mixings, which scrypt alone makes: each handles 2r blocks of 64 bytes, so that its price grows
+    /// with r.
     pub mixes: u64,
     /// Bytes of scrypt's table.
     pub table: u64,
@@ -75,10 +73,11 @@ fn md5crypt_bound(password: u64, salt: u64) -> Work
 {
     let salted = 2 * password + salt;
     let opening = salted + 3 + digit_bytes(password, 1, 1);
+    let rounds = u64::from(ROUNDS);
     let digest = CountedMd5::LEN as u64;
     digests_alone(
-        MD5CRYPT_ROUNDS + 2,
-        salted + opening + rounds_bytes(MD5CRYPT_ROUNDS, digest, password, salt),
+        rounds + 2,
+        salted + opening + rounds_bytes(rounds, digest, password, salt),
     )
 }
 
@@ -161,7 +160,7 @@ fn digit_bytes(number: u64, one: u64, other: u64) -> u64
     requires number { number ≤ 512 }
     requires one { one ≤ 512 }
     requires other { other ≤ 512 }
-    ensures bytes { result ≡ sum_by (λ digit. if digit == 1 then one else other) (binary_digits number) }
+    ensures bytes { result ≡ digit_bytes one other number }
     ensures few { result ≤ 2 ^ 18 }
 {
     let mut rest = number;

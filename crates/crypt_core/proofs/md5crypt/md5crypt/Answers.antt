@@ -2,7 +2,7 @@ use Rattle.std.proofs.Common.{◌≡◌, ◌+◌, length, arith, refl, sym, ◌�
 use Rattle.prims_core.specs.Digests.{md5}
 use Rattle.crypt_core.specs.Md5crypt.{md5crypt_digest, md5crypt_message, md5crypt_messages, opening_message}
 use Rattle.crypt_core.specs.RoundMessage.{round_message, salted_twice}
-use Rattle.crypt_core.specs.Work.{with_digest}
+use Rattle.crypt_core.specs.Private.Counting.{with_digest}
 use Rattle.crypt_core.proofs.CycleLemmas.{length-binary_digits}
 use Rattle.crypt_core.proofs.Md5cryptLemmas.{length-opening, message-round, messages-all, messages-in_all, messages-two}
 use Rattle.crypt_core.proofs.MessageLists.{length-messages_to, length-round_message, length-salted_twice, messages-more, round_length-small}

@@ -1,7 +1,7 @@
 use Rattle.std.proofs.Common.{◌≡◌, ◌+◌, ◌*◌, ◌≤◌, length}
 use Rattle.prims_core.specs.Digests.{md5}
 use Rattle.crypt_core.specs.Md5crypt.{md5crypt_message}
-use Rattle.crypt_core.specs.Work.{with_digests}
+use Rattle.crypt_core.proofs.Metering.{with_digests}
 use Rattle.crypt_core.proofs.MessageLists.{messages_to}
 use Rattle.crypt_core.proofs.md5crypt.md5crypt.Given as goal
 

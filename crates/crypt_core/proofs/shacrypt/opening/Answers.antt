@@ -1,7 +1,7 @@
 use Rattle.std.proofs.Common.{◌≤◌, length, arith, refl, ◌∙◌, ap}
 use Rattle.crypt_core.specs.RoundMessage.{salted_twice}
 use Rattle.crypt_core.specs.ShaCrypt.{sha_opening_message}
-use Rattle.crypt_core.specs.Work.{with_digest}
+use Rattle.crypt_core.specs.Private.Counting.{with_digest}
 use Rattle.crypt_core.proofs.CycleLemmas.{digit_bytes-small, length-digit_pieces}
 use Rattle.crypt_core.proofs.MessageLists.{length-salted_twice}
 use Rattle.crypt_core.proofs.Metering.{bytes_more, digest_after}

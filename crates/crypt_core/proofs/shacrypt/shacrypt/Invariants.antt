@@ -1,6 +1,6 @@
 use Rattle.std.proofs.Common.{◌≡◌, ◌+◌, ◌*◌, ◌≤◌, length}
 use Rattle.crypt_core.specs.ShaCrypt.{shacrypt_message}
-use Rattle.crypt_core.specs.Work.{with_digests}
+use Rattle.crypt_core.proofs.Metering.{with_digests}
 use Rattle.crypt_core.proofs.MessageLists.{messages_to}
 use Rattle.crypt_core.proofs.ShaCryptLemmas.{before_round}
 use Rattle.crypt_core.proofs.shacrypt.shacrypt.Given as goal
