@@ -1,6 +1,6 @@
 //! Passwords: what they may be, before any scheme sees them.
-ghost use Rattle.std.specs.Prelude.{◌≡◌, ℕ, ◌<◌, ◌≤◌, ◌↔◌, List, length, Contains, IfOk, IsErrOf};
-ghost use Rattle.crypt_core.specs.Passwords.{IsPassword};
+ghost use Rattle.std.specs.Prelude.{◌≡◌, ℕ, ◌<◌, ◌≤◌, ◌↔◌, List, length, Contains, IfOk, IfErr, IsErrOf};
+ghost use Rattle.crypt_core.specs.Passwords.{IsPassword, IsPasswordRefused};
 
 use arrayvec::ArrayVec;
 use std::marker::Model;
@@ -52,6 +52,7 @@ impl Password {
     /// Takes the bytes as a password. Too many bytes are told before a byte 0.
     pub fn new(bytes: &[u8]) -> Result<Password, PasswordFault>
         ensures ok { IfOk result (λ password. (password ≡ bytes.now) × IsPassword bytes.now) }
+        ensures refused { IfErr result (IsPasswordRefused bytes.now) }
         ensures too_long { IsErrOf result PasswordFault.TooLong ↔ (512 < length bytes.now) }
         ensures has_nul { IsErrOf result PasswordFault.HasNul ↔ ((length bytes.now ≤ 512) × Contains bytes.now 0) }
     {

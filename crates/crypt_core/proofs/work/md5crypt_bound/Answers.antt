@@ -1,4 +1,4 @@
-use Rattle.std.proofs.Common.{◌≡◌, ◌+◌, ap, ap₂, ◌∙◌, arith}
+use Rattle.std.proofs.Common.{◌≡◌, ◌+◌, ap₂, ◌∙◌, arith}
 use Rattle.crypt_core.specs.Cycle.{binary_digits}
 use Rattle.crypt_core.specs.Work.{digests_alone}
 use Rattle.crypt_core.proofs.WorkBounds.{pieces-ones}
