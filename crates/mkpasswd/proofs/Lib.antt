@@ -1,3 +1,10 @@
-pub mod FirstCommand
-pub mod RequiredTexts
+pub mod CommandFacts
+pub mod Counting
+pub mod Drawing
+pub mod Ending
+pub mod FirstLines
+pub mod LineFeeds
+pub mod PassedValues
+pub mod Reading
+pub mod Recipes
 pub mod Sending

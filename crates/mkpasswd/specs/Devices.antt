@@ -1,9 +1,10 @@
 -- What a contract sees of a device behind its wrapper.
-use Rattle.std.specs.Prelude.{ℕ, ◌^◌, ◌≤◌, ◌==◌, ◌&&◌, Bool, true, nat_lt, List, length, Result, Ok, Err, refl, if◌then◌else◌}
+use Rattle.std.specs.Prelude.{◌≡◌, ℕ, ◌+◌, ◌^◌, ◌≤◌, ◌==◌, ◌&&◌, Bool, true, nat_lt, List, length, Result, Ok, Err, refl, if◌then◌else◌}
 use Rattle.std.specs.Coded.{Coded, code_by, coded×, coded_ℕ}
 
 -- the device; how many of its calls failed; how many calls were made to move bytes, failed ones
--- among them; and how many bytes these moved. An output moves bytes by `give`, and not by `flush`
+-- among them; and how many bytes these moved. An input moves bytes by `fetch`; an output by `give`,
+-- and not by `flush`
 pub record Device (T : Type 0) : Type 0 where
   pub inner : T
   pub failures : ℕ
@@ -26,11 +27,23 @@ abbrev pub is_failed_give : {E : Type 0} → Result ℕ E → List ℕ → Bool
 is_failed_give (Ok count) piece = count == 0 && nat_lt 0 (length piece)
 is_failed_give (Err e) piece = true
 
--- how many bytes a `give` took
-abbrev pub taken_by : {E : Type 0} → Result ℕ E → ℕ
-taken_by (Ok count) = count
-taken_by (Err e) = 0
+-- how many bytes a `fetch` gave or a `give` took
+abbrev pub moved_by : {E : Type 0} → Result ℕ E → ℕ
+moved_by (Ok count) = count
+moved_by (Err e) = 0
 
 -- the numbers of a device leave room for any run
 abbrev pub HasRoomForRun : {T : Type 0} → Device T → Type 0
 HasRoomForRun d = (d.failures ≤ 2 ^ 62) × (d.calls ≤ 2 ^ 62) × (d.bytes ≤ 2 ^ 62)
+
+-- each call that was made to move bytes moved one or failed, but for so many
+abbrev pub MovesBytes : {T : Type 0} → ℕ → Device T → Device T → Type 0
+MovesBytes spare old new = new.calls + old.bytes + old.failures ≤ old.calls + new.bytes + new.failures + spare
+
+-- no call failed
+abbrev pub IsUnfailed : {T : Type 0} → Device T → Device T → Type 0
+IsUnfailed old new = new.failures ≡ old.failures
+
+-- one call failed
+abbrev pub FailsOnce : {T : Type 0} → Device T → Device T → Type 0
+FailsOnce old new = new.failures ≡ old.failures + 1

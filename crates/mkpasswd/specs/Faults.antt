@@ -8,11 +8,11 @@ use Rattle.crypt_core.specs.SettingFaults.{make_fault_text}
 use Rattle.clap.specs.declared.error.kind.ErrorKind.{ErrorKind}
 use Rattle.clap.specs.declared.error.kind.ErrorKind.TheVariants.{DisplayHelp, DisplayVersion}
 use Rattle.mkpasswd.specs.declared.faults.Fault.{Fault}
-use Rattle.mkpasswd.specs.declared.faults.Fault.TheVariants.{Start, Usage, Password, Run}
+use Rattle.mkpasswd.specs.declared.faults.Fault.TheVariants.{Start, Usage, Run}
 use Rattle.mkpasswd.specs.declared.faults.RunFault.{RunFault}
-use Rattle.mkpasswd.specs.declared.faults.RunFault.TheVariants.{Write, OutOfMemory as NoMemory, Turns}
+use Rattle.mkpasswd.specs.declared.faults.RunFault.TheVariants.{Read, Write, OutOfMemory as NoMemory, Turns, Password}
 use Rattle.mkpasswd.specs.declared.faults.UsageFault.{UsageFault}
-use Rattle.mkpasswd.specs.declared.faults.UsageFault.TheVariants.{Parse, Method, Make, OutOfMemory}
+use Rattle.mkpasswd.specs.declared.faults.UsageFault.TheVariants.{Parse, Method, TwoSalts, TwoModes, Make, OutOfMemory}
 
 -- the exit status after `clap`'s answer: 0 where help or the version was asked for
 abbrev pub parse_status : ErrorKind → ℕ
@@ -24,6 +24,8 @@ parse_status _ = 2
 abbrev pub usage_status : UsageFault → ℕ
 usage_status (Parse error) = parse_status (kind_of error)
 usage_status Method = 2
+usage_status TwoSalts = 2
+usage_status TwoModes = 2
 usage_status (Make fault) = 2
 usage_status OutOfMemory = 3
 
@@ -31,32 +33,37 @@ usage_status OutOfMemory = 3
 abbrev pub usage_text : UsageFault → List ℕ
 usage_text (Parse error) = []
 usage_text Method = codes "unknown method"
+usage_text TwoSalts = codes "two salts"
+usage_text TwoModes = codes "two modes"
 usage_text (Make fault) = make_fault_text fault
 usage_text OutOfMemory = hash_fault_text HashOutOfMemory
 
--- the exit status after a run that was cut short
+-- the exit status after a run that was cut short: 2 where the password is refused, 3 where the machine
+-- refused
 abbrev pub run_status : RunFault → ℕ
+run_status Read = 3
 run_status Write = 3
 run_status NoMemory = 3
 run_status Turns = 3
+run_status (Password fault) = 2
 
 -- what cut a run short
 abbrev pub run_text : RunFault → List ℕ
+run_text Read = codes "read fault"
 run_text Write = codes "write fault"
 run_text NoMemory = hash_fault_text HashOutOfMemory
 run_text Turns = codes "too many turns"
+run_text (Password fault) = password_text fault
 
 -- the exit status after any fault: 2 where the words or the password are wrong, 3 where the machine
 -- refused
 abbrev pub fault_status : Fault → ℕ
 fault_status Start = 3
 fault_status (Usage fault) = usage_status fault
-fault_status (Password fault) = 2
 fault_status (Run fault) = run_status fault
 
 -- what keeps the program from its answer
 abbrev pub fault_text : Fault → List ℕ
 fault_text Start = codes "start fault"
 fault_text (Usage fault) = usage_text fault
-fault_text (Password fault) = password_text fault
 fault_text (Run fault) = run_text fault

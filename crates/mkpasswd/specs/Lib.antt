@@ -1,7 +1,12 @@
 pub mod Answers
 pub mod Devices
 pub mod Faults
+pub mod Input
+pub mod Makers
+pub mod Methods
+pub mod One
 pub mod Options
 pub mod Output
+pub mod Private
 pub mod Runs
 pub mod Tallies

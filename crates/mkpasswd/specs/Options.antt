@@ -1,92 +1,200 @@
--- The words after the program's name: the command, the texts that it gives, and what they mean.
-use Rattle.std.specs.Prelude.{◌≡◌, ◌≢◌, ⊤, List, [], Option, Some, None, Result, Ok, Err, true, codes}
-use Rattle.clap.specs.Words.{App, IsAmong, Rule, Text, fault_of, first_of, kind_of, matches_of}
+-- The words after the program's name: the command, what `clap` finds in them, and what they mean.
+use Rattle.std.specs.Prelude.{◌≡◌, ◌≢◌, ◌<◌, ◌≤◌, ⊤, ℕ, pos, Bool, true, false, List, [], ◌∷◌, ◌++◌, length, fold, Option, Some, None, IsSome, is_some, Result, Ok, Err, codes, unwrap_or, if◌then◌else◌}
+use Rattle.std.specs.List.{slice_index_or}
+use Rattle.std.specs.Option.{option_map_or}
+use Rattle.std.specs.Str.{bytes_eq}
+use Rattle.std.specs.Str.Parse.{digits_value, without_leading_plus}
+use Rattle.clap.specs.Words.{App, IsAmong, Row, Rule, Text, fault_of, first_of, kind_of, matches_of, one_of}
 use Rattle.clap.specs.Words.{new_app, new_rule, takes, with_rule}
 use Rattle.clap.specs.Simple.{on_top}
-use Rattle.clap.specs.declared.builder.ArgAction.TheVariants.{Set}
+use Rattle.clap.specs.declared.builder.ArgAction.TheVariants.{Set, SetTrue}
+use Rattle.clap.specs.declared.builder.value_parser.ValueParser.TheVariants.{Signed}
 use Rattle.clap.specs.declared.error.Error.{Error}
 use Rattle.clap.specs.declared.error.kind.ErrorKind.TheVariants as kind
 use Rattle.crypt_core.specs.Methods.{method_named}
-use Rattle.crypt_core.specs.MadeSettings.{IsMakeable, IsMakeRefused, made_setting}
 use Rattle.crypt_core.specs.declared.method.Method.{Method}
+use Rattle.mkpasswd.specs.Makers.{IsAccepted, IsRefused}
 use Rattle.mkpasswd.specs.declared.faults.UsageFault.{UsageFault}
-use Rattle.mkpasswd.specs.declared.faults.UsageFault.TheVariants.{Parse, Method as UnknownMethod, Make, OutOfMemory}
-use Rattle.mkpasswd.specs.declared.options.First.{First}
-use Rattle.mkpasswd.specs.declared.options.Given.{Given}
+use Rattle.mkpasswd.specs.declared.faults.UsageFault.TheVariants.{Parse, Method as UnknownMethod, TwoSalts, TwoModes, Make, OutOfMemory}
+use Rattle.mkpasswd.specs.declared.job.Job.{Job}
+use Rattle.mkpasswd.specs.declared.job.PasswordFrom.{PasswordFrom}
+use Rattle.mkpasswd.specs.declared.job.PasswordFrom.TheVariants.{Word, Input}
+use Rattle.mkpasswd.specs.declared.job.Plan.{Plan}
+use Rattle.mkpasswd.specs.declared.job.Plan.TheVariants.{Methods, One}
 
 -- ---- the command, as `clap` reads it
 
--- a required argument that takes one value
-abbrev pub required_rule : Text → Rule
-required_rule id =
-    record (new_rule id) { action = Some Set; value_names = 1; required = true }
+-- an argument that takes one value
+abbrev pub value_rule : Text → Rule
+value_rule id = record (new_rule id) { action = Some Set; value_names = 1 }
+
+abbrev pub flag_rule : Text → Rule
+flag_rule id = record (new_rule id) { action = Some SetTrue }
 
 -- -m (109), --method TYPE
 abbrev pub method_rule : Rule
-method_rule =
-    record (required_rule (codes "method")) { short = Some 109; long = Some (codes "method") }
+method_rule = record (value_rule (codes "method")) { short = Some 109; long = Some (codes "method") }
 
 -- -S (83), --salt SALT
 abbrev pub salt_rule : Rule
-salt_rule = record (required_rule (codes "salt")) { short = Some 83; long = Some (codes "salt") }
+salt_rule = record (value_rule (codes "salt")) { short = Some 83; long = Some (codes "salt") }
 
--- PASSWORD
+-- -R (82), --rounds NUMBER, from 0 to 4294967295
+abbrev pub rounds_rule : Rule
+rounds_rule = record (value_rule (codes "rounds")) {
+  short = Some 82;
+  long = Some (codes "rounds");
+  parser = Some (Signed (pos 0) (pos 4294967295));
+}
+
+-- -s (115), --stdin
+abbrev pub stdin_rule : Rule
+stdin_rule = record (flag_rule (codes "stdin")) { short = Some 115; long = Some (codes "stdin") }
+
+-- --work
+abbrev pub work_rule : Rule
+work_rule = record (flag_rule (codes "work")) { long = Some (codes "work") }
+
+-- PASSWORD, and then SALT
 abbrev pub password_rule : Rule
-password_rule = required_rule (codes "password")
+password_rule = value_rule (codes "password")
+
+abbrev pub salt_word_rule : Rule
+salt_word_rule = value_rule (codes "salt-word")
 
 -- a command with a version, whose first word is no program's name
 abbrev pub bare_command : App
 bare_command = on_top (λ s. record s { no_binary_name = true; has_version = true })
     (new_app (codes "mkpasswd"))
 
--- the command of one password
-unfoldable pub first_command : App
-first_command = with_rule (with_rule (with_rule bare_command method_rule) salt_rule) password_rule
+unfoldable pub command : App
+command = fold with_rule bare_command
+    (method_rule ∷ salt_rule ∷ rounds_rule ∷ stdin_rule ∷ work_rule ∷ password_rule
+    ∷ salt_word_rule ∷ [])
 
--- ---- the words
+-- ---- what `clap` finds
 
--- the text that the words give for the argument of this id
-abbrev pub text_of : List Text → Text → Option Text
-text_of words id = first_of id (matches_of first_command words)
+-- the values of its matches
+pub record Values : Type 0 where
+  -- TYPE
+  pub method : Option Text
+  -- the value of -S, and the second word
+  pub salt : Option Text
+  pub salt_word : Option Text
+  -- the number of -R, or 0
+  pub cost : ℕ
+  -- -s, and --work
+  pub stdin : Bool
+  pub work : Bool
+  -- the first word
+  pub password : Option Text
 
--- the texts of TYPE, SALT and PASSWORD
-pub record Texts : Type 0 where
-  pub method : Text
-  pub salt : Text
-  pub password : Text
+abbrev pub is_set : Text → List Row → Bool
+is_set id rows = option_map_or (bytes_eq (codes "true")) (one_of id rows) false
 
--- the texts that the program read
-abbrev pub texts : Given → Texts
-texts given = record {
-  method = given.method.now;
-  salt = given.salt.now;
-  password = given.password.now;
+abbrev pub number_of : Text → List Row → ℕ
+number_of id rows =
+    option_map_or (λ text. digits_value 10 (without_leading_plus text)) (one_of id rows) 0
+
+abbrev pub values_in : List Row → Values
+values_in rows = record {
+  method = first_of (codes "method") rows;
+  salt = first_of (codes "salt") rows;
+  salt_word = first_of (codes "salt-word") rows;
+  cost = number_of (codes "rounds") rows;
+  stdin = is_set (codes "stdin") rows;
+  work = is_set (codes "work") rows;
+  password = first_of (codes "password") rows;
 }
 
--- the command takes the words, and they give these texts
-pub record Gives (words : List Text) (texts : Texts) : Type 0 where
-  pub taken : fault_of first_command words ≡ []
-  pub method : text_of words (codes "method") ≡ Some texts.method
-  pub salt : text_of words (codes "salt") ≡ Some texts.salt
-  pub password : text_of words (codes "password") ≡ Some texts.password
+-- the command takes the words, and its matches have these values
+pub record Gives (words : List Text) (values : Values) : Type 0 where
+  pub taken : fault_of command words ≡ []
+  pub found : values ≡ values_in (matches_of command words)
 
 -- the command does not take the words: they call for an error of this kind, or for help or the
 -- version
 pub record Refuses (words : List Text) (error : Error) : Type 0 where
-  pub called_for : IsAmong (kind_of error) (fault_of first_command words)
-  pub not_taken : takes first_command words ≢ true
+  pub called_for : IsAmong (kind_of error) (fault_of command words)
+  pub not_taken : takes command words ≢ true
   pub not_memory : kind_of error ≢ kind.OutOfMemory
 
--- ---- the plan
+-- ---- what they mean
 
--- what the words mean: the first refusal that holds, or else the plan. Memory may run out at any
--- words.
-abbrev pub Plans : List Text → Result First UsageFault → Type 0
-Plans words (Ok first) = (texts : Texts) × (method : Method) × Gives words texts × (method_named texts.method ≡ Some method)
-    × IsMakeable method 0 texts.salt × (first.setting ≡ made_setting method 0 texts.salt)
-    × (first.password.items ≡ texts.password)
+-- TYPE, or the default
+abbrev pub type_of : Values → Text
+type_of values = unwrap_or values.method (codes "sha512crypt")
+
+-- the salt, given in one of the two ways
+abbrev pub given_salt : Values → Option Text
+given_salt values = if is_some values.salt then values.salt else values.salt_word
+
+-- what a plan does: it hashes the password of a word, or that of the input
+pub data Mode : Type 0 where
+  word : Text → Mode
+  input : Mode
+
+-- the modes that were asked for
+abbrev pub modes_of : Values → List Mode
+modes_of values =
+    option_map_or (λ password. word password ∷ []) values.password []
+    ++ (if values.stdin then input ∷ [] else [])
+
+-- ---- the rules, in their order, and the plan
+
+-- TYPE asks for the list of methods, whatever else was given
+abbrev pub AsksForMethods : Values → Type 0
+AsksForMethods values = type_of values ≡ codes "help"
+
+-- TYPE names a method
+pub record Names (values : Values) (method : Method) : Type 0 where
+  pub not_help : ¬ AsksForMethods values
+  pub named : method_named (type_of values) ≡ Some method
+
+-- the salt was given in both ways
+abbrev pub HasTwoSalts : Values → Type 0
+HasTwoSalts values = IsSome values.salt × IsSome values.salt_word
+
+-- the salt was given once, or not at all
+pub record HasSalt (values : Values) (method : Method) : Type 0 where
+  pub names : Names values method
+  pub few_salts : ¬ HasTwoSalts values
+
+-- one mode was asked for, or none, which stands for the input
+pub record HasMode (values : Values) (method : Method) (mode : Mode) : Type 0 where
+  pub salt : HasSalt values method
+  pub few_modes : length (modes_of values) ≤ 1
+  pub mode_is : mode ≡ slice_index_or (modes_of values) 0 input
+
+-- where the password comes from, in a mode
+abbrev pub IsFrom : Mode → PasswordFrom → Type 0
+IsFrom (word password) (Word bytes) = bytes.items ≡ password
+IsFrom input Input = ⊤
+IsFrom mode from = ⊥
+
+-- settings are made of the method, the cost and the salt; the counts are wanted where `--work` was given
+pub record IsJob (values : Values) (method : Method) (job : Job) : Type 0 where
+  pub accepted : IsAccepted method values.cost (given_salt values)
+  pub maker : job.maker ≡ record { method = method; cost = values.cost; salt = given_salt values }
+  pub work : job.work ≡ values.work
+
+-- the first refusal whose rule holds, or else the plan
+abbrev pub Means : Values → Result Plan UsageFault → Type 0
+Means values (Ok Methods) = AsksForMethods values
+Means values (Ok (One job from)) =
+    (method : Method) × (mode : Mode) × HasMode values method mode × IsJob values method job
+    × IsFrom mode from
+Means values (Err UnknownMethod) = ¬ AsksForMethods values × (method_named (type_of values) ≡ None)
+Means values (Err TwoSalts) = (method : Method) × Names values method × HasTwoSalts values
+Means values (Err TwoModes) = (method : Method) × HasSalt values method × (1 < length (modes_of values))
+Means values (Err (Make fault)) =
+    (method : Method) × (mode : Mode) × HasMode values method mode
+    × IsRefused method values.cost (given_salt values) fault
+Means values (Err (Parse error)) = ⊥
+Means values (Err OutOfMemory) = ⊥
+
+-- what is answered to the words; memory may run out at any of them
+abbrev pub Plans : List Text → Result Plan UsageFault → Type 0
 Plans words (Err (Parse error)) = Refuses words error
-Plans words (Err UnknownMethod) = (texts : Texts) × Gives words texts × (method_named texts.method ≡ None)
-Plans words (Err (Make fault)) = (texts : Texts) × (method : Method) × Gives words texts × (method_named texts.method ≡ Some method)
-    × IsMakeRefused method 0 texts.salt fault
 Plans words (Err OutOfMemory) = ⊤
+Plans words answer = (values : Values) × Gives words values × Means values answer

@@ -1,9 +1,9 @@
--- What a run leaves in an output.
+-- What is left in an output that a text was given to, and how the giving ended.
 use Rattle.std.specs.Prelude.{◌≡◌, ◌≢◌, ℕ, ◌+◌, List, [], ◌++◌, length, Option, Result, Ok, Err}
 use Rattle.std.specs.Io.KnownBytes.{Appends}
-use Rattle.mkpasswd.specs.Devices.{Device}
+use Rattle.mkpasswd.specs.Devices.{Device, FailsOnce, IsUnfailed}
 use Rattle.mkpasswd.specs.declared.faults.RunFault.{RunFault}
-use Rattle.mkpasswd.specs.declared.faults.RunFault.TheVariants.{Write, OutOfMemory, Turns}
+use Rattle.mkpasswd.specs.declared.faults.RunFault.TheVariants.{Write, Turns}
 
 module _ {T : Type 0} where
   -- the output has taken these bytes and no others: the device shows them at its end, where it shows
@@ -26,10 +26,18 @@ module _ {T : Type 0} where
   TakesPart contents old new text =
       (unsent : List ℕ) × TakesAllBut contents unsent old new text × (unsent ≢ [])
 
-  -- a text was given: whole where there is an answer; its first bytes where a call failed; with some
-  -- still to come where the turns were over; and nothing of it where memory ran out before
+  -- a text was given: whole where there is an answer; its first bytes where a call failed; and with some
+  -- still to come where the turns were over
   abbrev pub Delivers : {A : Type 0} → (T → Option (List ℕ)) → Device T → Device T → List ℕ → Result A RunFault → Type 0
   Delivers contents old new text (Ok answer) = Takes contents old new text
   Delivers contents old new text (Err Write) = TakesPrefix contents old new text
-  Delivers contents old new text (Err OutOfMemory) = Takes contents old new []
   Delivers contents old new text (Err Turns) = TakesPart contents old new text
+  Delivers contents old new text (Err fault) = ⊥
+
+  -- an answer comes where no call failed, and a fault only with its cause: one call failed; or `turns`
+  -- calls were made, and none failed
+  abbrev pub ShowsOutcome : {A : Type 0} → ℕ → Device T → Device T → Result A RunFault → Type 0
+  ShowsOutcome turns old new (Ok answer) = IsUnfailed old new
+  ShowsOutcome turns old new (Err Write) = FailsOnce old new
+  ShowsOutcome turns old new (Err Turns) = IsUnfailed old new × (new.calls ≡ old.calls + turns)
+  ShowsOutcome turns old new (Err fault) = ⊥

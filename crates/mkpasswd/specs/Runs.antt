@@ -1,29 +1,135 @@
--- How a run ended, as the counts of a device show it.
-use Rattle.std.specs.Prelude.{◌≡◌, ℕ, ◌+◌, ◌≤◌, Result, Ok, Err}
-use Rattle.mkpasswd.specs.Devices.{Device}
+-- How a run leaves its three devices, the stream of its generator and its meter. The answers are arguments:
+-- those that it gave whole, and the one that it was at where it was cut short.
+use Rattle.std.specs.Prelude.{◌≡◌, ℕ, ◌+◌, ◌^◌, ◌≤◌, ◌⊎◌, List, ◌++◌, Option, Some, None, Result, Ok, Err}
+use Rattle.rand_core.specs.Stream.{Stream}
+use Rattle.prims_core.specs.Meter.{Counts}
+use Rattle.crypt_core.specs.Crypt.{IsRefusedBy}
+use Rattle.crypt_core.specs.Work.{raised_by}
+use Rattle.crypt_core.specs.declared.scheme.Scheme.{Scheme}
+use Rattle.mkpasswd.specs.Answers.{Answer}
+use Rattle.mkpasswd.specs.Devices.{Device, MovesBytes}
+use Rattle.mkpasswd.specs.Output.{Takes}
 use Rattle.mkpasswd.specs.declared.faults.RunFault.{RunFault}
-use Rattle.mkpasswd.specs.declared.faults.RunFault.TheVariants.{Write, OutOfMemory, Turns}
+use Rattle.mkpasswd.specs.declared.faults.RunFault.TheVariants.{Read, Write, OutOfMemory, Turns, Password}
+use Rattle.mkpasswd.specs.declared.tally.Tally.{Tally}
 
-module _ {T : Type 0} where
-  -- no call failed
-  abbrev pub IsUnfailed : Device T → Device T → Type 0
-  IsUnfailed old new = new.failures ≡ old.failures
+-- what a run has in its hands
+pub record Hands (I O E : Type 0) : Type 0 where
+  pub input : Device I
+  pub out : Device O
+  pub faults : Device E
+  pub stream : Stream
+  pub counts : Counts
 
-  -- one call failed
-  abbrev pub FailsOnce : Device T → Device T → Type 0
-  FailsOnce old new = new.failures ≡ old.failures + 1
+-- what the three devices tell of their bytes
+pub record Tells (I O E : Type 0) : Type 0 where
+  pub remaining : I → Option (List ℕ)
+  pub contents : O → Option (List ℕ)
+  pub fault_contents : E → Option (List ℕ)
 
-  -- an answer comes where no call failed, and a fault only with its cause: one call failed; or
-  -- `turns` calls were made, and none failed. Where memory ran out no call was made.
-  abbrev pub ShowsOutcome : {A : Type 0} → ℕ → Device T → Device T → Result A RunFault → Type 0
-  ShowsOutcome turns old new (Ok answer) = IsUnfailed old new
-  ShowsOutcome turns old new (Err Write) = FailsOnce old new
-  ShowsOutcome turns old new (Err OutOfMemory) =
-      IsUnfailed old new × (new.calls ≡ old.calls)
-  ShowsOutcome turns old new (Err Turns) =
-      IsUnfailed old new × (new.calls ≡ old.calls + turns)
+-- the same two from what clauses name
+abbrev pub hands : {I O E : Type 0} → Device I → Device O → Device E → Stream → Counts → Hands I O E
+hands input out faults stream counts =
+    record { input = input; out = out; faults = faults; stream = stream; counts = counts }
 
-  -- no more than `turns` calls were made, and at most two more than bytes were moved
-  pub record IsWithinTurns (turns : ℕ) (old new : Device T) : Type 0 where
-    pub at_most_turns : new.calls ≤ old.calls + turns
-    pub at_most_bytes : new.calls + old.bytes ≤ old.calls + new.bytes + 2
+abbrev pub tells : {I O E : Type 0} → (I → Option (List ℕ)) → (O → Option (List ℕ)) → (E → Option (List ℕ)) → Tells I O E
+tells remaining contents fault_contents =
+    record { remaining = remaining; contents = contents; fault_contents = fault_contents }
+
+-- the counts leave room for any run
+pub record HasCountsForRun (counts : Counts) : Type 0 where
+  pub digests : counts.digests ≤ 2 ^ 100
+  pub bytes : counts.bytes ≤ 2 ^ 100
+  pub mixes : counts.mixes ≤ 2 ^ 100
+  pub table : counts.table ≤ 2 ^ 100
+  pub scratch : counts.scratch ≤ 2 ^ 100
+
+-- an output has taken `whole` and then the first bytes of `text`, and nothing else
+abbrev pub TakesFront : {T : Type 0} → (T → Option (List ℕ)) → Device T → Device T → List ℕ → List ℕ → Type 0
+TakesFront contents old new whole text =
+    (sent : List ℕ) × (unsent : List ℕ) × (sent ++ unsent ≡ text) × Takes contents old new (whole ++ sent)
+
+-- the counts where memory for a hash was refused
+abbrev pub IsRefusedFor : Counts → Option Scheme → Counts → Type 0
+IsRefusedFor before None after = ⊥
+IsRefusedFor before (Some scheme) after = IsRefusedBy before scheme after
+
+module _ {I O E : Type 0} where
+  -- ---- the calls of the devices
+
+  -- the calls that move bytes, and the bytes that they moved
+  abbrev pub calls_of : Hands I O E → ℕ
+  calls_of hands = hands.input.calls + hands.out.calls + hands.faults.calls
+
+  abbrev pub moved_of : Hands I O E → ℕ
+  moved_of hands = hands.input.bytes + hands.out.bytes + hands.faults.bytes
+
+  -- at most `turns` such calls were made, and at most two more than bytes were moved. Each moved a byte or
+  -- failed, but for one that found the end of the input
+  pub record IsWithinTurns (turns : ℕ) (old new : Hands I O E) : Type 0 where
+    pub at_most_turns : calls_of new ≤ calls_of old + turns
+    pub at_most_bytes : calls_of new + moved_of old ≤ calls_of old + moved_of new + 2
+    pub of_input : MovesBytes 1 old.input new.input
+    pub of_out : MovesBytes 0 old.out new.out
+    pub of_faults : MovesBytes 0 old.faults new.faults
+
+  -- so many calls of each device failed
+  pub record Fails (input out faults : ℕ) (old new : Hands I O E) : Type 0 where
+    pub of_input : new.input.failures ≡ old.input.failures + input
+    pub of_out : new.out.failures ≡ old.out.failures + out
+    pub of_faults : new.faults.failures ≡ old.faults.failures + faults
+
+  -- ---- what the answers leave
+
+  -- the outputs have taken an answer whole, and nothing else
+  pub record TakesAnswer (tells : Tells I O E) (answer : Answer) (old new : Hands I O E) : Type 0 where
+    pub text : Takes tells.contents old.out new.out answer.text
+    pub fault_text : Takes tells.fault_contents old.faults new.faults answer.fault_text
+
+  -- they have taken one answer whole, and of the next one the first bytes of its text and all of its fault text
+  pub record TakesTextFront (tells : Tells I O E) (done next : Answer) (old new : Hands I O E) : Type 0 where
+    pub text : TakesFront tells.contents old.out new.out done.text next.text
+    pub fault_text : Takes tells.fault_contents old.faults new.faults (done.fault_text ++ next.fault_text)
+
+  -- or all of its text and the first bytes of its fault text
+  pub record TakesFaultFront (tells : Tells I O E) (done next : Answer) (old new : Hands I O E) : Type 0 where
+    pub text : Takes tells.contents old.out new.out (done.text ++ next.text)
+    pub fault_text : TakesFront tells.fault_contents old.faults new.faults done.fault_text next.fault_text
+
+  -- or the first bytes of either
+  pub record TakesAnswerFront (tells : Tells I O E) (done next : Answer) (old new : Hands I O E) : Type 0 where
+    pub text : TakesFront tells.contents old.out new.out done.text next.text
+    pub fault_text : TakesFront tells.fault_contents old.faults new.faults done.fault_text next.fault_text
+
+  -- the words and the work of one answer were taken, and no others
+  pub record IsAfter (done : Answer) (old new : Hands I O E) : Type 0 where
+    pub stream : new.stream ≡ done.stream
+    pub counts : new.counts ≡ raised_by old.counts done.work
+
+  -- those of one answer and of the next
+  pub record IsAfterBoth (done next : Answer) (old new : Hands I O E) : Type 0 where
+    pub stream : new.stream ≡ next.stream
+    pub counts : new.counts ≡ raised_by (raised_by old.counts done.work) next.work
+
+  -- ---- the end of a run
+
+  -- A tally comes where no call failed and all is given. A fault comes with its cause: one call of the input
+  -- or of an output failed, `turns` calls were made, or memory for the next hash was refused. No byte of the
+  -- next answer is written before its hash is there.
+  abbrev pub Ends : Tells I O E → ℕ → Answer → Answer → Hands I O E → Hands I O E → Result Tally RunFault → Type 0
+  Ends tells turns done next old new (Ok tally) =
+      (tally ≡ done.tally) × Fails 0 0 0 old new × TakesAnswer tells done old new × IsAfter done old new
+  Ends tells turns done next old new (Err Read) =
+      Fails 1 0 0 old new × TakesAnswer tells done old new × IsAfter done old new
+  Ends tells turns done next old new (Err Write) =
+      ((Fails 0 1 0 old new × TakesTextFront tells done next old new)
+      ⊎ (Fails 0 0 1 old new × TakesFaultFront tells done next old new))
+      × IsAfterBoth done next old new
+  Ends tells turns done next old new (Err Turns) =
+      Fails 0 0 0 old new × (calls_of new ≡ calls_of old + turns) × TakesAnswerFront tells done next old new
+      × IsAfterBoth done next old new
+  Ends tells turns done next old new (Err OutOfMemory) =
+      Fails 0 0 0 old new × TakesAnswer tells done old new × (new.stream ≡ next.stream)
+      × IsRefusedFor (raised_by old.counts done.work) next.scheme new.counts
+  Ends tells turns done next old new (Err (Password fault)) =
+      Fails 0 0 0 old new × TakesAnswer tells done old new × IsAfter done old new

@@ -6,6 +6,10 @@ use Rattle.mkpasswd.specs.declared.tally.Tally.{Tally}
 abbrev pub one_line : Tally
 one_line = record { lines = 1; refused = 0; misfits = 0 }
 
+-- the list of the methods has no line of an input
+abbrev pub no_line : Tally
+no_line = record { lines = 0; refused = 0; misfits = 0 }
+
 -- 1 where a line was refused or answered `no`
 abbrev pub tally_status : Tally → ℕ
 tally_status tally = if tally.refused == 0 && tally.misfits == 0 then 0 else 1

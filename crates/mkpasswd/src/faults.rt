@@ -21,7 +21,13 @@ pub enum UsageFault {
     /// TYPE names no method.
     #[error("{}", self.text())]
     Method,
-    /// The salt that was given is refused.
+    /// The salt was given twice, by `-S` and as a word.
+    #[error("{}", self.text())]
+    TwoSalts,
+    /// More than one of PASSWORD and `-s` was given.
+    #[error("{}", self.text())]
+    TwoModes,
+    /// The method, the cost and the salt that was given don't go together.
     #[error("{}", self.text())]
     Make(MakeFault),
     /// Memory ran out.
@@ -39,7 +45,10 @@ impl UsageFault {
     {
         match self {
             UsageFault::Parse(error) => if error.use_stderr() { 2 } else { 0 },
-            UsageFault::Method | UsageFault::Make(_) => 2,
+            UsageFault::Method
+            | UsageFault::TwoSalts
+            | UsageFault::TwoModes
+            | UsageFault::Make(_) => 2,
             UsageFault::OutOfMemory => 3,
         }
     }
@@ -51,6 +60,8 @@ impl UsageFault {
         match self {
             UsageFault::Parse(_) => "",
             UsageFault::Method => "unknown method",
+            UsageFault::TwoSalts => "two salts",
+            UsageFault::TwoModes => "two modes",
             UsageFault::Make(fault) => fault.text(),
             UsageFault::OutOfMemory => HashFault::OutOfMemory.text(),
         }
@@ -95,6 +106,9 @@ impl From<AllocError> for UsageFault {
 /// What ends a run before its answers are all given.
 #[derive(Clone, Copy, Debug, PartialEq, Eq, Error)]
 pub enum RunFault {
+    /// A read of the input failed.
+    #[error("{}", self.text())]
+    Read,
     /// A write or a flush of an output failed.
     #[error("{}", self.text())]
     Write,
@@ -104,17 +118,21 @@ pub enum RunFault {
     /// The run needs one more call to move bytes than it may make.
     #[error("{}", self.text())]
     Turns,
+    /// The password is refused.
+    #[error("{}", self.text())]
+    Password(PasswordFault),
 }
 
 impl RunFault {
     ghost use Rattle.mkpasswd.specs.Faults.{run_status, run_text};
 
-    /// The exit status, which is 3.
+    /// The exit status: 2 where the password is refused, and 3 where the machine refused.
     pub fn status(&self) -> u8
         ensures { result ≡ run_status self.now }
     {
         match self {
-            RunFault::Write | RunFault::OutOfMemory | RunFault::Turns => 3,
+            RunFault::Read | RunFault::Write | RunFault::OutOfMemory | RunFault::Turns => 3,
+            RunFault::Password(_) => 2,
         }
     }
 
@@ -123,9 +141,11 @@ impl RunFault {
         ensures { result.now ≡ run_text self.now }
     {
         match self {
+            RunFault::Read => "read fault",
             RunFault::Write => "write fault",
             RunFault::OutOfMemory => HashFault::OutOfMemory.text(),
             RunFault::Turns => "too many turns",
+            RunFault::Password(fault) => fault.text(),
         }
     }
 }
@@ -142,15 +162,23 @@ impl From<HashFault> for RunFault {
     }
 }
 
+impl From<PasswordFault> for RunFault {
+    ghost use Rattle.mkpasswd.specs.declared.faults.RunFault.TheVariants.{Password};
+
+    ghost from_gives = { λ fault outer. outer ≡ Password fault };
+
+    fn from(fault: PasswordFault) -> RunFault {
+        RunFault::Password(fault)
+    }
+}
+
 /// What keeps the program from its answer.
 #[derive(Debug, Drop)]
 pub enum Fault {
-    /// The arguments can't be read as text.
+    /// The arguments can't be read as text, or the system gave no seed for the generator.
     Start,
     /// The words give no plan, or memory ran out.
     Usage(UsageFault),
-    /// The password is refused.
-    Password(PasswordFault),
     /// The run was cut short.
     Run(RunFault),
 }
@@ -166,7 +194,6 @@ impl Fault {
         match self {
             Fault::Start => 3,
             Fault::Usage(fault) => fault.status(),
-            Fault::Password(_) => 2,
             Fault::Run(fault) => fault.status(),
         }
     }
@@ -178,7 +205,6 @@ impl Fault {
         match self {
             Fault::Start => "start fault",
             Fault::Usage(fault) => fault.text(),
-            Fault::Password(fault) => fault.text(),
             Fault::Run(fault) => fault.text(),
         }
     }
@@ -221,16 +247,6 @@ impl From<UsageFault> for Fault {
     }
 }
 
-impl From<PasswordFault> for Fault {
-    ghost use Rattle.mkpasswd.specs.declared.faults.Fault.TheVariants.{Password};
-
-    ghost from_gives = { λ fault outer. outer ≡ Password fault };
-
-    fn from(fault: PasswordFault) -> Fault {
-        Fault::Password(fault)
-    }
-}
-
 impl From<RunFault> for Fault {
     ghost use Rattle.mkpasswd.specs.declared.faults.Fault.TheVariants.{Run};
 
@@ -250,6 +266,8 @@ mod tests {
         let rows = [
             (Fault::Start, 3, "start fault"),
             (Fault::from(UsageFault::Method), 2, "unknown method"),
+            (Fault::from(UsageFault::TwoSalts), 2, "two salts"),
+            (Fault::from(UsageFault::TwoModes), 2, "two modes"),
             (
                 Fault::from(UsageFault::from(MakeFault::SaltLength)),
                 2,
@@ -266,12 +284,17 @@ mod tests {
                 "out of memory",
             ),
             (Fault::from(AllocError), 3, "out of memory"),
-            (Fault::from(PasswordFault::TooLong), 2, "password too long"),
             (
-                Fault::from(PasswordFault::HasNul),
+                Fault::from(RunFault::from(PasswordFault::TooLong)),
+                2,
+                "password too long",
+            ),
+            (
+                Fault::from(RunFault::from(PasswordFault::HasNul)),
                 2,
                 "password has a zero byte",
             ),
+            (Fault::from(RunFault::Read), 3, "read fault"),
             (Fault::from(RunFault::Write), 3, "write fault"),
             (
                 Fault::from(RunFault::from(HashFault::OutOfMemory)),

@@ -1,24 +1,34 @@
 //! mkpasswd: hashes passwords in the schemes of crypt(5).
 //!
-//! `main` chooses the devices and the number of turns, and tells faults; all else is in the modules.
+//! `main` chooses the devices, the generator, the meter and the number of turns, and tells faults; all
+//! else is in the modules.
 #![tactic(auto)]
 
 ghost use Rattle.std.specs.Prelude.{◌≡◌, ◌⊎◌};
 ghost use Rattle.mkpasswd.specs.Faults.{fault_status};
 
-use crypt_core::password::Password;
-use device::Output;
+use device::{Input, Output};
 use faults::{Fault, RunFault, UsageFault};
-use one::run_first;
+use job::{Job, PasswordFrom, Plan};
+use methods::run_methods;
+use one::run_one;
 use options::plan;
+use prims_core::meter::Meter;
+use rand::make_rng;
+use rand::rngs::StdRng;
 use std::env;
 use std::process::ExitCode;
 use tally::Tally;
 
+mod answer;
 mod device;
 mod faults;
+mod job;
+mod maker;
+mod methods;
 mod one;
 mod options;
+mod send;
 mod tally;
 #[cfg(test)]
 mod test_devices;
@@ -34,13 +44,37 @@ fn main(rt: HostRuntime) -> ExitCode {
     ExitCode::from(status)
 }
 
-/// Reads the words, plans by them, and runs the plan on standard output.
+/// Reads the words, plans by them, and runs the plan on the standard devices.
 fn plan_and_run(rt: &HostRuntime) -> Result<Tally, Fault> {
     let words = words(rt)?;
-    let first = plan(rt.alloc(), words.as_slice())?;
-    let password = Password::new(first.password.as_slice())?;
-    let mut out = Output::new(rt.stdout());
-    Ok(run_first(rt.alloc(), &password, &first.setting, &mut out, TURNS)?)
+    match plan(rt.alloc(), words.as_slice())? {
+        Plan::Methods => Ok(run_methods(&mut Output::new(rt.stdout()), TURNS)?),
+        Plan::One(job, from) => hash_one(rt, &job, &from),
+    }
+}
+
+/// Hashes one password, with a generator that the system seeds.
+fn hash_one(rt: &HostRuntime, job: &Job, from: &PasswordFrom) -> Result<Tally, Fault> {
+    let mut rng = generator(rt)?;
+    let tally = run_one(
+        rt.alloc(),
+        job,
+        from,
+        &mut Input::new(rt.stdin()),
+        &mut Output::new(rt.stdout()),
+        &mut Output::new(rt.stderr()),
+        &mut rng,
+        &mut Meter::new(),
+        TURNS,
+    )?;
+    Ok(tally)
+}
+
+fn generator(rt: &HostRuntime) -> Result<StdRng, Fault> {
+    match make_rng(rt) {
+        Ok(rng) => Ok(rng),
+        Err(_) => Err(Fault::Start),
+    }
 }
 
 /// The words after the program's name.

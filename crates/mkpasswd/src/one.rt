@@ -1,51 +1,67 @@
-//! The run for a single password: its hash and a line feed go to the output.
-ghost use Rattle.std.specs.Prelude.{◌≡◌, ◌-◌, ◌^◌, ◌<◌, ◌≤◌, length, IfOk, IfErr, OnOk, OnErr, IsErrOf};
-ghost use Rattle.crypt_core.specs.declared.method.Method.{Method};
-ghost use Rattle.std.specs.Io.KnownBytes.{Keeps};
-ghost use Rattle.crypt_core.specs.Settings.{method_of};
-ghost use Rattle.mkpasswd.specs.Answers.{hash_line};
-ghost use Rattle.mkpasswd.specs.Devices.{HasRoomForRun};
-ghost use Rattle.mkpasswd.specs.Output.{Delivers};
-ghost use Rattle.mkpasswd.specs.Runs.{FailsOnce, IsUnfailed, IsWithinTurns, ShowsOutcome};
-ghost use Rattle.mkpasswd.specs.Tallies.{one_line};
+//! The run for a single password: its hash, with its counts where they are wanted, and a line feed go to
+//! the output.
+ghost use Rattle.std.specs.Prelude.{◌≡◌, ◌+◌, ◌^◌, ◌≤◌};
+ghost use Rattle.mkpasswd.specs.Devices.{HasRoomForRun, MovesBytes};
+ghost use Rattle.mkpasswd.specs.One.{EndsOne, ObtainsFrom};
+ghost use Rattle.mkpasswd.specs.Runs.{hands, tells, HasCountsForRun, IsWithinTurns};
 
-use crate::device::Output;
+mod password;
+
+use crate::answer::hash_line;
+use crate::device::{Input, Output};
 use crate::faults::RunFault;
+use crate::job::{Job, PasswordFrom};
+use crate::send::{finish, send};
 use crate::tally::Tally;
-use arrayvec::ArrayVec;
-use crypt_core::hash::{HashFault, hash};
 use crypt_core::password::Password;
-use crypt_core::setting::Setting;
-use prims_core::buffer::buffer_of;
+use password::read_password;
 use prims_core::meter::Meter;
+use rand_core::Rng;
 use std::alloc::Global;
-use std::io::Write;
+use std::io::{Read, Write};
 
-/// Hashes a password by a setting, and gives the hash and a line feed to the output, in at most
-/// `turns` calls of `give`, failed ones among them. The flush at the end is not one of them.
+/// Hashes one password by the job's setting, and gives the hash and a line feed to the output, with the
+/// counts `:digests:bytes:mixes:table` of this hash between the two where the job wants them.
 ///
-/// `OutOfMemory` is answered where scrypt's memory was refused, and then nothing was given; no other
-/// method takes memory. `Write` is answered after the first call of the output that fails, and `Turns`
-/// where one more `give` than `turns` is needed; the output has then taken the first bytes of the
-/// answer.
-pub fn run_first<O: Write>(
+/// The password is a word's bytes; or of the input what stands before the first line feed, or all of it
+/// without one, and what follows the line feed in the piece that was read is dropped. It is tested before
+/// three words are drawn for a salt, where that has to be made, and these are drawn before anything is
+/// hashed. Both outputs are flushed at the end.
+///
+/// - `Password`: the password is refused; from the input it is too long once 513 bytes without a line feed
+///   were read. Nothing was written, drawn or hashed.
+/// - `Read`: a read failed before the password was known. Likewise.
+/// - `OutOfMemory`: the memory of scrypt was refused, and nothing was written.
+/// - `Write`: a write or a flush failed. The output has taken the first bytes of the answer.
+/// - `Turns`: one more fetch or give than `turns` is needed. Likewise.
+pub fn run_one<I: Read, O: Write, E: Write, R: Rng>(
     alloc: Global,
-    password: &Password,
-    setting: &Setting,
+    job: &Job,
+    from: &PasswordFrom,
+    input: &mut Input<I>,
     out: &mut Output<O>,
+    faults: &mut Output<E>,
+    rng: &mut R,
+    meter: &mut Meter,
     turns: u64,
 ) -> Result<Tally, RunFault>
     requires turns { turns ≤ 2 ^ 40 }
-    requires room { HasRoomForRun out.old }
-    ensures tally { IfOk result (λ tally. tally ≡ one_line) }
-    ensures delivers { Delivers O.contents out.old out.new (hash_line password.now setting.now) result }
-    ensures outcome { ShowsOutcome turns out.old out.new result }
-    ensures within_turns { IsWithinTurns turns out.old out.new }
-    ensures memory { IsErrOf result RunFault.OutOfMemory → method_of setting.now.scheme ≡ Method.Scrypt }
+    requires devices { HasRoomForRun input.old × HasRoomForRun out.old × HasRoomForRun faults.old }
+    requires counts { HasCountsForRun meter.old }
+    ensures ends { EndsOne (tells I.remaining O.contents E.contents) turns job.now from.now
+        (hands input.old out.old faults.old (R.stream rng.old) meter.old)
+        (hands input.new out.new faults.new (R.stream rng.new) meter.new) result }
+    ensures within_turns { IsWithinTurns turns
+        (hands input.old out.old faults.old (R.stream rng.old) meter.old)
+        (hands input.new out.new faults.new (R.stream rng.new) meter.new) }
 {
-    let answer = answer(alloc, password, setting)?;
-    send(out, answer.as_slice(), turns)?;
+    let mut left = turns;
+    let password = obtain(from, input, &mut left)?;
+    let setting = job.maker.next_setting(rng);
+    let line = hash_line(alloc, &password, &setting, job.work, meter)?;
+    send(out, line.as_slice(), &mut left)?;
     finish(out)?;
+    finish(faults)?;
     Ok(Tally {
         lines: 1,
         refused: 0,
@@ -53,58 +69,22 @@ pub fn run_first<O: Write>(
     })
 }
 
-// The hash and a line feed.
-fn answer(
-    alloc: Global,
-    password: &Password,
-    setting: &Setting,
-) -> Result<ArrayVec<u8, 160>, HashFault>
-    ensures line { IfOk result (λ line. line.items ≡ hash_line password.now setting.now) }
-    ensures only_scrypt { OnErr result (method_of setting.now.scheme ≡ Method.Scrypt) }
+// The password: a word's bytes, or the first line of the input.
+fn obtain<I: Read>(
+    from: &PasswordFrom,
+    input: &mut Input<I>,
+    left: &mut u64,
+) -> Result<Password, RunFault>
+    requires turns { left.old ≤ 2 ^ 40 }
+    requires room { HasRoomForRun input.old }
+    ensures password { ObtainsFrom I.remaining from.now input.old input.new left.new result }
+    ensures turns { input.new.calls + left.new ≡ input.old.calls + left.old }
+    ensures fewer { left.new ≤ left.old }
+    ensures moves { MovesBytes 1 input.old input.new }
 {
-    let hashed = hash(alloc, password, setting, &mut Meter::new())?;
-    let mut line = buffer_of(hashed.text());
-    line.push(b'\n');
-    Ok(line)
-}
-
-// Gives the whole text, in as many calls as the device wants.
-fn send<O: Write>(out: &mut Output<O>, text: &[u8], turns: u64) -> Result<(), RunFault>
-    requires turns { turns ≤ 2 ^ 40 }
-    requires room { HasRoomForRun out.old }
-    requires short { length text.now ≤ 160 }
-    ensures delivers { Delivers O.contents out.old out.new text.now result }
-    ensures outcome { ShowsOutcome turns out.old out.new result }
-    ensures within_turns { IsWithinTurns turns out.old out.new }
-    ensures memory { ¬ IsErrOf result RunFault.OutOfMemory }
-{
-    let mut rest = text;
-    let mut left = turns;
-    'pieces: while !rest.is_empty() {
-        if left == 0 {
-            return Err(RunFault::Turns);
-        }
-        left -= 1;
-        match out.give(rest) {
-            Ok(count) if count > 0 => rest = &rest[count..],
-            _ => return Err(RunFault::Write),
-        }
-    }
-    Ok(())
-}
-
-// Flushes the output, which takes no byte.
-fn finish<O: Write>(out: &mut Output<O>) -> Result<(), RunFault>
-    requires { out.old.failures < 2 ^ 64 - 1 }
-    ensures keeps { Keeps (O.contents out.old.inner) (O.contents out.new.inner) }
-    ensures counts { (out.new.calls ≡ out.old.calls) × (out.new.bytes ≡ out.old.bytes) }
-    ensures unfailed { OnOk result (IsUnfailed out.old out.new) }
-    ensures write { OnErr result (FailsOnce out.old out.new) }
-    ensures only { IfErr result (λ fault. fault ≡ RunFault.Write) }
-{
-    match out.flush() {
-        Ok(()) => Ok(()),
-        Err(_) => Err(RunFault::Write),
+    match from {
+        PasswordFrom::Word(bytes) => Ok(Password::new(bytes.as_slice())?),
+        PasswordFrom::Input => read_password(input, left),
     }
 }
 

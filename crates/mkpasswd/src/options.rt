@@ -1,99 +1,220 @@
 //! The words after the program's name: the command that `clap` reads them by, and what they ask the
 //! program to do. Each refusal has its place in one order; want of memory comes where it arises.
-ghost use Rattle.std.specs.Prelude.{◌≡◌, ◌≢◌, false, map, string_bytes, IfOk, IfErr};
-ghost use Rattle.clap.specs.Words.{app_of, kind_of, rule_of};
-ghost use Rattle.mkpasswd.specs.Options.{Gives, Plans, Refuses, first_command};
-ghost use Rattle.mkpasswd.specs.Options.{required_rule, texts};
+ghost use Rattle.std.specs.Prelude.{◌≡◌, ◌≢◌, ◌<◌, ◌≤◌, None, Some, false, length, map, string_bytes};
+ghost use Rattle.std.specs.Prelude.{IfErr, IfOk, MatchOption};
+ghost use Rattle.std.specs.List.{slice_index_or};
+ghost use Rattle.clap.specs.Words.{app_of, found_of, kind_of, rows_of, rule_of};
+ghost use Rattle.crypt_core.specs.Methods.{method_named};
+ghost use Rattle.mkpasswd.specs.Makers.{bytes_of};
+ghost use Rattle.mkpasswd.specs.Options.{AsksForMethods, Gives, HasTwoSalts, Names, Plans, Refuses};
+ghost use Rattle.mkpasswd.specs.Options.{command, flag_rule, given_salt, input, is_set, modes_of, type_of, value_rule};
+ghost use Rattle.mkpasswd.specs.Private.Found.{mode_of, values_of};
 
 use crate::faults::UsageFault;
+use crate::job::{Job, PasswordFrom, Plan};
+use crate::maker::Maker;
 use clap::error::ErrorKind;
-use clap::{Arg, ArgAction, Command};
+use clap::{Arg, ArgAction, ArgMatches, Command, value_parser};
 use crypt_core::method::Method;
-use crypt_core::setting::Setting;
 use std::alloc::{AllocError, Global};
 
-/// One password, to be hashed.
-#[derive(Drop)]
-pub struct First {
-    /// The setting of the method, with its own rounds and the salt that was given.
-    pub setting: Setting,
-    /// The bytes of the password's word, of any number and with any values.
-    pub password: Vec<u8>,
-}
+/// The TYPE of words without `-m`.
+const DEFAULT_TYPE: &str = "sha512crypt";
 
-/// The texts of TYPE, SALT and PASSWORD.
+/// What help ends with.
+const AFTER_HELP: &str = "A password that begins with '-' is handed in by --stdin.";
+
+/// The values of the options and words.
 #[derive(Clone, Copy)]
 struct Given<'a> {
-    method: &'a str,
-    salt: &'a str,
-    password: &'a str,
+    method: Option<&'a str>,
+    salt: Option<&'a str>,
+    salt_word: Option<&'a str>,
+    cost: u32,
+    stdin: bool,
+    work: bool,
+    password: Option<&'a str>,
+}
+
+/// What a plan does: it hashes the password of a word, or that of the input.
+#[derive(Clone, Copy)]
+enum Mode<'a> {
+    Word(&'a str),
+    Input,
 }
 
 /// Says what the words after the program's name ask for. It answers the first of these refusals that
 /// holds:
 ///
 /// - `Parse`: the words are not the command's, or ask for help or the version;
-/// - `Method`: TYPE names no method;
-/// - `Make`: `Setting::make` refuses SALT.
+/// - `Method`: TYPE names no method, nor is it `help`;
+/// - `TwoSalts`: the salt is given by `-S` and as a word;
+/// - `TwoModes`: more than one of PASSWORD and `-s` is given;
+/// - `Make`: `Maker::new` refuses the method, the cost and the salt.
 ///
-/// `OutOfMemory` comes at the growth that was refused, before any check after it.
-pub fn plan(alloc: Global, words: &[String]) -> Result<First, UsageFault>
+/// TYPE `help` asks for the list of methods, whatever else is given. `OutOfMemory` comes at the growth
+/// that was refused, before any check after it.
+pub fn plan(alloc: Global, words: &[String]) -> Result<Plan, UsageFault>
     ensures { Plans (map string_bytes words.now) result }
 {
     let given = read_words(alloc, words)?;
-    let Some(method) = Method::named(given.method.as_bytes()) else {
-        return Err(UsageFault::Method);
+    let Some(method) = one_method(&given)? else {
+        return Ok(Plan::Methods);
     };
-    let setting = Setting::make(method, 0, given.salt.as_bytes())?;
-    let password = Vec::from_slice(alloc, given.password.as_bytes())?;
-    Ok(First { setting, password })
+    let salt = one_salt(&given)?;
+    let mode = one_mode(&given)?;
+    let maker = Maker::new(method, given.cost, salt)?;
+    let job = Job {
+        maker,
+        work: given.work,
+    };
+    Ok(match mode {
+        Mode::Word(password) => {
+            let bytes = Vec::from_slice(alloc, password.as_bytes())?;
+            Plan::One(job, PasswordFrom::Word(bytes))
+        }
+        Mode::Input => Plan::One(job, PasswordFrom::Input),
+    })
 }
 
 /// Reads the words by the command. An error is `clap`'s own; where memory runs out, its kind says so.
 fn read_words<'a>(alloc: Global, words: &'a [String]) -> Result<Given<'a>, clap::Error>
-    ensures ok { IfOk result (λ given. Gives (map string_bytes words.entry.now) (texts given)) }
+    ensures ok { IfOk result (λ given. Gives (map string_bytes words.entry.now) (values_of given)) }
     ensures err { IfErr result (λ error. kind_of error ≢ ErrorKind.OutOfMemory
         → Refuses (map string_bytes words.entry.now) error) }
 {
     let matches = command(alloc)?.try_get_matches_from(words)?;
-    // The command requires all three, so each has a text.
     Ok(Given {
-        method: matches.get_str("method").unwrap(),
-        salt: matches.get_str("salt").unwrap(),
-        password: matches.get_str("password").unwrap(),
+        method: matches.get_str("method"),
+        salt: matches.get_str("salt"),
+        salt_word: matches.get_str("salt-word"),
+        cost: matches.get_one("rounds").unwrap_or(0),
+        stdin: is_set(&matches, "stdin"),
+        work: is_set(&matches, "work"),
+        password: matches.get_str("password"),
+    })
+}
+
+/// Whether a flag was given.
+fn is_set(matches: &ArgMatches<'_>, id: &str) -> bool
+    ensures { result ≡ is_set id.now (rows_of (found_of matches.now)) }
+{
+    // `get_flag` says nothing about a value that is no `bool`.
+    matches.get_one(id).unwrap_or(false)
+}
+
+/// The method that TYPE names, or `None` where it asks for the list of methods.
+fn one_method(given: &Given<'_>) -> Result<Option<Method>, UsageFault>
+    ensures known { IfOk result (λ method.
+        MatchOption method (AsksForMethods (values_of given.now)) (Names (values_of given.now))) }
+    ensures unknown { IfErr result (λ fault. (fault ≡ UsageFault.Method)
+        × ¬ AsksForMethods (values_of given.now) × (method_named (type_of (values_of given.now)) ≡ None)) }
+{
+    let name = given.method.unwrap_or(DEFAULT_TYPE);
+    if name == "help" {
+        return Ok(None);
+    }
+    match Method::named(name.as_bytes()) {
+        Some(method) => Ok(Some(method)),
+        None => Err(UsageFault::Method),
+    }
+}
+
+/// The salt that was given, in one of the two ways at most.
+fn one_salt<'a>(given: &Given<'a>) -> Result<Option<&'a [u8]>, UsageFault>
+    ensures once { IfOk result (λ salt. ¬ HasTwoSalts (values_of given.now)
+        × (bytes_of salt ≡ given_salt (values_of given.now))) }
+    ensures twice { IfErr result (λ fault. (fault ≡ UsageFault.TwoSalts)
+        × HasTwoSalts (values_of given.now)) }
+{
+    match (given.salt, given.salt_word) {
+        (Some(_), Some(_)) => Err(UsageFault::TwoSalts),
+        (Some(salt), None) | (None, Some(salt)) => Ok(Some(salt.as_bytes())),
+        (None, None) => Ok(None),
+    }
+}
+
+/// The mode that was asked for, or the input where none was.
+fn one_mode<'a>(given: &Given<'a>) -> Result<Mode<'a>, UsageFault>
+    ensures one { IfOk result (λ mode. (length (modes_of (values_of given.now)) ≤ 1)
+        × (mode_of mode ≡ slice_index_or (modes_of (values_of given.now)) 0 input)) }
+    ensures more { IfErr result (λ fault. (fault ≡ UsageFault.TwoModes)
+        × (1 < length (modes_of (values_of given.now)))) }
+{
+    let count = u32::from(given.password.is_some()) + u32::from(given.stdin);
+    if count > 1 {
+        return Err(UsageFault::TwoModes);
+    }
+    Ok(match given.password {
+        Some(password) => Mode::Word(password),
+        None => Mode::Input,
     })
 }
 
 /// The command that the words are read by, with its help.
 fn command<'a>(alloc: Global) -> Result<Command<'a>, AllocError>
-    ensures { IfOk result (λ made. app_of made ≡ first_command) }
+    ensures { IfOk result (λ made. app_of made ≡ command) }
 {
-    let method = required(alloc, "method", "TYPE")
-        .short('m')
-        .long("method")
-        .help("The method: md5crypt, sha256crypt, sha512crypt, scrypt; or md5, sha-256, sha-512");
-    let salt = required(alloc, "salt", "SALT").short('S').long("salt").help(
-        "The salt: up to 8, 16, 16 or 86 characters, in that order, of letters, digits, '.' and '/'",
+    let method = option(alloc, "method", "TYPE").short('m').help(
+        "The method: md5crypt, sha256crypt, sha512crypt (the default) or scrypt; help lists them",
     );
-    let password = required(alloc, "password", "PASSWORD").help("The password to hash");
+    let salt = option(alloc, "salt", "SALT").short('S').help(
+        "The salt: up to 8, 16, 16 or 86 letters, digits, '.' and '/', in that order; else a new one",
+    );
+    let rounds = option(alloc, "rounds", "NUMBER")
+        .short('R')
+        .value_parser(value_parser!(u32))
+        .help(
+            "The cost: rounds of sha256crypt and sha512crypt, 6 to 11 for scrypt, 0 for the method's own",
+        );
+    let stdin = flag(alloc, "stdin")
+        .short('s')
+        .help("The password is the first line of standard input");
+    let work = flag(alloc, "work").help(
+        "Show what the hash cost: digests, bytes, mixings, bytes of table",
+    );
+    let password = word(alloc, "password", "PASSWORD").help(
+        "The password; without it, as by --stdin",
+    );
+    let salt_word = word(alloc, "salt-word", "SALT").help("The salt, in place of --salt");
     Command::new(alloc, "mkpasswd")
         .version("0.1.0")
         .about("Prints the crypt(5) hash of a password")
+        .after_help(AFTER_HELP)
         .no_binary_name(true)
         .arg(method)?
         .arg(salt)?
-        .arg(password)
+        .arg(rounds)?
+        .arg(stdin)?
+        .arg(work)?
+        .arg(password)?
+        .arg(salt_word)
 }
 
-/// An argument that must be given, with one value.
-fn required<'a>(alloc: Global, id: &'a str, value_name: &'a str) -> Arg<'a>
-    ensures rule { rule_of result ≡ required_rule id.entry.now }
+/// An option with one value, whose long name is its id.
+fn option<'a>(alloc: Global, id: &'a str, value_name: &'a str) -> Arg<'a>
+    ensures rule { rule_of result ≡ record (value_rule id.entry.now) { long = Some id.entry.now } }
+    ensures local { result.global ≡ false }
+{
+    word(alloc, id, value_name).long(id)
+}
+
+/// A flag whose long name is its id.
+fn flag<'a>(alloc: Global, id: &'a str) -> Arg<'a>
+    ensures rule { rule_of result ≡ record (flag_rule id.entry.now) { long = Some id.entry.now } }
+    ensures local { result.global ≡ false }
+{
+    Arg::new(alloc, id).long(id).action(ArgAction::SetTrue)
+}
+
+/// A word that is one value.
+fn word<'a>(alloc: Global, id: &'a str, value_name: &'a str) -> Arg<'a>
+    ensures rule { rule_of result ≡ value_rule id.entry.now }
     ensures local { result.global ≡ false }
 {
     Arg::new(alloc, id)
         .value_name(value_name)
         .action(ArgAction::Set)
-        .required(true)
 }
 
 #[cfg(test)]

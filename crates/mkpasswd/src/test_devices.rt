@@ -1,10 +1,22 @@
-//! Devices over memory, for tests. Each tells contracts its bytes, and fails with a kind of error that
-//! the test chooses, so that the test can tell it from any other.
-ghost use Rattle.std.specs.Prelude.{Some};
+//! Devices over memory, and a generator of known words, for tests. A device tells contracts its bytes,
+//! and fails with a kind of error that the test chooses, so that the test can tell it from any other.
+ghost use Rattle.std.specs.Prelude.{◌≡◌, ◌<◌, Some, None, drop, slice_index};
+ghost use Rattle.rand_core.specs.Steps.{stream_of, steps_u64_low};
 
+use rand_core::Rng;
+use rand_core::utils::{NextWord, fill_bytes_via_u64};
 use std::alloc::Global;
 use std::io;
-use std::io::{ErrorKind, Write};
+use std::io::{ErrorKind, Read, Write};
+use std::marker::Model;
+
+/// The kind of the error, where there is one.
+pub fn fault_of<T: Drop>(answer: io::Result<T>) -> Option<ErrorKind> {
+    match answer {
+        Ok(_) => None,
+        Err(error) => Some(error.kind()),
+    }
+}
 
 /// A writer that takes at most so many bytes a call, and may fail at one call or at its flush.
 #[derive(Drop)]
@@ -71,6 +83,162 @@ impl Write for MemoryWriter {
         match self.flush_fault {
             Some(kind) => Err(io::Error::from(kind)),
             None => Ok(()),
+        }
+    }
+}
+
+/// A reader of listed bytes, which gives at most so many bytes a call, and may fail at one call. To
+/// contracts it is the bytes that it has left, or `None` where it repeats them for ever.
+#[derive(Drop)]
+pub struct MemoryReader<'a> {
+    bytes: &'a [u8],
+    left: &'a [u8],
+    is_repeated: bool,
+    most: usize,
+    fault: Option<(u64, ErrorKind)>,
+    calls: u64,
+}
+
+impl<'a> Model for MemoryReader<'a> {
+    ghost use Rattle.std.specs.Prelude.{ℕ, List, Option, Some, None, if◌then◌else◌, ◌<◌};
+
+    ghost Value = { Option (List ℕ) };
+
+    ghost view = { λ r. if r.is_repeated then None else Some r.left.now };
+
+    ghost invariant = { λ r. 0 < r.most };
+}
+
+impl<'a> MemoryReader<'a> {
+    /// Gives these bytes once, as many a call as fit.
+    pub fn new(bytes: &'a [u8]) -> MemoryReader<'a>
+        ensures { result ≡ Some bytes.now }
+    {
+        MemoryReader {
+            bytes,
+            left: bytes,
+            is_repeated: false,
+            most: usize::MAX,
+            fault: None,
+            calls: 0,
+        }
+    }
+
+    /// Begins again after the last byte, for ever.
+    pub fn repeated(mut self) -> MemoryReader<'a>
+        ensures { result ≡ None }
+    {
+        self.is_repeated = true;
+        self
+    }
+
+    /// Gives at most `most` bytes a call; to give none is to be at the end.
+    pub fn by(mut self, most: usize) -> MemoryReader<'a>
+        requires { 0 < most }
+        ensures { result ≡ self.entry }
+    {
+        self.most = most;
+        self
+    }
+
+    /// Fails at this call, counted from 1, with an error of this kind.
+    pub fn failing_at(mut self, call: u64, kind: ErrorKind) -> MemoryReader<'a>
+        ensures { result ≡ self.entry }
+    {
+        self.fault = Some((call, kind));
+        self
+    }
+}
+
+impl Read for MemoryReader<'_> {
+    ghost remaining = { λ reader. reader };
+
+    fn read(&mut self, buf: &mut [u8]) -> io::Result<usize> {
+        self.calls = self.calls.saturating_add(1);
+        if let Some((call, kind)) = self.fault {
+            if call == self.calls {
+                return Err(io::Error::from(kind));
+            }
+        }
+        if self.is_repeated && self.left.is_empty() {
+            self.left = self.bytes;
+        }
+        let count = buf.len().min(self.most);
+        self.left.read(&mut buf[..count])
+    }
+}
+
+/// A generator that draws listed words in order, and 0 after the last. To contracts it is the words
+/// that it has left.
+#[derive(Drop)]
+pub struct ListedWords<'a> {
+    left: &'a [u64],
+}
+
+impl<'a> Model for ListedWords<'a> {
+    ghost use Rattle.std.specs.Prelude.{ℕ, List};
+
+    ghost Value = { List ℕ };
+
+    ghost view = { λ w. w.left.now };
+}
+
+impl<'a> ListedWords<'a> {
+    /// Draws these words.
+    pub fn new(words: &'a [u64]) -> ListedWords<'a>
+        ensures { result ≡ words.now }
+    {
+        ListedWords { left: words }
+    }
+
+    /// Tells the next word, and leaves it to be drawn.
+    pub fn peek(&self) -> u64
+        ensures { result ≡ slice_index self.now 0 }
+    {
+        self.left.first().copied().unwrap_or(0)
+    }
+}
+
+impl NextWord<u64> for ListedWords<'_> {
+    ghost step = { λ words. (slice_index words 0, drop 1 words) };
+
+    fn next_word(&mut self) -> u64 {
+        match self.left.split_first() {
+            Some((word, left)) => {
+                self.left = left;
+                *word
+            }
+            None => 0,
+        }
+    }
+}
+
+impl Rng for ListedWords<'_> {
+    ghost stream = { stream_of (steps_u64_low (λ words. (slice_index words 0, drop 1 words))) };
+
+    fn next_u32(&mut self) -> u32 {
+        (self.next_word() % (1 << 32)) as u32
+    }
+
+    fn next_u64(&mut self) -> u64 {
+        self.next_word()
+    }
+
+    fn fill_bytes(&mut self, dst: &mut [u8]) {
+        fill_bytes_via_u64(self, dst)
+    }
+}
+
+mod tests {
+    use super::*;
+
+    #[test]
+    fn begins_again(rt: HostRuntime) {
+        let mut reader = MemoryReader::new(b"abc").by(2).repeated();
+        let mut buffer = [b'.'; 3];
+        for (count, gave) in [(2, *b"ab."), (1, *b"cb."), (2, *b"ab.")] {
+            assert_eq!(rt; reader.read(&mut buffer).ok(), Some(count));
+            assert_eq!(rt; buffer, gave);
         }
     }
 }

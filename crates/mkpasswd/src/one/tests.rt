@@ -1,16 +1,14 @@
-ghost use Rattle.std.specs.Prelude.{◌≡◌, ◌^◌, ◌≤◌, ◌++◌, OnOk};
-ghost use Rattle.mkpasswd.specs.Answers.{hash_line};
+ghost use Rattle.std.specs.Prelude.{◌≡◌, ℕ, ◌^◌, ◌≤◌, List, ◌++◌, OnOk};
+ghost use Rattle.mkpasswd.specs.Answers.{password_answer};
+ghost use Rattle.mkpasswd.specs.Options.{IsFrom, word};
+ghost use Rattle.mkpasswd.specs.Runs.{HasCountsForRun};
 
-use super::run_first;
-use crate::device::Output;
-use crate::faults::RunFault;
+use super::*;
+use crate::job::Plan;
 use crate::options::plan;
 use crate::options::tests::words_of;
-use crate::tally::Tally;
-use crate::test_devices::MemoryWriter;
-use crypt_core::password::Password;
-use crypt_core::setting::Setting;
-use std::alloc::Global;
+use crate::test_devices::{ListedWords, MemoryReader, MemoryWriter};
+use crypt_core::password::PasswordFault;
 use std::io::ErrorKind;
 use std::process::Abort;
 use std::test::Fail;
@@ -21,26 +19,130 @@ const ONE_LINE: Tally = Tally {
     misfits: 0,
 };
 
-const WORDS: [&str; 5] = ["-m", "md5crypt", "-S", "xxxxxxxx", "password"];
+const BY_WORD: [&str; 5] = ["-m", "md5crypt", "-S", "xxxxxxxx", "password"];
 
+const BY_INPUT: [&str; 5] = ["-m", "md5crypt", "-S", "xxxxxxxx", "-s"];
+
+// The text of openssl-passwd(1), and a line feed.
 const ANSWER: &str = "$1$xxxxxxxx$UYCIxa628.9qXjpQCjM4a.\n";
 
-// Runs on a writer that tells its bytes, and answers what the run did and the writer. That an answer
-// stands there whole follows from the clauses of `run_first` alone.
-fn run_on(
+const TOO_LONG: RunFault = RunFault::Password(PasswordFault::TooLong);
+
+// Runs on devices that tell their bytes. That the output has its old bytes and the answer to a word's
+// password after a tally, and nothing else, follows from the clauses of `run_one` alone.
+fn run_on<R: Rng>(
     alloc: Global,
-    password: &Password,
-    setting: &Setting,
+    job: &Job,
+    from: &PasswordFrom,
+    reader: MemoryReader<'_>,
     writer: MemoryWriter,
+    fault_writer: MemoryWriter,
+    rng: &mut R,
+    meter: &mut Meter,
     turns: u64,
-) -> (Result<Tally, RunFault>, MemoryWriter)
-    requires { turns ≤ 2 ^ 40 }
-    ensures { OnOk result.0
-        (result.1.taken.items ≡ writer.taken.items ++ hash_line password.now setting.now) }
+) -> (Result<Tally, RunFault>, MemoryWriter, MemoryWriter)
+    requires turns { turns ≤ 2 ^ 40 }
+    requires counts { HasCountsForRun meter.old }
+    ensures { OnOk result.0 ((password : List ℕ) → IsFrom (word password) from.now
+        → result.1.taken.items ≡ writer.taken.items
+        ++ (password_answer job.now.maker job.now.work password (R.stream rng.old)).text) }
 {
+    let mut input = Input::new(reader);
     let mut out = Output::new(writer);
-    let outcome = run_first(alloc, password, setting, &mut out, turns);
-    (outcome, out.into_inner())
+    let mut faults = Output::new(fault_writer);
+    let outcome = run_one(
+        alloc,
+        job,
+        from,
+        &mut input,
+        &mut out,
+        &mut faults,
+        rng,
+        meter,
+        turns,
+    );
+    (outcome, out.into_inner(), faults.into_inner())
+}
+
+// What a run is given: an empty input, outputs that take all, and as many turns as may be, where a test
+// has no other.
+#[derive(Drop)]
+struct Given<'a> {
+    reader: MemoryReader<'a>,
+    writer: MemoryWriter,
+    fault_writer: MemoryWriter,
+    turns: u64,
+}
+
+impl<'a> Given<'a> {
+    fn new(alloc: Global) -> Given<'a> {
+        Given {
+            reader: MemoryReader::new(b""),
+            writer: MemoryWriter::new(alloc),
+            fault_writer: MemoryWriter::new(alloc),
+            turns: 1 << 40,
+        }
+    }
+
+    fn reading(mut self, reader: MemoryReader<'a>) -> Given<'a> {
+        self.reader = reader;
+        self
+    }
+
+    fn writing(mut self, writer: MemoryWriter) -> Given<'a> {
+        self.writer = writer;
+        self
+    }
+
+    fn telling(mut self, writer: MemoryWriter) -> Given<'a> {
+        self.fault_writer = writer;
+        self
+    }
+
+    fn within(mut self, turns: u64) -> Given<'a> {
+        self.turns = turns;
+        self
+    }
+}
+
+// What a run left: its outcome, the output, the word that is drawn next, and the meter.
+#[derive(Drop)]
+struct Left {
+    outcome: Result<Tally, RunFault>,
+    writer: MemoryWriter,
+    next_word: u64,
+    meter: Meter,
+}
+
+// Runs a job with the words 129, 0, 0 and 7. It writes nothing to the fault output.
+fn run_job(
+    rt: &impl Abort,
+    alloc: Global,
+    job: &Job,
+    from: &PasswordFrom,
+    given: Given<'_>,
+) -> Left {
+    assert!(rt; given.turns <= 1 << 40);
+    let mut rng = ListedWords::new(&[129, 0, 0, 7]);
+    let mut meter = Meter::new();
+    let (outcome, writer, fault_writer) = run_on(
+        alloc,
+        job,
+        from,
+        given.reader,
+        given.writer,
+        given.fault_writer,
+        &mut rng,
+        &mut meter,
+        given.turns,
+    );
+    assert_eq!(rt; fault_writer.taken(), b"".as_slice(), "the fault output");
+    Left {
+        outcome,
+        writer,
+        next_word: rng.peek(),
+        meter,
+    }
 }
 
 // Plans by the words, and runs the plan.
@@ -48,110 +150,248 @@ fn run_words(
     rt: &impl Abort,
     alloc: Global,
     words: &[&str],
-    writer: MemoryWriter,
-    turns: u64,
-) -> Result<(Result<Tally, RunFault>, MemoryWriter), Fail> {
+    given: Given<'_>,
+) -> Result<Left, Fail> {
     let words = words_of(alloc, words)?;
-    let first = plan(alloc, words.as_slice())?;
-    let password = Password::new(first.password.as_slice()).expect(rt, "a password");
-    assert!(rt; turns <= 1 << 40);
-    Ok(run_on(alloc, &password, &first.setting, writer, turns))
+    let Plan::One(job, from) = plan(alloc, words.as_slice())? else {
+        panic!(rt; "the words are for no password");
+    };
+    Ok(run_job(rt, alloc, &job, &from, given))
 }
 
-// Published texts: of openssl-passwd(1), and of Drepper's specification with its own number of rounds.
+// Runs the plan of the words, and wants this outcome and these bytes in the output.
+fn want(
+    rt: &impl Abort,
+    alloc: Global,
+    what: &str,
+    words: &[&str],
+    given: Given<'_>,
+    outcome: Result<Tally, RunFault>,
+    taken: &[u8],
+) -> Result<(), Fail> {
+    let left = run_words(rt, alloc, words, given)?;
+    assert_eq!(rt; left.outcome, outcome, "{what}");
+    assert_eq!(rt; left.writer.taken(), taken, "{what}: the output");
+    Ok(())
+}
+
+// Published texts: of openssl-passwd(1), of Drepper's specification, also with its own number of rounds,
+// and of libxcrypt.
 #[test]
-fn prints_the_hash(rt: HostRuntime) -> Result<(), Fail> {
-    let rows: [(&[&str], &str); 5] = [
+fn answers_with_the_hash(rt: HostRuntime) -> Result<(), Fail> {
+    let low: &[u8] = b"the minimum number is still observed";
+    let rows: [(&[&str], &[u8], &str); 8] = [
+        (&BY_WORD, b"", ANSWER),
+        (&["-m", "md5", "password", "xxxxxxxx"], b"", ANSWER),
+        (&BY_INPUT, b"password\nmore", ANSWER),
         (
-            &["-m", "md5crypt", "-S", "xxxxxxxx", "password"],
-            "$1$xxxxxxxx$UYCIxa628.9qXjpQCjM4a.\n",
+            &["-m", "md5crypt", "-S", "xxxxxxxx", "--work", "password"],
+            b"",
+            "$1$xxxxxxxx$UYCIxa628.9qXjpQCjM4a.:1002:36239:0:0\n",
         ),
         (
             &["-m", "sha256crypt", "-S", "saltstring", "Hello world!"],
+            b"",
             "$5$saltstring$5B8vYYiY.CVt1RlTTf8KbXBH3hsxY/GNooZaBBGWEc5\n",
         ),
         (
-            &["-m", "sha-256", "-S", "saltstring", "Hello world!"],
-            "$5$saltstring$5B8vYYiY.CVt1RlTTf8KbXBH3hsxY/GNooZaBBGWEc5\n",
-        ),
-        (
-            &["-m", "sha-512", "-S", "saltstring", "Hello world!"],
+            &["-S", "saltstring", "Hello world!"],
+            b"",
             "$6$saltstring$svn8UoSVapNtMuq1ukKS4tPQd8iKwSMHWjl/O817G3uBnIFNjnQJuesI68u4OTLiBFdcbYEdFCoEOfaS35inz1\n",
         ),
-        // libxcrypt's text.
+        (
+            &["-R", "10", "-S", "roundstoolow", "-s"],
+            low,
+            "$6$rounds=1000$roundstoolow$kUMsbe306n21p9R.FRkW3IGn.S9NPN0x50YhH1xhLsPuWGsUSklZt58jaTfF4ZEQpyUNGc0dqbpBYYBaHHrsX.\n",
+        ),
         (
             &["-m", "scrypt", "-S", "ab", "x"],
+            b"",
             "$7$CU..../....ab$TioQ/OazCAbGpb/E7e054xV/7lAamSWFPOGclTgvmt0\n",
         ),
     ];
-    for (words, line) in rows {
-        let writer = MemoryWriter::new(rt.alloc());
-        let (outcome, writer) = run_words(&rt, rt.alloc(), words, writer, 1 << 40)?;
-        assert_eq!(rt; outcome, Ok(ONE_LINE), "{words:?}");
-        assert_eq!(rt; writer.taken(), line.as_bytes(), "{words:?}");
-        assert_eq!(rt; ONE_LINE.status(), 0, "{words:?}");
+    for (words, bytes, line) in rows {
+        let given = Given::new(rt.alloc()).reading(MemoryReader::new(bytes));
+        want(
+            &rt,
+            rt.alloc(),
+            line,
+            words,
+            given,
+            Ok(ONE_LINE),
+            line.as_bytes(),
+        )?;
+    }
+    assert_eq!(rt; ONE_LINE.status(), 0);
+    Ok(())
+}
+
+#[test]
+fn hashes_the_longest_password(rt: HostRuntime) -> Result<(), Fail> {
+    let mut bytes = [b'a'; 514];
+    bytes[512] = b'\n';
+    bytes[513] = b'b';
+    let given = Given::new(rt.alloc()).reading(MemoryReader::new(&bytes));
+    let left = run_words(&rt, rt.alloc(), &["-m", "sha512crypt", "-s"], given)?;
+    assert_eq!(rt; left.outcome, Ok(ONE_LINE));
+    let text = left.writer.taken();
+    assert_eq!(rt; text.len(), 107);
+    assert!(rt; text.starts_with(b"$6$/0..............$"));
+    assert_eq!(rt; text.last().copied(), Some(b'\n'));
+    Ok(())
+}
+
+#[test]
+fn draws_three_words_for_a_salt(rt: HostRuntime) -> Result<(), Fail> {
+    let alloc = rt.alloc();
+    let left = run_words(
+        &rt,
+        alloc,
+        &["-m", "md5crypt", "password"],
+        Given::new(alloc),
+    )?;
+    assert_eq!(rt; left.outcome, Ok(ONE_LINE));
+    assert!(rt; left.writer.taken().starts_with(b"$1$/0......$"));
+    assert_eq!(rt; left.writer.taken().len(), 35);
+    assert_eq!(rt; left.next_word, 7, "three words");
+    let left = run_words(&rt, alloc, &BY_WORD, Given::new(alloc))?;
+    assert_eq!(rt; left.next_word, 129, "no word");
+    Ok(())
+}
+
+#[test]
+fn counts_its_work(rt: HostRuntime) -> Result<(), Fail> {
+    let alloc = rt.alloc();
+    let left = run_words(&rt, alloc, &BY_WORD, Given::new(alloc))?;
+    assert_eq!(rt; left.meter.digests(), 1002, "digests");
+    assert_eq!(rt; left.meter.bytes(), 36239, "bytes");
+    assert_eq!(rt; left.meter.mixes(), 0, "mixings");
+    assert_eq!(rt; left.meter.table(), 0, "table");
+    assert_eq!(rt; left.meter.scratch(), 0, "scratch");
+    Ok(())
+}
+
+#[test]
+fn refuses_a_long_password_first(rt: HostRuntime) -> Result<(), Fail> {
+    let alloc = rt.alloc();
+    let long = [b'a'; 513];
+    let words = words_of(alloc, &["-m", "md5crypt", "-s"])?;
+    let Plan::One(job, _from) = plan(alloc, words.as_slice())? else {
+        panic!(rt; "the words are for no password");
+    };
+    let rows = [
+        ("a word", PasswordFrom::Word(Vec::from_slice(alloc, &long)?)),
+        ("the input", PasswordFrom::Input),
+    ];
+    for (what, from) in rows {
+        let given = Given::new(alloc).reading(MemoryReader::new(&long));
+        let left = run_job(&rt, alloc, &job, &from, given);
+        assert_eq!(rt; left.outcome, Err(TOO_LONG), "{what}");
+        assert_eq!(rt; left.writer.taken(), b"".as_slice(), "{what}");
+        assert_eq!(rt; left.next_word, 129, "{what}: no word");
+        assert_eq!(rt; left.meter.digests(), 0, "{what}: digests");
+        assert_eq!(rt; left.meter.bytes(), 0, "{what}: bytes");
+    }
+    assert_eq!(rt; TOO_LONG.status(), 2);
+    assert_eq!(rt; TOO_LONG.text(), "password too long");
+    Ok(())
+}
+
+#[test]
+fn stops_with_its_turns(rt: HostRuntime) -> Result<(), Fail> {
+    let alloc = rt.alloc();
+    let rows = [
+        ("512 turns", 512, RunFault::Turns),
+        ("513 turns", 513, TOO_LONG),
+    ];
+    for (what, turns, fault) in rows {
+        let endless = MemoryReader::new(b"a").by(1).repeated();
+        let given = Given::new(alloc).reading(endless).within(turns);
+        want(&rt, alloc, what, &BY_INPUT, given, Err(fault), b"")?;
+    }
+    let writer = MemoryWriter::new(alloc).by(1);
+    let given = Given::new(alloc).writing(writer).within(10);
+    let turns = Err(RunFault::Turns);
+    want(
+        &rt,
+        alloc,
+        "10 turns",
+        &BY_WORD,
+        given,
+        turns,
+        b"$1$xxxxxxx",
+    )
+}
+
+#[test]
+fn stops_at_a_failed_read(rt: HostRuntime) -> Result<(), Fail> {
+    let alloc = rt.alloc();
+    for call in 1..10 {
+        let reader = MemoryReader::new(b"password\n")
+            .by(1)
+            .failing_at(call, ErrorKind::PermissionDenied);
+        let left = run_words(&rt, alloc, &BY_INPUT, Given::new(alloc).reading(reader))?;
+        assert_eq!(rt; left.outcome, Err(RunFault::Read), "read {call}");
+        assert_eq!(rt; left.writer.taken(), b"".as_slice(), "read {call}");
     }
     Ok(())
 }
 
 #[test]
-fn stops_with_its_devices(rt: HostRuntime) -> Result<(), Fail> {
+fn stops_at_a_failed_write(rt: HostRuntime) -> Result<(), Fail> {
     let alloc = rt.alloc();
-    let cases = [
-        (
-            "no turn",
-            MemoryWriter::new(alloc),
-            0,
-            Some(RunFault::Turns),
-            0,
-        ),
-        ("one turn", MemoryWriter::new(alloc), 1, None, 35),
-        (
-            "ten turns",
-            MemoryWriter::new(alloc).by(1),
-            10,
-            Some(RunFault::Turns),
-            10,
-        ),
-        (
-            "a turn a byte",
-            MemoryWriter::new(alloc).by(1),
-            35,
-            None,
-            35,
-        ),
-        (
-            "second write",
-            MemoryWriter::new(alloc)
-                .by(10)
-                .failing_at(2, ErrorKind::PermissionDenied),
-            99,
-            Some(RunFault::Write),
-            10,
-        ),
-        (
-            "no byte taken",
-            MemoryWriter::new(alloc).by(0),
-            99,
-            Some(RunFault::Write),
-            0,
-        ),
-        (
-            "flush",
-            MemoryWriter::new(alloc).failing_flush(ErrorKind::BrokenPipe),
-            99,
-            Some(RunFault::Write),
-            35,
-        ),
-    ];
-    for (what, writer, turns, fault, taken) in cases {
-        let (outcome, writer) = run_words(&rt, alloc, &WORDS, writer, turns)?;
-        assert_eq!(rt; outcome.err(), fault, "{what}");
-        assert!(rt; taken <= ANSWER.len(), "{what}");
-        assert_eq!(rt; writer.taken(), &ANSWER.as_bytes()[..taken], "{what}");
-        if let Some(fault) = fault {
-            assert_eq!(rt; fault.status(), 3, "{what}");
-        }
+    let denied = ErrorKind::PermissionDenied;
+    let write = Err(RunFault::Write);
+    for taken in 0..ANSWER.len() {
+        let failing = taken as u64 + 1;
+        let writer = MemoryWriter::new(alloc).by(1).failing_at(failing, denied);
+        let left = run_words(&rt, alloc, &BY_WORD, Given::new(alloc).writing(writer))?;
+        assert_eq!(rt; left.outcome, write, "write {failing}");
+        assert_eq!(rt;
+            left.writer.taken(),
+            &ANSWER.as_bytes()[..taken],
+            "write {failing}"
+        );
     }
+    let writer = MemoryWriter::new(alloc).by(10).failing_at(2, denied);
+    let given = Given::new(alloc).writing(writer);
+    want(
+        &rt,
+        alloc,
+        "10 bytes",
+        &BY_WORD,
+        given,
+        write,
+        b"$1$xxxxxxx",
+    )?;
+    assert_eq!(rt; RunFault::Write.status(), 3);
     Ok(())
+}
+
+#[test]
+fn flushes_both_outputs(rt: HostRuntime) -> Result<(), Fail> {
+    let alloc = rt.alloc();
+    let write = Err(RunFault::Write);
+    let failing = MemoryWriter::new(alloc).failing_flush(ErrorKind::BrokenPipe);
+    let given = Given::new(alloc).writing(failing);
+    want(
+        &rt,
+        alloc,
+        "the output",
+        &BY_WORD,
+        given,
+        write,
+        ANSWER.as_bytes(),
+    )?;
+    let failing = MemoryWriter::new(alloc).failing_flush(ErrorKind::BrokenPipe);
+    let given = Given::new(alloc).telling(failing);
+    want(
+        &rt,
+        alloc,
+        "the fault output",
+        &BY_WORD,
+        given,
+        write,
+        ANSWER.as_bytes(),
+    )
 }

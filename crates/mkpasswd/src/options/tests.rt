@@ -10,73 +10,169 @@ pub(crate) fn words_of(alloc: Global, words: &[&str]) -> Result<Vec<String>, All
     Ok(owned)
 }
 
+// The bytes of a password's word, or `None` for the input.
+fn word_in(from: &PasswordFrom) -> Option<&[u8]> {
+    match from {
+        PasswordFrom::Word(bytes) => Some(bytes.as_slice()),
+        PasswordFrom::Input => None,
+    }
+}
+
+const MADE: &str = "$6$/0..............";
+
 #[test]
 fn plans_one_password(rt: HostRuntime) -> Result<(), Fail> {
-    let rows: [(&[&str], &str); 9] = [
+    // The words; the setting, where made salts are of the words 129, 0 and 0; and the password's word.
+    let rows: [(&[&str], &str, Option<&str>); 21] = [
         (
             &["-m", "md5crypt", "-S", "xxxxxxxx", "password"],
             "$1$xxxxxxxx",
+            Some("password"),
+        ),
+        (
+            &["-m", "md5", "password", "xxxxxxxx"],
+            "$1$xxxxxxxx",
+            Some("password"),
+        ),
+        (
+            &["-m", "md5crypt", "-S", "xxxxxxxx", "-s"],
+            "$1$xxxxxxxx",
+            None,
         ),
         (
             &["password", "--salt=xxxxxxxx", "--method", "md5"],
             "$1$xxxxxxxx",
-        ),
-        (&["-mmd5", "-Sxxxxxxxx", "--", "password"], "$1$xxxxxxxx"),
-        (&["-m", "sha256crypt", "-S", "ab", "password"], "$5$ab"),
-        (&["-m", "sha-256", "-S", "ab", "password"], "$5$ab"),
-        (&["-m", "sha512crypt", "-S", "ab", "password"], "$6$ab"),
-        (&["-m", "sha-512", "-S", "ab", "password"], "$6$ab"),
-        (
-            &["-m", "scrypt", "-S", "ab", "password"],
-            "$7$CU..../....ab",
+            Some("password"),
         ),
         (
-            &["-m", "sha-512", "-S", "sixteen/letters.", "password"],
+            &["-mmd5", "-Sxxxxxxxx", "--", "-x"],
+            "$1$xxxxxxxx",
+            Some("-x"),
+        ),
+        (&[], MADE, None),
+        (&["--stdin"], MADE, None),
+        (&["x"], MADE, Some("x")),
+        (&[""], MADE, Some("")),
+        (
+            &["-S", "ab", "-R", "10", "x"],
+            "$6$rounds=1000$ab",
+            Some("x"),
+        ),
+        (&["-S", "ab", "-R", "0", "x"], "$6$ab", Some("x")),
+        (
+            &["-S", "ab", "--rounds=5000", "x"],
+            "$6$rounds=5000$ab",
+            Some("x"),
+        ),
+        (
+            &["-S", "ab", "-R4294967295", "x"],
+            "$6$rounds=999999999$ab",
+            Some("x"),
+        ),
+        (&["-m", "md5", "-R", "77", "x", "ab"], "$1$ab", Some("x")),
+        (&["-m", "sha256crypt", "x", "ab"], "$5$ab", Some("x")),
+        (&["-m", "sha-256", "x", "ab"], "$5$ab", Some("x")),
+        (&["-m", "sha512crypt", "x", "ab"], "$6$ab", Some("x")),
+        (
+            &["-m", "sha-512", "x", "sixteen/letters."],
             "$6$sixteen/letters.",
+            Some("x"),
+        ),
+        (
+            &["-m", "scrypt", "-R", "11", "x", "ab"],
+            "$7$GU..../....ab",
+            Some("x"),
+        ),
+        (&["-m", "scrypt", "x", "ab"], "$7$CU..../....ab", Some("x")),
+        (
+            &["-m", "scrypt", "x"],
+            "$7$CU..../..../0....................",
+            Some("x"),
         ),
     ];
-    for (row, setting) in rows {
+    for (row, setting, word) in rows {
         let words = words_of(rt.alloc(), row)?;
-        let first = plan(rt.alloc(), words.as_slice())?;
+        let Plan::One(job, from) = plan(rt.alloc(), words.as_slice())? else {
+            panic!(rt; "{row:?} asks for no password");
+        };
         assert_eq!(rt;
-            first.setting.text().as_slice(),
+            job.maker.setting([129, 0, 0]).text().as_slice(),
             setting.as_bytes(),
             "the setting of {row:?}"
         );
-        assert_eq!(rt;
-            first.password.as_slice(),
-            b"password".as_slice(),
+        assert!(rt;
+            word_in(&from) == word.map(str::as_bytes),
             "the password of {row:?}"
         );
+        assert!(rt; !job.work, "no counts for {row:?}");
+    }
+    Ok(())
+}
+
+#[test]
+fn plans_counts_of_work(rt: HostRuntime) -> Result<(), Fail> {
+    let words = words_of(rt.alloc(), &["--work", "x"])?;
+    let Plan::One(job, _from) = plan(rt.alloc(), words.as_slice())? else {
+        panic!(rt; "no password is asked for");
+    };
+    assert!(rt; job.work);
+    Ok(())
+}
+
+#[test]
+fn lists_methods_whatever_else_is_given(rt: HostRuntime) -> Result<(), Fail> {
+    let rows: [&[&str]; 4] = [
+        &["-m", "help"],
+        &["-m", "help", "-S", "ab", "x", "cd"],
+        &["-m", "help", "-s", "x"],
+        &["--method=help", "-R", "5", "-S", ""],
+    ];
+    for row in rows {
+        let words = words_of(rt.alloc(), row)?;
+        let planned = plan(rt.alloc(), words.as_slice())?;
+        assert!(rt; matches!(&planned, Plan::Methods), "the plan of {row:?}");
     }
     Ok(())
 }
 
 #[test]
 fn refuses_in_order(rt: HostRuntime) -> Result<(), Fail> {
-    let rows: [(&[&str], u8, &str); 14] = [
-        (&["-m", "sha1", "-S", "ab", "x"], 2, "unknown method"),
-        (&["-m", "help", "-S", "ab", "x"], 2, "unknown method"),
-        (&["-m", "sha1", "-S", "a-b", "x"], 2, "unknown method"),
-        (
-            &["-m", "sha256crypt", "-S", "seventeen.letters", "x"],
-            2,
-            "salt length",
-        ),
-        (
-            &["-m", "sha-512", "-S", "seventeen.letters", "x"],
-            2,
-            "salt length",
-        ),
-        (&["-m", "sha-512", "-S", "a b", "x"], 2, "salt character"),
-        (&["-m", "md5", "-S", "123456789", "x"], 2, "salt length"),
-        (&["-m", "md5", "-S", "1234-6789", "x"], 2, "salt length"),
-        (&["-m", "md5", "-S", "", "x"], 2, "salt length"),
-        (&["-m", "md5", "-S", "a-b", "x"], 2, "salt character"),
+    let rows: [(&[&str], u8, &str); 31] = [
         (&["--help"], 0, ""),
         (&["-V"], 0, ""),
-        (&[], 2, ""),
-        (&["-m", "md5", "-S", "ab", "x", "-Q"], 2, ""),
+        (&["-Q"], 2, ""),
+        (&["-m"], 2, ""),
+        (&["-m", "help", "-Q"], 2, ""),
+        (&["x", "ab", "cd"], 2, ""),
+        (&["-R", "4294967296"], 2, ""),
+        (&["-R", "-1"], 2, ""),
+        (&["-R", "x"], 2, ""),
+        (&["-R", ""], 2, ""),
+        (&["-m", "sha1", "x"], 2, "unknown method"),
+        (&["-m", "", "x"], 2, "unknown method"),
+        (&["-m", "sha1", "-S", "ab", "x", "cd"], 2, "unknown method"),
+        (&["-m", "sha1", "-s", "x"], 2, "unknown method"),
+        (&["-m", "sha1", "-S", "a-b", "x"], 2, "unknown method"),
+        (&["-S", "ab", "x", "cd"], 2, "two salts"),
+        (&["-S", "ab", "x", "ab"], 2, "two salts"),
+        (&["-S", "ab", "-s", "x", "cd"], 2, "two salts"),
+        (&["-s", "x"], 2, "two modes"),
+        (&["-s", "x", "cd"], 2, "two modes"),
+        (&["-s", "-S", "a-b", "x"], 2, "two modes"),
+        (&["-m", "md5", "x", "123456789"], 2, "salt length"),
+        (&["-m", "md5", "x", "1234-6789"], 2, "salt length"),
+        (&["-S", "seventeen.letters", "x"], 2, "salt length"),
+        (&["-S", "", "x"], 2, "salt length"),
+        (&["-S", "a-b", "x"], 2, "salt character"),
+        (
+            &["-m", "scrypt", "-R", "5", "-S", "a-b", "x"],
+            2,
+            "salt character",
+        ),
+        (&["-m", "scrypt", "-R", "12", "x"], 2, "cost"),
+        (&["-m", "scrypt", "-R", "5", "x", "ab"], 2, "cost"),
+        (&["-m", "scrypt", "-R", "1", "-s"], 2, "cost"),
+        (&["-m", "scrypt", "-R", "4294967295"], 2, "cost"),
     ];
     for (row, status, text) in rows {
         let words = words_of(rt.alloc(), row)?;

@@ -1,29 +1,27 @@
-use Rattle.std.proofs.Common.{◌∙◌, List, ℕ, ap, refl, subst, sym}
+use Rattle.std.proofs.Common.{◌≡◌, ◌≢◌, Err, List, subst}
 use Rattle.std.proofs.lemmas.Result.{err_from_is_err_and}
-use Rattle.crypt_core.specs.MadeSettings.{IsMakeable, IsMakeRefused, made_setting}
-use Rattle.crypt_core.specs.Methods.{method_named}
-use Rattle.mkpasswd.specs.Options.{texts}
+use Rattle.clap.specs.Words.{Text, kind_of}
+use Rattle.clap.specs.declared.error.Error.{Error}
+use Rattle.clap.specs.declared.error.kind.ErrorKind.TheVariants as kind
+use Rattle.mkpasswd.specs.Options.{Plans, Refuses}
+use Rattle.mkpasswd.specs.declared.faults.UsageFault.{UsageFault}
+use Rattle.mkpasswd.specs.declared.faults.UsageFault.TheVariants.{Parse, Method, TwoSalts, TwoModes, Make, OutOfMemory}
 use Rattle.mkpasswd.proofs.options.plan.Goals as goal
 
-pub returns-in_err-setting : goal.returns-in_err-setting
-returns-in_err-setting c =
-    let given = c.in_ok-given.given in
-    let method = c.in-Some.method in
-    let named = sym (c.in-Some.ensures ∙ ap method_named c.as_bytes.ensures.value) in
-    let refused = subst (λ (salt : List ℕ). IsMakeRefused method 0 salt c.in_err-setting.field-0.0) c.as_bytes-2.ensures.value c.in_err-setting.ensures.refused in
-    let p = err_from_is_err_and c.from_residual-in_err-setting.result c.from_residual-in_err-setting.ensures.1 in
-    rw (p.1, p.2) (texts given, method, c.in_ok-given.ensures.ok, named, refused)
+-- `clap`'s error is a refusal of the words, or want of memory
+planned_error : (words : List Text) (error : Error) (fault : UsageFault) → (kind_of error ≡ kind.OutOfMemory → fault ≡ OutOfMemory) → (kind_of error ≢ kind.OutOfMemory → fault ≡ Parse error)
+    → (kind_of error ≢ kind.OutOfMemory → Refuses words error) → Plans words (Err fault)
+planned_error words error OutOfMemory memory other refuses = tt
+planned_error words error (Parse e) memory other refuses =
+    let not_memory : kind_of error ≢ kind.OutOfMemory = λ is. let bad = memory is in cc in
+    let same : error ≡ e = let is = other not_memory in cc in
+    subst (λ (x : Error). Refuses words x) same (refuses not_memory)
+planned_error words error Method memory other refuses = let is = other (λ is. let bad = memory is in cc) in cc
+planned_error words error TwoSalts memory other refuses = let is = other (λ is. let bad = memory is in cc) in cc
+planned_error words error TwoModes memory other refuses = let is = other (λ is. let bad = memory is in cc) in cc
+planned_error words error (Make e) memory other refuses = let is = other (λ is. let bad = memory is in cc) in cc
 
-pub returns : goal.returns
-returns c =
-    let given = c.in_ok-given.given in
-    let method = c.in-Some.method in
-    let salt = c.as_bytes-2.ensures.value in (
-      texts given,
-      method,
-      c.in_ok-given.ensures.ok,
-      sym (c.in-Some.ensures ∙ ap method_named c.as_bytes.ensures.value),
-      subst (λ (salt : List ℕ). IsMakeable method 0 salt) salt (c.in_ok-setting.ensures.accepted.0 refl),
-      c.in_ok-setting.ensures.made ∙ ap (made_setting method 0) salt,
-      c.in_ok-password.ensures.items ∙ c.as_bytes-3.ensures.value,
-    )
+pub returns-in_err-given : goal.returns-in_err-given
+returns-in_err-given c =
+    let p = err_from_is_err_and c.from_residual.result c.from_residual.ensures.1 in
+    rw p.1 (planned_error _ c.in_err-given.field-0.0 p.0 p.2.0 p.2.1 c.in_err-given.ensures.err)

@@ -1,0 +1,148 @@
+-- Where a command has no rule of one argument on another, a value that is read of an argument has
+-- passed that argument's parser.
+use Rattle.std.proofs.Common.{◌≡◌, ◌∙◌, ◌<◌, ◌⊎◌, ℕ, Bool, true, Option, Some, None, zero, suc, sym, ap, refl, subst, arith, List, [], ◌∷◌, map, length, codes, inl, inr}
+use Rattle.std.specs.Borrow.{Bor}
+use Rattle.std.specs.List.{All, list_all, slice_index_or}
+use Rattle.std.specs.Option.{option_map}
+use Rattle.std.specs.Prelude.{slice_get}
+use Rattle.std.specs.Str.{bytes_eq}
+use Rattle.std.proofs.lemmas.List.{get_or-map, length-map}
+use Rattle.std.proofs.lemmas.List.Elements.{All-get_or}
+use Rattle.std.proofs.lemmas.Slice.Eq.{bytes_eq-Decides}
+use Rattle.clap.specs.Built.{IsParsedFrom, IsPlain}
+use Rattle.clap.specs.Facts.{Entry, EntryPasses, PassesArg, args_of, groups_of, parser_of, parser_of_value}
+use Rattle.clap.specs.Matches.{found_of, matched_of, one_text}
+use Rattle.clap.specs.Simple.{HasReadyLeaves, has_simple_rules, is_ready, shape_of}
+use Rattle.clap.specs.Values.{Accepts, read_as, reading_of}
+use Rattle.clap.specs.Walk.{Rule, Text, is_free_arg, rule_of}
+use Rattle.clap.specs.declared.builder.arg.Arg.{Arg}
+use Rattle.clap.specs.declared.builder.command.Command.{Command}
+use Rattle.clap.specs.declared.builder.value_parser.Reading.{Reading}
+use Rattle.clap.specs.declared.builder.value_parser.ValueParser.{ValueParser}
+use Rattle.clap.specs.declared.parser.matches.ArgMatches.{ArgMatches}
+use Rattle.clap.specs.declared.parser.matches.MatchedArg.{MatchedArg}
+use Rattle.clap.proofs.CallerLemmas.{entry_by_id, same_rules_by_id}
+use Rattle.clap.proofs.SimpleLemmas.{is_false, is_nil, ready_simple, simple_groups}
+use Rattle.clap.proofs.WalkLemmas.{both}
+
+-- ---- a command whose arguments have no rule on one another
+
+abbrev pub all_free : List Rule → Bool
+all_free = list_all (λ rule. rule.is_free)
+
+each_free : (xs : List Arg) → all_free (map rule_of xs) ≡ true → All (λ a. is_free_arg a ≡ true) xs
+each_free [] e k d lt = absurd (omega arith)
+each_free (x ∷ xs) e zero d lt = (both _ _ e).0
+each_free (x ∷ xs) e (suc k) d lt = each_free xs (both _ _ e).1 k d (omega arith)
+
+excludes_nothing : (c : Command) → is_ready (shape_of c) ≡ true → HasReadyLeaves c → all_free (shape_of c).rules ≡ true → IsPlain c
+excludes_nothing c ready leaves free =
+    let simple = ready_simple c ready leaves in
+    let all_simple = (both (shape_of c).is_plain _ (both (has_simple_rules (shape_of c)) _ ready).0).1 in (
+      λ k d lt.
+          let arg = slice_index_or (args_of c) k d in
+          let own = both _ _ (each_free (args_of c) free k d lt) in
+          (is_false arg.exclusive own.0, is_nil arg.conflicts.items (both _ _ own.1).0, (simple.args k d lt).overrides, simple_groups c all_simple k d lt),
+      simple.groups,
+    )
+
+-- ---- a value of an argument
+
+-- the argument at place k has this id and parser, no other has its id, and building adds none that has
+record IsOnly (c : Command) (k : ℕ) (id : Text) (q : ValueParser) : Type 0 where
+  within : k < length (args_of c)
+  called : (d : Arg) → (slice_index_or (args_of c) k d).id.now ≡ id
+  parser : (d : Arg) → (slice_index_or (args_of c) k d).value_parser ≡ Some q
+  only : (j : ℕ) (e : Arg) → j < length (args_of c) → bytes_eq (slice_index_or (args_of c) j e).id.now id ≡ true → j ≡ k
+  named : id ≡ [] → ⊥
+  own : (id ≡ codes "help") ⊎ (id ≡ codes "version") → ⊥
+
+-- what is known of a text that was read
+abbrev pub Passed : ValueParser → Text → Type 0
+Passed q text = (value : Text) × (ignore_case : Bool) × (text ≡ read_as (reading_of q) value) × Accepts ignore_case q value
+
+-- each argument with the id that the built command has takes what the parser takes
+same_parser : (c : Command) (m : ArgMatches) (p : IsParsedFrom c m) (k : ℕ) (id : Text) (q : ValueParser) → IsOnly c k id q
+    → (j : ℕ) (x : Arg) → j < length (args_of p.built) → slice_index_or (args_of p.built) j x ≡ x → bytes_eq x.id.now id ≡ true
+    → parser_of x ≡ q
+same_parser c m p k id q is j x low at same =
+    let called = is.called x in
+    let rules = same_rules_by_id c m p k x is.within
+    (λ i e within hit. is.only i e within (subst (λ (t : Text). bytes_eq (slice_index_or (args_of c) i e).id.now t ≡ true) called hit))
+    (λ auto. is.own (elim auto [ inl h ↦ inl (sym called ∙ h) | inr h ↦ inr (sym called ∙ h) ]))
+    j x low at (subst (λ (t : Text). bytes_eq x.id.now t ≡ true) (sym called) same) in
+    ap parser_of_value (rules.parser q (is.parser x))
+
+first_passed : (P : Bor Text → Type 0) (how : Reading) (values : List (Bor Text)) (text : Text) → All P values
+    → option_map (λ s. read_as how s.now) (slice_get values 0) ≡ Some text → (v : Bor Text) × (text ≡ read_as how v.now) × P v
+first_passed P how [] text all is = cc
+first_passed P how (v ∷ vs) text all is =
+    let same : text ≡ read_as how v.now = cc in
+    (v, same, All-get_or P (v ∷ vs) 0 v (omega arith) all)
+
+value_passed : (c : Command) (m : ArgMatches) (p : IsParsedFrom c m) (k : ℕ) (id : Text) (q : ValueParser) → IsOnly c k id q → groups_of p.built ≡ []
+    → (e : Entry) → e.0.now ≡ id → EntryPasses p.built e
+    → (text : Text) → option_map (λ s. read_as e.1.reading s.now) (slice_get e.1.vals.items 0) ≡ Some text → Passed q text
+value_passed c m p k id q is no_groups e key pass text read =
+    let own_parser : (j : ℕ) (x : Arg) → j < length (args_of p.built) → slice_index_or (args_of p.built) j x ≡ x → bytes_eq x.id.now e.0.now ≡ true → parser_of x ≡ q =
+    λ j x low at same. same_parser c m p k id q is j x low at (subst (λ (t : Text). bytes_eq x.id.now t ≡ true) key same) in
+    let no_group : e.1.is_group ≡ true → ⊥ = λ group. elim (pass.3 group) [
+      | inl empty ↦ is.named (sym key ∙ empty)
+      | inr some ↦
+          let bad : 0 < 0 = rw no_groups at some in
+          absurd (omega arith)
+    ] in
+    let all : All (λ v. PassesArg p.built e.0.now v.now) e.1.vals.items = elim pass.0 [ inl group ↦ absurd (no_group group) | inr values ↦ values ] in
+    let how : e.1.reading ≡ reading_of q = elim pass.4 [
+      | inl group ↦ absurd (no_group group)
+      | inr any ↦ sym any.4.1 ∙ ap reading_of (own_parser any.0 any.1 any.2 any.3 any.4.0)
+    ] in
+    let first = first_passed (λ v. PassesArg p.built e.0.now v.now) e.1.reading e.1.vals.items text all read in
+    let any = first.2 in (
+      first.0.now,
+      any.1.ignore_case,
+      first.1 ∙ ap (λ (r : Reading). read_as r first.0.now) how,
+      subst (λ (w : ValueParser). Accepts any.1.ignore_case w first.0.now) (own_parser any.0 any.1 any.2 any.3 any.4.0) any.4.1,
+    )
+
+-- the rule at place k of these is r, with this parser, and no other has its id
+pub record IsOnlyRule (rules : List Rule) (k : ℕ) (r : Rule) (q : ValueParser) : Type 0 where
+  pub within : k < length rules
+  pub place : (z : Rule) → slice_index_or rules k z ≡ r
+  pub parser : r.parser ≡ Some q
+  pub only : (j : ℕ) (z : Rule) → j < length rules → bytes_eq (slice_index_or rules j z).id r.id ≡ true → j ≡ k
+  pub named : r.id ≡ [] → ⊥
+  pub own : (r.id ≡ codes "help") ⊎ (r.id ≡ codes "version") → ⊥
+
+is_only : (c : Command) (k : ℕ) (r : Rule) (q : ValueParser) → IsOnlyRule (shape_of c).rules k r q → IsOnly c k r.id q
+is_only c k r q rule =
+    let count : length (map rule_of (args_of c)) ≡ length (args_of c) = length-map (args_of c) rule_of in
+    let lt : k < length (args_of c) = let within = rule.within in omega arith in
+    let rule_at : (j : ℕ) (d : Arg) → j < length (args_of c) → slice_index_or (map rule_of (args_of c)) j (rule_of d) ≡ rule_of (slice_index_or (args_of c) j d) = λ j d low. get_or-map rule_of (args_of c) j d (rule_of d) low in
+    let is : (d : Arg) → rule_of (slice_index_or (args_of c) k d) ≡ r = λ d. sym (rule_at k d lt) ∙ rule.place (rule_of d) in
+    record {
+      within = lt;
+      called = λ d. ap (λ (x : Rule). x.id) (is d);
+      parser = λ d. ap (λ (x : Rule). x.parser) (is d) ∙ rule.parser;
+      only = λ j d low same. rule.only j (rule_of d) (let bound : j < length (args_of c) = low in omega arith) (rw (rule_at j d low) same);
+      named = rule.named;
+      own = rule.own;
+    }
+
+-- the text that is read of an argument is a value that passed its parser
+pub passed : (c : Command) (m : ArgMatches) (k : ℕ) (r : Rule) (q : ValueParser) → IsParsedFrom c m
+    → is_ready (shape_of c) ≡ true → HasReadyLeaves c → all_free (shape_of c).rules ≡ true → IsOnlyRule (shape_of c).rules k r q
+    → (text : Text) → one_text (found_of m) r.id ≡ Some text → Passed q text
+passed c m k r q p ready leaves free rule text read = go (matched_of (found_of m) r.id) refl read
+  where
+    go : (o : Option MatchedArg) → matched_of (found_of m) r.id ≡ o → one_text (found_of m) r.id ≡ Some text → Passed q text
+    go None e is =
+        let bad : None ≡ Some text = rw e at is in
+        cc
+    go (Some x) e is =
+        let values = (p.parsed (p.from.globals ∙ (ready_simple c ready leaves).globals)).values in
+        let no_groups = (p.from.plain (excludes_nothing c ready leaves free)).1 in
+        let got = entry_by_id (EntryPasses p.built) (found_of m).entries.items r.id x values e in
+        let first : option_map (λ s. read_as x.reading s.now) (slice_get x.vals.items 0) ≡ Some text = rw e at is in
+        value_passed c m p k r.id q (is_only c k r q rule) no_groups got.0 ((bytes_eq-Decides got.0.0.now r.id).0 got.2) got.3 text
+        (subst (λ (y : MatchedArg). option_map (λ s. read_as y.reading s.now) (slice_get y.vals.items 0) ≡ Some text) (sym got.1) first)

@@ -1,0 +1,49 @@
+-- How a run gets the setting of each hash: a method, a cost, and a salt that was given once or is made anew.
+use Rattle.std.specs.Prelude.{◌≡◌, ℕ, List, [], Option, Some, None, is_some, option_map, unwrap_or, if◌then◌else◌}
+use Rattle.std.specs.Borrow.{Bor}
+use Rattle.rand_core.specs.Stream.{Stream}
+use Rattle.crypt_core.specs.MadeSalts.{made_salt, three_words}
+use Rattle.crypt_core.specs.MadeSettings.{IsMakeable, IsMakeRefused, TakesCost, made_setting}
+use Rattle.crypt_core.specs.Settings.{Kept}
+use Rattle.crypt_core.specs.declared.method.Method.{Method}
+use Rattle.crypt_core.specs.declared.method.Method.TheVariants.{Md5crypt, Sha256crypt, Sha512crypt, Scrypt}
+use Rattle.crypt_core.specs.declared.setting.fault.MakeFault.{MakeFault}
+use Rattle.crypt_core.specs.declared.setting.fault.MakeFault.TheVariants.{Cost}
+
+-- what settings are made of; without a salt each gets a new one
+pub record Recipe : Type 0 where
+  pub method : Method
+  pub cost : ℕ
+  pub salt : Option (List ℕ)
+
+-- the bytes behind a reference, where there is one
+abbrev pub bytes_of : Option (Bor (List ℕ)) → Option (List ℕ)
+bytes_of = option_map (λ bytes. bytes.now)
+
+-- the method takes the cost, and the salt where one was given
+abbrev pub IsAccepted : Method → ℕ → Option (List ℕ) → Type 0
+IsAccepted method cost None = TakesCost method cost
+IsAccepted method cost (Some salt) = IsMakeable method cost salt
+
+-- the first rule that is broken; without a salt only the cost can break one
+abbrev pub IsRefused : Method → ℕ → Option (List ℕ) → MakeFault → Type 0
+IsRefused method cost None fault = (fault ≡ Cost) × ¬ TakesCost method cost
+IsRefused method cost (Some salt) fault = IsMakeRefused method cost salt fault
+
+-- the characters of a made salt
+abbrev pub made_salt_length : Method → ℕ
+made_salt_length Md5crypt = 8
+made_salt_length Sha256crypt = 16
+made_salt_length Sha512crypt = 16
+made_salt_length Scrypt = 22
+
+-- the setting: by the salt that was given, or by one made of the words
+abbrev pub setting_by : Recipe → List ℕ → Kept
+setting_by recipe words =
+    let made = made_salt words (made_salt_length recipe.method) in
+    made_setting recipe.method recipe.cost (unwrap_or recipe.salt made)
+
+-- the words that a hash takes from a stream, and what is left of it: three where the salt is made, and
+-- none otherwise
+abbrev pub words_for : Recipe → Stream → List ℕ × Stream
+words_for recipe stream = if is_some recipe.salt then ([], stream) else three_words stream

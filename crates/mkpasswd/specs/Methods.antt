@@ -1,0 +1,12 @@
+-- The list of the methods.
+use Rattle.std.specs.Prelude.{ℕ, List, [], ◌∷◌, ◌++◌, codes}
+
+-- a text and a line feed (10)
+abbrev pub as_line : List ℕ → List ℕ
+as_line text = text ++ 10 ∷ []
+
+-- a heading and the name of each method, each on a line of its own
+abbrev pub methods_text : List ℕ
+methods_text =
+    as_line (codes "Available methods:") ++ as_line (codes "md5crypt") ++ as_line (codes "sha256crypt")
+    ++ as_line (codes "sha512crypt") ++ as_line (codes "scrypt")

@@ -1,0 +1,21 @@
+-- What the program keeps of the matches, beside the values that they stand for.
+use Rattle.mkpasswd.specs.Makers.{bytes_of}
+use Rattle.mkpasswd.specs.Options.{Mode, Values, input, word}
+use Rattle.mkpasswd.specs.declared.options.Given.{Given}
+use Rattle.mkpasswd.specs.declared.options.Mode.{Mode as KeptMode}
+use Rattle.mkpasswd.specs.declared.options.Mode.TheVariants as kept
+
+abbrev pub values_of : Given → Values
+values_of given = record {
+  method = bytes_of given.method;
+  salt = bytes_of given.salt;
+  salt_word = bytes_of given.salt_word;
+  cost = given.cost;
+  stdin = given.stdin;
+  work = given.work;
+  password = bytes_of given.password;
+}
+
+abbrev pub mode_of : KeptMode → Mode
+mode_of (kept.Word password) = word password.now
+mode_of kept.Input = input

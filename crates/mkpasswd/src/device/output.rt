@@ -1,0 +1,136 @@
+//! What the program writes to.
+ghost use Rattle.std.specs.Prelude.{◌≡◌, ◌+◌, ◌-◌, ◌^◌, ◌<◌, length};
+ghost use Rattle.std.specs.Result.{is_err};
+ghost use Rattle.std.specs.Io.{WritesAtMost};
+ghost use Rattle.std.specs.Io.KnownBytes.{Keeps, WriteAppends};
+ghost use Rattle.mkpasswd.specs.Devices.{as_count, is_failed_give, moved_by};
+
+use std::io;
+use std::io::Write;
+use std::marker::Model;
+
+/// A writer, with the number of its failed calls, of its `give` calls, failed ones among them, and of
+/// the bytes that these took. A `flush` counts only as a failed call, where it is one. A new wrapper
+/// has seen nothing.
+#[derive(Drop)]
+pub struct Output<O> {
+    inner: O,
+    failures: u64,
+    calls: u64,
+    bytes: u64,
+}
+
+impl<O> Model for Output<O> {
+    ghost use Rattle.mkpasswd.specs.Devices.{Device, device_code};
+
+    ghost Value = { Device O };
+
+    ghost coded = { device_code O.code };
+
+    ghost view = { λ o. record { inner = o.inner; failures = o.failures; calls = o.calls; bytes = o.bytes } };
+}
+
+impl<O: Write> Output<O> {
+    /// Wraps a writer.
+    pub fn new(inner: O) -> Output<O>
+        ensures { result ≡ record { inner = inner; failures = 0; calls = 0; bytes = 0 } }
+    {
+        Output {
+            inner,
+            failures: 0,
+            calls: 0,
+            bytes: 0,
+        }
+    }
+
+    /// How many calls of the writer failed, or took no byte of a piece that had some.
+    pub fn failures(&self) -> u64
+        ensures { result ≡ self.now.failures }
+    {
+        self.failures
+    }
+
+    /// Gives the writer back.
+    #[cfg(test)]
+    pub fn into_inner(self) -> O
+        ensures { result ≡ self.inner }
+    {
+        self.inner
+    }
+
+    /// Passes one `write` of the piece on, and answers what it answered: how many of the piece's
+    /// first bytes were taken.
+    pub fn give(&mut self, piece: &[u8]) -> io::Result<usize>
+        requires failures_room { self.old.failures < 2 ^ 64 - 1 }
+        requires calls_room { self.old.calls < 2 ^ 64 - 1 }
+        requires bytes_room { self.old.bytes + length piece.now < 2 ^ 64 }
+        ensures within { WritesAtMost result piece.now }
+        ensures takes { WriteAppends (O.contents self.old.inner) (O.contents self.new.inner) result piece.now }
+        ensures failures { self.new.failures ≡ self.old.failures + as_count (is_failed_give result piece.now) }
+        ensures calls { self.new.calls ≡ self.old.calls + 1 }
+        ensures bytes { self.new.bytes ≡ self.old.bytes + moved_by result }
+    {
+        self.calls += 1;
+        let answer = self.inner.write(piece);
+        match &answer {
+            Ok(count) => {
+                self.bytes += *count as u64;
+                if *count == 0 && !piece.is_empty() {
+                    self.failures += 1;
+                }
+            }
+            Err(_) => self.failures += 1,
+        }
+        answer
+    }
+
+    /// Passes one `flush` on, and answers what it answered. It takes no byte.
+    pub fn flush(&mut self) -> io::Result<()>
+        requires { self.old.failures < 2 ^ 64 - 1 }
+        ensures keeps { Keeps (O.contents self.old.inner) (O.contents self.new.inner) }
+        ensures failures { self.new.failures ≡ self.old.failures + as_count (is_err result) }
+        ensures calls { self.new.calls ≡ self.old.calls }
+        ensures bytes { self.new.bytes ≡ self.old.bytes }
+    {
+        let answer = self.inner.flush();
+        if answer.is_err() {
+            self.failures += 1;
+        }
+        answer
+    }
+}
+
+#[cfg(test)]
+mod tests {
+    use super::*;
+    use crate::test_devices::{MemoryWriter, fault_of};
+    use std::io::ErrorKind;
+    use std::test::Fail;
+
+    #[test]
+    fn counts_what_it_saw(rt: HostRuntime) -> Result<(), Fail> {
+        let mut writer = MemoryWriter::new(rt.alloc())
+            .by(2)
+            .failing_at(2, ErrorKind::PermissionDenied)
+            .failing_flush(ErrorKind::BrokenPipe);
+        let mut out = Output::new(&mut writer);
+        assert_eq!(rt; out.failures(), 0);
+        assert_eq!(rt; out.give(b"abc").ok(), Some(2), "the first two bytes");
+        assert_eq!(rt;
+            fault_of(out.give(b"c")),
+            Some(ErrorKind::PermissionDenied),
+            "the failed call's own error"
+        );
+        assert_eq!(rt; out.give(b"").ok(), Some(0), "an empty piece");
+        assert_eq!(rt; out.failures(), 1, "an empty piece is no failure");
+        assert_eq!(rt;
+            fault_of(out.flush()),
+            Some(ErrorKind::BrokenPipe),
+            "the failed flush's own error"
+        );
+        assert_eq!(rt; out.failures(), 2);
+        drop(out);
+        assert_eq!(rt; writer.taken(), b"ab".as_slice());
+        Ok(())
+    }
+}

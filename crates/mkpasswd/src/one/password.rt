@@ -1,0 +1,103 @@
+//! The password that stands in an input: its first line, without the line feed. It is read into a buffer of
+//! fixed size, and takes no memory.
+ghost use Rattle.std.specs.Prelude.{◌≡◌, ℕ, ◌+◌, ◌-◌, ◌^◌, ◌<◌, ◌≤◌, ◌==◌, List, drop, length, position, take};
+ghost use Rattle.mkpasswd.specs.Devices.{HasRoomForRun, MovesBytes};
+ghost use Rattle.mkpasswd.specs.Input.{Obtains, Reads};
+ghost use Rattle.mkpasswd.specs.Private.Fetching.{Fetches, FindsLine};
+
+use crate::device::Input;
+use crate::faults::RunFault;
+use crypt_core::password::Password;
+use std::io::Read;
+
+/// So many bytes without a line feed are one too many for a password.
+const TOO_MANY: usize = 513;
+
+/// Fetches until the first line is known, and takes it as a password. Each fetch takes one of the turns
+/// that are left. What follows the line feed in the piece that was fetched is dropped.
+///
+/// `Password` is answered where the line is refused as a password, which is too long once 513 bytes without
+/// a line feed were read; before the line is known, `Read` after a fetch that failed, and `Turns` where
+/// another fetch is needed and no turn is left.
+pub(crate) fn read_password<I: Read>(
+    input: &mut Input<I>,
+    left: &mut u64,
+) -> Result<Password, RunFault>
+    requires turns { left.old ≤ 2 ^ 40 }
+    requires room { HasRoomForRun input.old }
+    ensures read { (bytes : List ℕ) × Reads I.remaining input.old input.new bytes
+        × Obtains I.remaining input.old input.new bytes left.new result }
+    ensures turns { input.new.calls + left.new ≡ input.old.calls + left.old }
+    ensures fewer { left.new ≤ left.old }
+    ensures moves { MovesBytes 1 input.old input.new }
+{
+    let mut buffer = [0; TOO_MANY];
+    let end = read_line(input, &mut buffer, left)?;
+    Ok(Password::new(&buffer[..end])?)
+}
+
+// Fetches until the first line is known, and answers where it ends in the buffer.
+fn read_line<I: Read>(
+    input: &mut Input<I>,
+    buffer: &mut [u8],
+    left: &mut u64,
+) -> Result<usize, RunFault>
+    requires turns { left.old ≤ 2 ^ 40 }
+    requires room { HasRoomForRun input.old }
+    requires size { length buffer.old ≡ 513 }
+    ensures read { (bytes : List ℕ) × Reads I.remaining input.old input.new bytes
+        × FindsLine I.remaining input.old input.new bytes left.new buffer.new result }
+    ensures turns { input.new.calls + left.new ≡ input.old.calls + left.old }
+    ensures fewer { left.new ≤ left.old }
+    ensures moves { MovesBytes 1 input.old input.new }
+{
+    let mut filled = 0;
+    'fetches: while filled < buffer.len() {
+        let count = fetch_behind(input, buffer, filled, left)?;
+        if let Some(at) = line_feed_at(&buffer[filled..filled + count]) {
+            return Ok(filled + at);
+        }
+        if count == 0 {
+            return Ok(filled);
+        }
+        filled += count;
+    }
+    Ok(filled)
+}
+
+// Makes one fetch behind the first `filled` bytes of the buffer, where there is room, and answers how many
+// bytes it gave: none at the end.
+fn fetch_behind<I: Read>(
+    input: &mut Input<I>,
+    buffer: &mut [u8],
+    filled: usize,
+    left: &mut u64,
+) -> Result<usize, RunFault>
+    requires failures_room { input.old.failures < 2 ^ 64 - 1 }
+    requires calls_room { input.old.calls < 2 ^ 64 - 1 }
+    requires bytes_room { input.old.bytes + length buffer.old < 2 ^ 64 }
+    requires buffer_room { filled < length buffer.old }
+    ensures kept { take filled buffer.new ≡ take filled buffer.old }
+    ensures fetches { Fetches I.remaining left.old input.old input.new (drop filled buffer.new) result }
+    ensures takes_turn { left.new ≡ left.old - 1 }
+    ensures turns { input.new.calls + left.new ≡ input.old.calls + left.old }
+{
+    if *left == 0 {
+        return Err(RunFault::Turns);
+    }
+    *left -= 1;
+    match input.fetch(&mut buffer[filled..]) {
+        Ok(count) => Ok(count),
+        Err(_) => Err(RunFault::Read),
+    }
+}
+
+// Where the first line feed stands.
+fn line_feed_at(bytes: &[u8]) -> Option<usize>
+    ensures { result ≡ position (λ b. b == 10) bytes.now }
+{
+    bytes.iter().position(|byte| *byte == b'\n')
+}
+
+#[cfg(test)]
+mod tests;

@@ -1,0 +1,97 @@
+ghost use Rattle.std.specs.Prelude.{◌≡◌, ◌^◌, ◌≤◌, IfOk, IfSome, IsErrOf};
+ghost use Rattle.crypt_core.specs.Passwords.{IsPasswordRefused};
+ghost use Rattle.crypt_core.specs.declared.password.PasswordFault.{PasswordFault as Refusal};
+ghost use Rattle.mkpasswd.specs.Input.{first_line};
+
+use super::*;
+use crate::test_devices::MemoryReader;
+use crypt_core::password::PasswordFault;
+use std::io::ErrorKind;
+use std::process::Abort;
+
+// Reads from a reader that may tell its bytes. That a password or a refusal is then that of the first line
+// of them all follows from the clauses of `read_password` alone.
+fn read_from(reader: MemoryReader<'_>, left: &mut u64) -> Result<Password, RunFault>
+    requires { left.old ≤ 2 ^ 40 }
+    ensures taken { IfOk result (λ password. IfSome reader.entry (λ bytes. password ≡ first_line bytes)) }
+    ensures refused { (fault : Refusal) → IsErrOf result (RunFault.Password fault)
+        → IfSome reader.entry (λ bytes. IsPasswordRefused (first_line bytes) fault) }
+{
+    read_password(&mut Input::new(reader), left)
+}
+
+// Reads, and wants this password or fault, after so many turns.
+fn want(
+    rt: &impl Abort,
+    what: &str,
+    reader: MemoryReader<'_>,
+    turns: u64,
+    wanted: Result<&[u8], RunFault>,
+    taken: u64,
+) {
+    assert!(rt; turns <= 1 << 40);
+    let mut left = turns;
+    match (read_from(reader, &mut left), wanted) {
+        (Ok(password), Ok(bytes)) => assert_eq!(rt; password.bytes(), bytes, "{what}"),
+        (outcome, wanted) => assert_eq!(rt; outcome.err(), wanted.err(), "{what}"),
+    }
+    assert_eq!(rt; left.checked_add(taken), Some(turns), "{what}: turns");
+}
+
+#[test]
+fn reads_the_first_line(rt: HostRuntime) {
+    let long = [b'a'; 513];
+    let mut more = [b'a'; 514];
+    more[512] = b'\n';
+    more[513] = b'b';
+    let too_long = Err(RunFault::Password(PasswordFault::TooLong));
+    let has_nul = Err(RunFault::Password(PasswordFault::HasNul));
+    let rows: [(&str, &[u8], usize, Result<&[u8], RunFault>, u64); 14] = [
+        ("whole", b"password\n", 999, Ok(b"password"), 1),
+        ("by the byte", b"password\n", 1, Ok(b"password"), 9),
+        ("no line feed", b"password", 999, Ok(b"password"), 2),
+        ("likewise by the byte", b"password", 1, Ok(b"password"), 9),
+        ("two lines", b"password\nmore", 999, Ok(b"password"), 1),
+        ("two pieces", b"password\nmore", 6, Ok(b"password"), 2),
+        ("an empty line", b"\nmore", 999, Ok(b""), 1),
+        ("an empty input", b"", 999, Ok(b""), 1),
+        ("512 bytes", &long[..512], 999, Ok(&long[..512]), 2),
+        ("512 bytes and more", &more, 999, Ok(&long[..512]), 1),
+        ("513 bytes", &long, 999, too_long, 1),
+        ("513 by the byte", &long, 1, too_long, 513),
+        ("a byte 0", b"pass\0word\n", 999, has_nul, 1),
+        ("a byte 0 later", b"pass\n\0", 999, Ok(b"pass"), 1),
+    ];
+    for (what, bytes, most, wanted, taken) in rows {
+        let reader = MemoryReader::new(bytes).by(most);
+        want(&rt, what, reader, 999, wanted, taken);
+    }
+}
+
+#[test]
+fn stops_at_the_first_failure(rt: HostRuntime) {
+    let denied = ErrorKind::PermissionDenied;
+    let fault = Err(RunFault::Read);
+    for call in 1..10 {
+        let reader = MemoryReader::new(b"password\nmore").by(1);
+        let reader = reader.failing_at(call, denied);
+        want(&rt, "a read", reader, 99, fault, call);
+    }
+    let reader = MemoryReader::new(b"password\nmore").by(1);
+    let reader = reader.failing_at(10, denied);
+    want(&rt, "behind the line", reader, 99, Ok(b"password"), 9);
+    let reader = MemoryReader::new(b"password").failing_at(2, denied);
+    want(&rt, "at the end", reader, 99, fault, 2);
+}
+
+#[test]
+fn stops_with_its_turns(rt: HostRuntime) {
+    let too_long = Err(RunFault::Password(PasswordFault::TooLong));
+    let turns = Err(RunFault::Turns);
+    want(&rt, "no turn", MemoryReader::new(b"a\n"), 0, turns, 0);
+    want(&rt, "an empty input", MemoryReader::new(b""), 0, turns, 0);
+    let endless = MemoryReader::new(b"a").repeated();
+    want(&rt, "512 turns", endless, 512, turns, 512);
+    let endless = MemoryReader::new(b"a").repeated();
+    want(&rt, "513 turns", endless, 513, too_long, 513);
+}

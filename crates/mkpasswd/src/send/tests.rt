@@ -1,0 +1,72 @@
+ghost use Rattle.std.specs.Prelude.{◌≡◌, ◌^◌, ◌≤◌, ◌++◌, length, OnOk};
+
+use super::*;
+use crate::test_devices::MemoryWriter;
+use std::io::ErrorKind;
+use std::test::Fail;
+
+const TEXT: &str = "Available\n";
+
+// Sends a text to a writer that tells its bytes, and flushes it: the outcome, the turns that are left, and
+// the writer. That the text stands there whole after an answer follows from the clauses alone.
+fn send_to(
+    writer: MemoryWriter,
+    text: &[u8],
+    turns: u64,
+) -> (Result<(), RunFault>, u64, MemoryWriter)
+    requires turns { turns ≤ 2 ^ 40 }
+    requires short { length text.now ≤ 2048 }
+    ensures { OnOk result.0 (result.2.taken.items ≡ writer.taken.items ++ text.now) }
+{
+    let mut out = Output::new(writer);
+    let mut left = turns;
+    let outcome = match send(&mut out, text, &mut left) {
+        Ok(()) => finish(&mut out),
+        Err(fault) => Err(fault),
+    };
+    (outcome, left, out.into_inner())
+}
+
+#[test]
+fn takes_a_turn_a_call(rt: HostRuntime) -> Result<(), Fail> {
+    let rows = [
+        ("whole", usize::MAX, 9, None, 10, 8),
+        ("one turn", usize::MAX, 1, None, 10, 0),
+        ("no turn", usize::MAX, 0, Some(RunFault::Turns), 0, 0),
+        ("a turn a byte", 1, 10, None, 10, 0),
+        ("one turn too few", 1, 9, Some(RunFault::Turns), 9, 0),
+        ("four at a time", 4, 9, None, 10, 6),
+        ("no byte taken", 0, 9, Some(RunFault::Write), 0, 8),
+    ];
+    for (what, most, turns, fault, taken, left_after) in rows {
+        let writer = MemoryWriter::new(rt.alloc()).by(most);
+        let (outcome, left, writer) = send_to(writer, TEXT.as_bytes(), turns);
+        assert_eq!(rt; outcome.err(), fault, "{what}");
+        assert!(rt; taken <= TEXT.len(), "{what}");
+        assert_eq!(rt; writer.taken(), &TEXT.as_bytes()[..taken], "{what}");
+        assert_eq!(rt; left, left_after, "{what}");
+    }
+    let (outcome, _, writer) = send_to(MemoryWriter::new(rt.alloc()), b"", 0);
+    assert_eq!(rt; outcome, Ok(()), "an empty text takes no turn");
+    assert_eq!(rt; writer.taken(), b"".as_slice());
+    Ok(())
+}
+
+#[test]
+fn stops_at_the_first_failure(rt: HostRuntime) -> Result<(), Fail> {
+    for taken in 0..TEXT.len() {
+        let failing = taken as u64 + 1;
+        let writer = MemoryWriter::new(rt.alloc())
+            .by(1)
+            .failing_at(failing, ErrorKind::PermissionDenied);
+        let (outcome, left, writer) = send_to(writer, TEXT.as_bytes(), 99);
+        assert_eq!(rt; outcome, Err(RunFault::Write), "call {failing}");
+        assert_eq!(rt; writer.taken(), &TEXT.as_bytes()[..taken], "call {failing}");
+        assert_eq!(rt; left.checked_add(failing), Some(99), "call {failing}");
+    }
+    let writer = MemoryWriter::new(rt.alloc()).failing_flush(ErrorKind::BrokenPipe);
+    let (outcome, _, writer) = send_to(writer, TEXT.as_bytes(), 99);
+    assert_eq!(rt; outcome, Err(RunFault::Write), "the flush");
+    assert_eq!(rt; writer.taken(), TEXT.as_bytes(), "the flush");
+    Ok(())
+}
