@@ -10,13 +10,13 @@ use Rattle.crypt_core.specs.Passwords.{IsPassword}
 use Rattle.crypt_core.specs.Settings.{Kept}
 use Rattle.crypt_core.specs.Work.{raised_by, work}
 use Rattle.mkpasswd.specs.Answers.{Answer, hash_text, no_answer, no_work, password_answer}
-use Rattle.mkpasswd.specs.Devices.{Device, FailsOnce, IsUnfailed}
-use Rattle.mkpasswd.specs.Makers.{Recipe, setting_by, words_for}
+use Rattle.mkpasswd.specs.Devices.{Device}
+use Rattle.mkpasswd.specs.Makers.{setting_by, words_for}
 use Rattle.mkpasswd.proofs.Drawing.{IsDrawn}
 use Rattle.mkpasswd.specs.Input.{first_line}
 use Rattle.mkpasswd.specs.One.{EndsAfter, EndsBy, EndsOne, ObtainsFrom}
 use Rattle.mkpasswd.specs.Output.{Delivers, ShowsOutcome, Takes}
-use Rattle.mkpasswd.specs.Runs.{Ends, Fails, Hands, IsAfter, IsAfterBoth, TakesAnswer, TakesAnswerFront, Tells, hands, tells}
+use Rattle.mkpasswd.specs.Runs.{IsAfter, IsAfterBoth, TakesAnswer, Tells, hands, tells}
 use Rattle.mkpasswd.specs.Tallies.{one_line}
 use Rattle.mkpasswd.specs.declared.faults.RunFault.{RunFault}
 use Rattle.mkpasswd.specs.declared.faults.RunFault.TheVariants.{Read, Write, OutOfMemory, Turns, Password}

@@ -1,8 +1,8 @@
-use Rattle.std.proofs.Common.{◌≡◌, ◌++◌, [], ◌∷◌, List, ℕ, ap, ◌∙◌, sym}
+use Rattle.std.proofs.Common.{◌≡◌, ◌++◌, [], ◌∷◌, List, ℕ, ap, ◌∙◌}
 use Rattle.std.proofs.lemmas.List.{append-nil}
 use Rattle.crypt_core.specs.Crypt.{crypt}
 use Rattle.crypt_core.specs.Work.{work}
-use Rattle.mkpasswd.specs.Answers.{hash_text, work_text}
+use Rattle.mkpasswd.specs.Answers.{hash_text}
 use Rattle.mkpasswd.proofs.Counting.{counts-shown}
 use Rattle.mkpasswd.proofs.answer.hash_line.Goals as goal
 use Rattle.mkpasswd.proofs.answer.hash_line.Goals.{then-is_counted, else-is_counted}

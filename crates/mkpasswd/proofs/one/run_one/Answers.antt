@@ -1,4 +1,4 @@
-use Rattle.std.proofs.Common.{◌≡◌, ◌+◌, ◌≤◌, ◌∙◌, ap, sym, add-zero, arith, inl, inr}
+use Rattle.std.proofs.Common.{◌∙◌, sym, add-zero, arith, inl, inr}
 use Rattle.std.proofs.lemmas.Result.{err_from_is_err_and}
 use Rattle.mkpasswd.proofs.Ending as ending
 use Rattle.mkpasswd.proofs.Drawing.{IsDrawn}

@@ -1,4 +1,4 @@
-use Rattle.std.proofs.Common.{◌≡◌, ap, ◌∙◌}
+use Rattle.std.proofs.Common.{ap}
 use Rattle.mkpasswd.proofs.Drawing.{IsDrawn, is_drawn, is_not_drawn}
 use Rattle.mkpasswd.proofs.maker.Maker.next_setting.Given.{Over}
 use Rattle.mkpasswd.proofs.maker.Maker.next_setting.Goals as goal
