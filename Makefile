@@ -1,6 +1,7 @@
 # make            builds ./mkpasswd, a copy of the proved program
 # make run        builds what is missing and hashes a first password
 # make check      every test there is, and the gate
+# make bench      measures against libxcrypt, in some two minutes
 # make install    puts the program under PREFIX/bin (default /usr/local)
 # make clean      removes what was built
 PREFIX ?= /usr/local
@@ -8,7 +9,7 @@ RT ?= rt
 
 SOURCES := $(shell find crates -path '*/out' -prune -o \( -name '*.rt' -o -name '*.antt' \) -print) crates.txt
 
-.PHONY: all run check install clean
+.PHONY: all run check bench install clean
 
 all: mkpasswd
 
@@ -26,7 +27,12 @@ check: mkpasswd
 	tools/check-memory ./mkpasswd
 	tools/compare --selftest
 	tools/compare ./mkpasswd
+	tools/compare-lines --selftest ./mkpasswd
+	tools/compare-lines ./mkpasswd
 	$(RT) ci
+
+bench: mkpasswd
+	tools/bench ./mkpasswd
 
 install: mkpasswd
 	install -D -m 755 mkpasswd $(DESTDIR)$(PREFIX)/bin/mkpasswd

@@ -2,12 +2,14 @@
 use Rattle.std.proofs.Common.{◌≡◌, ◌≢◌, ℕ, zero, suc, ◌+◌, ◌*◌, ◌/◌, ◌%◌, ◌^◌, ◌<◌, ◌≤◌, ◌==◌, if◌then◌else◌, true, false, List, [], ◌∷◌, length, sum_by, ap, ◌∙◌, refl, arith, nat_eq}
 use Rattle.std.proofs.lemmas.Bool.Decides.{nat_tests}
 use Rattle.std.proofs.lemmas.List.Sums.{sum_by-cons}
-use Rattle.std.proofs.Math.Nat.{le-mul_of_pos_right, mul-le-mul_right, lt_of_not-le}
+use Rattle.std.proofs.Math.Nat.{le-mul_of_pos_right, mul-le-mul, mul-le-mul_right, lt_of_not-le}
 use Rattle.std.proofs.Math.Pow.{pow_mono}
+use Rattle.kdf_core.specs.Hmac.{key_bytes, key_digests}
 use Rattle.kdf_core.specs.Params.{ScryptCost, IsAccepted}
-use Rattle.kdf_core.specs.Scrypt.{rows}
+use Rattle.kdf_core.specs.Scrypt.{rows, scrypt_bytes, scrypt_digests}
 use Rattle.crypt_core.specs.Cycle.{binary_digits, digits_up_to}
-use Rattle.crypt_core.specs.Work.{digests_alone, shacrypt_bytes, IsWithin}
+use Rattle.crypt_core.specs.Work.{digests_alone, shacrypt_bytes, work_by, IsBelow, IsWithin}
+use Rattle.crypt_core.specs.declared.scheme.Scheme.TheVariants.{Scrypt}
 use Rattle.crypt_core.specs.declared.work.Work.{Work}
 use Rattle.crypt_core.proofs.CycleLemmas.{binary_digits-step}
 
@@ -91,7 +93,10 @@ shacrypt-within digest a rounds password salt byte =
 
 pub record IsBounded (cost : ScryptCost) : Type 0 where
   pub log : cost.log_n < 24
+  pub block : cost.r ≤ 2 ^ 22
   pub blocks : cost.r * cost.p ≤ 2 ^ 22
+  pub table : rows cost * cost.r ≤ 2 ^ 23
+  pub turns : rows cost * cost.p ≤ 2 ^ 23
 
 pub bounded : (cost : ScryptCost) → IsAccepted cost → IsBounded cost
 bounded cost accepted =
@@ -106,4 +111,17 @@ bounded cost accepted =
     let blocks : 2 * (r * p) ≤ n * (r * p) = mul-le-mul_right (r * p) two in
     let few : n ≤ n * r = le-mul_of_pos_right n some_r in
     let low : 24 ≤ cost.log_n → ⊥ = λ high. let power : 2 ^ 24 ≤ 2 ^ cost.log_n = pow_mono high in omega arith in
-    record { log = lt_of_not-le low; blocks = omega arith }
+    let block : r ≤ r * p = le-mul_of_pos_right r some_p in
+    let turns : n * p ≤ n * p * r = le-mul_of_pos_right (n * p) some_r in
+    record { log = lt_of_not-le low; block = omega arith; blocks = omega arith; table = omega arith; turns = omega arith }
+
+-- each count of a hash by scrypt is below 2 ^ 41
+pub scrypt-small : (cost : ScryptCost) (a password salt : ℕ) → IsAccepted cost → password ≤ 512 → salt ≤ 86
+    → IsBelow (work_by (Scrypt cost) a password salt) (2 ^ 41)
+unfolding scrypt_bytes scrypt_digests
+scrypt-small cost a password salt accepted password_short salt_short =
+    let most = bounded cost accepted in
+    let digest : key_digests password ≤ 1 = grind (arith, nat_tests) in
+    let key : key_bytes password ≤ 1 * 512 = mul-le-mul digest password_short in
+    let salted : cost.r * cost.p * salt ≤ 2 ^ 22 * 86 = mul-le-mul most.blocks salt_short in
+    record { digests = omega arith; bytes = omega arith; mixes = omega arith; table = omega arith; scratch = omega arith }

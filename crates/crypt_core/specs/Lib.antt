@@ -1,5 +1,7 @@
 pub mod Crypt
 pub mod Cycle
+pub mod FitFaults
+pub mod Fits
 pub mod HashFaults
 pub mod MadeSalts
 pub mod MadeSettings

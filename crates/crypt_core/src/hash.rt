@@ -1,10 +1,10 @@
 //! The text of crypt(3): a password, hashed by a setting.
-ghost use Rattle.std.specs.Prelude.{◌≡◌, ◌≤◌, ◌++◌, length, codes, IfOk, OnOk, OnErr};
+ghost use Rattle.std.specs.Prelude.{◌≡◌, ◌^◌, ◌≤◌, ◌++◌, length, codes, IfOk, OnOk, OnErr};
 ghost use Rattle.kdf_core.specs.Scrypt.{scrypt, with_scrypt, IsAfterRefusal};
 ghost use Rattle.crypt_core.specs.Crypt.{crypt, digest_by, IsRefusedBy};
 ghost use Rattle.crypt_core.specs.Packing.{digest_len, packed};
 ghost use Rattle.crypt_core.specs.Settings.{Spells, canonical_text, method_of};
-ghost use Rattle.crypt_core.specs.Work.{raised_by, work, HasRoom};
+ghost use Rattle.crypt_core.specs.Work.{raised_by, work, HasRoom, IsBelow};
 
 use crate::md5crypt::md5crypt;
 use crate::pack::pack;
@@ -77,7 +77,7 @@ impl From<AllocError> for HashFault {
 }
 
 /// Hashes a password by a setting. The meter counts all its work: each message that is digested, and
-/// for scrypt each mixing and each byte of memory.
+/// for scrypt each mixing and each byte of memory. Each count rises by less than 2^41.
 ///
 /// `OutOfMemory` comes only by a setting of scrypt, where one of its three growths was refused. The
 /// meter has then counted the growths before that one and nothing else. No other method takes memory.
@@ -92,6 +92,7 @@ pub fn hash(
     ensures text { IfOk result (λ hashed. hashed ≡ crypt password.now setting.now) }
     ensures spells { IfOk result (λ hashed. Spells hashed setting.now) }
     ensures count { OnOk result (meter.new ≡ raised_by meter.old (work password.now setting.now)) }
+    ensures below { IsBelow (work password.now setting.now) (2 ^ 41) }
 
     // So an error comes only by a setting of scrypt.
     ensures refused { OnErr result (IsRefusedBy meter.old setting.now.scheme meter.new) }
@@ -112,6 +113,7 @@ fn digest_of(
         ≡ digest_by setting.now.scheme password.now setting.now.salt) }
     ensures length { IfOk result (λ digest. length digest.items ≡ digest_len (method_of setting.now.scheme)) }
     ensures count { OnOk result (meter.new ≡ raised_by meter.old (work password.now setting.now)) }
+    ensures below { IsBelow (work password.now setting.now) (2 ^ 41) }
     ensures refused { OnErr result (IsRefusedBy meter.old setting.now.scheme meter.new) }
 {
     let salt = setting.salt();
@@ -129,14 +131,14 @@ fn digest_of(
             rounds.count,
             meter,
         )),
-        Scheme::Scrypt(params) => scrypt_digest(alloc, password, salt, &params, meter),
+        Scheme::Scrypt(params) => scrypt_digest(alloc, password.bytes(), salt, &params, meter),
     }
 }
 
 // scrypt's 32 bytes.
 fn scrypt_digest(
     alloc: Global,
-    password: &Password,
+    password: &[u8],
     salt: &[u8],
     params: &Params,
     meter: &mut Meter,
@@ -149,7 +151,7 @@ fn scrypt_digest(
     ensures refused { OnErr result (IsAfterRefusal meter.old params.now meter.new) }
 {
     let mut digest = [0; 32];
-    scrypt(alloc, password.bytes(), salt, params, &mut digest, meter)?;
+    scrypt(alloc, password, salt, params, &mut digest, meter)?;
     Ok(buffer_of(&digest))
 }
 

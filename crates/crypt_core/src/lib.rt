@@ -1,6 +1,7 @@
 //! The schemes of crypt(5): passwords, methods, settings, and the digests and texts of each method.
 #![tactic(auto)]
 
+pub mod fits;
 pub mod hash;
 pub mod made_salt;
 pub mod md5crypt;

@@ -17,7 +17,8 @@ use prims_core::meter::Meter;
 /// How often the digest is made anew.
 pub(crate) const ROUNDS: u32 = 1000;
 
-/// The digest of a password and a salt of at most 8 bytes. The meter counts each of the 1,002 messages.
+/// The digest of a password and a salt of at most 8 bytes. The meter counts each of the 1,002 messages, and
+/// each of its counts rises by less than 2^41.
 ///
 /// The meter has counted at most 2^120 digests and at most 2^120 bytes before.
 pub fn md5crypt(password: &Password, salt: &[u8], meter: &mut Meter) -> [u8; 16]
@@ -25,6 +26,7 @@ pub fn md5crypt(password: &Password, salt: &[u8], meter: &mut Meter) -> [u8; 16]
     requires room { HasDigestRoom meter.old }
     ensures digest { result ≡ md5crypt_digest password.now salt.now }
     ensures count { meter.new ≡ with_work meter.old 1002 (md5crypt_bytes (length password.now) (length salt.now)) }
+    ensures below { md5crypt_bytes (length password.now) (length salt.now) < 2 ^ 41 }
     ensures specified { AreInAll (md5crypt_messages password.now salt.now) 1002
         (md5crypt_bytes (length password.now) (length salt.now)) }
 {

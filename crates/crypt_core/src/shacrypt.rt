@@ -17,7 +17,8 @@ use prims_core::counted::Counted;
 use prims_core::meter::Meter;
 
 /// The digest of a password, a salt of at most 16 bytes, and 1000 to 999999999 rounds, by SHA-crypt
-/// over the digest function `H`. It has `H::LEN` bytes. The meter counts each of the `rounds + 4` messages.
+/// over the digest function `H`. It has `H::LEN` bytes. The meter counts each of the `rounds + 4` messages,
+/// and each of its counts rises by less than 2^41.
 ///
 /// The meter has counted at most 2^120 digests and at most 2^120 bytes before.
 pub fn shacrypt<H: Counted>(
@@ -34,6 +35,8 @@ pub fn shacrypt<H: Counted>(
     ensures length { length result.items ≡ H.LEN }
     ensures count { meter.new ≡ with_work meter.old (rounds + 4) (shacrypt_bytes H.LEN
         (first_byte H.digest password.now salt.now) rounds (length password.now) (length salt.now)) }
+    ensures below { shacrypt_bytes H.LEN (first_byte H.digest password.now salt.now) rounds (length password.now)
+        (length salt.now) < 2 ^ 41 }
     ensures specified { AreInAll (shacrypt_messages H.digest password.now salt.now rounds) (rounds + 4)
         (shacrypt_bytes H.LEN (first_byte H.digest password.now salt.now) rounds (length password.now) (length salt.now)) }
 {

@@ -48,7 +48,9 @@ only_rounds (suc (suc (suc zero))) z lt same = absurd (true≢false (sym same))
 only_rounds (suc (suc (suc (suc zero)))) z lt same = absurd (true≢false (sym same))
 only_rounds (suc (suc (suc (suc (suc zero))))) z lt same = absurd (true≢false (sym same))
 only_rounds (suc (suc (suc (suc (suc (suc zero)))))) z lt same = absurd (true≢false (sym same))
-only_rounds (suc (suc (suc (suc (suc (suc (suc j))))))) z lt same = absurd (omega arith)
+only_rounds (suc (suc (suc (suc (suc (suc (suc zero))))))) z lt same = absurd (true≢false (sym same))
+only_rounds (suc (suc (suc (suc (suc (suc (suc (suc zero)))))))) z lt same = absurd (true≢false (sym same))
+only_rounds (suc (suc (suc (suc (suc (suc (suc (suc (suc j))))))))) z lt same = absurd (omega arith)
 
 pub is_rounds : IsOnlyRule command.top.rules 2 rounds_rule (Signed (pos 0) (pos 4294967295))
 unfolding command
@@ -64,7 +66,7 @@ is_rounds = record {
 -- ---- what it makes of some words
 
 abbrev words : List Text
-words = codes "-m" ∷ codes "md5" ∷ codes "-R" ∷ codes "+07" ∷ codes "--work" ∷ codes "x" ∷ codes "ab" ∷ []
+words = codes "-m" ∷ codes "md5" ∷ codes "-R" ∷ codes "+07" ∷ codes "--work" ∷ codes "--check" ∷ codes "x" ∷ codes "ab" ∷ []
 
 takes_words : takes command words ≡ true
 unfolding command clap_on_literals
@@ -80,6 +82,8 @@ values_of_words : values_in (matches_of command words) ≡ record {
   salt_word = Some (codes "ab");
   cost = 7;
   stdin = false;
+  batch = false;
+  check = true;
   work = true;
   password = Some (codes "x");
 }
@@ -96,6 +100,8 @@ values_of_no_words : values_in (matches_of command []) ≡ record {
   salt_word = None;
   cost = 0;
   stdin = false;
+  batch = false;
+  check = false;
   work = false;
   password = None;
 }

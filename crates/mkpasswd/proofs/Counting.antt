@@ -3,8 +3,8 @@ use Rattle.std.proofs.Common.{◌≡◌, ℕ, ◌+◌, ◌-◌, List, ◌++◌, 
 use Rattle.prims_core.specs.Meter.{Counts}
 use Rattle.crypt_core.specs.Work.{raised_by}
 use Rattle.crypt_core.specs.declared.work.Work.{Work}
-use Rattle.mkpasswd.specs.Answers.{counts_text, work_text}
-use Rattle.mkpasswd.specs.declared.answer.Shown.{Shown}
+use Rattle.mkpasswd.specs.Answers.{no_work}
+use Rattle.mkpasswd.specs.Private.Made.{rise}
 
 -- a text behind a line, and then a text more
 pub joined-more : (line text more old new : List ℕ) → old ≡ line ++ text → new ≡ old ++ more → new ≡ line ++ (text ++ more)
@@ -13,19 +13,22 @@ joined-more line text more old new p q = q ∙ (ap (λ (x : List ℕ). x ++ more
 risen : (before work : ℕ) → before + work - before ≡ work
 risen before work = omega arith
 
--- by how much a meter has risen
-pub work_text-risen : (before after : Counts) (work : Work) → after ≡ raised_by before work
-    → counts_text (after.digests - before.digests) (after.bytes - before.bytes) (after.mixes - before.mixes) (after.table - before.table)
-    ≡ work_text work
-work_text-risen before after work is =
-    rw (is, risen before.digests work.digests, risen before.bytes work.bytes, risen before.mixes work.mixes, risen before.table work.table) refl
+-- the rise of a meter that some work has raised is that work
+pub rise-raised : (before after : Counts) (work : Work) → after ≡ raised_by before work → rise before after ≡ work
+rise-raised before after work is =
+    rw (
+      is,
+      risen before.digests work.digests,
+      risen before.bytes work.bytes,
+      risen before.mixes work.mixes,
+      risen before.table work.table,
+      risen before.scratch work.scratch,
+    ) refl
 
--- the counts that are written behind a text are those of the work between two readings of a meter
-pub counts-shown : (start text line : List ℕ) (first last : Shown) (before now : Counts) (work : Work) → start ≡ text
-    → first ≡ record { digests = before.digests; bytes = before.bytes; mixes = before.mixes; table = before.table }
-    → last ≡ record { digests = now.digests; bytes = now.bytes; mixes = now.mixes; table = now.table }
-    → now ≡ raised_by before work
-    → line ≡ start ++ counts_text (last.digests - first.digests) (last.bytes - first.bytes) (last.mixes - first.mixes) (last.table - first.table)
-    → line ≡ text ++ work_text work
-counts-shown start text line first last before now work begins reads then risen written =
-    written ∙ rw (begins, reads, then) (ap (λ (x : List ℕ). text ++ x) (work_text-risen before now work risen))
+still : (count : ℕ) → count - count ≡ 0
+still count = omega arith
+
+-- and of one that stays there is none
+pub rise-same : (before after : Counts) → after ≡ before → rise before after ≡ no_work
+rise-same before after is =
+    rw (is, still before.digests, still before.bytes, still before.mixes, still before.table, still before.scratch) refl

@@ -9,9 +9,8 @@ use Rattle.crypt_core.specs.Crypt.{IsRefusedBy}
 use Rattle.crypt_core.specs.Passwords.{IsPassword}
 use Rattle.crypt_core.specs.Settings.{Kept}
 use Rattle.crypt_core.specs.Work.{raised_by, work}
-use Rattle.mkpasswd.specs.Answers.{Answer, hash_text, no_answer, no_work, password_answer}
+use Rattle.mkpasswd.specs.Answers.{Answer, after_work, hash_text, no_answer, password_answer}
 use Rattle.mkpasswd.specs.Devices.{Device}
-use Rattle.mkpasswd.specs.Makers.{setting_by, words_for}
 use Rattle.mkpasswd.proofs.Drawing.{IsDrawn}
 use Rattle.mkpasswd.specs.Input.{first_line}
 use Rattle.mkpasswd.specs.One.{EndsAfter, EndsBy, EndsOne, ObtainsFrom}
@@ -32,7 +31,7 @@ nonempty (x ∷ xs) some = omega arith
 -- ---- outputs
 
 module _ {T : Type 0} (contents : T → Option (List ℕ)) where
-  takes-nothing : (d : Device T) → Takes contents d d []
+  pub takes-nothing : (d : Device T) → Takes contents d d []
   takes-nothing d = record { shown = Appends-nil _; counted = omega arith }
 
   keeps-appended : (old mid new : Option (List ℕ)) (bs : List ℕ) → Appends old mid bs → Keeps mid new → Appends old new bs
@@ -42,22 +41,17 @@ module _ {T : Type 0} (contents : T → Option (List ℕ)) where
   keeps-appended (Some xs) (Some ys) (Some zs) bs a k = k ∙ a
 
   -- a flush changes nothing of what was taken
-  takes-flushed : (old mid new : Device T) (bytes : List ℕ) → Takes contents old mid bytes → Keeps (contents mid.inner) (contents new.inner)
+  pub takes-flushed : (old mid new : Device T) (bytes : List ℕ) → Takes contents old mid bytes → Keeps (contents mid.inner) (contents new.inner)
       → new.bytes ≡ mid.bytes → Takes contents old new bytes
   takes-flushed old mid new bytes takes keeps same = record {
     shown = keeps-appended _ (contents mid.inner) _ bytes takes.shown keeps;
     counted = same ∙ takes.counted;
   }
 
--- ---- counts
-
-raised_by-none : (m : Counts) → raised_by m no_work ≡ m
-raised_by-none m = rw (add-zero m.digests, add-zero m.bytes, add-zero m.mixes, add-zero m.table, add-zero m.scratch) refl
-
 -- what the run made before it wrote: the words were drawn, the hash is there, and its work is counted
 pub record HasAnswer (answer : Answer) (before : Counts) (stream : Stream) (counts : Counts) (line : List ℕ) : Type 0 where
   pub stream_is : stream ≡ answer.stream
-  pub counts_are : counts ≡ raised_by before answer.work
+  pub counts_are : counts ≡ after_work before answer.hashings
   pub line_is : line ≡ answer.text
 
 pub has_answer : (job : Job) (password : List ℕ) (before after : Stream) (counts_before counts : Counts) (kept : Kept) (line : List ℕ)
@@ -82,7 +76,7 @@ module _ {I O E : Type 0} (remaining : I → Option (List ℕ)) (contents : O �
       × IsAfter (no_answer stream) (hands input out faults stream counts) (hands new_input out faults stream counts)
   untouched input new_input out faults stream counts = (
     record { text = takes-nothing contents out; fault_text = takes-nothing fault_contents faults },
-    record { stream = refl; counts = sym (raised_by-none counts) },
+    record { stream = refl; counts = refl },
   )
 
   -- there is no password
@@ -117,7 +111,7 @@ module _ {I O E : Type 0} (remaining : I → Option (List ℕ)) (contents : O �
                 text = ([], [], refl, takes-nothing contents out);
                 fault_text = ([], [], refl, takes-nothing fault_contents faults);
               },
-              record { stream = refl; counts = sym (raised_by-none _ ∙ raised_by-none counts) },
+              record { stream = refl; counts = refl },
             ),
           ),
           moves,
@@ -159,7 +153,7 @@ module _ {I O E : Type 0} (remaining : I → Option (List ℕ)) (contents : O �
       → IsAfterBoth (no_answer stream) answer (hands input out faults stream before) (hands new_input new_out new_faults new_stream counts)
   after_answer answer stream before new_stream counts line input new_input out new_out faults new_faults has = record {
     stream = has.stream_is;
-    counts = has.counts_are ∙ ap (λ (m : Counts). raised_by m answer.work) (sym (raised_by-none before));
+    counts = has.counts_are;
   }
 
   -- memory for the hash was refused
@@ -174,8 +168,7 @@ module _ {I O E : Type 0} (remaining : I → Option (List ℕ)) (contents : O �
       record { of_input = unfailed ∙ sym (add-zero _); of_out = sym (add-zero _); of_faults = sym (add-zero _) },
       record { text = takes-nothing contents out; fault_text = takes-nothing fault_contents faults },
       drawn.stream_is,
-      subst (λ (m : Counts). IsRefusedBy m (setting_by job.maker (words_for job.maker stream).0).scheme new_counts) (sym (raised_by-none counts))
-          (subst (λ (k : Kept). IsRefusedBy counts k.scheme new_counts) drawn.kept_is refused),
+      inl (subst (λ (k : Kept). IsRefusedBy counts k.scheme new_counts) drawn.kept_is refused),
     ),
   )
 

@@ -24,7 +24,7 @@ module _ {I : Type 0} (remaining : I → Option (List ℕ)) where
     pub fewer : left ≤ turns
     pub few_calls : new.calls + old.bytes ≤ old.calls + new.bytes
 
-  Reads-trans : (old mid new : Device I) (front piece : List ℕ) → Reads remaining old mid front → Reads remaining mid new piece
+  pub Reads-trans : (old mid new : Device I) (front piece : List ℕ) → Reads remaining old mid front → Reads remaining mid new piece
       → Reads remaining old new (front ++ piece)
   Reads-trans old mid new front piece before more =
       let counted = before.counted in

@@ -15,6 +15,7 @@ module _ {T : Type 0} where
     pub takes : Takes contents old new sent
     pub unfailed : new.failures ≡ old.failures
     pub calls : new.calls + left ≡ old.calls + turns
+    pub fewer : left ≤ turns
     pub few_calls : new.calls + old.bytes ≤ old.calls + new.bytes
 
   -- a `give` that took some bytes of the rest
@@ -32,6 +33,7 @@ module _ {T : Type 0} where
       let size : length took ≡ count = length-take-le count rest within in
       let counted = before.takes.counted in
       let were_few = before.few_calls in
+      let were_fewer = before.fewer in
       record {
         sent = sent ++ took;
         split = rw next_is (append_assoc sent took (drop count rest) ∙ (ap (λ l. sent ++ l) (take-append-drop count rest) ∙ before.split));
@@ -41,6 +43,7 @@ module _ {T : Type 0} where
         };
         unfailed = no_failure ∙ before.unfailed;
         calls = omega (arith, before.calls, calls);
+        fewer = omega (arith, were_fewer);
         few_calls = omega (arith, were_few, calls, bytes);
       }
 
@@ -52,5 +55,6 @@ module _ {T : Type 0} where
     takes = record { shown = Appends-nil _; counted = omega arith };
     unfailed = refl;
     calls = refl;
+    fewer = omega arith;
     few_calls = omega arith;
   }

@@ -1,27 +1,44 @@
--- What is answered to one item: a password, or later a line.
-use Rattle.std.specs.Prelude.{ℕ, Bool, List, [], ◌∷◌, ◌++◌, Option, Some, None, codes, decimal, if◌then◌else◌}
+-- What is answered to one item: a password or a line.
+use Rattle.std.specs.Prelude.{ℕ, Bool, List, [], ◌∷◌, ◌++◌, ◌⊎◌, codes, decimal, if◌then◌else◌}
 use Rattle.rand_core.specs.Stream.{Stream}
-use Rattle.crypt_core.specs.Crypt.{crypt}
+use Rattle.prims_core.specs.Meter.{Counts}
+use Rattle.crypt_core.specs.Crypt.{crypt, IsRefusedBy}
 use Rattle.crypt_core.specs.Settings.{Kept}
-use Rattle.crypt_core.specs.Work.{work}
-use Rattle.crypt_core.specs.declared.scheme.Scheme.{Scheme}
+use Rattle.crypt_core.specs.Work.{raised_by, work}
 use Rattle.crypt_core.specs.declared.work.Work.{Work}
 use Rattle.mkpasswd.specs.Makers.{Recipe, setting_by, words_for}
 use Rattle.mkpasswd.specs.Tallies.{no_line, one_line}
 use Rattle.mkpasswd.specs.declared.tally.Tally.{Tally}
 
--- what goes to the output and to the fault output, what it adds to the tally, by which scheme and with how
--- much work it is hashed, and what it leaves of the stream of random words
+-- ---- the hashes behind answers
+
+-- a hash that is made: of which password, by which setting
+pub record Hashing : Type 0 where
+  pub password : List ℕ
+  pub setting : Kept
+
+-- the counts after the work of these hashes
+abbrev pub after_work : Counts → List Hashing → Counts
+after_work counts [] = counts
+after_work counts (hashing ∷ hashings) = after_work (raised_by counts (work hashing.password hashing.setting)) hashings
+
+-- the counts where memory was refused for one of them, and the ones before it were made
+abbrev pub IsRefusedAmong : Counts → List Hashing → Counts → Type 0
+IsRefusedAmong before [] after = ⊥
+IsRefusedAmong before (hashing ∷ hashings) after =
+    IsRefusedBy before hashing.setting.scheme after
+    ⊎ IsRefusedAmong (raised_by before (work hashing.password hashing.setting)) hashings after
+
+-- ---- answers
+
+-- what goes to the output and to the fault output, what it adds to the tally, the hashes that are made for
+-- it, in order, and what it leaves of the stream of random words
 pub record Answer : Type 0 where
   pub text : List ℕ
   pub fault_text : List ℕ
   pub tally : Tally
-  pub scheme : Option Scheme
-  pub work : Work
+  pub hashings : List Hashing
   pub stream : Stream
-
-abbrev pub no_work : Work
-no_work = record { digests = 0; bytes = 0; mixes = 0; table = 0; scratch = 0 }
 
 -- nothing is answered
 abbrev pub no_answer : Stream → Answer
@@ -29,16 +46,20 @@ no_answer stream = record {
   text = [];
   fault_text = [];
   tally = no_line;
-  scheme = None;
-  work = no_work;
+  hashings = [];
   stream = stream;
 }
+
+-- ---- the counts behind an answer
+
+abbrev pub no_work : Work
+no_work = record { digests = 0; bytes = 0; mixes = 0; table = 0; scratch = 0 }
 
 -- a colon and a number in decimal
 abbrev pub count_text : ℕ → List ℕ
 count_text count = codes ":" ++ decimal count
 
--- four counts, as they are written behind a hash
+-- four counts, as they are written behind an answer
 abbrev pub counts_text : ℕ → ℕ → ℕ → ℕ → List ℕ
 counts_text digests bytes mixes table =
     count_text digests ++ count_text bytes ++ count_text mixes ++ count_text table
@@ -46,10 +67,15 @@ counts_text digests bytes mixes table =
 abbrev pub work_text : Work → List ℕ
 work_text work = counts_text work.digests work.bytes work.mixes work.table
 
+-- and only where they are wanted
+abbrev pub wanted_text : Bool → Work → List ℕ
+wanted_text is_counted work = if is_counted then work_text work else []
+
 -- the hash of a password by a setting, as crypt(3) gives it, and its counts where they are wanted
 abbrev pub hash_text : Bool → List ℕ → Kept → List ℕ
-hash_text is_counted password kept =
-    crypt password kept ++ (if is_counted then work_text (work password kept) else [])
+hash_text is_counted password kept = crypt password kept ++ wanted_text is_counted (work password kept)
+
+-- ---- the answer to a password
 
 -- that text and a line feed (10), for a password of its own
 abbrev pub password_answer : Recipe → Bool → List ℕ → Stream → Answer
@@ -60,7 +86,6 @@ password_answer recipe is_counted password stream =
       text = hash_text is_counted password kept ++ 10 ∷ [];
       fault_text = [];
       tally = one_line;
-      scheme = Some kept.scheme;
-      work = work password kept;
+      hashings = record { password = password; setting = kept } ∷ [];
       stream = words.1;
     }

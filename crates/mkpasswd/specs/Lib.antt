@@ -2,6 +2,10 @@ pub mod Answers
 pub mod Devices
 pub mod Faults
 pub mod Input
+pub mod LineAnswers
+pub mod LineFaults
+pub mod LineRuns
+pub mod Lines
 pub mod Makers
 pub mod Methods
 pub mod One

@@ -20,7 +20,9 @@ use Rattle.mkpasswd.specs.declared.job.Job.{Job}
 use Rattle.mkpasswd.specs.declared.job.PasswordFrom.{PasswordFrom}
 use Rattle.mkpasswd.specs.declared.job.PasswordFrom.TheVariants.{Word, Input}
 use Rattle.mkpasswd.specs.declared.job.Plan.{Plan}
-use Rattle.mkpasswd.specs.declared.job.Plan.TheVariants.{Methods, One}
+use Rattle.mkpasswd.specs.declared.job.Plan.TheVariants.{Methods, One, Batch, Check}
+use Rattle.mkpasswd.specs.declared.line.Kind.{Kind}
+use Rattle.mkpasswd.specs.declared.line.Kind.TheVariants as kinds
 
 -- ---- the command, as `clap` reads it
 
@@ -51,6 +53,13 @@ rounds_rule = record (value_rule (codes "rounds")) {
 abbrev pub stdin_rule : Rule
 stdin_rule = record (flag_rule (codes "stdin")) { short = Some 115; long = Some (codes "stdin") }
 
+-- --batch, and --check
+abbrev pub batch_rule : Rule
+batch_rule = record (flag_rule (codes "batch")) { long = Some (codes "batch") }
+
+abbrev pub check_rule : Rule
+check_rule = record (flag_rule (codes "check")) { long = Some (codes "check") }
+
 -- --work
 abbrev pub work_rule : Rule
 work_rule = record (flag_rule (codes "work")) { long = Some (codes "work") }
@@ -69,8 +78,8 @@ bare_command = on_top (λ s. record s { no_binary_name = true; has_version = tru
 
 unfoldable pub command : App
 command = fold with_rule bare_command
-    (method_rule ∷ salt_rule ∷ rounds_rule ∷ stdin_rule ∷ work_rule ∷ password_rule
-    ∷ salt_word_rule ∷ [])
+    (method_rule ∷ salt_rule ∷ rounds_rule ∷ stdin_rule ∷ batch_rule ∷ check_rule ∷ work_rule
+    ∷ password_rule ∷ salt_word_rule ∷ [])
 
 -- ---- what `clap` finds
 
@@ -83,8 +92,10 @@ pub record Values : Type 0 where
   pub salt_word : Option Text
   -- the number of -R, or 0
   pub cost : ℕ
-  -- -s, and --work
+  -- -s, --batch, --check, and --work
   pub stdin : Bool
+  pub batch : Bool
+  pub check : Bool
   pub work : Bool
   -- the first word
   pub password : Option Text
@@ -103,6 +114,8 @@ values_in rows = record {
   salt_word = first_of (codes "salt-word") rows;
   cost = number_of (codes "rounds") rows;
   stdin = is_set (codes "stdin") rows;
+  batch = is_set (codes "batch") rows;
+  check = is_set (codes "check") rows;
   work = is_set (codes "work") rows;
   password = first_of (codes "password") rows;
 }
@@ -129,16 +142,19 @@ type_of values = unwrap_or values.method (codes "sha512crypt")
 abbrev pub given_salt : Values → Option Text
 given_salt values = if is_some values.salt then values.salt else values.salt_word
 
--- what a plan does: it hashes the password of a word, or that of the input
+-- what a plan does: it hashes the password of a word or that of the input, or goes through lines
 pub data Mode : Type 0 where
   word : Text → Mode
   input : Mode
+  lines : Kind → Mode
 
 -- the modes that were asked for
 abbrev pub modes_of : Values → List Mode
 modes_of values =
     option_map_or (λ password. word password ∷ []) values.password []
     ++ (if values.stdin then input ∷ [] else [])
+    ++ (if values.batch then lines kinds.Batch ∷ [] else [])
+    ++ (if values.check then lines kinds.Check ∷ [] else [])
 
 -- ---- the rules, in their order, and the plan
 
@@ -184,6 +200,8 @@ Means values (Ok Methods) = AsksForMethods values
 Means values (Ok (One job from)) =
     (method : Method) × (mode : Mode) × HasMode values method mode × IsJob values method job
     × IsFrom mode from
+Means values (Ok (Batch job)) = (method : Method) × HasMode values method (lines kinds.Batch) × IsJob values method job
+Means values (Ok (Check job)) = (method : Method) × HasMode values method (lines kinds.Check) × IsJob values method job
 Means values (Err UnknownMethod) = ¬ AsksForMethods values × (method_named (type_of values) ≡ None)
 Means values (Err TwoSalts) = (method : Method) × Names values method × HasTwoSalts values
 Means values (Err TwoModes) = (method : Method) × HasSalt values method × (1 < length (modes_of values))

@@ -1,3 +1,8 @@
 -- What only contracts of private functions cite. A reader of the public clauses needs none of it.
+pub mod Entries
 pub mod Fetching
 pub mod Found
+pub mod LineEnds
+pub mod Made
+pub mod Progress
+pub mod Rooms

@@ -1,12 +1,9 @@
 -- How a run leaves its three devices, the stream of its generator and its meter. The answers are arguments:
 -- those that it gave whole, and the one that it was at where it was cut short.
-use Rattle.std.specs.Prelude.{◌≡◌, ℕ, ◌+◌, ◌^◌, ◌≤◌, ◌⊎◌, List, ◌++◌, Option, Some, None, Result, Ok, Err}
+use Rattle.std.specs.Prelude.{◌≡◌, ℕ, ◌+◌, ◌^◌, ◌≤◌, ◌⊎◌, List, ◌++◌, Option, Result, Ok, Err}
 use Rattle.rand_core.specs.Stream.{Stream}
 use Rattle.prims_core.specs.Meter.{Counts}
-use Rattle.crypt_core.specs.Crypt.{IsRefusedBy}
-use Rattle.crypt_core.specs.Work.{raised_by}
-use Rattle.crypt_core.specs.declared.scheme.Scheme.{Scheme}
-use Rattle.mkpasswd.specs.Answers.{Answer}
+use Rattle.mkpasswd.specs.Answers.{Answer, IsRefusedAmong, after_work}
 use Rattle.mkpasswd.specs.Devices.{Device, MovesBytes}
 use Rattle.mkpasswd.specs.Output.{Takes}
 use Rattle.mkpasswd.specs.declared.faults.RunFault.{RunFault}
@@ -48,11 +45,6 @@ pub record HasCountsForRun (counts : Counts) : Type 0 where
 abbrev pub TakesFront : {T : Type 0} → (T → Option (List ℕ)) → Device T → Device T → List ℕ → List ℕ → Type 0
 TakesFront contents old new whole text =
     (sent : List ℕ) × (unsent : List ℕ) × (sent ++ unsent ≡ text) × Takes contents old new (whole ++ sent)
-
--- the counts where memory for a hash was refused
-abbrev pub IsRefusedFor : Counts → Option Scheme → Counts → Type 0
-IsRefusedFor before None after = ⊥
-IsRefusedFor before (Some scheme) after = IsRefusedBy before scheme after
 
 module _ {I O E : Type 0} where
   -- ---- the calls of the devices
@@ -101,15 +93,15 @@ module _ {I O E : Type 0} where
     pub text : TakesFront tells.contents old.out new.out done.text next.text
     pub fault_text : TakesFront tells.fault_contents old.faults new.faults done.fault_text next.fault_text
 
-  -- the words and the work of one answer were taken, and no others
+  -- the words of one answer were drawn and its hashes made, and no others
   pub record IsAfter (done : Answer) (old new : Hands I O E) : Type 0 where
     pub stream : new.stream ≡ done.stream
-    pub counts : new.counts ≡ raised_by old.counts done.work
+    pub counts : new.counts ≡ after_work old.counts done.hashings
 
   -- those of one answer and of the next
   pub record IsAfterBoth (done next : Answer) (old new : Hands I O E) : Type 0 where
     pub stream : new.stream ≡ next.stream
-    pub counts : new.counts ≡ raised_by (raised_by old.counts done.work) next.work
+    pub counts : new.counts ≡ after_work (after_work old.counts done.hashings) next.hashings
 
   -- ---- the end of a run
 
@@ -130,6 +122,6 @@ module _ {I O E : Type 0} where
       × IsAfterBoth done next old new
   Ends tells turns done next old new (Err OutOfMemory) =
       Fails 0 0 0 old new × TakesAnswer tells done old new × (new.stream ≡ next.stream)
-      × IsRefusedFor (raised_by old.counts done.work) next.scheme new.counts
+      × IsRefusedAmong (after_work old.counts done.hashings) next.hashings new.counts
   Ends tells turns done next old new (Err (Password fault)) =
       Fails 0 0 0 old new × TakesAnswer tells done old new × IsAfter done old new

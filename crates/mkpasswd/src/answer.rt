@@ -1,44 +1,272 @@
-//! The text that answers a password: its hash, the counts of its work where they are wanted, and a line
-//! feed.
-ghost use Rattle.std.specs.Prelude.{◌≡◌, ◌+◌, ◌-◌, ◌≤◌, ◌++◌, [], ◌∷◌, length, IfOk, OnOk, OnErr};
+//! Answers: the hash of a password, or what is told of a line. Each is made whole before anything is written.
+ghost use Rattle.std.specs.Prelude.{◌≡◌, ◌+◌, ◌-◌, ◌^◌, ◌≤◌, ◌++◌, [], ◌∷◌, length, IfOk, OnOk, OnErr};
 ghost use Rattle.arrayvec.specs.ArrayVec.{array_vec_len};
-ghost use Rattle.crypt_core.specs.Work.{raised_by, work, HasRoom};
 ghost use Rattle.crypt_core.specs.Crypt.{IsRefusedBy};
-ghost use Rattle.mkpasswd.specs.Answers.{count_text, counts_text, hash_text};
+ghost use Rattle.crypt_core.specs.Work.{raised_by, work, HasRoom};
+ghost use Rattle.rand_core.specs.Stream.{Stream};
+ghost use Rattle.mkpasswd.specs.Answers.{Answer, count_text, counts_text, hash_text};
+ghost use Rattle.mkpasswd.specs.LineAnswers.{IsAnswer, hashed_answer, refused_answer};
+ghost use Rattle.mkpasswd.specs.Lines.{colon};
+ghost use Rattle.mkpasswd.specs.Private.Made.{Checks, IsRaisedBelow, Judges, Makes, Says, verdict_outcome, verdict_word};
 
+use crate::job::Job;
+use crate::line::{Field, Kind, LineFault, entry_of};
 use arrayvec::ArrayVec;
+use crypt_core::fits::{FitFault, fits};
 use crypt_core::hash::{HashFault, hash};
 use crypt_core::password::Password;
 use crypt_core::setting::Setting;
 use itoa::Buffer;
 use prims_core::buffer::buffer_of;
 use prims_core::meter::Meter;
+use rand_core::Rng;
 use std::alloc::Global;
 
+/// The text of an answer. A name of 64 bytes, a colon, a hash of 144, four counts of 41 and a line feed have
+/// 374 bytes.
+pub(crate) type Text = ArrayVec<u8, 384>;
+
+/// What an answer to a line counts as. A refusal goes to the fault output, every other one to the output.
+#[derive(Clone, Copy, Debug, PartialEq, Eq)]
+pub(crate) enum Outcome {
+    /// A hash, or a verdict other than `no`.
+    Answered,
+    /// The verdict `no`.
+    Misfit,
+    /// The line is refused.
+    Refused,
+}
+
+/// An answer to a line.
+#[derive(Drop)]
+pub(crate) struct LineAnswer {
+    pub(crate) outcome: Outcome,
+    pub(crate) text: Text,
+}
+
 /// The hash of a password by a setting, with the counts `:digests:bytes:mixes:table` of this hash where
-/// they are wanted, and a line feed. It is made whole before anything is written.
+/// they are wanted, and a line feed.
 ///
 /// `OutOfMemory` comes as `hash` has it.
-pub(crate) fn hash_line(
+pub(crate) fn answer_password(
     alloc: Global,
     password: &Password,
     setting: &Setting,
     is_counted: bool,
     meter: &mut Meter,
-) -> Result<ArrayVec<u8, 320>, HashFault>
+) -> Result<Text, HashFault>
     requires { HasRoom meter.old }
     ensures line { IfOk result (λ line. line.items ≡ hash_text is_counted password.now setting.now ++ 10 ∷ []) }
     ensures count { OnOk result (meter.new ≡ raised_by meter.old (work password.now setting.now)) }
     ensures refused { OnErr result (IsRefusedBy meter.old setting.now.scheme meter.new) }
 {
-    let before = Shown::by(meter);
-    let hashed = hash(alloc, password, setting, meter)?;
-    let mut line = buffer_of(hashed.text());
-    if is_counted {
-        append_counts(&mut line, &before, &Shown::by(meter));
-    }
+    let mut line = Text::new();
+    append_hash(&mut line, alloc, password, setting, is_counted, meter)?;
     line.push(b'\n');
     Ok(line)
+}
+
+/// The answer to the line with this number: the hash of its password by a setting that the job makes, the
+/// verdict on its password, or its refusal. The counts are those of this answer alone.
+///
+/// Three words are drawn where a salt is made for a hash, and none otherwise. A line that is refused is not
+/// hashed. `OutOfMemory` comes as `hash` has it.
+pub(crate) fn answer_line<R: Rng>(
+    alloc: Global,
+    kind: Kind,
+    job: &Job,
+    number: u64,
+    line: &[u8],
+    rng: &mut R,
+    meter: &mut Meter,
+) -> Result<LineAnswer, HashFault>
+    requires { HasRoom meter.old }
+    ensures answer { (answer : Answer) × IsAnswer kind job.now number line.now (R.stream rng.old) answer
+        × Makes answer meter.old meter.new result × (R.stream rng.new ≡ answer.stream) }
+    ensures small { IsRaisedBelow (2 ^ 41) meter.old meter.new }
+{
+    let entry = match entry_of(kind, line) {
+        Ok(entry) => entry,
+        Err(fault) => return Ok(refusal(number, fault)),
+    };
+    match entry.field {
+        None => hash_answer(alloc, job, entry.name, &entry.password, rng, meter),
+        Some(field) => match check_answer(alloc, job, entry.name, field, &entry.password, meter) {
+            Ok(answer) => Ok(answer),
+            Err(FitFault::Setting(fault)) => Ok(refusal(number, LineFault::Setting(fault))),
+            Err(FitFault::OutOfMemory) => Err(HashFault::OutOfMemory),
+        },
+    }
+}
+
+/// The refusal of the line with this number.
+pub(crate) fn refusal(number: u64, fault: LineFault) -> LineAnswer
+    ensures { (stream : Stream) → Says result.outcome result.text.items (refused_answer number fault stream) }
+{
+    let mut text = Text::new();
+    append(&mut text, b"mkpasswd: line ");
+    append(&mut text, Buffer::new().format(number).as_bytes());
+    append(&mut text, b": ");
+    append(&mut text, fault.text().as_bytes());
+    text.push(b'\n');
+    LineAnswer {
+        outcome: Outcome::Refused,
+        text,
+    }
+}
+
+// The hash of a line's password, behind the name.
+fn hash_answer<R: Rng>(
+    alloc: Global,
+    job: &Job,
+    name: &[u8],
+    password: &Password,
+    rng: &mut R,
+    meter: &mut Meter,
+) -> Result<LineAnswer, HashFault>
+    requires room { HasRoom meter.old }
+    requires short { length name.now ≤ 64 }
+    ensures answer { Makes (hashed_answer job.now name.now password.now (R.stream rng.old)) meter.old meter.new result }
+    ensures stream { R.stream rng.new ≡ (hashed_answer job.now name.now password.now (R.stream rng.old)).stream }
+    ensures small { IsRaisedBelow (2 ^ 41) meter.old meter.new }
+{
+    let setting = job.maker.next_setting(rng);
+    let mut text = text_behind(name);
+    append_hash(&mut text, alloc, password, &setting, job.work, meter)?;
+    text.push(b'\n');
+    Ok(LineAnswer {
+        outcome: Outcome::Answered,
+        text,
+    })
+}
+
+// What is told of a line's password, behind the name.
+fn check_answer(
+    alloc: Global,
+    job: &Job,
+    name: &[u8],
+    field: &[u8],
+    password: &Password,
+    meter: &mut Meter,
+) -> Result<LineAnswer, FitFault>
+    requires room { HasRoom meter.old }
+    requires short { length name.now ≤ 64 }
+    ensures checks { Checks job.now.work name.now field.now password.now meter.old meter.new result }
+    ensures small { IsRaisedBelow (2 ^ 41) meter.old meter.new }
+{
+    let before = Shown::by(meter);
+    let verdict = verdict_of(alloc, field, password, meter)?;
+    let mut text = text_behind(name);
+    append(&mut text, verdict.text().as_bytes());
+    if job.work {
+        append_counts(&mut text, &before, &Shown::by(meter));
+    }
+    text.push(b'\n');
+    Ok(LineAnswer {
+        outcome: verdict.outcome(),
+        text,
+    })
+}
+
+// What a check says of a password.
+#[derive(Clone, Copy, Debug, PartialEq, Eq)]
+enum Verdict {
+    Fits,
+    Differs,
+    NoneStored,
+    Locked,
+}
+
+impl Verdict {
+    fn text(self) -> &'static str
+        ensures { result.now ≡ verdict_word self }
+    {
+        match self {
+            Verdict::Fits => "ok",
+            Verdict::Differs => "no",
+            Verdict::NoneStored => "none",
+            Verdict::Locked => "locked",
+        }
+    }
+
+    fn outcome(self) -> Outcome
+        ensures { result ≡ verdict_outcome self }
+    {
+        match self {
+            Verdict::Differs => Outcome::Misfit,
+            Verdict::Fits | Verdict::NoneStored | Verdict::Locked => Outcome::Answered,
+        }
+    }
+}
+
+// The verdict on a password, by a field.
+fn verdict_of(
+    alloc: Global,
+    field: &[u8],
+    password: &Password,
+    meter: &mut Meter,
+) -> Result<Verdict, FitFault>
+    requires { HasRoom meter.old }
+    ensures judges { Judges field.now password.now meter.old meter.new result }
+    ensures small { IsRaisedBelow (2 ^ 41) meter.old meter.new }
+{
+    match Field::of(field) {
+        Field::Empty => Ok(Verdict::NoneStored),
+        Field::Locked => Ok(Verdict::Locked),
+        Field::Stored => {
+            if fits(alloc, password, field, meter)? {
+                Ok(Verdict::Fits)
+            } else {
+                Ok(Verdict::Differs)
+            }
+        }
+    }
+}
+
+// A name and a colon.
+fn text_behind(name: &[u8]) -> Text
+    requires { length name.now ≤ 64 }
+    ensures text { result.items ≡ name.now ++ colon ∷ [] }
+    ensures short { array_vec_len result ≤ 65 }
+{
+    let mut text = Text::new();
+    append(&mut text, name);
+    text.push(b':');
+    text
+}
+
+// The hash of a password by a setting, and its counts where they are wanted.
+fn append_hash(
+    text: &mut Text,
+    alloc: Global,
+    password: &Password,
+    setting: &Setting,
+    is_counted: bool,
+    meter: &mut Meter,
+) -> Result<(), HashFault>
+    requires room { HasRoom meter.old }
+    requires short { array_vec_len text.old ≤ 65 }
+    ensures text { OnOk result (text.new.items ≡ text.old.items ++ hash_text is_counted password.now setting.now) }
+    ensures fits { OnOk result (array_vec_len text.new ≤ 373) }
+    ensures count { OnOk result (meter.new ≡ raised_by meter.old (work password.now setting.now)) }
+    ensures refused { OnErr result (IsRefusedBy meter.old setting.now.scheme meter.new) }
+    ensures small { IsRaisedBelow (2 ^ 41) meter.old meter.new }
+{
+    let before = Shown::by(meter);
+    let hashed = hash(alloc, password, setting, meter)?;
+    append(text, hashed.text());
+    if is_counted {
+        append_counts(text, &before, &Shown::by(meter));
+    }
+    Ok(())
+}
+
+// Bytes for which there is room.
+fn append(text: &mut Text, bytes: &[u8])
+    requires { array_vec_len text.old + length bytes.now ≤ 384 }
+    ensures { text.new.items ≡ text.old.items ++ bytes.now }
+{
+    text.try_extend_from_slice(bytes).unwrap();
 }
 
 // The counts of a meter that an answer shows.
@@ -64,8 +292,8 @@ impl Shown {
 }
 
 // By how much each count has risen.
-fn append_counts(line: &mut ArrayVec<u8, 320>, before: &Shown, after: &Shown)
-    requires room { array_vec_len line.old ≤ 144 }
+fn append_counts(line: &mut Text, before: &Shown, after: &Shown)
+    requires room { array_vec_len line.old ≤ 209 }
     requires digests { before.now.digests ≤ after.now.digests }
     requires bytes { before.now.bytes ≤ after.now.bytes }
     requires mixes { before.now.mixes ≤ after.now.mixes }
@@ -82,8 +310,8 @@ fn append_counts(line: &mut ArrayVec<u8, 320>, before: &Shown, after: &Shown)
 }
 
 // A colon and a number, which together have at most 41 bytes.
-fn append_count(line: &mut ArrayVec<u8, 320>, count: u128)
-    requires { array_vec_len line.old + 41 ≤ 320 }
+fn append_count(line: &mut Text, count: u128)
+    requires { array_vec_len line.old + 41 ≤ 384 }
     ensures count { line.new.items ≡ line.old.items ++ count_text count }
     ensures few { array_vec_len line.new ≤ array_vec_len line.old + 41 }
 {
@@ -91,3 +319,6 @@ fn append_count(line: &mut ArrayVec<u8, 320>, count: u128)
     line.try_extend_from_slice(Buffer::new().format(count).as_bytes())
         .unwrap();
 }
+
+#[cfg(test)]
+mod tests;

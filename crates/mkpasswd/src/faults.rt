@@ -24,7 +24,7 @@ pub enum UsageFault {
     /// The salt was given twice, by `-S` and as a word.
     #[error("{}", self.text())]
     TwoSalts,
-    /// More than one of PASSWORD and `-s` was given.
+    /// More than one of PASSWORD, `-s`, `--batch` and `--check` was given.
     #[error("{}", self.text())]
     TwoModes,
     /// The method, the cost and the salt that was given don't go together.

@@ -9,6 +9,10 @@ pub enum Plan {
     Methods,
     /// To hash one password.
     One(Job, PasswordFrom),
+    /// To hash the password of each line of the input.
+    Batch(Job),
+    /// To check the password of each line of the input.
+    Check(Job),
 }
 
 /// How passwords are hashed, and how that is answered.

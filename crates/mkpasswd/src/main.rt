@@ -10,6 +10,8 @@ ghost use Rattle.mkpasswd.specs.Faults.{fault_status};
 use device::{Input, Output};
 use faults::{Fault, RunFault, UsageFault};
 use job::{Job, PasswordFrom, Plan};
+use line::Kind;
+use lines::{run_batch, run_check};
 use methods::run_methods;
 use one::run_one;
 use options::plan;
@@ -23,7 +25,10 @@ use tally::Tally;
 mod answer;
 mod device;
 mod faults;
+mod fetch;
 mod job;
+mod line;
+mod lines;
 mod maker;
 mod methods;
 mod one;
@@ -32,6 +37,8 @@ mod send;
 mod tally;
 #[cfg(test)]
 mod test_devices;
+#[cfg(test)]
+mod test_given;
 
 /// How many calls to move bytes a run may make of its devices.
 const TURNS: u64 = 1 << 40;
@@ -50,6 +57,8 @@ fn plan_and_run(rt: &HostRuntime) -> Result<Tally, Fault> {
     match plan(rt.alloc(), words.as_slice())? {
         Plan::Methods => Ok(run_methods(&mut Output::new(rt.stdout()), TURNS)?),
         Plan::One(job, from) => hash_one(rt, &job, &from),
+        Plan::Batch(job) => go_through(rt, Kind::Batch, &job),
+        Plan::Check(job) => go_through(rt, Kind::Check, &job),
     }
 }
 
@@ -67,6 +76,38 @@ fn hash_one(rt: &HostRuntime, job: &Job, from: &PasswordFrom) -> Result<Tally, F
         &mut Meter::new(),
         TURNS,
     )?;
+    Ok(tally)
+}
+
+/// Hashes or checks the lines of standard input.
+fn go_through(rt: &HostRuntime, kind: Kind, job: &Job) -> Result<Tally, Fault> {
+    let mut rng = generator(rt)?;
+    let mut input = Input::new(rt.stdin());
+    let mut out = Output::new(rt.stdout());
+    let mut faults = Output::new(rt.stderr());
+    let mut meter = Meter::new();
+    let tally = match kind {
+        Kind::Batch => run_batch(
+            rt.alloc(),
+            job,
+            &mut input,
+            &mut out,
+            &mut faults,
+            &mut rng,
+            &mut meter,
+            TURNS,
+        )?,
+        Kind::Check => run_check(
+            rt.alloc(),
+            job,
+            &mut input,
+            &mut out,
+            &mut faults,
+            &mut rng,
+            &mut meter,
+            TURNS,
+        )?,
+    };
     Ok(tally)
 }
 

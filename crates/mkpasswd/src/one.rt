@@ -7,7 +7,7 @@ ghost use Rattle.mkpasswd.specs.Runs.{hands, tells, HasCountsForRun, IsWithinTur
 
 mod password;
 
-use crate::answer::hash_line;
+use crate::answer::answer_password;
 use crate::device::{Input, Output};
 use crate::faults::RunFault;
 use crate::job::{Job, PasswordFrom};
@@ -58,7 +58,7 @@ pub fn run_one<I: Read, O: Write, E: Write, R: Rng>(
     let mut left = turns;
     let password = obtain(from, input, &mut left)?;
     let setting = job.maker.next_setting(rng);
-    let line = hash_line(alloc, &password, &setting, job.work, meter)?;
+    let line = answer_password(alloc, &password, &setting, job.work, meter)?;
     send(out, line.as_slice(), &mut left)?;
     finish(out)?;
     finish(faults)?;

@@ -12,6 +12,7 @@ ghost use Rattle.mkpasswd.specs.Private.Found.{mode_of, values_of};
 
 use crate::faults::UsageFault;
 use crate::job::{Job, PasswordFrom, Plan};
+use crate::line::Kind;
 use crate::maker::Maker;
 use clap::error::ErrorKind;
 use clap::{Arg, ArgAction, ArgMatches, Command, value_parser};
@@ -32,15 +33,18 @@ struct Given<'a> {
     salt_word: Option<&'a str>,
     cost: u32,
     stdin: bool,
+    batch: bool,
+    check: bool,
     work: bool,
     password: Option<&'a str>,
 }
 
-/// What a plan does: it hashes the password of a word, or that of the input.
+/// What a plan does: it hashes the password of a word or that of the input, or hashes or checks lines.
 #[derive(Clone, Copy)]
 enum Mode<'a> {
     Word(&'a str),
     Input,
+    Lines(Kind),
 }
 
 /// Says what the words after the program's name ask for. It answers the first of these refusals that
@@ -49,7 +53,7 @@ enum Mode<'a> {
 /// - `Parse`: the words are not the command's, or ask for help or the version;
 /// - `Method`: TYPE names no method, nor is it `help`;
 /// - `TwoSalts`: the salt is given by `-S` and as a word;
-/// - `TwoModes`: more than one of PASSWORD and `-s` is given;
+/// - `TwoModes`: more than one of PASSWORD, `-s`, `--batch` and `--check` is given;
 /// - `Make`: `Maker::new` refuses the method, the cost and the salt.
 ///
 /// TYPE `help` asks for the list of methods, whatever else is given. `OutOfMemory` comes at the growth
@@ -74,6 +78,8 @@ pub fn plan(alloc: Global, words: &[String]) -> Result<Plan, UsageFault>
             Plan::One(job, PasswordFrom::Word(bytes))
         }
         Mode::Input => Plan::One(job, PasswordFrom::Input),
+        Mode::Lines(Kind::Batch) => Plan::Batch(job),
+        Mode::Lines(Kind::Check) => Plan::Check(job),
     })
 }
 
@@ -90,6 +96,8 @@ fn read_words<'a>(alloc: Global, words: &'a [String]) -> Result<Given<'a>, clap:
         salt_word: matches.get_str("salt-word"),
         cost: matches.get_one("rounds").unwrap_or(0),
         stdin: is_set(&matches, "stdin"),
+        batch: is_set(&matches, "batch"),
+        check: is_set(&matches, "check"),
         work: is_set(&matches, "work"),
         password: matches.get_str("password"),
     })
@@ -141,12 +149,14 @@ fn one_mode<'a>(given: &Given<'a>) -> Result<Mode<'a>, UsageFault>
     ensures more { IfErr result (λ fault. (fault ≡ UsageFault.TwoModes)
         × (1 < length (modes_of (values_of given.now)))) }
 {
-    let count = u32::from(given.password.is_some()) + u32::from(given.stdin);
-    if count > 1 {
+    let flags = u32::from(given.stdin) + u32::from(given.batch) + u32::from(given.check);
+    if u32::from(given.password.is_some()) + flags > 1 {
         return Err(UsageFault::TwoModes);
     }
     Ok(match given.password {
         Some(password) => Mode::Word(password),
+        None if given.batch => Mode::Lines(Kind::Batch),
+        None if given.check => Mode::Lines(Kind::Check),
         None => Mode::Input,
     })
 }
@@ -170,6 +180,12 @@ fn command<'a>(alloc: Global) -> Result<Command<'a>, AllocError>
     let stdin = flag(alloc, "stdin")
         .short('s')
         .help("The password is the first line of standard input");
+    let batch = flag(alloc, "batch").help(
+        "Hash the password of each line of standard input: name:password",
+    );
+    let check = flag(alloc, "check").help(
+        "Check the password of each line of standard input: name:field:password",
+    );
     let work = flag(alloc, "work").help(
         "Show what the hash cost: digests, bytes, mixings, bytes of table",
     );
@@ -179,13 +195,15 @@ fn command<'a>(alloc: Global) -> Result<Command<'a>, AllocError>
     let salt_word = word(alloc, "salt-word", "SALT").help("The salt, in place of --salt");
     Command::new(alloc, "mkpasswd")
         .version("0.1.0")
-        .about("Prints the crypt(5) hash of a password")
+        .about("Prints the crypt(5) hash of a password, and hashes or checks the lines of a file")
         .after_help(AFTER_HELP)
         .no_binary_name(true)
         .arg(method)?
         .arg(salt)?
         .arg(rounds)?
         .arg(stdin)?
+        .arg(batch)?
+        .arg(check)?
         .arg(work)?
         .arg(password)?
         .arg(salt_word)

@@ -1,7 +1,8 @@
 //! What every run does with an output: it gives whole texts, by turns, and flushes it at the end.
-ghost use Rattle.std.specs.Prelude.{◌≡◌, ◌+◌, ◌-◌, ◌^◌, ◌<◌, ◌≤◌, length, IfErr, OnOk, OnErr};
+ghost use Rattle.std.specs.Prelude.{◌≡◌, ◌+◌, ◌-◌, ◌^◌, ◌<◌, ◌≤◌, length, Err, IfErr, OnOk, OnErr};
 ghost use Rattle.std.specs.Io.KnownBytes.{Keeps};
-ghost use Rattle.mkpasswd.specs.Devices.{HasRoomForRun, MovesBytes, FailsOnce, IsUnfailed};
+ghost use Rattle.mkpasswd.specs.Devices.{MovesBytes, FailsOnce, IsUnfailed};
+ghost use Rattle.mkpasswd.specs.Private.Rooms.{HasRoomInRun};
 ghost use Rattle.mkpasswd.specs.Output.{Delivers, ShowsOutcome};
 
 use crate::device::Output;
@@ -19,12 +20,15 @@ pub(crate) fn send<O: Write>(
     left: &mut u64,
 ) -> Result<(), RunFault>
     requires turns { left.old ≤ 2 ^ 40 }
-    requires room { HasRoomForRun out.old }
+    requires room { HasRoomInRun out.old }
     requires short { length text.now ≤ 2048 }
     ensures delivers { Delivers O.contents out.old out.new text.now result }
     ensures outcome { ShowsOutcome left.old out.old out.new result }
     ensures turns { out.new.calls + left.new ≡ out.old.calls + left.old }
+    ensures fewer { left.new ≤ left.old }
     ensures moves { MovesBytes 0 out.old out.new }
+    ensures few_bytes { out.new.bytes ≤ out.old.bytes + length text.now }
+    ensures owed { result ≡ Err RunFault.Turns → out.new.bytes < out.old.bytes + length text.now }
 {
     let mut rest = text;
     'pieces: while !rest.is_empty() {

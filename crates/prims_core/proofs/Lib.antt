@@ -1,5 +1,7 @@
 pub mod AlphabetFacts
 pub mod ChunkFacts
+pub mod DiagonalFacts
+pub mod LaneFacts
 pub mod MatrixFacts
 pub mod MixFacts
 pub mod NumeralFacts

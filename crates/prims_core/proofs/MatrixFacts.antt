@@ -1,9 +1,7 @@
 -- Sixteen words as a matrix of four rows.
-use Rattle.std.proofs.Common.{◌≡◌, ℕ, zero, suc, ◌+◌, ◌≤◌, List, [], ◌∷◌, length, take, drop, get_or, refl, sym, ◌∙◌, ap, add-one, arith}
+use Rattle.std.proofs.Common.{◌≡◌, ℕ, ◌+◌, ◌≤◌, List, [], ◌∷◌, length, take, drop, get_or, refl, arith}
 use Rattle.std.proofs.lemmas.List.{drop_more}
-use Rattle.std.specs.Fn.{iterate}
 use Rattle.prims_core.specs.Words.{chunks_exact}
-use Rattle.prims_core.specs.Salsa.{row_round, column_round, double_round}
 
 -- four items from a place on
 pub take_four : (xs : List ℕ) (i : ℕ) → i + 4 ≤ length xs
@@ -28,16 +26,3 @@ pub rows_of_sixteen : (xs : List ℕ) → length xs ≡ 16
 unfolding chunks_exact
 rows_of_sixteen xs sixteen =
     rw (sixteen, take_four xs 0 (omega arith), take_four xs 4 (omega arith), take_four xs 8 (omega arith), take_four xs 12 (omega arith)) refl
-
--- a function applied once more
-pub iterate_more : {A : Type 0} (h : A → A) (n : ℕ) (x : A) → iterate h (n + 1) x ≡ h (iterate h n x)
-iterate_more h zero x = refl
-iterate_more h (suc n) x = rw add-one (rw add-one at (iterate_more h n (h x)))
-
--- so many double rounds, and one more
-pub rounds_more : (n : ℕ) (start before columns after : List (List ℕ))
-    → after ≡ row_round columns → columns ≡ column_round before → before ≡ iterate double_round n start
-    → after ≡ iterate double_round (n + 1) start
-unfolding double_round
-rounds_more n start before columns after by_rows by_columns so_far =
-    by_rows ∙ ap row_round by_columns ∙ ap double_round so_far ∙ sym (iterate_more double_round n start)

@@ -1,9 +1,8 @@
--- Bytes as words, and words under exclusive or.
-use Rattle.std.proofs.Common.{◌≡◌, ℕ, ◌*◌, ◌<◌, List, [], length, take, drop, get_or, bit_xor, map, refl, sym, ◌∙◌, ap, arith}
+-- Bytes as words.
+use Rattle.std.proofs.Common.{◌≡◌, ℕ, ◌*◌, ◌<◌, List, [], length, take, drop, get_or, map, refl, sym, ◌∙◌, ap, arith}
 use Rattle.std.proofs.lemmas.Grind.{same_number_lists}
 use Rattle.std.proofs.lemmas.List.{get_or-map, get_or-take, length-map}
-use Rattle.std.proofs.lemmas.Simd.{get_or-zip2, length-zip2}
-use Rattle.prims_core.specs.Words.{chunks_exact, little_number, words_of, xor_words}
+use Rattle.prims_core.specs.Words.{chunks_exact, little_number, words_of}
 use Rattle.prims_core.proofs.ChunkFacts.{length-chunks_exact, get_or-chunks_exact}
 
 -- the number of four bytes reads no further byte
@@ -30,11 +29,3 @@ words_of-from_places bytes words four read =
     get_or-map (little_number 4) (chunks_exact bytes 4) k [] 0 (omega arith)
     ∙ ap (little_number 4) (get_or-chunks_exact bytes 4 (length words) k (omega arith) four inside)
     ∙ little_number-take_four (drop (4 * k) bytes)))
-
--- a list that has the exclusive or at each place
-pub xor_words-from_places : (sum xs ys : List ℕ) → length sum ≡ length xs → length xs ≡ length ys
-    → ((k : ℕ) → k < length xs → get_or sum k 0 ≡ bit_xor (get_or xs k 0) (get_or ys k 0)) → sum ≡ xor_words xs ys
-unfolding xor_words
-xor_words-from_places sum xs ys length_is same places =
-    same_number_lists sum _ (length_is ∙ sym (length-zip2 bit_xor xs ys same))
-    (λ k inside. places k (omega arith) ∙ sym (get_or-zip2 bit_xor xs ys k 0 0 0 (omega arith) (omega arith)))

@@ -5,6 +5,7 @@
 pub mod alphabet;
 pub mod buffer;
 pub mod counted;
+mod diagonals;
 #[cfg(test)]
 mod hexadecimal;
 pub mod meter;

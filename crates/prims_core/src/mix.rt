@@ -5,10 +5,10 @@
 
 ghost use Rattle.std.specs.Prelude.{◌≡◌, ℕ, ◌+◌, ◌*◌, ◌^◌, ◌<◌, ◌≤◌, length};
 ghost use Rattle.prims_core.specs.BlockMix.{block_mix, mixed_block};
-ghost use Rattle.prims_core.specs.Words.{xor_words};
 
+use crate::diagonals::Diagonals;
 use crate::meter::Meter;
-use crate::salsa::salsa8;
+use crate::salsa::salsa8_of;
 
 #[cfg(test)]
 mod tests;
@@ -27,34 +27,21 @@ pub fn block_mix(src: &[u32], dst: &mut [u32], meter: &mut Meter)
 {
     // As many blocks stand at even places as at odd ones.
     let half = src.len() / (2 * BLOCK_WORDS);
-    let mut x = [0; BLOCK_WORDS];
-    x.copy_from_slice(&src[src.len() - BLOCK_WORDS..]);
+    let mut x = Diagonals::of(&src[src.len() - BLOCK_WORDS..]);
     'mixing: for i in 0..2 * half {
         let start = BLOCK_WORDS * i;
-        mix_in(&mut x, &src[start..start + BLOCK_WORDS]);
+        x = mixed_block(&x, &src[start..start + BLOCK_WORDS]);
         let place = BLOCK_WORDS * (i / 2 + i % 2 * half);
-        dst[place..place + BLOCK_WORDS].copy_from_slice(&x);
+        x.store(&mut dst[place..place + BLOCK_WORDS]);
     }
     meter.count_mix();
 }
 
-// The next result, of the one before it and a block.
+// The next result, of the one before it and a block. The results stay in lanes from one to the next.
 #[inline(always)]
-fn mix_in(x: &mut [u32; 16], block: &[u32])
+fn mixed_block(x: &Diagonals, block: &[u32]) -> Diagonals
     requires { length block.now ≡ 16 }
-    ensures { x.new ≡ mixed_block x.old block.now }
+    ensures { result ≡ mixed_block x.now block.now }
 {
-    xor_block_into(x, block);
-    salsa8(x);
-}
-
-// Adds a block to `sum` by exclusive or.
-#[inline(always)]
-fn xor_block_into(sum: &mut [u32; 16], block: &[u32])
-    requires { length block.now ≡ 16 }
-    ensures { sum.new ≡ xor_words sum.old block.now }
-{
-    'places: for k in 0..16 {
-        sum[k] ^= block[k];
-    }
+    salsa8_of(&x.xor(&Diagonals::of(block)))
 }

@@ -2,13 +2,15 @@
 //!
 //! The sixteen words of a block are a matrix of four rows. A column round is a quarter round of each
 //! column, and a row round one of each row, each begun on the diagonal; four times both are the eight
-//! rounds.
+//! rounds. The four quarter rounds of a round are one, of lanes.
 
-ghost use Rattle.std.specs.Prelude.{◌≡◌, [], ◌∷◌};
+ghost use Rattle.std.specs.Prelude.{◌≡◌, ℕ, ◌<◌, [], ◌∷◌, bit_xor, length, slice_index};
 ghost use Rattle.std.specs.Fn.{iterate};
-ghost use Rattle.std.specs.Simd.Lanes.{zip2};
 ghost use Rattle.prims_core.specs.Words.{chunks_exact};
-ghost use Rattle.prims_core.specs.Salsa.{sum_of_words, quarter_round, column_round, row_round, double_round, salsa20_8};
+ghost use Rattle.prims_core.specs.Salsa.{rotated_sum, quarter_round, column_round, row_round, double_round, salsa20_8};
+
+use crate::diagonals::Diagonals;
+use std::simd::u32x4;
 
 #[cfg(test)]
 mod tests;
@@ -18,104 +20,93 @@ mod tests;
 pub fn salsa8(block: &mut [u32; 16])
     ensures { block.new ≡ salsa20_8 block.old }
 {
-    let mixed = four_double_rounds(*block);
-    add_words(block, &mixed);
+    let mixed = salsa8_of(&Diagonals::of(block));
+    mixed.store(block);
+}
+
+/// Salsa20/8 of a block in lanes.
+#[inline(always)]
+pub(crate) fn salsa8_of(block: &Diagonals) -> Diagonals
+    ensures { result ≡ salsa20_8 block.now }
+{
+    block.sum(&four_double_rounds(block))
 }
 
 // The matrix after four double rounds.
 #[inline(always)]
-fn four_double_rounds(block: [u32; 16]) -> [u32; 16]
-    ensures { chunks_exact result 4 ≡ iterate double_round 4 (chunks_exact block 4) }
+fn four_double_rounds(x: &Diagonals) -> Diagonals
+    ensures rows { chunks_exact result 4 ≡ iterate double_round 4 (chunks_exact x.now 4) }
+    ensures words { length result ≡ 16 }
 {
-    let mut x = block;
-    'rounds: for _round in 0..4_u32 {
-        x = row_round(column_round(x));
+    double_round(&double_round(&double_round(&double_round(x))))
+}
+
+// A column round, and then a row round.
+#[inline(always)]
+fn double_round(x: &Diagonals) -> Diagonals
+    ensures rows { chunks_exact result 4 ≡ double_round (chunks_exact x.now 4) }
+    ensures words { length result ≡ 16 }
+{
+    row_round(&column_round(x))
+}
+
+// A quarter round of each column, begun on the main diagonal.
+#[inline(always)]
+fn column_round(x: &Diagonals) -> Diagonals
+    ensures { chunks_exact result 4 ≡ column_round (chunks_exact x.now 4) }
+{
+    let (first, second, third, fourth) = quarter_rounds(x.first, x.second, x.third, x.fourth);
+    Diagonals {
+        first,
+        second,
+        third,
+        fourth,
     }
-    x
 }
 
-// Adds each word to its word in `sum`.
+// A quarter round of each row, begun on the main diagonal. Its further words lie on the fourth, third
+// and second diagonal, one, two and three lanes on: these are turned to it, and back.
 #[inline(always)]
-fn add_words(sum: &mut [u32; 16], words: &[u32; 16])
-    ensures { sum.new ≡ zip2 sum_of_words sum.old words.now }
+fn row_round(x: &Diagonals) -> Diagonals
+    ensures rows { chunks_exact result 4 ≡ row_round (chunks_exact x.now 4) }
+    ensures words { length result ≡ 16 }
 {
-    'places: for k in 0..16 {
-        sum[k] = sum[k].wrapping_add(words[k]);
+    let (first, fourth, third, second) = quarter_rounds(
+        x.first,
+        x.fourth.rotate_elements_left::<1>(),
+        x.third.rotate_elements_left::<2>(),
+        x.second.rotate_elements_right::<1>(),
+    );
+    Diagonals {
+        first,
+        second: second.rotate_elements_left::<1>(),
+        third: third.rotate_elements_left::<2>(),
+        fourth: fourth.rotate_elements_right::<1>(),
     }
 }
 
-// A quarter round of each column, begun on the diagonal.
+// The quarter rounds of four words in each lane.
 #[inline(always)]
-fn column_round(x: [u32; 16]) -> [u32; 16]
-    ensures { chunks_exact result 4 ≡ column_round (chunks_exact x 4) }
+fn quarter_rounds(a: u32x4, b: u32x4, c: u32x4, d: u32x4) -> (u32x4, u32x4, u32x4, u32x4)
+    ensures { (j : ℕ) → j < 4
+        → slice_index result.0 j ∷ slice_index result.1 j ∷ slice_index result.2 j ∷ slice_index result.3 j ∷ []
+        ≡ quarter_round (slice_index a j ∷ slice_index b j ∷ slice_index c j ∷ slice_index d j ∷ []) }
 {
-    let [
-        x0,
-        x1,
-        x2,
-        x3,
-        x4,
-        x5,
-        x6,
-        x7,
-        x8,
-        x9,
-        x10,
-        x11,
-        x12,
-        x13,
-        x14,
-        x15,
-    ] = x;
-    let (x0, x4, x8, x12) = quarter_round(x0, x4, x8, x12);
-    let (x5, x9, x13, x1) = quarter_round(x5, x9, x13, x1);
-    let (x10, x14, x2, x6) = quarter_round(x10, x14, x2, x6);
-    let (x15, x3, x7, x11) = quarter_round(x15, x3, x7, x11);
-    [
-        x0, x1, x2, x3, x4, x5, x6, x7, x8, x9, x10, x11, x12, x13, x14, x15,
-    ]
-}
-
-// A quarter round of each row, begun on the diagonal.
-#[inline(always)]
-fn row_round(x: [u32; 16]) -> [u32; 16]
-    ensures { chunks_exact result 4 ≡ row_round (chunks_exact x 4) }
-{
-    let [
-        x0,
-        x1,
-        x2,
-        x3,
-        x4,
-        x5,
-        x6,
-        x7,
-        x8,
-        x9,
-        x10,
-        x11,
-        x12,
-        x13,
-        x14,
-        x15,
-    ] = x;
-    let (x0, x1, x2, x3) = quarter_round(x0, x1, x2, x3);
-    let (x5, x6, x7, x4) = quarter_round(x5, x6, x7, x4);
-    let (x10, x11, x8, x9) = quarter_round(x10, x11, x8, x9);
-    let (x15, x12, x13, x14) = quarter_round(x15, x12, x13, x14);
-    [
-        x0, x1, x2, x3, x4, x5, x6, x7, x8, x9, x10, x11, x12, x13, x14, x15,
-    ]
-}
-
-// The quarter round of four words.
-#[inline(always)]
-fn quarter_round(a: u32, b: u32, c: u32, d: u32) -> (u32, u32, u32, u32)
-    ensures { result.0 ∷ result.1 ∷ result.2 ∷ result.3 ∷ [] ≡ quarter_round (a ∷ b ∷ c ∷ d ∷ []) }
-{
-    let b = b ^ a.wrapping_add(d).rotate_left(7);
-    let c = c ^ b.wrapping_add(a).rotate_left(9);
-    let d = d ^ c.wrapping_add(b).rotate_left(13);
-    let a = a ^ d.wrapping_add(c).rotate_left(18);
+    let b = xor_rotated_sum(b, a, d, 7);
+    let c = xor_rotated_sum(c, b, a, 9);
+    let d = xor_rotated_sum(d, c, b, 13);
+    let a = xor_rotated_sum(a, d, c, 18);
     (a, b, c, d)
+}
+
+// Adds the sums of `x` and `y`, rotated to the left, to `word` by exclusive or, the bits that the
+// rotation moves up and those that it moves down one after the other: that is faster than their union.
+#[inline(always)]
+fn xor_rotated_sum(word: u32x4, x: u32x4, y: u32x4, bits: u32) -> u32x4
+    requires { (0 < bits) × (bits < 32) }
+    ensures { (j : ℕ) → j < 4
+        → slice_index result j ≡ bit_xor (slice_index word j) (rotated_sum (slice_index x j) (slice_index y j) bits) }
+{
+    let sum = x + y;
+    word ^ (sum << u32x4::splat(bits)) ^ (sum >> u32x4::splat(32 - bits))
 }

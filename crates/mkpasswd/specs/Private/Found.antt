@@ -1,6 +1,6 @@
 -- What the program keeps of the matches, beside the values that they stand for.
 use Rattle.mkpasswd.specs.Makers.{bytes_of}
-use Rattle.mkpasswd.specs.Options.{Mode, Values, input, word}
+use Rattle.mkpasswd.specs.Options.{Mode, Values, input, lines, word}
 use Rattle.mkpasswd.specs.declared.options.Given.{Given}
 use Rattle.mkpasswd.specs.declared.options.Mode.{Mode as KeptMode}
 use Rattle.mkpasswd.specs.declared.options.Mode.TheVariants as kept
@@ -12,6 +12,8 @@ values_of given = record {
   salt_word = bytes_of given.salt_word;
   cost = given.cost;
   stdin = given.stdin;
+  batch = given.batch;
+  check = given.check;
   work = given.work;
   password = bytes_of given.password;
 }
@@ -19,3 +21,4 @@ values_of given = record {
 abbrev pub mode_of : KeptMode → Mode
 mode_of (kept.Word password) = word password.now
 mode_of kept.Input = input
+mode_of (kept.Lines kind) = lines kind

@@ -1,12 +1,13 @@
 //! The password that stands in an input: its first line, without the line feed. It is read into a buffer of
 //! fixed size, and takes no memory.
-ghost use Rattle.std.specs.Prelude.{◌≡◌, ℕ, ◌+◌, ◌-◌, ◌^◌, ◌<◌, ◌≤◌, ◌==◌, List, drop, length, position, take};
+ghost use Rattle.std.specs.Prelude.{◌≡◌, ℕ, ◌+◌, ◌-◌, ◌^◌, ◌<◌, ◌≤◌, List, drop, length, take};
 ghost use Rattle.mkpasswd.specs.Devices.{HasRoomForRun, MovesBytes};
 ghost use Rattle.mkpasswd.specs.Input.{Obtains, Reads};
 ghost use Rattle.mkpasswd.specs.Private.Fetching.{Fetches, FindsLine};
 
 use crate::device::Input;
 use crate::faults::RunFault;
+use crate::fetch::{fetch_piece, line_feed_at};
 use crypt_core::password::Password;
 use std::io::Read;
 
@@ -82,21 +83,7 @@ fn fetch_behind<I: Read>(
     ensures takes_turn { left.new ≡ left.old - 1 }
     ensures turns { input.new.calls + left.new ≡ input.old.calls + left.old }
 {
-    if *left == 0 {
-        return Err(RunFault::Turns);
-    }
-    *left -= 1;
-    match input.fetch(&mut buffer[filled..]) {
-        Ok(count) => Ok(count),
-        Err(_) => Err(RunFault::Read),
-    }
-}
-
-// Where the first line feed stands.
-fn line_feed_at(bytes: &[u8]) -> Option<usize>
-    ensures { result ≡ position (λ b. b == 10) bytes.now }
-{
-    bytes.iter().position(|byte| *byte == b'\n')
+    fetch_piece(input, &mut buffer[filled..], left)
 }
 
 #[cfg(test)]

@@ -8,6 +8,7 @@ use crate::job::Plan;
 use crate::options::plan;
 use crate::options::tests::words_of;
 use crate::test_devices::{ListedWords, MemoryReader, MemoryWriter};
+use crate::test_given::Given;
 use crypt_core::password::PasswordFault;
 use std::io::ErrorKind;
 use std::process::Abort;
@@ -62,47 +63,6 @@ fn run_on<R: Rng>(
         turns,
     );
     (outcome, out.into_inner(), faults.into_inner())
-}
-
-// What a run is given: an empty input, outputs that take all, and as many turns as may be, where a test
-// has no other.
-#[derive(Drop)]
-struct Given<'a> {
-    reader: MemoryReader<'a>,
-    writer: MemoryWriter,
-    fault_writer: MemoryWriter,
-    turns: u64,
-}
-
-impl<'a> Given<'a> {
-    fn new(alloc: Global) -> Given<'a> {
-        Given {
-            reader: MemoryReader::new(b""),
-            writer: MemoryWriter::new(alloc),
-            fault_writer: MemoryWriter::new(alloc),
-            turns: 1 << 40,
-        }
-    }
-
-    fn reading(mut self, reader: MemoryReader<'a>) -> Given<'a> {
-        self.reader = reader;
-        self
-    }
-
-    fn writing(mut self, writer: MemoryWriter) -> Given<'a> {
-        self.writer = writer;
-        self
-    }
-
-    fn telling(mut self, writer: MemoryWriter) -> Given<'a> {
-        self.fault_writer = writer;
-        self
-    }
-
-    fn within(mut self, turns: u64) -> Given<'a> {
-        self.turns = turns;
-        self
-    }
 }
 
 // What a run left: its outcome, the output, the word that is drawn next, and the meter.

@@ -120,9 +120,41 @@ fn plans_counts_of_work(rt: HostRuntime) -> Result<(), Fail> {
 }
 
 #[test]
+fn plans_lines(rt: HostRuntime) -> Result<(), Fail> {
+    // The words; the setting, as above; and whether the lines are checked.
+    let rows: [(&[&str], &str, bool); 4] = [
+        (&["--batch"], MADE, false),
+        (
+            &["--batch", "-m", "md5crypt", "-S", "xxxxxxxx"],
+            "$1$xxxxxxxx",
+            false,
+        ),
+        (&["--check"], MADE, true),
+        (&["--check", "-m", "md5", "-S", "ab"], "$1$ab", true),
+    ];
+    for (row, setting, is_checked) in rows {
+        let words = words_of(rt.alloc(), row)?;
+        let (job, checks) = match plan(rt.alloc(), words.as_slice())? {
+            Plan::Batch(job) => (job, false),
+            Plan::Check(job) => (job, true),
+            _ => panic!(rt; "{row:?} asks for no lines"),
+        };
+        assert_eq!(rt; checks, is_checked, "the plan of {row:?}");
+        assert_eq!(rt;
+            job.maker.setting([129, 0, 0]).text().as_slice(),
+            setting.as_bytes(),
+            "the setting of {row:?}"
+        );
+        assert!(rt; !job.work, "no counts for {row:?}");
+    }
+    Ok(())
+}
+
+#[test]
 fn lists_methods_whatever_else_is_given(rt: HostRuntime) -> Result<(), Fail> {
-    let rows: [&[&str]; 4] = [
+    let rows: [&[&str]; 5] = [
         &["-m", "help"],
+        &["--check", "-m", "help", "--batch"],
         &["-m", "help", "-S", "ab", "x", "cd"],
         &["-m", "help", "-s", "x"],
         &["--method=help", "-R", "5", "-S", ""],
@@ -137,7 +169,7 @@ fn lists_methods_whatever_else_is_given(rt: HostRuntime) -> Result<(), Fail> {
 
 #[test]
 fn refuses_in_order(rt: HostRuntime) -> Result<(), Fail> {
-    let rows: [(&[&str], u8, &str); 31] = [
+    let rows: [(&[&str], u8, &str); 40] = [
         (&["--help"], 0, ""),
         (&["-V"], 0, ""),
         (&["-Q"], 2, ""),
@@ -159,6 +191,12 @@ fn refuses_in_order(rt: HostRuntime) -> Result<(), Fail> {
         (&["-s", "x"], 2, "two modes"),
         (&["-s", "x", "cd"], 2, "two modes"),
         (&["-s", "-S", "a-b", "x"], 2, "two modes"),
+        (&["--batch", "--check"], 2, "two modes"),
+        (&["--batch", "x"], 2, "two modes"),
+        (&["--batch", "-s"], 2, "two modes"),
+        (&["--check", "x"], 2, "two modes"),
+        (&["--check", "-s"], 2, "two modes"),
+        (&["--batch", "--check", "-s", "x"], 2, "two modes"),
         (&["-m", "md5", "x", "123456789"], 2, "salt length"),
         (&["-m", "md5", "x", "1234-6789"], 2, "salt length"),
         (&["-S", "seventeen.letters", "x"], 2, "salt length"),
@@ -173,6 +211,9 @@ fn refuses_in_order(rt: HostRuntime) -> Result<(), Fail> {
         (&["-m", "scrypt", "-R", "5", "x", "ab"], 2, "cost"),
         (&["-m", "scrypt", "-R", "1", "-s"], 2, "cost"),
         (&["-m", "scrypt", "-R", "4294967295"], 2, "cost"),
+        (&["--check", "-m", "scrypt", "-R", "12"], 2, "cost"),
+        (&["--check", "-S", "a-b"], 2, "salt character"),
+        (&["--batch", "-S", "seventeen.letters"], 2, "salt length"),
     ];
     for (row, status, text) in rows {
         let words = words_of(rt.alloc(), row)?;

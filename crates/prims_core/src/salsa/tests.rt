@@ -1,4 +1,4 @@
-//! The standard's vector, and a block that stays.
+//! The standard's vector, a block that stays, and the lanes beside the words one by one.
 
 use super::*;
 use crate::hexadecimal::hexadecimal;
@@ -34,4 +34,93 @@ fn zeros_stay(rt: HostRuntime) {
     let mut words = [0; 16];
     salsa8(&mut words);
     assert_eq!(rt; words, [0; 16], "sixteen zero words");
+}
+
+// 64 blocks, each the plain body's result of the one before, from the words 0 to 15 on.
+#[test]
+fn lanes_as_word_by_word(rt: HostRuntime) {
+    let mut block = [0, 1, 2, 3, 4, 5, 6, 7, 8, 9, 10, 11, 12, 13, 14, 15];
+    for turn in 0..64_u32 {
+        let mut words = block;
+        salsa8(&mut words);
+        block = word_by_word(block);
+        assert_eq!(rt; words, block, "block {turn}");
+    }
+}
+
+// Salsa20/8 without lanes: a quarter round of four words at a time.
+fn word_by_word(block: [u32; 16]) -> [u32; 16] {
+    let mut x = block;
+    for _round in 0..4_u32 {
+        x = rows(columns(x));
+    }
+    let mut sum = block;
+    for k in 0..16 {
+        sum[k] = sum[k].wrapping_add(x[k]);
+    }
+    sum
+}
+
+fn columns(x: [u32; 16]) -> [u32; 16] {
+    let [
+        x0,
+        x1,
+        x2,
+        x3,
+        x4,
+        x5,
+        x6,
+        x7,
+        x8,
+        x9,
+        x10,
+        x11,
+        x12,
+        x13,
+        x14,
+        x15,
+    ] = x;
+    let (x0, x4, x8, x12) = quarter(x0, x4, x8, x12);
+    let (x5, x9, x13, x1) = quarter(x5, x9, x13, x1);
+    let (x10, x14, x2, x6) = quarter(x10, x14, x2, x6);
+    let (x15, x3, x7, x11) = quarter(x15, x3, x7, x11);
+    [
+        x0, x1, x2, x3, x4, x5, x6, x7, x8, x9, x10, x11, x12, x13, x14, x15,
+    ]
+}
+
+fn rows(x: [u32; 16]) -> [u32; 16] {
+    let [
+        x0,
+        x1,
+        x2,
+        x3,
+        x4,
+        x5,
+        x6,
+        x7,
+        x8,
+        x9,
+        x10,
+        x11,
+        x12,
+        x13,
+        x14,
+        x15,
+    ] = x;
+    let (x0, x1, x2, x3) = quarter(x0, x1, x2, x3);
+    let (x5, x6, x7, x4) = quarter(x5, x6, x7, x4);
+    let (x10, x11, x8, x9) = quarter(x10, x11, x8, x9);
+    let (x15, x12, x13, x14) = quarter(x15, x12, x13, x14);
+    [
+        x0, x1, x2, x3, x4, x5, x6, x7, x8, x9, x10, x11, x12, x13, x14, x15,
+    ]
+}
+
+fn quarter(a: u32, b: u32, c: u32, d: u32) -> (u32, u32, u32, u32) {
+    let b = b ^ a.wrapping_add(d).rotate_left(7);
+    let c = c ^ b.wrapping_add(a).rotate_left(9);
+    let d = d ^ c.wrapping_add(b).rotate_left(13);
+    let a = a ^ d.wrapping_add(c).rotate_left(18);
+    (a, b, c, d)
 }

@@ -84,3 +84,6 @@ returns-clause-count c =
 
 pub returns-clause-specified : goal.returns-clause-specified
 returns-clause-specified c = messages-in_all c.args.password.now c.args.salt.now
+
+pub returns-clause-below : goal.returns-clause-below
+returns-clause-below c = omega (arith, ap (λ m. m.bytes) (returns-clause-count c), c.rounds.invariant.3)

@@ -139,3 +139,7 @@ rounds-preserved g c =
         c.requires.salt,
       ),
     )
+
+pub returns-clause-below : goal.returns-clause-below
+returns-clause-below g c =
+    omega (arith, ap (λ m. m.bytes) (returns-clause-count g c), c.rounds.invariant.3, c.requires.most_rounds)

@@ -5,7 +5,7 @@ use Rattle.std.proofs.lemmas.Result.{IfOk-weaker}
 use Rattle.clap.specs.Simple.{App, app_of, app_of_fields, new_app, on_top, with_rule}
 use Rattle.clap.specs.Walk.{Rule, Text, rule_of}
 use Rattle.clap.specs.declared.builder.value_parser.ValueParser.{ValueParser}
-use Rattle.mkpasswd.specs.Options.{bare_command, command, method_rule, password_rule, rounds_rule, salt_rule, salt_word_rule, stdin_rule, value_rule, work_rule}
+use Rattle.mkpasswd.specs.Options.{bare_command, batch_rule, check_rule, command, method_rule, password_rule, rounds_rule, salt_rule, salt_word_rule, stdin_rule, value_rule, work_rule}
 use Rattle.mkpasswd.proofs.options.command.Goals as goal
 
 abbrev versioned : App → App
@@ -37,8 +37,12 @@ returns c =
     let rounds_local : c.help-rounds.result.global ≡ false = rw (c.help-rounds.ensures, c.value_parser-2.ensures.others, c.short-3.ensures) c.option-3.ensures.local in
     let stdin_is : rule_of c.help-stdin.result ≡ stdin_rule = rw (c.help-stdin.ensures, c.short-4.ensures) (ap (with_short 115) c.flag.ensures.rule) in
     let stdin_local : c.help-stdin.result.global ≡ false = rw (c.help-stdin.ensures, c.short-4.ensures) c.flag.ensures.local in
-    let work_is : rule_of c.help-work.result ≡ work_rule = rw c.help-work.ensures c.flag-2.ensures.rule in
-    let work_local : c.help-work.result.global ≡ false = rw c.help-work.ensures c.flag-2.ensures.local in
+    let batch_is : rule_of c.help-batch.result ≡ batch_rule = rw c.help-batch.ensures c.flag-2.ensures.rule in
+    let batch_local : c.help-batch.result.global ≡ false = rw c.help-batch.ensures c.flag-2.ensures.local in
+    let check_is : rule_of c.help-check.result ≡ check_rule = rw c.help-check.ensures c.flag-3.ensures.rule in
+    let check_local : c.help-check.result.global ≡ false = rw c.help-check.ensures c.flag-3.ensures.local in
+    let work_is : rule_of c.help-work.result ≡ work_rule = rw c.help-work.ensures c.flag-4.ensures.rule in
+    let work_local : c.help-work.result.global ≡ false = rw c.help-work.ensures c.flag-4.ensures.local in
     let password_is : rule_of c.help-password.result ≡ password_rule = rw c.help-password.ensures c.word.ensures.rule in
     let password_local : c.help-password.result.global ≡ false = rw c.help-password.ensures c.word.ensures.local in
     let salt_word_is : rule_of c.help-salt_word.result ≡ salt_word_rule = rw c.help-salt_word.ensures c.word-2.ensures.rule in
@@ -51,6 +55,8 @@ returns c =
     let two_is = c.in_ok-arg-2.ensures.shape salt_local ∙ ap₂ with_rule one_is salt_is in
     let three_is = c.in_ok-arg-3.ensures.shape rounds_local ∙ ap₂ with_rule two_is rounds_is in
     let four_is = c.in_ok-arg-4.ensures.shape stdin_local ∙ ap₂ with_rule three_is stdin_is in
-    let five_is = c.in_ok-arg-5.ensures.shape work_local ∙ ap₂ with_rule four_is work_is in
-    let six_is = c.in_ok-arg-6.ensures.shape password_local ∙ ap₂ with_rule five_is password_is in
-    IfOk-weaker c.arg-7.result _ _ (λ made added. added.shape salt_word_local ∙ ap₂ with_rule six_is salt_word_is) c.arg-7.ensures
+    let five_is = c.in_ok-arg-5.ensures.shape batch_local ∙ ap₂ with_rule four_is batch_is in
+    let six_is = c.in_ok-arg-6.ensures.shape check_local ∙ ap₂ with_rule five_is check_is in
+    let seven_is = c.in_ok-arg-7.ensures.shape work_local ∙ ap₂ with_rule six_is work_is in
+    let eight_is = c.in_ok-arg-8.ensures.shape password_local ∙ ap₂ with_rule seven_is password_is in
+    IfOk-weaker c.arg-9.result _ _ (λ made added. added.shape salt_word_local ∙ ap₂ with_rule eight_is salt_word_is) c.arg-9.ensures

@@ -92,7 +92,9 @@ returns-clause-ok c =
         c.get_str-3.ensures ∙ text_is (codes "salt-word"),
         cost_is,
         c.is_set.ensures ∙ set_is (codes "stdin"),
-        c.is_set-2.ensures ∙ set_is (codes "work"),
+        c.is_set-2.ensures ∙ set_is (codes "batch"),
+        c.is_set-3.ensures ∙ set_is (codes "check"),
+        c.is_set-4.ensures ∙ set_is (codes "work"),
         c.get_str-4.ensures ∙ text_is (codes "password"),
       );
     }

@@ -9,9 +9,8 @@ mixing-init c =
     let src = c.args.src.now in
     let half = length src / 32 in
     let whole : length src ≡ 16 * (2 * half) = omega arith in record {
-      sixteen = c.copy_from_slice.ensures.len;
       before =
-          c.copy_from_slice.ensures.after ∙ take_rest src (length src - 16)
+          c.of-x.ensures ∙ take_rest src (length src - 16)
           ∙ sym (result-first src (2 * half) whole (omega arith));
       placed = λ k none. absurd (omega arith);
     }
@@ -23,15 +22,14 @@ mixing-preserved c =
     let half = length src / 32 in
     let whole : length src ≡ 16 * (2 * half) = omega arith in
     let start : 16 * i + 16 - 16 * i ≡ 16 = omega arith in
-    let is : c.mix_in.new.x ≡ get_or (results src) i [] =
-    c.mix_in.ensures
+    let is : c.mixed_block-x.result ≡ get_or (results src) i [] =
+    c.mixed_block-x.ensures
     ∙ ap₂ mixed_block c.mixing.invariant.before (ap (λ (n : ℕ). take n (drop (16 * i) src)) start)
     ∙ sym (result-step src (2 * half) i whole c.mixing-test.true) in record {
-      sixteen = omega arith;
       before = is ∙ sym (result_before-more src i);
       placed =
-          placed_more half i _ (results src) c.mixing.dst c.copy_from_slice-in-mixing.new.self (omega arith)
-          c.mixing-test.true (omega arith) (omega arith) (c.copy_from_slice-in-mixing.ensures.after ∙ is)
+          placed_more half i _ (results src) c.mixing.dst c.store.new.words (omega arith)
+          c.mixing-test.true (omega arith) (omega arith) (c.store.ensures ∙ is)
           c.mixing.invariant.placed;
     }
 

@@ -1,16 +1,15 @@
 use Rattle.std.proofs.Common.{refl, arith}
 use Rattle.prims_core.specs.Words.{chunks_exact}
 use Rattle.prims_core.specs.Salsa.{column_round, row_round, transpose}
-use Rattle.prims_core.proofs.MatrixFacts.{rows_of_sixteen}
 use Rattle.prims_core.proofs.salsa.column_round.Goals as goal
 
 pub returns : goal.returns
 unfolding column_round row_round transpose chunks_exact
 returns c =
     rw (
-      rows_of_sixteen c.args.x (omega arith),
-      ← c.quarter_round-x0.ensures,
-      ← c.quarter_round-x5.ensures,
-      ← c.quarter_round-x10.ensures,
-      ← c.quarter_round-x15.ensures,
+      ← c.x.view_is,
+      ← c.quarter_rounds.ensures 0 (omega arith),
+      ← c.quarter_rounds.ensures 1 (omega arith),
+      ← c.quarter_rounds.ensures 2 (omega arith),
+      ← c.quarter_rounds.ensures 3 (omega arith),
     ) refl

@@ -1,16 +1,36 @@
-use Rattle.std.proofs.Common.{refl, arith}
+use Rattle.std.proofs.Common.{refl, arith, rules}
 use Rattle.prims_core.specs.Words.{chunks_exact}
 use Rattle.prims_core.specs.Salsa.{row_round}
-use Rattle.prims_core.proofs.MatrixFacts.{rows_of_sixteen}
+use Rattle.prims_core.proofs.LaneFacts.{joined}
 use Rattle.prims_core.proofs.salsa.row_round.Goals as goal
 
-pub returns : goal.returns
+pub returns-clause-rows : goal.returns-clause-rows
 unfolding row_round chunks_exact
-returns c =
+returns-clause-rows c =
+    let x = c.x.inside in
+    let two = joined x.second c.x.invariant.1 in
+    let three = joined x.third c.x.invariant.2 in
+    let four = joined x.fourth c.x.invariant.3 in
+    let new = c.quarter_rounds.result in
+    let to_four = joined new.1 (search rules) in
+    let to_three = joined new.2 (search rules) in
+    let to_two = joined new.3 (search rules) in
     rw (
-      rows_of_sixteen c.args.x (omega arith),
-      ← c.quarter_round-x0.ensures,
-      ← c.quarter_round-x5.ensures,
-      ← c.quarter_round-x10.ensures,
-      ← c.quarter_round-x15.ensures,
+      to_four.0,
+      to_four.1,
+      to_four.2,
+      to_four.3,
+      to_three.0,
+      to_three.1,
+      to_three.2,
+      to_three.3,
+      to_two.0,
+      to_two.1,
+      to_two.2,
+      to_two.3,
+      ← c.x.view_is,
+      ← rw (four.1, three.2, two.3) at (c.quarter_rounds.ensures 0 (omega arith)),
+      ← rw (four.2, three.3, two.0) at (c.quarter_rounds.ensures 1 (omega arith)),
+      ← rw (four.3, three.0, two.1) at (c.quarter_rounds.ensures 2 (omega arith)),
+      ← rw (four.0, three.1, two.2) at (c.quarter_rounds.ensures 3 (omega arith)),
     ) refl

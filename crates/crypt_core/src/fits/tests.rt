@@ -1,0 +1,210 @@
+//! Which passwords fit which stored texts, what a check counts, and what is refused.
+
+ghost use Rattle.std.specs.Prelude.{◌≤◌, ◌^◌, length, IsTrue, IfSome};
+ghost use Rattle.crypt_core.specs.Work.{HasRoom};
+
+use super::*;
+use std::process::Abort;
+
+const MD5CRYPT: &str = "$1$xxxxxxxx$UYCIxa628.9qXjpQCjM4a.";
+
+const SHA256CRYPT: &str = "$5$saltstring$5B8vYYiY.CVt1RlTTf8KbXBH3hsxY/GNooZaBBGWEc5";
+
+const SCRYPT: &str = "$7$2/..../....$rNxJWVHNv/mCNcgE/f6/L4zO6Fos5c2uTzhyzoisI62";
+
+// Passwords, stored texts, and whether they fit.
+const VERDICTS: [(&str, &str, bool); 10] = [
+    ("password", MD5CRYPT, true),
+    ("Password", MD5CRYPT, false),
+    ("password", "$1$xxxxxxxx", false),
+    ("Hello world!", SHA256CRYPT, true),
+    // another last character, one character more, and one less
+    (
+        "Hello world!",
+        "$5$saltstring$5B8vYYiY.CVt1RlTTf8KbXBH3hsxY/GNooZaBBGWEc6",
+        false,
+    ),
+    (
+        "Hello world!",
+        "$5$saltstring$5B8vYYiY.CVt1RlTTf8KbXBH3hsxY/GNooZaBBGWEc5.",
+        false,
+    ),
+    (
+        "Hello world!",
+        "$5$saltstring$5B8vYYiY.CVt1RlTTf8KbXBH3hsxY/GNooZaBBGWEc",
+        false,
+    ),
+    // 10 rounds are held at 1000, and the hash says so: the text that was stored is none of crypt(3)'s
+    (
+        "the minimum number is still observed",
+        "$6$rounds=10$roundstoolow$kUMsbe306n21p9R.FRkW3IGn.S9NPN0x50YhH1xhLsPuWGsUSklZt58jaTfF4ZEQpyUNGc0dqbpBYYBaHHrsX.",
+        false,
+    ),
+    (
+        "the minimum number is still observed",
+        "$6$rounds=1000$roundstoolow$kUMsbe306n21p9R.FRkW3IGn.S9NPN0x50YhH1xhLsPuWGsUSklZt58jaTfF4ZEQpyUNGc0dqbpBYYBaHHrsX.",
+        true,
+    ),
+    ("", SCRYPT, true),
+];
+
+// Passwords, stored texts, and the counts: digests, bytes, mixings, table and scratch.
+const COUNTS: [(&str, &str, [u128; 5]); 4] = [
+    ("password", MD5CRYPT, [1002, 36239, 0, 0, 0]),
+    ("Password", MD5CRYPT, [1002, 36239, 0, 0, 0]),
+    ("password", "$1$xxxxxxxx", [1002, 36239, 0, 0, 0]),
+    ("", SCRYPT, [10, 948, 32, 2048, 384]),
+];
+
+// Stored texts that spell no setting, and the rule that each breaks.
+const REFUSALS: [(&[u8], SettingFault); 13] = [
+    (&[b'!'; 385], SettingFault::TooLong),
+    (b"$1$a:b", SettingFault::BadCharacter),
+    (b"$2b$a b", SettingFault::BadCharacter),
+    (b"$2b$10$x", SettingFault::UnknownScheme),
+    (b"", SettingFault::UnknownScheme),
+    (b"$5$rounds=0$ab", SettingFault::BadRounds),
+    (b"$5$rounds=$ab", SettingFault::BadRounds),
+    (b"$5$rounds=12", SettingFault::BadRounds),
+    (b"$7$A", SettingFault::BadCost),
+    (b"$7$./..../....", SettingFault::ScryptRange),
+    (b"$7$E/..../....", SettingFault::ScryptRange),
+    (b"$7$J6..../....", SettingFault::AboveCeiling),
+    (b"$7$2/..../....a_b", SettingFault::BadSalt),
+];
+
+fn password_of(rt: &impl Abort, text: &str) -> Password {
+    Password::new(text.as_bytes()).expect(rt, "a password")
+}
+
+fn counts(meter: &Meter) -> [u128; 5] {
+    [
+        meter.digests(),
+        meter.bytes(),
+        meter.mixes(),
+        meter.table(),
+        meter.scratch(),
+    ]
+}
+
+// Whether each count is at most 2^120, so that there is room for another check.
+fn has_room(meter: &Meter) -> bool
+    ensures { IsTrue result → HasRoom meter.now }
+{
+    let most = 1 << 120;
+    meter.digests() <= most
+        && meter.bytes() <= most
+        && meter.mixes() <= most
+        && meter.table() <= most
+        && meter.scratch() <= most
+}
+
+// Hashes a password, and compares it with that hash.
+fn fits_own_hash(alloc: Global, password: &Password, setting: &Setting) -> Option<bool>
+    ensures { IfSome result (λ verdict. IsTrue verdict) }
+{
+    let hashed = hash(alloc, password, setting, &mut Meter::new()).ok()?;
+    fits(alloc, password, hashed.text(), &mut Meter::new()).ok()
+}
+
+// Compares a password with many texts on one meter, which keeps room, and counts those that fit.
+fn count_fitting(alloc: Global, password: &Password, stored: &[&[u8]]) -> usize
+    requires { length stored.now ≤ 2 ^ 32 }
+{
+    let mut meter = Meter::new();
+    let mut count = 0;
+    'texts: for text in stored {
+        if let Ok(true) = fits(alloc, password, text, &mut meter) {
+            count += 1;
+        }
+    }
+    count
+}
+
+#[test]
+fn only_the_whole_text_fits(rt: HostRuntime) {
+    for (text, stored, fitting) in VERDICTS {
+        let password = password_of(&rt, text);
+        let verdict = fits(rt.alloc(), &password, stored.as_bytes(), &mut Meter::new());
+        assert_eq!(rt; verdict, Ok(fitting), "{text} and {stored}");
+    }
+}
+
+#[test]
+fn refused_settings_count_nothing(rt: HostRuntime) {
+    let password = password_of(&rt, "x");
+    for (stored, fault) in REFUSALS {
+        let mut meter = Meter::new();
+        let verdict = fits(rt.alloc(), &password, stored, &mut meter);
+        assert_eq!(rt; verdict, Err(FitFault::Setting(fault)), "{stored:?}");
+        assert_eq!(rt; counts(&meter), [0; 5], "{stored:?}");
+    }
+}
+
+#[test]
+fn a_check_counts_one_hash(rt: HostRuntime) {
+    for (text, stored, work) in COUNTS {
+        let mut meter = Meter::new();
+        let verdict = fits(
+            rt.alloc(),
+            &password_of(&rt, text),
+            stored.as_bytes(),
+            &mut meter,
+        );
+        assert!(rt; verdict.is_ok(), "{text} and {stored}");
+        assert_eq!(rt; counts(&meter), work, "{text} and {stored}");
+    }
+}
+
+#[test]
+fn checks_count_on_one_meter(rt: HostRuntime) {
+    let mut meter = Meter::new();
+    let password = password_of(&rt, "password");
+    let first = fits(rt.alloc(), &password, MD5CRYPT.as_bytes(), &mut meter);
+    assert_eq!(rt; first, Ok(true));
+
+    assert!(rt; has_room(&meter));
+    let empty = password_of(&rt, "");
+    let second = fits(rt.alloc(), &empty, SCRYPT.as_bytes(), &mut meter);
+    assert_eq!(rt; second, Ok(true));
+    assert_eq!(rt; counts(&meter), [1012, 37187, 32, 2048, 384]);
+
+    assert!(rt; has_room(&meter));
+    let refused = fits(rt.alloc(), &empty, b"$1$a:b", &mut meter);
+    assert_eq!(rt; refused, Err(FitFault::Setting(SettingFault::BadCharacter)));
+    assert_eq!(rt; counts(&meter), [1012, 37187, 32, 2048, 384]);
+}
+
+#[test]
+fn many_checks_on_one_meter(rt: HostRuntime) {
+    let password = password_of(&rt, "password");
+    let stored = [
+        MD5CRYPT.as_bytes(),
+        SCRYPT.as_bytes(),
+        b"$1$a:b",
+        MD5CRYPT.as_bytes(),
+    ];
+    assert_eq!(rt; count_fitting(rt.alloc(), &password, &stored), 2);
+}
+
+#[test]
+fn a_password_fits_its_hash(rt: HostRuntime) {
+    let password = password_of(&rt, "Hello world!");
+    for text in [
+        "$1$abc",
+        "$5$rounds=10$ab",
+        "$6$saltstringsaltstring",
+        "$7$2/..../....ab",
+    ] {
+        let setting = Setting::read(text.as_bytes()).expect(&rt, text);
+        let fitting = fits_own_hash(rt.alloc(), &password, &setting);
+        assert_eq!(rt; fitting, Some(true), "{text}");
+    }
+}
+
+#[test]
+fn faults_in_words(rt: HostRuntime) {
+    let refused = FitFault::Setting(SettingFault::BadCharacter);
+    assert_eq!(rt; refused.text(), "bad character");
+    assert_eq!(rt; FitFault::OutOfMemory.text(), "out of memory");
+}

@@ -1,0 +1,128 @@
+-- The answer to a line that is too long, how far an answer raises the counts, and the room that it leaves.
+use Rattle.std.proofs.Common.{◌≡◌, ℕ, ◌+◌, ◌^◌, ◌<◌, ◌≤◌, List, [], length, Option, Result, Ok, Err, refl, arith}
+use Rattle.rand_core.specs.Stream.{Stream}
+use Rattle.prims_core.specs.Meter.{Counts}
+use Rattle.mkpasswd.specs.Answers.{Answer, after_work}
+use Rattle.mkpasswd.specs.Devices.{Device, IsUnfailed}
+use Rattle.mkpasswd.specs.LineAnswers.{IsAnswer, refused_answer}
+use Rattle.mkpasswd.specs.LineAnswers.IsAnswer.{refused}
+use Rattle.mkpasswd.specs.Lines.{IsLineRefused, rule_number}
+use Rattle.mkpasswd.specs.Private.Made.{IsRaisedBelow, Says, fault_text_of, tally_of, text_of}
+use Rattle.mkpasswd.specs.Private.Progress.{Answers, HasCountsFor, HasRoomFor, HasRoomIn, Outs, Sends}
+use Rattle.mkpasswd.specs.Tallies.{both_tallies}
+use Rattle.mkpasswd.specs.declared.answer.LineAnswer.{LineAnswer}
+use Rattle.mkpasswd.specs.declared.answer.Outcome.{Outcome}
+use Rattle.mkpasswd.specs.declared.answer.Outcome.TheVariants.{Answered, Misfit, Refused}
+use Rattle.mkpasswd.specs.declared.faults.RunFault.{RunFault}
+use Rattle.mkpasswd.specs.declared.faults.RunFault.TheVariants.{Read, Write, OutOfMemory, Turns, Password}
+use Rattle.mkpasswd.specs.declared.job.Job.{Job}
+use Rattle.mkpasswd.specs.declared.line.Kind.{Kind}
+use Rattle.mkpasswd.specs.declared.line.LineFault.{LineFault}
+use Rattle.mkpasswd.specs.declared.line.LineFault.TheVariants.{LineTooLong, NoName, NameTooLong, NoPassword, Password as WrongPassword, Setting}
+use Rattle.mkpasswd.specs.declared.tally.Tally.{Tally}
+
+-- ---- a line that is too long
+
+-- there is no rule before the first
+some_rule : (fault : LineFault) → 0 < rule_number fault
+some_rule LineTooLong = omega arith
+some_rule NoName = omega arith
+some_rule NameTooLong = omega arith
+some_rule NoPassword = omega arith
+some_rule (WrongPassword fault) = omega arith
+some_rule (Setting fault) = omega arith
+
+too_long-refused : (kind : Kind) (line : List ℕ) → 1024 < length line → IsLineRefused kind line LineTooLong
+too_long-refused kind line long = record {
+  breaks = long;
+  first = λ earlier before. absurd (omega (arith, some_rule earlier, before));
+}
+
+-- so its refusal is the answer, whatever its bytes are
+pub too_long-answered : (kind : Kind) (job : Job) (number : ℕ) (line : List ℕ) (stream : Stream) (made : LineAnswer) (counts : Counts)
+    → 1024 < length line → ((stream : Stream) → Says made.outcome made.text.items (refused_answer number LineTooLong stream))
+    → (answer : Answer) × IsAnswer kind job number line stream answer
+    × (Says made.outcome made.text.items answer × (counts ≡ after_work counts answer.hashings)) × (stream ≡ answer.stream)
+too_long-answered kind job number line stream made counts long says = (
+  refused_answer number LineTooLong stream,
+  refused LineTooLong (too_long-refused kind line long) refl,
+  (says stream, refl),
+  refl,
+)
+
+-- ---- one more line
+
+-- what an outcome and a text say, with no hashes
+abbrev said_answer : Outcome → List ℕ → Stream → Answer
+said_answer outcome text stream = record {
+  text = text_of outcome text;
+  fault_text = fault_text_of outcome text;
+  tally = tally_of outcome;
+  hashings = [];
+  stream = stream;
+}
+
+-- every outcome is of one line
+record IsOfOneLine (tally : Tally) : Type 0 where
+  lines : tally.lines ≡ 1
+  refused : tally.refused ≤ 1
+  misfits : tally.misfits ≤ 1
+
+one_line-of : (outcome : Outcome) → IsOfOneLine (tally_of outcome)
+one_line-of Answered = record { lines = refl; refused = omega arith; misfits = omega arith }
+one_line-of Misfit = record { lines = refl; refused = omega arith; misfits = omega arith }
+one_line-of Refused = record { lines = refl; refused = omega arith; misfits = omega arith }
+
+one_more-device : {T : Type 0} (lines : ℕ) (old new : Device T) → HasRoomFor lines old → IsUnfailed old new → new.calls ≤ 2 ^ 63 + 2 ^ 40
+    → new.bytes ≤ old.bytes + 384 → HasRoomFor (lines + 1) new
+one_more-device lines old new room unfailed calls bytes =
+    let failures = room.failures in
+    let before = room.bytes in
+    record { failures = omega arith; calls = calls; bytes = omega arith }
+
+one_more-counts : (lines : ℕ) (old new : Counts) → HasCountsFor lines old → IsRaisedBelow (2 ^ 41) old new → HasCountsFor (lines + 1) new
+one_more-counts lines old new room small = record {
+  digests = (let before = room.digests in let more = small.digests in omega arith);
+  bytes = (let before = room.bytes in let more = small.bytes in omega arith);
+  mixes = (let before = room.mixes in let more = small.mixes in omega arith);
+  table = (let before = room.table in let more = small.table in omega arith);
+  scratch = (let before = room.scratch in let more = small.scratch in omega arith);
+}
+
+module _ {O E : Type 0} where
+  -- room for the next line is left after an answer
+  pub room-after : (contents : O → Option (List ℕ)) (fault_contents : E → Option (List ℕ)) (tally : Tally) (made : LineAnswer) (old new : Outs O E) (left new_left : ℕ) {A : Type 0} (done : A)
+      → HasRoomIn tally old → IsRaisedBelow (2 ^ 41) old.counts new.counts
+      → ((told : Answer) → Says made.outcome made.text.items told → Sends contents fault_contents new_left told old.out old.faults new.out new.faults (Ok done))
+      → old.out.calls + old.faults.calls + left ≤ 2 ^ 63 + 2 ^ 40
+      → new.out.calls + new.faults.calls + new_left ≡ old.out.calls + old.faults.calls + left
+      → (new.out.bytes ≤ old.out.bytes + 384) × (new.faults.bytes ≤ old.faults.bytes + 384)
+      → HasRoomIn (both_tallies tally (tally_of made.outcome)) new
+  room-after contents fault_contents tally made old new left new_left done room small sends calls turns bytes =
+      let sent = sends (said_answer made.outcome made.text.items old.stream) (record { text = refl; fault_text = refl; tally = refl }) in
+      let one = one_line-of made.outcome in
+      let line = one.lines in
+      let were_refused = room.tallied.refused in
+      let refused_now = one.refused in
+      let were_misfits = room.tallied.misfits in
+      let misfits_now = one.misfits in
+      record {
+        tallied = record { refused = omega arith; misfits = omega arith };
+        out = rw line (one_more-device tally.lines old.out new.out room.out sent.0 (omega (arith, calls, turns)) bytes.0);
+        faults = rw line (one_more-device tally.lines old.faults new.faults room.faults sent.1 (omega (arith, calls, turns)) bytes.1);
+        counts = rw line (one_more-counts tally.lines old.counts new.counts room.counts small);
+      }
+
+  -- ---- an answer that was made
+
+  -- whether it is given whole or cut short
+  pub answers-sent : (contents : O → Option (List ℕ)) (fault_contents : E → Option (List ℕ)) (left : ℕ) (answer : Answer) (old new : Outs O E) {A : Type 0} (result : Result A RunFault)
+      → new.stream ≡ answer.stream → new.counts ≡ after_work old.counts answer.hashings
+      → Sends contents fault_contents left answer old.out old.faults new.out new.faults result
+      → Answers contents fault_contents left answer old new result
+  answers-sent contents fault_contents left answer old new (Ok done) stream counts sends = (stream, counts, sends)
+  answers-sent contents fault_contents left answer old new (Err Read) stream counts sends = (stream, counts, sends)
+  answers-sent contents fault_contents left answer old new (Err Write) stream counts sends = (stream, counts, sends)
+  answers-sent contents fault_contents left answer old new (Err OutOfMemory) stream counts sends = absurd sends
+  answers-sent contents fault_contents left answer old new (Err Turns) stream counts sends = (stream, counts, sends)
+  answers-sent contents fault_contents left answer old new (Err (Password fault)) stream counts sends = (stream, counts, sends)

@@ -1,0 +1,79 @@
+-- The answer to the last line of an input, where that has no line feed.
+use Rattle.std.proofs.Common.{◌≡◌, ◌≢◌, ℕ, ◌+◌, List, [], ◌∷◌, ◌++◌, length, Option, Result, Ok, Err, sym, ap, subst, ◌∙◌, append-nil, arith}
+use Rattle.mkpasswd.specs.Answers.{after_work}
+use Rattle.mkpasswd.specs.LineRuns.{AreAnswers, both, lines_of}
+use Rattle.mkpasswd.specs.Private.LineEnds.{AnswersLast, IsAllAnswered}
+use Rattle.mkpasswd.specs.Private.Progress.{IsAt, Outs}
+use Rattle.mkpasswd.specs.Tallies.{both_tallies}
+use Rattle.mkpasswd.specs.declared.faults.RunFault.{RunFault}
+use Rattle.mkpasswd.specs.declared.job.Job.{Job}
+use Rattle.mkpasswd.specs.declared.line.Kind.{Kind}
+use Rattle.mkpasswd.specs.declared.lines.progress.Progress.{Progress}
+use Rattle.mkpasswd.proofs.LineAnswering.{AreAnswers-push, after_work-append}
+use Rattle.mkpasswd.proofs.LinesOf.{lines_of-last, lines_of-nil, lines_of-with_line_feeds}
+use Rattle.mkpasswd.proofs.LookingThrough.{AnswersHeld, Takes-trans, cut-answering}
+
+module _ {O E : Type 0} (contents : O → Option (List ℕ)) (fault_contents : E → Option (List ℕ)) (kind : Kind) (job : Job) where
+  lines-are : (start now : Outs O E) (bytes : List ℕ) (progress : Progress) (at : IsAt contents fault_contents kind job start now bytes progress)
+      → lines_of bytes ≡ at.done ++ lines_of at.rest
+  lines-are start now bytes progress at = ap lines_of at.split ∙ lines_of-with_line_feeds at.done at.rest at.lines
+
+  -- nothing is held
+  pub last-none : (start now : Outs O E) (bytes : List ℕ) (progress : Progress) (at : IsAt contents fault_contents kind job start now bytes progress)
+      → at.rest ≡ [] → IsAllAnswered contents fault_contents kind job start now bytes progress.tally
+  last-none start now bytes progress at none =
+      let lines = lines-are start now bytes progress at ∙ ap (λ rest. at.done ++ lines_of rest) none ∙ ap (λ others. at.done ++ others) lines_of-nil ∙ append-nil at.done in
+      record {
+        answers = at.answers;
+        are = subst (λ of_bytes. AreAnswers kind job 1 of_bytes start.stream at.answers) (sym lines) at.are;
+        tally_is = at.tally;
+        out_unfailed = at.out_unfailed;
+        faults_unfailed = at.faults_unfailed;
+        text = at.text;
+        fault_text = at.fault_text;
+        stream = at.stream;
+        counts = at.counts;
+      }
+
+  -- what is held is answered
+  pub last-answered : (start old new : Outs O E) (bytes : List ℕ) (progress next_progress : Progress) (A : Type 0) (result : Result A RunFault)
+      → (at : IsAt contents fault_contents kind job start old bytes progress) → at.rest ≢ []
+      → AnswersHeld contents fault_contents kind job old new progress.tally progress.held next_progress {A = A} result
+      → AnswersLast contents fault_contents kind job start new bytes next_progress {A = A} result
+  last-answered start old new bytes progress next_progress A (Ok done) at some answers =
+      let got = answers at.rest at.held in
+      let next = got.0 in
+      let given = got.2 in
+      let number : progress.tally.lines + 1 ≡ 1 + length at.done = omega (arith, ap (λ t. t.lines) at.tally, at.numbers) in
+      let are : AreAnswers kind job 1 (at.done ++ at.rest ∷ []) start.stream (both at.answers next) =
+      AreAnswers-push kind job 1 at.done at.rest start.stream at.answers next at.are (rw (number, at.stream) at got.1) in
+      let lines = lines-are start old bytes progress at ∙ ap (λ others. at.done ++ others) (lines_of-last at.rest at.no_feed some) in
+      record {
+        answers = both at.answers next;
+        are = subst (λ of_bytes. AreAnswers kind job 1 of_bytes start.stream (both at.answers next)) (sym lines) are;
+        tally_is = got.3 ∙ ap (λ t. both_tallies t next.tally) at.tally;
+        out_unfailed = given.2.0 ∙ at.out_unfailed;
+        faults_unfailed = given.2.1 ∙ at.faults_unfailed;
+        text = Takes-trans contents start.out old.out new.out at.answers.text next.text at.text given.2.2;
+        fault_text = Takes-trans fault_contents start.faults old.faults new.faults at.answers.fault_text next.fault_text at.fault_text given.2.3;
+        stream = given.0;
+        counts = given.1 ∙ (ap (λ c. after_work c next.hashings) at.counts ∙ sym (after_work-append start.counts at.answers.hashings next.hashings));
+      }
+  last-answered start old new bytes progress next_progress A (Err fault) at some answers =
+      let got = answers at.rest at.held in
+      let number : progress.tally.lines + 1 ≡ length at.done + 1 = omega (arith, ap (λ t. t.lines) at.tally, at.numbers) in (
+        at.rest,
+        some,
+        record {
+          done = at.done;
+          answers = at.answers;
+          next = got.0;
+          split = at.split;
+          lines = at.lines;
+          no_feed = at.no_feed;
+          are = at.are;
+          is_next = rw (number, at.stream) at got.1;
+          cut = cut-answering contents fault_contents kind job start old new bytes [] progress next_progress.left at.rest got.0 A fault
+              (record { at = at; is_line = sym (append-nil at.rest); no_feed = at.no_feed; is_next = got.1 }) got.2;
+        },
+      )

@@ -1,0 +1,73 @@
+-- The calls of a run over lines: it ends with the first that fails.
+use Rattle.std.proofs.Common.{◌≡◌, ℕ, ◌+◌, ◌≤◌, List, Result, Ok, Err, arith, inl, inr}
+use Rattle.mkpasswd.specs.Answers.{Answer}
+use Rattle.mkpasswd.specs.Devices.{MovesBytes}
+use Rattle.mkpasswd.specs.LineRuns.{EndsAnswering, EndsAfter, EndsLines, EndsReading, EndsWhole}
+use Rattle.mkpasswd.specs.Runs.{Ends, Fails, Hands, IsWithinTurns, Tells, calls_of}
+use Rattle.mkpasswd.specs.declared.faults.RunFault.{RunFault}
+use Rattle.mkpasswd.specs.declared.faults.RunFault.TheVariants.{Read, Write, OutOfMemory, Turns, Password}
+use Rattle.mkpasswd.specs.declared.job.Job.{Job}
+use Rattle.mkpasswd.specs.declared.line.Kind.{Kind}
+use Rattle.mkpasswd.specs.declared.tally.Tally.{Tally}
+
+module _ {I O E : Type 0} (told : Tells I O E) (kind : Kind) (job : Job) where
+  abbrev failures_of : Hands I O E → ℕ
+  failures_of now = now.input.failures + now.out.failures + now.faults.failures
+
+  fails-of : (start new : Hands I O E) (input out faults : ℕ) → Fails input out faults start new
+      → failures_of new ≡ failures_of start + input + out + faults
+  fails-of start new input out faults fails =
+      let of_input = fails.of_input in
+      let of_out = fails.of_out in
+      let of_faults = fails.of_faults in
+      omega (arith, of_input, of_out, of_faults)
+
+  -- a run ends with the first call that fails
+  fails-once : (turns : ℕ) (done next : Answer) (start new : Hands I O E) (result : Result Tally RunFault)
+      → Ends told turns done next start new result → failures_of new ≤ failures_of start + 1
+  fails-once turns done next start new (Ok tally) ends = omega (arith, fails-of start new 0 0 0 ends.1)
+  fails-once turns done next start new (Err Read) ends = omega (arith, fails-of start new 1 0 0 ends.0)
+  fails-once turns done next start new (Err Write) (inl cut, after) = omega (arith, fails-of start new 0 1 0 cut.0)
+  fails-once turns done next start new (Err Write) (inr cut, after) = omega (arith, fails-of start new 0 0 1 cut.0)
+  fails-once turns done next start new (Err Turns) ends = omega (arith, fails-of start new 0 0 0 ends.0)
+  fails-once turns done next start new (Err OutOfMemory) ends = omega (arith, fails-of start new 0 0 0 ends.0)
+  fails-once turns done next start new (Err (Password fault)) ends = omega (arith, fails-of start new 0 0 0 ends.0)
+
+  -- the three ways of an end
+  whole-once : (turns : ℕ) (start new : Hands I O E) (bytes : List ℕ) (result : Result Tally RunFault)
+      → EndsWhole told turns kind job bytes start new result → failures_of new ≤ failures_of start + 1
+  whole-once turns start new bytes result (answers, read_out, are, ends) = fails-once turns answers _ start new result ends
+
+  reading-once : (turns : ℕ) (start new : Hands I O E) (bytes : List ℕ) (result : Result Tally RunFault)
+      → EndsReading told turns kind job bytes start new result → failures_of new ≤ failures_of start + 1
+  reading-once turns start new bytes result (done, rest, answers, answered, no_feed, moved, ends) = fails-once turns answers _ start new result ends
+
+  answering-once : (turns : ℕ) (start new : Hands I O E) (bytes : List ℕ) (result : Result Tally RunFault)
+      → EndsAnswering told turns kind job bytes start new result → failures_of new ≤ failures_of start + 1
+  answering-once turns start new bytes result (done, line, rest, answers, next, answered, no_feed, is_line, is_next, owed, ends) =
+      fails-once turns answers next start new result ends
+
+  lines-once : (turns : ℕ) (start new : Hands I O E) (bytes : List ℕ) (result : Result Tally RunFault)
+      → EndsAfter told turns kind job bytes start new result → failures_of new ≤ failures_of start + 1
+  lines-once turns start new bytes (Ok tally) ends = whole-once turns start new bytes (Ok tally) ends
+  lines-once turns start new bytes (Err Read) ends = reading-once turns start new bytes (Err Read) ends
+  lines-once turns start new bytes (Err Write) (inl ends) = answering-once turns start new bytes (Err Write) ends
+  lines-once turns start new bytes (Err Write) (inr ends) = whole-once turns start new bytes (Err Write) ends
+  lines-once turns start new bytes (Err Turns) (inl ends) = reading-once turns start new bytes (Err Turns) ends
+  lines-once turns start new bytes (Err Turns) (inr ends) = answering-once turns start new bytes (Err Turns) ends
+  lines-once turns start new bytes (Err OutOfMemory) ends = answering-once turns start new bytes (Err OutOfMemory) ends
+  lines-once turns start new bytes (Err (Password fault)) ends = absurd ends
+
+  pub within-turns : (turns left : ℕ) (start new : Hands I O E) (result : Result Tally RunFault)
+      → EndsLines told turns kind job start new result → calls_of new + left ≡ calls_of start + turns
+      → MovesBytes 1 start.input new.input → MovesBytes 0 start.out new.out → MovesBytes 0 start.faults new.faults
+      → IsWithinTurns turns start new
+  within-turns turns left start new result (bytes, reads, ends) calls of_input of_out of_faults =
+      let once = lines-once turns start new bytes result ends in
+      record {
+        at_most_turns = omega (arith, calls);
+        at_most_bytes = omega (arith, once, of_input, of_out, of_faults);
+        of_input = of_input;
+        of_out = of_out;
+        of_faults = of_faults;
+      }

@@ -1,0 +1,131 @@
+-- A run over the lines of an input: what it answers to all of them, and how it ends.
+use Rattle.std.specs.Prelude.{◌≡◌, ◌≢◌, ℕ, ◌+◌, ◌<◌, ◌==◌, ◌⊎◌, ⊤, List, [], ◌∷◌, ◌++◌, length, flat_map, Contains, Result, Ok, Err}
+use Rattle.std.specs.List.{slice_split, AllByRecursion}
+use Rattle.std.specs.Io.KnownBytes.{IsAtEnd}
+use Rattle.rand_core.specs.Stream.{Stream}
+use Rattle.mkpasswd.specs.Answers.{Answer, no_answer}
+use Rattle.mkpasswd.specs.Devices.{MovesBytes}
+use Rattle.mkpasswd.specs.Input.{Reads}
+use Rattle.mkpasswd.specs.LineAnswers.{IsAnswer}
+use Rattle.mkpasswd.specs.Runs.{Ends, Hands, Tells}
+use Rattle.mkpasswd.specs.Tallies.{both_tallies}
+use Rattle.mkpasswd.specs.declared.faults.RunFault.{RunFault}
+use Rattle.mkpasswd.specs.declared.faults.RunFault.TheVariants.{Read, Write, OutOfMemory, Turns, Password}
+use Rattle.mkpasswd.specs.declared.job.Job.{Job}
+use Rattle.mkpasswd.specs.declared.line.Kind.{Kind}
+use Rattle.mkpasswd.specs.declared.tally.Tally.{Tally}
+
+-- ---- the lines of an input
+
+abbrev pub line_feed : ℕ
+line_feed = 10
+
+-- the parts, but for the last one where that is empty
+abbrev pub without_empty_end : List (List ℕ) → List (List ℕ)
+without_empty_end [] = []
+without_empty_end ([] ∷ []) = []
+without_empty_end ((b ∷ bs) ∷ []) = (b ∷ bs) ∷ []
+without_empty_end (part ∷ next ∷ parts) = part ∷ without_empty_end (next ∷ parts)
+
+-- the input, cut at its line feeds; what follows the last of them is a line only if it isn't empty
+unfoldable pub lines_of : List ℕ → List (List ℕ)
+lines_of input = without_empty_end (slice_split (λ b. b == line_feed) input)
+
+-- a line, or what is read of it, has no line feed of its own
+abbrev pub HasNoLineFeed : List ℕ → Type 0
+HasNoLineFeed line = ¬ Contains line line_feed
+
+-- lines as they stand in an input, each with its line feed
+abbrev pub with_line_feeds : List (List ℕ) → List ℕ
+with_line_feeds = flat_map (λ line. line ++ line_feed ∷ [])
+
+-- ---- the answers to them
+
+-- one answer, and then others
+abbrev pub both : Answer → Answer → Answer
+both first others = record {
+  text = first.text ++ others.text;
+  fault_text = first.fault_text ++ others.fault_text;
+  tally = both_tallies first.tally others.tally;
+  hashings = first.hashings ++ others.hashings;
+  stream = others.stream;
+}
+
+-- the answers to lines with numbers from this one on, as one; each begins where the one before it left the stream
+abbrev pub AreAnswers : Kind → Job → ℕ → List (List ℕ) → Stream → Answer → Type 0
+AreAnswers kind job number [] stream answers = answers ≡ no_answer stream
+AreAnswers kind job number (line ∷ lines) stream answers =
+    (first : Answer) × (others : Answer) × IsAnswer kind job number line stream first
+    × AreAnswers kind job (number + 1) lines first.stream others × (answers ≡ both first others)
+
+-- how many bytes are fetched at once
+abbrev pub piece_size : ℕ
+piece_size = 512
+
+-- Of these bytes the first ones are lines, each with its line feed, and they are answered.
+pub record AreAnswered (kind : Kind) (job : Job) (stream : Stream) (bytes : List ℕ) (done : List (List ℕ)) (rest : List ℕ) (answers : Answer) : Type 0 where
+  pub split : bytes ≡ with_line_feeds done ++ rest
+  pub lines : AllByRecursion HasNoLineFeed done
+  pub are : AreAnswers kind job 1 done stream answers
+
+module _ {I O E : Type 0} where
+  -- ---- where a run is
+
+  -- nothing is left to read
+  abbrev pub IsReadOut : Tells I O E → Hands I O E → Type 0
+  IsReadOut tells new = IsAtEnd (tells.remaining new.input.inner)
+
+  -- a line stands in front of what was read and isn't answered, with its line feed among the last 512 bytes;
+  -- or it is all of that, and the end of the input
+  abbrev pub IsNext : Tells I O E → Hands I O E → List ℕ → List ℕ → Type 0
+  IsNext tells new line rest =
+      ((behind : List ℕ) × (rest ≡ line ++ line_feed ∷ behind) × (length behind < piece_size))
+      ⊎ ((rest ≡ line) × (line ≢ []) × IsReadOut tells new)
+
+  -- ---- how it ends, where it has read these bytes
+
+  -- All lines are answered.
+  abbrev pub EndsWhole : Tells I O E → ℕ → Kind → Job → List ℕ → Hands I O E → Hands I O E → Result Tally RunFault → Type 0
+  EndsWhole tells turns kind job bytes old new result =
+      (answers : Answer) × IsReadOut tells new × AreAnswers kind job 1 (lines_of bytes) old.stream answers
+      × Ends tells turns answers (no_answer answers.stream) old new result
+
+  -- The lines whose line feeds were read are answered, and more of the input was wanted. No more fetches worked than
+  -- bytes were read.
+  abbrev pub EndsReading : Tells I O E → ℕ → Kind → Job → List ℕ → Hands I O E → Hands I O E → Result Tally RunFault → Type 0
+  EndsReading tells turns kind job bytes old new result =
+      (done : List (List ℕ)) × (rest : List ℕ) × (answers : Answer)
+      × AreAnswered kind job old.stream bytes done rest answers × HasNoLineFeed rest × MovesBytes 0 old.input new.input
+      × Ends tells turns answers (no_answer answers.stream) old new result
+
+  -- where the turns were over, some of these two answers is still to come
+  abbrev pub IsOwed : Answer → Answer → Hands I O E → Hands I O E → Result Tally RunFault → Type 0
+  IsOwed done next old new (Err Turns) =
+      new.out.bytes + new.faults.bytes
+      < old.out.bytes + old.faults.bytes + length (done.text ++ next.text) + length (done.fault_text ++ next.fault_text)
+  IsOwed done next old new result = ⊤
+
+  -- Some lines are answered, and the next one was being answered.
+  abbrev pub EndsAnswering : Tells I O E → ℕ → Kind → Job → List ℕ → Hands I O E → Hands I O E → Result Tally RunFault → Type 0
+  EndsAnswering tells turns kind job bytes old new result =
+      (done : List (List ℕ)) × (line : List ℕ) × (rest : List ℕ) × (answers : Answer) × (next : Answer)
+      × AreAnswered kind job old.stream bytes done rest answers × HasNoLineFeed line × IsNext tells new line rest
+      × IsAnswer kind job (length done + 1) line answers.stream next
+      × IsOwed answers next old new result × Ends tells turns answers next old new result
+
+  -- A read fails where more is wanted, a write where an answer or the end of all is given; the turns end in
+  -- either place; memory is wanted for a hash.
+  abbrev pub EndsAfter : Tells I O E → ℕ → Kind → Job → List ℕ → Hands I O E → Hands I O E → Result Tally RunFault → Type 0
+  EndsAfter tells turns kind job bytes old new (Ok tally) = EndsWhole tells turns kind job bytes old new (Ok tally)
+  EndsAfter tells turns kind job bytes old new (Err Read) = EndsReading tells turns kind job bytes old new (Err Read)
+  EndsAfter tells turns kind job bytes old new (Err Write) =
+      EndsAnswering tells turns kind job bytes old new (Err Write) ⊎ EndsWhole tells turns kind job bytes old new (Err Write)
+  EndsAfter tells turns kind job bytes old new (Err Turns) =
+      EndsReading tells turns kind job bytes old new (Err Turns) ⊎ EndsAnswering tells turns kind job bytes old new (Err Turns)
+  EndsAfter tells turns kind job bytes old new (Err OutOfMemory) = EndsAnswering tells turns kind job bytes old new (Err OutOfMemory)
+  EndsAfter tells turns kind job bytes old new (Err (Password fault)) = ⊥
+
+  -- the run over the lines of an input
+  abbrev pub EndsLines : Tells I O E → ℕ → Kind → Job → Hands I O E → Hands I O E → Result Tally RunFault → Type 0
+  EndsLines tells turns kind job old new result =
+      (bytes : List ℕ) × Reads tells.remaining old.input new.input bytes × EndsAfter tells turns kind job bytes old new result

@@ -1,0 +1,228 @@
+use super::*;
+use std::alloc::{AllocError, Global};
+use std::test::Fail;
+
+const NO_NAME: Option<LineFault> = Some(LineFault::NoName);
+
+const NAME_TOO_LONG: Option<LineFault> = Some(LineFault::NameTooLong);
+
+const NO_PASSWORD: Option<LineFault> = Some(LineFault::NoPassword);
+
+const PASSWORD_TOO_LONG: Option<LineFault> = Some(LineFault::Password(PasswordFault::TooLong));
+
+const HAS_NUL: Option<LineFault> = Some(LineFault::Password(PasswordFault::HasNul));
+
+fn bad_setting(fault: SettingFault) -> Option<LineFault> {
+    Some(LineFault::Setting(fault))
+}
+
+#[test]
+fn inspects_lines_to_check(rt: HostRuntime) {
+    let bad_character = bad_setting(SettingFault::BadCharacter);
+    let unknown_scheme = bad_setting(SettingFault::UnknownScheme);
+    let bad_rounds = bad_setting(SettingFault::BadRounds);
+    let bad_cost = bad_setting(SettingFault::BadCost);
+    let out_of_range = bad_setting(SettingFault::ScryptRange);
+    let above_ceiling = bad_setting(SettingFault::AboveCeiling);
+    let bad_salt = bad_setting(SettingFault::BadSalt);
+    let rows: [(&str, &[u8], Option<LineFault>); 26] = [
+        ("nothing", b"", NO_NAME),
+        ("an empty name", b":x:y", NO_NAME),
+        ("no colon", b"a", NO_PASSWORD),
+        ("one colon", b"a:!", NO_PASSWORD),
+        ("an empty field and password", b"a::", None),
+        ("an empty field", b"a::x", None),
+        ("an empty password", b"a:!:", None),
+        ("a byte 0 in the name", b"a\0b::x", None),
+        ("a byte 0, and a locked field", b"a:!:\0", HAS_NUL),
+        ("a byte 0, and a bad field", b"a:$2b$10$x:\0", HAS_NUL),
+        ("a colon and a byte 0", b"a::x:\0", HAS_NUL),
+        ("locked by a star", b"a:*:x", None),
+        ("locked, with a bad character", b"a:!a b:x", None),
+        ("not locked by a later mark", b"a:a!:x", bad_character),
+        ("a space, and no scheme", b"a:$9$a b:x", bad_character),
+        (
+            "a space, and no rounds",
+            b"a:$5$rounds=0$a b:x",
+            bad_character,
+        ),
+        ("no scheme", b"a:x:y", unknown_scheme),
+        ("a scheme of others", b"a:$2b$10$x:y", unknown_scheme),
+        ("no rounds", b"a:$5$rounds=0$ab:x", bad_rounds),
+        ("no cost", b"a:$7$A:x", bad_cost),
+        (
+            "N is 2^16 with r = 1",
+            b"a:$7$E/..../....a_b:x",
+            out_of_range,
+        ),
+        (
+            "N is 2^21 with r = 8",
+            b"a:$7$J6..../....a_b:x",
+            above_ceiling,
+        ),
+        ("a bad salt", b"a:$7$CU..../....a_b:x", bad_salt),
+        ("a bare setting", b"a:$1$xxxxxxxx:x", None),
+        (
+            "a stored text",
+            b"a:$1$xxxxxxxx$UYCIxa628.9qXjpQCjM4a.:x",
+            None,
+        ),
+        (
+            "a colon",
+            b"a:$1$xxxxxxxx$UYCIxa628.9qXjpQCjM4a.:pass:word",
+            None,
+        ),
+    ];
+    for (what, line, wanted) in rows {
+        assert_eq!(rt; inspect(Kind::Check, line), wanted, "{what}");
+    }
+}
+
+#[test]
+fn inspects_lines_to_hash(rt: HostRuntime) {
+    let rows: [(&str, &[u8], Option<LineFault>); 9] = [
+        ("nothing", b"", NO_NAME),
+        ("an empty name", b":x", NO_NAME),
+        ("no colon", b"ann", NO_PASSWORD),
+        ("a password", b"ann:password", None),
+        ("an empty password", b"ann:", None),
+        ("a colon in the password", b"ann:a:b", None),
+        ("a byte 0 in the name", b"a\0b:x", None),
+        ("a byte 0 in the password", b"a:x\0", HAS_NUL),
+        ("a byte 0 behind a colon", b"a:x:\0", HAS_NUL),
+    ];
+    for (what, line, wanted) in rows {
+        assert_eq!(rt; inspect(Kind::Batch, line), wanted, "{what}");
+    }
+}
+
+// Bytes, then one byte so many times, then bytes.
+type Pieces<'a> = (&'a [u8], (usize, u8), &'a [u8]);
+
+fn joined(alloc: Global, pieces: Pieces<'_>) -> Result<Vec<u8>, AllocError> {
+    let (front, (count, byte), back) = pieces;
+    let mut line = Vec::new(alloc);
+    line.extend_from_slice(front)?;
+    for _ in 0..count {
+        line.push(byte)?;
+    }
+    line.extend_from_slice(back)?;
+    Ok(line)
+}
+
+#[test]
+fn measures_lines(rt: HostRuntime) -> Result<(), Fail> {
+    let line_too_long = Some(LineFault::LineTooLong);
+    let field_too_long = bad_setting(SettingFault::TooLong);
+    let batch = Kind::Batch;
+    let check = Kind::Check;
+    let rows: [(&str, Kind, Pieces<'_>, Option<LineFault>); 20] = [
+        (
+            "1,025 bytes",
+            batch,
+            (b":", (1024, b'x'), b""),
+            line_too_long,
+        ),
+        ("1,024 bytes", batch, (b":", (1023, b'x'), b""), NO_NAME),
+        (
+            "1,024 of a name",
+            batch,
+            (b"", (1024, b'x'), b""),
+            NAME_TOO_LONG,
+        ),
+        (
+            "65 of a name",
+            batch,
+            (b"", (65, b'a'), b":x"),
+            NAME_TOO_LONG,
+        ),
+        ("64 of a name", batch, (b"", (64, b'a'), b":x"), None),
+        (
+            "513 of a password",
+            batch,
+            (b"a:", (513, b'x'), b""),
+            PASSWORD_TOO_LONG,
+        ),
+        ("512 of a password", batch, (b"a:", (512, b'x'), b""), None),
+        (
+            "513 and a colon",
+            batch,
+            (b"a:b:", (511, b'x'), b""),
+            PASSWORD_TOO_LONG,
+        ),
+        (
+            "1,025 bytes",
+            check,
+            (b":", (1024, b'x'), b""),
+            line_too_long,
+        ),
+        ("1,024 bytes", check, (b":", (1023, b'x'), b""), NO_NAME),
+        ("65 bytes", check, (b"", (65, b'a'), b""), NAME_TOO_LONG),
+        ("64 bytes", check, (b"", (64, b'a'), b""), NO_PASSWORD),
+        (
+            "65 of a name",
+            check,
+            (b"", (65, b'a'), b"::x"),
+            NAME_TOO_LONG,
+        ),
+        ("64 of a name", check, (b"", (64, b'a'), b"::x"), None),
+        (
+            "513 of a password",
+            check,
+            (b"a::", (513, b'x'), b""),
+            PASSWORD_TOO_LONG,
+        ),
+        ("512 of a password", check, (b"a::", (512, b'x'), b""), None),
+        (
+            "513 and a colon",
+            check,
+            (b"a::b:", (511, b'x'), b""),
+            PASSWORD_TOO_LONG,
+        ),
+        (
+            "385 of a field",
+            check,
+            (b"a:", (385, b'$'), b":x"),
+            field_too_long,
+        ),
+        ("385, locked", check, (b"a:", (385, b'!'), b":x"), None),
+        (
+            "385, empty password",
+            check,
+            (b"a:", (385, b'$'), b":"),
+            field_too_long,
+        ),
+    ];
+    for (what, kind, pieces, wanted) in rows {
+        let line = joined(rt.alloc(), pieces)?;
+        assert_eq!(rt;
+            inspect(kind, line.as_slice()),
+            wanted,
+            "{what} for {kind:?}"
+        );
+    }
+    Ok(())
+}
+
+#[test]
+fn tells_faults_in_words(rt: HostRuntime) {
+    let rows = [
+        (Some(LineFault::LineTooLong), "line too long"),
+        (NO_NAME, "no name"),
+        (NAME_TOO_LONG, "name too long"),
+        (NO_PASSWORD, "no password field"),
+        (PASSWORD_TOO_LONG, "password too long"),
+        (HAS_NUL, "password has a zero byte"),
+        (bad_setting(SettingFault::TooLong), "setting too long"),
+        (bad_setting(SettingFault::BadCharacter), "bad character"),
+        (bad_setting(SettingFault::UnknownScheme), "unknown scheme"),
+        (bad_setting(SettingFault::BadRounds), "bad rounds"),
+        (bad_setting(SettingFault::BadCost), "bad cost"),
+        (bad_setting(SettingFault::ScryptRange), "scrypt range"),
+        (bad_setting(SettingFault::AboveCeiling), "above ceiling"),
+        (bad_setting(SettingFault::BadSalt), "bad salt"),
+    ];
+    for (fault, text) in rows {
+        assert_eq!(rt; fault.map(|fault| fault.text()), Some(text), "{text}");
+    }
+}

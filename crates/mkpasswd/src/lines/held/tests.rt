@@ -1,0 +1,47 @@
+use super::*;
+use std::test::Fail;
+
+// Whether these bytes are held, or `None`: that they are too many.
+fn holds(held: &Held, want: Option<&[u8]>) -> bool {
+    match want {
+        Some(bytes) => !held.is_too_long && held.bytes.as_slice() == bytes,
+        None => held.is_too_long,
+    }
+}
+
+#[test]
+fn holds_a_line_over_pieces(rt: HostRuntime) -> Result<(), Fail> {
+    let long = [b'a'; 1025];
+    let rows: [(&str, [&[u8]; 3], Option<&[u8]>); 7] = [
+        ("nothing", [b"", b"", b""], Some(b"")),
+        ("three pieces", [b"al", b"", b"ice:x"], Some(b"alice:x")),
+        (
+            "1,024 bytes",
+            [&long[..512], &long[..511], b"a"],
+            Some(&long[..1024]),
+        ),
+        ("the 1,025th", [&long[..512], &long[..512], b"a"], None),
+        ("1,025 at once", [&long, b"", b""], None),
+        (
+            "too many, and few",
+            [&long[..1000], &long[..25], b"a"],
+            None,
+        ),
+        ("too many twice", [&long, &long, b"a"], None),
+    ];
+    for (what, pieces, want) in rows {
+        let mut held = Held::new();
+        assert!(rt; held.is_empty(), "{what}, not yet");
+        for piece in pieces {
+            held.append(piece);
+        }
+        assert!(rt; holds(&held, want), "{what}");
+
+        held.clear();
+        assert!(rt; held.is_empty(), "{what}, cleared");
+        held.append(b"bob");
+        assert!(rt; holds(&held, Some(b"bob")), "{what}, begun anew");
+        assert!(rt; !held.is_empty(), "{what}, begun anew");
+    }
+    Ok(())
+}

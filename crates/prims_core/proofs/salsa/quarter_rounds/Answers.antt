@@ -1,0 +1,13 @@
+use Rattle.std.proofs.Common.{refl}
+use Rattle.prims_core.specs.Salsa.{quarter_round}
+use Rattle.prims_core.proofs.salsa.quarter_rounds.Goals as goal
+
+pub returns : goal.returns
+unfolding quarter_round
+returns c j inside =
+    rw (
+      c.xor_rotated_sum-a.ensures j inside,
+      c.xor_rotated_sum-d.ensures j inside,
+      c.xor_rotated_sum-c.ensures j inside,
+      c.xor_rotated_sum-b.ensures j inside,
+    ) refl

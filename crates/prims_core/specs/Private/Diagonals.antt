@@ -1,0 +1,11 @@
+-- A block of sixteen words as the four diagonals of its matrix: each begins with the first word of a
+-- row and goes on one to the right and one down, and from the last row to the first.
+use Rattle.std.specs.Prelude.{ℕ, List, [], ◌∷◌, slice_index}
+
+-- the words, row by row, of the matrix with the diagonals 0 5 10 15, 4 9 14 3, 8 13 2 7 and 12 1 6 11
+abbrev pub words_on : List ℕ → List ℕ → List ℕ → List ℕ → List ℕ
+words_on a b c d =
+    slice_index a 0 ∷ slice_index d 1 ∷ slice_index c 2 ∷ slice_index b 3
+    ∷ slice_index b 0 ∷ slice_index a 1 ∷ slice_index d 2 ∷ slice_index c 3
+    ∷ slice_index c 0 ∷ slice_index b 1 ∷ slice_index a 2 ∷ slice_index d 3
+    ∷ slice_index d 0 ∷ slice_index c 1 ∷ slice_index b 2 ∷ slice_index a 3 ∷ []

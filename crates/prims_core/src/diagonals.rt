@@ -1,0 +1,96 @@
+//! A block of sixteen words in lanes, as the rounds of Salsa20/8 take it.
+//!
+//! The words are a matrix of four rows. A column round begins each column on the main diagonal, so
+//! that the first words of all columns are that diagonal, the second words the one below it, and so
+//! on: these are the vectors, and one quarter round of lanes is then that of all columns.
+
+ghost use Rattle.std.specs.Prelude.{◌≡◌, length};
+ghost use Rattle.std.specs.Simd.Lanes.{zip2};
+ghost use Rattle.prims_core.specs.Words.{xor_words};
+ghost use Rattle.prims_core.specs.Salsa.{sum_of_words};
+
+use std::marker::Model;
+use std::simd::prelude::*;
+
+/// The sixteen words of a block, seen as their list.
+#[derive(Drop)]
+pub(crate) struct Diagonals {
+    /// The words 0, 5, 10 and 15.
+    pub(crate) first: u32x4,
+    /// The words 4, 9, 14 and 3.
+    pub(crate) second: u32x4,
+    /// The words 8, 13, 2 and 7.
+    pub(crate) third: u32x4,
+    /// The words 12, 1, 6 and 11.
+    pub(crate) fourth: u32x4,
+}
+
+impl Model for Diagonals {
+    ghost use Rattle.std.specs.Prelude.{◌≡◌, ℕ, List, length};
+    ghost use Rattle.prims_core.specs.Private.Diagonals.{words_on};
+
+    ghost Value = { List ℕ };
+
+    ghost view = { λ d. words_on d.first d.second d.third d.fourth };
+
+    ghost invariant = { λ d. (length d.first ≡ 4) × (length d.second ≡ 4) × (length d.third ≡ 4)
+        × (length d.fourth ≡ 4) };
+}
+
+impl Diagonals {
+    /// The block of these sixteen words.
+    #[inline(always)]
+    pub(crate) fn of(words: &[u32]) -> Diagonals
+        requires { length words.now ≡ 16 }
+        ensures { result ≡ words.now }
+    {
+        let block = u32x16::from_slice(words);
+        Diagonals {
+            first: block.swizzle([0, 5, 10, 15]),
+            second: block.swizzle([4, 9, 14, 3]),
+            third: block.swizzle([8, 13, 2, 7]),
+            fourth: block.swizzle([12, 1, 6, 11]),
+        }
+    }
+
+    /// Fills `words`, which are sixteen, with the block's.
+    #[inline(always)]
+    pub(crate) fn store(&self, words: &mut [u32])
+        requires { length words.old ≡ 16 }
+        ensures { words.new ≡ self.now }
+    {
+        let upper: u32x8 = self.first.shuffle(self.second, [0, 1, 2, 3, 4, 5, 6, 7]);
+        let lower: u32x8 = self.third.shuffle(self.fourth, [0, 1, 2, 3, 4, 5, 6, 7]);
+        let block: u32x16 = upper.shuffle(
+            lower,
+            [0, 13, 10, 7, 4, 1, 14, 11, 8, 5, 2, 15, 12, 9, 6, 3],
+        );
+        block.copy_to_slice(words);
+    }
+
+    /// The exclusive or of two blocks.
+    #[inline(always)]
+    pub(crate) fn xor(&self, other: &Diagonals) -> Diagonals
+        ensures { result ≡ xor_words self.now other.now }
+    {
+        Diagonals {
+            first: self.first ^ other.first,
+            second: self.second ^ other.second,
+            third: self.third ^ other.third,
+            fourth: self.fourth ^ other.fourth,
+        }
+    }
+
+    /// The sums of the words of two blocks.
+    #[inline(always)]
+    pub(crate) fn sum(&self, other: &Diagonals) -> Diagonals
+        ensures { result ≡ zip2 sum_of_words self.now other.now }
+    {
+        Diagonals {
+            first: self.first + other.first,
+            second: self.second + other.second,
+            third: self.third + other.third,
+            fourth: self.fourth + other.fourth,
+        }
+    }
+}
