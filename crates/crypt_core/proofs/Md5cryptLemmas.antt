@@ -30,7 +30,8 @@ message-round p s i =
     let two : i + 2 ≡ suc (suc i) = omega arith in
     rw (two, one) refl
 
-length-message_round : (p s : List ℕ) (i : ℕ) → length (md5crypt_message p s (i + 2)) ≡ round_length i 16 (length p) (length s)
+-- and how many bytes it has
+pub length-message_round : (p s : List ℕ) (i : ℕ) → length (md5crypt_message p s (i + 2)) ≡ round_length i 16 (length p) (length s)
 length-message_round p s i =
     let before = md5 (md5crypt_message p s (i + 1)) in
     ap length (message-round p s i)

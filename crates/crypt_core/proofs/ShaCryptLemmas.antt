@@ -95,7 +95,7 @@ module _ (h : List ℕ → List ℕ) (digest : ℕ) (length-digest : (m : List �
   length-before_round zero = length-digest (sha_opening_message h p s)
   length-before_round (suc i) = length-digest (sha_round_message h p s i)
 
-  length-message_round : (i : ℕ) → length (shacrypt_message h p s (i + 4)) ≡ round_length i digest (length p) (length s)
+  pub length-message_round : (i : ℕ) → length (shacrypt_message h p s (i + 4)) ≡ round_length i digest (length p) (length s)
   length-message_round i =
       let whole = length-round_message i (before_round h p s i) (password_string h p) (salt_string h p s) in
       let password = length-cycle (h (password_repeated p)) (length p) in

@@ -2,4 +2,5 @@
 pub mod Costs
 pub mod Counting
 pub mod Parts
+pub mod RoundStrings
 pub mod Tables

@@ -9,6 +9,7 @@ mod messages;
 pub mod method;
 pub mod pack;
 pub mod password;
+mod round;
 mod scheme;
 pub mod setting;
 pub mod shacrypt;

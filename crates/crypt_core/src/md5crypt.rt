@@ -1,5 +1,6 @@
 //! The scheme md5crypt of FreeBSD. Its definition speaks of 1,002 whole messages; here they go into
-//! running digests piece by piece, so that no message is built whole and nothing is allocated.
+//! running digests piece by piece, so that no message is built whole and nothing is allocated. What
+//! stands beside the digests in the rounds is joined once, in a buffer of fixed capacity.
 ghost use Rattle.std.specs.Prelude.{◌≡◌, ◌+◌, ◌*◌, ◌^◌, ◌<◌, ◌≤◌, length};
 ghost use Rattle.prims_core.specs.Digests.{md5};
 ghost use Rattle.prims_core.specs.Meter.{with_work, AreInAll};
@@ -8,8 +9,9 @@ ghost use Rattle.crypt_core.specs.RoundMessage.{salted_twice};
 ghost use Rattle.crypt_core.specs.Private.Counting.{with_digest};
 ghost use Rattle.crypt_core.specs.Work.{md5crypt_bytes, HasDigestRoom};
 
-use crate::messages::{feed_cycle, feed_digits, round, salted};
+use crate::messages::{feed_cycle, feed_digits, salted};
 use crate::password::Password;
+use crate::round::{RoundStrings, round};
 use arrayvec::ArrayVec;
 use prims_core::counted::{Counted, CountedMd5};
 use prims_core::meter::Meter;
@@ -32,8 +34,9 @@ pub fn md5crypt(password: &Password, salt: &[u8], meter: &mut Meter) -> [u8; 16]
 {
     let password = password.bytes();
     let mut digest = opening(password, salt, meter);
+    let strings = RoundStrings::new(password, salt);
     'rounds: for i in 0..ROUNDS {
-        digest = round::<CountedMd5>(i, digest.as_slice(), password, salt, meter);
+        digest = round::<CountedMd5>(i, digest.as_slice(), &strings, meter);
     }
     let mut bytes = [0; 16];
     bytes.copy_from_slice(digest.as_slice());

@@ -1,9 +1,9 @@
-//! The messages, and parts of messages, that md5crypt and SHA-crypt share, fed to a running digest: the
-//! first message, a digest repeated, a piece for each binary digit of a length, the message of a round.
+//! The messages, and parts of messages, that md5crypt and SHA-crypt share before their rounds, fed to a
+//! running digest: the first message, a digest repeated, a piece for each binary digit of a length.
 ghost use Rattle.std.specs.Prelude.{◌≡◌, ℕ, ◌+◌, ◌*◌, ◌^◌, ◌<◌, ◌≤◌, List, ◌++◌, length, ◌==◌, if◌then◌else◌};
 ghost use Rattle.std.specs.List.{repeat};
 ghost use Rattle.crypt_core.specs.Cycle.{cycle, digit_pieces};
-ghost use Rattle.crypt_core.specs.RoundMessage.{round_message, salted_twice};
+ghost use Rattle.crypt_core.specs.RoundMessage.{salted_twice};
 ghost use Rattle.crypt_core.specs.Private.Counting.{with_digest};
 ghost use Rattle.crypt_core.specs.Work.{HasDigestRoom};
 
@@ -96,32 +96,4 @@ fn digit_piece<'a>(digit: usize, one: &'a [u8], other: &'a [u8]) -> &'a [u8]
     ensures { result.now ≡ (if digit == 1 then one.now else other.now) }
 {
     if digit == 1 { one } else { other }
-}
-
-/// The digest of round `i`: `before` is the digest of the round before, `password` and `salt` are
-/// what stands for the two.
-pub(crate) fn round<C: Counted>(
-    i: u32,
-    before: &[u8],
-    password: &[u8],
-    salt: &[u8],
-    meter: &mut Meter,
-) -> ArrayVec<u8, 64>
-    requires bytes_room { meter.old.bytes + (length before.now + 2 * length password.now + length salt.now) < 2 ^ 128 }
-    requires digests_room { meter.old.digests + 1 < 2 ^ 128 }
-    ensures digest { result.items ≡ C.digest (round_message i before.now password.now salt.now) }
-    ensures length { length result.items ≡ C.LEN }
-    ensures count { meter.new ≡ with_digest meter.old (round_message i before.now password.now salt.now) }
-{
-    let is_odd = i % 2 == 1;
-    let mut running = C::begin();
-    running.feed(meter, if is_odd { password } else { before });
-    if i % 3 != 0 {
-        running.feed(meter, salt);
-    }
-    if i % 7 != 0 {
-        running.feed(meter, password);
-    }
-    running.feed(meter, if is_odd { before } else { password });
-    running.finish(meter)
 }

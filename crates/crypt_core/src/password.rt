@@ -7,7 +7,7 @@ use std::marker::Model;
 use thiserror::Error;
 
 /// The most bytes of a password.
-const PASSWORD_LIMIT: usize = 512;
+pub(crate) const PASSWORD_LIMIT: usize = 512;
 
 /// Why bytes are no password.
 #[derive(Clone, Copy, Debug, PartialEq, Eq, Error)]

@@ -10,8 +10,9 @@ ghost use Rattle.crypt_core.specs.ShaCrypt.{sha_opening_digest, sha_opening_mess
 ghost use Rattle.crypt_core.specs.Private.Counting.{with_digest};
 ghost use Rattle.crypt_core.specs.Work.{first_byte, shacrypt_bytes, HasDigestRoom};
 
-use crate::messages::{cycle_of, feed_cycle, feed_digits, feed_repeated, round, salted};
+use crate::messages::{cycle_of, feed_cycle, feed_digits, feed_repeated, salted};
 use crate::password::Password;
+use crate::round::{RoundStrings, round};
 use arrayvec::ArrayVec;
 use prims_core::counted::Counted;
 use prims_core::meter::Meter;
@@ -45,14 +46,9 @@ pub fn shacrypt<H: Counted>(
     let salt_times = 16 + usize::from(digest.as_slice()[0]);
     let password_string = string_of::<H>(password, password.len(), meter);
     let salt_string = string_of::<H>(salt, salt_times, meter);
+    let strings = RoundStrings::new(password_string.as_slice(), salt_string.as_slice());
     'rounds: for i in 0..rounds {
-        digest = round::<H>(
-            i,
-            digest.as_slice(),
-            password_string.as_slice(),
-            salt_string.as_slice(),
-            meter,
-        );
+        digest = round::<H>(i, digest.as_slice(), &strings, meter);
     }
     digest
 }

@@ -167,7 +167,7 @@ length-even_odd (x ∷ blocks) =
       length-append x (concat blocks),
     )
 
-length-block_mix : (words : List ℕ) (count : ℕ) → length words ≡ 16 * count → length (block_mix words) ≡ 16 * count
+pub length-block_mix : (words : List ℕ) (count : ℕ) → length words ≡ 16 * count → length (block_mix words) ≡ 16 * count
 unfolding block_mix at_odd_places
 length-block_mix words count is =
     let blocks = chunks_exact words 16 in

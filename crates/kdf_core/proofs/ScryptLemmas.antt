@@ -62,30 +62,27 @@ even rows k is =
 pub some_row : (rows k : ℕ) → IsPower rows k → 0 < rows
 some_row rows k is = omega (arith, is.power, pow_pos k)
 
--- a table of which so many rows are filled, with B at `start` and the mixings after those in `last`
-pub record IsFilled (table : List (List ℕ)) (rows count : ℕ) (start last : List ℕ) : Type 0 where
+-- a table of which the first rows hold B at `start` and what is mixed of it
+pub record IsFilled (table : List (List ℕ)) (rows count : ℕ) (start : List ℕ) : Type 0 where
   pub shape : HasShape table rows (length start)
   pub held : HoldsMixings table count start
-  pub mixed : last ≡ iterate block_mix count start
 
 -- a row more
-pub filled-more : (old new : List (List ℕ)) (rows count : ℕ) (start last next : List ℕ) → IsFilled old rows count start last
-    → length last ≡ length start → count < rows → new ≡ set old count last → next ≡ block_mix last
-    → IsFilled new rows (count + 1) start next
-filled-more old new rows count start last next before same inside is mixed =
+pub filled-more : (old new : List (List ℕ)) (rows count : ℕ) (start row : List ℕ) → IsFilled old rows count start
+    → length row ≡ length start → count < rows → new ≡ set old count row → row ≡ iterate block_mix count start
+    → IsFilled new rows (count + 1) start
+filled-more old new rows count start row before same inside is mixed =
     let within : count < length old = omega (arith, before.shape.row_count) in
-    let length_is : length (set old count last) ≡ length old = length-set old count last in
-    let after : IsFilled (set old count last) rows (count + 1) start next = record {
+    let after : IsFilled (set old count row) rows (count + 1) start = record {
       shape = record {
-        row_count = length_is ∙ before.shape.row_count;
-        row_words = λ k h. length-row old count last k (length start) same (before.shape.row_words k h) within;
+        row_count = length-set old count row ∙ before.shape.row_count;
+        row_words = λ k h. length-row old count row k (length start) same (before.shape.row_words k h) within;
       };
       held = below_more _ _
           (λ k h. let other : k ≢ count = omega arith in rw get_or-set_other (before.held k h))
-          (rw get_or-set_same before.mixed);
-      mixed = mixed ∙ (ap block_mix before.mixed ∙ sym (iterate-more block_mix count start));
+          (rw get_or-set_same mixed);
     } in
-    subst (λ (t : List (List ℕ)). IsFilled t rows (count + 1) start next) (sym is) after
+    subst (λ (t : List (List ℕ)). IsFilled t rows (count + 1) start) (sym is) after
 
 -- no mixing at first
 pub mixes-none : (m : Counts) (n : ℕ) → m ≡ record m { mixes = m.mixes + n * 0 }

@@ -1,7 +1,7 @@
 //! scrypt (RFC 7914), over PBKDF2 and block mixing.
 //!
 //! All memory is got before any work: one table, which serves every part in turn, the parts as
-//! bytes, and two halves of words, between which a part goes to and fro while it is mixed.
+//! bytes, and two halves of words, between which a part goes to and fro while it is mixed with the rows.
 
 ghost use Rattle.std.specs.Prelude.{◌≡◌, ℕ, ◌+◌, ◌-◌, ◌*◌, ◌/◌, ◌^◌, ◌%◌, ◌<◌, ◌≤◌, List, length, OnOk, OnErr};
 ghost use Rattle.std.specs.Fn.{iterate};
@@ -13,9 +13,8 @@ ghost use Rattle.kdf_core.specs.Scrypt.{scrypt, rows, integerify, mixed_back, ro
 use crate::hmac::HmacKey;
 use crate::params::Params;
 use crate::pbkdf2::pbkdf2;
-use crate::xor::xor_words_into;
 use prims_core::meter::Meter;
-use prims_core::mix::block_mix;
+use prims_core::mix::{block_mix, block_mix_xor};
 use prims_core::scratch::{ByteScratch, WordScratch};
 use prims_core::table::Table;
 use prims_core::words::{load_words, store_words};
@@ -123,16 +122,16 @@ fn mix_part(part: &mut [u8], rows: usize, table: &mut Table, halves: &mut [u32],
     let half = halves.len() / 2;
     let (x, y) = halves.split_at_mut(half);
     load_words(part, x);
-    fill_table(table, rows, x, y, meter);
+    fill_table(table, rows, x, meter);
     mix_with_rows(table, rows, x, y, meter);
     store_words(x, part);
 }
 
-// Keeps B after 0, 1, .. N - 1 mixings as the rows, and leaves it in `x` after N. Step by step it goes
-// from `x` to `y` and back, so that no block is copied but into the table.
-fn fill_table(table: &mut Table, rows: usize, x: &mut [u32], y: &mut [u32], meter: &mut Meter)
+// Keeps B after 0, 1, .. N - 1 mixings as the rows, each made of the one before it where it stands, and
+// leaves it in `x` after N.
+fn fill_table(table: &mut Table, rows: usize, x: &mut [u32], meter: &mut Meter)
     requires power { (k : ℕ) × IsPower rows k }
-    requires halves { (r : ℕ) × AreHalves r x.old y.old }
+    requires some_block { (r : ℕ) × (1 ≤ r) × (length x.old ≡ 32 * r) }
     requires shape { HasShape table.old rows (length x.old) }
     requires room { meter.old.mixes + rows < 2 ^ 128 }
     ensures shape { HasShape table.new rows (length x.old) }
@@ -140,15 +139,14 @@ fn fill_table(table: &mut Table, rows: usize, x: &mut [u32], y: &mut [u32], mete
     ensures mixed { x.new ≡ iterate mixed rows x.old }
     ensures count { meter.new ≡ record meter.old { mixes = meter.old.mixes + rows } }
 {
-    'filling: for i in 0..rows / 2 {
-        table.set_row(2 * i, x);
-        block_mix(x, y, meter);
-        table.set_row(2 * i + 1, y);
-        block_mix(y, x, meter);
+    table.set_row(0, x);
+    'filling: for i in 0..rows - 1 {
+        table.mix_row(i, meter);
     }
+    block_mix(table.row(rows - 1), x, meter);
 }
 
-// N times F, to and fro again.
+// N times F. Step by step it goes from `x` to `y` and back, so that no block is copied.
 fn mix_with_rows(table: &Table, rows: usize, x: &mut [u32], y: &mut [u32], meter: &mut Meter)
     requires power { (k : ℕ) × IsPower rows k }
     requires halves { (r : ℕ) × AreHalves r x.old y.old }
@@ -174,8 +172,7 @@ fn mix_back(table: &Table, rows: usize, x: &mut [u32], y: &mut [u32], meter: &mu
     ensures count { meter.new ≡ record meter.old { mixes = meter.old.mixes + 1 } }
 {
     let row = table.row(index(x, rows));
-    xor_words_into(x, row);
-    block_mix(x, y, meter);
+    block_mix_xor(x, row, y, meter);
 }
 
 // Integerify (X) mod N. As N is a power of two of at most 2^32, the block's first word decides.

@@ -1,13 +1,15 @@
--- Block mixing: the chain of results, and their order.
+-- Block mixing: the chain of results, their order, and blocks under exclusive or.
 use Rattle.std.proofs.Common.{◌≡◌, ℕ, zero, suc, ◌+◌, ◌-◌, ◌*◌, ◌/◌, ◌%◌, ◌<◌, ◌≤◌, ◌⊎◌, inl, inr, List, [], ◌∷◌, ◌++◌, length, take, drop, get_or, refl, sym, ◌∙◌, ap, add-one, arith}
 use borrow.Rule.Slice.PartMut.{put_mid}
 use Rattle.std.specs.List.{concat, scan}
 use Rattle.std.proofs.lemmas.Bool.{cases_lt}
 use Rattle.std.proofs.lemmas.Slice.{between-put_mid, drop-put_mid, take-put_mid_below}
-use Rattle.std.proofs.lemmas.List.{take_all, drop-take, get_or-drop, get_or_append_left, get_or-append_right, length-append, length-drop}
-use Rattle.prims_core.specs.Words.{chunks_exact}
+use Rattle.std.proofs.lemmas.List.{drop-take, get_or-drop, get_or_append_left, get_or-append_right, length-append, length-drop}
+use Rattle.prims_core.specs.Private.Mixing.{block_at, IsXored}
+use Rattle.prims_core.specs.Words.{chunks_exact, xor_words}
 use Rattle.prims_core.specs.BlockMix.{mixed_block, mixed_blocks, at_even_places, at_odd_places}
-use Rattle.prims_core.proofs.ChunkFacts.{joined_from_pieces, length-chunks_exact, get_or-chunks_exact}
+use Rattle.prims_core.proofs.ChunkFacts.{joined_from_pieces, concat-chunks_exact, length-chunks_exact, get_or-chunks_exact}
+use Rattle.prims_core.proofs.WordFacts.{part-xor_words, length-xor_words}
 
 length-scan : (f : List ℕ → List ℕ → List ℕ) (a : List ℕ) (xs : List (List ℕ))
     → length (scan f f a xs) ≡ length xs
@@ -43,35 +45,31 @@ result-step words count i whole inside =
     ∙ ap (mixed_block (result_before words i)) (get_or-chunks_exact words 16 count i (omega arith) whole inside)
 
 pub result-first : (words : List ℕ) (count : ℕ) → length words ≡ 16 * count → 0 < count
-    → result_before words 0 ≡ drop (length words - 16) words
+    → result_before words 0 ≡ take 16 (drop (16 * (count - 1)) words)
 result-first words count whole some =
-    let blocks : length (chunks_exact words 16) ≡ count = length-chunks_exact words 16 count (omega arith) whole in
-    let last : length (chunks_exact words 16) - 1 ≡ count - 1 = omega arith in
-    let place : 16 * (count - 1) ≡ length words - 16 = omega arith in
+    let last : length (chunks_exact words 16) - 1 ≡ count - 1 = omega (arith, length-chunks_exact words 16 count (omega arith) whole) in
     ap (λ (n : ℕ). get_or (chunks_exact words 16) n []) last
     ∙ get_or-chunks_exact words 16 count (count - 1) (omega arith) whole (omega arith)
-    ∙ ap (λ (n : ℕ). take 16 (drop n words)) place
-    ∙ take_all 16 (drop (length words - 16) words) (omega (arith, length-drop (length words - 16) words))
 
 -- what stands before the next block is this block's result
 pub result_before-more : (words : List ℕ) (i : ℕ) → result_before words (i + 1) ≡ get_or (results words) i []
 result_before-more words i = rw add-one refl
 
 -- a block that is written over a part of a list, and the blocks below and above it
-written_same : (out x : List ℕ) (place width : ℕ) → place + 16 ≤ length out → length x ≡ 16
+pub written_same : (out x : List ℕ) (place width : ℕ) → place + 16 ≤ length out → length x ≡ 16
     → take 16 (drop place (put_mid place width out x)) ≡ x
 written_same out x place width inside whole =
     let length_is : place + 16 - place ≡ 16 = omega arith in
     rw length_is at (between-put_mid place width out x (place + 16) (omega arith) (omega arith))
 
-written_below : (out x : List ℕ) (place width other : ℕ) → place ≤ length out → other + 16 ≤ place
+pub written_below : (out x : List ℕ) (place width other : ℕ) → place ≤ length out → other + 16 ≤ place
     → take 16 (drop other (put_mid place width out x)) ≡ take 16 (drop other out)
 written_below out x place width other inside below =
     sym (drop-take other 16 (put_mid place width out x))
     ∙ ap (drop other) (take-put_mid_below place width out x (other + 16) below inside)
     ∙ drop-take other 16 out
 
-written_above : (out x : List ℕ) (place width other : ℕ) → place ≤ length out → place + 16 ≤ other
+pub written_above : (out x : List ℕ) (place width other : ℕ) → place ≤ length out → place + 16 ≤ other
     → width ≡ 16 → length x ≡ 16
     → take 16 (drop other (put_mid place width out x)) ≡ take 16 (drop other out)
 written_above out x place width other inside above is whole =
@@ -151,3 +149,51 @@ in_order half y out blocks whole placed =
           ∙ get_or-at_even_places (drop 1 y) q ∙ get_or-drop 1 y (2 * q) []
           ∙ sym (rw place at (placed (1 + 2 * q) (omega arith)))
     ])
+
+-- a block more, before the last
+pub xored-more : (start row : List ℕ) (last i : ℕ) (words sum : List ℕ) → i < last → IsXored start row last i words
+    → block_at i sum ≡ block_at i (xor_words words row)
+    → ((k : ℕ) → (k < i) ⊎ (i < k) → block_at k sum ≡ block_at k words)
+    → IsXored start row last (i + 1) sum
+xored-more start row last i words sum inside before is others =
+    let here : block_at i (xor_words words row) ≡ block_at i (xor_words start row) =
+    part-xor_words 16 (16 * i) words row
+    ∙ ap (λ (xs : List ℕ). xor_words xs (block_at i row)) (before.rest i (omega arith) inside)
+    ∙ sym (part-xor_words 16 (16 * i) start row) in
+    record {
+      end = others last (inr (omega arith)) ∙ before.end;
+      xored = λ k made low. elim (cases_lt k i) [
+        | inl below ↦ others k (inl below) ∙ before.xored k below low
+        | inr above ↦ let at : k ≡ i = omega arith in rw at (is ∙ here)
+      ];
+      rest = λ k left low. others k (inr (omega arith)) ∙ before.rest k (omega arith) low;
+    }
+
+-- none is left before the last
+pub xored-past : (start row : List ℕ) (last i : ℕ) (words : List ℕ) → last ≤ i → IsXored start row last i words
+    → IsXored start row last (i + 1) words
+xored-past start row last i words past before = record {
+  end = before.end;
+  xored = λ k made low. before.xored k (omega arith) low;
+  rest = λ k left low. absurd (omega arith);
+}
+
+-- a block that is reached
+pub xored_at : (start row : List ℕ) (last n : ℕ) (words : List ℕ) → IsXored start row last n words → (i : ℕ) → i < n → i ≤ last
+    → block_at i words ≡ block_at i (xor_words start row)
+xored_at start row last n words is i reached inside = elim (cases_lt i last) [
+  | inl below ↦ is.xored i reached below
+  | inr above ↦ let at : i ≡ last = omega arith in rw at is.end
+]
+
+-- all of them
+pub xored-all : (start row : List ℕ) (last n : ℕ) (words : List ℕ) → length start ≡ 16 * last + 16 → length row ≡ length start
+    → length words ≡ length start → last < n → IsXored start row last n words → words ≡ xor_words start row
+xored-all start row last n words whole same same_words all is =
+    let both = xor_words start row in
+    let count : length both ≡ 16 * (last + 1) = omega (arith, length-xor_words start row same) in
+    let pieces : length (chunks_exact both 16) ≡ last + 1 = length-chunks_exact both 16 (last + 1) (omega arith) count in
+    joined_from_pieces 16 (chunks_exact both 16) words (omega arith) (λ i inside.
+    get_or-chunks_exact both 16 (last + 1) i (omega arith) count (omega arith)
+    ∙ sym (xored_at start row last n words is i (omega arith) (omega arith)))
+    ∙ concat-chunks_exact both 16 (last + 1) (omega arith) count

@@ -1,6 +1,6 @@
 -- Rows that lie in one list, one behind another.
 use Rattle.std.proofs.Common.{◌≡◌, ℕ, zero, suc, ◌+◌, ◌-◌, ◌*◌, ◌<◌, ◌≤◌, List, [], ◌∷◌, ◌++◌, length, get_or, set, take, drop, replicate, refl, sym, ◌∙◌, ap, arith, length-take, length-drop, length-append, length-take-le, append_assoc, zero-add}
-use Rattle.std.proofs.Math.Nat.{suc-mul, zero-mul}
+use Rattle.std.proofs.Math.Nat.{add-mul, suc-mul, zero-mul}
 use Rattle.std.proofs.Math.Seq.{take-add}
 use Rattle.std.proofs.lemmas.List.{drop-drop, take_at, drop_at, take-replicate, drop-replicate}
 use Rattle.std.proofs.lemmas.Nat.{rows}
@@ -32,6 +32,12 @@ pub row_end : (n w : ℕ) (xs : List ℕ) (table : List (List ℕ)) (i : ℕ) �
 row_end n w xs table i is inside =
     let below : i < n = row_inside n w xs table i is inside in
     grind (arith, rows)
+
+-- the end of the next row
+pub next_row_end : (n w : ℕ) (xs : List ℕ) (table : List (List ℕ)) (i : ℕ) → rows_of n w xs ≡ table
+    → i + 1 < length table → i * w + w + w ≤ n * w
+next_row_end n w xs table i is inside =
+    omega (arith, row_end n w xs table (i + 1) is inside, add-mul i 1 w)
 
 -- what is read of row i, and its length
 pub row_read : (n w : ℕ) (xs : List ℕ) (table : List (List ℕ)) (i : ℕ) → rows_of n w xs ≡ table
@@ -98,3 +104,17 @@ row_written n w xs table i size items row is inside whole counted long sized =
       rows_of-written n w i xs row (row_inside n w xs table i is inside) long (omega arith),
     )
     (ap (λ (rows : List (List ℕ)). set rows i row) is)
+
+-- two rows, where the second was made of the first, written over those two
+pub next_row_written : (n w : ℕ) (xs : List ℕ) (table : List (List ℕ)) (i size items : ℕ) (both made : List ℕ)
+    → rows_of n w xs ≡ table → i + 1 < length table → n * w ≡ items → items ≡ length xs
+    → length made ≡ w → size ≡ 2 * w → both ≡ take w (drop (i * w) xs) ++ made
+    → rows_of n w (take items (put_mid (i * w) size xs both ++ drop (length (put_mid (i * w) size xs both)) xs)) ≡ set table (i + 1) made
+next_row_written n w xs table i size items both made is inside whole counted long sized written =
+    let next : (i + 1) * w ≡ i * w + w = omega (arith, add-mul i 1 w) in
+    let same : put_mid (i * w) size xs both ≡ put_mid ((i + 1) * w) w xs made =
+    rw (written, sized, next, take-add (i * w) w xs, drop-drop w (i * w + w) xs, drop-drop (2 * w) (i * w) xs)
+    (ap (λ (rest : List ℕ). take (i * w) xs ++ rest) (append_assoc (take w (drop (i * w) xs)) made (drop (i * w + 2 * w) xs))
+    ∙ ap (λ (k : ℕ). take (i * w) xs ++ (take w (drop (i * w) xs) ++ (made ++ drop k xs))) (omega arith)
+    ∙ sym (append_assoc (take (i * w) xs) (take w (drop (i * w) xs)) (made ++ drop (i * w + w + w) xs))) in
+    rw same (row_written n w xs table (i + 1) w items made is inside whole counted long refl)

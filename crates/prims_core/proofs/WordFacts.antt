@@ -1,8 +1,10 @@
--- Bytes as words.
-use Rattle.std.proofs.Common.{◌≡◌, ℕ, ◌*◌, ◌<◌, List, [], length, take, drop, get_or, map, refl, sym, ◌∙◌, ap, arith}
+-- Bytes as words, and a part of words under exclusive or.
+use Rattle.std.proofs.Common.{◌≡◌, ℕ, zero, suc, ◌*◌, ◌<◌, List, [], ◌∷◌, length, take, drop, get_or, map, bit_xor, refl, sym, ◌∙◌, ap, arith}
 use Rattle.std.proofs.lemmas.Grind.{same_number_lists}
 use Rattle.std.proofs.lemmas.List.{get_or-map, get_or-take, length-map}
-use Rattle.prims_core.specs.Words.{chunks_exact, little_number, words_of}
+use Rattle.std.specs.Simd.Lanes.{zip2}
+use Rattle.std.proofs.lemmas.Simd.{length-zip2}
+use Rattle.prims_core.specs.Words.{chunks_exact, little_number, words_of, xor_words}
 use Rattle.prims_core.proofs.ChunkFacts.{length-chunks_exact, get_or-chunks_exact}
 
 -- the number of four bytes reads no further byte
@@ -29,3 +31,30 @@ words_of-from_places bytes words four read =
     get_or-map (little_number 4) (chunks_exact bytes 4) k [] 0 (omega arith)
     ∙ ap (little_number 4) (get_or-chunks_exact bytes 4 (length words) k (omega arith) four inside)
     ∙ little_number-take_four (drop (4 * k) bytes)))
+
+-- a part of the items that an operator makes is what it makes of those parts
+take-zip2 : (f : ℕ → ℕ → ℕ) (n : ℕ) (xs ys : List ℕ) → take n (zip2 f xs ys) ≡ zip2 f (take n xs) (take n ys)
+take-zip2 f zero xs ys = refl
+take-zip2 f (suc n) [] ys = refl
+take-zip2 f (suc n) (x ∷ xs) [] = refl
+take-zip2 f (suc n) (x ∷ xs) (y ∷ ys) = ap (λ (zs : List ℕ). f x y ∷ zs) (take-zip2 f n xs ys)
+
+zip2-nil : (f : ℕ → ℕ → ℕ) (xs : List ℕ) → zip2 f xs [] ≡ []
+zip2-nil f [] = refl
+zip2-nil f (x ∷ xs) = refl
+
+drop-zip2 : (f : ℕ → ℕ → ℕ) (n : ℕ) (xs ys : List ℕ) → drop n (zip2 f xs ys) ≡ zip2 f (drop n xs) (drop n ys)
+drop-zip2 f zero xs ys = refl
+drop-zip2 f (suc n) [] ys = refl
+drop-zip2 f (suc n) (x ∷ xs) [] = sym (zip2-nil f (drop n xs))
+drop-zip2 f (suc n) (x ∷ xs) (y ∷ ys) = drop-zip2 f n xs ys
+
+pub part-xor_words : (size start : ℕ) (xs ys : List ℕ)
+    → take size (drop start (xor_words xs ys)) ≡ xor_words (take size (drop start xs)) (take size (drop start ys))
+unfolding xor_words
+part-xor_words size start xs ys =
+    ap (take size) (drop-zip2 bit_xor start xs ys) ∙ take-zip2 bit_xor size (drop start xs) (drop start ys)
+
+pub length-xor_words : (xs ys : List ℕ) → length ys ≡ length xs → length (xor_words xs ys) ≡ length xs
+unfolding xor_words
+length-xor_words xs ys same = length-zip2 bit_xor xs ys (sym same)

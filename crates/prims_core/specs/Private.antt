@@ -1,4 +1,5 @@
--- What the laws of `Counted` are shown by, and how code in lanes holds a block. A reader of the
--- clauses of public items needs none of it.
+-- What the laws of `Counted` are shown by, how code in lanes holds a block, and blocks that are added while
+-- others are mixed. A reader of the clauses of public items needs none of it.
 pub mod Diagonals
 pub mod DigestFacts
+pub mod Mixing

@@ -1,20 +1,28 @@
 //! scryptBlockMix (RFC 7914, section 4): blocks of 64 bytes, mixed one after the other.
 //!
 //! A block is its sixteen words. Each is mixed with the result before it, the first with the last
-//! block, and the results at even places come before those at odd places.
+//! block, and the results at even places come before those at odd places. ROMix (section 5) mixes the
+//! exclusive or of blocks and a row of its table, which has a call of its own.
 
-ghost use Rattle.std.specs.Prelude.{◌≡◌, ℕ, ◌+◌, ◌*◌, ◌^◌, ◌<◌, ◌≤◌, length};
+ghost use Rattle.std.specs.Prelude.{◌≡◌, ℕ, ◌+◌, ◌*◌, ◌^◌, ◌<◌, ◌≤◌, ◌⊎◌, List, [], length, slice_index_or};
 ghost use Rattle.prims_core.specs.BlockMix.{block_mix, mixed_block};
+ghost use Rattle.prims_core.specs.Private.Mixing.{block_at, ArePlaced, IsXored};
+ghost use Rattle.prims_core.specs.Words.{xor_words};
 
 use crate::diagonals::Diagonals;
 use crate::meter::Meter;
 use crate::salsa::salsa8_of;
+use std::simd::u32x16;
 
 #[cfg(test)]
-mod tests;
+pub(crate) mod tests;
 
 // The words of a block.
 const BLOCK_WORDS: usize = 16;
+
+// How many blocks ahead of the mixing the exclusive or with a row goes, so that a row which is far off in
+// memory comes in meanwhile. The invariants of `block_mix_xor` have the number too.
+const AHEAD: usize = 8;
 
 /// Mixes the 2r blocks of `src` into `dst`, and counts one mixing.
 ///
@@ -25,23 +33,110 @@ pub fn block_mix(src: &[u32], dst: &mut [u32], meter: &mut Meter)
     ensures mixed { dst.new ≡ block_mix src.now }
     ensures count { meter.new ≡ record meter.old { mixes = meter.old.mixes + 1 } }
 {
-    // As many blocks stand at even places as at odd ones.
     let half = src.len() / (2 * BLOCK_WORDS);
-    let mut x = Diagonals::of(&src[src.len() - BLOCK_WORDS..]);
+    let mut x = Diagonals::of(block(src, 2 * half - 1));
     'mixing: for i in 0..2 * half {
-        let start = BLOCK_WORDS * i;
-        x = mixed_block(&x, &src[start..start + BLOCK_WORDS]);
-        let place = BLOCK_WORDS * (i / 2 + i % 2 * half);
-        x.store(&mut dst[place..place + BLOCK_WORDS]);
+        x = mixed_block(&x, &Diagonals::of(block(src, i)));
+        put_result(&x, dst, i, half);
     }
     meter.count_mix();
 }
 
+/// Makes the 2r blocks of `src` their exclusive or with those of `row`, mixes it into `dst`, and counts one
+/// mixing.
+///
+/// All three have the 32r words of 2r blocks, for one r of at least 1, and the meter has room.
+pub fn block_mix_xor(src: &mut [u32], row: &[u32], dst: &mut [u32], meter: &mut Meter)
+    requires blocks { (r : ℕ) × (1 ≤ r) × (length src.old ≡ 32 * r) × (length row.now ≡ 32 * r)
+        × (length dst.old ≡ 32 * r) }
+    requires room { meter.old.mixes + 1 < 2 ^ 128 }
+    ensures xored { src.new ≡ xor_words src.old row.now }
+    ensures mixed { dst.new ≡ block_mix (xor_words src.old row.now) }
+    ensures count { meter.new ≡ record meter.old { mixes = meter.old.mixes + 1 } }
+{
+    let half = src.len() / (2 * BLOCK_WORDS);
+    let last = 2 * half - 1;
+    xor_last_and_first(src, row, last);
+    let mut x = Diagonals::of(block(src, last));
+    'mixing: for i in 0..2 * half {
+        xor_unless_last(src, row, last, i + AHEAD);
+        x = mixed_block(&x, &Diagonals::of(block(src, i)));
+        put_result(&x, dst, i, half);
+    }
+    meter.count_mix();
+}
+
+// Writes result `i` to its place, where `half` results stand at even places, and as many at odd ones.
+#[inline(always)]
+fn put_result(x: &Diagonals, dst: &mut [u32], i: usize, half: usize)
+    requires { (i < 2 * half) × (length dst.old ≡ 32 * half) }
+    ensures { (results : List (List ℕ)) → ArePlaced results half i dst.old → x.now ≡ slice_index_or results i []
+        → ArePlaced results half (i + 1) dst.new }
+{
+    let place = BLOCK_WORDS * (i / 2 + i % 2 * half);
+    x.store(&mut dst[place..place + BLOCK_WORDS]);
+}
+
+// Makes the last block its exclusive or with that of `row`, and the first ones, where they come before it.
+#[inline(always)]
+fn xor_last_and_first(blocks: &mut [u32], row: &[u32], last: usize)
+    requires whole { length blocks.old ≡ 16 * last + 16 }
+    requires same_length { length row.now ≡ length blocks.old }
+    ensures { IsXored blocks.old row.now last AHEAD blocks.new }
+{
+    xor_block(blocks, row, last);
+    'first: for i in 0..AHEAD {
+        xor_unless_last(blocks, row, last, i);
+    }
+}
+
+// Makes block `i` its exclusive or with that of `row`, where it comes before the last one.
+#[inline(always)]
+fn xor_unless_last(blocks: &mut [u32], row: &[u32], last: usize, i: usize)
+    requires whole { length blocks.old ≡ 16 * last + 16 }
+    requires same_length { length row.now ≡ length blocks.old }
+    ensures { (start : List ℕ) → IsXored start row.now last i blocks.old → IsXored start row.now last (i + 1) blocks.new }
+{
+    if i < last {
+        xor_block(blocks, row, i);
+    }
+}
+
+// Makes block `i` its exclusive or with that of `row`.
+#[inline(always)]
+fn xor_block(blocks: &mut [u32], row: &[u32], i: usize)
+    requires inside { 16 * i + 16 ≤ length blocks.old }
+    requires same_length { length row.now ≡ length blocks.old }
+    ensures xored { block_at i blocks.new ≡ block_at i (xor_words blocks.old row.now) }
+    ensures rest { (k : ℕ) → (k < i) ⊎ (i < k) → block_at k blocks.new ≡ block_at k blocks.old }
+{
+    let start = BLOCK_WORDS * i;
+    xor_words(&mut blocks[start..start + BLOCK_WORDS], block(row, i));
+}
+
+// Makes sixteen words their exclusive or with sixteen others.
+#[inline(always)]
+fn xor_words(block: &mut [u32], words: &[u32])
+    requires { (length block.old ≡ 16) × (length words.now ≡ 16) }
+    ensures { block.new ≡ xor_words block.old words.now }
+{
+    let both = u32x16::from_slice(block) ^ u32x16::from_slice(words);
+    both.copy_to_slice(block);
+}
+
+// Block `i` of a list.
+#[inline(always)]
+fn block(words: &[u32], i: usize) -> &[u32]
+    requires { 16 * i + 16 ≤ length words.now }
+    ensures { result.now ≡ block_at i words.now }
+{
+    &words[BLOCK_WORDS * i..BLOCK_WORDS * i + BLOCK_WORDS]
+}
+
 // The next result, of the one before it and a block. The results stay in lanes from one to the next.
 #[inline(always)]
-fn mixed_block(x: &Diagonals, block: &[u32]) -> Diagonals
-    requires { length block.now ≡ 16 }
+fn mixed_block(x: &Diagonals, block: &Diagonals) -> Diagonals
     ensures { result ≡ mixed_block x.now block.now }
 {
-    salsa8_of(&x.xor(&Diagonals::of(block)))
+    salsa8_of(&x.xor(block))
 }

@@ -1,11 +1,13 @@
 //! The table of scrypt, the V of RFC 7914, section 5: rows of 32-bit words, all of one length.
 //!
 //! All rows lie in one vector, one behind another, so that a table is one growth, made at once in
-//! its full size.
+//! its full size, and a row can be mixed of the one before it where it stands.
 
-ghost use Rattle.std.specs.Prelude.{◌≡◌, ◌+◌, ◌*◌, ◌^◌, ◌<◌, ◌≤◌, [], length, replicate, slice_index_or, slice_set, IfOk, OnOk, OnErr};
+ghost use Rattle.std.specs.Prelude.{◌≡◌, ℕ, ◌+◌, ◌*◌, ◌/◌, ◌^◌, ◌<◌, ◌≤◌, [], ◌++◌, length, take, replicate, slice_index_or, slice_set, IfOk, OnOk, OnErr};
+ghost use Rattle.prims_core.specs.BlockMix.{block_mix};
 
 use crate::meter::Meter;
+use crate::mix::block_mix;
 use std::alloc::{AllocError, Global};
 use std::marker::Model;
 use std::mem::size_of;
@@ -77,11 +79,41 @@ impl Table {
         let end = start + self.row_words;
         self.words[start..end].copy_from_slice(row);
     }
+
+    /// Makes row `i + 1` what scryptBlockMix (RFC 7914, section 4) makes of row `i`, and counts that
+    /// mixing. The other rows stay.
+    ///
+    /// A row has the 32r words of 2r blocks, for one r of at least 1, and the meter has room.
+    #[tactic(auto, using(crate::proofs::RowFacts::next_row_end))]
+    pub fn mix_row(&mut self, i: usize, meter: &mut Meter)
+        requires inside { i + 1 < length self.old }
+        requires blocks { (r : ℕ) × (1 ≤ r) × (length (slice_index_or self.old i []) ≡ 32 * r) }
+        requires room { meter.old.mixes + 1 < 2 ^ 128 }
+        ensures mixed { self.new ≡ slice_set self.old (i + 1) (block_mix (slice_index_or self.old i [])) }
+        ensures count { meter.new ≡ record meter.old { mixes = meter.old.mixes + 1 } }
+    {
+        let start = i * self.row_words;
+        let next = start + self.row_words;
+        mix_into_second(&mut self.words[start..next + self.row_words], meter);
+    }
+}
+
+// Makes the second of two rows what block mixing makes of the first.
+fn mix_into_second(rows: &mut [u32], meter: &mut Meter)
+    requires blocks { (r : ℕ) × (1 ≤ r) × (length rows.old ≡ 64 * r) }
+    requires room { meter.old.mixes + 1 < 2 ^ 128 }
+    ensures mixed { rows.new ≡ take (length rows.old / 2) rows.old ++ block_mix (take (length rows.old / 2) rows.old) }
+    ensures count { meter.new ≡ record meter.old { mixes = meter.old.mixes + 1 } }
+{
+    let (row, next) = rows.split_at_mut(rows.len() / 2);
+    block_mix(row, next, meter);
 }
 
 #[cfg(test)]
 mod tests {
     use super::*;
+    use crate::mix::tests::{BLOCKS, MIXED};
+    use crate::words::load_words;
     use std::test::Fail;
 
     #[test]
@@ -100,6 +132,27 @@ mod tests {
             "the second is the words 1 to 32"
         );
         assert_eq!(rt; table.row(2), [0; 32].as_slice(), "the third is zeros");
+        Ok(())
+    }
+
+    #[test]
+    fn a_row_of_the_one_before(rt: HostRuntime) -> Result<(), Fail> {
+        let mut words = [0; 32];
+        load_words(&BLOCKS, &mut words);
+        let mut meter = Meter::new();
+        let mut table = Table::new(rt.alloc(), 3, 32, &mut meter)?;
+        table.set_row(0, &words);
+        table.mix_row(0, &mut meter);
+        let mut mixed = [0; 32];
+        load_words(&MIXED, &mut mixed);
+        assert_eq!(rt; table.row(1), mixed.as_slice(), "RFC 7914, section 9");
+        assert_eq!(rt; table.row(0), words.as_slice(), "the row before stays");
+        assert_eq!(rt; table.row(2), [0; 32].as_slice(), "the row after stays");
+        assert_eq!(rt;
+            (meter.mixes(), meter.table()),
+            (1, 384),
+            "one mixing, one table"
+        );
         Ok(())
     }
 

@@ -1,12 +1,13 @@
 //! The standard's vector, and blocks mixed by an independent program.
 
 use super::*;
+use crate::counted::{Counted, CountedSha256};
 use crate::hexadecimal::hexadecimal;
 use crate::words::{load_words, store_words};
 use std::test::Fail;
 
 // The input of RFC 7914, section 9.
-const BLOCKS: [u8; 128] = [
+pub(crate) const BLOCKS: [u8; 128] = [
     0xf7, 0xce, 0x0b, 0x65, 0x3d, 0x2d, 0x72, 0xa4, 0x10, 0x8c, 0xf5, 0xab, 0xe9, 0x12, 0xff, 0xdd,
     0x77, 0x76, 0x16, 0xdb, 0xbb, 0x27, 0xa7, 0x0e, 0x82, 0x04, 0xf3, 0xae, 0x2d, 0x0f, 0x6f, 0xad,
     0x89, 0xf6, 0x8f, 0x48, 0x11, 0xd1, 0xe8, 0x7b, 0xcc, 0x3b, 0xd7, 0x40, 0x0a, 0x9f, 0xfd, 0x29,
@@ -17,24 +18,27 @@ const BLOCKS: [u8; 128] = [
     0x7f, 0x4d, 0x1c, 0xad, 0x6a, 0x52, 0x3c, 0xda, 0x77, 0x0e, 0x67, 0xbc, 0xea, 0xaf, 0x7e, 0x89,
 ];
 
+// Its output.
+pub(crate) const MIXED: [u8; 128] = [
+    0xa4, 0x1f, 0x85, 0x9c, 0x66, 0x08, 0xcc, 0x99, 0x3b, 0x81, 0xca, 0xcb, 0x02, 0x0c, 0xef, 0x05,
+    0x04, 0x4b, 0x21, 0x81, 0xa2, 0xfd, 0x33, 0x7d, 0xfd, 0x7b, 0x1c, 0x63, 0x96, 0x68, 0x2f, 0x29,
+    0xb4, 0x39, 0x31, 0x68, 0xe3, 0xc9, 0xe6, 0xbc, 0xfe, 0x6b, 0xc5, 0xb7, 0xa0, 0x6d, 0x96, 0xba,
+    0xe4, 0x24, 0xcc, 0x10, 0x2c, 0x91, 0x74, 0x5c, 0x24, 0xad, 0x67, 0x3d, 0xc7, 0x61, 0x8f, 0x81,
+    0x20, 0xed, 0xc9, 0x75, 0x32, 0x38, 0x81, 0xa8, 0x05, 0x40, 0xf6, 0x4c, 0x16, 0x2d, 0xcd, 0x3c,
+    0x21, 0x07, 0x7c, 0xfe, 0x5f, 0x8d, 0x5f, 0xe2, 0xb1, 0xa4, 0x16, 0x8f, 0x95, 0x36, 0x78, 0xb7,
+    0x7d, 0x3b, 0x3d, 0x80, 0x3b, 0x60, 0xe4, 0xab, 0x92, 0x09, 0x96, 0xe5, 0x9b, 0x4d, 0x53, 0xb6,
+    0x5d, 0x2a, 0x22, 0x58, 0x77, 0xd5, 0xed, 0xf5, 0x84, 0x2c, 0xb9, 0xf1, 0x4e, 0xef, 0xe4, 0x25,
+];
+
 #[test]
-fn vector(rt: HostRuntime) -> Result<(), Fail> {
-    let mut meter = Meter::new();
+fn vector(rt: HostRuntime) {
     let mut words = [0; 32];
     load_words(&BLOCKS, &mut words);
     let mut mixed = [7; 32];
-    block_mix(&words, &mut mixed, &mut meter);
+    block_mix(&words, &mut mixed, &mut Meter::new());
     let mut bytes = [0; 128];
     store_words(&mixed, &mut bytes);
-    assert_eq!(rt;
-        hexadecimal(rt.alloc(), &bytes)?.as_str(),
-        "a41f859c6608cc993b81cacb020cef05044b2181a2fd337dfd7b1c6396682f29\
-         b4393168e3c9e6bcfe6bc5b7a06d96bae424cc102c91745c24ad673dc7618f81\
-         20edc975323881a80540f64c162dcd3c21077cfe5f8d5fe2b1a4168f953678b7\
-         7d3b3d803b60e4ab920996e59b4d53b65d2a225877d5edf5842cb9f14eefe425",
-        "RFC 7914, section 9"
-    );
-    Ok(())
+    assert_eq!(rt; bytes, MIXED, "RFC 7914, section 9");
 }
 
 #[test]
@@ -57,6 +61,16 @@ fn step_by_seven(bytes: &mut [u8]) {
     for byte in bytes.iter_mut() {
         *byte = next;
         next = next.wrapping_add(7);
+    }
+}
+
+// Splits each word in two, of which it is the exclusive or.
+fn split(words: &mut [u32], row: &mut [u32]) {
+    let mut next = 0x9e37_79b9u32;
+    for (word, other) in words.iter_mut().zip(row.iter_mut()) {
+        *other = next;
+        *word ^= next;
+        next = next.wrapping_mul(0x0019_660d).wrapping_add(1);
     }
 }
 
@@ -110,5 +124,53 @@ fn six_blocks(rt: HostRuntime) -> Result<(), Fail> {
          47ae752cc19ff0b4943fabe6c57d5d5c90ee5ee240c66dce1b63ea42aadb9a4d",
         "r = 3"
     );
+    Ok(())
+}
+
+#[test]
+fn vector_with_a_row(rt: HostRuntime) {
+    let mut words = [0; 32];
+    load_words(&BLOCKS, &mut words);
+    let mut row = [0; 32];
+    split(&mut words, &mut row);
+    let mut meter = Meter::new();
+    let mut mixed = [7; 32];
+    block_mix_xor(&mut words, &row, &mut mixed, &mut meter);
+    let mut bytes = [0; 128];
+    store_words(&mixed, &mut bytes);
+    assert_eq!(rt; bytes, MIXED, "RFC 7914, section 9");
+    store_words(&words, &mut bytes);
+    assert_eq!(rt; bytes, BLOCKS, "the row is added");
+    let others = (
+        meter.digests(),
+        meter.bytes(),
+        meter.table(),
+        meter.scratch(),
+    );
+    assert_eq!(rt; (meter.mixes(), others), (1, (0, 0, 0, 0)), "one mixing");
+}
+
+// More blocks than are added ahead; the digest is of what the Python program gives.
+#[test]
+fn twelve_blocks_with_a_row(rt: HostRuntime) -> Result<(), Fail> {
+    let mut bytes = [0; 768];
+    step_by_seven(&mut bytes);
+    let mut words = [0; 192];
+    load_words(&bytes, &mut words);
+    let whole = words;
+    let mut row = [0; 192];
+    split(&mut words, &mut row);
+    let mut mixed = [7; 192];
+    let mut meter = Meter::new();
+    block_mix_xor(&mut words, &row, &mut mixed, &mut meter);
+    store_words(&mixed, &mut bytes);
+    let mut running = CountedSha256::begin();
+    running.feed(&mut meter, &bytes);
+    assert_eq!(rt;
+        hexadecimal(rt.alloc(), &running.finish(&mut meter))?.as_str(),
+        "f218b066a7031133a5c10c4247f91bb31f8ee96d926cdc3614dce6bcc961f39e",
+        "r = 6"
+    );
+    assert_eq!(rt; words, whole, "the row is added");
     Ok(())
 }

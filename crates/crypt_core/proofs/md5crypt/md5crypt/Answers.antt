@@ -3,49 +3,46 @@ use Rattle.prims_core.specs.Digests.{md5}
 use Rattle.crypt_core.specs.Md5crypt.{md5crypt_digest, md5crypt_message, md5crypt_messages, opening_message}
 use Rattle.crypt_core.specs.RoundMessage.{round_message, salted_twice}
 use Rattle.crypt_core.specs.Private.Counting.{with_digest}
+use Rattle.crypt_core.specs.Private.RoundStrings.{Strings}
 use Rattle.crypt_core.proofs.CycleLemmas.{length-binary_digits}
-use Rattle.crypt_core.proofs.Md5cryptLemmas.{length-opening, message-round, messages-all, messages-in_all, messages-two}
-use Rattle.crypt_core.proofs.MessageLists.{length-messages_to, length-round_message, length-salted_twice, messages-more, round_length-small}
+use Rattle.crypt_core.proofs.Md5cryptLemmas.{length-message_round, length-opening, message-round, messages-all, messages-in_all, messages-two}
+use Rattle.crypt_core.proofs.MessageLists.{length-messages_to, length-salted_twice, messages-more, round_length-small}
 use Rattle.crypt_core.proofs.Metering.{digests_in_all, digests_more, two_digests}
 use Rattle.crypt_core.proofs.md5crypt.md5crypt.Goals as goal
 
 pub rounds-init : goal.rounds-init
 unfolding md5crypt_message
 rounds-init c =
-    let p = c.bytes-password.result.now in
+    let p = c.args.password.now in
     let s = c.args.salt.now in
     let a = c.args.meter.now in
     let first = salted_twice p s in
     let second = opening_message p s in
-    let bytes = ap (λ m. m.bytes) c.opening-digest.ensures.count in
+    let is = c.bytes-password.ensures.value in
+    let opened = rw is at c.opening-digest.ensures.count in
+    let bytes = ap (λ m. m.bytes) opened in
     let short = c.bytes-password.ensures.password.length_fits in (
-      c.opening-digest.ensures.digest,
+      rw is at c.opening-digest.ensures.digest,
       c.opening-digest.ensures.length,
-      rw (messages-two p s) (two_digests a (with_digest a first) c.opening-digest.new.meter first second refl c.opening-digest.ensures.count),
-      omega (
-        arith,
-        bytes,
-        length-salted_twice p s,
-        length-opening p s,
-        length-binary_digits (length p),
-        short,
-        c.requires.salt,
-        ap length c.bytes-password.ensures.value,
-      ),
+      rw (messages-two p s) (two_digests a (with_digest a first) c.opening-digest.new.meter first second refl opened),
+      omega (arith, bytes, length-salted_twice p s, length-opening p s, length-binary_digits (length p), short, c.requires.salt),
     )
 
 pub round-digest-requires-clause-digests_room : goal.round-digest-requires-clause-digests_room
 round-digest-requires-clause-digests_room c =
     let digests = ap (λ m. m.digests) c.rounds.invariant.2 in
-    omega (arith, digests, length-messages_to (md5crypt_message c.bytes-password.result.now c.args.salt.now) (c.rounds.i + 2), c.requires.room.0)
+    omega (arith, digests, length-messages_to (md5crypt_message c.args.password.now c.args.salt.now) (c.rounds.i + 2), c.requires.room.0)
 
 pub rounds-preserved : goal.rounds-preserved
 rounds-preserved c =
-    let p = c.bytes-password.result.now in
+    let p = c.args.password.now in
     let s = c.args.salt.now in
     let i = c.rounds.i in
     let before = c.as_slice.result.now in
-    let same = ap (λ x. round_message i x p s) (c.as_slice.ensures.value ∙ c.rounds.invariant.0) ∙ sym (message-round p s i) in
+    let strings = rw c.bytes-password.ensures.value at c.new-strings.ensures in
+    let same =
+    ap (λ (x : Strings). round_message i before x.password x.salt) strings
+    ∙ (ap (λ x. round_message i x p s) (c.as_slice.ensures.value ∙ c.rounds.invariant.0) ∙ sym (message-round p s i)) in
     let next : c.rounds.i + 1 + 1 ≡ c.rounds.i + 2 = omega arith in
     let later : c.rounds.i + 1 + 2 ≡ c.rounds.i + 2 + 1 = omega arith in
     let counted = digests_more c.args.meter.now c.rounds.meter c.round-digest.new.meter _ _ c.rounds.invariant.2 c.round-digest.ensures.count in
@@ -56,13 +53,11 @@ rounds-preserved c =
       omega (
         arith,
         bytes,
-        ap length c.as_slice.ensures.value,
+        ap length same,
+        length-message_round p s i,
+        round_length-small i 16 (length p) (length s),
         c.rounds.invariant.3,
-        c.rounds.invariant.1,
-        length-round_message i before p s,
-        round_length-small i (length before) (length p) (length s),
         c.bytes-password.ensures.password.length_fits,
-        ap length c.bytes-password.ensures.value,
         c.requires.salt,
       ),
     )
@@ -71,15 +66,14 @@ pub returns-clause-digest : goal.returns-clause-digest
 unfolding md5crypt_digest
 returns-clause-digest c =
     let last : c.rounds.i + 1 ≡ 1001 = omega arith in
-    let digest = rw (last, c.bytes-password.ensures.value) at c.rounds.invariant.0 in
-    c.copy_from_slice.ensures.after ∙ (c.as_slice-2.ensures.value ∙ digest)
+    c.copy_from_slice.ensures.after ∙ (c.as_slice-2.ensures.value ∙ rw last at c.rounds.invariant.0)
 
 pub returns-clause-count : goal.returns-clause-count
 returns-clause-count c =
     let p = c.args.password.now in
     let s = c.args.salt.now in
     let last : c.rounds.i + 2 ≡ 1002 = omega arith in
-    let counted = rw (last, c.bytes-password.ensures.value, messages-all p s) at c.rounds.invariant.2 in
+    let counted = rw (last, messages-all p s) at c.rounds.invariant.2 in
     counted ∙ digests_in_all c.args.meter.now (md5crypt_messages p s) 1002 _ (messages-in_all p s)
 
 pub returns-clause-specified : goal.returns-clause-specified

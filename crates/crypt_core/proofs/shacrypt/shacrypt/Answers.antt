@@ -1,11 +1,13 @@
 use Rattle.std.proofs.Common.{◌≡◌, ◌+◌, ◌≤◌, ◌<◌, length, get_or, arith, refl, sym, ◌∙◌, ap}
+use Rattle.std.specs.List.{repeat}
 use Rattle.crypt_core.specs.RoundMessage.{salted_twice}
 use Rattle.crypt_core.specs.ShaCrypt.{password_repeated, salt_repeated, sha_opening_digest, sha_opening_message, shacrypt_message, shacrypt_messages}
 use Rattle.crypt_core.specs.Private.Counting.{with_digest}
+use Rattle.crypt_core.specs.Private.RoundStrings.{Strings}
 use Rattle.crypt_core.proofs.CycleLemmas.{length-cycle, length-repeat}
-use Rattle.crypt_core.proofs.MessageLists.{length-messages_to, length-round_message, messages-more, round_length-small}
+use Rattle.crypt_core.proofs.MessageLists.{length-messages_to, messages-more, round_length-small}
 use Rattle.crypt_core.proofs.Metering.{digests_in_all, digests_more, four_digests}
-use Rattle.crypt_core.proofs.ShaCryptLemmas.{before_round-more, before_round-zero, digest-last, message-number, messages-all, messages-four, messages-in_all, round_is, start_bytes}
+use Rattle.crypt_core.proofs.ShaCryptLemmas.{before_round-more, before_round-zero, digest-last, length-message_round, message-number, messages-all, messages-four, messages-in_all, round_is, start_bytes}
 use Rattle.crypt_core.proofs.shacrypt.shacrypt.Goals as goal
 
 pub string_of-password_string-requires-clause-bytes_room : goal.string_of-password_string-requires-clause-bytes_room
@@ -35,6 +37,24 @@ string_of-salt_string-requires-clause-bytes_room g c =
       length-repeat (length p) p,
       start_bytes h p s (16 + c.from-salt_times.result) short c.requires.salt small times,
       c.requires.room.1,
+    )
+
+pub new-strings-requires : goal.new-strings-requires
+new-strings-requires g c =
+    let h = g.H.Counted.digest in
+    let p = c.bytes-password.result.now in
+    let s = c.args.salt.now in
+    omega (
+      arith,
+      ap length c.as_slice-2.ensures.value,
+      ap length c.as_slice-3.ensures.value,
+      ap length c.string_of-password_string.ensures.string,
+      ap length c.string_of-salt_string.ensures.string,
+      length-cycle (h (password_repeated p)) (length p),
+      length-cycle (h (repeat (16 + c.from-salt_times.result) s)) (length s),
+      ap length c.bytes-password.ensures.value,
+      c.bytes-password.ensures.password.length_fits,
+      c.requires.salt,
     )
 
 pub rounds-init : goal.rounds-init
@@ -111,12 +131,16 @@ rounds-preserved g c =
     let s = c.args.salt.now in
     let i = c.rounds.i in
     let is = c.bytes-password.ensures.value in
-    let short : length p ≤ 512 = c.bytes-password.ensures.password.length_fits in
+    let strings = c.new-strings.result in
     let first = c.from-salt_times.ensures ∙ ap (λ xs. get_or xs 0 0) (c.as_slice.ensures.value ∙ rw is at c.opening-digest.ensures.digest) in
     let digest_is = c.as_slice-in-rounds.ensures.value ∙ c.rounds.invariant.0 in
-    let password_is = c.as_slice-in-rounds-2.ensures.value ∙ rw is at c.string_of-password_string.ensures.string in
-    let salt_is = c.as_slice-in-rounds-3.ensures.value ∙ rw first at c.string_of-salt_string.ensures.string in
-    let same = round_is h p s i c.as_slice-in-rounds.result.now c.as_slice-in-rounds-2.result.now c.as_slice-in-rounds-3.result.now digest_is password_is salt_is in
+    let password_is =
+    ap (λ (x : Strings). x.password) c.new-strings.ensures
+    ∙ (c.as_slice-2.ensures.value ∙ rw is at c.string_of-password_string.ensures.string) in
+    let salt_is =
+    ap (λ (x : Strings). x.salt) c.new-strings.ensures
+    ∙ (c.as_slice-3.ensures.value ∙ rw first at c.string_of-salt_string.ensures.string) in
+    let same = round_is h p s i c.as_slice-in-rounds.result.now strings.password strings.salt digest_is password_is salt_is in
     let next : c.rounds.i + 1 + 4 ≡ c.rounds.i + 4 + 1 = omega arith in
     let counted = digests_more c.args.meter.now c.rounds.meter c.round-digest.new.meter _ _ c.rounds.invariant.2 c.round-digest.ensures.count in (
       c.round-digest.ensures.digest ∙ (ap h same ∙ sym (before_round-more h p s i)),
@@ -125,17 +149,12 @@ rounds-preserved g c =
       omega (
         arith,
         ap (λ m. m.bytes) c.round-digest.ensures.count,
-        length-round_message i c.as_slice-in-rounds.result.now c.as_slice-in-rounds-2.result.now c.as_slice-in-rounds-3.result.now,
-        round_length-small i (length c.as_slice-in-rounds.result.now) (length c.as_slice-in-rounds-2.result.now) (length c.as_slice-in-rounds-3.result.now),
-        ap length c.as_slice-in-rounds.ensures.value,
-        ap length password_is,
-        ap length salt_is,
-        length-cycle (h (password_repeated p)) (length p),
-        length-cycle (h (salt_repeated h p s)) (length s),
+        ap length (same ∙ sym (message-number h p s i)),
+        length-message_round h g.H.Counted.LEN g.met.H.Counted.length_digest p s i,
+        round_length-small i g.H.Counted.LEN (length p) (length s),
         c.rounds.invariant.3,
-        c.rounds.invariant.1,
         g.met.H.Counted.at_most_64,
-        short,
+        c.bytes-password.ensures.password.length_fits,
         c.requires.salt,
       ),
     )

@@ -10,6 +10,5 @@ pub returns-clause-mixed : goal.returns-clause-mixed
 unfolding mixed_back
 returns-clause-mixed c start holds =
     let inside : c.index.result < c.args.rows = omega (arith, some_row c.args.rows c.requires.power.0 c.requires.power.1) in
-    c.block_mix.ensures.mixed
-    ∙ ap block_mix (c.xor_words_into.ensures
-    ∙ ap (λ v. xor_words c.args.x.now v) (c.row-row.ensures ∙ (holds c.index.result inside ∙ ap (λ j. iterate block_mix j start) c.index.ensures)))
+    c.block_mix_xor.ensures.mixed
+    ∙ ap (λ v. block_mix (xor_words c.args.x.now v)) (c.row-row.ensures ∙ (holds c.index.result inside ∙ ap (λ j. iterate block_mix j start) c.index.ensures))

@@ -1,7 +1,6 @@
-use Rattle.std.proofs.Common.{◌≡◌, ℕ, ◌+◌, ◌-◌, ◌*◌, ◌/◌, [], length, take, drop, get_or, ap, ap₂, sym, ◌∙◌, arith}
-use Rattle.std.proofs.lemmas.List.{take_rest}
+use Rattle.std.proofs.Common.{◌≡◌, ◌*◌, ◌/◌, [], length, get_or, ap₂, sym, ◌∙◌, arith}
 use Rattle.prims_core.specs.BlockMix.{mixed_block, block_mix}
-use Rattle.prims_core.proofs.MixFacts.{results, result-first, result-step, result_before-more, length-results, placed_more, in_order}
+use Rattle.prims_core.proofs.MixFacts.{results, result-first, result-step, result_before-more, length-results, in_order}
 use Rattle.prims_core.proofs.mix.block_mix.Goals as goal
 
 pub mixing-init : goal.mixing-init
@@ -9,9 +8,7 @@ mixing-init c =
     let src = c.args.src.now in
     let half = length src / 32 in
     let whole : length src ≡ 16 * (2 * half) = omega arith in record {
-      before =
-          c.of-x.ensures ∙ take_rest src (length src - 16)
-          ∙ sym (result-first src (2 * half) whole (omega arith));
+      before = c.of-x.ensures ∙ c.block.ensures ∙ sym (result-first src (2 * half) whole (omega arith));
       placed = λ k none. absurd (omega arith);
     }
 
@@ -21,16 +18,12 @@ mixing-preserved c =
     let i = c.mixing.i in
     let half = length src / 32 in
     let whole : length src ≡ 16 * (2 * half) = omega arith in
-    let start : 16 * i + 16 - 16 * i ≡ 16 = omega arith in
     let is : c.mixed_block-x.result ≡ get_or (results src) i [] =
     c.mixed_block-x.ensures
-    ∙ ap₂ mixed_block c.mixing.invariant.before (ap (λ (n : ℕ). take n (drop (16 * i) src)) start)
+    ∙ ap₂ mixed_block c.mixing.invariant.before (c.of.ensures ∙ c.block-in-mixing.ensures)
     ∙ sym (result-step src (2 * half) i whole c.mixing-test.true) in record {
       before = is ∙ sym (result_before-more src i);
-      placed =
-          placed_more half i _ (results src) c.mixing.dst c.store.new.words (omega arith)
-          c.mixing-test.true (omega arith) (omega arith) (c.store.ensures ∙ is)
-          c.mixing.invariant.placed;
+      placed = c.put_result.ensures (results src) c.mixing.invariant.placed is;
     }
 
 pub returns-clause-mixed : goal.returns-clause-mixed

@@ -1,4 +1,5 @@
-use Rattle.std.proofs.Common.{◌≡◌, ℕ, ◌+◌, ◌*◌, ◌/◌, ◌%◌, ◌<◌, [], take, drop, get_or}
+use Rattle.std.proofs.Common.{◌≡◌}
+use Rattle.prims_core.specs.Private.Mixing.{ArePlaced}
 use Rattle.prims_core.proofs.MixFacts.{results, result_before}
 use Rattle.prims_core.proofs.mix.block_mix.Given as goal
 
@@ -6,6 +7,5 @@ use Rattle.prims_core.proofs.mix.block_mix.Given as goal
 abbrev pub invariant-mixing : goal.invariant-mixing
 invariant-mixing l = record {
   before : l.x ≡ result_before l.src l.i;
-  placed : (k : ℕ) → k < l.i
-      → take 16 (drop (16 * (k / 2 + k % 2 * l.half)) l.dst) ≡ get_or (results l.src) k [];
+  placed : ArePlaced (results l.src) l.half l.i l.dst;
 }

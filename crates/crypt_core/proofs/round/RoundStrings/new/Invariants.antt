@@ -1,0 +1,6 @@
+use Rattle.std.proofs.Common.{◌≡◌, flat_map, take}
+use Rattle.crypt_core.proofs.round.RoundStrings.new.Given as goal
+
+-- the pieces so far
+abbrev pub invariant-loop-piece : goal.invariant-loop-piece
+invariant-loop-piece l = l.joined.items ≡ flat_map (λ piece. piece.now) (take l.piece-index l.piece-items)

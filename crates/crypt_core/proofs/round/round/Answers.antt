@@ -1,0 +1,29 @@
+use Rattle.std.proofs.Common.{◌≡◌, ◌+◌, ◌*◌, ◌≤◌, ◌++◌, List, ℕ, length, arith, ap}
+use Rattle.std.proofs.lemmas.List.{length-append}
+use Rattle.crypt_core.specs.RoundMessage.{round_message}
+use Rattle.crypt_core.specs.Private.RoundStrings.{Strings}
+use Rattle.crypt_core.proofs.MessageLists.{length-round_message, round_length-small}
+use Rattle.crypt_core.proofs.round.round.Goals as goal
+
+-- two pieces of a round's message have no more bytes than all that it may be made of
+pieces-small : (i : ℕ) (x : List ℕ) (strings : Strings) (first second : List ℕ)
+    → first ++ second ≡ round_message i x strings.password strings.salt
+    → length first + length second ≤ length x + 2 * length strings.password + length strings.salt
+pieces-small i x strings first second e =
+    omega (
+      arith,
+      ap length e,
+      length-append first second,
+      length-round_message i x strings.password strings.salt,
+      round_length-small i (length x) (length strings.password) (length strings.salt),
+    )
+
+pub feed-requires : goal.feed-requires
+feed-requires g c =
+    let small = pieces-small c.args.i c.args.before.now c.args.strings.now c.pieces.result.0.now c.pieces.result.1.now c.pieces.ensures in
+    omega (arith, small, c.requires.bytes_room)
+
+pub feed-requires-2 : goal.feed-requires-2
+feed-requires-2 g c =
+    let small = pieces-small c.args.i c.args.before.now c.args.strings.now c.pieces.result.0.now c.pieces.result.1.now c.pieces.ensures in
+    omega (arith, small, c.requires.bytes_room, ap (λ m. m.bytes) c.feed.ensures.count)

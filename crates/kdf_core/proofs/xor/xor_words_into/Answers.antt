@@ -1,7 +1,0 @@
-use Rattle.std.proofs.Common.{arith}
-use Rattle.kdf_core.proofs.XorLemmas.{xor_words-from_places}
-use Rattle.kdf_core.proofs.xor.xor_words_into.Goals as goal
-
-pub returns : goal.returns
-returns c =
-    xor_words-from_places _ _ _ c.places.auto.sum c.requires (λ k inside. c.places.invariant.added k (omega arith))

@@ -1,9 +1,0 @@
-use Rattle.std.proofs.Common.{◌≡◌, ℕ, ◌<◌, ◌≤◌, bit_xor, get_or}
-use Rattle.kdf_core.proofs.xor.xor_words_into.Given as goal
-
--- the places below the index are added, and those from it on are as they were
-abbrev pub invariant-places : goal.invariant-places
-invariant-places l = record {
-  added : (k : ℕ) → k < l.i → get_or l.sum k 0 ≡ bit_xor (get_or l.fn.sum k 0) (get_or l.words k 0);
-  to_come : (k : ℕ) → l.i ≤ k → get_or l.sum k 0 ≡ get_or l.fn.sum k 0;
-}
