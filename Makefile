@@ -14,8 +14,8 @@ SOURCES := $(shell find crates -path '*/out' -prune -o \( -name '*.rt' -o -name 
 all: mkpasswd
 
 mkpasswd: $(SOURCES)
-	cd crates/mkpasswd && $(RT) run -- -m md5crypt -S xxxxxxxx password > /dev/null
-	cp crates/mkpasswd/out/mkpasswd $@
+	cd crates/program && $(RT) run -- -m md5crypt -S xxxxxxxx password > /dev/null
+	cp crates/program/out/program $@
 
 run: mkpasswd
 	@./mkpasswd -m md5crypt -S xxxxxxxx password
