@@ -1,7 +1,8 @@
 -- A text is cut at its first colon in one way, so a line has one name and one list of parts.
 use Rattle.std.proofs.Common.{◌≡◌, ℕ, List, [], ◌∷◌, ◌++◌, Contains, Option, Some, inl, inr, refl, sym, ap, subst, ◌∙◌, arith}
 use Rattle.std.proofs.lemmas.List.Elements.{Contains-append_right}
-use Rattle.mkpasswd.specs.Lines.{colon, HasName, HasParts, IsCut, Parts}
+use Rattle.mkpasswd.specs.Lines.{HasName, HasParts, IsCut, Parts}
+use Rattle.mkpasswd.specs.Texts.{colon}
 use Rattle.mkpasswd.specs.declared.line.Kind.{Kind}
 use Rattle.mkpasswd.specs.declared.line.Kind.TheVariants.{Batch, Check}
 

@@ -4,6 +4,7 @@ pub mod Counting
 pub mod Cuts
 pub mod Drawing
 pub mod Ending
+pub mod Finishing
 pub mod FirstLines
 pub mod LastLine
 pub mod LineAnswering

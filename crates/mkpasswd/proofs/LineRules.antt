@@ -6,7 +6,8 @@ use Rattle.crypt_core.specs.Refusals.{IsRefused}
 use Rattle.crypt_core.specs.declared.password.PasswordFault.{PasswordFault}
 use Rattle.crypt_core.specs.declared.password.PasswordFault.TheVariants.{TooLong, HasNul}
 use Rattle.crypt_core.specs.declared.setting.fault.SettingFault.{SettingFault}
-use Rattle.mkpasswd.specs.Lines.{colon, Breaks, HasName, HasParts, IsLineRefused, IsSound, IsStored, Parts, rule_number}
+use Rattle.mkpasswd.specs.Texts.{colon}
+use Rattle.mkpasswd.specs.Lines.{Breaks, HasName, HasParts, IsLineRefused, IsSound, IsStored, Parts, rule_number}
 use Rattle.mkpasswd.specs.Private.Entries.{HasBehind, IsBeforeField, IsCutOrWhole, IsEntry, IsFieldRefused, IsGoodField, IsGoodName, IsNamed, LacksParts}
 use Rattle.mkpasswd.specs.declared.line.Kind.{Kind}
 use Rattle.mkpasswd.specs.declared.line.Kind.TheVariants.{Batch, Check}

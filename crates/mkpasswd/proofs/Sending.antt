@@ -1,11 +1,48 @@
--- How far the giving of a text has come.
-use Rattle.std.proofs.Common.{◌≡◌, ℕ, ◌+◌, ◌<◌, ◌≤◌, List, [], ◌++◌, length, take, drop, arith, refl, ◌∙◌, ap, append_assoc, Option, false, nat_eq, nat_lt, ◌&&◌, ◌-◌, add-zero}
+-- What an output has taken, one text after another, and how far the giving of a text has come.
+use Rattle.std.proofs.Common.{◌≡◌, ℕ, ◌+◌, ◌<◌, ◌≤◌, List, [], ◌++◌, length, take, drop, arith, refl, sym, subst, ◌∙◌, ap, append-nil, append_assoc, Option, false, nat_eq, nat_lt, ◌&&◌, ◌-◌, add-zero}
 use Rattle.std.proofs.lemmas.List.{length-append, length-take-le, take-append-drop}
 use Rattle.std.specs.Io.KnownBytes.{Appends}
 use Rattle.std.proofs.KnownBytes.{Appends-nil, Appends-trans}
 use Rattle.std.proofs.lemmas.Bool.Decides.{nat_tests}
-use Rattle.mkpasswd.specs.Devices.{Device, as_count}
-use Rattle.mkpasswd.specs.Output.{Takes}
+use Rattle.mkpasswd.specs.Devices.{Device, IsUnflushed, as_count}
+use Rattle.mkpasswd.specs.Output.{Takes, TakesFront}
+
+-- ---- what an output has taken
+
+module _ {T : Type 0} where
+  pub unflushed-trans : (old mid new : Device T) → IsUnflushed old mid → IsUnflushed mid new → IsUnflushed old new
+  unflushed-trans old mid new before more = record { flushes = more.flushes ∙ before.flushes; flushed = more.flushed ∙ before.flushed }
+
+module _ {T : Type 0} (contents : T → Option (List ℕ)) where
+  pub takes-nothing : (d : Device T) → Takes contents d d []
+  takes-nothing d = record { shown = Appends-nil _; counted = omega arith; unflushed = record { flushes = refl; flushed = refl } }
+
+  pub Takes-trans : (old mid new : Device T) (bytes others : List ℕ) → Takes contents old mid bytes → Takes contents mid new others
+      → Takes contents old new (bytes ++ others)
+  Takes-trans old mid new bytes others before more =
+      let counted = before.counted in
+      let more_counted = more.counted in
+      record {
+        shown = Appends-trans _ (contents mid.inner) _ bytes others before.shown more.shown;
+        counted = omega (arith, length-append bytes others, counted, more_counted);
+        unflushed = unflushed-trans old mid new before.unflushed more.unflushed;
+      }
+
+  -- the first bytes of a text, behind what was taken before
+  pub TakesFront-behind : (old mid new : Device T) (whole text : List ℕ) → Takes contents old mid whole → TakesFront contents mid new [] text
+      → TakesFront contents old new whole text
+  TakesFront-behind old mid new whole text before front = (
+    front.0,
+    front.1,
+    front.2,
+    Takes-trans old mid new whole front.0 before front.3,
+  )
+
+  -- nothing of a next text was taken
+  pub front-none : (old new : Device T) (whole : List ℕ) → Takes contents old new whole → TakesFront contents old new whole []
+  front-none old new whole takes = ([], [], refl, subst (Takes contents old new) (sym (append-nil whole)) takes)
+
+-- ---- the giving of a text
 
 module _ {T : Type 0} where
   -- the front of the text was taken, in calls that did not fail and that each took a byte
@@ -23,9 +60,9 @@ module _ {T : Type 0} where
       → IsUnderWay contents old mid text rest turns left → 0 < left → 0 < count → count ≤ length rest
       → Appends (contents mid.inner) (contents new.inner) (take count rest)
       → new.failures ≡ mid.failures + as_count (nat_eq count 0 && nat_lt 0 (length rest))
-      → new.calls ≡ mid.calls + 1 → new.bytes ≡ mid.bytes + count → next ≡ drop count rest
+      → new.calls ≡ mid.calls + 1 → new.bytes ≡ mid.bytes + count → IsUnflushed mid new → next ≡ drop count rest
       → IsUnderWay contents old new text next turns (left - 1)
-  under_way-step contents old mid new text rest next turns left count before some_left some_taken within appends failures calls bytes next_is =
+  under_way-step contents old mid new text rest next turns left count before some_left some_taken within appends failures calls bytes unflushed next_is =
       let sent = before.sent in
       let took = take count rest in
       let some : nat_eq count 0 ≡ false = grind (arith, nat_tests) in
@@ -40,6 +77,7 @@ module _ {T : Type 0} where
         takes = record {
           shown = Appends-trans _ (contents mid.inner) _ sent took before.takes.shown appends;
           counted = omega (arith, length-append sent took, size, counted, bytes);
+          unflushed = unflushed-trans old mid new before.takes.unflushed unflushed;
         };
         unfailed = no_failure ∙ before.unfailed;
         calls = omega (arith, before.calls, calls);
@@ -52,7 +90,7 @@ module _ {T : Type 0} where
   under_way-start contents old text turns = record {
     sent = [];
     split = refl;
-    takes = record { shown = Appends-nil _; counted = omega arith };
+    takes = takes-nothing contents old;
     unfailed = refl;
     calls = refl;
     fewer = omega arith;

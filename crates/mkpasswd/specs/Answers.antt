@@ -1,13 +1,15 @@
 -- What is answered to one item: a password or a line.
-use Rattle.std.specs.Prelude.{ℕ, Bool, List, [], ◌∷◌, ◌++◌, ◌⊎◌, codes, decimal, if◌then◌else◌}
+use Rattle.std.specs.Prelude.{ℕ, List, [], ◌∷◌, ◌++◌, ◌⊎◌, codes, decimal, if◌then◌else◌}
 use Rattle.rand_core.specs.Stream.{Stream}
 use Rattle.prims_core.specs.Meter.{Counts}
 use Rattle.crypt_core.specs.Crypt.{crypt, IsRefusedBy}
 use Rattle.crypt_core.specs.Settings.{Kept}
 use Rattle.crypt_core.specs.Work.{raised_by, work}
 use Rattle.crypt_core.specs.declared.work.Work.{Work}
-use Rattle.mkpasswd.specs.Makers.{Recipe, setting_by, words_for}
+use Rattle.mkpasswd.specs.Makers.{setting_by, words_for}
 use Rattle.mkpasswd.specs.Tallies.{no_line, one_line}
+use Rattle.mkpasswd.specs.Texts.{as_line}
+use Rattle.mkpasswd.specs.declared.job.Job.{Job}
 use Rattle.mkpasswd.specs.declared.tally.Tally.{Tally}
 
 -- ---- the hashes behind answers
@@ -67,25 +69,29 @@ counts_text digests bytes mixes table =
 abbrev pub work_text : Work → List ℕ
 work_text work = counts_text work.digests work.bytes work.mixes work.table
 
--- and only where they are wanted
-abbrev pub wanted_text : Bool → Work → List ℕ
-wanted_text is_counted work = if is_counted then work_text work else []
+-- and only where the job wants them
+abbrev pub wanted_text : Job → Work → List ℕ
+wanted_text job work = if job.work then work_text work else []
 
 -- the hash of a password by a setting, as crypt(3) gives it, and its counts where they are wanted
-abbrev pub hash_text : Bool → List ℕ → Kept → List ℕ
-hash_text is_counted password kept = crypt password kept ++ wanted_text is_counted (work password kept)
+abbrev pub hash_text : Job → List ℕ → Kept → List ℕ
+hash_text job password kept = crypt password kept ++ wanted_text job (work password kept)
 
 -- ---- the answer to a password
 
--- that text and a line feed (10), for a password of its own
-abbrev pub password_answer : Recipe → Bool → List ℕ → Stream → Answer
-password_answer recipe is_counted password stream =
-    let words = words_for recipe stream in
-    let kept = setting_by recipe words.0 in
+-- behind this front, the hash by the setting that the job makes, on a line of its own
+abbrev pub hashed_answer : Job → List ℕ → List ℕ → Stream → Answer
+hashed_answer job front password stream =
+    let words = words_for job.maker stream in
+    let kept = setting_by job.maker words.0 in
     record {
-      text = hash_text is_counted password kept ++ 10 ∷ [];
+      text = as_line (front ++ hash_text job password kept);
       fault_text = [];
       tally = one_line;
       hashings = record { password = password; setting = kept } ∷ [];
       stream = words.1;
     }
+
+-- a single password has no front
+abbrev pub password_answer : Job → List ℕ → Stream → Answer
+password_answer job = hashed_answer job []

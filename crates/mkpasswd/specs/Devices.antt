@@ -3,20 +3,27 @@ use Rattle.std.specs.Prelude.{◌≡◌, ℕ, ◌+◌, ◌^◌, ◌≤◌, ◌==
 use Rattle.std.specs.Coded.{Coded, code_by, coded×, coded_ℕ}
 
 -- the device; how many of its calls failed; how many calls were made to move bytes, failed ones
--- among them; and how many bytes these moved. An input moves bytes by `fetch`; an output by `give`,
--- and not by `flush`
+-- among them; how many bytes these moved; how many flushes were tried; and how many bytes had been
+-- moved at the last flush that worked. An input moves bytes by `fetch`, and is never flushed; an
+-- output by `give`, and not by `flush`
 pub record Device (T : Type 0) : Type 0 where
   pub inner : T
   pub failures : ℕ
   pub calls : ℕ
   pub bytes : ℕ
+  pub flushes : ℕ
+  pub flushed : ℕ
 
--- a device is stored as its four parts
+-- a device is stored as its parts
 abbrev pub device_code : {T : Type 0} → Coded T → Coded (Device T)
 device_code {T} code =
-    code_by (T × (ℕ × (ℕ × ℕ))) (coded× code (coded× coded_ℕ (coded× coded_ℕ coded_ℕ)))
-    (λ d. (d.inner, (d.failures, (d.calls, d.bytes))))
-    (λ p. record { inner = p.0; failures = p.1.0; calls = p.1.1.0; bytes = p.1.1.1 }) (λ _. refl)
+    code_by (T × (ℕ × (ℕ × (ℕ × (ℕ × ℕ))))) (coded× code (coded× coded_ℕ (coded× coded_ℕ (coded× coded_ℕ (coded× coded_ℕ coded_ℕ)))))
+    (λ d. (d.inner, (d.failures, (d.calls, (d.bytes, (d.flushes, d.flushed))))))
+    (λ p. record { inner = p.0; failures = p.1.0; calls = p.1.1.0; bytes = p.1.1.1.0; flushes = p.1.1.1.1.0; flushed = p.1.1.1.1.1 }) (λ _. refl)
+
+-- a device of which nothing was seen
+abbrev pub new_device : {T : Type 0} → T → Device T
+new_device inner = record { inner = inner; failures = 0; calls = 0; bytes = 0; flushes = 0; flushed = 0 }
 
 -- 1 where it was seen, else 0
 abbrev pub as_count : Bool → ℕ
@@ -34,7 +41,7 @@ moved_by (Err e) = 0
 
 -- the numbers of a device leave room for any run
 abbrev pub HasRoomForRun : {T : Type 0} → Device T → Type 0
-HasRoomForRun d = (d.failures ≤ 2 ^ 62) × (d.calls ≤ 2 ^ 62) × (d.bytes ≤ 2 ^ 62)
+HasRoomForRun d = (d.failures ≤ 2 ^ 62) × (d.calls ≤ 2 ^ 62) × (d.bytes ≤ 2 ^ 62) × (d.flushes ≤ 2 ^ 62)
 
 -- each call that was made to move bytes moved one or failed, but for so many
 abbrev pub MovesBytes : {T : Type 0} → ℕ → Device T → Device T → Type 0
@@ -47,3 +54,18 @@ IsUnfailed old new = new.failures ≡ old.failures
 -- one call failed
 abbrev pub FailsOnce : {T : Type 0} → Device T → Device T → Type 0
 FailsOnce old new = new.failures ≡ old.failures + 1
+
+-- no flush was tried
+pub record IsUnflushed {T : Type 0} (old new : Device T) : Type 0 where
+  pub flushes : new.flushes ≡ old.flushes
+  pub flushed : new.flushed ≡ old.flushed
+
+-- one flush was tried, and it worked where all bytes had been moved
+pub record IsFlushed {T : Type 0} (old new : Device T) : Type 0 where
+  pub flushes : new.flushes ≡ old.flushes + 1
+  pub flushed : new.flushed ≡ new.bytes
+
+-- one flush was tried, and it failed
+pub record FailsToFlush {T : Type 0} (old new : Device T) : Type 0 where
+  pub flushes : new.flushes ≡ old.flushes + 1
+  pub flushed : new.flushed ≡ old.flushed

@@ -4,16 +4,17 @@ use Rattle.std.specs.List.{position_or_len}
 use Rattle.std.specs.Io.KnownBytes.{Consumes, IsAtEnd}
 use Rattle.crypt_core.specs.Passwords.{IsPassword, IsPasswordRefused}
 use Rattle.mkpasswd.specs.Devices.{Device, MovesBytes, FailsOnce, IsUnfailed}
+use Rattle.mkpasswd.specs.Texts.{line_feed}
 use Rattle.mkpasswd.specs.declared.faults.RunFault.{RunFault}
 use Rattle.mkpasswd.specs.declared.faults.RunFault.TheVariants.{Read, Turns, Password}
 
--- what stands before the first line feed (10), or all of it without one
+-- what stands before the first line feed, or all of it without one
 unfoldable pub first_line : List ℕ → List ℕ
-first_line bytes = take (position_or_len (λ b. b == 10) bytes) bytes
+first_line bytes = take (position_or_len (λ b. b == line_feed) bytes) bytes
 
 -- the bytes that were read don't tell the password yet: they have no line feed, and could still be one
 pub record IsUndecided (bytes : List ℕ) : Type 0 where
-  pub no_line_feed : ¬ Contains bytes 10
+  pub no_line_feed : ¬ Contains bytes line_feed
   pub short : length bytes ≤ 512
 
 module _ {I : Type 0} (remaining : I → Option (List ℕ)) where
@@ -25,7 +26,7 @@ module _ {I : Type 0} (remaining : I → Option (List ℕ)) where
   -- they do tell it: a line feed is among them, or nothing is left to read, or they are too many without one
   abbrev pub IsDecided : Device I → List ℕ → Type 0
   IsDecided input bytes =
-      Contains bytes 10 ⊎ (IsAtEnd (remaining input.inner) ⊎ (512 < length (first_line bytes)))
+      Contains bytes line_feed ⊎ (IsAtEnd (remaining input.inner) ⊎ (512 < length (first_line bytes)))
 
   -- the fetches gave these bytes, and their first line is the password, or is refused as one; or a fetch
   -- failed, or no turn was left where each fetch had given a byte, before that was known

@@ -14,3 +14,4 @@ pub mod Output
 pub mod Private
 pub mod Runs
 pub mod Tallies
+pub mod Texts

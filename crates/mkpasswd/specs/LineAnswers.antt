@@ -1,15 +1,15 @@
 -- What is answered to one line, by the parts that it has.
-use Rattle.std.specs.Prelude.{◌≡◌, ◌≢◌, ℕ, Bool, List, [], ◌∷◌, ◌++◌, codes, decimal, Some, None}
+use Rattle.std.specs.Prelude.{◌≡◌, ◌≢◌, ℕ, List, [], ◌∷◌, ◌++◌, codes, decimal, Some, None}
 use Rattle.rand_core.specs.Stream.{Stream}
 use Rattle.crypt_core.specs.Crypt.{crypt}
 use Rattle.crypt_core.specs.Settings.{Kept, Spells}
 use Rattle.crypt_core.specs.Work.{work}
 use Rattle.crypt_core.specs.declared.work.Work.{Work}
-use Rattle.mkpasswd.specs.Answers.{Answer, hash_text, no_work, wanted_text}
+use Rattle.mkpasswd.specs.Answers.{Answer, hashed_answer, no_work, wanted_text}
 use Rattle.mkpasswd.specs.LineFaults.{line_fault_text}
-use Rattle.mkpasswd.specs.Lines.{Parts, HasParts, IsLineRefused, IsLocked, IsSound, colon}
-use Rattle.mkpasswd.specs.Makers.{setting_by, words_for}
+use Rattle.mkpasswd.specs.Lines.{Parts, HasParts, IsLineRefused, IsLocked, IsSound}
 use Rattle.mkpasswd.specs.Tallies.{misfit_line, one_line, refused_line}
+use Rattle.mkpasswd.specs.Texts.{as_line, colon}
 use Rattle.mkpasswd.specs.declared.job.Job.{Job}
 use Rattle.mkpasswd.specs.declared.line.Kind.{Kind}
 use Rattle.mkpasswd.specs.declared.line.LineFault.{LineFault}
@@ -17,18 +17,17 @@ use Rattle.mkpasswd.specs.declared.tally.Tally.{Tally}
 
 -- ---- texts
 
--- the fault of the line with this number, and a line feed (10)
+-- the fault of the line with this number
 abbrev pub refusal_text : ℕ → LineFault → List ℕ
-refusal_text number fault =
-    codes "mkpasswd: line " ++ decimal number ++ codes ": " ++ line_fault_text fault ++ 10 ∷ []
+refusal_text number fault = as_line (codes "mkpasswd: line " ++ decimal number ++ codes ": " ++ line_fault_text fault)
 
--- a name, what is told of it, and a line feed
-abbrev pub told_text : List ℕ → List ℕ → List ℕ
-told_text name told = name ++ colon ∷ told ++ 10 ∷ []
+-- what stands before that which is told of a name
+abbrev pub front_of : List ℕ → List ℕ
+front_of name = name ++ colon ∷ []
 
--- a verdict, and the counts of the work behind it where they are wanted
-abbrev pub verdict_text : Bool → List ℕ → Work → List ℕ
-verdict_text is_counted verdict work = verdict ++ wanted_text is_counted work
+-- a verdict on a name, and the counts of the work behind it where they are wanted
+abbrev pub verdict_text : Job → List ℕ → List ℕ → Work → List ℕ
+verdict_text job name verdict work = as_line (front_of name ++ verdict ++ wanted_text job work)
 
 -- ---- answers
 
@@ -42,23 +41,10 @@ refused_answer number fault stream = record {
   stream = stream;
 }
 
--- the hash of the line's password, by the setting that is made for it
-abbrev pub hashed_answer : Job → List ℕ → List ℕ → Stream → Answer
-hashed_answer job name password stream =
-    let words = words_for job.maker stream in
-    let kept = setting_by job.maker words.0 in
-    record {
-      text = told_text name (hash_text job.work password kept);
-      fault_text = [];
-      tally = one_line;
-      hashings = record { password = password; setting = kept } ∷ [];
-      stream = words.1;
-    }
-
 -- a verdict that needs no hash
 abbrev pub unhashed_answer : Job → List ℕ → List ℕ → Stream → Answer
 unhashed_answer job name verdict stream = record {
-  text = told_text name (verdict_text job.work verdict no_work);
+  text = verdict_text job name verdict no_work;
   fault_text = [];
   tally = one_line;
   hashings = [];
@@ -68,7 +54,7 @@ unhashed_answer job name verdict stream = record {
 -- a verdict on a password, which is hashed by the stored setting
 abbrev pub compared_answer : Job → List ℕ → List ℕ → List ℕ → Kept → Tally → Stream → Answer
 compared_answer job name verdict password kept tally stream = record {
-  text = told_text name (verdict_text job.work verdict (work password kept));
+  text = verdict_text job name verdict (work password kept);
   fault_text = [];
   tally = tally;
   hashings = record { password = password; setting = kept } ∷ [];
@@ -88,7 +74,7 @@ pub data IsAnswer (kind : Kind) (job : Job) (number : ℕ) (line : List ℕ) (st
       → answer ≡ refused_answer number fault stream
       → IsAnswer kind job number line stream answer
   hashed : (parts : Parts) → HasSoundParts kind line parts → parts.field ≡ None
-      → answer ≡ hashed_answer job parts.name parts.password stream
+      → answer ≡ hashed_answer job (front_of parts.name) parts.password stream
       → IsAnswer kind job number line stream answer
   none : (parts : Parts) → HasSoundParts kind line parts → parts.field ≡ Some []
       → answer ≡ unhashed_answer job parts.name (codes "none") stream

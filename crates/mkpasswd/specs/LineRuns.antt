@@ -7,7 +7,8 @@ use Rattle.mkpasswd.specs.Answers.{Answer, no_answer}
 use Rattle.mkpasswd.specs.Devices.{MovesBytes}
 use Rattle.mkpasswd.specs.Input.{Reads}
 use Rattle.mkpasswd.specs.LineAnswers.{IsAnswer}
-use Rattle.mkpasswd.specs.Runs.{Ends, Hands, Tells}
+use Rattle.mkpasswd.specs.Texts.{line_feed}
+use Rattle.mkpasswd.specs.Runs.{Finishes, Hands, IsCutShort, Tells}
 use Rattle.mkpasswd.specs.Tallies.{both_tallies}
 use Rattle.mkpasswd.specs.declared.faults.RunFault.{RunFault}
 use Rattle.mkpasswd.specs.declared.faults.RunFault.TheVariants.{Read, Write, OutOfMemory, Turns, Password}
@@ -16,9 +17,6 @@ use Rattle.mkpasswd.specs.declared.line.Kind.{Kind}
 use Rattle.mkpasswd.specs.declared.tally.Tally.{Tally}
 
 -- ---- the lines of an input
-
-abbrev pub line_feed : ℕ
-line_feed = 10
 
 -- the parts, but for the last one where that is empty
 abbrev pub without_empty_end : List (List ℕ) → List (List ℕ)
@@ -85,47 +83,47 @@ module _ {I O E : Type 0} where
   -- ---- how it ends, where it has read these bytes
 
   -- All lines are answered.
-  abbrev pub EndsWhole : Tells I O E → ℕ → Kind → Job → List ℕ → Hands I O E → Hands I O E → Result Tally RunFault → Type 0
-  EndsWhole tells turns kind job bytes old new result =
+  abbrev pub EndsWhole : Tells I O E → Kind → Job → List ℕ → Hands I O E → Hands I O E → Result Tally RunFault → Type 0
+  EndsWhole tells kind job bytes old new result =
       (answers : Answer) × IsReadOut tells new × AreAnswers kind job 1 (lines_of bytes) old.stream answers
-      × Ends tells turns answers (no_answer answers.stream) old new result
+      × Finishes tells answers old new result
 
   -- The lines whose line feeds were read are answered, and more of the input was wanted. No more fetches worked than
   -- bytes were read.
-  abbrev pub EndsReading : Tells I O E → ℕ → Kind → Job → List ℕ → Hands I O E → Hands I O E → Result Tally RunFault → Type 0
-  EndsReading tells turns kind job bytes old new result =
+  abbrev pub EndsReading : Tells I O E → ℕ → Kind → Job → List ℕ → Hands I O E → Hands I O E → RunFault → Type 0
+  EndsReading tells turns kind job bytes old new fault =
       (done : List (List ℕ)) × (rest : List ℕ) × (answers : Answer)
       × AreAnswered kind job old.stream bytes done rest answers × HasNoLineFeed rest × MovesBytes 0 old.input new.input
-      × Ends tells turns answers (no_answer answers.stream) old new result
+      × IsCutShort tells turns answers (no_answer answers.stream) old new fault
 
   -- where the turns were over, some of these two answers is still to come
-  abbrev pub IsOwed : Answer → Answer → Hands I O E → Hands I O E → Result Tally RunFault → Type 0
-  IsOwed done next old new (Err Turns) =
+  abbrev pub IsOwed : Answer → Answer → Hands I O E → Hands I O E → RunFault → Type 0
+  IsOwed done next old new Turns =
       new.out.bytes + new.faults.bytes
       < old.out.bytes + old.faults.bytes + length (done.text ++ next.text) + length (done.fault_text ++ next.fault_text)
-  IsOwed done next old new result = ⊤
+  IsOwed done next old new fault = ⊤
 
   -- Some lines are answered, and the next one was being answered.
-  abbrev pub EndsAnswering : Tells I O E → ℕ → Kind → Job → List ℕ → Hands I O E → Hands I O E → Result Tally RunFault → Type 0
-  EndsAnswering tells turns kind job bytes old new result =
+  abbrev pub EndsAnswering : Tells I O E → ℕ → Kind → Job → List ℕ → Hands I O E → Hands I O E → RunFault → Type 0
+  EndsAnswering tells turns kind job bytes old new fault =
       (done : List (List ℕ)) × (line : List ℕ) × (rest : List ℕ) × (answers : Answer) × (next : Answer)
       × AreAnswered kind job old.stream bytes done rest answers × HasNoLineFeed line × IsNext tells new line rest
       × IsAnswer kind job (length done + 1) line answers.stream next
-      × IsOwed answers next old new result × Ends tells turns answers next old new result
+      × IsOwed answers next old new fault × IsCutShort tells turns answers next old new fault
 
-  -- A read fails where more is wanted, a write where an answer or the end of all is given; the turns end in
-  -- either place; memory is wanted for a hash.
-  abbrev pub EndsAfter : Tells I O E → ℕ → Kind → Job → List ℕ → Hands I O E → Hands I O E → Result Tally RunFault → Type 0
-  EndsAfter tells turns kind job bytes old new (Ok tally) = EndsWhole tells turns kind job bytes old new (Ok tally)
-  EndsAfter tells turns kind job bytes old new (Err Read) = EndsReading tells turns kind job bytes old new (Err Read)
-  EndsAfter tells turns kind job bytes old new (Err Write) =
-      EndsAnswering tells turns kind job bytes old new (Err Write) ⊎ EndsWhole tells turns kind job bytes old new (Err Write)
-  EndsAfter tells turns kind job bytes old new (Err Turns) =
-      EndsReading tells turns kind job bytes old new (Err Turns) ⊎ EndsAnswering tells turns kind job bytes old new (Err Turns)
-  EndsAfter tells turns kind job bytes old new (Err OutOfMemory) = EndsAnswering tells turns kind job bytes old new (Err OutOfMemory)
-  EndsAfter tells turns kind job bytes old new (Err (Password fault)) = ⊥
+  -- A read fails where more is wanted, a write where an answer is given, and a flush at the end of all; the turns end
+  -- where more is wanted or an answer is given; memory is wanted for a hash.
+  abbrev pub EndsLinesOf : Tells I O E → ℕ → Kind → Job → List ℕ → Hands I O E → Hands I O E → Result Tally RunFault → Type 0
+  EndsLinesOf tells turns kind job bytes old new (Ok tally) = EndsWhole tells kind job bytes old new (Ok tally)
+  EndsLinesOf tells turns kind job bytes old new (Err Read) = EndsReading tells turns kind job bytes old new Read
+  EndsLinesOf tells turns kind job bytes old new (Err Write) =
+      EndsAnswering tells turns kind job bytes old new Write ⊎ EndsWhole tells kind job bytes old new (Err Write)
+  EndsLinesOf tells turns kind job bytes old new (Err Turns) =
+      EndsReading tells turns kind job bytes old new Turns ⊎ EndsAnswering tells turns kind job bytes old new Turns
+  EndsLinesOf tells turns kind job bytes old new (Err OutOfMemory) = EndsAnswering tells turns kind job bytes old new OutOfMemory
+  EndsLinesOf tells turns kind job bytes old new (Err (Password fault)) = ⊥
 
   -- the run over the lines of an input
   abbrev pub EndsLines : Tells I O E → ℕ → Kind → Job → Hands I O E → Hands I O E → Result Tally RunFault → Type 0
   EndsLines tells turns kind job old new result =
-      (bytes : List ℕ) × Reads tells.remaining old.input new.input bytes × EndsAfter tells turns kind job bytes old new result
+      (bytes : List ℕ) × Reads tells.remaining old.input new.input bytes × EndsLinesOf tells turns kind job bytes old new result

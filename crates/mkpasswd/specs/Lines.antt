@@ -3,15 +3,13 @@ use Rattle.std.specs.Prelude.{◌≡◌, ◌≢◌, ℕ, ◌<◌, ◌⊎◌, Lis
 use Rattle.crypt_core.specs.Passwords.{IsPasswordRefused}
 use Rattle.crypt_core.specs.Refusals.{IsRefused}
 use Rattle.crypt_core.specs.Settings.{BeginsWith}
+use Rattle.mkpasswd.specs.Texts.{colon}
 use Rattle.mkpasswd.specs.declared.line.Kind.{Kind}
 use Rattle.mkpasswd.specs.declared.line.Kind.TheVariants.{Batch, Check}
 use Rattle.mkpasswd.specs.declared.line.LineFault.{LineFault}
 use Rattle.mkpasswd.specs.declared.line.LineFault.TheVariants.{LineTooLong, NoName, NameTooLong, NoPassword, Password, Setting}
 
 -- ---- the parts
-
-abbrev pub colon : ℕ
-colon = 58
 
 -- the text, cut at its first colon
 pub record IsCut (text front back : List ℕ) : Type 0 where

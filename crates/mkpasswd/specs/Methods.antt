@@ -1,9 +1,6 @@
 -- The list of the methods.
-use Rattle.std.specs.Prelude.{ℕ, List, [], ◌∷◌, ◌++◌, codes}
-
--- a text and a line feed (10)
-abbrev pub as_line : List ℕ → List ℕ
-as_line text = text ++ 10 ∷ []
+use Rattle.std.specs.Prelude.{ℕ, List, ◌++◌, codes}
+use Rattle.mkpasswd.specs.Texts.{as_line}
 
 -- a heading and the name of each method, each on a line of its own
 abbrev pub methods_text : List ℕ

@@ -4,9 +4,9 @@ use Rattle.crypt_core.specs.Passwords.{IsPassword, IsPasswordRefused}
 use Rattle.mkpasswd.specs.Answers.{no_answer, password_answer}
 use Rattle.mkpasswd.specs.Devices.{Device, MovesBytes}
 use Rattle.mkpasswd.specs.Input.{first_line, IsDecided, IsUndecided, Obtains, Reads}
-use Rattle.mkpasswd.specs.Runs.{Ends, Hands, Tells}
+use Rattle.mkpasswd.specs.Runs.{Finishes, Hands, IsCutShort, Tells}
 use Rattle.mkpasswd.specs.declared.faults.RunFault.{RunFault}
-use Rattle.mkpasswd.specs.declared.faults.RunFault.TheVariants.{Read, Turns, Password}
+use Rattle.mkpasswd.specs.declared.faults.RunFault.TheVariants.{Read, Write, OutOfMemory, Turns, Password}
 use Rattle.mkpasswd.specs.declared.job.Job.{Job}
 use Rattle.mkpasswd.specs.declared.job.PasswordFrom.{PasswordFrom}
 use Rattle.mkpasswd.specs.declared.job.PasswordFrom.TheVariants.{Word, Input}
@@ -30,33 +30,35 @@ module _ {I O E : Type 0} where
   -- comes the answer
   abbrev pub EndsBy : Tells I O E → ℕ → Job → List ℕ → Hands I O E → Hands I O E → Result Tally RunFault → Type 0
   EndsBy tells turns job password old new (Ok tally) =
-      let answer = password_answer job.maker job.work password old.stream in
-      IsPassword password × Ends tells turns answer answer old new (Ok tally)
+      IsPassword password × Finishes tells (password_answer job password old.stream) old new (Ok tally)
+  EndsBy tells turns job password old new (Err Write) =
+      let answer = password_answer job password old.stream in
+      IsPassword password
+      × (IsCutShort tells turns (no_answer old.stream) answer old new Write ⊎ Finishes tells answer old new (Err Write))
+  EndsBy tells turns job password old new (Err Turns) =
+      let answer = password_answer job password old.stream in
+      IsPassword password × IsCutShort tells turns (no_answer old.stream) answer old new Turns
+      × (new.out.bytes < old.out.bytes + length answer.text)
+  EndsBy tells turns job password old new (Err OutOfMemory) =
+      IsPassword password × IsCutShort tells turns (no_answer old.stream) (password_answer job password old.stream) old new OutOfMemory
   EndsBy tells turns job password old new (Err (Password fault)) =
       let none = no_answer old.stream in
-      IsPasswordRefused password fault × Ends tells turns none none old new (Err (Password fault))
+      IsPasswordRefused password fault × IsCutShort tells turns none none old new (Password fault)
   EndsBy tells turns job password old new (Err Read) = ⊥
-  EndsBy tells turns job password old new (Err Turns) =
-      let answer = password_answer job.maker job.work password old.stream in
-      IsPassword password × Ends tells turns (no_answer old.stream) answer old new (Err Turns)
-      × (new.out.bytes < old.out.bytes + length answer.text)
-  EndsBy tells turns job password old new (Err fault) =
-      let answer = password_answer job.maker job.work password old.stream in
-      IsPassword password × Ends tells turns (no_answer old.stream) answer old new (Err fault)
 
   -- nothing is answered or drawn, since the input or the turns ended before the password was known
-  abbrev pub EndsUndecided : Tells I O E → ℕ → List ℕ → Hands I O E → Hands I O E → Result Tally RunFault → Type 0
-  EndsUndecided tells turns bytes old new result =
+  abbrev pub EndsUndecided : Tells I O E → ℕ → List ℕ → Hands I O E → Hands I O E → RunFault → Type 0
+  EndsUndecided tells turns bytes old new fault =
       let none = no_answer old.stream in
-      IsUndecided bytes × Ends tells turns none none old new result
+      IsUndecided bytes × IsCutShort tells turns none none old new fault
 
   -- the input gave these bytes, whose first line is the password
-  abbrev pub EndsAfter : Tells I O E → ℕ → Job → List ℕ → Hands I O E → Hands I O E → Result Tally RunFault → Type 0
-  EndsAfter tells turns job bytes old new (Err Read) = EndsUndecided tells turns bytes old new (Err Read)
-  EndsAfter tells turns job bytes old new (Err Turns) =
-      (EndsUndecided tells turns bytes old new (Err Turns) × MovesBytes 0 old.input new.input)
+  abbrev pub EndsOneOf : Tells I O E → ℕ → Job → List ℕ → Hands I O E → Hands I O E → Result Tally RunFault → Type 0
+  EndsOneOf tells turns job bytes old new (Err Read) = EndsUndecided tells turns bytes old new Read
+  EndsOneOf tells turns job bytes old new (Err Turns) =
+      (EndsUndecided tells turns bytes old new Turns × MovesBytes 0 old.input new.input)
       ⊎ (IsDecided tells.remaining new.input bytes × EndsBy tells turns job (first_line bytes) old new (Err Turns))
-  EndsAfter tells turns job bytes old new result =
+  EndsOneOf tells turns job bytes old new result =
       IsDecided tells.remaining new.input bytes × EndsBy tells turns job (first_line bytes) old new result
 
   -- a word is the password itself, and the input is left alone
@@ -64,4 +66,4 @@ module _ {I O E : Type 0} where
   EndsOne tells turns job (Word bytes) old new result =
       (new.input ≡ old.input) × EndsBy tells turns job bytes.items old new result
   EndsOne tells turns job Input old new result =
-      (bytes : List ℕ) × Reads tells.remaining old.input new.input bytes × EndsAfter tells turns job bytes old new result
+      (bytes : List ℕ) × Reads tells.remaining old.input new.input bytes × EndsOneOf tells turns job bytes old new result

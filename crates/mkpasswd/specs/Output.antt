@@ -1,39 +1,44 @@
--- What is left in an output that a text was given to, and how the giving ended.
-use Rattle.std.specs.Prelude.{◌≡◌, ◌≢◌, ℕ, ◌+◌, List, [], ◌++◌, length, Option, Result, Ok, Err}
+-- What is left in an output that a text was given to.
+use Rattle.std.specs.Prelude.{◌≡◌, ℕ, ◌+◌, ◌<◌, ◌⊎◌, List, [], ◌++◌, length, Option, Result, Ok, Err}
 use Rattle.std.specs.Io.KnownBytes.{Appends}
-use Rattle.mkpasswd.specs.Devices.{Device, FailsOnce, IsUnfailed}
+use Rattle.mkpasswd.specs.Devices.{Device, FailsOnce, FailsToFlush, IsFlushed, IsUnfailed, IsUnflushed}
 use Rattle.mkpasswd.specs.declared.faults.RunFault.{RunFault}
 use Rattle.mkpasswd.specs.declared.faults.RunFault.TheVariants.{Write, Turns}
 
-module _ {T : Type 0} where
+module _ {T : Type 0} (contents : T → Option (List ℕ)) where
   -- the output has taken these bytes and no others: the device shows them at its end, where it shows
-  -- what it holds, and so many were counted
-  pub record Takes (contents : T → Option (List ℕ)) (old new : Device T) (bytes : List ℕ) : Type 0 where
+  -- what it holds, and so many were counted. No flush was tried
+  pub record Takes (old new : Device T) (bytes : List ℕ) : Type 0 where
     pub shown : Appends (contents old.inner) (contents new.inner) bytes
     pub counted : new.bytes ≡ old.bytes + length bytes
+    pub unflushed : IsUnflushed old new
 
-  -- it has taken a text but for these last bytes, and nothing else
-  abbrev pub TakesAllBut : (T → Option (List ℕ)) → List ℕ → Device T → Device T → List ℕ → Type 0
-  TakesAllBut contents unsent old new text =
-      (sent : List ℕ) × (sent ++ unsent ≡ text) × Takes contents old new sent
+  -- it has taken these bytes and no others, and was flushed then
+  pub record TakesAndFlushes (old new : Device T) (bytes : List ℕ) : Type 0 where
+    pub shown : Appends (contents old.inner) (contents new.inner) bytes
+    pub counted : new.bytes ≡ old.bytes + length bytes
+    pub flushed : IsFlushed old new
 
-  -- it has taken the first bytes of a text, and nothing else
-  abbrev pub TakesPrefix : (T → Option (List ℕ)) → Device T → Device T → List ℕ → Type 0
-  TakesPrefix contents old new text = (unsent : List ℕ) × TakesAllBut contents unsent old new text
+  -- it has taken these bytes and no others, and a flush failed then
+  pub record TakesUnflushed (old new : Device T) (bytes : List ℕ) : Type 0 where
+    pub shown : Appends (contents old.inner) (contents new.inner) bytes
+    pub counted : new.bytes ≡ old.bytes + length bytes
+    pub failed : FailsToFlush old new
 
-  -- it has taken the first bytes of a text, and some are still to come
-  abbrev pub TakesPart : (T → Option (List ℕ)) → Device T → Device T → List ℕ → Type 0
-  TakesPart contents old new text =
-      (unsent : List ℕ) × TakesAllBut contents unsent old new text × (unsent ≢ [])
+  -- it has taken `whole` and then the first bytes of `text`, and nothing else
+  abbrev pub TakesFront : Device T → Device T → List ℕ → List ℕ → Type 0
+  TakesFront old new whole text =
+      (sent : List ℕ) × (unsent : List ℕ) × (sent ++ unsent ≡ text) × Takes old new (whole ++ sent)
 
-  -- a text was given: whole where there is an answer; its first bytes where a call failed; and with some
-  -- still to come where the turns were over
-  abbrev pub Delivers : {A : Type 0} → (T → Option (List ℕ)) → Device T → Device T → List ℕ → Result A RunFault → Type 0
-  Delivers contents old new text (Ok answer) = Takes contents old new text
-  Delivers contents old new text (Err Write) = TakesPrefix contents old new text
-  Delivers contents old new text (Err Turns) = TakesPart contents old new text
-  Delivers contents old new text (Err fault) = ⊥
+  -- A text was given whole, and flushed. Or its first bytes were: one call failed, which was a flush only
+  -- behind the whole text; or the turns were over with some of it still to come.
+  abbrev pub GivesAll : {A : Type 0} → Device T → Device T → List ℕ → Result A RunFault → Type 0
+  GivesAll old new text (Ok answer) = TakesAndFlushes old new text
+  GivesAll old new text (Err Write) = TakesFront old new [] text ⊎ TakesUnflushed old new text
+  GivesAll old new text (Err Turns) = TakesFront old new [] text × (new.bytes < old.bytes + length text)
+  GivesAll old new text (Err fault) = ⊥
 
+module _ {T : Type 0} where
   -- an answer comes where no call failed, and a fault only with its cause: one call failed; or `turns`
   -- calls were made, and none failed
   abbrev pub ShowsOutcome : {A : Type 0} → ℕ → Device T → Device T → Result A RunFault → Type 0

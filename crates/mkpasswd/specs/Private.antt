@@ -1,4 +1,6 @@
 -- What only contracts of private functions cite. A reader of the public clauses needs none of it.
+pub mod Deliveries
+pub mod Desks
 pub mod Entries
 pub mod Fetching
 pub mod Found

@@ -5,7 +5,7 @@ use Rattle.rand_core.specs.Stream.{Stream}
 use Rattle.prims_core.specs.Meter.{Counts}
 use Rattle.mkpasswd.specs.Answers.{Answer, IsRefusedAmong, after_work}
 use Rattle.mkpasswd.specs.Devices.{Device, MovesBytes}
-use Rattle.mkpasswd.specs.Output.{Takes}
+use Rattle.mkpasswd.specs.Output.{Takes, TakesAndFlushes, TakesFront, TakesUnflushed}
 use Rattle.mkpasswd.specs.declared.faults.RunFault.{RunFault}
 use Rattle.mkpasswd.specs.declared.faults.RunFault.TheVariants.{Read, Write, OutOfMemory, Turns, Password}
 use Rattle.mkpasswd.specs.declared.tally.Tally.{Tally}
@@ -41,11 +41,6 @@ pub record HasCountsForRun (counts : Counts) : Type 0 where
   pub table : counts.table ≤ 2 ^ 100
   pub scratch : counts.scratch ≤ 2 ^ 100
 
--- an output has taken `whole` and then the first bytes of `text`, and nothing else
-abbrev pub TakesFront : {T : Type 0} → (T → Option (List ℕ)) → Device T → Device T → List ℕ → List ℕ → Type 0
-TakesFront contents old new whole text =
-    (sent : List ℕ) × (unsent : List ℕ) × (sent ++ unsent ≡ text) × Takes contents old new (whole ++ sent)
-
 module _ {I O E : Type 0} where
   -- ---- the calls of the devices
 
@@ -73,7 +68,7 @@ module _ {I O E : Type 0} where
 
   -- ---- what the answers leave
 
-  -- the outputs have taken an answer whole, and nothing else
+  -- the outputs have taken an answer whole, and nothing else, and no flush was tried
   pub record TakesAnswer (tells : Tells I O E) (answer : Answer) (old new : Hands I O E) : Type 0 where
     pub text : Takes tells.contents old.out new.out answer.text
     pub fault_text : Takes tells.fault_contents old.faults new.faults answer.fault_text
@@ -105,23 +100,46 @@ module _ {I O E : Type 0} where
 
   -- ---- the end of a run
 
-  -- A tally comes where no call failed and all is given. A fault comes with its cause: one call of the input
-  -- or of an output failed, `turns` calls were made, or memory for the next hash was refused. No byte of the
-  -- next answer is written before its hash is there.
-  abbrev pub Ends : Tells I O E → ℕ → Answer → Answer → Hands I O E → Hands I O E → Result Tally RunFault → Type 0
-  Ends tells turns done next old new (Ok tally) =
-      (tally ≡ done.tally) × Fails 0 0 0 old new × TakesAnswer tells done old new × IsAfter done old new
-  Ends tells turns done next old new (Err Read) =
+  -- both outputs were flushed when they had taken all answers
+  pub record FlushesBoth (tells : Tells I O E) (answers : Answer) (old new : Hands I O E) : Type 0 where
+    pub text : TakesAndFlushes tells.contents old.out new.out answers.text
+    pub fault_text : TakesAndFlushes tells.fault_contents old.faults new.faults answers.fault_text
+
+  -- or the flush of the output failed, and the fault output was left
+  pub record FlushesNone (tells : Tells I O E) (answers : Answer) (old new : Hands I O E) : Type 0 where
+    pub text : TakesUnflushed tells.contents old.out new.out answers.text
+    pub fault_text : Takes tells.fault_contents old.faults new.faults answers.fault_text
+
+  -- or only the flush of the fault output failed, which is the second
+  pub record FlushesFirst (tells : Tells I O E) (answers : Answer) (old new : Hands I O E) : Type 0 where
+    pub text : TakesAndFlushes tells.contents old.out new.out answers.text
+    pub fault_text : TakesUnflushed tells.fault_contents old.faults new.faults answers.fault_text
+
+  -- A run has given all its answers. A tally comes where no call failed, and both outputs are flushed; `Write`
+  -- where one of these two flushes failed.
+  abbrev pub Finishes : Tells I O E → Answer → Hands I O E → Hands I O E → Result Tally RunFault → Type 0
+  Finishes tells answers old new (Ok tally) =
+      (tally ≡ answers.tally) × Fails 0 0 0 old new × FlushesBoth tells answers old new × IsAfter answers old new
+  Finishes tells answers old new (Err Write) =
+      ((Fails 0 1 0 old new × FlushesNone tells answers old new) ⊎ (Fails 0 0 1 old new × FlushesFirst tells answers old new))
+      × IsAfter answers old new
+  Finishes tells answers old new (Err fault) = ⊥
+
+  -- A run was cut short before that, and flushed nothing. A fault comes with its cause: one call of the input or
+  -- of an output failed, `turns` calls were made, or memory for the next hash was refused. No byte of the next
+  -- answer is written before its hash is there.
+  abbrev pub IsCutShort : Tells I O E → ℕ → Answer → Answer → Hands I O E → Hands I O E → RunFault → Type 0
+  IsCutShort tells turns done next old new Read =
       Fails 1 0 0 old new × TakesAnswer tells done old new × IsAfter done old new
-  Ends tells turns done next old new (Err Write) =
+  IsCutShort tells turns done next old new Write =
       ((Fails 0 1 0 old new × TakesTextFront tells done next old new)
       ⊎ (Fails 0 0 1 old new × TakesFaultFront tells done next old new))
       × IsAfterBoth done next old new
-  Ends tells turns done next old new (Err Turns) =
+  IsCutShort tells turns done next old new Turns =
       Fails 0 0 0 old new × (calls_of new ≡ calls_of old + turns) × TakesAnswerFront tells done next old new
       × IsAfterBoth done next old new
-  Ends tells turns done next old new (Err OutOfMemory) =
+  IsCutShort tells turns done next old new OutOfMemory =
       Fails 0 0 0 old new × TakesAnswer tells done old new × (new.stream ≡ next.stream)
       × IsRefusedAmong (after_work old.counts done.hashings) next.hashings new.counts
-  Ends tells turns done next old new (Err (Password fault)) =
+  IsCutShort tells turns done next old new (Password fault) =
       Fails 0 0 0 old new × TakesAnswer tells done old new × IsAfter done old new

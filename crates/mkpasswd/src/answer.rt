@@ -4,11 +4,13 @@ ghost use Rattle.arrayvec.specs.ArrayVec.{array_vec_len};
 ghost use Rattle.crypt_core.specs.Crypt.{IsRefusedBy};
 ghost use Rattle.crypt_core.specs.Work.{raised_by, work, HasRoom};
 ghost use Rattle.rand_core.specs.Stream.{Stream};
-ghost use Rattle.mkpasswd.specs.Answers.{Answer, count_text, counts_text, hash_text};
-ghost use Rattle.mkpasswd.specs.LineAnswers.{IsAnswer, hashed_answer, refused_answer};
-ghost use Rattle.mkpasswd.specs.Lines.{colon};
+ghost use Rattle.mkpasswd.specs.Answers.{Answer, count_text, counts_text, hash_text, hashed_answer};
+ghost use Rattle.mkpasswd.specs.LineAnswers.{IsAnswer, front_of, refused_answer};
 ghost use Rattle.mkpasswd.specs.Private.Made.{Checks, IsRaisedBelow, Judges, Makes, Says, verdict_outcome, verdict_word};
+ghost use Rattle.mkpasswd.specs.Private.Rooms.{work_limit};
+ghost use Rattle.mkpasswd.specs.Texts.{as_line};
 
+use crate::desk::Task;
 use crate::job::Job;
 use crate::line::{Field, Kind, LineFault, entry_of};
 use arrayvec::ArrayVec;
@@ -50,18 +52,18 @@ pub(crate) struct LineAnswer {
 /// `OutOfMemory` comes as `hash` has it.
 pub(crate) fn answer_password(
     alloc: Global,
+    job: &Job,
     password: &Password,
     setting: &Setting,
-    is_counted: bool,
     meter: &mut Meter,
 ) -> Result<Text, HashFault>
     requires { HasRoom meter.old }
-    ensures line { IfOk result (λ line. line.items ≡ hash_text is_counted password.now setting.now ++ 10 ∷ []) }
+    ensures line { IfOk result (λ line. line.items ≡ as_line (hash_text job.now password.now setting.now)) }
     ensures count { OnOk result (meter.new ≡ raised_by meter.old (work password.now setting.now)) }
     ensures refused { OnErr result (IsRefusedBy meter.old setting.now.scheme meter.new) }
 {
     let mut line = Text::new();
-    append_hash(&mut line, alloc, password, setting, is_counted, meter)?;
+    append_hash(&mut line, alloc, job, password, setting, meter)?;
     line.push(b'\n');
     Ok(line)
 }
@@ -72,26 +74,25 @@ pub(crate) fn answer_password(
 /// Three words are drawn where a salt is made for a hash, and none otherwise. A line that is refused is not
 /// hashed. `OutOfMemory` comes as `hash` has it.
 pub(crate) fn answer_line<R: Rng>(
-    alloc: Global,
-    kind: Kind,
-    job: &Job,
+    task: Task<'_>,
     number: u64,
     line: &[u8],
     rng: &mut R,
     meter: &mut Meter,
 ) -> Result<LineAnswer, HashFault>
     requires { HasRoom meter.old }
-    ensures answer { (answer : Answer) × IsAnswer kind job.now number line.now (R.stream rng.old) answer
+    ensures answer { (answer : Answer) × IsAnswer task.kind task.job.now number line.now (R.stream rng.old) answer
         × Makes answer meter.old meter.new result × (R.stream rng.new ≡ answer.stream) }
-    ensures small { IsRaisedBelow (2 ^ 41) meter.old meter.new }
+    ensures small { IsRaisedBelow work_limit meter.old meter.new }
 {
+    let Task { alloc, kind, job } = task;
     let entry = match entry_of(kind, line) {
         Ok(entry) => entry,
         Err(fault) => return Ok(refusal(number, fault)),
     };
     match entry.field {
-        None => hash_answer(alloc, job, entry.name, &entry.password, rng, meter),
-        Some(field) => match check_answer(alloc, job, entry.name, field, &entry.password, meter) {
+        None => hashed(alloc, job, entry.name, &entry.password, rng, meter),
+        Some(field) => match checked(alloc, job, entry.name, field, &entry.password, meter) {
             Ok(answer) => Ok(answer),
             Err(FitFault::Setting(fault)) => Ok(refusal(number, LineFault::Setting(fault))),
             Err(FitFault::OutOfMemory) => Err(HashFault::OutOfMemory),
@@ -116,7 +117,7 @@ pub(crate) fn refusal(number: u64, fault: LineFault) -> LineAnswer
 }
 
 // The hash of a line's password, behind the name.
-fn hash_answer<R: Rng>(
+fn hashed<R: Rng>(
     alloc: Global,
     job: &Job,
     name: &[u8],
@@ -126,13 +127,13 @@ fn hash_answer<R: Rng>(
 ) -> Result<LineAnswer, HashFault>
     requires room { HasRoom meter.old }
     requires short { length name.now ≤ 64 }
-    ensures answer { Makes (hashed_answer job.now name.now password.now (R.stream rng.old)) meter.old meter.new result }
-    ensures stream { R.stream rng.new ≡ (hashed_answer job.now name.now password.now (R.stream rng.old)).stream }
-    ensures small { IsRaisedBelow (2 ^ 41) meter.old meter.new }
+    ensures answer { Makes (hashed_answer job.now (front_of name.now) password.now (R.stream rng.old)) meter.old meter.new result }
+    ensures stream { R.stream rng.new ≡ (hashed_answer job.now (front_of name.now) password.now (R.stream rng.old)).stream }
+    ensures small { IsRaisedBelow work_limit meter.old meter.new }
 {
     let setting = job.maker.next_setting(rng);
     let mut text = text_behind(name);
-    append_hash(&mut text, alloc, password, &setting, job.work, meter)?;
+    append_hash(&mut text, alloc, job, password, &setting, meter)?;
     text.push(b'\n');
     Ok(LineAnswer {
         outcome: Outcome::Answered,
@@ -141,7 +142,7 @@ fn hash_answer<R: Rng>(
 }
 
 // What is told of a line's password, behind the name.
-fn check_answer(
+fn checked(
     alloc: Global,
     job: &Job,
     name: &[u8],
@@ -151,8 +152,8 @@ fn check_answer(
 ) -> Result<LineAnswer, FitFault>
     requires room { HasRoom meter.old }
     requires short { length name.now ≤ 64 }
-    ensures checks { Checks job.now.work name.now field.now password.now meter.old meter.new result }
-    ensures small { IsRaisedBelow (2 ^ 41) meter.old meter.new }
+    ensures checks { Checks job.now name.now field.now password.now meter.old meter.new result }
+    ensures small { IsRaisedBelow work_limit meter.old meter.new }
 {
     let before = Shown::by(meter);
     let verdict = verdict_of(alloc, field, password, meter)?;
@@ -208,7 +209,7 @@ fn verdict_of(
 ) -> Result<Verdict, FitFault>
     requires { HasRoom meter.old }
     ensures judges { Judges field.now password.now meter.old meter.new result }
-    ensures small { IsRaisedBelow (2 ^ 41) meter.old meter.new }
+    ensures small { IsRaisedBelow work_limit meter.old meter.new }
 {
     match Field::of(field) {
         Field::Empty => Ok(Verdict::NoneStored),
@@ -226,7 +227,7 @@ fn verdict_of(
 // A name and a colon.
 fn text_behind(name: &[u8]) -> Text
     requires { length name.now ≤ 64 }
-    ensures text { result.items ≡ name.now ++ colon ∷ [] }
+    ensures text { result.items ≡ front_of name.now }
     ensures short { array_vec_len result ≤ 65 }
 {
     let mut text = Text::new();
@@ -239,23 +240,23 @@ fn text_behind(name: &[u8]) -> Text
 fn append_hash(
     text: &mut Text,
     alloc: Global,
+    job: &Job,
     password: &Password,
     setting: &Setting,
-    is_counted: bool,
     meter: &mut Meter,
 ) -> Result<(), HashFault>
     requires room { HasRoom meter.old }
     requires short { array_vec_len text.old ≤ 65 }
-    ensures text { OnOk result (text.new.items ≡ text.old.items ++ hash_text is_counted password.now setting.now) }
+    ensures text { OnOk result (text.new.items ≡ text.old.items ++ hash_text job.now password.now setting.now) }
     ensures fits { OnOk result (array_vec_len text.new ≤ 373) }
     ensures count { OnOk result (meter.new ≡ raised_by meter.old (work password.now setting.now)) }
     ensures refused { OnErr result (IsRefusedBy meter.old setting.now.scheme meter.new) }
-    ensures small { IsRaisedBelow (2 ^ 41) meter.old meter.new }
+    ensures small { IsRaisedBelow work_limit meter.old meter.new }
 {
     let before = Shown::by(meter);
     let hashed = hash(alloc, password, setting, meter)?;
     append(text, hashed.text());
-    if is_counted {
+    if job.work {
         append_counts(text, &before, &Shown::by(meter));
     }
     Ok(())

@@ -3,6 +3,7 @@
 #![tactic(auto)]
 
 mod answer;
+mod desk;
 pub mod device;
 pub mod faults;
 mod fetch;

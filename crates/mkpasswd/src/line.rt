@@ -2,7 +2,8 @@
 //! wrong with it.
 ghost use Rattle.std.specs.Prelude.{◌≡◌, Some, IfSome, IfNone, MatchOption, IfOk, IfErr, Contains};
 ghost use Rattle.crypt_core.specs.declared.setting.fault.SettingFault.{SettingFault as SettingRefusal};
-ghost use Rattle.mkpasswd.specs.Lines.{IsCut, IsLineRefused, IsSound, colon};
+ghost use Rattle.mkpasswd.specs.Lines.{IsCut, IsLineRefused, IsSound};
+ghost use Rattle.mkpasswd.specs.Texts.{colon};
 ghost use Rattle.mkpasswd.specs.Makers.{bytes_of};
 ghost use Rattle.mkpasswd.specs.Private.Entries.{HasBehind, IsBeforeField, IsEntry, IsField, IsFieldRefused, IsGoodField, IsNamed, LacksParts, parts_of};
 ghost use Rattle.mkpasswd.specs.declared.line.Kind.{Kind as LineKind};

@@ -1,32 +1,35 @@
 //! The runs over the lines of an input. Each line is answered once its end was read, before more is read, so
 //! that a run holds one line and one piece of its input, whatever that is.
-ghost use Rattle.std.specs.Prelude.{◌≡◌, ℕ, ◌+◌, ◌-◌, ◌^◌, ◌<◌, ◌≤◌, [], List, OnOk};
+ghost use Rattle.std.specs.Prelude.{◌≡◌, ℕ, ◌^◌, ◌<◌, ◌≤◌, [], List, OnOk};
 ghost use Rattle.mkpasswd.specs.Devices.{HasRoomForRun, MovesBytes};
 ghost use Rattle.mkpasswd.specs.LineRuns.{EndsLines};
-ghost use Rattle.mkpasswd.specs.Private.LineEnds.{AnswersLast, Flushes, GoesOn, GoesToEnd, HasRoomToRead, IsAtInput, IsKept, spare_fetch};
-ghost use Rattle.mkpasswd.specs.Private.Progress.{HasRoomIn, IsAt, Outs, StandsFor, outs};
-ghost use Rattle.mkpasswd.specs.Runs.{hands, tells, HasCountsForRun, Hands, IsWithinTurns};
+ghost use Rattle.mkpasswd.specs.Private.Desks.{IsSameDesk, seen, with_input};
+ghost use Rattle.mkpasswd.specs.Private.LineEnds.{GoesOn, GoesToEnd, HasRoomToRead, IsAtInput, TakesTurnsOf, spare_fetch};
+ghost use Rattle.mkpasswd.specs.Private.Progress.{StandsFor};
+ghost use Rattle.mkpasswd.specs.Private.Rooms.{turns_limit};
+ghost use Rattle.mkpasswd.specs.Runs.{Hands, HasCountsForRun, IsWithinTurns, hands, tells};
 ghost use Rattle.mkpasswd.specs.Tallies.{no_line};
 ghost use Rattle.mkpasswd.specs.declared.line.Kind.TheVariants.{Batch, Check};
 
 mod held;
 mod progress;
 
+use crate::desk::{Desk, Task};
 use crate::device::{Input, Output};
 use crate::faults::RunFault;
 use crate::fetch::fetch_piece;
 use crate::job::Job;
 use crate::line::Kind;
-use crate::send::finish;
+use crate::send::finish_both;
 use crate::tally::Tally;
 use prims_core::meter::Meter;
-use progress::{Progress, answer_next, answer_piece};
+use progress::Progress;
 use rand_core::Rng;
 use std::alloc::Global;
 use std::io::{Read, Write};
 
 /// How many bytes are fetched at once.
-const PIECE: usize = 512;
+const PIECE_SIZE: usize = 512;
 
 /// Hashes the password of each line `name:password` of the input by the job's setting, and gives
 /// `name:HASH` to the output, or what is wrong with the line to the fault output.
@@ -70,17 +73,18 @@ pub fn run_batch<I: Read, O: Write, E: Write, R: Rng>(
         (hands input.old out.old faults.old (R.stream rng.old) meter.old)
         (hands input.new out.new faults.new (R.stream rng.new) meter.new) }
 {
-    run_lines(
+    let task = Task {
         alloc,
-        Kind::Batch,
+        kind: Kind::Batch,
         job,
-        input,
+    };
+    let mut desk = Desk {
         out,
         faults,
         rng,
         meter,
-        turns,
-    )
+    };
+    run_lines(task, input, &mut desk, turns)
 }
 
 /// Checks the password of each line `name:field:password` of the input against its field, and gives `name:ok`,
@@ -110,177 +114,94 @@ pub fn run_check<I: Read, O: Write, E: Write, R: Rng>(
         (hands input.old out.old faults.old (R.stream rng.old) meter.old)
         (hands input.new out.new faults.new (R.stream rng.new) meter.new) }
 {
-    run_lines(
+    let task = Task {
         alloc,
-        Kind::Check,
+        kind: Kind::Check,
         job,
-        input,
+    };
+    let mut desk = Desk {
         out,
         faults,
         rng,
         meter,
-        turns,
-    )
+    };
+    run_lines(task, input, &mut desk, turns)
 }
 
 // The run over lines of either kind.
 fn run_lines<I: Read, O: Write, E: Write, R: Rng>(
-    alloc: Global,
-    kind: Kind,
-    job: &Job,
+    task: Task<'_>,
     input: &mut Input<I>,
-    out: &mut Output<O>,
-    faults: &mut Output<E>,
-    rng: &mut R,
-    meter: &mut Meter,
+    desk: &mut Desk<'_, O, E, R>,
     turns: u64,
 ) -> Result<Tally, RunFault>
-    requires turns { turns ≤ 2 ^ 40 }
-    requires devices { HasRoomForRun input.old × HasRoomForRun out.old × HasRoomForRun faults.old }
-    requires counts { HasCountsForRun meter.old }
-    ensures ends { EndsLines (tells I.remaining O.contents E.contents) turns kind job.now
-        (hands input.old out.old faults.old (R.stream rng.old) meter.old)
-        (hands input.new out.new faults.new (R.stream rng.new) meter.new) result }
+    requires turns { turns ≤ turns_limit }
+    requires devices { HasRoomForRun input.old × HasRoomForRun desk.old.out.now × HasRoomForRun desk.old.faults.now }
+    requires counts { HasCountsForRun desk.old.meter.now }
+    ensures ends { EndsLines (tells I.remaining O.contents E.contents) turns task.kind task.job.now
+        (with_input input.old (seen R.stream desk.old)) (with_input input.new (seen R.stream desk.new)) result }
     ensures within_turns { IsWithinTurns turns
-        (hands input.old out.old faults.old (R.stream rng.old) meter.old)
-        (hands input.new out.new faults.new (R.stream rng.new) meter.new) }
+        (with_input input.old (seen R.stream desk.old)) (with_input input.new (seen R.stream desk.new)) }
+    ensures same { IsSameDesk desk.old desk.new }
 {
     let mut progress = Progress::new(turns);
-    answer_all(
-        alloc,
-        kind,
-        job,
-        input,
-        &mut progress,
-        out,
-        faults,
-        rng,
-        meter,
-    )?;
-    answer_last(alloc, kind, job, &mut progress, out, faults, rng, meter)?;
-    finish_both(out, faults)?;
+    read_all(task, input, desk, &mut progress)?;
+    progress.end(task, desk)?;
+    finish_both(desk.out, desk.faults)?;
     Ok(progress.tally)
 }
 
 // Reads the whole input, and answers each line that has a line feed.
-fn answer_all<I: Read, O: Write, E: Write, R: Rng>(
-    alloc: Global,
-    kind: Kind,
-    job: &Job,
+fn read_all<I: Read, O: Write, E: Write, R: Rng>(
+    task: Task<'_>,
     input: &mut Input<I>,
+    desk: &mut Desk<'_, O, E, R>,
     progress: &mut Progress,
-    out: &mut Output<O>,
-    faults: &mut Output<E>,
-    rng: &mut R,
-    meter: &mut Meter,
 ) -> Result<(), RunFault>
     requires none_held { StandsFor progress.old.held [] }
     requires no_line { progress.old.tally ≡ no_line }
-    requires room { HasRoomToRead progress.old
-        (hands input.old out.old faults.old (R.stream rng.old) meter.old) }
-    ensures goes { GoesToEnd (tells I.remaining O.contents E.contents) progress.old.left kind job.now
-        (hands input.old out.old faults.old (R.stream rng.old) meter.old)
-        (hands input.new out.new faults.new (R.stream rng.new) meter.new) progress.new result }
-    ensures room { OnOk result (HasRoomToRead progress.new
-        (hands input.new out.new faults.new (R.stream rng.new) meter.new)) }
-    ensures turns { input.new.calls + out.new.calls + faults.new.calls + progress.new.left
-        ≡ input.old.calls + out.old.calls + faults.old.calls + progress.old.left }
-    ensures moves { MovesBytes 1 input.old input.new × MovesBytes 0 out.old out.new
-        × MovesBytes 0 faults.old faults.new }
+    requires room { HasRoomToRead progress.old (with_input input.old (seen R.stream desk.old)) }
+    ensures goes { GoesToEnd (tells I.remaining O.contents E.contents) progress.old.left task.kind task.job.now
+        (with_input input.old (seen R.stream desk.old)) (with_input input.new (seen R.stream desk.new)) progress.new result }
+    ensures room { OnOk result (HasRoomToRead progress.new (with_input input.new (seen R.stream desk.new))) }
+    ensures turns { TakesTurnsOf 1 progress.old.left progress.new.left
+        (with_input input.old (seen R.stream desk.old)) (with_input input.new (seen R.stream desk.new)) }
+    ensures same { IsSameDesk desk.old desk.new }
 {
-    'fetches: while answer_fetched(alloc, kind, job, input, progress, out, faults, rng, meter)? {}
+    let mut has_more = true;
+    'fetches: while has_more {
+        has_more = read_piece(task, input, desk, progress)?;
+    }
     Ok(())
 }
 
 // Makes one fetch, and answers each line that ends in what it gives. Answers whether it gave any.
-fn answer_fetched<I: Read, O: Write, E: Write, R: Rng>(
-    alloc: Global,
-    kind: Kind,
-    job: &Job,
+fn read_piece<I: Read, O: Write, E: Write, R: Rng>(
+    task: Task<'_>,
     input: &mut Input<I>,
+    desk: &mut Desk<'_, O, E, R>,
     progress: &mut Progress,
-    out: &mut Output<O>,
-    faults: &mut Output<E>,
-    rng: &mut R,
-    meter: &mut Meter,
 ) -> Result<bool, RunFault>
-    requires room { HasRoomToRead progress.old
-        (hands input.old out.old faults.old (R.stream rng.old) meter.old) }
+    requires room { HasRoomToRead progress.old (with_input input.old (seen R.stream desk.old)) }
     ensures goes { (start : Hands I O E) → (turns : ℕ) → (bytes : List ℕ)
-        → IsAtInput (tells I.remaining O.contents E.contents) turns kind job.now start
-        (hands input.old out.old faults.old (R.stream rng.old) meter.old) bytes progress.old
+        → IsAtInput (tells I.remaining O.contents E.contents) turns task.kind task.job.now start
+        (with_input input.old (seen R.stream desk.old)) bytes progress.old
         → MovesBytes 0 start.input input.old
-        → GoesOn (tells I.remaining O.contents E.contents) turns kind job.now start
-        (hands input.new out.new faults.new (R.stream rng.new) meter.new) progress.new result }
-    ensures room { OnOk result (HasRoomToRead progress.new
-        (hands input.new out.new faults.new (R.stream rng.new) meter.new)) }
+        → GoesOn (tells I.remaining O.contents E.contents) turns task.kind task.job.now start
+        (with_input input.new (seen R.stream desk.new)) progress.new result }
+    ensures room { OnOk result (HasRoomToRead progress.new (with_input input.new (seen R.stream desk.new))) }
     ensures fewer { OnOk result (progress.new.left < progress.old.left) }
-    ensures turns { input.new.calls + out.new.calls + faults.new.calls + progress.new.left
-        ≡ input.old.calls + out.old.calls + faults.old.calls + progress.old.left }
-    ensures moves { MovesBytes (spare_fetch result) input.old input.new × MovesBytes 0 out.old out.new
-        × MovesBytes 0 faults.old faults.new }
+    ensures turns { TakesTurnsOf (spare_fetch result) progress.old.left progress.new.left
+        (with_input input.old (seen R.stream desk.old)) (with_input input.new (seen R.stream desk.new)) }
+    ensures same { IsSameDesk desk.old desk.new }
 {
-    let mut piece = [0; PIECE];
+    let mut piece = [0; PIECE_SIZE];
     let count = fetch_piece(input, &mut piece, &mut progress.left)?;
     if count == 0 {
         return Ok(false);
     }
-    answer_piece(
-        alloc,
-        kind,
-        job,
-        &piece[..count],
-        progress,
-        out,
-        faults,
-        rng,
-        meter,
-    )?;
+    progress.look_through(task, &piece[..count], desk)?;
     Ok(true)
-}
-
-// Answers the last line of the input where it has no line feed.
-fn answer_last<O: Write, E: Write, R: Rng>(
-    alloc: Global,
-    kind: Kind,
-    job: &Job,
-    progress: &mut Progress,
-    out: &mut Output<O>,
-    faults: &mut Output<E>,
-    rng: &mut R,
-    meter: &mut Meter,
-) -> Result<(), RunFault>
-    requires turns { progress.old.left ≤ 2 ^ 40 }
-    requires calls { out.old.calls + faults.old.calls + progress.old.left ≤ 2 ^ 63 + 2 ^ 40 }
-    requires lines { progress.old.tally.lines < 2 ^ 50 }
-    requires room { HasRoomIn progress.old.tally (outs out.old faults.old (R.stream rng.old) meter.old) }
-    ensures answers { (start : Outs O E) → (bytes : List ℕ)
-        → IsAt O.contents E.contents kind job.now start (outs out.old faults.old (R.stream rng.old) meter.old) bytes progress.old
-        → AnswersLast O.contents E.contents kind job.now start (outs out.new faults.new (R.stream rng.new) meter.new)
-        bytes progress.new result }
-    ensures room { OnOk result (HasRoomIn progress.new.tally (outs out.new faults.new (R.stream rng.new) meter.new)) }
-    ensures turns { out.new.calls + faults.new.calls + progress.new.left
-        ≡ out.old.calls + faults.old.calls + progress.old.left }
-    ensures moves { MovesBytes 0 out.old out.new × MovesBytes 0 faults.old faults.new }
-{
-    if progress.held.is_empty() {
-        return Ok(());
-    }
-    answer_next(alloc, kind, job, progress, out, faults, rng, meter)
-}
-
-// Flushes both outputs.
-fn finish_both<O: Write, E: Write>(
-    out: &mut Output<O>,
-    faults: &mut Output<E>,
-) -> Result<(), RunFault>
-    requires { (out.old.failures < 2 ^ 64 - 1) × (faults.old.failures < 2 ^ 64 - 1) }
-    ensures flushes { Flushes out.old faults.old out.new faults.new result }
-    ensures keeps { IsKept O.contents out.old out.new × IsKept E.contents faults.old faults.new }
-    ensures moves { MovesBytes 0 out.old out.new × MovesBytes 0 faults.old faults.new }
-{
-    finish(out)?;
-    finish(faults)
 }
 
 #[cfg(test)]

@@ -2,7 +2,7 @@
 ghost use Rattle.std.specs.Prelude.{◌≡◌, ◌+◌, ◌^◌, ◌≤◌, IfOk};
 ghost use Rattle.mkpasswd.specs.Devices.{HasRoomForRun, MovesBytes};
 ghost use Rattle.mkpasswd.specs.Methods.{methods_text};
-ghost use Rattle.mkpasswd.specs.Output.{Delivers, ShowsOutcome};
+ghost use Rattle.mkpasswd.specs.Output.{GivesAll, ShowsOutcome};
 ghost use Rattle.mkpasswd.specs.Tallies.{no_line};
 
 use crate::device::Output;
@@ -17,12 +17,13 @@ const METHODS: &str = "Available methods:\nmd5crypt\nsha256crypt\nsha512crypt\ns
 /// them. The flush at the end is not one of them.
 ///
 /// `Write` is answered after the first call of the output that fails, and `Turns` where one more `give`
-/// than `turns` is needed; the output has then taken the first bytes of the list.
+/// than `turns` is needed; the output has then taken the first bytes of the list, or all of it where the
+/// flush is what failed.
 pub fn run_methods<O: Write>(out: &mut Output<O>, turns: u64) -> Result<Tally, RunFault>
     requires turns { turns ≤ 2 ^ 40 }
     requires room { HasRoomForRun out.old }
     ensures tally { IfOk result (λ tally. tally ≡ no_line) }
-    ensures delivers { Delivers O.contents out.old out.new methods_text result }
+    ensures gives { GivesAll O.contents out.old out.new methods_text result }
     ensures outcome { ShowsOutcome turns out.old out.new result }
     ensures turns { out.new.calls ≤ out.old.calls + turns }
     ensures moves { MovesBytes 0 out.old out.new }
@@ -30,11 +31,7 @@ pub fn run_methods<O: Write>(out: &mut Output<O>, turns: u64) -> Result<Tally, R
     let mut left = turns;
     send(out, METHODS.as_bytes(), &mut left)?;
     finish(out)?;
-    Ok(Tally {
-        lines: 0,
-        refused: 0,
-        misfits: 0,
-    })
+    Ok(Tally::new())
 }
 
 #[cfg(test)]

@@ -11,7 +11,7 @@ use crate::answer::answer_password;
 use crate::device::{Input, Output};
 use crate::faults::RunFault;
 use crate::job::{Job, PasswordFrom};
-use crate::send::{finish, send};
+use crate::send::{finish_both, send};
 use crate::tally::Tally;
 use crypt_core::password::Password;
 use password::read_password;
@@ -58,10 +58,9 @@ pub fn run_one<I: Read, O: Write, E: Write, R: Rng>(
     let mut left = turns;
     let password = obtain(from, input, &mut left)?;
     let setting = job.maker.next_setting(rng);
-    let line = answer_password(alloc, &password, &setting, job.work, meter)?;
+    let line = answer_password(alloc, job, &password, &setting, meter)?;
     send(out, line.as_slice(), &mut left)?;
-    finish(out)?;
-    finish(faults)?;
+    finish_both(out, faults)?;
     Ok(Tally {
         lines: 1,
         refused: 0,

@@ -1,9 +1,9 @@
-//! What every run does with an output: it gives whole texts, by turns, and flushes it at the end.
-ghost use Rattle.std.specs.Prelude.{◌≡◌, ◌+◌, ◌-◌, ◌^◌, ◌<◌, ◌≤◌, length, Err, IfErr, OnOk, OnErr};
-ghost use Rattle.std.specs.Io.KnownBytes.{Keeps};
-ghost use Rattle.mkpasswd.specs.Devices.{MovesBytes, FailsOnce, IsUnfailed};
-ghost use Rattle.mkpasswd.specs.Private.Rooms.{HasRoomInRun};
-ghost use Rattle.mkpasswd.specs.Output.{Delivers, ShowsOutcome};
+//! What every run does with its outputs: it gives whole texts, by turns, and flushes them at the end.
+ghost use Rattle.std.specs.Prelude.{◌≡◌, ◌+◌, ◌-◌, ◌^◌, ◌<◌, ◌≤◌, length};
+ghost use Rattle.mkpasswd.specs.Devices.{MovesBytes};
+ghost use Rattle.mkpasswd.specs.Output.{ShowsOutcome};
+ghost use Rattle.mkpasswd.specs.Private.Deliveries.{Delivers, FinishesBoth, FinishesOutput};
+ghost use Rattle.mkpasswd.specs.Private.Rooms.{HasRoomInRun, turns_limit};
 
 use crate::device::Output;
 use crate::faults::RunFault;
@@ -19,7 +19,7 @@ pub(crate) fn send<O: Write>(
     text: &[u8],
     left: &mut u64,
 ) -> Result<(), RunFault>
-    requires turns { left.old ≤ 2 ^ 40 }
+    requires turns { left.old ≤ turns_limit }
     requires room { HasRoomInRun out.old }
     requires short { length text.now ≤ 2048 }
     ensures delivers { Delivers O.contents out.old out.new text.now result }
@@ -28,7 +28,6 @@ pub(crate) fn send<O: Write>(
     ensures fewer { left.new ≤ left.old }
     ensures moves { MovesBytes 0 out.old out.new }
     ensures few_bytes { out.new.bytes ≤ out.old.bytes + length text.now }
-    ensures owed { result ≡ Err RunFault.Turns → out.new.bytes < out.old.bytes + length text.now }
 {
     let mut rest = text;
     'pieces: while !rest.is_empty() {
@@ -44,14 +43,24 @@ pub(crate) fn send<O: Write>(
     Ok(())
 }
 
-/// Flushes the output, which takes no byte and no turn. `Write` is answered where that fails.
+/// Flushes both outputs at the end of a run, which takes no byte and no turn. `Write` is answered after the first
+/// flush that fails.
+pub(crate) fn finish_both<O: Write, E: Write>(
+    out: &mut Output<O>,
+    faults: &mut Output<E>,
+) -> Result<(), RunFault>
+    requires out_room { (out.old.failures < 2 ^ 64 - 1) × (out.old.flushes < 2 ^ 64 - 1) }
+    requires faults_room { (faults.old.failures < 2 ^ 64 - 1) × (faults.old.flushes < 2 ^ 64 - 1) }
+    ensures finishes { FinishesBoth O.contents E.contents out.old faults.old out.new faults.new result }
+{
+    finish(out)?;
+    finish(faults)
+}
+
+/// Flushes one output.
 pub(crate) fn finish<O: Write>(out: &mut Output<O>) -> Result<(), RunFault>
-    requires { out.old.failures < 2 ^ 64 - 1 }
-    ensures keeps { Keeps (O.contents out.old.inner) (O.contents out.new.inner) }
-    ensures counts { (out.new.calls ≡ out.old.calls) × (out.new.bytes ≡ out.old.bytes) }
-    ensures unfailed { OnOk result (IsUnfailed out.old out.new) }
-    ensures write { OnErr result (FailsOnce out.old out.new) }
-    ensures only { IfErr result (λ fault. fault ≡ RunFault.Write) }
+    requires room { (out.old.failures < 2 ^ 64 - 1) × (out.old.flushes < 2 ^ 64 - 1) }
+    ensures finishes { FinishesOutput O.contents out.old out.new result }
 {
     match out.flush() {
         Ok(()) => Ok(()),

@@ -10,7 +10,18 @@ pub struct Tally {
 }
 
 impl Tally {
-    ghost use Rattle.mkpasswd.specs.Tallies.{tally_status};
+    ghost use Rattle.mkpasswd.specs.Tallies.{no_line, tally_status};
+
+    /// No line was seen.
+    pub fn new() -> Tally
+        ensures { result ≡ no_line }
+    {
+        Tally {
+            lines: 0,
+            refused: 0,
+            misfits: 0,
+        }
+    }
 
     /// The exit status of a run that was not cut short: 1 where a line was refused or answered
     /// `no`, else 0.

@@ -3,7 +3,8 @@ use Rattle.std.specs.Prelude.{◌≡◌, ◌≢◌, ℕ, ◌<◌, ◌≤◌, Lis
 use Rattle.crypt_core.specs.Passwords.{IsPassword}
 use Rattle.crypt_core.specs.Refusals.{IsRefused}
 use Rattle.crypt_core.specs.declared.setting.fault.SettingFault.{SettingFault}
-use Rattle.mkpasswd.specs.Lines.{HasParts, IsCut, IsLocked, IsStored, Parts, colon, rule_number}
+use Rattle.mkpasswd.specs.Lines.{HasParts, IsCut, IsLocked, IsStored, Parts, rule_number}
+use Rattle.mkpasswd.specs.Texts.{colon}
 use Rattle.mkpasswd.specs.Makers.{bytes_of}
 use Rattle.mkpasswd.specs.declared.line.Entry.{Entry}
 use Rattle.mkpasswd.specs.declared.line.Field.{Field}

@@ -1,5 +1,5 @@
 -- How an answer to a line is made, before it is given to one of the outputs.
-use Rattle.std.specs.Prelude.{◌≡◌, ◌≢◌, ℕ, ◌+◌, ◌-◌, ◌<◌, ◌++◌, Bool, List, [], codes, Result, Ok, Err}
+use Rattle.std.specs.Prelude.{◌≡◌, ◌≢◌, ℕ, ◌+◌, ◌-◌, ◌<◌, List, [], codes, Result, Ok, Err}
 use Rattle.prims_core.specs.Meter.{Counts}
 use Rattle.crypt_core.specs.Crypt.{crypt, IsRefusedBy}
 use Rattle.crypt_core.specs.Refusals.{IsRefused}
@@ -9,8 +9,8 @@ use Rattle.crypt_core.specs.declared.fits.FitFault.{FitFault}
 use Rattle.crypt_core.specs.declared.fits.FitFault.TheVariants.{Setting, OutOfMemory}
 use Rattle.crypt_core.specs.declared.hash.HashFault.{HashFault}
 use Rattle.crypt_core.specs.declared.work.Work.{Work}
-use Rattle.mkpasswd.specs.Answers.{Answer, IsRefusedAmong, after_work, wanted_text}
-use Rattle.mkpasswd.specs.LineAnswers.{told_text}
+use Rattle.mkpasswd.specs.Answers.{Answer, IsRefusedAmong, after_work}
+use Rattle.mkpasswd.specs.LineAnswers.{verdict_text}
 use Rattle.mkpasswd.specs.Lines.{IsLocked, IsStored}
 use Rattle.mkpasswd.specs.Private.Entries.{IsGoodField}
 use Rattle.mkpasswd.specs.Tallies.{misfit_line, one_line, refused_line}
@@ -19,6 +19,7 @@ use Rattle.mkpasswd.specs.declared.answer.Outcome.{Outcome}
 use Rattle.mkpasswd.specs.declared.answer.Outcome.TheVariants.{Answered, Misfit, Refused}
 use Rattle.mkpasswd.specs.declared.answer.Verdict.{Verdict}
 use Rattle.mkpasswd.specs.declared.answer.Verdict.TheVariants.{Fits, Differs, NoneStored, Locked}
+use Rattle.mkpasswd.specs.declared.job.Job.{Job}
 use Rattle.mkpasswd.specs.declared.tally.Tally.{Tally}
 
 -- ---- outcomes
@@ -100,12 +101,12 @@ rise before after = record {
 }
 
 -- the verdict is told of the name, with the counts that have risen where they are wanted
-abbrev pub Tells : Bool → List ℕ → Counts → Counts → Verdict → LineAnswer → Type 0
-Tells is_counted name before after verdict made =
+abbrev pub TellsVerdict : Job → List ℕ → Counts → Counts → Verdict → LineAnswer → Type 0
+TellsVerdict job name before after verdict made =
     (made.outcome ≡ verdict_outcome verdict)
-    × (made.text.items ≡ told_text name (verdict_word verdict ++ wanted_text is_counted (rise before after)))
+    × (made.text.items ≡ verdict_text job name (verdict_word verdict) (rise before after))
 
-abbrev pub Checks : Bool → List ℕ → List ℕ → List ℕ → Counts → Counts → Result LineAnswer FitFault → Type 0
-Checks is_counted name field password before after (Ok made) =
-    (verdict : Verdict) × Judges field password before after (Ok verdict) × Tells is_counted name before after verdict made
-Checks is_counted name field password before after (Err fault) = Judges field password before after (Err fault)
+abbrev pub Checks : Job → List ℕ → List ℕ → List ℕ → Counts → Counts → Result LineAnswer FitFault → Type 0
+Checks job name field password before after (Ok made) =
+    (verdict : Verdict) × Judges field password before after (Ok verdict) × TellsVerdict job name before after verdict made
+Checks job name field password before after (Err fault) = Judges field password before after (Err fault)

@@ -1,82 +1,48 @@
 -- Where a run over lines is between two of its steps, and how a step can end.
-use Rattle.std.specs.Prelude.{◌≡◌, ℕ, ◌+◌, ◌*◌, ◌^◌, ◌<◌, ◌≤◌, ◌⊎◌, List, ◌∷◌, ◌++◌, length, MatchBool, Option, Result, Ok, Err}
+use Rattle.std.specs.Prelude.{◌≡◌, ℕ, ◌+◌, ◌<◌, ◌≤◌, ◌⊎◌, List, ◌∷◌, ◌++◌, length, Option, Result, Ok, Err}
 use Rattle.std.specs.List.{AllByRecursion}
-use Rattle.rand_core.specs.Stream.{Stream}
-use Rattle.prims_core.specs.Meter.{Counts}
 use Rattle.mkpasswd.specs.Answers.{Answer, IsRefusedAmong, after_work}
-use Rattle.mkpasswd.specs.Devices.{Device, FailsOnce, IsUnfailed}
+use Rattle.mkpasswd.specs.Devices.{FailsOnce, IsUnfailed}
 use Rattle.mkpasswd.specs.LineAnswers.{IsAnswer}
-use Rattle.mkpasswd.specs.LineRuns.{AreAnswers, HasNoLineFeed, line_feed, with_line_feeds}
-use Rattle.mkpasswd.specs.Output.{Takes, TakesPrefix}
-use Rattle.mkpasswd.specs.Runs.{TakesFront}
+use Rattle.mkpasswd.specs.LineRuns.{AreAnswers, HasNoLineFeed, piece_size, with_line_feeds}
+use Rattle.mkpasswd.specs.Lines.{line_limit}
+use Rattle.mkpasswd.specs.Output.{Takes, TakesFront}
+use Rattle.mkpasswd.specs.Private.Deliveries.{Sends}
+use Rattle.mkpasswd.specs.Private.Desks.{Outs}
+use Rattle.mkpasswd.specs.Private.Rooms.{HasCountsFor, HasRoomFor, IsTallied, calls_limit, lines_limit, turns_limit}
+use Rattle.mkpasswd.specs.Texts.{line_feed}
 use Rattle.mkpasswd.specs.declared.faults.RunFault.{RunFault}
 use Rattle.mkpasswd.specs.declared.faults.RunFault.TheVariants.{Read, Write, OutOfMemory, Turns, Password}
 use Rattle.mkpasswd.specs.declared.job.Job.{Job}
 use Rattle.mkpasswd.specs.declared.line.Kind.{Kind}
 use Rattle.mkpasswd.specs.declared.lines.held.Held.{Held}
+use Rattle.mkpasswd.specs.declared.lines.held.Held.TheVariants.{Bytes, TooLong}
 use Rattle.mkpasswd.specs.declared.lines.progress.Progress.{Progress}
 use Rattle.mkpasswd.specs.declared.tally.Tally.{Tally}
 
 -- what is held stands for the part of a line that was read: it has the same bytes, or both are too long
 abbrev pub StandsFor : Held → List ℕ → Type 0
-StandsFor held line = MatchBool held.is_too_long (1024 < length line) (held.bytes.items ≡ line)
-
--- what a run has in its hands beside its input
-pub record Outs (O E : Type 0) : Type 0 where
-  pub out : Device O
-  pub faults : Device E
-  pub stream : Stream
-  pub counts : Counts
-
-abbrev pub outs : {O E : Type 0} → Device O → Device E → Stream → Counts → Outs O E
-outs out faults stream counts = record { out = out; faults = faults; stream = stream; counts = counts }
-
--- ---- room
-
--- a line raises a count by less than 2^41, and gives at most 384 bytes
-pub record HasRoomFor {T : Type 0} (lines : ℕ) (device : Device T) : Type 0 where
-  pub failures : device.failures ≤ 2 ^ 62
-  pub calls : device.calls ≤ 2 ^ 63 + 2 ^ 40
-  pub bytes : device.bytes ≤ 2 ^ 62 + 384 * lines
-
-pub record HasCountsFor (lines : ℕ) (counts : Counts) : Type 0 where
-  pub digests : counts.digests ≤ 2 ^ 100 + 2 ^ 41 * lines
-  pub bytes : counts.bytes ≤ 2 ^ 100 + 2 ^ 41 * lines
-  pub mixes : counts.mixes ≤ 2 ^ 100 + 2 ^ 41 * lines
-  pub table : counts.table ≤ 2 ^ 100 + 2 ^ 41 * lines
-  pub scratch : counts.scratch ≤ 2 ^ 100 + 2 ^ 41 * lines
-
--- no count of the tally is above that of its lines
-pub record IsTallied (tally : Tally) : Type 0 where
-  pub refused : tally.refused ≤ tally.lines
-  pub misfits : tally.misfits ≤ tally.lines
+StandsFor (Bytes bytes) line = bytes.items ≡ line
+StandsFor TooLong line = line_limit < length line
 
 module _ {O E : Type 0} where
+  -- ---- room
+
+  -- for the next line
   pub record HasRoomIn (tally : Tally) (now : Outs O E) : Type 0 where
     pub tallied : IsTallied tally
     pub out : HasRoomFor tally.lines now.out
     pub faults : HasRoomFor tally.lines now.faults
     pub counts : HasCountsFor tally.lines now.counts
 
-  -- ---- one answer
+  -- for at most so many lines
+  pub record HasRoomToAnswer (most : ℕ) (progress : Progress) (now : Outs O E) : Type 0 where
+    pub turns : progress.left ≤ turns_limit
+    pub calls : now.out.calls + now.faults.calls + progress.left ≤ calls_limit
+    pub lines : progress.tally.lines + most ≤ lines_limit
+    pub outs : HasRoomIn progress.tally now
 
-  -- an answer is given whole; or a call failed, or the turns were over, and its first bytes are
-  abbrev pub Sends : (O → Option (List ℕ)) → (E → Option (List ℕ)) → ℕ → Answer → Device O → Device E → Device O → Device E → {A : Type 0} → Result A RunFault → Type 0
-  Sends contents fault_contents left answer out faults new_out new_faults (Ok done) =
-      IsUnfailed out new_out × IsUnfailed faults new_faults
-      × Takes contents out new_out answer.text × Takes fault_contents faults new_faults answer.fault_text
-  Sends contents fault_contents left answer out faults new_out new_faults (Err Write) =
-      (FailsOnce out new_out × IsUnfailed faults new_faults
-      × TakesPrefix contents out new_out answer.text × Takes fault_contents faults new_faults answer.fault_text)
-      ⊎ (IsUnfailed out new_out × FailsOnce faults new_faults
-      × Takes contents out new_out answer.text × TakesPrefix fault_contents faults new_faults answer.fault_text)
-  Sends contents fault_contents left answer out faults new_out new_faults (Err Turns) =
-      IsUnfailed out new_out × IsUnfailed faults new_faults × (left ≡ 0)
-      × TakesPrefix contents out new_out answer.text × TakesPrefix fault_contents faults new_faults answer.fault_text
-      × (new_out.bytes + new_faults.bytes < out.bytes + faults.bytes + length answer.text + length answer.fault_text)
-  Sends contents fault_contents left answer out faults new_out new_faults (Err Read) = ⊥
-  Sends contents fault_contents left answer out faults new_out new_faults (Err OutOfMemory) = ⊥
-  Sends contents fault_contents left answer out faults new_out new_faults (Err (Password fault)) = ⊥
+  -- ---- one answer
 
   -- it is made and given; or memory was refused before any of it was
   abbrev pub Answers : (O → Option (List ℕ)) → (E → Option (List ℕ)) → ℕ → Answer → Outs O E → Outs O E → {A : Type 0} → Result A RunFault → Type 0
@@ -89,7 +55,16 @@ module _ {O E : Type 0} where
 
   -- ---- all answers so far
 
-  -- Of these bytes, the lines with a line feed are answered, and nothing failed; what follows them is held.
+  -- they are given, and nothing failed
+  pub record AreGiven (contents : O → Option (List ℕ)) (fault_contents : E → Option (List ℕ)) (answers : Answer) (start now : Outs O E) : Type 0 where
+    pub out_unfailed : IsUnfailed start.out now.out
+    pub faults_unfailed : IsUnfailed start.faults now.faults
+    pub text : Takes contents start.out now.out answers.text
+    pub fault_text : Takes fault_contents start.faults now.faults answers.fault_text
+    pub stream : now.stream ≡ answers.stream
+    pub counts : now.counts ≡ after_work start.counts answers.hashings
+
+  -- Of these bytes, the lines with a line feed are answered; what follows them is held.
   pub record IsAt (contents : O → Option (List ℕ)) (fault_contents : E → Option (List ℕ)) (kind : Kind) (job : Job)
       (start now : Outs O E) (bytes : List ℕ) (progress : Progress) : Type 0 where
     pub done : List (List ℕ)
@@ -102,16 +77,11 @@ module _ {O E : Type 0} where
     pub are : AreAnswers kind job 1 done start.stream answers
     pub tally : progress.tally ≡ answers.tally
     pub numbers : answers.tally.lines ≡ length done
-    pub out_unfailed : IsUnfailed start.out now.out
-    pub faults_unfailed : IsUnfailed start.faults now.faults
-    pub text : Takes contents start.out now.out answers.text
-    pub fault_text : Takes fault_contents start.faults now.faults answers.fault_text
-    pub stream : now.stream ≡ answers.stream
-    pub counts : now.counts ≡ after_work start.counts answers.hashings
+    pub given : AreGiven contents fault_contents answers start now
 
   -- how the outputs, the stream and the counts are left by a fault: after these answers, in the next one
-  abbrev pub IsCutShort : (O → Option (List ℕ)) → (E → Option (List ℕ)) → ℕ → Answer → Answer → Outs O E → Outs O E → RunFault → Type 0
-  IsCutShort contents fault_contents left done next start new Write =
+  abbrev pub IsCut : (O → Option (List ℕ)) → (E → Option (List ℕ)) → ℕ → Answer → Answer → Outs O E → Outs O E → RunFault → Type 0
+  IsCut contents fault_contents left done next start new Write =
       (new.stream ≡ next.stream) × (new.counts ≡ after_work (after_work start.counts done.hashings) next.hashings)
       × ((FailsOnce start.out new.out × IsUnfailed start.faults new.faults
       × TakesFront contents start.out new.out done.text next.text
@@ -119,19 +89,19 @@ module _ {O E : Type 0} where
       ⊎ (IsUnfailed start.out new.out × FailsOnce start.faults new.faults
       × Takes contents start.out new.out (done.text ++ next.text)
       × TakesFront fault_contents start.faults new.faults done.fault_text next.fault_text))
-  IsCutShort contents fault_contents left done next start new Turns =
+  IsCut contents fault_contents left done next start new Turns =
       (new.stream ≡ next.stream) × (new.counts ≡ after_work (after_work start.counts done.hashings) next.hashings)
       × IsUnfailed start.out new.out × IsUnfailed start.faults new.faults × (left ≡ 0)
       × TakesFront contents start.out new.out done.text next.text
       × TakesFront fault_contents start.faults new.faults done.fault_text next.fault_text
       × (new.out.bytes + new.faults.bytes
       < start.out.bytes + start.faults.bytes + length (done.text ++ next.text) + length (done.fault_text ++ next.fault_text))
-  IsCutShort contents fault_contents left done next start new OutOfMemory =
+  IsCut contents fault_contents left done next start new OutOfMemory =
       (new.stream ≡ next.stream) × IsRefusedAmong (after_work start.counts done.hashings) next.hashings new.counts
       × IsUnfailed start.out new.out × IsUnfailed start.faults new.faults
       × Takes contents start.out new.out done.text × Takes fault_contents start.faults new.faults done.fault_text
-  IsCutShort contents fault_contents left done next start new Read = ⊥
-  IsCutShort contents fault_contents left done next start new (Password fault) = ⊥
+  IsCut contents fault_contents left done next start new Read = ⊥
+  IsCut contents fault_contents left done next start new (Password fault) = ⊥
 
   -- some of the lines in these bytes are answered, and the next one, which begins the rest, was being answered
   pub record IsCutAt (contents : O → Option (List ℕ)) (fault_contents : E → Option (List ℕ)) (kind : Kind) (job : Job)
@@ -144,12 +114,12 @@ module _ {O E : Type 0} where
     pub no_feed : HasNoLineFeed line
     pub are : AreAnswers kind job 1 done start.stream answers
     pub is_next : IsAnswer kind job (length done + 1) line answers.stream next
-    pub cut : IsCutShort contents fault_contents left answers next start new fault
+    pub cut : IsCut contents fault_contents left answers next start new fault
 
   -- a piece of the input was looked through
   abbrev pub LooksThrough : (O → Option (List ℕ)) → (E → Option (List ℕ)) → Kind → Job → Outs O E → Outs O E → List ℕ → Progress → {A : Type 0} → Result A RunFault → Type 0
   LooksThrough contents fault_contents kind job start new bytes progress (Ok done) =
       IsAt contents fault_contents kind job start new bytes progress
   LooksThrough contents fault_contents kind job start new bytes progress (Err fault) =
-      (line behind : List ℕ) × (length behind < 512)
+      (line behind : List ℕ) × (length behind < piece_size)
       × IsCutAt contents fault_contents kind job start new bytes line (line ++ line_feed ∷ behind) progress.left fault

@@ -1,7 +1,50 @@
--- Room for the calls that a run makes.
-use Rattle.std.specs.Prelude.{◌^◌, ◌+◌, ◌≤◌}
+-- Room for what a run does: a number for each count, and what is left of it.
+use Rattle.std.specs.Prelude.{ℕ, ◌^◌, ◌+◌, ◌*◌, ◌≤◌}
+use Rattle.prims_core.specs.Meter.{Counts}
 use Rattle.mkpasswd.specs.Devices.{Device}
+use Rattle.mkpasswd.specs.declared.tally.Tally.{Tally}
+
+-- the most turns of a run
+abbrev pub turns_limit : ℕ
+turns_limit = 2 ^ 40
+
+-- the most calls that two outputs can count in a run: those that both had before, and the turns
+abbrev pub calls_limit : ℕ
+calls_limit = 2 ^ 63 + turns_limit
+
+-- more lines than a run can read
+abbrev pub lines_limit : ℕ
+lines_limit = 2 ^ 50
+
+-- the most bytes of an answer, and what a line raises each count by at most
+abbrev pub answer_limit : ℕ
+answer_limit = 384
+
+abbrev pub work_limit : ℕ
+work_limit = 2 ^ 41
 
 -- the numbers of a device leave room for what is left of a run
-abbrev pub HasRoomInRun : {T : Type 0} → Device T → Type 0
-HasRoomInRun d = (d.failures ≤ 2 ^ 63) × (d.calls ≤ 2 ^ 63 + 2 ^ 40) × (d.bytes ≤ 2 ^ 63)
+pub record HasRoomInRun {T : Type 0} (device : Device T) : Type 0 where
+  pub failures : device.failures ≤ 2 ^ 63
+  pub calls : device.calls ≤ calls_limit
+  pub bytes : device.bytes ≤ 2 ^ 63
+  pub flushes : device.flushes ≤ 2 ^ 63
+
+-- the same after the answers to so many lines
+pub record HasRoomFor {T : Type 0} (lines : ℕ) (device : Device T) : Type 0 where
+  pub failures : device.failures ≤ 2 ^ 62
+  pub calls : device.calls ≤ calls_limit
+  pub bytes : device.bytes ≤ 2 ^ 62 + answer_limit * lines
+  pub flushes : device.flushes ≤ 2 ^ 62
+
+pub record HasCountsFor (lines : ℕ) (counts : Counts) : Type 0 where
+  pub digests : counts.digests ≤ 2 ^ 100 + work_limit * lines
+  pub bytes : counts.bytes ≤ 2 ^ 100 + work_limit * lines
+  pub mixes : counts.mixes ≤ 2 ^ 100 + work_limit * lines
+  pub table : counts.table ≤ 2 ^ 100 + work_limit * lines
+  pub scratch : counts.scratch ≤ 2 ^ 100 + work_limit * lines
+
+-- no count of the tally is above that of its lines
+pub record IsTallied (tally : Tally) : Type 0 where
+  pub refused : tally.refused ≤ tally.lines
+  pub misfits : tally.misfits ≤ tally.lines

@@ -3,14 +3,14 @@ ghost use Rattle.std.specs.Prelude.{◌≡◌, ◌+◌, ◌-◌, ◌^◌, ◌<�
 ghost use Rattle.std.specs.Result.{is_err};
 ghost use Rattle.std.specs.Io.{ReadsAtMost};
 ghost use Rattle.std.specs.Io.KnownBytes.{ReadConsumes};
-ghost use Rattle.mkpasswd.specs.Devices.{as_count, moved_by};
+ghost use Rattle.mkpasswd.specs.Devices.{as_count, moved_by, new_device};
 
 use std::io;
 use std::io::Read;
 use std::marker::Model;
 
 /// A reader, with the number of its failed calls, of its `fetch` calls, failed ones among them, and of
-/// the bytes that these gave. A new wrapper has seen nothing.
+/// the bytes that these gave. A new wrapper has seen nothing. It has no flushes.
 #[derive(Drop)]
 pub struct Input<I> {
     inner: I,
@@ -26,13 +26,13 @@ impl<I> Model for Input<I> {
 
     ghost coded = { device_code I.code };
 
-    ghost view = { λ i. record { inner = i.inner; failures = i.failures; calls = i.calls; bytes = i.bytes } };
+    ghost view = { λ i. record { inner = i.inner; failures = i.failures; calls = i.calls; bytes = i.bytes; flushes = 0; flushed = 0 } };
 }
 
 impl<I: Read> Input<I> {
     /// Wraps a reader.
     pub fn new(inner: I) -> Input<I>
-        ensures { result ≡ record { inner = inner; failures = 0; calls = 0; bytes = 0 } }
+        ensures { result ≡ new_device inner }
     {
         Input {
             inner,

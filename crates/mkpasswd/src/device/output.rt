@@ -1,23 +1,25 @@
 //! What the program writes to.
-ghost use Rattle.std.specs.Prelude.{◌≡◌, ◌+◌, ◌-◌, ◌^◌, ◌<◌, length};
+ghost use Rattle.std.specs.Prelude.{◌≡◌, ◌+◌, ◌-◌, ◌^◌, ◌<◌, length, OnOk, OnErr};
 ghost use Rattle.std.specs.Result.{is_err};
 ghost use Rattle.std.specs.Io.{WritesAtMost};
 ghost use Rattle.std.specs.Io.KnownBytes.{Keeps, WriteAppends};
-ghost use Rattle.mkpasswd.specs.Devices.{as_count, is_failed_give, moved_by};
+ghost use Rattle.mkpasswd.specs.Devices.{FailsToFlush, IsFlushed, IsUnflushed, as_count, is_failed_give, moved_by, new_device};
 
 use std::io;
 use std::io::Write;
 use std::marker::Model;
 
-/// A writer, with the number of its failed calls, of its `give` calls, failed ones among them, and of
-/// the bytes that these took. A `flush` counts only as a failed call, where it is one. A new wrapper
-/// has seen nothing.
+/// A writer, with the number of its failed calls, of its `give` calls, failed ones among them, of the
+/// bytes that these took, and of its flushes, failed ones among them, and how many bytes it had taken at
+/// the last flush that worked. A new wrapper has seen nothing.
 #[derive(Drop)]
 pub struct Output<O> {
     inner: O,
     failures: u64,
     calls: u64,
     bytes: u64,
+    flushes: u64,
+    flushed: u64,
 }
 
 impl<O> Model for Output<O> {
@@ -27,19 +29,21 @@ impl<O> Model for Output<O> {
 
     ghost coded = { device_code O.code };
 
-    ghost view = { λ o. record { inner = o.inner; failures = o.failures; calls = o.calls; bytes = o.bytes } };
+    ghost view = { λ o. record { inner = o.inner; failures = o.failures; calls = o.calls; bytes = o.bytes; flushes = o.flushes; flushed = o.flushed } };
 }
 
 impl<O: Write> Output<O> {
     /// Wraps a writer.
     pub fn new(inner: O) -> Output<O>
-        ensures { result ≡ record { inner = inner; failures = 0; calls = 0; bytes = 0 } }
+        ensures { result ≡ new_device inner }
     {
         Output {
             inner,
             failures: 0,
             calls: 0,
             bytes: 0,
+            flushes: 0,
+            flushed: 0,
         }
     }
 
@@ -69,6 +73,7 @@ impl<O: Write> Output<O> {
         ensures failures { self.new.failures ≡ self.old.failures + as_count (is_failed_give result piece.now) }
         ensures calls { self.new.calls ≡ self.old.calls + 1 }
         ensures bytes { self.new.bytes ≡ self.old.bytes + moved_by result }
+        ensures unflushed { IsUnflushed self.old self.new }
     {
         self.calls += 1;
         let answer = self.inner.write(piece);
@@ -86,15 +91,20 @@ impl<O: Write> Output<O> {
 
     /// Passes one `flush` on, and answers what it answered. It takes no byte.
     pub fn flush(&mut self) -> io::Result<()>
-        requires { self.old.failures < 2 ^ 64 - 1 }
+        requires failures_room { self.old.failures < 2 ^ 64 - 1 }
+        requires flushes_room { self.old.flushes < 2 ^ 64 - 1 }
         ensures keeps { Keeps (O.contents self.old.inner) (O.contents self.new.inner) }
         ensures failures { self.new.failures ≡ self.old.failures + as_count (is_err result) }
         ensures calls { self.new.calls ≡ self.old.calls }
         ensures bytes { self.new.bytes ≡ self.old.bytes }
+        ensures flushed { OnOk result (IsFlushed self.old self.new) }
+        ensures unflushed { OnErr result (FailsToFlush self.old self.new) }
     {
+        self.flushes += 1;
         let answer = self.inner.flush();
-        if answer.is_err() {
-            self.failures += 1;
+        match &answer {
+            Ok(()) => self.flushed = self.bytes,
+            Err(_) => self.failures += 1,
         }
         answer
     }

@@ -1,26 +1,26 @@
 //! Where a run over lines is, and its steps: it looks through a piece of the input and answers each line that
 //! ends in it.
-ghost use Rattle.std.specs.Prelude.{◌≡◌, ℕ, ◌+◌, ◌^◌, ◌<◌, ◌≤◌, ◌++◌, [], List, length, OnOk};
+ghost use Rattle.std.specs.Prelude.{◌≡◌, ℕ, ◌+◌, ◌<◌, ◌≤◌, ◌++◌, [], List, length, OnOk};
 ghost use Rattle.mkpasswd.specs.Answers.{Answer};
 ghost use Rattle.mkpasswd.specs.Devices.{MovesBytes};
-ghost use Rattle.mkpasswd.specs.Private.Rooms.{HasRoomInRun};
 ghost use Rattle.mkpasswd.specs.LineAnswers.{IsAnswer};
+ghost use Rattle.mkpasswd.specs.LineRuns.{piece_size};
+ghost use Rattle.mkpasswd.specs.Private.Deliveries.{Sends};
+ghost use Rattle.mkpasswd.specs.Private.Desks.{IsSameDesk, Outs, TakesTurns, seen};
+ghost use Rattle.mkpasswd.specs.Private.LineEnds.{AnswersLast};
 ghost use Rattle.mkpasswd.specs.Private.Made.{Says, tally_of};
-ghost use Rattle.mkpasswd.specs.Private.Progress.{Answers, HasRoomIn, IsAt, LooksThrough, Outs, Sends, StandsFor, outs};
+ghost use Rattle.mkpasswd.specs.Private.Progress.{Answers, HasRoomIn, HasRoomToAnswer, IsAt, LooksThrough, StandsFor};
+ghost use Rattle.mkpasswd.specs.Private.Rooms.{HasRoomInRun, answer_limit, lines_limit, turns_limit};
 ghost use Rattle.mkpasswd.specs.Tallies.{both_tallies, no_line};
 
 use super::held::Held;
 use crate::answer::{LineAnswer, Outcome};
-use crate::device::Output;
+use crate::desk::{Desk, Task};
 use crate::faults::RunFault;
 use crate::fetch::line_feed_at;
-use crate::job::Job;
-use crate::line::Kind;
 use crate::send::send;
 use crate::tally::Tally;
-use prims_core::meter::Meter;
 use rand_core::Rng;
-use std::alloc::Global;
 use std::io::Write;
 
 /// Where a run over lines is.
@@ -43,115 +43,114 @@ impl Progress {
     {
         Progress {
             held: Held::new(),
-            tally: Tally {
-                lines: 0,
-                refused: 0,
-                misfits: 0,
-            },
+            tally: Tally::new(),
             left: turns,
         }
     }
-}
 
-/// Answers each line that ends in the piece, in order, and holds what follows the last of them.
-pub(crate) fn answer_piece<O: Write, E: Write, R: Rng>(
-    alloc: Global,
-    kind: Kind,
-    job: &Job,
-    piece: &[u8],
-    progress: &mut Progress,
-    out: &mut Output<O>,
-    faults: &mut Output<E>,
-    rng: &mut R,
-    meter: &mut Meter,
-) -> Result<(), RunFault>
-    requires turns { progress.old.left ≤ 2 ^ 40 }
-    requires calls { out.old.calls + faults.old.calls + progress.old.left ≤ 2 ^ 63 + 2 ^ 40 }
-    requires size { length piece.now ≤ 512 }
-    requires lines { progress.old.tally.lines + length piece.now ≤ 2 ^ 50 }
-    requires room { HasRoomIn progress.old.tally (outs out.old faults.old (R.stream rng.old) meter.old) }
-    ensures looked { (start : Outs O E) → (bytes : List ℕ)
-        → IsAt O.contents E.contents kind job.now start (outs out.old faults.old (R.stream rng.old) meter.old) bytes progress.old
-        → LooksThrough O.contents E.contents kind job.now start (outs out.new faults.new (R.stream rng.new) meter.new)
-        (bytes ++ piece.now) progress.new result }
-    ensures room { OnOk result (HasRoomIn progress.new.tally (outs out.new faults.new (R.stream rng.new) meter.new)) }
-    ensures lines { progress.new.tally.lines ≤ progress.old.tally.lines + length piece.now }
-    ensures turns { out.new.calls + faults.new.calls + progress.new.left
-        ≡ out.old.calls + faults.old.calls + progress.old.left }
-    ensures fewer { progress.new.left ≤ progress.old.left }
-    ensures moves { MovesBytes 0 out.old out.new × MovesBytes 0 faults.old faults.new }
-{
-    let mut rest = piece;
-    'lines: while let Some(end) = line_feed_at(rest) {
-        progress.held.append(&rest[..end]);
-        answer_next(alloc, kind, job, progress, out, faults, rng, meter)?;
-        rest = &rest[end + 1..];
+    /// Answers each line that ends in the piece, in order, and holds what follows the last of them.
+    pub(crate) fn look_through<O: Write, E: Write, R: Rng>(
+        &mut self,
+        task: Task<'_>,
+        piece: &[u8],
+        desk: &mut Desk<'_, O, E, R>,
+    ) -> Result<(), RunFault>
+        requires size { length piece.now ≤ piece_size }
+        requires room { HasRoomToAnswer (length piece.now) self.old (seen R.stream desk.old) }
+        ensures looked { (start : Outs O E) → (bytes : List ℕ)
+            → IsAt O.contents E.contents task.kind task.job.now start (seen R.stream desk.old) bytes self.old
+            → LooksThrough O.contents E.contents task.kind task.job.now start (seen R.stream desk.new) (bytes ++ piece.now) self.new result }
+        ensures room { OnOk result (HasRoomIn self.new.tally (seen R.stream desk.new)) }
+        ensures lines { self.new.tally.lines ≤ self.old.tally.lines + length piece.now }
+        ensures turns { TakesTurns self.old.left self.new.left (seen R.stream desk.old) (seen R.stream desk.new) }
+        ensures same { IsSameDesk desk.old desk.new }
+    {
+        let mut rest = piece;
+        'lines: while let Some(end) = line_feed_at(rest) {
+            self.held.append(&rest[..end]);
+            self.answer_held(task, desk)?;
+            rest = &rest[end + 1..];
+        }
+        self.held.append(rest);
+        Ok(())
     }
-    progress.held.append(rest);
-    Ok(())
-}
 
-/// Answers the line that is held, and holds none then.
-pub(crate) fn answer_next<O: Write, E: Write, R: Rng>(
-    alloc: Global,
-    kind: Kind,
-    job: &Job,
-    progress: &mut Progress,
-    out: &mut Output<O>,
-    faults: &mut Output<E>,
-    rng: &mut R,
-    meter: &mut Meter,
-) -> Result<(), RunFault>
-    requires turns { progress.old.left ≤ 2 ^ 40 }
-    requires calls { out.old.calls + faults.old.calls + progress.old.left ≤ 2 ^ 63 + 2 ^ 40 }
-    requires lines { progress.old.tally.lines < 2 ^ 50 }
-    requires room { HasRoomIn progress.old.tally (outs out.old faults.old (R.stream rng.old) meter.old) }
-    ensures answers { (line : List ℕ) → StandsFor progress.old.held line
-        → (answer : Answer) × IsAnswer kind job.now (progress.old.tally.lines + 1) line (R.stream rng.old) answer
-        × Answers O.contents E.contents progress.new.left answer
-        (outs out.old faults.old (R.stream rng.old) meter.old) (outs out.new faults.new (R.stream rng.new) meter.new) result
-        × OnOk result (progress.new.tally ≡ both_tallies progress.old.tally answer.tally) }
-    ensures held { OnOk result (StandsFor progress.new.held []) }
-    ensures room { OnOk result (HasRoomIn progress.new.tally (outs out.new faults.new (R.stream rng.new) meter.new)) }
-    ensures lines { progress.new.tally.lines ≤ progress.old.tally.lines + 1 }
-    ensures turns { out.new.calls + faults.new.calls + progress.new.left
-        ≡ out.old.calls + faults.old.calls + progress.old.left }
-    ensures fewer { progress.new.left ≤ progress.old.left }
-    ensures moves { MovesBytes 0 out.old out.new × MovesBytes 0 faults.old faults.new }
-{
-    let number = progress.tally.lines + 1;
-    let answer = progress.held.answer(alloc, kind, job, number, rng, meter)?;
-    give_answer(&answer, out, faults, &mut progress.left)?;
-    count_line(&mut progress.tally, answer.outcome);
-    progress.held.clear();
-    Ok(())
+    /// Answers the last line of the input, where something is held that no line feed ended.
+    pub(crate) fn end<O: Write, E: Write, R: Rng>(
+        &mut self,
+        task: Task<'_>,
+        desk: &mut Desk<'_, O, E, R>,
+    ) -> Result<(), RunFault>
+        requires room { HasRoomToAnswer 1 self.old (seen R.stream desk.old) }
+        ensures answers { (start : Outs O E) → (bytes : List ℕ)
+            → IsAt O.contents E.contents task.kind task.job.now start (seen R.stream desk.old) bytes self.old
+            → AnswersLast O.contents E.contents task.kind task.job.now start (seen R.stream desk.new) bytes self.new result }
+        ensures room { OnOk result (HasRoomIn self.new.tally (seen R.stream desk.new)) }
+        ensures turns { TakesTurns self.old.left self.new.left (seen R.stream desk.old) (seen R.stream desk.new) }
+        ensures same { IsSameDesk desk.old desk.new }
+    {
+        if self.held.is_empty() {
+            return Ok(());
+        }
+        self.answer_held(task, desk)
+    }
+
+    // Answers the line that is held, and holds none then.
+    fn answer_held<O: Write, E: Write, R: Rng>(
+        &mut self,
+        task: Task<'_>,
+        desk: &mut Desk<'_, O, E, R>,
+    ) -> Result<(), RunFault>
+        requires room { HasRoomToAnswer 1 self.old (seen R.stream desk.old) }
+        ensures answers { (line : List ℕ) → StandsFor self.old.held line
+            → (answer : Answer) × IsAnswer task.kind task.job.now (self.old.tally.lines + 1) line (R.stream desk.old.rng.now) answer
+            × Answers O.contents E.contents self.new.left answer (seen R.stream desk.old) (seen R.stream desk.new) result
+            × OnOk result (self.new.tally ≡ both_tallies self.old.tally answer.tally) }
+        ensures held { OnOk result (StandsFor self.new.held []) }
+        ensures room { OnOk result (HasRoomIn self.new.tally (seen R.stream desk.new)) }
+        ensures lines { self.new.tally.lines ≤ self.old.tally.lines + 1 }
+        ensures turns { TakesTurns self.old.left self.new.left (seen R.stream desk.old) (seen R.stream desk.new) }
+        ensures same { IsSameDesk desk.old desk.new }
+    {
+        let number = self.tally.lines + 1;
+        let answer = self.held.answer(task, number, desk.rng, desk.meter)?;
+        give(&answer, desk, &mut self.left)?;
+        count_line(&mut self.tally, answer.outcome);
+        self.held = Held::new();
+        Ok(())
+    }
 }
 
 // Gives an answer to the output where it belongs.
-fn give_answer<O: Write, E: Write>(
+fn give<O: Write, E: Write, R>(
     answer: &LineAnswer,
-    out: &mut Output<O>,
-    faults: &mut Output<E>,
+    desk: &mut Desk<'_, O, E, R>,
     left: &mut u64,
 ) -> Result<(), RunFault>
-    requires turns { left.old ≤ 2 ^ 40 }
-    requires room { HasRoomInRun out.old × HasRoomInRun faults.old }
+    requires turns { left.old ≤ turns_limit }
+    requires out_room { HasRoomInRun desk.old.out.now }
+    requires faults_room { HasRoomInRun desk.old.faults.now }
     ensures sends { (told : Answer) → Says answer.now.outcome answer.now.text.items told
-        → Sends O.contents E.contents left.new told out.old faults.old out.new faults.new result }
-    ensures turns { out.new.calls + faults.new.calls + left.new ≡ out.old.calls + faults.old.calls + left.old }
+        → Sends O.contents E.contents left.new told desk.old.out.now desk.old.faults.now desk.new.out.now desk.new.faults.now result }
+    ensures calls { desk.new.out.now.calls + desk.new.faults.now.calls + left.new
+        ≡ desk.old.out.now.calls + desk.old.faults.now.calls + left.old }
     ensures fewer { left.new ≤ left.old }
-    ensures moves { MovesBytes 0 out.old out.new × MovesBytes 0 faults.old faults.new }
-    ensures few_bytes { (out.new.bytes ≤ out.old.bytes + 384) × (faults.new.bytes ≤ faults.old.bytes + 384) }
+    ensures out_moves { MovesBytes 0 desk.old.out.now desk.new.out.now }
+    ensures faults_moves { MovesBytes 0 desk.old.faults.now desk.new.faults.now }
+    ensures out_bytes { desk.new.out.now.bytes ≤ desk.old.out.now.bytes + answer_limit }
+    ensures faults_bytes { desk.new.faults.now.bytes ≤ desk.old.faults.now.bytes + answer_limit }
+    ensures rest { (desk.new.rng.now ≡ desk.old.rng.now) × (desk.new.meter.now ≡ desk.old.meter.now) }
+    ensures same { IsSameDesk desk.old desk.new }
 {
     match answer.outcome {
-        Outcome::Answered | Outcome::Misfit => send(out, answer.text.as_slice(), left),
-        Outcome::Refused => send(faults, answer.text.as_slice(), left),
+        Outcome::Answered | Outcome::Misfit => send(desk.out, answer.text.as_slice(), left),
+        Outcome::Refused => send(desk.faults, answer.text.as_slice(), left),
     }
 }
 
 // Counts one more line.
 fn count_line(tally: &mut Tally, outcome: Outcome)
-    requires room { tally.old.lines < 2 ^ 50 }
+    requires room { tally.old.lines < lines_limit }
     requires refused { tally.old.refused ≤ tally.old.lines }
     requires misfits { tally.old.misfits ≤ tally.old.lines }
     ensures { tally.new ≡ both_tallies tally.old (tally_of outcome) }

@@ -1,0 +1,64 @@
+-- How the giving of a text to one output, or the flush of both, can end.
+use Rattle.std.specs.Prelude.{◌≡◌, ◌<◌, ◌+◌, ℕ, ◌⊎◌, List, [], length, Option, Result, Ok, Err}
+use Rattle.std.specs.Io.KnownBytes.{Keeps}
+use Rattle.mkpasswd.specs.Answers.{Answer}
+use Rattle.mkpasswd.specs.Devices.{Device, FailsOnce, FailsToFlush, IsFlushed, IsUnfailed}
+use Rattle.mkpasswd.specs.Output.{Takes, TakesFront}
+use Rattle.mkpasswd.specs.declared.faults.RunFault.{RunFault}
+use Rattle.mkpasswd.specs.declared.faults.RunFault.TheVariants.{Read, Write, OutOfMemory, Turns, Password}
+
+module _ {T : Type 0} (contents : T → Option (List ℕ)) where
+  -- a text was given: whole where there is an answer; its first bytes where a call failed; and with some
+  -- still to come where the turns were over
+  abbrev pub Delivers : Device T → Device T → List ℕ → {A : Type 0} → Result A RunFault → Type 0
+  Delivers old new text (Ok answer) = Takes contents old new text
+  Delivers old new text (Err Write) = TakesFront contents old new [] text
+  Delivers old new text (Err Turns) = TakesFront contents old new [] text × (new.bytes < old.bytes + length text)
+  Delivers old new text (Err fault) = ⊥
+
+  -- a flush changes nothing that is told or counted, but for its own counts
+  pub record IsKept (old new : Device T) : Type 0 where
+    pub shown : Keeps (contents old.inner) (contents new.inner)
+    pub calls : new.calls ≡ old.calls
+    pub bytes : new.bytes ≡ old.bytes
+
+  -- an output is flushed; or that failed
+  pub record IsFinished (old new : Device T) : Type 0 where
+    pub kept : IsKept old new
+    pub unfailed : IsUnfailed old new
+    pub flushed : IsFlushed old new
+
+  pub record IsUnfinished (old new : Device T) : Type 0 where
+    pub kept : IsKept old new
+    pub failed : FailsOnce old new
+    pub unflushed : FailsToFlush old new
+
+  abbrev pub FinishesOutput : Device T → Device T → {A : Type 0} → Result A RunFault → Type 0
+  FinishesOutput old new (Ok done) = IsFinished old new
+  FinishesOutput old new (Err fault) = (fault ≡ Write) × IsUnfinished old new
+
+module _ {O E : Type 0} (contents : O → Option (List ℕ)) (fault_contents : E → Option (List ℕ)) where
+  -- both outputs are flushed; or only up to the first flush that failed
+  abbrev pub FinishesBoth : Device O → Device E → Device O → Device E → {A : Type 0} → Result A RunFault → Type 0
+  FinishesBoth out faults new_out new_faults (Ok done) =
+      IsFinished contents out new_out × IsFinished fault_contents faults new_faults
+  FinishesBoth out faults new_out new_faults (Err Write) =
+      (IsUnfinished contents out new_out × (new_faults ≡ faults))
+      ⊎ (IsFinished contents out new_out × IsUnfinished fault_contents faults new_faults)
+  FinishesBoth out faults new_out new_faults (Err fault) = ⊥
+
+  -- an answer is given whole; or a call failed, or the turns were over, and its first bytes are
+  abbrev pub Sends : ℕ → Answer → Device O → Device E → Device O → Device E → {A : Type 0} → Result A RunFault → Type 0
+  Sends left answer out faults new_out new_faults (Ok done) =
+      IsUnfailed out new_out × IsUnfailed faults new_faults
+      × Takes contents out new_out answer.text × Takes fault_contents faults new_faults answer.fault_text
+  Sends left answer out faults new_out new_faults (Err Write) =
+      (FailsOnce out new_out × IsUnfailed faults new_faults
+      × TakesFront contents out new_out [] answer.text × Takes fault_contents faults new_faults answer.fault_text)
+      ⊎ (IsUnfailed out new_out × FailsOnce faults new_faults
+      × Takes contents out new_out answer.text × TakesFront fault_contents faults new_faults [] answer.fault_text)
+  Sends left answer out faults new_out new_faults (Err Turns) =
+      IsUnfailed out new_out × IsUnfailed faults new_faults × (left ≡ 0)
+      × TakesFront contents out new_out [] answer.text × TakesFront fault_contents faults new_faults [] answer.fault_text
+      × (new_out.bytes + new_faults.bytes < out.bytes + faults.bytes + length answer.text + length answer.fault_text)
+  Sends left answer out faults new_out new_faults (Err fault) = ⊥
