@@ -3,12 +3,15 @@ use Rattle.std.proofs.Common.{◌≡◌, ℕ, ◌+◌, ◌^◌, ◌<◌, ◌≤�
 use Rattle.rand_core.specs.Stream.{Stream}
 use Rattle.prims_core.specs.Meter.{Counts}
 use Rattle.mkpasswd.specs.Answers.{Answer, after_work}
-use Rattle.mkpasswd.specs.Devices.{Device, IsUnfailed}
+use Rattle.mkpasswd.specs.Devices.{Device, IsUnfailed, IsUnflushed}
 use Rattle.mkpasswd.specs.LineAnswers.{IsAnswer, refused_answer}
 use Rattle.mkpasswd.specs.LineAnswers.IsAnswer.{refused}
-use Rattle.mkpasswd.specs.Lines.{IsLineRefused, rule_number}
+use Rattle.mkpasswd.specs.Lines.{IsLineRefused, line_limit, rule_number}
 use Rattle.mkpasswd.specs.Private.Made.{IsRaisedBelow, Says, fault_text_of, tally_of, text_of}
-use Rattle.mkpasswd.specs.Private.Progress.{Answers, HasCountsFor, HasRoomFor, HasRoomIn, Outs, Sends}
+use Rattle.mkpasswd.specs.Private.Deliveries.{Sends}
+use Rattle.mkpasswd.specs.Private.Desks.{Outs}
+use Rattle.mkpasswd.specs.Private.Progress.{Answers, HasRoomIn}
+use Rattle.mkpasswd.specs.Private.Rooms.{HasCountsFor, HasRoomFor, answer_limit, calls_limit, work_limit}
 use Rattle.mkpasswd.specs.Tallies.{both_tallies}
 use Rattle.mkpasswd.specs.declared.answer.LineAnswer.{LineAnswer}
 use Rattle.mkpasswd.specs.declared.answer.Outcome.{Outcome}
@@ -32,7 +35,7 @@ some_rule NoPassword = omega arith
 some_rule (WrongPassword fault) = omega arith
 some_rule (Setting fault) = omega arith
 
-too_long-refused : (kind : Kind) (line : List ℕ) → 1024 < length line → IsLineRefused kind line LineTooLong
+too_long-refused : (kind : Kind) (line : List ℕ) → line_limit < length line → IsLineRefused kind line LineTooLong
 too_long-refused kind line long = record {
   breaks = long;
   first = λ earlier before. absurd (omega (arith, some_rule earlier, before));
@@ -40,7 +43,7 @@ too_long-refused kind line long = record {
 
 -- so its refusal is the answer, whatever its bytes are
 pub too_long-answered : (kind : Kind) (job : Job) (number : ℕ) (line : List ℕ) (stream : Stream) (made : LineAnswer) (counts : Counts)
-    → 1024 < length line → ((stream : Stream) → Says made.outcome made.text.items (refused_answer number LineTooLong stream))
+    → line_limit < length line → ((stream : Stream) → Says made.outcome made.text.items (refused_answer number LineTooLong stream))
     → (answer : Answer) × IsAnswer kind job number line stream answer
     × (Says made.outcome made.text.items answer × (counts ≡ after_work counts answer.hashings)) × (stream ≡ answer.stream)
 too_long-answered kind job number line stream made counts long says = (
@@ -73,14 +76,15 @@ one_line-of Answered = record { lines = refl; refused = omega arith; misfits = o
 one_line-of Misfit = record { lines = refl; refused = omega arith; misfits = omega arith }
 one_line-of Refused = record { lines = refl; refused = omega arith; misfits = omega arith }
 
-one_more-device : {T : Type 0} (lines : ℕ) (old new : Device T) → HasRoomFor lines old → IsUnfailed old new → new.calls ≤ 2 ^ 63 + 2 ^ 40
-    → new.bytes ≤ old.bytes + 384 → HasRoomFor (lines + 1) new
-one_more-device lines old new room unfailed calls bytes =
+one_more-device : {T : Type 0} (lines : ℕ) (old new : Device T) → HasRoomFor lines old → IsUnfailed old new → IsUnflushed old new → new.calls ≤ calls_limit
+    → new.bytes ≤ old.bytes + answer_limit → HasRoomFor (lines + 1) new
+one_more-device lines old new room unfailed unflushed calls bytes =
     let failures = room.failures in
     let before = room.bytes in
-    record { failures = omega arith; calls = calls; bytes = omega arith }
+    let flushes = room.flushes in
+    record { failures = omega arith; calls = calls; bytes = omega arith; flushes = rw (unflushed.flushes) flushes }
 
-one_more-counts : (lines : ℕ) (old new : Counts) → HasCountsFor lines old → IsRaisedBelow (2 ^ 41) old new → HasCountsFor (lines + 1) new
+one_more-counts : (lines : ℕ) (old new : Counts) → HasCountsFor lines old → IsRaisedBelow work_limit old new → HasCountsFor (lines + 1) new
 one_more-counts lines old new room small = record {
   digests = (let before = room.digests in let more = small.digests in omega arith);
   bytes = (let before = room.bytes in let more = small.bytes in omega arith);
@@ -92,13 +96,13 @@ one_more-counts lines old new room small = record {
 module _ {O E : Type 0} where
   -- room for the next line is left after an answer
   pub room-after : (contents : O → Option (List ℕ)) (fault_contents : E → Option (List ℕ)) (tally : Tally) (made : LineAnswer) (old new : Outs O E) (left new_left : ℕ) {A : Type 0} (done : A)
-      → HasRoomIn tally old → IsRaisedBelow (2 ^ 41) old.counts new.counts
+      → HasRoomIn tally old → IsRaisedBelow work_limit old.counts new.counts
       → ((told : Answer) → Says made.outcome made.text.items told → Sends contents fault_contents new_left told old.out old.faults new.out new.faults (Ok done))
-      → old.out.calls + old.faults.calls + left ≤ 2 ^ 63 + 2 ^ 40
+      → old.out.calls + old.faults.calls + left ≤ calls_limit
       → new.out.calls + new.faults.calls + new_left ≡ old.out.calls + old.faults.calls + left
-      → (new.out.bytes ≤ old.out.bytes + 384) × (new.faults.bytes ≤ old.faults.bytes + 384)
+      → new.out.bytes ≤ old.out.bytes + answer_limit → new.faults.bytes ≤ old.faults.bytes + answer_limit
       → HasRoomIn (both_tallies tally (tally_of made.outcome)) new
-  room-after contents fault_contents tally made old new left new_left done room small sends calls turns bytes =
+  room-after contents fault_contents tally made old new left new_left done room small sends calls turns bytes fault_bytes =
       let sent = sends (said_answer made.outcome made.text.items old.stream) (record { text = refl; fault_text = refl; tally = refl }) in
       let one = one_line-of made.outcome in
       let line = one.lines in
@@ -108,8 +112,8 @@ module _ {O E : Type 0} where
       let misfits_now = one.misfits in
       record {
         tallied = record { refused = omega arith; misfits = omega arith };
-        out = rw line (one_more-device tally.lines old.out new.out room.out sent.0 (omega (arith, calls, turns)) bytes.0);
-        faults = rw line (one_more-device tally.lines old.faults new.faults room.faults sent.1 (omega (arith, calls, turns)) bytes.1);
+        out = rw line (one_more-device tally.lines old.out new.out room.out sent.0 sent.2.unflushed (omega (arith, calls, turns)) bytes);
+        faults = rw line (one_more-device tally.lines old.faults new.faults room.faults sent.1 sent.3.unflushed (omega (arith, calls, turns)) fault_bytes);
         counts = rw line (one_more-counts tally.lines old.counts new.counts room.counts small);
       }
 

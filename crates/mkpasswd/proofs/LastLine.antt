@@ -1,17 +1,17 @@
 -- The answer to the last line of an input, where that has no line feed.
 use Rattle.std.proofs.Common.{◌≡◌, ◌≢◌, ℕ, ◌+◌, List, [], ◌∷◌, ◌++◌, length, Option, Result, Ok, Err, sym, ap, subst, ◌∙◌, append-nil, arith}
-use Rattle.mkpasswd.specs.Answers.{after_work}
 use Rattle.mkpasswd.specs.LineRuns.{AreAnswers, both, lines_of}
 use Rattle.mkpasswd.specs.Private.LineEnds.{AnswersLast, IsAllAnswered}
-use Rattle.mkpasswd.specs.Private.Progress.{IsAt, Outs}
+use Rattle.mkpasswd.specs.Private.Desks.{Outs}
+use Rattle.mkpasswd.specs.Private.Progress.{IsAt}
 use Rattle.mkpasswd.specs.Tallies.{both_tallies}
 use Rattle.mkpasswd.specs.declared.faults.RunFault.{RunFault}
 use Rattle.mkpasswd.specs.declared.job.Job.{Job}
 use Rattle.mkpasswd.specs.declared.line.Kind.{Kind}
 use Rattle.mkpasswd.specs.declared.lines.progress.Progress.{Progress}
-use Rattle.mkpasswd.proofs.LineAnswering.{AreAnswers-push, after_work-append}
+use Rattle.mkpasswd.proofs.LineAnswering.{AreAnswers-push}
 use Rattle.mkpasswd.proofs.LinesOf.{lines_of-last, lines_of-nil, lines_of-with_line_feeds}
-use Rattle.mkpasswd.proofs.LookingThrough.{AnswersHeld, Takes-trans, cut-answering}
+use Rattle.mkpasswd.proofs.LookingThrough.{AnswersHeld, cut-answering, given-both}
 
 module _ {O E : Type 0} (contents : O → Option (List ℕ)) (fault_contents : E → Option (List ℕ)) (kind : Kind) (job : Job) where
   lines-are : (start now : Outs O E) (bytes : List ℕ) (progress : Progress) (at : IsAt contents fault_contents kind job start now bytes progress)
@@ -27,12 +27,7 @@ module _ {O E : Type 0} (contents : O → Option (List ℕ)) (fault_contents : E
         answers = at.answers;
         are = subst (λ of_bytes. AreAnswers kind job 1 of_bytes start.stream at.answers) (sym lines) at.are;
         tally_is = at.tally;
-        out_unfailed = at.out_unfailed;
-        faults_unfailed = at.faults_unfailed;
-        text = at.text;
-        fault_text = at.fault_text;
-        stream = at.stream;
-        counts = at.counts;
+        given = at.given;
       }
 
   -- what is held is answered
@@ -43,21 +38,15 @@ module _ {O E : Type 0} (contents : O → Option (List ℕ)) (fault_contents : E
   last-answered start old new bytes progress next_progress A (Ok done) at some answers =
       let got = answers at.rest at.held in
       let next = got.0 in
-      let given = got.2 in
       let number : progress.tally.lines + 1 ≡ 1 + length at.done = omega (arith, ap (λ t. t.lines) at.tally, at.numbers) in
       let are : AreAnswers kind job 1 (at.done ++ at.rest ∷ []) start.stream (both at.answers next) =
-      AreAnswers-push kind job 1 at.done at.rest start.stream at.answers next at.are (rw (number, at.stream) at got.1) in
+      AreAnswers-push kind job 1 at.done at.rest start.stream at.answers next at.are (rw (number, at.given.stream) at got.1) in
       let lines = lines-are start old bytes progress at ∙ ap (λ others. at.done ++ others) (lines_of-last at.rest at.no_feed some) in
       record {
         answers = both at.answers next;
         are = subst (λ of_bytes. AreAnswers kind job 1 of_bytes start.stream (both at.answers next)) (sym lines) are;
         tally_is = got.3 ∙ ap (λ t. both_tallies t next.tally) at.tally;
-        out_unfailed = given.2.0 ∙ at.out_unfailed;
-        faults_unfailed = given.2.1 ∙ at.faults_unfailed;
-        text = Takes-trans contents start.out old.out new.out at.answers.text next.text at.text given.2.2;
-        fault_text = Takes-trans fault_contents start.faults old.faults new.faults at.answers.fault_text next.fault_text at.fault_text given.2.3;
-        stream = given.0;
-        counts = given.1 ∙ (ap (λ c. after_work c next.hashings) at.counts ∙ sym (after_work-append start.counts at.answers.hashings next.hashings));
+        given = given-both contents fault_contents kind job start old new at.answers next next_progress.left done at.given got.2;
       }
   last-answered start old new bytes progress next_progress A (Err fault) at some answers =
       let got = answers at.rest at.held in
@@ -72,7 +61,7 @@ module _ {O E : Type 0} (contents : O → Option (List ℕ)) (fault_contents : E
           lines = at.lines;
           no_feed = at.no_feed;
           are = at.are;
-          is_next = rw (number, at.stream) at got.1;
+          is_next = rw (number, at.given.stream) at got.1;
           cut = cut-answering contents fault_contents kind job start old new bytes [] progress next_progress.left at.rest got.0 A fault
               (record { at = at; is_line = sym (append-nil at.rest); no_feed = at.no_feed; is_next = got.1 }) got.2;
         },

@@ -2,8 +2,8 @@
 use Rattle.std.proofs.Common.{◌≡◌, ℕ, ◌+◌, ◌≤◌, List, Result, Ok, Err, arith, inl, inr}
 use Rattle.mkpasswd.specs.Answers.{Answer}
 use Rattle.mkpasswd.specs.Devices.{MovesBytes}
-use Rattle.mkpasswd.specs.LineRuns.{EndsAnswering, EndsAfter, EndsLines, EndsReading, EndsWhole}
-use Rattle.mkpasswd.specs.Runs.{Ends, Fails, Hands, IsWithinTurns, Tells, calls_of}
+use Rattle.mkpasswd.specs.LineRuns.{EndsAnswering, EndsLines, EndsLinesOf, EndsReading, EndsWhole}
+use Rattle.mkpasswd.specs.Runs.{Fails, Finishes, Hands, IsCutShort, IsWithinTurns, Tells, calls_of}
 use Rattle.mkpasswd.specs.declared.faults.RunFault.{RunFault}
 use Rattle.mkpasswd.specs.declared.faults.RunFault.TheVariants.{Read, Write, OutOfMemory, Turns, Password}
 use Rattle.mkpasswd.specs.declared.job.Job.{Job}
@@ -23,39 +23,48 @@ module _ {I O E : Type 0} (told : Tells I O E) (kind : Kind) (job : Job) where
       omega (arith, of_input, of_out, of_faults)
 
   -- a run ends with the first call that fails
-  fails-once : (turns : ℕ) (done next : Answer) (start new : Hands I O E) (result : Result Tally RunFault)
-      → Ends told turns done next start new result → failures_of new ≤ failures_of start + 1
-  fails-once turns done next start new (Ok tally) ends = omega (arith, fails-of start new 0 0 0 ends.1)
-  fails-once turns done next start new (Err Read) ends = omega (arith, fails-of start new 1 0 0 ends.0)
-  fails-once turns done next start new (Err Write) (inl cut, after) = omega (arith, fails-of start new 0 1 0 cut.0)
-  fails-once turns done next start new (Err Write) (inr cut, after) = omega (arith, fails-of start new 0 0 1 cut.0)
-  fails-once turns done next start new (Err Turns) ends = omega (arith, fails-of start new 0 0 0 ends.0)
-  fails-once turns done next start new (Err OutOfMemory) ends = omega (arith, fails-of start new 0 0 0 ends.0)
-  fails-once turns done next start new (Err (Password fault)) ends = omega (arith, fails-of start new 0 0 0 ends.0)
+  cut-once : (turns : ℕ) (done next : Answer) (start new : Hands I O E) (fault : RunFault)
+      → IsCutShort told turns done next start new fault → failures_of new ≤ failures_of start + 1
+  cut-once turns done next start new Read ends = omega (arith, fails-of start new 1 0 0 ends.0)
+  cut-once turns done next start new Write (inl cut, after) = omega (arith, fails-of start new 0 1 0 cut.0)
+  cut-once turns done next start new Write (inr cut, after) = omega (arith, fails-of start new 0 0 1 cut.0)
+  cut-once turns done next start new Turns ends = omega (arith, fails-of start new 0 0 0 ends.0)
+  cut-once turns done next start new OutOfMemory ends = omega (arith, fails-of start new 0 0 0 ends.0)
+  cut-once turns done next start new (Password fault) ends = omega (arith, fails-of start new 0 0 0 ends.0)
+
+  finished-once : (answers : Answer) (start new : Hands I O E) (result : Result Tally RunFault)
+      → Finishes told answers start new result → failures_of new ≤ failures_of start + 1
+  finished-once answers start new (Ok tally) ends = omega (arith, fails-of start new 0 0 0 ends.1)
+  finished-once answers start new (Err Write) (inl ends, after) = omega (arith, fails-of start new 0 1 0 ends.0)
+  finished-once answers start new (Err Write) (inr ends, after) = omega (arith, fails-of start new 0 0 1 ends.0)
+  finished-once answers start new (Err Read) ends = absurd ends
+  finished-once answers start new (Err OutOfMemory) ends = absurd ends
+  finished-once answers start new (Err Turns) ends = absurd ends
+  finished-once answers start new (Err (Password fault)) ends = absurd ends
 
   -- the three ways of an end
-  whole-once : (turns : ℕ) (start new : Hands I O E) (bytes : List ℕ) (result : Result Tally RunFault)
-      → EndsWhole told turns kind job bytes start new result → failures_of new ≤ failures_of start + 1
-  whole-once turns start new bytes result (answers, read_out, are, ends) = fails-once turns answers _ start new result ends
+  whole-once : (start new : Hands I O E) (bytes : List ℕ) (result : Result Tally RunFault)
+      → EndsWhole told kind job bytes start new result → failures_of new ≤ failures_of start + 1
+  whole-once start new bytes result (answers, read_out, are, ends) = finished-once answers start new result ends
 
-  reading-once : (turns : ℕ) (start new : Hands I O E) (bytes : List ℕ) (result : Result Tally RunFault)
-      → EndsReading told turns kind job bytes start new result → failures_of new ≤ failures_of start + 1
-  reading-once turns start new bytes result (done, rest, answers, answered, no_feed, moved, ends) = fails-once turns answers _ start new result ends
+  reading-once : (turns : ℕ) (start new : Hands I O E) (bytes : List ℕ) (fault : RunFault)
+      → EndsReading told turns kind job bytes start new fault → failures_of new ≤ failures_of start + 1
+  reading-once turns start new bytes fault (done, rest, answers, answered, no_feed, moved, ends) = cut-once turns answers _ start new fault ends
 
-  answering-once : (turns : ℕ) (start new : Hands I O E) (bytes : List ℕ) (result : Result Tally RunFault)
-      → EndsAnswering told turns kind job bytes start new result → failures_of new ≤ failures_of start + 1
-  answering-once turns start new bytes result (done, line, rest, answers, next, answered, no_feed, is_line, is_next, owed, ends) =
-      fails-once turns answers next start new result ends
+  answering-once : (turns : ℕ) (start new : Hands I O E) (bytes : List ℕ) (fault : RunFault)
+      → EndsAnswering told turns kind job bytes start new fault → failures_of new ≤ failures_of start + 1
+  answering-once turns start new bytes fault (done, line, rest, answers, next, answered, no_feed, is_line, is_next, owed, ends) =
+      cut-once turns answers next start new fault ends
 
   lines-once : (turns : ℕ) (start new : Hands I O E) (bytes : List ℕ) (result : Result Tally RunFault)
-      → EndsAfter told turns kind job bytes start new result → failures_of new ≤ failures_of start + 1
-  lines-once turns start new bytes (Ok tally) ends = whole-once turns start new bytes (Ok tally) ends
-  lines-once turns start new bytes (Err Read) ends = reading-once turns start new bytes (Err Read) ends
-  lines-once turns start new bytes (Err Write) (inl ends) = answering-once turns start new bytes (Err Write) ends
-  lines-once turns start new bytes (Err Write) (inr ends) = whole-once turns start new bytes (Err Write) ends
-  lines-once turns start new bytes (Err Turns) (inl ends) = reading-once turns start new bytes (Err Turns) ends
-  lines-once turns start new bytes (Err Turns) (inr ends) = answering-once turns start new bytes (Err Turns) ends
-  lines-once turns start new bytes (Err OutOfMemory) ends = answering-once turns start new bytes (Err OutOfMemory) ends
+      → EndsLinesOf told turns kind job bytes start new result → failures_of new ≤ failures_of start + 1
+  lines-once turns start new bytes (Ok tally) ends = whole-once start new bytes (Ok tally) ends
+  lines-once turns start new bytes (Err Read) ends = reading-once turns start new bytes Read ends
+  lines-once turns start new bytes (Err Write) (inl ends) = answering-once turns start new bytes Write ends
+  lines-once turns start new bytes (Err Write) (inr ends) = whole-once start new bytes (Err Write) ends
+  lines-once turns start new bytes (Err Turns) (inl ends) = reading-once turns start new bytes Turns ends
+  lines-once turns start new bytes (Err Turns) (inr ends) = answering-once turns start new bytes Turns ends
+  lines-once turns start new bytes (Err OutOfMemory) ends = answering-once turns start new bytes OutOfMemory ends
   lines-once turns start new bytes (Err (Password fault)) ends = absurd ends
 
   pub within-turns : (turns left : ℕ) (start new : Hands I O E) (result : Result Tally RunFault)

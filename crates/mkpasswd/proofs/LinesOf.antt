@@ -8,7 +8,8 @@ use Rattle.std.proofs.lemmas.List.Concat.{flat_map-append}
 use Rattle.std.proofs.lemmas.List.Elements.{Contains-append_cases}
 use Rattle.std.proofs.lemmas.List.Splits.{length-slice_split, slice_split_at, slice_split_none}
 use Rattle.std.proofs.lemmas.List.Sums.{fails_before_first, passes_at_first}
-use Rattle.mkpasswd.specs.LineRuns.{HasNoLineFeed, line_feed, lines_of, with_line_feeds, without_empty_end}
+use Rattle.mkpasswd.specs.LineRuns.{HasNoLineFeed, lines_of, with_line_feeds, without_empty_end}
+use Rattle.mkpasswd.specs.Texts.{line_feed}
 use Rattle.mkpasswd.proofs.LineFeeds.{feed_at, lacks_feed, position-feed, position-none}
 
 -- ---- lines with their line feeds
@@ -52,7 +53,7 @@ pub HasNoLineFeed-position : (xs : List ℕ) → position (λ b. eqb b 10) xs �
 HasNoLineFeed-position xs none = lacks_feed xs (position-none xs none)
 
 -- a list that is cut at its first line feed
-pub record IsCut (xs : List ℕ) (at : ℕ) : Type 0 where
+pub record IsCutAtFeed (xs : List ℕ) (at : ℕ) : Type 0 where
   pub within : at < length xs
   pub parts : xs ≡ take at xs ++ line_feed ∷ drop (at + 1) xs
   pub no_feed : HasNoLineFeed (take at xs)
@@ -63,7 +64,7 @@ front-lacks_feed xs within has =
     let same = get_or-take (feed_at xs) xs has.0 line_feed before in
     eqb-false _ _ (fails_before_first (λ b. eqb b line_feed) xs has.0 line_feed before) (sym same ∙ has.2)
 
-pub cut-at_feed : (xs : List ℕ) (at : ℕ) → position (λ b. eqb b 10) xs ≡ Some at → IsCut xs at
+pub cut-at_feed : (xs : List ℕ) (at : ℕ) → position (λ b. eqb b 10) xs ≡ Some at → IsCutAtFeed xs at
 cut-at_feed xs at found =
     let place = position-feed xs at found in
     let within : feed_at xs < length xs = omega (arith, place.0, place.1) in

@@ -1,15 +1,15 @@
 -- How far the looking through a piece of the input has come.
 use Rattle.std.proofs.Common.{◌≡◌, ℕ, ◌+◌, ◌<◌, ◌≤◌, List, [], ◌∷◌, ◌++◌, length, take, drop, Option, Result, Ok, Err, OnOk, refl, sym, ap, subst, ◌∙◌, append_assoc, append-nil, arith, inl, inr}
-use Rattle.std.proofs.KnownBytes.{Appends-trans}
 use Rattle.std.proofs.lemmas.List.{length-append, length-drop}
 use Rattle.mkpasswd.specs.Answers.{Answer, IsRefusedAmong, after_work}
-use Rattle.mkpasswd.specs.Devices.{Device, MovesBytes}
 use Rattle.mkpasswd.specs.LineAnswers.{IsAnswer}
-use Rattle.mkpasswd.specs.LineRuns.{AreAnswers, HasNoLineFeed, both, line_feed, with_line_feeds}
-use Rattle.mkpasswd.specs.Output.{Takes, TakesPrefix}
-use Rattle.mkpasswd.specs.Private.Progress.{Answers, HasRoomIn, IsAt, IsCutShort, LooksThrough, Outs, StandsFor}
-use Rattle.mkpasswd.specs.Runs.{TakesFront}
+use Rattle.mkpasswd.specs.LineRuns.{AreAnswers, HasNoLineFeed, both, piece_size, with_line_feeds}
+use Rattle.mkpasswd.specs.Output.{Takes}
+use Rattle.mkpasswd.specs.Private.Desks.{IsSameDesk, Outs, TakesTurns}
+use Rattle.mkpasswd.specs.Private.Progress.{Answers, AreGiven, HasRoomIn, IsAt, IsInterrupted, LooksThrough, StandsFor}
 use Rattle.mkpasswd.specs.Tallies.{both_tallies}
+use Rattle.mkpasswd.specs.Texts.{line_feed}
+use Rattle.mkpasswd.specs.declared.desk.Desk.{Desk}
 use Rattle.mkpasswd.specs.declared.faults.RunFault.{RunFault}
 use Rattle.mkpasswd.specs.declared.faults.RunFault.TheVariants.{Read, Write, OutOfMemory, Turns, Password}
 use Rattle.mkpasswd.specs.declared.job.Job.{Job}
@@ -18,29 +18,17 @@ use Rattle.mkpasswd.specs.declared.lines.held.Held.{Held}
 use Rattle.mkpasswd.specs.declared.lines.progress.Progress.{Progress}
 use Rattle.mkpasswd.specs.declared.tally.Tally.{Tally}
 use Rattle.mkpasswd.proofs.LineAnswering.{AreAnswers-push, after_work-append, lines-of_answers}
-use Rattle.mkpasswd.proofs.LinesOf.{AllByRecursion-push, HasNoLineFeed-append, HasNoLineFeed-nil, IsCut, with_line_feeds-behind, with_line_feeds-behind_all}
+use Rattle.mkpasswd.proofs.LinesOf.{AllByRecursion-push, HasNoLineFeed-append, HasNoLineFeed-nil, IsCutAtFeed, with_line_feeds-behind, with_line_feeds-behind_all}
+use Rattle.mkpasswd.proofs.Sending.{Takes-trans, TakesFront-behind}
 
--- ---- outputs
-
-module _ {T : Type 0} (contents : T → Option (List ℕ)) where
-  pub Takes-trans : (old mid new : Device T) (bytes others : List ℕ) → Takes contents old mid bytes → Takes contents mid new others
-      → Takes contents old new (bytes ++ others)
-  Takes-trans old mid new bytes others before more =
-      let counted = before.counted in
-      let more_counted = more.counted in
-      record {
-        shown = Appends-trans _ (contents mid.inner) _ bytes others before.shown more.shown;
-        counted = omega (arith, length-append bytes others, counted, more_counted);
-      }
-
-  pub TakesFront-behind : (old mid new : Device T) (whole text : List ℕ) → Takes contents old mid whole → TakesPrefix contents mid new text
-      → TakesFront contents old new whole text
-  TakesFront-behind old mid new whole text before front = (
-    front.1.0,
-    front.0,
-    front.1.1,
-    Takes-trans old mid new whole front.1.0 before front.1.2,
-  )
+-- a desk that was handed on twice
+pub same-trans : {O E R : Type 0} (old mid new : Desk O E R) → IsSameDesk old mid → IsSameDesk mid new → IsSameDesk old new
+same-trans old mid new before more = record {
+  out = more.out ∙ before.out;
+  faults = more.faults ∙ before.faults;
+  rng = more.rng ∙ before.rng;
+  meter = more.meter ∙ before.meter;
+}
 
 module _ {O E : Type 0} (contents : O → Option (List ℕ)) (fault_contents : E → Option (List ℕ)) (kind : Kind) (job : Job) where
   -- where the run is before the step for a line
@@ -50,12 +38,25 @@ module _ {O E : Type 0} (contents : O → Option (List ℕ)) (fault_contents : E
     pub no_feed : HasNoLineFeed line
     pub is_next : IsAnswer kind job (progress.tally.lines + 1) line old.stream next
 
+  -- the next answer is given, behind those that were
+  pub given-both : (start old new : Outs O E) (answers next : Answer) (left : ℕ) {A : Type 0} (done : A)
+      → AreGiven contents fault_contents answers start old
+      → Answers contents fault_contents left next old new (Ok done)
+      → AreGiven contents fault_contents (both answers next) start new
+  given-both start old new answers next left done before given = record {
+    out_unfailed = given.2.0 ∙ before.out_unfailed;
+    faults_unfailed = given.2.1 ∙ before.faults_unfailed;
+    text = Takes-trans contents start.out old.out new.out answers.text next.text before.text given.2.2;
+    fault_text = Takes-trans fault_contents start.faults old.faults new.faults answers.fault_text next.fault_text before.fault_text given.2.3;
+    stream = given.0;
+    counts = given.1 ∙ (ap (λ c. after_work c next.hashings) before.counts ∙ sym (after_work-append start.counts answers.hashings next.hashings));
+  }
+
   counts-after : (start old new : Outs O E) (bytes front : List ℕ) (progress : Progress) (line : List ℕ) (next : Answer)
       → (before : IsAtLine start old bytes front progress line next) → new.counts ≡ after_work old.counts next.hashings
       → new.counts ≡ after_work (after_work start.counts before.at.answers.hashings) next.hashings
-  counts-after start old new bytes front progress line next before after = after ∙ ap (λ c. after_work c next.hashings) before.at.counts
+  counts-after start old new bytes front progress line next before after = after ∙ ap (λ c. after_work c next.hashings) before.at.given.counts
 
-  -- the next answer is given, behind those that were
   pub at-answered : (start old new : Outs O E) (bytes front : List ℕ) (progress next_progress : Progress) (line : List ℕ) (next : Answer) {A : Type 0} (done : A)
       → IsAtLine start old bytes front progress line next
       → Answers contents fault_contents next_progress.left next old new (Ok done)
@@ -66,7 +67,7 @@ module _ {O E : Type 0} (contents : O → Option (List ℕ)) (fault_contents : E
       let at = before.at in
       let number : progress.tally.lines + 1 ≡ 1 + length at.done = omega (arith, ap (λ t. t.lines) at.tally, at.numbers) in
       let are : AreAnswers kind job 1 (at.done ++ line ∷ []) start.stream (both at.answers next) =
-      AreAnswers-push kind job 1 at.done line start.stream at.answers next at.are (rw (number, at.stream) at before.is_next) in
+      AreAnswers-push kind job 1 at.done line start.stream at.answers next at.are (rw (number, at.given.stream) at before.is_next) in
       record {
         done = at.done ++ line ∷ [];
         rest = [];
@@ -78,19 +79,14 @@ module _ {O E : Type 0} (contents : O → Option (List ℕ)) (fault_contents : E
         are = are;
         tally = counted ∙ ap (λ t. both_tallies t next.tally) at.tally;
         numbers = lines-of_answers kind job 1 (at.done ++ line ∷ []) start.stream (both at.answers next) are;
-        out_unfailed = given.2.0 ∙ at.out_unfailed;
-        faults_unfailed = given.2.1 ∙ at.faults_unfailed;
-        text = Takes-trans contents start.out old.out new.out at.answers.text next.text at.text given.2.2;
-        fault_text = Takes-trans fault_contents start.faults old.faults new.faults at.answers.fault_text next.fault_text at.fault_text given.2.3;
-        stream = given.0;
-        counts = counts-after start old new bytes front progress line next before given.1 ∙ sym (after_work-append start.counts at.answers.hashings next.hashings);
+        given = given-both start old new at.answers next next_progress.left done at.given given;
       }
 
   -- how it is cut short
   pub cut-answering : (start old new : Outs O E) (bytes front : List ℕ) (progress : Progress) (left : ℕ) (line : List ℕ) (next : Answer) (A : Type 0) (fault : RunFault)
       → (before : IsAtLine start old bytes front progress line next)
       → Answers contents fault_contents left next old new {A = A} (Err fault)
-      → IsCutShort contents fault_contents left before.at.answers next start new fault
+      → IsInterrupted contents fault_contents left before.at.answers next start new fault
   cut-answering start old new bytes front progress left line next A Write before given =
       let at = before.at in
       let done = at.answers in (
@@ -98,16 +94,16 @@ module _ {O E : Type 0} (contents : O → Option (List ℕ)) (fault_contents : E
         counts-after start old new bytes front progress line next before given.1,
         elim given.2 [
           | inl cut ↦ inl (
-            cut.0 ∙ ap (λ n. n + 1) at.out_unfailed,
-            cut.1 ∙ at.faults_unfailed,
-            TakesFront-behind contents start.out old.out new.out done.text next.text at.text cut.2,
-            Takes-trans fault_contents start.faults old.faults new.faults done.fault_text next.fault_text at.fault_text cut.3,
+            cut.0 ∙ ap (λ n. n + 1) at.given.out_unfailed,
+            cut.1 ∙ at.given.faults_unfailed,
+            TakesFront-behind contents start.out old.out new.out done.text next.text at.given.text cut.2,
+            Takes-trans fault_contents start.faults old.faults new.faults done.fault_text next.fault_text at.given.fault_text cut.3,
           )
           | inr cut ↦ inr (
-            cut.0 ∙ at.out_unfailed,
-            cut.1 ∙ ap (λ n. n + 1) at.faults_unfailed,
-            Takes-trans contents start.out old.out new.out done.text next.text at.text cut.2,
-            TakesFront-behind fault_contents start.faults old.faults new.faults done.fault_text next.fault_text at.fault_text cut.3,
+            cut.0 ∙ at.given.out_unfailed,
+            cut.1 ∙ ap (λ n. n + 1) at.given.faults_unfailed,
+            Takes-trans contents start.out old.out new.out done.text next.text at.given.text cut.2,
+            TakesFront-behind fault_contents start.faults old.faults new.faults done.fault_text next.fault_text at.given.fault_text cut.3,
           )
         ],
       )
@@ -117,22 +113,22 @@ module _ {O E : Type 0} (contents : O → Option (List ℕ)) (fault_contents : E
       let cut = given.2 in (
         given.0,
         counts-after start old new bytes front progress line next before given.1,
-        cut.0 ∙ at.out_unfailed,
-        cut.1 ∙ at.faults_unfailed,
+        cut.0 ∙ at.given.out_unfailed,
+        cut.1 ∙ at.given.faults_unfailed,
         cut.2,
-        TakesFront-behind contents start.out old.out new.out done.text next.text at.text cut.3,
-        TakesFront-behind fault_contents start.faults old.faults new.faults done.fault_text next.fault_text at.fault_text cut.4,
-        (let taken = at.text.counted in let told = at.fault_text.counted in
+        TakesFront-behind contents start.out old.out new.out done.text next.text at.given.text cut.3,
+        TakesFront-behind fault_contents start.faults old.faults new.faults done.fault_text next.fault_text at.given.fault_text cut.4,
+        (let taken = at.given.text.counted in let told = at.given.fault_text.counted in
             omega (arith, cut.5, taken, told, length-append done.text next.text, length-append done.fault_text next.fault_text)),
       )
   cut-answering start old new bytes front progress left line next A OutOfMemory before given =
       let at = before.at in (
         given.2,
-        subst (λ counts. IsRefusedAmong counts next.hashings new.counts) at.counts given.3,
-        ap (λ d. d.failures) given.0 ∙ at.out_unfailed,
-        ap (λ d. d.failures) given.1 ∙ at.faults_unfailed,
-        subst (λ d. Takes contents start.out d at.answers.text) (sym given.0) at.text,
-        subst (λ d. Takes fault_contents start.faults d at.answers.fault_text) (sym given.1) at.fault_text,
+        subst (λ counts. IsRefusedAmong counts next.hashings new.counts) at.given.counts given.3,
+        ap (λ d. d.failures) given.0 ∙ at.given.out_unfailed,
+        ap (λ d. d.failures) given.1 ∙ at.given.faults_unfailed,
+        subst (λ d. Takes contents start.out d at.answers.text) (sym given.0) at.given.text,
+        subst (λ d. Takes fault_contents start.faults d at.answers.fault_text) (sym given.1) at.given.fault_text,
       )
   cut-answering start old new bytes front progress left line next A Read before given = absurd given.2
   cut-answering start old new bytes front progress left line next A (Password fault) before given = absurd given.2
@@ -140,7 +136,7 @@ module _ {O E : Type 0} (contents : O → Option (List ℕ)) (fault_contents : E
   pub looks-cut : (start old new : Outs O E) (bytes front behind : List ℕ) (progress next_progress : Progress) (line : List ℕ) (next : Answer) (A : Type 0) (fault : RunFault)
       → IsAtLine start old bytes front progress line next
       → Answers contents fault_contents next_progress.left next old new {A = A} (Err fault)
-      → length behind < 512
+      → length behind < piece_size
       → LooksThrough contents fault_contents kind job start new (bytes ++ (front ++ line_feed ∷ behind)) next_progress {A = A} (Err fault)
   looks-cut start old new bytes front behind progress next_progress line next A fault before given small =
       let at = before.at in
@@ -156,7 +152,7 @@ module _ {O E : Type 0} (contents : O → Option (List ℕ)) (fault_contents : E
           lines = at.lines;
           no_feed = before.no_feed;
           are = at.are;
-          is_next = rw (number, at.stream) at before.is_next;
+          is_next = rw (number, at.given.stream) at before.is_next;
           cut = cut-answering start old new bytes front progress next_progress.left line next A fault before given;
         },
       )
@@ -169,10 +165,7 @@ module _ {O E : Type 0} (contents : O → Option (List ℕ)) (fault_contents : E
     pub split : front ++ rest ≡ piece
     pub lines : progress.tally.lines + length rest ≤ old_progress.tally.lines + length piece
     pub room : HasRoomIn progress.tally now
-    pub turns : now.out.calls + now.faults.calls + progress.left ≡ old.out.calls + old.faults.calls + old_progress.left
-    pub fewer : progress.left ≤ old_progress.left
-    pub out_moves : MovesBytes 0 old.out now.out
-    pub faults_moves : MovesBytes 0 old.faults now.faults
+    pub turns : TakesTurns old_progress.left progress.left old now
     pub at : (start : Outs O E) (bytes : List ℕ) → IsAt contents fault_contents kind job start old bytes old_progress
         → IsAt contents fault_contents kind job start now (bytes ++ front) progress
 
@@ -182,10 +175,7 @@ module _ {O E : Type 0} (contents : O → Option (List ℕ)) (fault_contents : E
     split = refl;
     lines = omega arith;
     room = room;
-    turns = refl;
-    fewer = omega arith;
-    out_moves = omega arith;
-    faults_moves = omega arith;
+    turns = record { turns = refl; fewer = omega arith; out_moves = omega arith; faults_moves = omega arith };
     at = λ start bytes is. subst (λ b. IsAt contents fault_contents kind job start old b progress) (sym (append-nil bytes)) is;
   }
 
@@ -200,7 +190,7 @@ module _ {O E : Type 0} (contents : O → Option (List ℕ)) (fault_contents : E
   -- the step for one line of the piece, which ends at its first line feed
   pub record IsStep (old mid new : Outs O E) (old_progress progress next_progress : Progress) (held : Held) (piece rest : List ℕ) (end : ℕ) {A : Type 0} (result : Result A RunFault) : Type 0 where
     pub before : IsLooking old mid old_progress progress piece rest
-    pub cut : IsCut rest end
+    pub cut : IsCutAtFeed rest end
     pub holds : (line : List ℕ) → StandsFor progress.held line → StandsFor held (line ++ take end rest)
     pub answers : AnswersHeld mid new progress.tally held next_progress result
 
@@ -228,39 +218,41 @@ module _ {O E : Type 0} (contents : O → Option (List ℕ)) (fault_contents : E
       )
 
   -- the piece, from the front before the line, the end of the line, and what is behind it
-  piece-parts : (front rest piece : List ℕ) (end : ℕ) → front ++ rest ≡ piece → IsCut rest end
+  piece-parts : (front rest piece : List ℕ) (end : ℕ) → front ++ rest ≡ piece → IsCutAtFeed rest end
       → front ++ (take end rest ++ line_feed ∷ drop (end + 1) rest) ≡ piece
   piece-parts front rest piece end split cut = ap (λ others. front ++ others) (sym cut.parts) ∙ split
 
   pub looking-cut : (old mid new : Outs O E) (old_progress progress next_progress : Progress) (held : Held) (piece rest : List ℕ) (end : ℕ) (A : Type 0) (fault : RunFault)
       → IsStep old mid new old_progress progress next_progress held piece rest end {A = A} (Err fault)
-      → length piece ≤ 512
+      → length piece ≤ piece_size
       → (start : Outs O E) (bytes : List ℕ) → IsAt contents fault_contents kind job start old bytes old_progress
       → LooksThrough contents fault_contents kind job start new (bytes ++ piece) next_progress {A = A} (Err fault)
   looking-cut old mid new old_progress progress next_progress held piece rest end A fault step small start bytes is =
       let front = step.before.front in
       let behind = drop (end + 1) rest in
       let within = step.cut.within in
-      let few : length behind < 512 = omega (arith, small, within, length-drop (end + 1) rest, length-append front rest, ap length step.before.split) in
+      let few : length behind < piece_size = omega (arith, small, within, length-drop (end + 1) rest, length-append front rest, ap length step.before.split) in
       let answered = line-answered old mid new old_progress progress next_progress held piece rest end (Err fault) step start bytes is in
       subst (λ b. LooksThrough contents fault_contents kind job start new b next_progress {A = A} (Err fault))
       (append_assoc bytes front (take end rest ++ line_feed ∷ behind)
       ∙ ap (λ others. bytes ++ others) (piece-parts front rest piece end step.before.split step.cut))
       (looks-cut start mid new (bytes ++ front) (take end rest) behind progress next_progress answered.0 answered.1 A fault answered.2 answered.3 few)
 
-  -- what `answer_next` leaves of the numbers
-  pub record IsCounted (mid new : Outs O E) (progress next_progress : Progress) : Type 0 where
-    pub lines : next_progress.tally.lines ≤ progress.tally.lines + 1
-    pub turns : new.out.calls + new.faults.calls + next_progress.left ≡ mid.out.calls + mid.faults.calls + progress.left
-    pub fewer : next_progress.left ≤ progress.left
-    pub moves : MovesBytes 0 mid.out new.out × MovesBytes 0 mid.faults new.faults
+  turns-trans : (old mid new : Outs O E) (left mid_left new_left : ℕ) → TakesTurns left mid_left old mid → TakesTurns mid_left new_left mid new
+      → TakesTurns left new_left old new
+  turns-trans old mid new left mid_left new_left before more = record {
+    turns = more.turns ∙ before.turns;
+    fewer = omega (arith, more.fewer, before.fewer);
+    out_moves = omega (arith, more.out_moves, before.out_moves);
+    faults_moves = omega (arith, more.faults_moves, before.faults_moves);
+  }
 
   pub looking-step : (old mid new : Outs O E) (old_progress progress next_progress : Progress) (held : Held) (piece rest behind : List ℕ) (end : ℕ) {A : Type 0} (done : A)
       → IsStep old mid new old_progress progress next_progress held piece rest end (Ok done)
-      → StandsFor next_progress.held [] → HasRoomIn next_progress.tally new → IsCounted mid new progress next_progress
-      → behind ≡ drop (end + 1) rest
+      → StandsFor next_progress.held [] → HasRoomIn next_progress.tally new → next_progress.tally.lines ≤ progress.tally.lines + 1
+      → TakesTurns progress.left next_progress.left mid new → behind ≡ drop (end + 1) rest
       → IsLooking old new old_progress next_progress piece behind
-  looking-step old mid new old_progress progress next_progress held piece rest behind end done step cleared room counted is_behind =
+  looking-step old mid new old_progress progress next_progress held piece rest behind end done step cleared room lines turns is_behind =
       let before = step.before in
       let front = before.front in
       let line = take end rest ++ line_feed ∷ [] in
@@ -271,12 +263,9 @@ module _ {O E : Type 0} (contents : O → Option (List ℕ)) (fault_contents : E
             ∙ append_assoc front line (drop (end + 1) rest)
             ∙ (ap (λ others. front ++ others) (append_assoc (take end rest) (line_feed ∷ []) (drop (end + 1) rest))
             ∙ piece-parts front rest piece end before.split step.cut);
-        lines = omega (arith, counted.lines, before.lines, within, ap length is_behind, length-drop (end + 1) rest);
+        lines = omega (arith, lines, before.lines, within, ap length is_behind, length-drop (end + 1) rest);
         room = room;
-        turns = counted.turns ∙ before.turns;
-        fewer = omega (arith, counted.fewer, before.fewer);
-        out_moves = omega (arith, counted.moves.0, before.out_moves);
-        faults_moves = omega (arith, counted.moves.1, before.faults_moves);
+        turns = turns-trans old mid new old_progress.left progress.left next_progress.left before.turns turns;
         at = λ start bytes is.
             let answered = line-answered old mid new old_progress progress next_progress held piece rest end (Ok done) step start bytes is in
             subst (λ b. IsAt contents fault_contents kind job start new b next_progress)
@@ -306,10 +295,5 @@ module _ {O E : Type 0} (contents : O → Option (List ℕ)) (fault_contents : E
         are = at.are;
         tally = at.tally;
         numbers = at.numbers;
-        out_unfailed = at.out_unfailed;
-        faults_unfailed = at.faults_unfailed;
-        text = at.text;
-        fault_text = at.fault_text;
-        stream = at.stream;
-        counts = at.counts;
+        given = at.given;
       }

@@ -81,7 +81,7 @@ pub(crate) fn answer_line<R: Rng>(
     meter: &mut Meter,
 ) -> Result<LineAnswer, HashFault>
     requires { HasRoom meter.old }
-    ensures answer { (answer : Answer) × IsAnswer task.kind task.job.now number line.now (R.stream rng.old) answer
+    ensures answer { (answer : Answer) × IsAnswer task.entry.kind task.entry.job.now number line.now (R.stream rng.old) answer
         × Makes answer meter.old meter.new result × (R.stream rng.new ≡ answer.stream) }
     ensures small { IsRaisedBelow work_limit meter.old meter.new }
 {

@@ -138,7 +138,7 @@ fn run_lines<I: Read, O: Write, E: Write, R: Rng>(
     requires turns { turns ≤ turns_limit }
     requires devices { HasRoomForRun input.old × HasRoomForRun desk.old.out.now × HasRoomForRun desk.old.faults.now }
     requires counts { HasCountsForRun desk.old.meter.now }
-    ensures ends { EndsLines (tells I.remaining O.contents E.contents) turns task.kind task.job.now
+    ensures ends { EndsLines (tells I.remaining O.contents E.contents) turns task.entry.kind task.entry.job.now
         (with_input input.old (seen R.stream desk.old)) (with_input input.new (seen R.stream desk.new)) result }
     ensures within_turns { IsWithinTurns turns
         (with_input input.old (seen R.stream desk.old)) (with_input input.new (seen R.stream desk.new)) }
@@ -161,7 +161,7 @@ fn read_all<I: Read, O: Write, E: Write, R: Rng>(
     requires none_held { StandsFor progress.old.held [] }
     requires no_line { progress.old.tally ≡ no_line }
     requires room { HasRoomToRead progress.old (with_input input.old (seen R.stream desk.old)) }
-    ensures goes { GoesToEnd (tells I.remaining O.contents E.contents) progress.old.left task.kind task.job.now
+    ensures goes { GoesToEnd (tells I.remaining O.contents E.contents) progress.old.left task.entry.kind task.entry.job.now
         (with_input input.old (seen R.stream desk.old)) (with_input input.new (seen R.stream desk.new)) progress.new result }
     ensures room { OnOk result (HasRoomToRead progress.new (with_input input.new (seen R.stream desk.new))) }
     ensures turns { TakesTurnsOf 1 progress.old.left progress.new.left
@@ -184,10 +184,10 @@ fn read_piece<I: Read, O: Write, E: Write, R: Rng>(
 ) -> Result<bool, RunFault>
     requires room { HasRoomToRead progress.old (with_input input.old (seen R.stream desk.old)) }
     ensures goes { (start : Hands I O E) → (turns : ℕ) → (bytes : List ℕ)
-        → IsAtInput (tells I.remaining O.contents E.contents) turns task.kind task.job.now start
+        → IsAtInput (tells I.remaining O.contents E.contents) turns task.entry.kind task.entry.job.now start
         (with_input input.old (seen R.stream desk.old)) bytes progress.old
         → MovesBytes 0 start.input input.old
-        → GoesOn (tells I.remaining O.contents E.contents) turns task.kind task.job.now start
+        → GoesOn (tells I.remaining O.contents E.contents) turns task.entry.kind task.entry.job.now start
         (with_input input.new (seen R.stream desk.new)) progress.new result }
     ensures room { OnOk result (HasRoomToRead progress.new (with_input input.new (seen R.stream desk.new))) }
     ensures fewer { OnOk result (progress.new.left < progress.old.left) }

@@ -80,8 +80,8 @@ module _ {O E : Type 0} where
     pub given : AreGiven contents fault_contents answers start now
 
   -- how the outputs, the stream and the counts are left by a fault: after these answers, in the next one
-  abbrev pub IsCut : (O → Option (List ℕ)) → (E → Option (List ℕ)) → ℕ → Answer → Answer → Outs O E → Outs O E → RunFault → Type 0
-  IsCut contents fault_contents left done next start new Write =
+  abbrev pub IsInterrupted : (O → Option (List ℕ)) → (E → Option (List ℕ)) → ℕ → Answer → Answer → Outs O E → Outs O E → RunFault → Type 0
+  IsInterrupted contents fault_contents left done next start new Write =
       (new.stream ≡ next.stream) × (new.counts ≡ after_work (after_work start.counts done.hashings) next.hashings)
       × ((FailsOnce start.out new.out × IsUnfailed start.faults new.faults
       × TakesFront contents start.out new.out done.text next.text
@@ -89,19 +89,19 @@ module _ {O E : Type 0} where
       ⊎ (IsUnfailed start.out new.out × FailsOnce start.faults new.faults
       × Takes contents start.out new.out (done.text ++ next.text)
       × TakesFront fault_contents start.faults new.faults done.fault_text next.fault_text))
-  IsCut contents fault_contents left done next start new Turns =
+  IsInterrupted contents fault_contents left done next start new Turns =
       (new.stream ≡ next.stream) × (new.counts ≡ after_work (after_work start.counts done.hashings) next.hashings)
       × IsUnfailed start.out new.out × IsUnfailed start.faults new.faults × (left ≡ 0)
       × TakesFront contents start.out new.out done.text next.text
       × TakesFront fault_contents start.faults new.faults done.fault_text next.fault_text
       × (new.out.bytes + new.faults.bytes
       < start.out.bytes + start.faults.bytes + length (done.text ++ next.text) + length (done.fault_text ++ next.fault_text))
-  IsCut contents fault_contents left done next start new OutOfMemory =
+  IsInterrupted contents fault_contents left done next start new OutOfMemory =
       (new.stream ≡ next.stream) × IsRefusedAmong (after_work start.counts done.hashings) next.hashings new.counts
       × IsUnfailed start.out new.out × IsUnfailed start.faults new.faults
       × Takes contents start.out new.out done.text × Takes fault_contents start.faults new.faults done.fault_text
-  IsCut contents fault_contents left done next start new Read = ⊥
-  IsCut contents fault_contents left done next start new (Password fault) = ⊥
+  IsInterrupted contents fault_contents left done next start new Read = ⊥
+  IsInterrupted contents fault_contents left done next start new (Password fault) = ⊥
 
   -- some of the lines in these bytes are answered, and the next one, which begins the rest, was being answered
   pub record IsCutAt (contents : O → Option (List ℕ)) (fault_contents : E → Option (List ℕ)) (kind : Kind) (job : Job)
@@ -114,7 +114,7 @@ module _ {O E : Type 0} where
     pub no_feed : HasNoLineFeed line
     pub are : AreAnswers kind job 1 done start.stream answers
     pub is_next : IsAnswer kind job (length done + 1) line answers.stream next
-    pub cut : IsCut contents fault_contents left answers next start new fault
+    pub cut : IsInterrupted contents fault_contents left answers next start new fault
 
   -- a piece of the input was looked through
   abbrev pub LooksThrough : (O → Option (List ℕ)) → (E → Option (List ℕ)) → Kind → Job → Outs O E → Outs O E → List ℕ → Progress → {A : Type 0} → Result A RunFault → Type 0

@@ -60,7 +60,7 @@ impl Held {
     ) -> Result<LineAnswer, HashFault>
         requires { HasRoom meter.old }
         ensures answer { (line : List ℕ) → StandsFor self.now line
-            → (answer : Answer) × IsAnswer task.kind task.job.now number line (R.stream rng.old) answer
+            → (answer : Answer) × IsAnswer task.entry.kind task.entry.job.now number line (R.stream rng.old) answer
             × Makes answer meter.old meter.new result × (R.stream rng.new ≡ answer.stream) }
         ensures small { IsRaisedBelow work_limit meter.old meter.new }
     {

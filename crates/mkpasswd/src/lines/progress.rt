@@ -58,8 +58,8 @@ impl Progress {
         requires size { length piece.now ≤ piece_size }
         requires room { HasRoomToAnswer (length piece.now) self.old (seen R.stream desk.old) }
         ensures looked { (start : Outs O E) → (bytes : List ℕ)
-            → IsAt O.contents E.contents task.kind task.job.now start (seen R.stream desk.old) bytes self.old
-            → LooksThrough O.contents E.contents task.kind task.job.now start (seen R.stream desk.new) (bytes ++ piece.now) self.new result }
+            → IsAt O.contents E.contents task.entry.kind task.entry.job.now start (seen R.stream desk.old) bytes self.old
+            → LooksThrough O.contents E.contents task.entry.kind task.entry.job.now start (seen R.stream desk.new) (bytes ++ piece.now) self.new result }
         ensures room { OnOk result (HasRoomIn self.new.tally (seen R.stream desk.new)) }
         ensures lines { self.new.tally.lines ≤ self.old.tally.lines + length piece.now }
         ensures turns { TakesTurns self.old.left self.new.left (seen R.stream desk.old) (seen R.stream desk.new) }
@@ -83,8 +83,8 @@ impl Progress {
     ) -> Result<(), RunFault>
         requires room { HasRoomToAnswer 1 self.old (seen R.stream desk.old) }
         ensures answers { (start : Outs O E) → (bytes : List ℕ)
-            → IsAt O.contents E.contents task.kind task.job.now start (seen R.stream desk.old) bytes self.old
-            → AnswersLast O.contents E.contents task.kind task.job.now start (seen R.stream desk.new) bytes self.new result }
+            → IsAt O.contents E.contents task.entry.kind task.entry.job.now start (seen R.stream desk.old) bytes self.old
+            → AnswersLast O.contents E.contents task.entry.kind task.entry.job.now start (seen R.stream desk.new) bytes self.new result }
         ensures room { OnOk result (HasRoomIn self.new.tally (seen R.stream desk.new)) }
         ensures turns { TakesTurns self.old.left self.new.left (seen R.stream desk.old) (seen R.stream desk.new) }
         ensures same { IsSameDesk desk.old desk.new }
@@ -103,7 +103,7 @@ impl Progress {
     ) -> Result<(), RunFault>
         requires room { HasRoomToAnswer 1 self.old (seen R.stream desk.old) }
         ensures answers { (line : List ℕ) → StandsFor self.old.held line
-            → (answer : Answer) × IsAnswer task.kind task.job.now (self.old.tally.lines + 1) line (R.stream desk.old.rng.now) answer
+            → (answer : Answer) × IsAnswer task.entry.kind task.entry.job.now (self.old.tally.lines + 1) line (R.stream desk.old.rng.now) answer
             × Answers O.contents E.contents self.new.left answer (seen R.stream desk.old) (seen R.stream desk.new) result
             × OnOk result (self.new.tally ≡ both_tallies self.old.tally answer.tally) }
         ensures held { OnOk result (StandsFor self.new.held []) }

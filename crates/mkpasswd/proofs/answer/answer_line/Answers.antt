@@ -10,12 +10,12 @@ use Rattle.crypt_core.specs.Work.{work}
 use Rattle.crypt_core.specs.declared.hash.HashFault.{HashFault}
 use Rattle.crypt_core.specs.declared.hash.HashFault.TheVariants.{OutOfMemory}
 use Rattle.crypt_core.specs.declared.work.Work.{Work}
-use Rattle.mkpasswd.specs.Answers.{Answer, no_work, wanted_text}
-use Rattle.mkpasswd.specs.LineAnswers.{IsAnswer, HasSoundParts, compared_answer, hashed_answer, refused_answer, told_text, unhashed_answer}
+use Rattle.mkpasswd.specs.Answers.{Answer, hashed_answer, no_work}
+use Rattle.mkpasswd.specs.LineAnswers.{IsAnswer, HasSoundParts, compared_answer, front_of, refused_answer, unhashed_answer, verdict_text}
 use Rattle.mkpasswd.specs.LineAnswers.IsAnswer.{refused, hashed, none, locked, ok, no}
 use Rattle.mkpasswd.specs.Lines.{Parts}
 use Rattle.mkpasswd.specs.Private.Entries.{IsEntry, IsGoodField, parts_of}
-use Rattle.mkpasswd.specs.Private.Made.{IsVerdict, Makes, Tells, rise, verdict_word}
+use Rattle.mkpasswd.specs.Private.Made.{IsVerdict, Makes, TellsVerdict, rise, verdict_word}
 use Rattle.mkpasswd.specs.Tallies.{misfit_line, one_line}
 use Rattle.mkpasswd.specs.declared.answer.LineAnswer.{LineAnswer}
 use Rattle.mkpasswd.specs.declared.answer.Verdict.{Verdict}
@@ -40,24 +40,24 @@ entry_is_taken kind line parts field entry is good = record {
 }
 
 -- the counts that are told are those of the work behind the verdict
-told : (is_counted : Bool) (name : List ℕ) (before after : Counts) (verdict : Verdict) (made : LineAnswer) (work : Work) → Tells is_counted name before after verdict made
-    → rise before after ≡ work → told_text name (verdict_word verdict ++ wanted_text is_counted work) ≡ made.text.items
-told is_counted name before after verdict made work tells risen =
-    sym (tells.1 ∙ ap (λ (counts : Work). told_text name (verdict_word verdict ++ wanted_text is_counted counts)) risen)
+told : (job : Job) (name : List ℕ) (before after : Counts) (verdict : Verdict) (made : LineAnswer) (work : Work) → TellsVerdict job name before after verdict made
+    → rise before after ≡ work → verdict_text job name (verdict_word verdict) work ≡ made.text.items
+told job name before after verdict made work tells risen =
+    sym (tells.1 ∙ ap (λ (counts : Work). verdict_text job name (verdict_word verdict) counts) risen)
 
 verdict_is_answered : (kind : Kind) (job : Job) (number : ℕ) (line : List ℕ) (stream : Stream) (parts : Parts) (field : List ℕ) (before after : Counts)
     (verdict : Verdict) (made : LineAnswer) → HasSoundParts kind line parts → parts.field ≡ Some field
-    → IsVerdict field parts.password before after verdict → Tells job.work parts.name before after verdict made
+    → IsVerdict field parts.password before after verdict → TellsVerdict job parts.name before after verdict made
     → IsAnswered kind job number line stream before after (Ok made)
 verdict_is_answered kind job number line stream parts field before after NoneStored made taken is judged tells =
-    let text = told job.work parts.name before after NoneStored made no_work tells (rise-same before after judged.1) in (
+    let text = told job parts.name before after NoneStored made no_work tells (rise-same before after judged.1) in (
       unhashed_answer job parts.name (codes "none") stream,
       none parts taken (is ∙ ap Some judged.0) refl,
       (rw tells.0 (record { text = text; fault_text = refl; tally = refl }), judged.1),
       refl,
     )
 verdict_is_answered kind job number line stream parts field before after Locked made taken is judged tells =
-    let text = told job.work parts.name before after Locked made no_work tells (rise-same before after judged.1) in (
+    let text = told job parts.name before after Locked made no_work tells (rise-same before after judged.1) in (
       unhashed_answer job parts.name (codes "locked") stream,
       locked parts field taken is judged.0 refl,
       (rw tells.0 (record { text = text; fault_text = refl; tally = refl }), judged.1),
@@ -65,7 +65,7 @@ verdict_is_answered kind job number line stream parts field before after Locked 
     )
 verdict_is_answered kind job number line stream parts field before after Fits made taken is judged tells =
     let kept = judged.0 in
-    let text = told job.work parts.name before after Fits made (work parts.password kept) tells (rise-raised before after (work parts.password kept) judged.3) in (
+    let text = told job parts.name before after Fits made (work parts.password kept) tells (rise-raised before after (work parts.password kept) judged.3) in (
       compared_answer job parts.name (codes "ok") parts.password kept one_line stream,
       ok parts field kept taken is judged.1 judged.2 refl,
       (rw tells.0 (record { text = text; fault_text = refl; tally = refl }), judged.3),
@@ -73,7 +73,7 @@ verdict_is_answered kind job number line stream parts field before after Fits ma
     )
 verdict_is_answered kind job number line stream parts field before after Differs made taken is judged tells =
     let kept = judged.0 in
-    let text = told job.work parts.name before after Differs made (work parts.password kept) tells (rise-raised before after (work parts.password kept) judged.3) in (
+    let text = told job parts.name before after Differs made (work parts.password kept) tells (rise-raised before after (work parts.password kept) judged.3) in (
       compared_answer job parts.name (codes "no") parts.password kept misfit_line stream,
       no parts field kept taken is judged.1 judged.2 refl,
       (rw tells.0 (record { text = text; fault_text = refl; tally = refl }), judged.3),
@@ -117,24 +117,24 @@ returns-in-None-clause-answer g c =
     let parts = parts_of entry in
     let stream = g.R.Rng.stream c.args.rng.now in
     let field : parts.field ≡ None = rw c.in-None.is refl in
-    let taken : HasSoundParts c.args.kind c.args.line.now parts = record {
-      sound = sound_without_field c.args.kind c.args.line.now parts c.in-Ok.ensures.entry field;
+    let taken : HasSoundParts c.args.task.kind c.args.line.now parts = record {
+      sound = sound_without_field c.args.task.kind c.args.line.now parts c.in-Ok.ensures.entry field;
       cut = c.in-Ok.ensures.entry.cut;
     } in (
-      hashed_answer c.args.job.now parts.name parts.password stream,
+      hashed_answer c.args.task.job.now (front_of parts.name) parts.password stream,
       hashed parts taken field refl,
-      c.hash_answer.ensures.answer,
-      c.hash_answer.ensures.stream,
+      c.hashed.ensures.answer,
+      c.hashed.ensures.stream,
     )
 
-pub returns-in-Ok-check_answer-clause-answer : goal.returns-in-Ok-check_answer-clause-answer
-returns-in-Ok-check_answer-clause-answer g c =
+pub returns-in-Ok-checked-clause-answer : goal.returns-in-Ok-checked-clause-answer
+returns-in-Ok-checked-clause-answer g c =
     let parts = parts_of c.in-Ok.entry in
     let field = c.in-Some.field.now in
     let is : parts.field ≡ Some field = rw c.in-Some.is refl in
-    let judged = c.in-Ok-check_answer.ensures.checks in
-    verdict_is_answered c.args.kind c.args.job.now c.args.number c.args.line.now (g.R.Rng.stream c.args.rng.now) parts field c.args.meter.now c.check_answer.new.meter
-    judged.0 c.in-Ok-check_answer.answer (entry_is_taken c.args.kind c.args.line.now parts field c.in-Ok.ensures.entry is judged.1.0) is judged.1.1 judged.2
+    let judged = c.in-Ok-checked.ensures.checks in
+    verdict_is_answered c.args.task.kind c.args.task.job.now c.args.number c.args.line.now (g.R.Rng.stream c.args.rng.now) parts field c.args.meter.now c.checked.new.meter
+    judged.0 c.in-Ok-checked.answer (entry_is_taken c.args.task.kind c.args.line.now parts field c.in-Ok.ensures.entry is judged.1.0) is judged.1.1 judged.2
 
 pub returns-in-Err-Setting-clause-answer : goal.returns-in-Err-Setting-clause-answer
 returns-in-Err-Setting-clause-answer g c =
@@ -144,7 +144,7 @@ returns-in-Err-Setting-clause-answer g c =
     let judged = rw c.in-Err-Setting.field-0-is at c.in-Err-Setting.ensures.checks in
     let stream = g.R.Rng.stream c.args.rng.now in (
       refused_answer c.args.number (Setting c.in-Err-Setting.fault) stream,
-      refused (Setting c.in-Err-Setting.fault) (refused_field c.args.kind c.args.line.now parts field c.in-Err-Setting.fault c.in-Ok.ensures.entry is (judged.0, judged.1)) refl,
+      refused (Setting c.in-Err-Setting.fault) (refused_field c.args.task.kind c.args.line.now parts field c.in-Err-Setting.fault c.in-Ok.ensures.entry is (judged.0, judged.1)) refl,
       (c.refusal-in-Err-Setting.ensures stream, judged.2),
       refl,
     )
@@ -155,5 +155,5 @@ returns-in-Err-OutOfMemory-clause-answer g c =
     let field = c.in-Some.field.now in
     let is : parts.field ≡ Some field = rw c.in-Some.is refl in
     let judged = rw c.in-Err-OutOfMemory.field-0-is at c.in-Err-OutOfMemory.ensures.checks in
-    refused_is_answered c.args.kind c.args.job.now c.args.number c.args.line.now (g.R.Rng.stream c.args.rng.now) parts field c.args.meter.now c.check_answer.new.meter
-    judged.1 (entry_is_taken c.args.kind c.args.line.now parts field c.in-Ok.ensures.entry is judged.0) is judged.2 judged.3
+    refused_is_answered c.args.task.kind c.args.task.job.now c.args.number c.args.line.now (g.R.Rng.stream c.args.rng.now) parts field c.args.meter.now c.checked.new.meter
+    judged.1 (entry_is_taken c.args.task.kind c.args.line.now parts field c.in-Ok.ensures.entry is judged.0) is judged.2 judged.3
