@@ -1,8 +1,11 @@
 -- The calls of a run over lines: it ends with the first that fails.
-use Rattle.std.proofs.Common.{◌≡◌, ℕ, ◌+◌, ◌≤◌, List, Result, Ok, Err, arith, inl, inr}
+use Rattle.std.proofs.Common.{◌≡◌, ℕ, ◌+◌, ◌≤◌, List, Option, Result, Ok, Err, ap, arith, inl, inr}
 use Rattle.mkpasswd.specs.Answers.{Answer}
-use Rattle.mkpasswd.specs.Devices.{MovesBytes}
+use Rattle.mkpasswd.specs.Devices.{Device, MovesBytes}
 use Rattle.mkpasswd.specs.LineRuns.{EndsAnswering, EndsLines, EndsLinesOf, EndsReading, EndsWhole}
+use Rattle.mkpasswd.specs.Private.Deliveries.{FinishesBoth, IsKept}
+use Rattle.mkpasswd.specs.Private.Desks.{Outs, TakesTurns, outs_of, with_input}
+use Rattle.mkpasswd.specs.Private.LineEnds.{TakesTurnsOf}
 use Rattle.mkpasswd.specs.Runs.{Fails, Finishes, Hands, IsCutShort, IsWithinTurns, Tells, calls_of}
 use Rattle.mkpasswd.specs.declared.faults.RunFault.{RunFault}
 use Rattle.mkpasswd.specs.declared.faults.RunFault.TheVariants.{Read, Write, OutOfMemory, Turns, Password}
@@ -68,15 +71,54 @@ module _ {I O E : Type 0} (told : Tells I O E) (kind : Kind) (job : Job) where
   lines-once turns start new bytes (Err (Password fault)) ends = absurd ends
 
   pub within-turns : (turns left : ℕ) (start new : Hands I O E) (result : Result Tally RunFault)
-      → EndsLines told turns kind job start new result → calls_of new + left ≡ calls_of start + turns
-      → MovesBytes 1 start.input new.input → MovesBytes 0 start.out new.out → MovesBytes 0 start.faults new.faults
-      → IsWithinTurns turns start new
-  within-turns turns left start new result (bytes, reads, ends) calls of_input of_out of_faults =
+      → EndsLines told turns kind job start new result → TakesTurnsOf 1 turns left start new → IsWithinTurns turns start new
+  within-turns turns left start new result (bytes, reads, ends) took =
       let once = lines-once turns start new bytes result ends in
       record {
-        at_most_turns = omega (arith, calls);
-        at_most_bytes = omega (arith, once, of_input, of_out, of_faults);
-        of_input = of_input;
-        of_out = of_out;
-        of_faults = of_faults;
+        at_most_turns = omega (arith, took.turns);
+        at_most_bytes = omega (arith, once, took.input_moves, took.out_moves, took.faults_moves);
+        of_input = took.input_moves;
+        of_out = took.out_moves;
+        of_faults = took.faults_moves;
       }
+
+-- the turns of the fetches, and then those of the last answer
+pub turns-last : {I O E : Type 0} (turns mid_left left : ℕ) (start now : Hands I O E) (new : Outs O E) → TakesTurnsOf 1 turns mid_left start now
+    → TakesTurns mid_left left (outs_of now) new → TakesTurnsOf 1 turns left start (with_input now.input new)
+turns-last turns mid_left left start now new before more = record {
+  turns = omega (arith, before.turns, more.turns);
+  input_moves = before.input_moves;
+  out_moves = omega (arith, before.out_moves, more.out_moves);
+  faults_moves = omega (arith, before.faults_moves, more.faults_moves);
+}
+
+-- a flush takes none
+kept-moves : {T : Type 0} (contents : T → Option (List ℕ)) (old new : Device T) → IsKept contents old new → old.failures ≤ new.failures → MovesBytes 0 old new
+kept-moves contents old new kept failures = omega (arith, kept.calls, kept.bytes, failures)
+
+module _ {O E : Type 0} (contents : O → Option (List ℕ)) (fault_contents : E → Option (List ℕ)) where
+  pub turns-flushed : (left : ℕ) (old : Outs O E) (out : Device O) (faults : Device E) (A : Type 0) (result : Result A RunFault)
+      → FinishesBoth contents fault_contents old.out old.faults out faults {A = A} result
+      → TakesTurns left left old (record old { out = out; faults = faults })
+  turns-flushed left old out faults A (Ok done) (first, second) = record {
+    turns = omega (arith, first.kept.calls, second.kept.calls);
+    fewer = omega arith;
+    out_moves = kept-moves contents old.out out first.kept (let unfailed = first.unfailed in omega (arith, unfailed));
+    faults_moves = kept-moves fault_contents old.faults faults second.kept (let unfailed = second.unfailed in omega (arith, unfailed));
+  }
+  turns-flushed left old out faults A (Err Write) (inl (first, same)) = record {
+    turns = omega (arith, first.kept.calls, ap (λ d. d.calls) same);
+    fewer = omega arith;
+    out_moves = kept-moves contents old.out out first.kept (let failed = first.failed in omega (arith, failed));
+    faults_moves = rw same (omega arith);
+  }
+  turns-flushed left old out faults A (Err Write) (inr (first, second)) = record {
+    turns = omega (arith, first.kept.calls, second.kept.calls);
+    fewer = omega arith;
+    out_moves = kept-moves contents old.out out first.kept (let unfailed = first.unfailed in omega (arith, unfailed));
+    faults_moves = kept-moves fault_contents old.faults faults second.kept (let failed = second.failed in omega (arith, failed));
+  }
+  turns-flushed left old out faults A (Err Read) flushes = absurd flushes
+  turns-flushed left old out faults A (Err OutOfMemory) flushes = absurd flushes
+  turns-flushed left old out faults A (Err Turns) flushes = absurd flushes
+  turns-flushed left old out faults A (Err (Password fault)) flushes = absurd flushes

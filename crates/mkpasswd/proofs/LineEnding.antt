@@ -4,44 +4,34 @@ use Rattle.std.proofs.KnownBytes.{Consumes-nil}
 use Rattle.mkpasswd.specs.Answers.{Answer, no_answer}
 use Rattle.mkpasswd.specs.Devices.{Device, IsUnfailed, MovesBytes}
 use Rattle.mkpasswd.specs.Input.{Reads}
-use Rattle.mkpasswd.specs.LineRuns.{EndsAnswering, EndsLines, IsNext, IsOwed, IsReadOut, line_feed}
-use Rattle.mkpasswd.specs.Output.{Takes}
+use Rattle.mkpasswd.specs.LineRuns.{EndsAnswering, EndsLines, EndsReading, IsNext, IsOwed, IsReadOut}
+use Rattle.mkpasswd.specs.Private.Deliveries.{FinishesBoth}
+use Rattle.mkpasswd.specs.Private.Desks.{Outs, TakesTurns, outs_of, with_input}
 use Rattle.mkpasswd.specs.Private.Fetching.{Fetches}
-use Rattle.mkpasswd.specs.Private.LineEnds.{AnswersLast, Flushes, GoesOn, GoesToEnd, HasRoomToRead, IsAllAnswered, IsAtInput, IsKept, outs_of, spare_fetch}
-use Rattle.mkpasswd.specs.Private.Progress.{IsAt, IsCutAt, IsCutShort, LooksThrough, Outs, StandsFor}
-use Rattle.mkpasswd.specs.Runs.{Ends, Hands, TakesFront, Tells, calls_of, hands, tells}
+use Rattle.mkpasswd.specs.Private.LineEnds.{AnswersLast, GoesOn, GoesToEnd, HasRoomToRead, IsAllAnswered, IsAtInput, TakesTurnsOf, spare_fetch}
+use Rattle.mkpasswd.specs.Private.Progress.{AreGiven, IsAt, IsCutAt, IsInterrupted, LooksThrough, StandsFor}
+use Rattle.mkpasswd.specs.Runs.{Fails, Finishes, Hands, IsCutShort, Tells, calls_of}
 use Rattle.mkpasswd.specs.Tallies.{no_line}
+use Rattle.mkpasswd.specs.Texts.{line_feed}
 use Rattle.mkpasswd.specs.declared.faults.RunFault.{RunFault}
 use Rattle.mkpasswd.specs.declared.faults.RunFault.TheVariants.{Read, Write, OutOfMemory, Turns, Password}
 use Rattle.mkpasswd.specs.declared.job.Job.{Job}
 use Rattle.mkpasswd.specs.declared.line.Kind.{Kind}
 use Rattle.mkpasswd.specs.declared.lines.progress.Progress.{Progress}
 use Rattle.mkpasswd.specs.declared.tally.Tally.{Tally}
-use Rattle.mkpasswd.proofs.Ending.{takes-flushed, takes-nothing}
+use Rattle.mkpasswd.proofs.Finishing.{HasAnswered, finishes, finishes-with_fault}
 use Rattle.mkpasswd.proofs.LinesOf.{HasNoLineFeed-nil}
 use Rattle.mkpasswd.proofs.Reading.{Reads-trans}
+use Rattle.mkpasswd.proofs.Sending.{front-none, takes-nothing}
 
--- nothing of a next answer was taken
-front-none : {T : Type 0} (contents : T → Option (List ℕ)) (old new : Device T) (whole : List ℕ)
-    → Takes contents old new whole → TakesFront contents old new whole []
-front-none contents old new whole takes = ([], [], refl, subst (Takes contents old new) (sym (append-nil whole)) takes)
-
-flushed : {T : Type 0} (contents : T → Option (List ℕ)) (old mid new : Device T) (bytes : List ℕ)
-    → Takes contents old mid bytes → IsKept contents mid new → Takes contents old new bytes
-flushed contents old mid new bytes takes kept = takes-flushed contents old mid new bytes takes kept.shown kept.bytes
-
-module _ {I O E : Type 0} (remaining : I → Option (List ℕ)) (contents : O → Option (List ℕ)) (fault_contents : E → Option (List ℕ))
-    (kind : Kind) (job : Job) where
-  abbrev told : Tells I O E
-  told = tells remaining contents fault_contents
-
+module _ {I O E : Type 0} (told : Tells I O E) (kind : Kind) (job : Job) where
   -- ---- between two fetches
 
   -- what is told of a progress doesn't hang on the turns that are left
   pub at-turned : (start now : Outs O E) (bytes : List ℕ) (progress next : Progress)
-      → IsAt contents fault_contents kind job start now bytes progress
+      → IsAt told.contents told.fault_contents kind job start now bytes progress
       → next.held ≡ progress.held → next.tally ≡ progress.tally
-      → IsAt contents fault_contents kind job start now bytes next
+      → IsAt told.contents told.fault_contents kind job start now bytes next
   at-turned start now bytes progress next at held tally = record {
     done = at.done;
     rest = at.rest;
@@ -53,28 +43,32 @@ module _ {I O E : Type 0} (remaining : I → Option (List ℕ)) (contents : O �
     are = at.are;
     tally = tally ∙ at.tally;
     numbers = at.numbers;
-    out_unfailed = at.out_unfailed;
-    faults_unfailed = at.faults_unfailed;
-    text = at.text;
-    fault_text = at.fault_text;
-    stream = at.stream;
-    counts = at.counts;
+    given = at.given;
   }
 
   -- ---- the ends
 
+  -- what failed, where it was the input or nothing
+  fails-at_input : (start old : Hands I O E) (input : Device I) (answers : Answer) (failed : ℕ)
+      → AreGiven told.contents told.fault_contents answers (outs_of start) (outs_of old) → input.failures ≡ start.input.failures + failed
+      → Fails failed 0 0 start (with_input input (outs_of old))
+  fails-at_input start old input answers failed given failures = record {
+    of_input = failures;
+    of_out = given.out_unfailed ∙ sym (add-zero _);
+    of_faults = given.faults_unfailed ∙ sym (add-zero _);
+  }
+
   -- more of the input was wanted
-  pub ends-fetching : (turns : ℕ) (start old : Hands I O E) (new_input : Device I) (bytes buffer : List ℕ) (progress : Progress) (left : ℕ) (fault : RunFault)
-      → IsAtInput told turns kind job start old bytes progress → MovesBytes 0 start.input old.input
-      → Fetches remaining progress.left old.input new_input buffer (Err fault)
-      → left ≡ progress.left - 1 → new_input.calls + left ≡ old.input.calls + progress.left
-      → EndsLines told turns kind job start (hands new_input old.out old.faults old.stream old.counts) (Err fault)
-  ends-fetching turns start old new_input bytes buffer progress left Read before moved fetched took calls =
+  ends-in_fetch : (turns : ℕ) (start old : Hands I O E) (input : Device I) (bytes buffer : List ℕ) (progress : Progress) (left : ℕ) (fault : RunFault)
+      → (before : IsAtInput told turns kind job start old bytes progress) → MovesBytes 0 start.input old.input
+      → Fetches told.remaining progress.left old.input input buffer (Err fault)
+      → left ≡ progress.left - 1 → input.calls + left ≡ old.input.calls + progress.left
+      → Reads told.remaining start.input input bytes × EndsReading told turns kind job bytes start (with_input input (outs_of old)) fault
+  ends-in_fetch turns start old input bytes buffer progress left Read before moved fetched took calls =
       let at = before.answered in
       let gave = fetched.1.counted in (
-        bytes,
-        subst (Reads remaining start.input new_input) (append-nil bytes)
-            (Reads-trans remaining start.input old.input new_input bytes [] before.reads fetched.1),
+        subst (Reads told.remaining start.input input) (append-nil bytes)
+            (Reads-trans told.remaining start.input old.input input bytes [] before.reads fetched.1),
         (
           at.done,
           at.rest,
@@ -83,23 +77,18 @@ module _ {I O E : Type 0} (remaining : I → Option (List ℕ)) (contents : O �
           at.no_feed,
           (let calls_made = calls in omega (arith, moved, fetched.0, gave, calls_made, took)),
           (
-            record {
-              of_input = (let unfailed = before.unfailed in omega (arith, unfailed, fetched.0));
-              of_out = at.out_unfailed ∙ sym (add-zero _);
-              of_faults = at.faults_unfailed ∙ sym (add-zero _);
-            },
-            record { text = at.text; fault_text = at.fault_text },
-            record { stream = at.stream; counts = at.counts },
+            fails-at_input start old input at.answers 1 at.given (let unfailed = before.unfailed in omega (arith, unfailed, fetched.0)),
+            record { text = at.given.text; fault_text = at.given.fault_text },
+            record { stream = at.given.stream; counts = at.given.counts },
           ),
         ),
       )
-  ends-fetching turns start old new_input bytes buffer progress left Turns before moved fetched took calls =
+  ends-in_fetch turns start old input bytes buffer progress left Turns before moved fetched took calls =
       let at = before.answered in
       let gave = fetched.1.counted in (
-        bytes,
-        subst (Reads remaining start.input new_input) (append-nil bytes)
-            (Reads-trans remaining start.input old.input new_input bytes [] before.reads fetched.1),
-        inl (
+        subst (Reads told.remaining start.input input) (append-nil bytes)
+            (Reads-trans told.remaining start.input old.input input bytes [] before.reads fetched.1),
+        (
           at.done,
           at.rest,
           at.answers,
@@ -107,29 +96,38 @@ module _ {I O E : Type 0} (remaining : I → Option (List ℕ)) (contents : O �
           at.no_feed,
           (let calls_made = calls in omega (arith, moved, fetched.0, fetched.2, gave, calls_made, took)),
           (
-            record {
-              of_input = fetched.0 ∙ before.unfailed ∙ sym (add-zero _);
-              of_out = at.out_unfailed ∙ sym (add-zero _);
-              of_faults = at.faults_unfailed ∙ sym (add-zero _);
-            },
+            fails-at_input start old input at.answers 0 at.given (fetched.0 ∙ before.unfailed ∙ sym (add-zero _)),
             (let all = before.calls in omega (arith, all, fetched.2, took, calls)),
             record {
-              text = front-none contents start.out old.out at.answers.text at.text;
-              fault_text = front-none fault_contents start.faults old.faults at.answers.fault_text at.fault_text;
+              text = front-none told.contents start.out old.out at.answers.text at.given.text;
+              fault_text = front-none told.fault_contents start.faults old.faults at.answers.fault_text at.given.fault_text;
             },
-            record { stream = at.stream; counts = at.counts },
+            record { stream = at.given.stream; counts = at.given.counts },
           ),
         ),
       )
-  ends-fetching turns start old new_input bytes buffer progress left Write before moved fetched took calls = absurd fetched
-  ends-fetching turns start old new_input bytes buffer progress left OutOfMemory before moved fetched took calls = absurd fetched
-  ends-fetching turns start old new_input bytes buffer progress left (Password fault) before moved fetched took calls = absurd fetched
+  ends-in_fetch turns start old input bytes buffer progress left Write before moved fetched took calls = absurd fetched
+  ends-in_fetch turns start old input bytes buffer progress left OutOfMemory before moved fetched took calls = absurd fetched
+  ends-in_fetch turns start old input bytes buffer progress left (Password fault) before moved fetched took calls = absurd fetched
+
+  pub ends-fetching : (turns : ℕ) (start old : Hands I O E) (input : Device I) (bytes buffer : List ℕ) (progress : Progress) (left : ℕ) (fault : RunFault)
+      → IsAtInput told turns kind job start old bytes progress → MovesBytes 0 start.input old.input
+      → Fetches told.remaining progress.left old.input input buffer (Err fault)
+      → left ≡ progress.left - 1 → input.calls + left ≡ old.input.calls + progress.left
+      → EndsLines told turns kind job start (with_input input (outs_of old)) (Err fault)
+  ends-fetching turns start old input bytes buffer progress left Read before moved fetched took calls =
+      let ends = ends-in_fetch turns start old input bytes buffer progress left Read before moved fetched took calls in (bytes, ends.0, ends.1)
+  ends-fetching turns start old input bytes buffer progress left Turns before moved fetched took calls =
+      let ends = ends-in_fetch turns start old input bytes buffer progress left Turns before moved fetched took calls in (bytes, ends.0, inl ends.1)
+  ends-fetching turns start old input bytes buffer progress left Write before moved fetched took calls = absurd fetched
+  ends-fetching turns start old input bytes buffer progress left OutOfMemory before moved fetched took calls = absurd fetched
+  ends-fetching turns start old input bytes buffer progress left (Password fault) before moved fetched took calls = absurd fetched
 
   -- an answer was cut short
   cut-ends : (turns : ℕ) (start new : Hands I O E) (left : ℕ) (done next : Answer) (fault : RunFault)
       → IsUnfailed start.input new.input → calls_of new + left ≡ calls_of start + turns
-      → IsCutShort contents fault_contents left done next (outs_of start) (outs_of new) fault
-      → Ends told turns done next start new (Err fault)
+      → IsInterrupted told.contents told.fault_contents left done next (outs_of start) (outs_of new) fault
+      → IsCutShort told turns done next start new fault
   cut-ends turns start new left done next Write unfailed calls (stream, counts, inl (failed, kept, text, fault_text)) = (
     inl (
       record { of_input = unfailed ∙ sym (add-zero _); of_out = failed; of_faults = kept ∙ sym (add-zero _) },
@@ -160,7 +158,7 @@ module _ {I O E : Type 0} (remaining : I → Option (List ℕ)) (contents : O �
   cut-ends turns start new left done next (Password fault) unfailed calls cut = absurd cut
 
   cut-owed : (left : ℕ) (start new : Hands I O E) (done next : Answer) (fault : RunFault)
-      → IsCutShort contents fault_contents left done next (outs_of start) (outs_of new) fault → IsOwed done next start new (Err fault)
+      → IsInterrupted told.contents told.fault_contents left done next (outs_of start) (outs_of new) fault → IsOwed done next start new fault
   cut-owed left start new done next Turns (stream, counts, kept, faults_kept, none, text, fault_text, owed) = owed
   cut-owed left start new done next Write cut = tt
   cut-owed left start new done next OutOfMemory cut = tt
@@ -169,8 +167,8 @@ module _ {I O E : Type 0} (remaining : I → Option (List ℕ)) (contents : O �
 
   ends-line : (turns : ℕ) (start new : Hands I O E) (bytes line rest : List ℕ) (left : ℕ) (fault : RunFault)
       → IsUnfailed start.input new.input → calls_of new + left ≡ calls_of start + turns → IsNext told new line rest
-      → IsCutAt contents fault_contents kind job (outs_of start) (outs_of new) bytes line rest left fault
-      → EndsAnswering told turns kind job bytes start new (Err fault)
+      → IsCutAt told.contents told.fault_contents kind job (outs_of start) (outs_of new) bytes line rest left fault
+      → EndsAnswering told turns kind job bytes start new fault
   ends-line turns start new bytes line rest left fault unfailed calls is_line at = (
     at.done,
     line,
@@ -187,9 +185,9 @@ module _ {I O E : Type 0} (remaining : I → Option (List ℕ)) (contents : O �
 
   -- a line was being answered
   pub ends-answering : (turns : ℕ) (start new : Hands I O E) (bytes line rest : List ℕ) (left : ℕ) (fault : RunFault)
-      → Reads remaining start.input new.input bytes → IsUnfailed start.input new.input
+      → Reads told.remaining start.input new.input bytes → IsUnfailed start.input new.input
       → calls_of new + left ≡ calls_of start + turns → IsNext told new line rest
-      → IsCutAt contents fault_contents kind job (outs_of start) (outs_of new) bytes line rest left fault
+      → IsCutAt told.contents told.fault_contents kind job (outs_of start) (outs_of new) bytes line rest left fault
       → EndsLines told turns kind job start new (Err fault)
   ends-answering turns start new bytes line rest left Write reads unfailed calls is_line at =
       (bytes, reads, inl (ends-line turns start new bytes line rest left Write unfailed calls is_line at))
@@ -205,41 +203,41 @@ module _ {I O E : Type 0} (remaining : I → Option (List ℕ)) (contents : O �
   -- a run before a fetch, and what that gave
   pub record HasFetched (turns : ℕ) (start old : Hands I O E) (new_input : Device I) (bytes buffer : List ℕ) (count : ℕ) (progress : Progress) (left : ℕ) : Type 0 where
     pub before : IsAtInput told turns kind job start old bytes progress
-    pub fetched : Fetches remaining progress.left old.input new_input buffer (Ok count)
+    pub fetched : Fetches told.remaining progress.left old.input new_input buffer (Ok count)
     pub calls : new_input.calls + left ≡ old.input.calls + progress.left
 
   read_then : (turns : ℕ) (start old : Hands I O E) (new_input : Device I) (bytes buffer : List ℕ) (count : ℕ) (progress : Progress) (left : ℕ)
       → HasFetched turns start old new_input bytes buffer count progress left
-      → Reads remaining start.input new_input (bytes ++ take count buffer)
+      → Reads told.remaining start.input new_input (bytes ++ take count buffer)
   read_then turns start old new_input bytes buffer count progress left h =
-      Reads-trans remaining start.input old.input new_input bytes (take count buffer) h.before.reads h.fetched.2
+      Reads-trans told.remaining start.input old.input new_input bytes (take count buffer) h.before.reads h.fetched.2
 
   -- it was looked through, or a line in it was being answered
   pub goes-piece : (turns : ℕ) (start old : Hands I O E) (new_input : Device I) (new : Outs O E) (bytes buffer : List ℕ) (count : ℕ) (progress : Progress) (left : ℕ) (next : Progress)
       → HasFetched turns start old new_input bytes buffer count progress left
-      → new.out.calls + new.faults.calls + next.left ≡ old.out.calls + old.faults.calls + left
-      → LooksThrough contents fault_contents kind job (outs_of start) new (bytes ++ take count buffer) next {A = Unit {0}} (Ok tt)
-      → (read : List ℕ) × IsAtInput told turns kind job start (hands new_input new.out new.faults new.stream new.counts) read next
+      → TakesTurns left next.left (outs_of old) new
+      → LooksThrough told.contents told.fault_contents kind job (outs_of start) new (bytes ++ take count buffer) next {A = Unit {0}} (Ok tt)
+      → (read : List ℕ) × IsAtInput told turns kind job start (with_input new_input new) read next
   goes-piece turns start old new_input new bytes buffer count progress left next h calls looked = (
     bytes ++ take count buffer,
     record {
       reads = read_then turns start old new_input bytes buffer count progress left h;
       unfailed = h.fetched.1 ∙ h.before.unfailed;
-      calls = (let before = h.before.calls in let fetch = h.calls in omega (arith, before, fetch, calls));
+      calls = (let before = h.before.calls in let fetch = h.calls in omega (arith, before, fetch, calls.turns));
       answered = looked;
     },
   )
 
   pub ends-piece : (turns : ℕ) (start old : Hands I O E) (new_input : Device I) (new : Outs O E) (bytes buffer : List ℕ) (count : ℕ) (progress : Progress) (left : ℕ) (next : Progress) (fault : RunFault)
       → HasFetched turns start old new_input bytes buffer count progress left
-      → new.out.calls + new.faults.calls + next.left ≡ old.out.calls + old.faults.calls + left
-      → LooksThrough contents fault_contents kind job (outs_of start) new (bytes ++ take count buffer) next {A = Unit {0}} (Err fault)
-      → EndsLines told turns kind job start (hands new_input new.out new.faults new.stream new.counts) (Err fault)
+      → TakesTurns left next.left (outs_of old) new
+      → LooksThrough told.contents told.fault_contents kind job (outs_of start) new (bytes ++ take count buffer) next {A = Unit {0}} (Err fault)
+      → EndsLines told turns kind job start (with_input new_input new) (Err fault)
   ends-piece turns start old new_input new bytes buffer count progress left next fault h calls (line, behind, few, cut) =
-      ends-answering turns start (hands new_input new.out new.faults new.stream new.counts) (bytes ++ take count buffer) line (line ++ line_feed ∷ behind) next.left fault
+      ends-answering turns start (with_input new_input new) (bytes ++ take count buffer) line (line ++ line_feed ∷ behind) next.left fault
       (read_then turns start old new_input bytes buffer count progress left h)
       (h.fetched.1 ∙ h.before.unfailed)
-      (let before = h.before.calls in let fetch = h.calls in omega (arith, before, fetch, calls))
+      (let before = h.before.calls in let fetch = h.calls in omega (arith, before, fetch, calls.turns))
       (inl (behind, refl, few))
       cut
 
@@ -263,12 +261,14 @@ module _ {I O E : Type 0} (remaining : I → Option (List ℕ)) (contents : O �
       are = refl;
       tally = no_line;
       numbers = refl;
-      out_unfailed = refl;
-      faults_unfailed = refl;
-      text = takes-nothing contents start.out;
-      fault_text = takes-nothing fault_contents start.faults;
-      stream = refl;
-      counts = refl;
+      given = record {
+        out_unfailed = refl;
+        faults_unfailed = refl;
+        text = takes-nothing told.contents start.out;
+        fault_text = takes-nothing told.fault_contents start.faults;
+        stream = refl;
+        counts = refl;
+      };
     };
   }
 
@@ -277,142 +277,95 @@ module _ {I O E : Type 0} (remaining : I → Option (List ℕ)) (contents : O �
     pub read : List ℕ
     pub at_input : IsAtInput told turns kind job start now read progress
     pub room : HasRoomToRead progress now
-    pub of_input : MovesBytes 0 start.input now.input
-    pub of_out : MovesBytes 0 start.out now.out
-    pub of_faults : MovesBytes 0 start.faults now.faults
+    pub takes_turns : TakesTurnsOf 0 turns progress.left start now
 
-  -- one more, which gave some
-  pub fetching-more : (turns : ℕ) (start now new : Hands I O E) (progress next : Progress) (more : Bool) → more ≡ true
-      → IsFetching turns start now progress → GoesOn told turns kind job start new next (Ok more) → HasRoomToRead next new
-      → MovesBytes (spare_fetch (Ok more)) now.input new.input × MovesBytes 0 now.out new.out × MovesBytes 0 now.faults new.faults
-      → IsFetching turns start new next
-  fetching-more turns start now new progress next true is before goes room moves = record {
+  -- the turns of some steps, and of one more
+  pub turns-trans : (left mid_left new_left spare : ℕ) (start now new : Hands I O E) → TakesTurnsOf 0 left mid_left start now
+      → TakesTurnsOf spare mid_left new_left now new → TakesTurnsOf spare left new_left start new
+  turns-trans left mid_left new_left spare start now new before more = record {
+    turns = more.turns ∙ before.turns;
+    input_moves = omega (arith, more.input_moves, before.input_moves);
+    out_moves = omega (arith, more.out_moves, before.out_moves);
+    faults_moves = omega (arith, more.faults_moves, before.faults_moves);
+  }
+
+  -- and whether there may be more: after a fetch that gave nothing all was read
+  abbrev pub IsFetched : ℕ → Hands I O E → Hands I O E → Progress → Bool → Type 0
+  IsFetched turns start now progress true = IsFetching turns start now progress
+  IsFetched turns start now progress false =
+      GoesToEnd told turns kind job start now progress {A = Unit {0}} (Ok tt) × HasRoomToRead progress now
+      × TakesTurnsOf 1 turns progress.left start now
+
+  -- one more
+  pub fetched-more : (turns : ℕ) (start now new : Hands I O E) (progress next : Progress) (has_more more : Bool) → has_more ≡ true
+      → IsFetched turns start now progress has_more → GoesOn told turns kind job start new next (Ok more) → HasRoomToRead next new
+      → TakesTurnsOf (spare_fetch (Ok more)) progress.left next.left now new
+      → IsFetched turns start new next more
+  fetched-more turns start now new progress next true true is before goes room took = record {
     read = goes.0;
     at_input = goes.1;
     room = room;
-    of_input = omega (arith, moves.0, before.of_input);
-    of_out = omega (arith, moves.1, before.of_out);
-    of_faults = omega (arith, moves.2, before.of_faults);
+    takes_turns = turns-trans turns progress.left next.left 0 start now new before.takes_turns took;
   }
-  fetching-more turns start now new progress next false is before goes room moves = absurd (cc)
+  fetched-more turns start now new progress next true false is before goes room took =
+      (goes, room, turns-trans turns progress.left next.left 1 start now new before.takes_turns took)
+  fetched-more turns start now new progress next false more is before goes room took = absurd (cc)
 
-  -- or none
-  pub fetching-end : (turns : ℕ) (start new : Hands I O E) (next : Progress) (more : Bool) → more ≡ false
-      → GoesOn told turns kind job start new next (Ok more) → GoesToEnd told turns kind job start new next {A = Unit {0}} (Ok tt)
-  fetching-end turns start new next true is goes = absurd (cc)
-  fetching-end turns start new next false is goes = goes
+  pub fetched-so_far : (turns : ℕ) (start now : Hands I O E) (progress : Progress) (has_more : Bool) → has_more ≡ true
+      → IsFetched turns start now progress has_more → IsFetching turns start now progress
+  fetched-so_far turns start now progress true is fetched = fetched
+  fetched-so_far turns start now progress false is fetched = absurd (cc)
 
   -- ---- the end of the input
 
   -- the last line was being answered
   pub ends-last : (turns : ℕ) (start now : Hands I O E) (new : Outs O E) (progress next : Progress) (fault : RunFault)
       → (all : GoesToEnd told turns kind job start now progress {A = Unit {0}} (Ok tt))
-      → new.out.calls + new.faults.calls + next.left ≡ now.out.calls + now.faults.calls + progress.left
-      → AnswersLast contents fault_contents kind job (outs_of start) new all.0 next {A = Unit {0}} (Err fault)
-      → EndsLines told turns kind job start (hands now.input new.out new.faults new.stream new.counts) (Err fault)
+      → TakesTurns progress.left next.left (outs_of now) new
+      → AnswersLast told.contents told.fault_contents kind job (outs_of start) new all.0 next {A = Unit {0}} (Err fault)
+      → EndsLines told turns kind job start (with_input now.input new) (Err fault)
   ends-last turns start now new progress next fault all calls (line, some, cut) =
-      ends-answering turns start (hands now.input new.out new.faults new.stream new.counts) all.0 line line next.left fault
-      all.1.reads all.1.unfailed (let before = all.1.calls in omega (arith, before, calls)) (inr (refl, some, all.2)) cut
+      ends-answering turns start (with_input now.input new) all.0 line line next.left fault
+      all.1.reads all.1.unfailed (let before = all.1.calls in omega (arith, before, calls.turns)) (inr (refl, some, all.2)) cut
 
-  -- all lines were answered, and the outputs flushed
-  pub record IsFlushed (turns : ℕ) (start now : Hands I O E) (mid : Outs O E) (progress : Progress) (tally : Tally) (new_out : Device O) (new_faults : Device E) : Type 0 where
-    pub read : List ℕ
-    pub at_input : IsAtInput told turns kind job start now read progress
-    pub read_out : IsReadOut told now
-    pub answered : IsAllAnswered contents fault_contents kind job (outs_of start) mid read tally
-    pub out_kept : IsKept contents mid.out new_out
-    pub faults_kept : IsKept fault_contents mid.faults new_faults
+  -- all lines are answered
+  answered : (turns : ℕ) (start now : Hands I O E) (new : Outs O E) (progress : Progress) (tally : Tally)
+      → (all : GoesToEnd told turns kind job start now progress {A = Unit {0}} (Ok tt))
+      → (last : IsAllAnswered told.contents told.fault_contents kind job (outs_of start) new all.0 tally)
+      → HasAnswered told last.answers start (with_input now.input new)
+  answered turns start now new progress tally all last = record {
+    fails = record {
+      of_input = all.1.unfailed ∙ sym (add-zero _);
+      of_out = last.given.out_unfailed ∙ sym (add-zero _);
+      of_faults = last.given.faults_unfailed ∙ sym (add-zero _);
+    };
+    takes = record { text = last.given.text; fault_text = last.given.fault_text };
+    after = record { stream = last.given.stream; counts = last.given.counts };
+  }
 
-  takes-all : (turns : ℕ) (start now : Hands I O E) (mid : Outs O E) (progress : Progress) (tally : Tally) (new_out : Device O) (new_faults : Device E)
-      → (h : IsFlushed turns start now mid progress tally new_out new_faults)
-      → Takes contents start.out new_out h.answered.answers.text × Takes fault_contents start.faults new_faults h.answered.answers.fault_text
-  takes-all turns start now mid progress tally new_out new_faults h = (
-    flushed contents start.out mid.out new_out h.answered.answers.text h.answered.text h.out_kept,
-    flushed fault_contents start.faults mid.faults new_faults h.answered.answers.fault_text h.answered.fault_text h.faults_kept,
+  -- and both outputs are flushed
+  pub ends-finished : (turns : ℕ) (start now : Hands I O E) (new : Outs O E) (progress : Progress) (tally : Tally) (out : Device O) (faults : Device E) {A : Type 0} (done : A)
+      → (all : GoesToEnd told turns kind job start now progress {A = Unit {0}} (Ok tt))
+      → IsAllAnswered told.contents told.fault_contents kind job (outs_of start) new all.0 tally
+      → FinishesBoth told.contents told.fault_contents new.out new.faults out faults (Ok done)
+      → EndsLines told turns kind job start (with_input now.input (record new { out = out; faults = faults })) (Ok tally)
+  ends-finished turns start now new progress tally out faults done all last flushes = (
+    all.0,
+    all.1.reads,
+    (
+      last.answers,
+      all.2,
+      last.are,
+      finishes told last.answers start (with_input now.input new) out faults tally done (answered turns start now new progress tally all last) last.tally_is flushes,
+    ),
   )
 
-  pub ends-flushed : (turns : ℕ) (start now : Hands I O E) (mid : Outs O E) (progress : Progress) (tally : Tally) (new_out : Device O) (new_faults : Device E)
-      → IsFlushed turns start now mid progress tally new_out new_faults
-      → IsUnfailed mid.out new_out × IsUnfailed mid.faults new_faults
-      → EndsLines told turns kind job start (hands now.input new_out new_faults mid.stream mid.counts) (Ok tally)
-  ends-flushed turns start now mid progress tally new_out new_faults h unfailed =
-      let all = h.answered in
-      let takes = takes-all turns start now mid progress tally new_out new_faults h in (
-        h.read,
-        h.at_input.reads,
-        (
-          all.answers,
-          h.read_out,
-          all.are,
-          (
-            all.tally_is,
-            record {
-              of_input = h.at_input.unfailed ∙ sym (add-zero _);
-              of_out = unfailed.0 ∙ (all.out_unfailed ∙ sym (add-zero _));
-              of_faults = unfailed.1 ∙ (all.faults_unfailed ∙ sym (add-zero _));
-            },
-            record { text = takes.0; fault_text = takes.1 },
-            record { stream = all.stream; counts = all.counts },
-          ),
-        ),
-      )
-
   -- or a flush failed
-  pub ends-unflushed : (turns : ℕ) (start now : Hands I O E) (mid : Outs O E) (progress : Progress) (tally : Tally) (new_out : Device O) (new_faults : Device E) (fault : RunFault)
-      → IsFlushed turns start now mid progress tally new_out new_faults
-      → Flushes mid.out mid.faults new_out new_faults {A = Unit {0}} (Err fault)
-      → EndsLines told turns kind job start (hands now.input new_out new_faults mid.stream mid.counts) (Err fault)
-  ends-unflushed turns start now mid progress tally new_out new_faults Write h (inl (failed, kept)) =
-      let all = h.answered in
-      let takes = takes-all turns start now mid progress tally new_out new_faults h in (
-        h.read,
-        h.at_input.reads,
-        inr (
-          all.answers,
-          h.read_out,
-          all.are,
-          (
-            inl (
-              record {
-                of_input = h.at_input.unfailed ∙ sym (add-zero _);
-                of_out = failed ∙ ap (λ n. n + 1) all.out_unfailed;
-                of_faults = kept ∙ (all.faults_unfailed ∙ sym (add-zero _));
-              },
-              record {
-                text = front-none contents start.out new_out all.answers.text takes.0;
-                fault_text = subst (Takes fault_contents start.faults new_faults) (sym (append-nil all.answers.fault_text)) takes.1;
-              },
-            ),
-            record { stream = all.stream; counts = all.counts },
-          ),
-        ),
-      )
-  ends-unflushed turns start now mid progress tally new_out new_faults Write h (inr (kept, failed)) =
-      let all = h.answered in
-      let takes = takes-all turns start now mid progress tally new_out new_faults h in (
-        h.read,
-        h.at_input.reads,
-        inr (
-          all.answers,
-          h.read_out,
-          all.are,
-          (
-            inr (
-              record {
-                of_input = h.at_input.unfailed ∙ sym (add-zero _);
-                of_out = kept ∙ (all.out_unfailed ∙ sym (add-zero _));
-                of_faults = failed ∙ ap (λ n. n + 1) all.faults_unfailed;
-              },
-              record {
-                text = subst (Takes contents start.out new_out) (sym (append-nil all.answers.text)) takes.0;
-                fault_text = front-none fault_contents start.faults new_faults all.answers.fault_text takes.1;
-              },
-            ),
-            record { stream = all.stream; counts = all.counts },
-          ),
-        ),
-      )
-  ends-unflushed turns start now mid progress tally new_out new_faults Read h flushes = absurd flushes
-  ends-unflushed turns start now mid progress tally new_out new_faults OutOfMemory h flushes = absurd flushes
-  ends-unflushed turns start now mid progress tally new_out new_faults Turns h flushes = absurd flushes
-  ends-unflushed turns start now mid progress tally new_out new_faults (Password fault) h flushes = absurd flushes
+  pub ends-unfinished : (turns : ℕ) (start now : Hands I O E) (new : Outs O E) (progress : Progress) (tally : Tally) (out : Device O) (faults : Device E) (A : Type 0) (fault : RunFault)
+      → (all : GoesToEnd told turns kind job start now progress {A = Unit {0}} (Ok tt))
+      → IsAllAnswered told.contents told.fault_contents kind job (outs_of start) new all.0 tally
+      → FinishesBoth told.contents told.fault_contents new.out new.faults out faults {A = A} (Err fault)
+      → EndsLines told turns kind job start (with_input now.input (record new { out = out; faults = faults })) (Err fault)
+  ends-unfinished turns start now new progress tally out faults A fault all last flushes =
+      let ends = finishes-with_fault told last.answers start (with_input now.input new) out faults A fault (answered turns start now new progress tally all last) flushes in
+      rw ends.0 (all.0, all.1.reads, inr (last.answers, all.2, last.are, rw ends.0 at ends.1))

@@ -1,11 +1,13 @@
-use Rattle.mkpasswd.specs.Runs.{hands}
-use Rattle.mkpasswd.proofs.LineEnding.{IsFetching}
-use Rattle.mkpasswd.proofs.lines.answer_all.Given as goal
+use Rattle.std.proofs.Common.{◌+◌, if◌then◌else◌}
+use Rattle.mkpasswd.specs.Private.Desks.{IsSameDesk, seen, with_input}
+use Rattle.mkpasswd.specs.Runs.{tells}
+use Rattle.mkpasswd.proofs.LineEnding.{IsFetched}
+use Rattle.mkpasswd.proofs.lines.read_all.Given as goal
 
 abbrev pub invariant-fetches : goal.invariant-fetches
-invariant-fetches g l = IsFetching g.I.Read.remaining g.O.Write.contents g.E.Write.contents l.kind l.job l.fn.progress.left
-    (hands l.fn.input l.fn.out l.fn.faults (g.R.Rng.stream l.fn.rng) l.fn.meter)
-    (hands l.input l.out l.faults (g.R.Rng.stream l.rng) l.meter) l.progress
+invariant-fetches g l = IsFetched (tells g.I.Read.remaining g.O.Write.contents g.E.Write.contents) l.task.kind l.task.job.now l.fn.progress.left
+    (with_input l.fn.input (seen g.R.Rng.stream l.fn.desk)) (with_input l.input (seen g.R.Rng.stream l.desk)) l.progress l.has_more
+    × IsSameDesk l.fn.desk l.desk
 
 abbrev pub decreases-fetches : goal.decreases-fetches
-decreases-fetches g l = l.progress.left
+decreases-fetches g l = if l.has_more then l.progress.left + 1 else 0
