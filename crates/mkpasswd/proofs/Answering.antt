@@ -1,5 +1,5 @@
 -- The answer to a line that is too long, how far an answer raises the counts, and the room that it leaves.
-use Rattle.std.proofs.Common.{◌≡◌, ℕ, ◌+◌, ◌^◌, ◌<◌, ◌≤◌, List, [], length, Option, Result, Ok, Err, refl, arith}
+use Rattle.std.proofs.Common.{◌≡◌, ℕ, ◌+◌, ◌<◌, ◌≤◌, List, [], length, Option, Result, Ok, Err, refl, arith}
 use Rattle.rand_core.specs.Stream.{Stream}
 use Rattle.prims_core.specs.Meter.{Counts}
 use Rattle.mkpasswd.specs.Answers.{Answer, after_work}

@@ -1,6 +1,5 @@
 -- How the run for one password ends, from what its steps leave.
-use Rattle.std.proofs.Common.{◌≡◌, ◌⊎◌, ℕ, ◌+◌, ◌<◌, List, [], Option, Result, Ok, Err, refl, sym, ap, subst, ◌∙◌, add-zero, arith, inl, inr}
-use Rattle.std.proofs.lemmas.List.{length-append}
+use Rattle.std.proofs.Common.{◌≡◌, ℕ, ◌+◌, List, [], Result, Ok, Err, refl, sym, ap, subst, ◌∙◌, add-zero, arith, inl, inr}
 use Rattle.rand_core.specs.Stream.{Stream}
 use Rattle.prims_core.specs.Meter.{Counts}
 use Rattle.crypt_core.specs.Crypt.{IsRefusedBy}
@@ -244,7 +243,7 @@ module _ {I O E : Type 0} (told : Tells I O E) (turns : ℕ) (job : Job) where
       ends-with_password from old (hands input new_out faults stream counts) left password (Ok one_line) has.obtains (
         (is_password from old.input input left password has.obtains).0,
         finishes told (password_answer job password old.stream) old (hands input out old.faults stream counts) new_out faults one_line done
-        (answered from password line old input out stream counts left has takes unfailed) refl flushes,
+            (answered from password line old input out stream counts left has takes unfailed) refl flushes,
       )
 
   -- or a flush failed

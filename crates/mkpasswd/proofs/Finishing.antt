@@ -1,5 +1,5 @@
 -- The flushes at the end of a run, which change nothing of what was taken.
-use Rattle.std.proofs.Common.{◌≡◌, ℕ, ◌+◌, List, ◌++◌, Option, Some, None, Result, Ok, Err, refl, sym, ap, ◌∙◌, add-zero, arith, inl, inr}
+use Rattle.std.proofs.Common.{◌≡◌, ℕ, ◌+◌, List, Option, Some, None, Ok, Err, refl, ap, ◌∙◌, arith, inl, inr}
 use Rattle.std.specs.Io.KnownBytes.{Appends, Keeps}
 use Rattle.mkpasswd.specs.Answers.{Answer}
 use Rattle.mkpasswd.specs.Devices.{Device}
@@ -81,33 +81,37 @@ module _ {I O E : Type 0} (told : Tells I O E) where
       → (fault ≡ Write) × Finishes told answers old (flushed mid out faults) (Err fault)
   finishes-with_fault answers old mid out faults A Write answered (inl (first, same)) = (
     refl,
-    (inl (
-      record {
-        of_input = answered.fails.of_input;
-        of_out = one-more old.out.failures mid.out.failures out.failures 1 answered.fails.of_out first.failed;
-        of_faults = ap (λ d. d.failures) same ∙ answered.fails.of_faults;
-      },
-      record {
-        text = takes-unflushed told.contents old.out mid.out out answers.text answered.takes.text first;
-        fault_text = rw same answered.takes.fault_text;
-      },
+    (
+      inl (
+        record {
+          of_input = answered.fails.of_input;
+          of_out = one-more old.out.failures mid.out.failures out.failures 1 answered.fails.of_out first.failed;
+          of_faults = ap (λ d. d.failures) same ∙ answered.fails.of_faults;
+        },
+        record {
+          text = takes-unflushed told.contents old.out mid.out out answers.text answered.takes.text first;
+          fault_text = rw same answered.takes.fault_text;
+        },
+      ),
+      record { stream = answered.after.stream; counts = answered.after.counts },
     ),
-    record { stream = answered.after.stream; counts = answered.after.counts }),
   )
   finishes-with_fault answers old mid out faults A Write answered (inr (first, second)) = (
     refl,
-    (inr (
-      record {
-        of_input = answered.fails.of_input;
-        of_out = first.unfailed ∙ answered.fails.of_out;
-        of_faults = one-more old.faults.failures mid.faults.failures faults.failures 1 answered.fails.of_faults second.failed;
-      },
-      record {
-        text = takes-flushed told.contents old.out mid.out out answers.text answered.takes.text first;
-        fault_text = takes-unflushed told.fault_contents old.faults mid.faults faults answers.fault_text answered.takes.fault_text second;
-      },
+    (
+      inr (
+        record {
+          of_input = answered.fails.of_input;
+          of_out = first.unfailed ∙ answered.fails.of_out;
+          of_faults = one-more old.faults.failures mid.faults.failures faults.failures 1 answered.fails.of_faults second.failed;
+        },
+        record {
+          text = takes-flushed told.contents old.out mid.out out answers.text answered.takes.text first;
+          fault_text = takes-unflushed told.fault_contents old.faults mid.faults faults answers.fault_text answered.takes.fault_text second;
+        },
+      ),
+      record { stream = answered.after.stream; counts = answered.after.counts },
     ),
-    record { stream = answered.after.stream; counts = answered.after.counts }),
   )
   finishes-with_fault answers old mid out faults A Read answered flushes = absurd flushes
   finishes-with_fault answers old mid out faults A OutOfMemory answered flushes = absurd flushes

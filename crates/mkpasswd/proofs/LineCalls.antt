@@ -6,7 +6,7 @@ use Rattle.mkpasswd.specs.LineRuns.{EndsAnswering, EndsLines, EndsLinesOf, EndsR
 use Rattle.mkpasswd.specs.Private.Deliveries.{FinishesBoth, IsKept}
 use Rattle.mkpasswd.specs.Private.Desks.{Outs, TakesTurns, outs_of, with_input}
 use Rattle.mkpasswd.specs.Private.LineEnds.{TakesTurnsOf}
-use Rattle.mkpasswd.specs.Runs.{Fails, Finishes, Hands, IsCutShort, IsWithinTurns, Tells, calls_of}
+use Rattle.mkpasswd.specs.Runs.{Fails, Finishes, Hands, IsCutShort, IsWithinTurns, Tells}
 use Rattle.mkpasswd.specs.declared.faults.RunFault.{RunFault}
 use Rattle.mkpasswd.specs.declared.faults.RunFault.TheVariants.{Read, Write, OutOfMemory, Turns, Password}
 use Rattle.mkpasswd.specs.declared.job.Job.{Job}

@@ -1,16 +1,16 @@
 -- How a run over lines ends, from what its steps leave.
-use Rattle.std.proofs.Common.{◌≡◌, ℕ, ◌+◌, ◌-◌, Bool, true, false, List, [], ◌∷◌, ◌++◌, take, Option, Ok, Err, refl, sym, ap, subst, ◌∙◌, add-zero, append-nil, arith, inl, inr}
+use Rattle.std.proofs.Common.{◌≡◌, ℕ, ◌+◌, ◌-◌, Bool, true, false, List, [], ◌∷◌, ◌++◌, take, Ok, Err, refl, sym, subst, ◌∙◌, add-zero, append-nil, arith, inl, inr}
 use Rattle.std.proofs.KnownBytes.{Consumes-nil}
 use Rattle.mkpasswd.specs.Answers.{Answer, no_answer}
 use Rattle.mkpasswd.specs.Devices.{Device, IsUnfailed, MovesBytes}
 use Rattle.mkpasswd.specs.Input.{Reads}
-use Rattle.mkpasswd.specs.LineRuns.{EndsAnswering, EndsLines, EndsReading, IsNext, IsOwed, IsReadOut}
+use Rattle.mkpasswd.specs.LineRuns.{EndsAnswering, EndsLines, EndsReading, IsNext, IsOwed}
 use Rattle.mkpasswd.specs.Private.Deliveries.{FinishesBoth}
 use Rattle.mkpasswd.specs.Private.Desks.{Outs, TakesTurns, outs_of, with_input}
 use Rattle.mkpasswd.specs.Private.Fetching.{Fetches}
 use Rattle.mkpasswd.specs.Private.LineEnds.{AnswersLast, GoesOn, GoesToEnd, HasRoomToRead, IsAllAnswered, IsAtInput, TakesTurnsOf, spare_fetch}
 use Rattle.mkpasswd.specs.Private.Progress.{AreGiven, IsAt, IsCutAt, IsInterrupted, LooksThrough, StandsFor}
-use Rattle.mkpasswd.specs.Runs.{Fails, Finishes, Hands, IsCutShort, Tells, calls_of}
+use Rattle.mkpasswd.specs.Runs.{Fails, Hands, IsCutShort, Tells, calls_of}
 use Rattle.mkpasswd.specs.Tallies.{no_line}
 use Rattle.mkpasswd.specs.Texts.{line_feed}
 use Rattle.mkpasswd.specs.declared.faults.RunFault.{RunFault}

@@ -8,15 +8,15 @@ use std::alloc::Global;
 
 /// The outputs, the generator and the meter that a run was handed.
 #[derive(Drop)]
-pub(crate) struct Desk<'a, O, E, R> {
+pub(crate) struct Desk<'o, 'e, 'r, 'm, O, E, R> {
     /// Takes the answers.
-    pub(crate) out: &'a mut Output<O>,
+    pub(crate) out: &'o mut Output<O>,
     /// Takes what is told of refused lines.
-    pub(crate) faults: &'a mut Output<E>,
+    pub(crate) faults: &'e mut Output<E>,
     /// Gives the words for salts.
-    pub(crate) rng: &'a mut R,
+    pub(crate) rng: &'r mut R,
     /// Counts the work of each hash.
-    pub(crate) meter: &'a mut Meter,
+    pub(crate) meter: &'m mut Meter,
 }
 
 /// What is done with each line. It stays the same through a run.

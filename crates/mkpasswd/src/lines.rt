@@ -132,7 +132,7 @@ pub fn run_check<I: Read, O: Write, E: Write, R: Rng>(
 fn run_lines<I: Read, O: Write, E: Write, R: Rng>(
     task: Task<'_>,
     input: &mut Input<I>,
-    desk: &mut Desk<'_, O, E, R>,
+    desk: &mut Desk<O, E, R>,
     turns: u64,
 ) -> Result<Tally, RunFault>
     requires turns { turns ≤ turns_limit }
@@ -155,7 +155,7 @@ fn run_lines<I: Read, O: Write, E: Write, R: Rng>(
 fn read_all<I: Read, O: Write, E: Write, R: Rng>(
     task: Task<'_>,
     input: &mut Input<I>,
-    desk: &mut Desk<'_, O, E, R>,
+    desk: &mut Desk<O, E, R>,
     progress: &mut Progress,
 ) -> Result<(), RunFault>
     requires none_held { StandsFor progress.old.held [] }
@@ -179,7 +179,7 @@ fn read_all<I: Read, O: Write, E: Write, R: Rng>(
 fn read_piece<I: Read, O: Write, E: Write, R: Rng>(
     task: Task<'_>,
     input: &mut Input<I>,
-    desk: &mut Desk<'_, O, E, R>,
+    desk: &mut Desk<O, E, R>,
     progress: &mut Progress,
 ) -> Result<bool, RunFault>
     requires room { HasRoomToRead progress.old (with_input input.old (seen R.stream desk.old)) }

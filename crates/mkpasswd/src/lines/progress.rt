@@ -53,7 +53,7 @@ impl Progress {
         &mut self,
         task: Task<'_>,
         piece: &[u8],
-        desk: &mut Desk<'_, O, E, R>,
+        desk: &mut Desk<O, E, R>,
     ) -> Result<(), RunFault>
         requires size { length piece.now ≤ piece_size }
         requires room { HasRoomToAnswer (length piece.now) self.old (seen R.stream desk.old) }
@@ -79,7 +79,7 @@ impl Progress {
     pub(crate) fn end<O: Write, E: Write, R: Rng>(
         &mut self,
         task: Task<'_>,
-        desk: &mut Desk<'_, O, E, R>,
+        desk: &mut Desk<O, E, R>,
     ) -> Result<(), RunFault>
         requires room { HasRoomToAnswer 1 self.old (seen R.stream desk.old) }
         ensures answers { (start : Outs O E) → (bytes : List ℕ)
@@ -99,7 +99,7 @@ impl Progress {
     fn answer_held<O: Write, E: Write, R: Rng>(
         &mut self,
         task: Task<'_>,
-        desk: &mut Desk<'_, O, E, R>,
+        desk: &mut Desk<O, E, R>,
     ) -> Result<(), RunFault>
         requires room { HasRoomToAnswer 1 self.old (seen R.stream desk.old) }
         ensures answers { (line : List ℕ) → StandsFor self.old.held line
@@ -124,7 +124,7 @@ impl Progress {
 // Gives an answer to the output where it belongs.
 fn give<O: Write, E: Write, R>(
     answer: &LineAnswer,
-    desk: &mut Desk<'_, O, E, R>,
+    desk: &mut Desk<O, E, R>,
     left: &mut u64,
 ) -> Result<(), RunFault>
     requires turns { left.old ≤ turns_limit }

@@ -38,7 +38,7 @@ fetches-preserved g c =
     let fetching = ending.fetched-so_far told c.args.task.kind c.args.task.job.now c.args.progress.now.left start now c.fetches.progress c.fetches.has_more
     c.fetches-test.true c.fetches.invariant.0 in (
       ending.fetched-more told c.args.task.kind c.args.task.job.now c.args.progress.now.left start now new c.fetches.progress c.read_piece.new.progress
-      c.fetches.has_more c.in_ok-has_more.has_more c.fetches-test.true c.fetches.invariant.0
-      (step.goes start c.args.progress.now.left fetching.read fetching.at_input fetching.takes_turns.input_moves) step.room step.turns,
+          c.fetches.has_more c.in_ok-has_more.has_more c.fetches-test.true c.fetches.invariant.0
+          (step.goes start c.args.progress.now.left fetching.read fetching.at_input fetching.takes_turns.input_moves) step.room step.turns,
       same-trans c.args.desk.now c.fetches.desk c.read_piece.new.desk c.fetches.invariant.1 step.same,
     )

@@ -9,7 +9,7 @@ use Rattle.mkpasswd.proofs.lines.progress.Progress.look_through.Goals as goal
 pub lines-init : goal.lines-init
 lines-init g c = (
   looking-start g.O.Write.contents g.E.Write.contents c.args.task.kind c.args.task.job.now
-  (seen g.R.Rng.stream c.args.desk.now) c.args.self.now c.args.piece.now c.requires.room.outs,
+      (seen g.R.Rng.stream c.args.desk.now) c.args.self.now c.args.piece.now c.requires.room.outs,
   record { out = refl; faults = refl; rng = refl; meter = refl },
 )
 
@@ -35,15 +35,15 @@ pub lines-preserved : goal.lines-preserved
 lines-preserved g c =
     let next = c.in_ok-answer_held.ensures in (
       looking-step g.O.Write.contents g.E.Write.contents c.args.task.kind c.args.task.job.now
-      (seen g.R.Rng.stream c.args.desk.now) (seen g.R.Rng.stream c.lines.desk) (seen g.R.Rng.stream c.answer_held.new.desk)
-      c.args.self.now c.lines.self c.answer_held.new.self c.append.new.self c.args.piece.now c.lines.rest.now _ c.in-Some.end c.in_ok-answer_held.field-0
-      (record {
-        before = c.lines.invariant.0;
-        cut = cut-at_feed c.lines.rest.now c.in-Some.end (sym c.line_feed_at.ensures ∙ c.in-Some.is);
-        holds = c.append.ensures;
-        answers = c.in_ok-answer_held.ensures.answers;
-      }) next.held next.room next.lines next.turns
-      (take_rest c.lines.rest.now (c.in-Some.end + 1)),
+          (seen g.R.Rng.stream c.args.desk.now) (seen g.R.Rng.stream c.lines.desk) (seen g.R.Rng.stream c.answer_held.new.desk)
+          c.args.self.now c.lines.self c.answer_held.new.self c.append.new.self c.args.piece.now c.lines.rest.now _ c.in-Some.end c.in_ok-answer_held.field-0
+          (record {
+            before = c.lines.invariant.0;
+            cut = cut-at_feed c.lines.rest.now c.in-Some.end (sym c.line_feed_at.ensures ∙ c.in-Some.is);
+            holds = c.append.ensures;
+            answers = c.in_ok-answer_held.ensures.answers;
+          }) next.held next.room next.lines next.turns
+          (take_rest c.lines.rest.now (c.in-Some.end + 1)),
       same-trans c.args.desk.now c.lines.desk c.answer_held.new.desk c.lines.invariant.1 next.same,
     )
 
