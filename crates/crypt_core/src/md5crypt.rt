@@ -5,6 +5,8 @@ ghost use Rattle.std.specs.Prelude.{◌≡◌, ◌+◌, ◌*◌, ◌^◌, ◌<�
 ghost use Rattle.prims_core.specs.Digests.{md5};
 ghost use Rattle.prims_core.specs.Meter.{with_work, AreInAll};
 ghost use Rattle.crypt_core.specs.Md5crypt.{md5crypt_digest, md5crypt_message, md5crypt_messages, opening_message};
+ghost use Rattle.crypt_core.specs.Methods.{md5crypt_salt_limit};
+ghost use Rattle.crypt_core.specs.Passwords.{password_limit};
 ghost use Rattle.crypt_core.specs.RoundMessage.{salted_twice};
 ghost use Rattle.crypt_core.specs.Private.Counting.{with_digest};
 ghost use Rattle.crypt_core.specs.Work.{md5crypt_bytes, HasDigestRoom};
@@ -24,7 +26,7 @@ pub(crate) const ROUNDS: u32 = 1000;
 ///
 /// The meter has counted at most 2^120 digests and at most 2^120 bytes before.
 pub fn md5crypt(password: &Password, salt: &[u8], meter: &mut Meter) -> [u8; 16]
-    requires salt { length salt.now ≤ 8 }
+    requires salt { length salt.now ≤ md5crypt_salt_limit }
     requires room { HasDigestRoom meter.old }
     ensures digest { result ≡ md5crypt_digest password.now salt.now }
     ensures count { meter.new ≡ with_work meter.old 1002 (md5crypt_bytes (length password.now) (length salt.now)) }
@@ -45,8 +47,8 @@ pub fn md5crypt(password: &Password, salt: &[u8], meter: &mut Meter) -> [u8; 16]
 
 // The digest of the second message.
 fn opening(password: &[u8], salt: &[u8], meter: &mut Meter) -> ArrayVec<u8, 64>
-    requires password { length password.now ≤ 512 }
-    requires salt { length salt.now ≤ 8 }
+    requires password { length password.now ≤ password_limit }
+    requires salt { length salt.now ≤ md5crypt_salt_limit }
     requires room { HasDigestRoom meter.old }
     ensures digest { result.items ≡ md5 (opening_message password.now salt.now) }
     ensures length { length result.items ≡ 16 }

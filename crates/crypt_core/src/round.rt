@@ -6,17 +6,15 @@ ghost use Rattle.crypt_core.specs.RoundMessage.{round_message};
 ghost use Rattle.crypt_core.specs.Private.Counting.{with_digest};
 ghost use Rattle.crypt_core.specs.Private.RoundStrings.{Strings};
 
+use crate::method::SHACRYPT_SALT_LIMIT;
 use crate::password::PASSWORD_LIMIT;
 use arrayvec::ArrayVec;
 use prims_core::counted::Counted;
 use prims_core::meter::Meter;
 use std::marker::Model;
 
-/// The most bytes of a salt, in either scheme.
-const SALT_LIMIT: usize = 16;
-
-/// Room for three passwords and a salt.
-const JOINED_LIMIT: usize = 3 * PASSWORD_LIMIT + SALT_LIMIT;
+/// Room for three passwords and a salt, in bytes. SHA-crypt's salts are the longer ones.
+const JOINED_LIMIT: usize = 3 * PASSWORD_LIMIT + SHACRYPT_SALT_LIMIT;
 
 /// What stands for the password and the salt in every round. A contract sees it as these two.
 #[derive(Drop)]

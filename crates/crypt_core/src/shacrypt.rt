@@ -5,13 +5,15 @@ ghost use Rattle.std.specs.Prelude.{◌≡◌, ◌+◌, ◌*◌, ◌^◌, ◌<�
 ghost use Rattle.std.specs.List.{repeat};
 ghost use Rattle.prims_core.specs.Meter.{with_work, AreInAll};
 ghost use Rattle.crypt_core.specs.Cycle.{cycle};
+ghost use Rattle.crypt_core.specs.Methods.{shacrypt_salt_limit};
+ghost use Rattle.crypt_core.specs.Passwords.{password_limit};
 ghost use Rattle.crypt_core.specs.RoundMessage.{salted_twice};
 ghost use Rattle.crypt_core.specs.ShaCrypt.{sha_opening_digest, sha_opening_message, shacrypt_digest, shacrypt_messages};
 ghost use Rattle.crypt_core.specs.Private.Counting.{with_digest};
 ghost use Rattle.crypt_core.specs.Work.{first_byte, shacrypt_bytes, HasDigestRoom};
 
 use crate::messages::{cycle_of, feed_cycle, feed_digits, feed_repeated, salted};
-use crate::password::Password;
+use crate::password::{PASSWORD_LIMIT, Password};
 use crate::round::{RoundStrings, round};
 use arrayvec::ArrayVec;
 use prims_core::counted::Counted;
@@ -28,7 +30,7 @@ pub fn shacrypt<H: Counted>(
     rounds: u32,
     meter: &mut Meter,
 ) -> ArrayVec<u8, 64>
-    requires salt { length salt.now ≤ 16 }
+    requires salt { length salt.now ≤ shacrypt_salt_limit }
     requires least_rounds { 1000 ≤ rounds }
     requires most_rounds { rounds ≤ 999999999 }
     requires room { HasDigestRoom meter.old }
@@ -55,8 +57,8 @@ pub fn shacrypt<H: Counted>(
 
 // Steps 1 to 12: the digest of the second message.
 fn opening<H: Counted>(password: &[u8], salt: &[u8], meter: &mut Meter) -> ArrayVec<u8, 64>
-    requires password { length password.now ≤ 512 }
-    requires salt { length salt.now ≤ 16 }
+    requires password { length password.now ≤ password_limit }
+    requires salt { length salt.now ≤ shacrypt_salt_limit }
     requires room { HasDigestRoom meter.old }
     ensures digest { result.items ≡ sha_opening_digest H.digest password.now salt.now }
     ensures length { length result.items ≡ H.LEN }
@@ -80,8 +82,8 @@ fn opening<H: Counted>(password: &[u8], salt: &[u8], meter: &mut Meter) -> Array
 
 // Steps 13 to 16 for the password, and 17 to 20 for the salt: the digest of all the times that the
 // piece is repeated, and as many bytes of it as the piece has.
-fn string_of<H: Counted>(piece: &[u8], times: usize, meter: &mut Meter) -> ArrayVec<u8, 512>
-    requires fits { length piece.now ≤ 512 }
+fn string_of<H: Counted>(piece: &[u8], times: usize, meter: &mut Meter) -> ArrayVec<u8, PASSWORD_LIMIT>
+    requires fits { length piece.now ≤ password_limit }
     requires bytes_room { meter.old.bytes + times * length piece.now < 2 ^ 128 }
     requires digests_room { meter.old.digests + 1 < 2 ^ 128 }
     ensures string { result.items ≡ cycle (H.digest (repeat times piece.now)) (length piece.now) }
