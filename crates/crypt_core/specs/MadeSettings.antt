@@ -9,11 +9,11 @@ use Rattle.crypt_core.specs.declared.scheme.Scheme.TheVariants.{Md5crypt, Sha256
 use Rattle.crypt_core.specs.declared.setting.fault.MakeFault.{MakeFault}
 use Rattle.crypt_core.specs.declared.setting.fault.MakeFault.TheVariants.{SaltLength, SaltCharacter, Cost}
 use Rattle.crypt_core.specs.Methods.{salt_limit}
-use Rattle.crypt_core.specs.Settings.{Kept, held, IsCharacter}
+use Rattle.crypt_core.specs.Settings.{Kept, default_rounds, held, IsCharacter}
 
--- 5000 and no field for cost 0, and otherwise a field with the cost, held
+-- the default and no field for cost 0, and otherwise a field with the cost, held
 abbrev pub made_rounds : ℕ → Rounds
-made_rounds cost = if cost == 0 then record { count = 5000; is_written = false } else record { count = held cost; is_written = true }
+made_rounds cost = if cost == 0 then record { count = default_rounds; is_written = false } else record { count = held cost; is_written = true }
 
 -- N = 2 ^ (c + 7), r = 32 and p = 1 for cost c, and cost 0 stands for 7
 abbrev pub made_cost : ℕ → ScryptCost

@@ -6,7 +6,7 @@ use Rattle.crypt_core.specs.declared.method.Method.TheVariants as methods
 use Rattle.crypt_core.specs.declared.setting.fault.SettingFault.{SettingFault}
 use Rattle.crypt_core.specs.declared.setting.fault.SettingFault.TheVariants.{TooLong, BadCharacter, UnknownScheme, BadRounds, BadCost, ScryptRange, AboveCeiling, BadSalt}
 use Rattle.crypt_core.specs.Methods.{prefix}
-use Rattle.crypt_core.specs.Settings.{IsSettingByte, IsField, BeginsWith, rounds_word, IsRoundsNumber, rounds_field, scrypt_part, HasNumerals, IsCharacter, IsScryptSalt}
+use Rattle.crypt_core.specs.Settings.{setting_limit, IsSettingByte, IsField, BeginsWith, rounds_word, IsRoundsNumber, rounds_field, scrypt_part, HasNumerals, IsCharacter, IsScryptSalt}
 
 abbrev pub rule_number : SettingFault → ℕ
 rule_number TooLong = 1
@@ -38,7 +38,7 @@ pub record IsScryptText (text : List ℕ) (cost : ScryptCost) (after : List ℕ)
 
 -- the rule of a refusal holds of the text
 abbrev pub Breaks : SettingFault → List ℕ → Type 0
-Breaks TooLong text = 384 < length text
+Breaks TooLong text = setting_limit < length text
 Breaks BadCharacter text = ¬ All IsSettingByte text
 Breaks UnknownScheme text = (method : Method) → ¬ BeginsWith text (prefix method)
 Breaks BadRounds text = (after : List ℕ) × IsShaText text after × LacksRounds after

@@ -16,17 +16,20 @@ mod salt;
 mod tests;
 mod text;
 
-use crate::method::Method;
+use crate::method::{Method, SCRYPT_SALT_LIMIT};
 use crate::scheme::Scheme;
 use arrayvec::ArrayVec;
 pub use fault::{MakeFault, SettingFault};
 use std::marker::Model;
 
+/// The most bytes of a setting's text.
+pub const SETTING_LIMIT: usize = 384;
+
 /// What a text asks for: a method with its cost, and the salt that is kept of it.
 #[derive(Debug, Drop)]
 pub struct Setting {
     scheme: Scheme,
-    salt: ArrayVec<u8, 86>,
+    salt: ArrayVec<u8, SCRYPT_SALT_LIMIT>,
 }
 
 impl Model for Setting {
@@ -55,7 +58,7 @@ impl Setting {
         self.scheme
     }
 
-    /// The kept salt, undecoded: at most 8, 16, 16 or 86 bytes.
+    /// The kept salt, undecoded, of no more bytes than the method keeps.
     pub fn salt(&self) -> &[u8]
         ensures kept { result.now ≡ self.now.salt }
         ensures short { length result.now ≤ salt_limit (method_of self.now.scheme) }

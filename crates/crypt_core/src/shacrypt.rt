@@ -8,6 +8,7 @@ ghost use Rattle.crypt_core.specs.Cycle.{cycle};
 ghost use Rattle.crypt_core.specs.Methods.{shacrypt_salt_limit};
 ghost use Rattle.crypt_core.specs.Passwords.{password_limit};
 ghost use Rattle.crypt_core.specs.RoundMessage.{salted_twice};
+ghost use Rattle.crypt_core.specs.Settings.{max_rounds, min_rounds};
 ghost use Rattle.crypt_core.specs.ShaCrypt.{sha_opening_digest, sha_opening_message, shacrypt_digest, shacrypt_messages};
 ghost use Rattle.crypt_core.specs.Private.Counting.{with_digest};
 ghost use Rattle.crypt_core.specs.Work.{first_byte, shacrypt_bytes, HasDigestRoom};
@@ -31,8 +32,8 @@ pub fn shacrypt<H: Counted>(
     meter: &mut Meter,
 ) -> ArrayVec<u8, 64>
     requires salt { length salt.now ≤ shacrypt_salt_limit }
-    requires least_rounds { 1000 ≤ rounds }
-    requires most_rounds { rounds ≤ 999999999 }
+    requires least_rounds { min_rounds ≤ rounds }
+    requires most_rounds { rounds ≤ max_rounds }
     requires room { HasDigestRoom meter.old }
     ensures digest { result.items ≡ shacrypt_digest H.digest password.now salt.now rounds }
     ensures length { length result.items ≡ H.LEN }
