@@ -15,10 +15,10 @@ use Rattle.crypt_core.specs.declared.scheme.Scheme.{Scheme}
 use Rattle.crypt_core.specs.declared.scheme.Scheme.TheVariants.{Md5crypt, Sha256crypt, Sha512crypt, Scrypt}
 use Rattle.crypt_core.specs.declared.setting.fault.MakeFault.{MakeFault}
 use Rattle.crypt_core.specs.declared.setting.fault.MakeFault.TheVariants.{SaltLength, SaltCharacter, Cost}
-use Rattle.crypt_core.specs.Methods.{prefix, salt_limit}
+use Rattle.crypt_core.specs.Methods.{prefix, salt_limit, md5crypt_salt_limit, shacrypt_salt_limit, scrypt_salt_limit}
 use Rattle.crypt_core.specs.MadeSettings.{made_cost, made_scheme, made_setting, TakesCost, IsMakeable, BreaksMake, IsMakeRefused, make_rule_number}
 use Rattle.crypt_core.specs.Private.Costs.{HasCost}
-use Rattle.crypt_core.specs.Settings.{Kept, method_of, IsSettingByte, dollar, BeginsWith, rounds_word, rounds_field, IsRoundsNumber, held, SpellsRounds, scrypt_part, SpellsCost, IsCharacter, KeepsSalt, IsSetting, cost_part, canonical_text}
+use Rattle.crypt_core.specs.Settings.{Kept, method_of, IsSettingByte, dollar, BeginsWith, rounds_word, rounds_field, IsRoundsNumber, held, SpellsRounds, scrypt_part, SpellsCost, IsCharacter, KeepsSalt, IsSetting, cost_part, canonical_text, min_rounds, max_rounds, default_rounds}
 use Rattle.crypt_core.proofs.Numerals.{all_scrypt_part}
 use Rattle.crypt_core.proofs.Canonical.{canonical_short, decimal_is_number, number_bytes, held_again, held_range}
 
@@ -85,7 +85,7 @@ field_bytes : (ds : List ℕ) → IsRoundsNumber ds → All IsSettingByte (round
 unfolding is_byte differs
 field_bytes ds n = All-append IsSettingByte rounds_word (ds ++ codes "$") (bytes_mean rounds_word refl) (All-append IsSettingByte ds (codes "$") (number_bytes ds n) (bytes_mean (codes "$") refl))
 
-rounds_bytes : (count : ℕ) (flag : Bool) → 1000 ≤ count → count ≤ 999999999 → All IsSettingByte (cost_part (Sha256crypt (record { count = count; is_written = flag })))
+rounds_bytes : (count : ℕ) (flag : Bool) → min_rounds ≤ count → count ≤ max_rounds → All IsSettingByte (cost_part (Sha256crypt (record { count = count; is_written = flag })))
 rounds_bytes count true low high = field_bytes (decimal count) (decimal_is_number count (omega arith) (omega arith))
 rounds_bytes count false low high = All-nil IsSettingByte
 
@@ -107,11 +107,11 @@ no_rounds salt all (more, e) =
 -- rounds without a field are the default
 abbrev IsMade : Scheme → Type 0
 IsMade Md5crypt = Unit {0}
-IsMade (Sha256crypt r) = r.is_written ≡ false → r.count ≡ 5000
-IsMade (Sha512crypt r) = r.is_written ≡ false → r.count ≡ 5000
+IsMade (Sha256crypt r) = r.is_written ≡ false → r.count ≡ default_rounds
+IsMade (Sha512crypt r) = r.is_written ≡ false → r.count ≡ default_rounds
 IsMade (Scrypt n) = Unit {0}
 
-rounds_spelled : (count : ℕ) (flag : Bool) (salt : List ℕ) → 1000 ≤ count → count ≤ 999999999 → (flag ≡ false → count ≡ 5000) → All IsCharacter salt → SpellsRounds (record { count = count; is_written = flag }) (cost_part (Sha256crypt (record { count = count; is_written = flag }))) (salt ++ [])
+rounds_spelled : (count : ℕ) (flag : Bool) (salt : List ℕ) → min_rounds ≤ count → count ≤ max_rounds → (flag ≡ false → count ≡ default_rounds) → All IsCharacter salt → SpellsRounds (record { count = count; is_written = flag }) (cost_part (Sha256crypt (record { count = count; is_written = flag }))) (salt ++ [])
 rounds_spelled count true salt low high made all =
     let below : count < 2 ^ 64 = omega arith in
     (decimal count, decimal_is_number count (omega arith) below, refl, held_again count low high ∙ ap held (sym (decimal_is_IsNumeral count below).1))
@@ -124,9 +124,9 @@ cost_spelled (Sha512crypt r) salt c m all = rounds_spelled r.count r.is_written 
 cost_spelled (Scrypt n) salt c m all = (refl, c.0, c.1)
 
 salt_kept : (m : Method) (salt : List ℕ) → length salt ≤ salt_limit m → All IsCharacter salt → KeepsSalt m salt salt
-salt_kept methods.Md5crypt salt short all = sym (take_all 8 salt short)
-salt_kept methods.Sha256crypt salt short all = sym (take_all 16 salt short)
-salt_kept methods.Sha512crypt salt short all = sym (take_all 16 salt short)
+salt_kept methods.Md5crypt salt short all = sym (take_all md5crypt_salt_limit salt short)
+salt_kept methods.Sha256crypt salt short all = sym (take_all shacrypt_salt_limit salt short)
+salt_kept methods.Sha512crypt salt short all = sym (take_all shacrypt_salt_limit salt short)
 salt_kept methods.Scrypt salt short all = (refl, record { short = short; characters = all })
 
 spelled : (scheme : Scheme) (salt : List ℕ) → HasCost scheme → IsMade scheme → length salt ≤ salt_limit (method_of scheme) → All IsCharacter salt → IsSetting (record { scheme = scheme; salt = salt })
@@ -170,7 +170,7 @@ made_cost_accepted cost (inr range) =
     let some : eqb cost 0 ≡ false = ne_eqb cost 0 (λ e. omega arith) in
     subst (λ (b : Bool). HasCost (Scrypt (record { log_n = cond b 7 cost + 7; r = 32; p = 1 }))) (sym some) (accepted_at (cost + 7) (omega arith) (omega arith))
 
-rounds_made : (b : Bool) (cost : ℕ) → HasCost (Sha256crypt (cond b (record { count = 5000; is_written = false }) (record { count = held cost; is_written = true }))) × IsMade (Sha256crypt (cond b (record { count = 5000; is_written = false }) (record { count = held cost; is_written = true })))
+rounds_made : (b : Bool) (cost : ℕ) → HasCost (Sha256crypt (cond b (record { count = default_rounds; is_written = false }) (record { count = held cost; is_written = true }))) × IsMade (Sha256crypt (cond b (record { count = default_rounds; is_written = false }) (record { count = held cost; is_written = true })))
 rounds_made true cost = ((omega arith, omega arith), λ e. refl)
 rounds_made false cost = (held_range cost, λ e. absurd (cc e))
 
@@ -192,7 +192,7 @@ made_is_setting m cost salt h =
     let bounded = made_bounded m cost h.taken in
     spelled (made_scheme m cost) salt bounded.0 bounded.1 (subst (λ (k : Method). length salt ≤ salt_limit k) (sym (made_method m cost)) h.short) h.characters
 
-pub limit_below : (m : Method) → salt_limit m ≤ 86
+pub limit_below : (m : Method) → salt_limit m ≤ scrypt_salt_limit
 limit_below methods.Md5crypt = omega arith
 limit_below methods.Sha256crypt = omega arith
 limit_below methods.Sha512crypt = omega arith

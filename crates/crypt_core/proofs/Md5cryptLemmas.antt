@@ -1,4 +1,5 @@
 -- Lemmas on the messages of md5crypt.
+use Rattle.crypt_core.specs.Passwords.{password_limit}
 use Rattle.std.proofs.Common.{◌≡◌, ℕ, suc, ◌+◌, ◌*◌, List, [], ◌∷◌, ◌++◌, length, take, codes, arith, refl, ap, ◌∙◌}
 use Rattle.std.specs.Prelude.{sum_by}
 use Rattle.std.proofs.lemmas.List.{length-append}
@@ -57,6 +58,10 @@ length-opening p s =
       length-cycle (md5 (salted_twice p s)) (length p),
       length-digits p,
     )
+
+-- no less than the bytes of any message
+abbrev pub message_limit : ℕ
+message_limit = 4 * password_limit
 
 -- all messages: how many, and how many bytes
 pub messages-in_all : (p s : List ℕ) → AreInAll (md5crypt_messages p s) 1002 (md5crypt_bytes (length p) (length s))

@@ -1,4 +1,6 @@
 -- Lists of messages that are given by their number, the first message, and the message of a round.
+use Rattle.crypt_core.specs.Methods.{shacrypt_salt_limit}
+use Rattle.crypt_core.specs.Passwords.{password_limit}
 use Rattle.std.proofs.Common.{◌≡◌, ℕ, ◌+◌, ◌*◌, ◌%◌, ◌≤◌, Bool, true, false, cond, nat_eq, List, [], ◌∷◌, ◌++◌, length, map, arith}
 use Rattle.std.specs.List.{range_with_len}
 use Rattle.std.proofs.lemmas.List.{length-append}
@@ -47,6 +49,10 @@ length-round_message i x p q = go (nat_eq (i % 2) 1) (nat_eq (i % 3) 0) (nat_eq 
         length-cond third [] q,
         length-cond seventh [] p,
       )
+
+-- no less than the bytes of a round's message, with a digest of at most 64
+abbrev pub round_limit : ℕ
+round_limit = 64 + 2 * password_limit + shacrypt_salt_limit
 
 -- it has the digest and the password once, and may have the salt and the password again
 pub round_length-small : (i x p q : ℕ) → round_length i x p q ≤ x + 2 * p + q

@@ -1,4 +1,6 @@
 -- Lemmas on the messages of SHA-crypt.
+use Rattle.crypt_core.specs.Methods.{shacrypt_salt_limit}
+use Rattle.crypt_core.specs.Passwords.{password_limit}
 use Rattle.std.proofs.Common.{◌≡◌, ℕ, zero, suc, ◌+◌, ◌*◌, ◌≤◌, ◌<◌, List, [], ◌∷◌, ◌++◌, length, arith, refl, sym, ap, ◌∙◌}
 use Rattle.std.specs.Prelude.{sum_by}
 use Rattle.std.proofs.lemmas.List.{length-append}
@@ -75,15 +77,18 @@ length-sha_opening h p s =
       length-digit_pieces b p (length p),
     )
 
--- the four messages before the rounds have at most 2^20 bytes
-pub start_bytes : (h : List ℕ → List ℕ) (p s : List ℕ) (times : ℕ) → length p ≤ 512 → length s ≤ 16 → length (h (salted_twice p s)) ≤ 512 → times ≤ 271
-    → length (salted_twice p s) + length (sha_opening_message h p s) + length p * length p + times * length s ≤ 1048576
+-- no less than the bytes of the four messages before the rounds
+abbrev pub start_limit : ℕ
+start_limit = 4 * (password_limit * password_limit)
+
+pub start_bytes : (h : List ℕ → List ℕ) (p s : List ℕ) (times : ℕ) → length p ≤ password_limit → length s ≤ shacrypt_salt_limit → length (h (salted_twice p s)) ≤ password_limit → times ≤ 16 + 255
+    → length (salted_twice p s) + length (sha_opening_message h p s) + length p * length p + times * length s ≤ start_limit
 start_bytes h p s times short salt_short small few =
     omega (
       arith,
       length-salted_twice p s,
       length-sha_opening h p s,
-      digit_bytes-small (length (h (salted_twice p s))) (length p) 512 small short,
+      digit_bytes-small (length (h (salted_twice p s))) (length p) password_limit small short,
       mul-le-mul_right (length p) short,
       mul-le-mul_right (length s) few,
     )

@@ -13,7 +13,7 @@ use Rattle.std.proofs.lemmas.Int.Digits.{digits_value_more}
 use Rattle.std.proofs.lemmas.Str.{digit_value_digit}
 use Rattle.prims_core.specs.Alphabet.{alphabet, character_of, numerals}
 use Rattle.crypt_core.specs.Refusals.{LacksCost}
-use Rattle.crypt_core.specs.Settings.{dollar, IsEndOfField, IsField, IsRoundsNumber, scrypt_part, HasNumerals, IsCharacter}
+use Rattle.crypt_core.specs.Settings.{dollar, IsEndOfField, IsField, IsRoundsNumber, scrypt_part, HasNumerals, IsCharacter, max_rounds}
 use Rattle.crypt_core.proofs.Fields.{field_unique}
 use Rattle.crypt_core.proofs.Rounds.{digits_are_field}
 
@@ -86,7 +86,7 @@ digit_range (d ∷ ds) zero number lt = (omega (arith, number.0), number.1)
 digit_range (d ∷ ds) (suc i) number lt = number.2 i 0 (omega arith)
 
 -- one more digit, held
-pub held_more : (ds : List ℕ) (i number digit : ℕ) → i < length ds → IsRoundsNumber ds → digit ≡ get_or ds i 0 → number ≡ min (digits_value 10 (take i ds)) 999999999 → min (number * 10 + (digit - 48)) 999999999 ≡ min (digits_value 10 (take (i + 1) ds)) 999999999
+pub held_more : (ds : List ℕ) (i number digit : ℕ) → i < length ds → IsRoundsNumber ds → digit ≡ get_or ds i 0 → number ≡ min (digits_value 10 (take i ds)) max_rounds → min (number * 10 + (digit - 48)) max_rounds ≡ min (digits_value 10 (take (i + 1) ds)) max_rounds
 held_more ds i number digit lt is_number is held_so_far =
     let range = digit_range ds i is_number lt in
     omega (arith, digits_value_more 10 ds i lt, digit_value_digit (get_or ds i 0) range, range, is, held_so_far)

@@ -1,4 +1,6 @@
 -- Lemmas on the bound of the work of a hash.
+use Rattle.crypt_core.specs.Methods.{scrypt_salt_limit}
+use Rattle.crypt_core.specs.Passwords.{password_limit}
 use Rattle.std.proofs.Common.{◌≡◌, ◌≢◌, ℕ, zero, suc, ◌+◌, ◌*◌, ◌/◌, ◌%◌, ◌^◌, ◌<◌, ◌≤◌, ◌==◌, if◌then◌else◌, true, false, List, [], ◌∷◌, length, sum_by, ap, ◌∙◌, refl, arith, nat_eq}
 use Rattle.std.proofs.lemmas.Bool.Decides.{nat_tests}
 use Rattle.std.proofs.lemmas.List.Sums.{sum_by-cons}
@@ -8,7 +10,7 @@ use Rattle.kdf_core.specs.Hmac.{key_bytes, key_digests}
 use Rattle.kdf_core.specs.Params.{ScryptCost, IsAccepted}
 use Rattle.kdf_core.specs.Scrypt.{rows, scrypt_bytes, scrypt_digests}
 use Rattle.crypt_core.specs.Cycle.{binary_digits, digits_up_to}
-use Rattle.crypt_core.specs.Work.{digests_alone, shacrypt_bytes, work_by, IsBelow, IsWithin}
+use Rattle.crypt_core.specs.Work.{digests_alone, shacrypt_bytes, work_by, IsBelow, IsWithin, work_limit}
 use Rattle.crypt_core.specs.declared.scheme.Scheme.TheVariants.{Scrypt}
 use Rattle.crypt_core.specs.declared.work.Work.{Work}
 use Rattle.crypt_core.proofs.CycleLemmas.{binary_digits-step}
@@ -86,7 +88,7 @@ same_work a b d y m t s =
 pub shacrypt-within : (digest a rounds password salt : ℕ) → a < 256
     → IsWithin (digests_alone (rounds + 4) (shacrypt_bytes digest a rounds password salt)) (digests_alone (rounds + 4) (shacrypt_bytes digest 255 rounds password salt))
 shacrypt-within digest a rounds password salt byte =
-    let times : (16 + a) * salt ≤ 271 * salt = mul-le-mul_right salt (omega arith) in
+    let times : (16 + a) * salt ≤ (16 + 255) * salt = mul-le-mul_right salt (omega arith) in
     record { digests = omega arith; bytes = omega arith; mixes = omega arith; table = omega arith; scratch = omega arith }
 
 -- The numbers of scrypt, each below its bound
@@ -115,13 +117,13 @@ bounded cost accepted =
     let turns : n * p ≤ n * p * r = le-mul_of_pos_right (n * p) some_r in
     record { log = lt_of_not-le low; block = omega arith; blocks = omega arith; table = omega arith; turns = omega arith }
 
--- each count of a hash by scrypt is below 2 ^ 41
-pub scrypt-small : (cost : ScryptCost) (a password salt : ℕ) → IsAccepted cost → password ≤ 512 → salt ≤ 86
-    → IsBelow (work_by (Scrypt cost) a password salt) (2 ^ 41)
+-- each count of a hash by scrypt is below the limit
+pub scrypt-small : (cost : ScryptCost) (a password salt : ℕ) → IsAccepted cost → password ≤ password_limit → salt ≤ scrypt_salt_limit
+    → IsBelow (work_by (Scrypt cost) a password salt) work_limit
 unfolding scrypt_bytes scrypt_digests
 scrypt-small cost a password salt accepted password_short salt_short =
     let most = bounded cost accepted in
     let digest : key_digests password ≤ 1 = grind (arith, nat_tests) in
-    let key : key_bytes password ≤ 1 * 512 = mul-le-mul digest password_short in
-    let salted : cost.r * cost.p * salt ≤ 2 ^ 22 * 86 = mul-le-mul most.blocks salt_short in
+    let key : key_bytes password ≤ 1 * password_limit = mul-le-mul digest password_short in
+    let salted : cost.r * cost.p * salt ≤ 2 ^ 22 * scrypt_salt_limit = mul-le-mul most.blocks salt_short in
     record { digests = omega arith; bytes = omega arith; mixes = omega arith; table = omega arith; scratch = omega arith }

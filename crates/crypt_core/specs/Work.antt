@@ -99,6 +99,10 @@ work password kept =
 abbrev pub work_bound : Kept → ℕ → Work
 work_bound kept password = work_by kept.scheme 255 password (length kept.salt)
 
+-- what no count of a hash reaches, for any password and any setting
+abbrev pub work_limit : ℕ
+work_limit = 2 ^ 41
+
 -- no count is above that of the other
 pub record IsWithin (work most : Work) : Type 0 where
   pub digests : work.digests ≤ most.digests

@@ -5,7 +5,7 @@ ghost use Rattle.crypt_core.specs.declared.setting.fault.SettingFault.{SettingFa
 ghost use Rattle.crypt_core.specs.Fits.{Compares, Fits};
 ghost use Rattle.crypt_core.specs.Refusals.{IsRefused};
 ghost use Rattle.crypt_core.specs.Settings.{Kept, Spells};
-ghost use Rattle.crypt_core.specs.Work.{work, HasRoom, IsBelow};
+ghost use Rattle.crypt_core.specs.Work.{work, work_limit, HasRoom, IsBelow};
 
 use crate::hash::{HashFault, hash};
 use crate::password::Password;
@@ -79,7 +79,7 @@ pub fn fits(
     requires { HasRoom meter.old }
     ensures verdict { IfOk result (λ verdict. IsTrue verdict ↔ Fits password.now stored.now) }
     ensures compared { Compares password.now stored.now meter.old meter.new result }
-    ensures below { (kept : Kept) → Spells stored.now kept → IsBelow (work password.now kept) (2 ^ 41) }
+    ensures below { (kept : Kept) → Spells stored.now kept → IsBelow (work password.now kept) work_limit }
     ensures each_refusal { (fault : Refusal) → IsRefused stored.now fault → result ≡ Err (FitFault.Setting fault) }
 {
     let setting = Setting::read(stored)?;

@@ -4,7 +4,7 @@ ghost use Rattle.kdf_core.specs.Scrypt.{scrypt, with_scrypt, IsAfterRefusal};
 ghost use Rattle.crypt_core.specs.Crypt.{crypt, digest_by, IsRefusedBy};
 ghost use Rattle.crypt_core.specs.Packing.{digest_len, packed};
 ghost use Rattle.crypt_core.specs.Settings.{Spells, canonical_text, method_of};
-ghost use Rattle.crypt_core.specs.Work.{raised_by, work, HasRoom, IsBelow};
+ghost use Rattle.crypt_core.specs.Work.{raised_by, work, work_limit, HasRoom, IsBelow};
 
 use crate::md5crypt::md5crypt;
 use crate::pack::pack;
@@ -92,7 +92,7 @@ pub fn hash(
     ensures text { IfOk result (λ hashed. hashed ≡ crypt password.now setting.now) }
     ensures spells { IfOk result (λ hashed. Spells hashed setting.now) }
     ensures count { OnOk result (meter.new ≡ raised_by meter.old (work password.now setting.now)) }
-    ensures below { IsBelow (work password.now setting.now) (2 ^ 41) }
+    ensures below { IsBelow (work password.now setting.now) work_limit }
 
     // So an error comes only by a setting of scrypt.
     ensures refused { OnErr result (IsRefusedBy meter.old setting.now.scheme meter.new) }
@@ -113,7 +113,7 @@ fn digest_of(
         ≡ digest_by setting.now.scheme password.now setting.now.salt) }
     ensures length { IfOk result (λ digest. length digest.items ≡ digest_len (method_of setting.now.scheme)) }
     ensures count { OnOk result (meter.new ≡ raised_by meter.old (work password.now setting.now)) }
-    ensures below { IsBelow (work password.now setting.now) (2 ^ 41) }
+    ensures below { IsBelow (work password.now setting.now) work_limit }
     ensures refused { OnErr result (IsRefusedBy meter.old setting.now.scheme meter.new) }
 {
     let salt = setting.salt();

@@ -9,7 +9,7 @@ ghost use Rattle.crypt_core.specs.Methods.{md5crypt_salt_limit};
 ghost use Rattle.crypt_core.specs.Passwords.{password_limit};
 ghost use Rattle.crypt_core.specs.RoundMessage.{salted_twice};
 ghost use Rattle.crypt_core.specs.Private.Counting.{with_digest};
-ghost use Rattle.crypt_core.specs.Work.{md5crypt_bytes, HasDigestRoom};
+ghost use Rattle.crypt_core.specs.Work.{md5crypt_bytes, work_limit, HasDigestRoom};
 
 use crate::messages::{feed_cycle, feed_digits, salted};
 use crate::password::Password;
@@ -30,7 +30,7 @@ pub fn md5crypt(password: &Password, salt: &[u8], meter: &mut Meter) -> [u8; 16]
     requires room { HasDigestRoom meter.old }
     ensures digest { result ≡ md5crypt_digest password.now salt.now }
     ensures count { meter.new ≡ with_work meter.old 1002 (md5crypt_bytes (length password.now) (length salt.now)) }
-    ensures below { md5crypt_bytes (length password.now) (length salt.now) < 2 ^ 41 }
+    ensures below { md5crypt_bytes (length password.now) (length salt.now) < work_limit }
     ensures specified { AreInAll (md5crypt_messages password.now salt.now) 1002
         (md5crypt_bytes (length password.now) (length salt.now)) }
 {

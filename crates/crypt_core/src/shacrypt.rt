@@ -11,7 +11,7 @@ ghost use Rattle.crypt_core.specs.RoundMessage.{salted_twice};
 ghost use Rattle.crypt_core.specs.Settings.{max_rounds, min_rounds};
 ghost use Rattle.crypt_core.specs.ShaCrypt.{sha_opening_digest, sha_opening_message, shacrypt_digest, shacrypt_messages};
 ghost use Rattle.crypt_core.specs.Private.Counting.{with_digest};
-ghost use Rattle.crypt_core.specs.Work.{first_byte, shacrypt_bytes, HasDigestRoom};
+ghost use Rattle.crypt_core.specs.Work.{first_byte, shacrypt_bytes, work_limit, HasDigestRoom};
 
 use crate::messages::{cycle_of, feed_cycle, feed_digits, feed_repeated, salted};
 use crate::password::{PASSWORD_LIMIT, Password};
@@ -40,7 +40,7 @@ pub fn shacrypt<H: Counted>(
     ensures count { meter.new ≡ with_work meter.old (rounds + 4) (shacrypt_bytes H.LEN
         (first_byte H.digest password.now salt.now) rounds (length password.now) (length salt.now)) }
     ensures below { shacrypt_bytes H.LEN (first_byte H.digest password.now salt.now) rounds (length password.now)
-        (length salt.now) < 2 ^ 41 }
+        (length salt.now) < work_limit }
     ensures specified { AreInAll (shacrypt_messages H.digest password.now salt.now rounds) (rounds + 4)
         (shacrypt_bytes H.LEN (first_byte H.digest password.now salt.now) rounds (length password.now) (length salt.now)) }
 {
@@ -83,7 +83,11 @@ fn opening<H: Counted>(password: &[u8], salt: &[u8], meter: &mut Meter) -> Array
 
 // Steps 13 to 16 for the password, and 17 to 20 for the salt: the digest of all the times that the
 // piece is repeated, and as many bytes of it as the piece has.
-fn string_of<H: Counted>(piece: &[u8], times: usize, meter: &mut Meter) -> ArrayVec<u8, PASSWORD_LIMIT>
+fn string_of<H: Counted>(
+    piece: &[u8],
+    times: usize,
+    meter: &mut Meter,
+) -> ArrayVec<u8, PASSWORD_LIMIT>
     requires fits { length piece.now ≤ password_limit }
     requires bytes_room { meter.old.bytes + times * length piece.now < 2 ^ 128 }
     requires digests_room { meter.old.digests + 1 < 2 ^ 128 }

@@ -1,9 +1,11 @@
 //! The work of a hash, known before hashing, so that a service can refuse a setting that would cost it
 //! too much. It is the closed form of what the meter counts, step by step of each scheme.
-ghost use Rattle.std.specs.Prelude.{◌≡◌, ℕ, ◌+◌, ◌^◌, ◌<◌, ◌≤◌, List, length};
+ghost use Rattle.std.specs.Prelude.{◌≡◌, ℕ, ◌+◌, ◌*◌, ◌^◌, ◌<◌, ◌≤◌, List, length};
 ghost use Rattle.kdf_core.specs.Scrypt.{parts_bytes, rows};
-ghost use Rattle.crypt_core.specs.Passwords.{IsPassword};
-ghost use Rattle.crypt_core.specs.Work.{digests_alone, digit_bytes, first_byte, md5crypt_bytes, rounds_bytes, shacrypt_bytes, work, work_bound, work_by, IsBelow, IsWithin};
+ghost use Rattle.crypt_core.specs.Methods.{md5crypt_salt_limit, scrypt_salt_limit, shacrypt_salt_limit};
+ghost use Rattle.crypt_core.specs.Passwords.{password_limit, IsPassword};
+ghost use Rattle.crypt_core.specs.Settings.{max_rounds};
+ghost use Rattle.crypt_core.specs.Work.{digests_alone, digit_bytes, first_byte, md5crypt_bytes, rounds_bytes, shacrypt_bytes, work, work_bound, work_by, work_limit, IsBelow, IsWithin};
 
 use crate::md5crypt::ROUNDS;
 use crate::scheme::Scheme;
@@ -38,16 +40,16 @@ pub struct Work {
 }
 
 /// The most that a hash by the setting counts, for any password of `password_len` bytes, which are at
-/// most 512. Nothing is hashed for it and no memory is taken.
+/// most [`PASSWORD_LIMIT`](crate::password::PASSWORD_LIMIT). Nothing is hashed for it and no memory is taken.
 ///
 /// A hash by md5crypt or scrypt counts exactly this. One by SHA-crypt counts for its salt of s bytes up
 /// to `255 * s` bytes less, and all else as it stands here. Each count is below 2^41.
 pub fn bound(setting: &Setting, password_len: usize) -> Work
-    requires { password_len ≤ 512 }
+    requires { password_len ≤ password_limit }
     ensures bound { result ≡ work_bound setting.now password_len }
     ensures never_passed { (password : List ℕ) → IsPassword password → length password ≡ password_len
         → IsWithin (work password setting.now) result }
-    ensures below { IsBelow result (2 ^ 41) }
+    ensures below { IsBelow result work_limit }
 {
     let password = password_len as u64;
     let salt = setting.salt().len() as u64;
@@ -66,10 +68,10 @@ pub fn bound(setting: &Setting, password_len: usize) -> Work
 // The second message of md5crypt has the three bytes `$1$`, and one byte for each binary digit of the
 // password's length.
 fn md5crypt_bound(password: u64, salt: u64) -> Work
-    requires password { password ≤ 512 }
-    requires salt { salt ≤ 8 }
+    requires password { password ≤ password_limit }
+    requires salt { salt ≤ md5crypt_salt_limit }
     ensures bound { result ≡ digests_alone 1002 (md5crypt_bytes password salt) }
-    ensures below { IsBelow result (2 ^ 41) }
+    ensures below { IsBelow result work_limit }
 {
     let salted = 2 * password + salt;
     let opening = salted + 3 + digit_bytes(password, 1, 1);
@@ -83,14 +85,14 @@ fn md5crypt_bound(password: u64, salt: u64) -> Work
 
 // SHA-crypt repeats the salt 16 times, and once more for each unit of a byte that only hashing tells.
 fn shacrypt_bound<H: Counted>(rounds: u32, password: u64, salt: u64) -> Work
-    requires rounds { rounds ≤ 999999999 }
-    requires password { password ≤ 512 }
-    requires salt { salt ≤ 16 }
+    requires rounds { rounds ≤ max_rounds }
+    requires password { password ≤ password_limit }
+    requires salt { salt ≤ shacrypt_salt_limit }
     ensures bound { result ≡ digests_alone (rounds + 4) (shacrypt_bytes H.LEN 255 rounds password salt) }
     ensures never_passed { (p s : List ℕ) → length p ≡ password → length s ≡ salt
         → let a = first_byte H.digest p s in
         IsWithin (digests_alone (rounds + 4) (shacrypt_bytes H.LEN a rounds password salt)) result }
-    ensures below { IsBelow result (2 ^ 41) }
+    ensures below { IsBelow result work_limit }
 {
     let rounds = u64::from(rounds);
     let digest = H::LEN as u64;
@@ -106,10 +108,10 @@ fn shacrypt_bound<H: Counted>(rounds: u32, password: u64, salt: u64) -> Work
 // Each 32 bytes of the parts are a tag over the salt, and scrypt's 32 bytes are one over the parts. A tag
 // has two digests, and a password that is longer than a block is digested once more, before all tags.
 fn scrypt_bound(params: &Params, password: u64, salt: u64) -> Work
-    requires password { password ≤ 512 }
-    requires salt { salt ≤ 86 }
+    requires password { password ≤ password_limit }
+    requires salt { salt ≤ scrypt_salt_limit }
     ensures bound { result ≡ work_by (Scheme.Scrypt params.now) 255 password salt }
-    ensures below { IsBelow result (2 ^ 41) }
+    ensures below { IsBelow result work_limit }
 {
     let rows = row_count(params);
     let r = u64::from(params.r());
@@ -157,11 +159,11 @@ fn digests_alone(digests: u64, bytes: u64) -> Work
 
 // The bytes of a piece for each binary digit of `number`: so many for a 1, and so many for a 0.
 fn digit_bytes(number: u64, one: u64, other: u64) -> u64
-    requires number { number ≤ 512 }
-    requires one { one ≤ 512 }
-    requires other { other ≤ 512 }
+    requires number { number ≤ password_limit }
+    requires one { one ≤ password_limit }
+    requires other { other ≤ password_limit }
     ensures bytes { result ≡ digit_bytes one other number }
-    ensures few { result ≤ 2 ^ 18 }
+    ensures few { result ≤ password_limit * password_limit }
 {
     let mut rest = number;
     let mut bytes = 0;
@@ -175,12 +177,12 @@ fn digit_bytes(number: u64, one: u64, other: u64) -> u64
 // The bytes of so many rounds. The salt is left out of every third and the password's second place of
 // every seventh, from round 0 on.
 fn rounds_bytes(rounds: u64, digest: u64, password: u64, salt: u64) -> u64
-    requires rounds { rounds ≤ 999999999 }
+    requires rounds { rounds ≤ max_rounds }
     requires digest { digest ≤ 64 }
-    requires password { password ≤ 512 }
-    requires salt { salt ≤ 16 }
+    requires password { password ≤ password_limit }
+    requires salt { salt ≤ shacrypt_salt_limit }
     ensures bytes { result ≡ rounds_bytes rounds digest password salt }
-    ensures below { result < 2 ^ 40 }
+    ensures few { result ≤ rounds * (digest + 2 * password + salt) }
 {
     let with_salt = rounds - rounds.div_ceil(3);
     let with_password_twice = rounds - rounds.div_ceil(7);

@@ -12,9 +12,9 @@ ghost use Rattle.crypt_core.specs.Private.Parts.{AllRefused, HasField, HasNumber
 ghost use Rattle.crypt_core.specs.Refusals.{IsRefused, IsShaText, LacksCost};
 ghost use Rattle.crypt_core.specs.Settings.{Kept, IsSettingByte, IsSettingText, dollar, max_rounds, BeginsWith, IsRoundsNumber, IsCharacter, IsScryptSalt, SpellsScheme, Spells};
 
-use super::{SETTING_LIMIT, Setting};
 use super::fault::SettingFault;
 use super::salt::in_alphabet;
+use super::{SETTING_LIMIT, Setting};
 use crate::method::{Method, SCRYPT_SALT_LIMIT};
 use crate::scheme::{MAX_ROUNDS, Rounds, Scheme};
 use arrayvec::ArrayVec;

@@ -1,3 +1,4 @@
+use Rattle.crypt_core.specs.Passwords.{password_limit}
 use Rattle.std.proofs.Common.{◌≡◌, ◌+◌, ◌≤◌, ◌<◌, length, get_or, arith, refl, sym, ◌∙◌, ap}
 use Rattle.std.specs.List.{repeat}
 use Rattle.crypt_core.specs.RoundMessage.{salted_twice}
@@ -15,8 +16,8 @@ string_of-password_string-requires-clause-bytes_room g c =
     let h = g.H.Counted.digest in
     let p = c.bytes-password.result.now in
     let s = c.args.salt.now in
-    let short : length p ≤ 512 = omega (arith, ap length c.bytes-password.ensures.value, c.bytes-password.ensures.password.length_fits) in
-    let small : length (h (salted_twice p s)) ≤ 512 = omega (arith, g.met.H.Counted.length_digest (salted_twice p s), g.met.H.Counted.at_most_64) in
+    let short : length p ≤ password_limit = omega (arith, ap length c.bytes-password.ensures.value, c.bytes-password.ensures.password.length_fits) in
+    let small : length (h (salted_twice p s)) ≤ password_limit = omega (arith, g.met.H.Counted.length_digest (salted_twice p s), g.met.H.Counted.at_most_64) in
     omega (arith, ap (λ m. m.bytes) c.opening-digest.ensures.count, start_bytes h p s 0 short c.requires.salt small (omega arith), c.requires.room.1)
 
 pub string_of-salt_string-requires-clause-bytes_room : goal.string_of-salt_string-requires-clause-bytes_room
@@ -24,12 +25,12 @@ string_of-salt_string-requires-clause-bytes_room g c =
     let h = g.H.Counted.digest in
     let p = c.bytes-password.result.now in
     let s = c.args.salt.now in
-    let short : length p ≤ 512 = omega (arith, ap length c.bytes-password.ensures.value, c.bytes-password.ensures.password.length_fits) in
-    let small : length (h (salted_twice p s)) ≤ 512 = omega (arith, g.met.H.Counted.length_digest (salted_twice p s), g.met.H.Counted.at_most_64) in
+    let short : length p ≤ password_limit = omega (arith, ap length c.bytes-password.ensures.value, c.bytes-password.ensures.password.length_fits) in
+    let small : length (h (salted_twice p s)) ≤ password_limit = omega (arith, g.met.H.Counted.length_digest (salted_twice p s), g.met.H.Counted.at_most_64) in
     let first = c.from-salt_times.ensures ∙ ap (λ xs. get_or xs 0 0) (c.as_slice.ensures.value ∙ c.opening-digest.ensures.digest) in
     let some : 0 < length (sha_opening_digest h p s) = omega (arith, g.met.H.Counted.length_digest (sha_opening_message h p s), g.met.H.Counted.at_least_1) in
     let byte = g.met.H.Counted.digest_bytes (sha_opening_message h p s) 0 0 some in
-    let times : 16 + c.from-salt_times.result ≤ 271 = omega (arith, first, byte) in
+    let times : 16 + c.from-salt_times.result ≤ 16 + 255 = omega (arith, first, byte) in
     omega (
       arith,
       ap (λ m. m.bytes) c.opening-digest.ensures.count,
@@ -69,11 +70,11 @@ rounds-init g c =
     let repeated = rw is at c.string_of-password_string.ensures.count in
     let first = c.from-salt_times.ensures ∙ ap (λ xs. get_or xs 0 0) (c.as_slice.ensures.value ∙ digest) in
     let salted = rw first at c.string_of-salt_string.ensures.count in
-    let short : length p ≤ 512 = c.bytes-password.ensures.password.length_fits in
-    let small : length (h (salted_twice p s)) ≤ 512 = omega (arith, g.met.H.Counted.length_digest (salted_twice p s), g.met.H.Counted.at_most_64) in
+    let short : length p ≤ password_limit = c.bytes-password.ensures.password.length_fits in
+    let small : length (h (salted_twice p s)) ≤ password_limit = omega (arith, g.met.H.Counted.length_digest (salted_twice p s), g.met.H.Counted.at_most_64) in
     let some : 0 < length (sha_opening_digest h p s) = omega (arith, g.met.H.Counted.length_digest (sha_opening_message h p s), g.met.H.Counted.at_least_1) in
     let byte = g.met.H.Counted.digest_bytes (sha_opening_message h p s) 0 0 some in
-    let times : 16 + get_or (sha_opening_digest h p s) 0 0 ≤ 271 = omega (arith, byte) in (
+    let times : 16 + get_or (sha_opening_digest h p s) 0 0 ≤ 16 + 255 = omega (arith, byte) in (
       digest ∙ sym (before_round-zero h p s),
       c.opening-digest.ensures.length,
       rw (messages-four h p s)
