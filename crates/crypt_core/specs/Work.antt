@@ -4,8 +4,6 @@ use Rattle.std.specs.Prelude.{ℕ, ◌+◌, ◌-◌, ◌*◌, ◌^◌, ◌≤◌
 use Rattle.std.specs.Int.{div_ceil}
 use Rattle.prims_core.specs.Digests.{sha256, sha512}
 use Rattle.prims_core.specs.Meter.{Counts}
--- all five counts leave room for any hash: what `hash` wants of a meter
-pub use Rattle.kdf_core.specs.Scrypt.{HasRoom}
 use Rattle.kdf_core.specs.Scrypt.{halves_bytes, parts_bytes, scrypt_bytes, scrypt_digests, scrypt_mixes, table_bytes}
 use Rattle.crypt_core.specs.Cycle.{binary_digits}
 use Rattle.crypt_core.specs.Settings.{Kept}
@@ -15,10 +13,6 @@ use Rattle.crypt_core.specs.declared.scheme.Scheme.TheVariants.{Md5crypt, Sha256
 use Rattle.crypt_core.specs.declared.work.Work.{Work}
 
 -- Counting
-
--- the two counts that digests raise leave room for any hash
-abbrev pub HasDigestRoom : Counts → Type 0
-HasDigestRoom counts = (counts.digests ≤ 2 ^ 120) × (counts.bytes ≤ 2 ^ 120)
 
 -- the meter, raised by some work in all five counts
 abbrev pub raised_by : Counts → Work → Counts

@@ -1,11 +1,12 @@
 //! Checking a stored text, as crypt(3) is used for it: a password fits where its hash by the setting that the
 //! text spells is the text.
 ghost use Rattle.std.specs.Prelude.{◌≡◌, ◌^◌, ◌↔◌, Err, IsTrue, IfOk};
+ghost use Rattle.prims_core.specs.Meter.{HasRoom};
 ghost use Rattle.crypt_core.specs.declared.setting.fault.SettingFault.{SettingFault as Refusal};
 ghost use Rattle.crypt_core.specs.Fits.{Compares, Fits};
 ghost use Rattle.crypt_core.specs.Refusals.{IsRefused};
 ghost use Rattle.crypt_core.specs.Settings.{Kept, Spells};
-ghost use Rattle.crypt_core.specs.Work.{work, work_limit, HasRoom, IsBelow};
+ghost use Rattle.crypt_core.specs.Work.{work, work_limit, IsBelow};
 
 use crate::hash::{HashFault, hash};
 use crate::password::Password;

@@ -1,10 +1,11 @@
 //! The text of crypt(3): a password, hashed by a setting.
 ghost use Rattle.std.specs.Prelude.{◌≡◌, ◌^◌, ◌≤◌, ◌++◌, length, codes, IfOk, OnOk, OnErr};
+ghost use Rattle.prims_core.specs.Meter.{HasRoom};
 ghost use Rattle.kdf_core.specs.Scrypt.{scrypt, with_scrypt, IsAfterRefusal};
 ghost use Rattle.crypt_core.specs.Crypt.{crypt, digest_by, IsRefusedBy};
 ghost use Rattle.crypt_core.specs.Packing.{digest_len, packed};
 ghost use Rattle.crypt_core.specs.Settings.{Spells, canonical_text, method_of};
-ghost use Rattle.crypt_core.specs.Work.{raised_by, work, work_limit, HasRoom, IsBelow};
+ghost use Rattle.crypt_core.specs.Work.{raised_by, work, work_limit, IsBelow};
 
 use crate::md5crypt::md5crypt;
 use crate::pack::pack;

@@ -3,13 +3,13 @@
 //! stands beside the digests in the rounds is joined once, in a buffer of fixed capacity.
 ghost use Rattle.std.specs.Prelude.{◌≡◌, ◌+◌, ◌*◌, ◌^◌, ◌<◌, ◌≤◌, length};
 ghost use Rattle.prims_core.specs.Digests.{md5};
-ghost use Rattle.prims_core.specs.Meter.{with_work, AreInAll};
+ghost use Rattle.prims_core.specs.Meter.{with_work, AreInAll, HasDigestRoom};
 ghost use Rattle.crypt_core.specs.Md5crypt.{md5crypt_digest, md5crypt_message, md5crypt_messages, opening_message};
 ghost use Rattle.crypt_core.specs.Methods.{md5crypt_salt_limit};
 ghost use Rattle.crypt_core.specs.Passwords.{password_limit};
 ghost use Rattle.crypt_core.specs.RoundMessage.{salted_twice};
 ghost use Rattle.crypt_core.specs.Private.Counting.{with_digest};
-ghost use Rattle.crypt_core.specs.Work.{md5crypt_bytes, work_limit, HasDigestRoom};
+ghost use Rattle.crypt_core.specs.Work.{md5crypt_bytes, work_limit};
 
 use crate::messages::{feed_cycle, feed_digits, salted};
 use crate::password::Password;

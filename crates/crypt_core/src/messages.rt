@@ -2,12 +2,12 @@
 //! running digest: the first message, a digest repeated, a piece for each binary digit of a length.
 ghost use Rattle.std.specs.Prelude.{◌≡◌, ℕ, ◌+◌, ◌*◌, ◌^◌, ◌<◌, ◌≤◌, List, ◌++◌, length, ◌==◌, if◌then◌else◌};
 ghost use Rattle.std.specs.List.{repeat};
+ghost use Rattle.prims_core.specs.Meter.{HasDigestRoom};
 ghost use Rattle.crypt_core.specs.Cycle.{cycle, digit_pieces};
 ghost use Rattle.crypt_core.specs.Methods.{shacrypt_salt_limit};
 ghost use Rattle.crypt_core.specs.Passwords.{password_limit};
 ghost use Rattle.crypt_core.specs.RoundMessage.{salted_twice};
 ghost use Rattle.crypt_core.specs.Private.Counting.{with_digest};
-ghost use Rattle.crypt_core.specs.Work.{HasDigestRoom};
 
 use crate::password::PASSWORD_LIMIT;
 use arrayvec::ArrayVec;

@@ -3,7 +3,7 @@
 //! password and the salt in the rounds is made once, in buffers of fixed capacity.
 ghost use Rattle.std.specs.Prelude.{◌≡◌, ◌+◌, ◌*◌, ◌^◌, ◌<◌, ◌≤◌, length};
 ghost use Rattle.std.specs.List.{repeat};
-ghost use Rattle.prims_core.specs.Meter.{with_work, AreInAll};
+ghost use Rattle.prims_core.specs.Meter.{with_work, AreInAll, HasDigestRoom};
 ghost use Rattle.crypt_core.specs.Cycle.{cycle};
 ghost use Rattle.crypt_core.specs.Methods.{shacrypt_salt_limit};
 ghost use Rattle.crypt_core.specs.Passwords.{password_limit};
@@ -11,7 +11,7 @@ ghost use Rattle.crypt_core.specs.RoundMessage.{salted_twice};
 ghost use Rattle.crypt_core.specs.Settings.{max_rounds, min_rounds};
 ghost use Rattle.crypt_core.specs.ShaCrypt.{sha_opening_digest, sha_opening_message, shacrypt_digest, shacrypt_messages};
 ghost use Rattle.crypt_core.specs.Private.Counting.{with_digest};
-ghost use Rattle.crypt_core.specs.Work.{first_byte, shacrypt_bytes, work_limit, HasDigestRoom};
+ghost use Rattle.crypt_core.specs.Work.{first_byte, shacrypt_bytes, work_limit};
 
 use crate::messages::{cycle_of, feed_cycle, feed_digits, feed_repeated, salted};
 use crate::password::{PASSWORD_LIMIT, Password};

@@ -1,5 +1,5 @@
 -- scrypt (RFC 7914, sections 5 and 6).
-use Rattle.std.specs.Prelude.{◌≡◌, ℕ, ◌+◌, ◌-◌, ◌*◌, ◌^◌, ◌%◌, ◌≤◌, ◌⊎◌, List, [], ◌∷◌, ◌++◌, length, drop}
+use Rattle.std.specs.Prelude.{◌≡◌, ℕ, ◌+◌, ◌-◌, ◌*◌, ◌^◌, ◌%◌, ◌⊎◌, List, [], ◌∷◌, ◌++◌, length, drop}
 use Rattle.std.specs.Fn.{iterate}
 use Rattle.std.specs.Int.{div_ceil}
 use Rattle.std.specs.List.{flat_map}
@@ -104,11 +104,3 @@ IsAfterRefusal before cost after =
     (after ≡ before)
     ⊎ ((after ≡ record before { table = before.table + table_bytes cost })
     ⊎ (after ≡ record before { table = before.table + table_bytes cost; scratch = before.scratch + parts_bytes cost }))
-
--- counts that leave room for the work of any scrypt
-pub record HasRoom (counts : Counts) : Type 0 where
-  pub digests : counts.digests ≤ 2 ^ 120
-  pub bytes : counts.bytes ≤ 2 ^ 120
-  pub mixes : counts.mixes ≤ 2 ^ 120
-  pub table : counts.table ≤ 2 ^ 120
-  pub scratch : counts.scratch ≤ 2 ^ 120

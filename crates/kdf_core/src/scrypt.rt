@@ -6,9 +6,9 @@
 ghost use Rattle.std.specs.Prelude.{◌≡◌, ℕ, ◌+◌, ◌-◌, ◌*◌, ◌/◌, ◌^◌, ◌%◌, ◌<◌, ◌≤◌, List, length, OnOk, OnErr};
 ghost use Rattle.std.specs.Fn.{iterate};
 ghost use Rattle.prims_core.specs.BlockMix.{block_mix as mixed};
-ghost use Rattle.prims_core.specs.Meter.{AreInAll};
+ghost use Rattle.prims_core.specs.Meter.{AreInAll, HasRoom};
 ghost use Rattle.kdf_core.specs.Private.Mixing.{HasShape, HoldsMixings, AreHalves, IsPower};
-ghost use Rattle.kdf_core.specs.Scrypt.{scrypt, rows, integerify, mixed_back, romix, mixed_part, mixed_parts, scrypt_bytes, scrypt_digests, scrypt_messages, with_scrypt, IsAfterRefusal, HasRoom};
+ghost use Rattle.kdf_core.specs.Scrypt.{scrypt, rows, integerify, mixed_back, romix, mixed_part, mixed_parts, scrypt_bytes, scrypt_digests, scrypt_messages, with_scrypt, IsAfterRefusal};
 
 use crate::hmac::HmacKey;
 use crate::params::Params;
