@@ -10,7 +10,7 @@ use Rattle.crypt_core.specs.Cycle.{binary_digits, cycle, digit_pieces}
 use Rattle.crypt_core.specs.Md5crypt.{md5crypt_message, md5crypt_messages, opening_message}
 use Rattle.crypt_core.specs.RoundMessage.{round_message, salted_twice}
 use Rattle.crypt_core.specs.Work.{md5crypt_bytes}
-use Rattle.crypt_core.proofs.CycleLemmas.{length-cycle, length-single_pieces}
+use Rattle.crypt_core.proofs.CycleLemmas.{digit_bytes-ones, length-cycle, length-digit_pieces}
 use Rattle.crypt_core.proofs.MessageLists.{length-messages_to, length-round_message, length-salted_twice, messages_to, round_length}
 use Rattle.crypt_core.proofs.WorkSums.{rounds_sum}
 
@@ -43,7 +43,7 @@ length-message_round p s i =
 pub length-digits : (p : List ℕ) → length (digit_pieces (0 ∷ []) (take 1 p) (length p)) ≡ length (binary_digits (length p))
 unfolding binary_digits
 length-digits [] = refl
-length-digits (x ∷ p) = length-single_pieces 0 x (suc (length p))
+length-digits (x ∷ p) = length-digit_pieces (0 ∷ []) (x ∷ []) (suc (length p)) ∙ digit_bytes-ones (suc (length p))
 
 pub length-opening : (p s : List ℕ) → length (opening_message p s) ≡ 2 * length p + length s + 3 + length (binary_digits (length p))
 length-opening p s =

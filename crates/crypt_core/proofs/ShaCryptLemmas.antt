@@ -10,7 +10,7 @@ use Rattle.crypt_core.specs.Cycle.{cycle, digit_pieces}
 use Rattle.crypt_core.specs.RoundMessage.{round_message, salted_twice}
 use Rattle.crypt_core.specs.ShaCrypt.{password_repeated, password_string, salt_repeated, salt_string, sha_opening_digest, sha_opening_message, sha_round_message, shacrypt_digest, shacrypt_message, shacrypt_messages}
 use Rattle.crypt_core.specs.Work.{digit_bytes, first_byte, shacrypt_bytes}
-use Rattle.crypt_core.proofs.CycleLemmas.{digit_bytes-small, length-cycle, length-digit_pieces, length-repeat}
+use Rattle.crypt_core.proofs.CycleLemmas.{digit_bytes-few, length-cycle, length-digit_pieces, length-repeat}
 use Rattle.crypt_core.proofs.MessageLists.{length-messages_to, length-round_message, length-salted_twice, messages_to, round_length}
 use Rattle.crypt_core.proofs.WorkSums.{rounds_sum}
 
@@ -88,7 +88,7 @@ start_bytes h p s times short salt_short small few =
       arith,
       length-salted_twice p s,
       length-sha_opening h p s,
-      digit_bytes-small (length (h (salted_twice p s))) (length p) password_limit small short,
+      digit_bytes-few (length (h (salted_twice p s))) (length p) password_limit (length p) small short,
       mul-le-mul_right (length p) short,
       mul-le-mul_right (length s) few,
     )

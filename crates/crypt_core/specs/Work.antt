@@ -39,9 +39,13 @@ md5crypt_bytes password salt =
     2 * password + salt + (2 * password + salt + 3 + length (binary_digits password))
     + rounds_bytes 1000 16 password salt
 
--- the bytes of a piece for each binary digit of n: so many for a 1, and so many for a 0
+-- the bytes of the piece for a binary digit: so many for a 1, and so many for a 0
+abbrev pub piece_bytes : ℕ → ℕ → ℕ → ℕ
+piece_bytes one other digit = if digit == 1 then one else other
+
+-- the bytes of a piece for each binary digit of n
 abbrev pub digit_bytes : ℕ → ℕ → ℕ → ℕ
-digit_bytes one other n = sum_by (λ digit. if digit == 1 then one else other) (binary_digits n)
+digit_bytes one other n = sum_by (piece_bytes one other) (binary_digits n)
 
 -- SHA-crypt: two passwords and a salt; the same, with a digest for each binary digit 1 of the password's
 -- length and the password for each 0; the password as often as it has bytes; the salt 16 times and once more for each unit of a; the rounds

@@ -5,7 +5,7 @@ ghost use Rattle.kdf_core.specs.Scrypt.{parts_bytes, rows};
 ghost use Rattle.crypt_core.specs.Methods.{md5crypt_salt_limit, scrypt_salt_limit, shacrypt_salt_limit};
 ghost use Rattle.crypt_core.specs.Passwords.{password_limit, IsPassword};
 ghost use Rattle.crypt_core.specs.Settings.{max_rounds};
-ghost use Rattle.crypt_core.specs.Work.{digests_alone, digit_bytes, first_byte, md5crypt_bytes, rounds_bytes, shacrypt_bytes, work, work_bound, work_by, work_limit, IsBelow, IsWithin};
+ghost use Rattle.crypt_core.specs.Work.{digests_alone, digit_bytes, first_byte, md5crypt_bytes, piece_bytes, rounds_bytes, shacrypt_bytes, work, work_bound, work_by, work_limit, IsBelow, IsWithin};
 
 use crate::md5crypt::ROUNDS;
 use crate::scheme::Scheme;
@@ -168,10 +168,17 @@ fn digit_bytes(number: u64, one: u64, other: u64) -> u64
     let mut rest = number;
     let mut bytes = 0;
     'digits: while rest > 0 {
-        bytes += if rest % 2 == 1 { one } else { other };
+        bytes += piece_bytes(rest % 2, one, other);
         rest /= 2;
     }
     bytes
+}
+
+// The bytes of the piece for a binary digit.
+fn piece_bytes(digit: u64, one: u64, other: u64) -> u64
+    ensures { result ≡ piece_bytes one other digit }
+{
+    if digit == 1 { one } else { other }
 }
 
 // The bytes of so many rounds. The salt is left out of every third and the password's second place of

@@ -3,7 +3,7 @@ use Rattle.std.proofs.Common.{◌≤◌, length, arith, refl, ◌∙◌, ap}
 use Rattle.crypt_core.specs.RoundMessage.{salted_twice}
 use Rattle.crypt_core.specs.ShaCrypt.{sha_opening_message}
 use Rattle.crypt_core.specs.Private.Counting.{with_digest}
-use Rattle.crypt_core.proofs.CycleLemmas.{digit_bytes-small, length-digit_pieces}
+use Rattle.crypt_core.proofs.CycleLemmas.{digit_bytes-few, length-digit_pieces}
 use Rattle.crypt_core.proofs.MessageLists.{length-salted_twice}
 use Rattle.crypt_core.proofs.Metering.{bytes_more, digest_after}
 use Rattle.crypt_core.proofs.ShaCryptLemmas.{length-sha_opening}
@@ -25,7 +25,7 @@ feed_digits-requires g c =
       c.requires.salt,
       length-salted_twice p c.args.salt.now,
       length-digit_pieces b p (length p),
-      digit_bytes-small (length b) (length p) password_limit small c.requires.password,
+      digit_bytes-few (length b) (length p) password_limit (length p) small c.requires.password,
     )
 
 pub returns-clause-count : goal.returns-clause-count
