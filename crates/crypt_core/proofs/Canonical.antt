@@ -1,4 +1,5 @@
 -- The canonical text of a setting spells it.
+use Rattle.crypt_core.specs.Crypt.{hash_limit}
 use Rattle.std.proofs.Common.{◌≡◌, ◌≢◌, ℕ, ◌+◌, ◌≤◌, ◌<◌, ◌^◌, Bool, true, false, ◌⊎◌, inl, inr, List, [], ◌∷◌, ◌++◌, length, take, drop, get_or, All, length-append, append-nil, refl, sym, ap, subst, ◌∙◌, append_assoc, arith}
 use Rattle.std.specs.Prelude.{decimal, codes}
 use Rattle.std.specs.List.{AllByRecursion}
@@ -15,7 +16,7 @@ use Rattle.crypt_core.specs.declared.scheme.Scheme.TheVariants.{Md5crypt, Sha256
 use Rattle.crypt_core.specs.Methods.{prefix, salt_limit, md5crypt_salt_limit, shacrypt_salt_limit, scrypt_salt_limit}
 use Rattle.crypt_core.specs.Packing.{packed_len}
 use Rattle.crypt_core.specs.Private.Costs.{HasCost}
-use Rattle.crypt_core.specs.Settings.{Kept, method_of, IsSettingByte, dollar, IsEndOfField, IsField, BeginsWith, rounds_word, rounds_field, IsRoundsNumber, held, SpellsRounds, SpellsCost, IsScryptSalt, KeepsSalt, Spells, IsSetting, cost_part, canonical_text, min_rounds, max_rounds}
+use Rattle.crypt_core.specs.Settings.{Kept, method_of, IsSettingByte, dollar, IsEndOfField, IsField, BeginsWith, rounds_word, rounds_field, IsRoundsNumber, held, SpellsRounds, SpellsCost, IsScryptSalt, KeepsSalt, Spells, IsSetting, cost_part, canonical_text, min_rounds, max_rounds, setting_limit, canonical_limit}
 use Rattle.crypt_core.proofs.Numerals.{length-scrypt_part}
 
 -- What a setting keeps is bounded
@@ -48,16 +49,20 @@ setting_bounded kept (text, s) =
 
 -- Lengths
 
-length_written : (count : ℕ) → count ≤ max_rounds → length (rounds_field (decimal count)) ≤ 17
+-- the most bytes of a rounds field: the word, nine digits, and a `$`
+abbrev rounds_field_limit : ℕ
+rounds_field_limit = length rounds_word + 9 + 1
+
+length_written : (count : ℕ) → count ≤ max_rounds → length (rounds_field (decimal count)) ≤ rounds_field_limit
 length_written count high =
     omega (arith, length-append (decimal count) (codes "$"), length-append rounds_word (decimal count ++ codes "$"), length-decimal-le 9 count (omega arith) (omega arith) (omega arith))
 
-length_rounds : (count : ℕ) (flag : Bool) → count ≤ max_rounds → length (cost_part (Sha256crypt (record { count = count; is_written = flag }))) ≤ 17
+length_rounds : (count : ℕ) (flag : Bool) → count ≤ max_rounds → length (cost_part (Sha256crypt (record { count = count; is_written = flag }))) ≤ rounds_field_limit
 length_rounds count true high = length_written count high
 length_rounds count false high = omega arith
 
--- the canonical text has at most 100 bytes
-pub canonical_short : (scheme : Scheme) (salt : List ℕ) → HasCost scheme → length salt ≤ salt_limit (method_of scheme) → length (prefix (method_of scheme)) + (length (cost_part scheme) + length salt) ≤ 100
+-- the canonical text stays within its limit
+pub canonical_short : (scheme : Scheme) (salt : List ℕ) → HasCost scheme → length salt ≤ salt_limit (method_of scheme) → length (prefix (method_of scheme)) + (length (cost_part scheme) + length salt) ≤ canonical_limit
 canonical_short Md5crypt salt c l = omega arith
 canonical_short (Sha256crypt r) salt c l = omega (arith, length_rounds r.count r.is_written c.1)
 canonical_short (Sha512crypt r) salt c l = omega (arith, length_rounds r.count r.is_written c.1)
@@ -182,7 +187,7 @@ cost_again (Sha512crypt r) n part field rest salt tail e end s = rounds_again r.
 cost_again (Scrypt c) n part field rest salt tail e end s = (refl, s.1, s.2)
 
 -- what a text spells, its canonical text spells, whatever stands behind a `$`
-pub canonical_spells_before : (text : List ℕ) (kept : Kept) (tail : List ℕ) → Spells text kept → IsEndOfField tail → All IsSettingByte tail → length tail ≤ 284
+pub canonical_spells_before : (text : List ℕ) (kept : Kept) (tail : List ℕ) → Spells text kept → IsEndOfField tail → All IsSettingByte tail → canonical_limit + length tail ≤ setting_limit
     → Spells (canonical_text kept ++ tail) kept
 canonical_spells_before text kept tail s end tail_bytes short =
     let m : Method = method_of kept.scheme in
@@ -215,9 +220,9 @@ pub canonical_spells : (text : List ℕ) (kept : Kept) → Spells text kept → 
 canonical_spells text kept s =
     subst (λ (t : List ℕ). Spells t kept) (append-nil (canonical_text kept)) (canonical_spells_before text kept [] s tt (All-nil IsSettingByte) (omega arith))
 
--- with the text of the method's digest the canonical text has at most 143 bytes
+-- with a `$` and the text of the method's digest it stays within the limit of a hash
 pub packed_short : (scheme : Scheme) (salt : List ℕ) → HasCost scheme → length salt ≤ salt_limit (method_of scheme)
-    → length (prefix (method_of scheme)) + (length (cost_part scheme) + length salt) + packed_len (method_of scheme) ≤ 143
+    → length (prefix (method_of scheme)) + (length (cost_part scheme) + length salt) + packed_len (method_of scheme) < hash_limit
 packed_short Md5crypt salt c l = omega arith
 packed_short (Sha256crypt r) salt c l = omega (arith, length_rounds r.count r.is_written c.1)
 packed_short (Sha512crypt r) salt c l = omega (arith, length_rounds r.count r.is_written c.1)

@@ -5,8 +5,8 @@ use Rattle.std.proofs.Math.Nat.{pow-suc}
 use Rattle.std.proofs.lemmas.List.Elements.{All-nil, All-cons, All-append, All-weaker, Contains-get_or}
 use Rattle.std.proofs.lemmas.Bool.{agree_below_at, eqb-true}
 use Rattle.prims_core.specs.Alphabet.{alphabet, character_of, numerals}
-use Rattle.kdf_core.specs.Params.{ScryptCost}
-use Rattle.crypt_core.specs.Settings.{scrypt_part, HasNumerals, IsCharacter}
+use Rattle.kdf_core.specs.Params.{ScryptCost, cost_of}
+use Rattle.crypt_core.specs.Settings.{scrypt_part, HasNumerals, IsCharacter, scrypt_part_len}
 use Rattle.crypt_core.proofs.Fields.{same_front}
 
 -- where a character stands in the alphabet
@@ -37,14 +37,11 @@ numerals_unique (suc n) a b small_a small_b e =
     let high : a / 64 ≡ b / 64 = numerals_unique n (a / 64) (b / 64) (omega arith) (omega arith) tails in
     omega arith
 
-pub length-scrypt_part : (cost : ScryptCost) → length (scrypt_part cost) ≡ 11
+pub length-scrypt_part : (cost : ScryptCost) → length (scrypt_part cost) ≡ scrypt_part_len
 length-scrypt_part cost =
     rw (length-append, length-append, length-numerals, length-numerals, length-numerals) refl
 
-abbrev cost_of : ℕ → ℕ → ℕ → ScryptCost
-cost_of log_n r p = record { log_n = log_n; r = r; p = p }
-
--- eleven characters say three numbers, and no others
+-- a cost part says three numbers, and no others
 pub scrypt_part_unique : (a b : ScryptCost) (x y : List ℕ) → HasNumerals a → HasNumerals b → scrypt_part a ++ x ≡ scrypt_part b ++ y → (a ≡ b) × (x ≡ y)
 scrypt_part_unique a b x y fits_a fits_b e =
     let whole = same_front (scrypt_part a) (scrypt_part b) x y (length-scrypt_part a ∙ sym (length-scrypt_part b)) e in

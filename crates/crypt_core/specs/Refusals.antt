@@ -6,7 +6,7 @@ use Rattle.crypt_core.specs.declared.method.Method.TheVariants as methods
 use Rattle.crypt_core.specs.declared.setting.fault.SettingFault.{SettingFault}
 use Rattle.crypt_core.specs.declared.setting.fault.SettingFault.TheVariants.{TooLong, BadCharacter, UnknownScheme, BadRounds, BadCost, ScryptRange, AboveCeiling, BadSalt}
 use Rattle.crypt_core.specs.Methods.{prefix}
-use Rattle.crypt_core.specs.Settings.{setting_limit, IsSettingByte, IsField, BeginsWith, rounds_word, IsRoundsNumber, rounds_field, scrypt_part, HasNumerals, IsCharacter, IsScryptSalt}
+use Rattle.crypt_core.specs.Settings.{setting_limit, IsSettingByte, IsField, BeginsWith, rounds_word, IsRoundsNumber, rounds_field, scrypt_part, scrypt_part_len, HasNumerals, IsCharacter, IsScryptSalt}
 
 abbrev pub rule_number : SettingFault → ℕ
 rule_number TooLong = 1
@@ -27,9 +27,9 @@ pub record LacksRounds (after : List ℕ) : Type 0 where
   pub begins : BeginsWith after rounds_word
   pub no_field : (digits rest : List ℕ) → IsRoundsNumber digits → after ≡ rounds_field digits ++ rest → ⊥
 
--- fewer than eleven characters of crypt's alphabet stand there
+-- fewer characters of crypt's alphabet than scrypt's cost part has stand there
 abbrev pub LacksCost : List ℕ → Type 0
-LacksCost after = (part rest : List ℕ) → length part ≡ 11 → All IsCharacter part → after ≡ part ++ rest → ⊥
+LacksCost after = (part rest : List ℕ) → length part ≡ scrypt_part_len → All IsCharacter part → after ≡ part ++ rest → ⊥
 
 -- a text of scrypt with these three numbers, and what follows them
 pub record IsScryptText (text : List ℕ) (cost : ScryptCost) (after : List ℕ) : Type 0 where

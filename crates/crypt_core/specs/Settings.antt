@@ -1,5 +1,5 @@
 -- Settings: which text spells which, and the one canonical text of each (crypt(5)).
-use Rattle.std.specs.Prelude.{◌≡◌, ◌≢◌, ℕ, ◌^◌, ◌<◌, ◌≤◌, if◌then◌else◌, min, max, List, [], ◌∷◌, ◌++◌, length, take, All, Contains, MatchBool, decimal, codes}
+use Rattle.std.specs.Prelude.{◌≡◌, ◌≢◌, ℕ, ◌+◌, ◌^◌, ◌<◌, ◌≤◌, if◌then◌else◌, min, max, List, [], ◌∷◌, ◌++◌, length, take, All, Contains, MatchBool, decimal, codes}
 use Rattle.std.specs.Str.Parse.{digits_value}
 use Rattle.prims_core.specs.Alphabet.{alphabet, numerals}
 use Rattle.kdf_core.specs.Params.{ScryptCost, IsAccepted}
@@ -93,7 +93,11 @@ SpellsRounds rounds part after = MatchBool rounds.is_written
 abbrev pub scrypt_part : ScryptCost → List ℕ
 scrypt_part cost = numerals 1 cost.log_n ++ (numerals 5 cost.r ++ numerals 5 cost.p)
 
--- the numbers that eleven characters can say
+-- how many characters these are
+abbrev pub scrypt_part_len : ℕ
+scrypt_part_len = 1 + 5 + 5
+
+-- the numbers that so many characters can say
 pub record HasNumerals (cost : ScryptCost) : Type 0 where
   pub log_n : cost.log_n < 64
   pub r : cost.r < 2 ^ 30
@@ -152,3 +156,7 @@ cost_part (Scrypt cost) = scrypt_part cost
 -- it ends with the salt
 abbrev pub canonical_text : Kept → List ℕ
 canonical_text kept = prefix (method_of kept.scheme) ++ (cost_part kept.scheme ++ kept.salt)
+
+-- the most bytes of a canonical text: scrypt's are the longest
+abbrev pub canonical_limit : ℕ
+canonical_limit = length (prefix methods.Scrypt) + scrypt_part_len + scrypt_salt_limit

@@ -2,16 +2,16 @@
 ghost use Rattle.std.specs.Prelude.{◌≡◌, ◌^◌, ◌≤◌, ◌++◌, length, codes, IfOk, OnOk, OnErr};
 ghost use Rattle.prims_core.specs.Meter.{HasRoom};
 ghost use Rattle.kdf_core.specs.Scrypt.{scrypt, with_scrypt, IsAfterRefusal};
-ghost use Rattle.crypt_core.specs.Crypt.{crypt, digest_by, IsRefusedBy};
+ghost use Rattle.crypt_core.specs.Crypt.{crypt, digest_by, hash_limit, IsRefusedBy};
 ghost use Rattle.crypt_core.specs.Packing.{digest_len, packed};
 ghost use Rattle.crypt_core.specs.Settings.{Spells, canonical_text, method_of};
 ghost use Rattle.crypt_core.specs.Work.{raised_by, work, work_limit, IsBelow};
 
 use crate::md5crypt::md5crypt;
-use crate::pack::pack;
+use crate::pack::{SCRYPT_PACKED_LEN, pack};
 use crate::password::Password;
 use crate::scheme::Scheme;
-use crate::setting::Setting;
+use crate::setting::{CANONICAL_LIMIT, Setting, TEXT_CAPACITY};
 use crate::shacrypt::shacrypt;
 use arrayvec::ArrayVec;
 use kdf_core::params::Params;
@@ -23,28 +23,32 @@ use std::alloc::{AllocError, Global};
 use std::marker::Model;
 use thiserror::Error;
 
-/// A hashed password, as crypt(3) gives it: a text of at most 144 bytes. A contract sees it as the
-/// list of its bytes.
+/// The most bytes of a hashed password: scrypt's canonical text, a `$`, and its packed digest.
+pub const HASH_LIMIT: usize = CANONICAL_LIMIT + 1 + SCRYPT_PACKED_LEN;
+
+/// A hashed password, as crypt(3) gives it: a text of at most [`HASH_LIMIT`] bytes. A contract sees it as
+/// the list of its bytes.
 #[derive(Debug, Drop)]
 pub struct Hashed {
-    text: ArrayVec<u8, 160>,
+    text: ArrayVec<u8, TEXT_CAPACITY>,
 }
 
 impl Model for Hashed {
     ghost use Rattle.std.specs.Prelude.{ℕ, List, length, ◌≤◌};
+    ghost use Rattle.crypt_core.specs.declared.hash.TheConstants.{HASH_LIMIT};
 
     ghost Value = { List ℕ };
 
     ghost view = { λ h. h.text.items };
 
-    ghost invariant = { λ h. length h.text.items ≤ 144 };
+    ghost invariant = { λ h. length h.text.items ≤ HASH_LIMIT };
 }
 
 impl Hashed {
     /// The canonical text of the setting, a `$`, and the packed digest.
     pub fn text(&self) -> &[u8]
         ensures text { result.now ≡ self.now }
-        ensures short { length result.now ≤ 144 }
+        ensures short { length result.now ≤ hash_limit }
     {
         self.text.as_slice()
     }

@@ -25,6 +25,15 @@ use std::marker::Model;
 /// The most bytes of a setting's text.
 pub const SETTING_LIMIT: usize = 384;
 
+/// The characters of scrypt's cost part: one of log2 N, five of r and five of p.
+pub(crate) const COST_CHARACTERS: usize = 1 + 5 + 5;
+
+/// The most bytes of a canonical text: the three of scrypt's prefix, its cost part and its salt.
+pub const CANONICAL_LIMIT: usize = 3 + COST_CHARACTERS + SCRYPT_SALT_LIMIT;
+
+/// The bytes that a buffer for a text of crypt(5) has room for, with or without the hash.
+pub const TEXT_CAPACITY: usize = 160;
+
 /// What a text asks for: a method with its cost, and the salt that is kept of it.
 #[derive(Debug, Drop)]
 pub struct Setting {

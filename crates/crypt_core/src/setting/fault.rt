@@ -21,7 +21,7 @@ pub enum SettingFault {
     /// `rounds=` stands after SHA-crypt's prefix, but no proper field.
     #[error("{}", self.text())]
     BadRounds,
-    /// Fewer than 11 characters of crypt's alphabet follow scrypt's prefix.
+    /// Fewer characters of crypt's alphabet follow scrypt's prefix than its cost part has: 11.
     #[error("{}", self.text())]
     BadCost,
     /// N, r and p are outside scrypt's range.
