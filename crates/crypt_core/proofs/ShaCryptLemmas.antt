@@ -9,7 +9,7 @@ use Rattle.prims_core.specs.Meter.{AreInAll}
 use Rattle.crypt_core.specs.Cycle.{cycle, digit_pieces}
 use Rattle.crypt_core.specs.RoundMessage.{round_message, salted_twice}
 use Rattle.crypt_core.specs.ShaCrypt.{password_repeated, password_string, salt_repeated, salt_string, sha_opening_digest, sha_opening_message, sha_round_message, shacrypt_digest, shacrypt_message, shacrypt_messages}
-use Rattle.crypt_core.specs.Work.{digit_bytes, first_byte, shacrypt_bytes}
+use Rattle.crypt_core.specs.Work.{digit_bytes, first_byte, shacrypt_bytes, greatest_byte}
 use Rattle.crypt_core.proofs.CycleLemmas.{digit_bytes-few, length-cycle, length-digit_pieces, length-repeat}
 use Rattle.crypt_core.proofs.MessageLists.{length-messages_to, length-round_message, length-salted_twice, messages_to, round_length}
 use Rattle.crypt_core.proofs.WorkSums.{rounds_sum}
@@ -81,7 +81,7 @@ length-sha_opening h p s =
 abbrev pub start_limit : ℕ
 start_limit = 4 * (password_limit * password_limit)
 
-pub start_bytes : (h : List ℕ → List ℕ) (p s : List ℕ) (times : ℕ) → length p ≤ password_limit → length s ≤ shacrypt_salt_limit → length (h (salted_twice p s)) ≤ password_limit → times ≤ 16 + 255
+pub start_bytes : (h : List ℕ → List ℕ) (p s : List ℕ) (times : ℕ) → length p ≤ password_limit → length s ≤ shacrypt_salt_limit → length (h (salted_twice p s)) ≤ password_limit → times ≤ 16 + greatest_byte
     → length (salted_twice p s) + length (sha_opening_message h p s) + length p * length p + times * length s ≤ start_limit
 start_bytes h p s times short salt_short small few =
     omega (

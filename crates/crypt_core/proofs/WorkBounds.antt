@@ -8,7 +8,7 @@ use Rattle.std.proofs.Math.Pow.{pow_mono}
 use Rattle.kdf_core.specs.Hmac.{key_bytes, key_digests}
 use Rattle.kdf_core.specs.Params.{ScryptCost, IsAccepted}
 use Rattle.kdf_core.specs.Scrypt.{rows, scrypt_bytes, scrypt_digests}
-use Rattle.crypt_core.specs.Work.{digests_alone, shacrypt_bytes, work_by, IsBelow, IsWithin, work_limit}
+use Rattle.crypt_core.specs.Work.{digests_alone, shacrypt_bytes, work_by, IsBelow, IsWithin, work_limit, greatest_byte}
 use Rattle.crypt_core.specs.declared.scheme.Scheme.TheVariants.{Scrypt}
 use Rattle.crypt_core.specs.declared.work.Work.{Work}
 
@@ -25,9 +25,9 @@ same_work a b d y m t s =
 
 -- any first byte repeats the salt at most as often as the greatest byte does
 pub shacrypt-within : (digest a rounds password salt : ℕ) → a < 256
-    → IsWithin (digests_alone (rounds + 4) (shacrypt_bytes digest a rounds password salt)) (digests_alone (rounds + 4) (shacrypt_bytes digest 255 rounds password salt))
+    → IsWithin (digests_alone (rounds + 4) (shacrypt_bytes digest a rounds password salt)) (digests_alone (rounds + 4) (shacrypt_bytes digest greatest_byte rounds password salt))
 shacrypt-within digest a rounds password salt byte =
-    let times : (16 + a) * salt ≤ (16 + 255) * salt = mul-le-mul_right salt (omega arith) in
+    let times : (16 + a) * salt ≤ (16 + greatest_byte) * salt = mul-le-mul_right salt (omega arith) in
     record { digests = omega arith; bytes = omega arith; mixes = omega arith; table = omega arith; scratch = omega arith }
 
 -- The numbers of scrypt, each below its bound

@@ -93,9 +93,12 @@ work password kept =
 
 -- The bound that is known before hashing
 
+abbrev pub greatest_byte : ℕ
+greatest_byte = 255
+
 -- the same for a password of so many bytes, with the greatest byte in place of a
 abbrev pub work_bound : Kept → ℕ → Work
-work_bound kept password = work_by kept.scheme 255 password (length kept.salt)
+work_bound kept password = work_by kept.scheme greatest_byte password (length kept.salt)
 
 -- what no count of a hash reaches, for any password and any setting
 abbrev pub work_limit : ℕ

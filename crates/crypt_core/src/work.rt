@@ -5,7 +5,7 @@ ghost use Rattle.kdf_core.specs.Scrypt.{parts_bytes, rows};
 ghost use Rattle.crypt_core.specs.Methods.{md5crypt_salt_limit, scrypt_salt_limit, shacrypt_salt_limit};
 ghost use Rattle.crypt_core.specs.Passwords.{password_limit, IsPassword};
 ghost use Rattle.crypt_core.specs.Settings.{max_rounds};
-ghost use Rattle.crypt_core.specs.Work.{digests_alone, digit_bytes, first_byte, md5crypt_bytes, piece_bytes, rounds_bytes, shacrypt_bytes, work, work_bound, work_by, work_limit, IsBelow, IsWithin};
+ghost use Rattle.crypt_core.specs.Work.{digests_alone, digit_bytes, first_byte, greatest_byte, md5crypt_bytes, piece_bytes, rounds_bytes, shacrypt_bytes, work, work_bound, work_by, work_limit, IsBelow, IsWithin};
 
 use crate::md5crypt::ROUNDS;
 use crate::scheme::Scheme;
@@ -88,7 +88,7 @@ fn shacrypt_bound<H: Counted>(rounds: u32, password: u64, salt: u64) -> Work
     requires rounds { rounds ≤ max_rounds }
     requires password { password ≤ password_limit }
     requires salt { salt ≤ shacrypt_salt_limit }
-    ensures bound { result ≡ digests_alone (rounds + 4) (shacrypt_bytes H.LEN 255 rounds password salt) }
+    ensures bound { result ≡ digests_alone (rounds + 4) (shacrypt_bytes H.LEN greatest_byte rounds password salt) }
     ensures never_passed { (p s : List ℕ) → length p ≡ password → length s ≡ salt
         → let a = first_byte H.digest p s in
         IsWithin (digests_alone (rounds + 4) (shacrypt_bytes H.LEN a rounds password salt)) result }
@@ -110,7 +110,7 @@ fn shacrypt_bound<H: Counted>(rounds: u32, password: u64, salt: u64) -> Work
 fn scrypt_bound(params: &Params, password: u64, salt: u64) -> Work
     requires password { password ≤ password_limit }
     requires salt { salt ≤ scrypt_salt_limit }
-    ensures bound { result ≡ work_by (Scheme.Scrypt params.now) 255 password salt }
+    ensures bound { result ≡ work_by (Scheme.Scrypt params.now) greatest_byte password salt }
     ensures below { IsBelow result work_limit }
 {
     let rows = row_count(params);

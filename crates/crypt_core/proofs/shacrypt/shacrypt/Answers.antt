@@ -1,3 +1,4 @@
+use Rattle.crypt_core.specs.Work.{greatest_byte}
 use Rattle.crypt_core.specs.Passwords.{password_limit}
 use Rattle.std.proofs.Common.{◌≡◌, ◌+◌, ◌≤◌, ◌<◌, length, get_or, arith, refl, sym, ◌∙◌, ap}
 use Rattle.std.specs.List.{repeat}
@@ -30,7 +31,7 @@ string_of-salt_string-requires-clause-bytes_room g c =
     let first = c.from-salt_times.ensures ∙ ap (λ xs. get_or xs 0 0) (c.as_slice.ensures.value ∙ c.opening-digest.ensures.digest) in
     let some : 0 < length (sha_opening_digest h p s) = omega (arith, g.met.H.Counted.length_digest (sha_opening_message h p s), g.met.H.Counted.at_least_1) in
     let byte = g.met.H.Counted.digest_bytes (sha_opening_message h p s) 0 0 some in
-    let times : 16 + c.from-salt_times.result ≤ 16 + 255 = omega (arith, first, byte) in
+    let times : 16 + c.from-salt_times.result ≤ 16 + greatest_byte = omega (arith, first, byte) in
     omega (
       arith,
       ap (λ m. m.bytes) c.opening-digest.ensures.count,
@@ -74,7 +75,7 @@ rounds-init g c =
     let small : length (h (salted_twice p s)) ≤ password_limit = omega (arith, g.met.H.Counted.length_digest (salted_twice p s), g.met.H.Counted.at_most_64) in
     let some : 0 < length (sha_opening_digest h p s) = omega (arith, g.met.H.Counted.length_digest (sha_opening_message h p s), g.met.H.Counted.at_least_1) in
     let byte = g.met.H.Counted.digest_bytes (sha_opening_message h p s) 0 0 some in
-    let times : 16 + get_or (sha_opening_digest h p s) 0 0 ≤ 16 + 255 = omega (arith, byte) in (
+    let times : 16 + get_or (sha_opening_digest h p s) 0 0 ≤ 16 + greatest_byte = omega (arith, byte) in (
       digest ∙ sym (before_round-zero h p s),
       c.opening-digest.ensures.length,
       rw (messages-four h p s)
