@@ -7,7 +7,7 @@ use Rattle.prims_core.specs.BlockMix.{block_mix}
 use Rattle.prims_core.specs.Meter.{Counts}
 use Rattle.prims_core.specs.Work.{raised_by}
 use Rattle.prims_core.specs.declared.work.Work.{Work}
-use Rattle.prims_core.specs.Words.{words_of, bytes_of_words, xor_words, chunks_exact}
+use Rattle.prims_core.specs.Words.{words_of, bytes_of_words, xor_lists, chunks_exact}
 use Rattle.kdf_core.specs.Hmac.{key_digests, key_bytes, key_messages}
 use Rattle.kdf_core.specs.Params.{ScryptCost, rows}
 use Rattle.kdf_core.specs.Pbkdf2.{pbkdf2_messages, pbkdf2_sha256}
@@ -23,7 +23,7 @@ integerify words = number_of_words (drop (length words - 16) words)
 
 -- F (X) = BlockMix (X xor V), where V is B after j mixings and j is Integerify (X) mod N
 unfoldable pub mixed_back : ℕ → List ℕ → List ℕ → List ℕ
-mixed_back n start words = block_mix (xor_words words (iterate block_mix (integerify words % n) start))
+mixed_back n start words = block_mix (xor_lists words (iterate block_mix (integerify words % n) start))
 
 -- ROMix (B): F, N times, begun at B after N mixings
 unfoldable pub romix : ℕ → List ℕ → List ℕ
