@@ -1,28 +1,17 @@
 -- The work of a hash, as a meter counts it: the messages that are digested, and for scrypt the mixings
 -- and the memory, in closed form by the lengths of the password and the salt.
-use Rattle.std.specs.Prelude.{ℕ, ◌+◌, ◌-◌, ◌*◌, ◌^◌, ◌≤◌, ◌<◌, ◌==◌, List, length, slice_index, sum_by, if◌then◌else◌}
+use Rattle.std.specs.Prelude.{ℕ, ◌+◌, ◌-◌, ◌*◌, ◌^◌, ◌==◌, List, length, slice_index, sum_by, if◌then◌else◌}
 use Rattle.std.specs.Int.{div_ceil}
 use Rattle.prims_core.specs.Digests.{sha256, sha512}
-use Rattle.prims_core.specs.Meter.{Counts}
-use Rattle.kdf_core.specs.Scrypt.{halves_bytes, parts_bytes, scrypt_bytes, scrypt_digests, scrypt_mixes, table_bytes}
+-- a meter raised by some work, and work within other work or below a number
+pub use Rattle.prims_core.specs.Work.{raised_by, IsBelow, IsWithin}
+use Rattle.prims_core.specs.declared.work.Work.{Work}
+use Rattle.kdf_core.specs.Scrypt.{scrypt_work}
 use Rattle.crypt_core.specs.Cycle.{binary_digits}
 use Rattle.crypt_core.specs.Settings.{Kept}
 use Rattle.crypt_core.specs.ShaCrypt.{sha_opening_digest}
 use Rattle.crypt_core.specs.declared.scheme.Scheme.{Scheme}
 use Rattle.crypt_core.specs.declared.scheme.Scheme.TheVariants.{Md5crypt, Sha256crypt, Sha512crypt, Scrypt}
-use Rattle.crypt_core.specs.declared.work.Work.{Work}
-
--- Counting
-
--- the meter, raised by some work in all five counts
-abbrev pub raised_by : Counts → Work → Counts
-raised_by counts work = record {
-  digests = counts.digests + work.digests;
-  bytes = counts.bytes + work.bytes;
-  mixes = counts.mixes + work.mixes;
-  table = counts.table + work.table;
-  scratch = counts.scratch + work.scratch;
-}
 
 -- The digested bytes of each scheme, for a password and a salt of so many bytes
 
@@ -68,13 +57,7 @@ work_by (Sha256crypt rounds) a password salt =
     digests_alone (rounds.count + 4) (shacrypt_bytes 32 a rounds.count password salt)
 work_by (Sha512crypt rounds) a password salt =
     digests_alone (rounds.count + 4) (shacrypt_bytes 64 a rounds.count password salt)
-work_by (Scrypt cost) a password salt = record {
-  digests = scrypt_digests cost password 32;
-  bytes = scrypt_bytes cost password salt 32;
-  mixes = scrypt_mixes cost;
-  table = table_bytes cost;
-  scratch = parts_bytes cost + halves_bytes cost;
-}
+work_by (Scrypt cost) a password salt = scrypt_work cost password salt 32
 
 -- A's first byte, for a digest function
 abbrev pub first_byte : (List ℕ → List ℕ) → List ℕ → List ℕ → ℕ
@@ -103,19 +86,3 @@ work_bound kept password = work_by kept.scheme greatest_byte password (length ke
 -- what no count of a hash reaches, for any password and any setting
 abbrev pub work_limit : ℕ
 work_limit = 2 ^ 41
-
--- no count is above that of the other
-pub record IsWithin (work most : Work) : Type 0 where
-  pub digests : work.digests ≤ most.digests
-  pub bytes : work.bytes ≤ most.bytes
-  pub mixes : work.mixes ≤ most.mixes
-  pub table : work.table ≤ most.table
-  pub scratch : work.scratch ≤ most.scratch
-
--- each count is below a number
-pub record IsBelow (work : Work) (limit : ℕ) : Type 0 where
-  pub digests : work.digests < limit
-  pub bytes : work.bytes < limit
-  pub mixes : work.mixes < limit
-  pub table : work.table < limit
-  pub scratch : work.scratch < limit

@@ -1,6 +1,7 @@
 //! The text of crypt(3): a password, hashed by a setting.
 ghost use Rattle.std.specs.Prelude.{◌≡◌, ◌^◌, ◌≤◌, ◌++◌, length, codes, IfOk, OnOk, OnErr};
 ghost use Rattle.prims_core.specs.Meter.{HasRoom};
+ghost use Rattle.kdf_core.specs.Params.{IsBounded};
 ghost use Rattle.kdf_core.specs.Scrypt.{scrypt, with_scrypt, IsAfterRefusal};
 ghost use Rattle.crypt_core.specs.Crypt.{crypt, digest_by, hash_limit, IsRefusedBy};
 ghost use Rattle.crypt_core.specs.Packing.{digest_len, packed};
@@ -154,6 +155,7 @@ fn scrypt_digest(
     ensures count { OnOk result (meter.new
         ≡ with_scrypt meter.old params.now (length password.now) (length salt.now) 32) }
     ensures refused { OnErr result (IsAfterRefusal meter.old params.now meter.new) }
+    ensures bounded { IsBounded params.now }
 {
     let mut digest = [0; 32];
     scrypt(alloc, password, salt, params, &mut digest, meter)?;

@@ -1,7 +1,6 @@
 //! The work of a hash, known before hashing, so that a service can refuse a setting that would cost it
 //! too much. It is the closed form of what the meter counts, step by step of each scheme.
 ghost use Rattle.std.specs.Prelude.{◌≡◌, ℕ, ◌+◌, ◌*◌, ◌^◌, ◌<◌, ◌≤◌, List, length};
-ghost use Rattle.kdf_core.specs.Scrypt.{parts_bytes, rows};
 ghost use Rattle.crypt_core.specs.Methods.{md5crypt_salt_limit, scrypt_salt_limit, shacrypt_salt_limit};
 ghost use Rattle.crypt_core.specs.Passwords.{password_limit, IsPassword};
 ghost use Rattle.crypt_core.specs.Settings.{max_rounds};
@@ -11,33 +10,12 @@ use crate::md5crypt::ROUNDS;
 use crate::scheme::Scheme;
 use crate::setting::Setting;
 use kdf_core::params::Params;
+use kdf_core::work::scrypt_work;
 use prims_core::counted::{Counted, CountedMd5, CountedSha256, CountedSha512};
+use prims_core::work::Work;
 
 /// The greatest byte.
 const GREATEST_BYTE: u64 = 255;
-
-/// The bytes of a key that HMAC over SHA-256 takes as they are.
-const HMAC_BLOCK: u64 = 64;
-
-/// The bytes that a tag of PBKDF2 digests beside its salt: two padded keys of 64 bytes, a digest of 32, and
-/// the number of the block in 4.
-const TAG_BYTES: u64 = 164;
-
-/// What a meter counts of a hash.
-#[derive(Clone, Copy, Debug, PartialEq, Eq)]
-pub struct Work {
-    /// Digests made.
-    pub digests: u64,
-    /// Bytes digested.
-    pub bytes: u64,
-    /// Mixings, which scrypt alone makes: each handles 2r blocks of 64 bytes, so that its price grows
-    /// with r.
-    pub mixes: u64,
-    /// Bytes of scrypt's table.
-    pub table: u64,
-    /// Bytes of scrypt's scratch memory.
-    pub scratch: u64,
-}
 
 /// The most that a hash by the setting counts, for any password of `password_len` bytes, which are at
 /// most [`PASSWORD_LIMIT`](crate::password::PASSWORD_LIMIT). Nothing is hashed for it and no memory is taken.
@@ -105,43 +83,14 @@ fn shacrypt_bound<H: Counted>(rounds: u32, password: u64, salt: u64) -> Work
     )
 }
 
-// Each 32 bytes of the parts are a tag over the salt, and scrypt's 32 bytes are one over the parts. A tag
-// has two digests, and a password that is longer than a block is digested once more, before all tags.
+// scrypt's result has 32 bytes.
 fn scrypt_bound(params: &Params, password: u64, salt: u64) -> Work
     requires password { password ≤ password_limit }
     requires salt { salt ≤ scrypt_salt_limit }
     ensures bound { result ≡ work_by (Scheme.Scrypt params.now) greatest_byte password salt }
     ensures below { IsBelow result work_limit }
 {
-    let rows = row_count(params);
-    let r = u64::from(params.r());
-    let p = u64::from(params.p());
-    let parts = parts_bytes(params);
-    let tags = parts / 32;
-    let key_digests = u64::from(password > HMAC_BLOCK);
-    Work {
-        digests: key_digests + 2 * (tags + 1),
-        bytes: key_digests * password + tags * (TAG_BYTES + salt) + TAG_BYTES + parts,
-        mixes: 2 * rows * p,
-        table: 128 * rows * r,
-        scratch: parts + 256 * r,
-    }
-}
-
-// N, a power of two.
-fn row_count(params: &Params) -> u64
-    ensures rows { result ≡ rows params.now }
-    ensures few { result ≤ 2 ^ 23 }
-{
-    1 << params.log_n()
-}
-
-// The bytes of all parts of scrypt.
-fn parts_bytes(params: &Params) -> u64
-    ensures bytes { result ≡ parts_bytes params.now }
-    ensures few { result ≤ 2 ^ 29 }
-{
-    128 * u64::from(params.r()) * u64::from(params.p())
+    scrypt_work(params, password, salt, 32)
 }
 
 // The work of a scheme that mixes nothing and takes no memory.

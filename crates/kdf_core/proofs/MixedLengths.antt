@@ -12,7 +12,7 @@ use Rattle.std.proofs.lemmas.List.FromFn.{get_or-enumerate_from, get_or-range_wi
 use Rattle.std.proofs.lemmas.Simd.{length-zip2}
 use Rattle.prims_core.specs.BlockMix.{mixed_block, mixed_blocks, at_even_places, at_odd_places, block_mix}
 use Rattle.prims_core.specs.Salsa.{sum_of_words, quarter_round, begun_at, row_round, transpose, column_round, double_round, salsa20_8}
-use Rattle.prims_core.specs.Words.{little_bytes, xor_words, chunks_exact, words_of, bytes_of_words}
+use Rattle.prims_core.specs.Words.{little_bytes, xor_lists, chunks_exact, words_of, bytes_of_words}
 use Rattle.kdf_core.specs.Scrypt.{integerify, mixed_back, romix, mixed_part, mixed_parts}
 
 -- each of the pieces has so many items
@@ -118,9 +118,9 @@ length-salsa20_8 words sixteen =
 -- The blocks of sixteen words that are mixed
 
 size-mixed_block : (x block : List ℕ) → length x ≡ 16 → length block ≡ 16 → length (mixed_block x block) ≡ 16
-unfolding xor_words
+unfolding xor_lists
 size-mixed_block x block first second =
-    length-salsa20_8 (xor_words x block) (length-zip2 _ x block (first ∙ sym second) ∙ first)
+    length-salsa20_8 (xor_lists x block) (length-zip2 _ x block (first ∙ sym second) ∙ first)
 
 length-scan : (a : List ℕ) (blocks : List (List ℕ)) → length (scan mixed_block mixed_block a blocks) ≡ length blocks
 length-scan a [] = refl
@@ -182,12 +182,12 @@ length-block_mix words count is =
 
 length-mixed_back : (n : ℕ) (start : List ℕ) (count : ℕ) → length start ≡ 16 * count
     → (words : List ℕ) → length words ≡ 16 * count → length (mixed_back n start words) ≡ 16 * count
-unfolding mixed_back xor_words
+unfolding mixed_back xor_lists
 length-mixed_back n start count first words is =
     let row = iterate block_mix (integerify words % n) start in
     let row_is : length row ≡ 16 * count =
     iterate-keeps (λ (x : List ℕ). length x ≡ 16 * count) block_mix (λ x. length-block_mix x count) (integerify words % n) start first in
-    length-block_mix (xor_words words row) count (length-zip2 _ words row (is ∙ sym row_is) ∙ is)
+    length-block_mix (xor_lists words row) count (length-zip2 _ words row (is ∙ sym row_is) ∙ is)
 
 length-romix : (n : ℕ) (start : List ℕ) (count : ℕ) → length start ≡ 16 * count → length (romix n start) ≡ 16 * count
 unfolding romix

@@ -5,9 +5,9 @@ use Rattle.std.proofs.lemmas.List.{take_at}
 use Rattle.prims_core.specs.Memory.{written_over}
 use Rattle.prims_core.specs.Meter.{Counts, with_work}
 use Rattle.kdf_core.specs.Hmac.{key_digests, key_bytes}
-use Rattle.kdf_core.specs.Params.{ScryptCost}
+use Rattle.kdf_core.specs.Params.{ScryptCost, rows}
 use Rattle.kdf_core.specs.Pbkdf2.{pbkdf2_sha256, pbkdf2_digests, pbkdf2_bytes}
-use Rattle.kdf_core.specs.Scrypt.{rows, part_bytes, parts_bytes, mixed_parts, scrypt, scrypt_digests, scrypt_bytes}
+use Rattle.kdf_core.specs.Scrypt.{part_bytes, parts_bytes, mixed_parts, scrypt, scrypt_digests, scrypt_bytes}
 use Rattle.kdf_core.proofs.ScryptBounds.{parts-blocks}
 
 -- what is written over a list of its length stands there as it is

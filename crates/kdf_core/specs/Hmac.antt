@@ -1,7 +1,7 @@
 -- HMAC (RFC 2104, section 2), over a digest function that works on blocks of `size` bytes.
 use Rattle.std.specs.Prelude.{◌≡◌, ℕ, ◌+◌, ◌-◌, ◌*◌, List, [], ◌∷◌, ◌++◌, length, replicate, nat_lt, if◌then◌else◌}
 use Rattle.prims_core.specs.Digests.{sha256}
-use Rattle.prims_core.specs.Words.{xor_bytes}
+use Rattle.prims_core.specs.Words.{xor_lists}
 
 -- the key, digested first where it is longer than a block, and zeros up to a block
 unfoldable pub key_block : (List ℕ → List ℕ) → ℕ → List ℕ → List ℕ
@@ -18,7 +18,7 @@ opad = 0x5c
 
 -- K xor a pad
 unfoldable pub padded_key : (List ℕ → List ℕ) → ℕ → List ℕ → ℕ → List ℕ
-padded_key digest size key pad = xor_bytes (key_block digest size key) (replicate size pad)
+padded_key digest size key pad = xor_lists (key_block digest size key) (replicate size pad)
 
 -- H(K xor opad, H(K xor ipad, text))
 unfoldable pub hmac : (List ℕ → List ℕ) → ℕ → List ℕ → List ℕ → List ℕ

@@ -2,7 +2,7 @@
 use Rattle.std.specs.Prelude.{ℕ, zero, suc, ◌+◌, ◌-◌, ◌*◌, List, ◌++◌, take, map, fold}
 use Rattle.std.specs.List.{flat_map, range_with_len}
 use Rattle.std.specs.Int.{div_ceil}
-use Rattle.prims_core.specs.Words.{big_bytes, xor_bytes}
+use Rattle.prims_core.specs.Words.{big_bytes, xor_lists}
 use Rattle.kdf_core.specs.Hmac.{hmac_sha256, tag_bytes, tag_messages}
 
 -- U_j of block i, where S || INT (i) stands for U_0: each is PRF (P, U) of the one before
@@ -14,7 +14,7 @@ chain prf password salt i (suc j) = prf password (chain prf password salt i j)
 unfoldable pub block : (List ℕ → List ℕ → List ℕ) → List ℕ → List ℕ → ℕ → ℕ → List ℕ
 block prf password salt rounds i =
     let u = chain prf password salt i in
-    fold xor_bytes (u 1) (map u (range_with_len 2 (rounds - 1)))
+    fold xor_lists (u 1) (map u (range_with_len 2 (rounds - 1)))
 
 -- the first bytes of T_1, T_2, .., each of `size` bytes
 unfoldable pub pbkdf2 : (List ℕ → List ℕ → List ℕ) → ℕ → List ℕ → List ℕ → ℕ → ℕ → List ℕ

@@ -5,9 +5,11 @@ use Rattle.std.specs.Int.{div_ceil}
 use Rattle.std.specs.List.{flat_map}
 use Rattle.prims_core.specs.BlockMix.{block_mix}
 use Rattle.prims_core.specs.Meter.{Counts}
-use Rattle.prims_core.specs.Words.{words_of, bytes_of_words, xor_words, chunks_exact}
+use Rattle.prims_core.specs.Work.{raised_by}
+use Rattle.prims_core.specs.declared.work.Work.{Work}
+use Rattle.prims_core.specs.Words.{words_of, bytes_of_words, xor_lists, chunks_exact}
 use Rattle.kdf_core.specs.Hmac.{key_digests, key_bytes, key_messages}
-use Rattle.kdf_core.specs.Params.{ScryptCost}
+use Rattle.kdf_core.specs.Params.{ScryptCost, rows}
 use Rattle.kdf_core.specs.Pbkdf2.{pbkdf2_messages, pbkdf2_sha256}
 
 -- the number of which these are the 32-bit words, the lowest first
@@ -21,15 +23,11 @@ integerify words = number_of_words (drop (length words - 16) words)
 
 -- F (X) = BlockMix (X xor V), where V is B after j mixings and j is Integerify (X) mod N
 unfoldable pub mixed_back : ℕ → List ℕ → List ℕ → List ℕ
-mixed_back n start words = block_mix (xor_words words (iterate block_mix (integerify words % n) start))
+mixed_back n start words = block_mix (xor_lists words (iterate block_mix (integerify words % n) start))
 
 -- ROMix (B): F, N times, begun at B after N mixings
 unfoldable pub romix : ℕ → List ℕ → List ℕ
 romix n start = iterate (mixed_back n start) n (iterate block_mix n start)
-
--- N, the number of rows of a table
-abbrev pub rows : ScryptCost → ℕ
-rows cost = 2 ^ cost.log_n
 
 -- the bytes of a part, which is 2r blocks of 64 bytes
 abbrev pub part_bytes : ScryptCost → ℕ
@@ -87,15 +85,20 @@ table_bytes cost = 128 * (rows cost * cost.r)
 abbrev pub halves_bytes : ScryptCost → ℕ
 halves_bytes cost = 256 * cost.r
 
+-- all five counts
+abbrev pub scrypt_work : ScryptCost → ℕ → ℕ → ℕ → Work
+scrypt_work cost password_length salt_length count = record {
+  digests = scrypt_digests cost password_length count;
+  bytes = scrypt_bytes cost password_length salt_length count;
+  mixes = scrypt_mixes cost;
+  table = table_bytes cost;
+  scratch = parts_bytes cost + halves_bytes cost;
+}
+
 -- the counts after scrypt
 abbrev pub with_scrypt : Counts → ScryptCost → ℕ → ℕ → ℕ → Counts
-with_scrypt counts cost password_length salt_length count = record {
-  digests = counts.digests + scrypt_digests cost password_length count;
-  bytes = counts.bytes + scrypt_bytes cost password_length salt_length count;
-  mixes = counts.mixes + scrypt_mixes cost;
-  table = counts.table + table_bytes cost;
-  scratch = counts.scratch + (parts_bytes cost + halves_bytes cost);
-}
+with_scrypt counts cost password_length salt_length count =
+    raised_by counts (scrypt_work cost password_length salt_length count)
 
 -- the counts where a growth was refused: of the table, of the parts, or of the halves. What was got
 -- before that is counted, and nothing else

@@ -6,7 +6,7 @@
 ghost use Rattle.std.specs.Prelude.{◌≡◌, ℕ, ◌+◌, ◌^◌, ◌<◌, List, ◌++◌, length, replicate};
 ghost use Rattle.prims_core.specs.Digests.{sha256};
 ghost use Rattle.prims_core.specs.Meter.{with_work};
-ghost use Rattle.prims_core.specs.Words.{xor_bytes};
+ghost use Rattle.prims_core.specs.Words.{xor_lists};
 ghost use Rattle.kdf_core.specs.Hmac.{hmac_sha256, key_block, IsKeyOf, key_digests, key_bytes, tag_bytes};
 
 use crate::xor::xor_into;
@@ -90,7 +90,7 @@ fn block_of(key: &[u8], meter: &mut Meter) -> [u8; 64]
 
 // A block under a pad.
 fn padded(block: &[u8; 64], pad: u8) -> [u8; 64]
-    ensures { result ≡ xor_bytes block.now (replicate 64 pad) }
+    ensures { result ≡ xor_lists block.now (replicate 64 pad) }
 {
     let mut padded = *block;
     xor_into(&mut padded, &[pad; 64]);

@@ -7,8 +7,9 @@ ghost use Rattle.std.specs.Prelude.{◌≡◌, ℕ, ◌+◌, ◌-◌, ◌*◌, �
 ghost use Rattle.std.specs.Fn.{iterate};
 ghost use Rattle.prims_core.specs.BlockMix.{block_mix as mixed};
 ghost use Rattle.prims_core.specs.Meter.{AreInAll, HasRoom};
+ghost use Rattle.kdf_core.specs.Params.{IsBounded};
 ghost use Rattle.kdf_core.specs.Private.Mixing.{HasShape, HoldsMixings, AreHalves, IsPower};
-ghost use Rattle.kdf_core.specs.Scrypt.{scrypt, rows, integerify, mixed_back, romix, mixed_part, mixed_parts, scrypt_bytes, scrypt_digests, scrypt_messages, with_scrypt, IsAfterRefusal};
+ghost use Rattle.kdf_core.specs.Scrypt.{scrypt, integerify, mixed_back, romix, mixed_part, mixed_parts, scrypt_bytes, scrypt_digests, scrypt_messages, with_scrypt, IsAfterRefusal};
 
 use crate::hmac::HmacKey;
 use crate::params::Params;
@@ -51,8 +52,9 @@ pub fn scrypt(
         (scrypt_bytes params.now (length password.now) (length salt.now) (length out.old)) }
     ensures unchanged { OnErr result (out.new ≡ out.old) }
     ensures refused { OnErr result (IsAfterRefusal meter.old params.now meter.new) }
+    ensures bounded { IsBounded params.now }
 {
-    let rows = row_count(params);
+    let rows = params.row_count() as usize;
     let r = params.r() as usize;
     let p = params.p() as usize;
     let mut table = Table::new(alloc, rows, 32 * r, meter)?;
@@ -70,13 +72,6 @@ pub fn scrypt(
     );
     pbkdf2(&key, parts.bytes(), 1, out, meter);
     Ok(())
-}
-
-// N, a power of two of at most 2^22.
-fn row_count(params: &Params) -> usize
-    ensures { result ≡ rows params.now }
-{
-    1 << params.log_n()
 }
 
 // Each of the parts under ROMix, one after another in the same memory.

@@ -6,10 +6,10 @@ use Rattle.std.proofs.lemmas.Bool.{cases_lt}
 use Rattle.std.proofs.lemmas.Slice.{between-put_mid, drop-put_mid, take-put_mid_below}
 use Rattle.std.proofs.lemmas.List.{drop-take, get_or-drop, get_or_append_left, get_or-append_right, length-append, length-drop}
 use Rattle.prims_core.specs.Private.Mixing.{block_at, IsXored}
-use Rattle.prims_core.specs.Words.{chunks_exact, xor_words}
+use Rattle.prims_core.specs.Words.{chunks_exact, xor_lists}
 use Rattle.prims_core.specs.BlockMix.{mixed_block, mixed_blocks, at_even_places, at_odd_places}
 use Rattle.prims_core.proofs.ChunkFacts.{joined_from_pieces, concat-chunks_exact, length-chunks_exact, get_or-chunks_exact}
-use Rattle.prims_core.proofs.WordFacts.{part-xor_words, length-xor_words}
+use Rattle.prims_core.proofs.WordFacts.{part-xor_lists, length-xor_lists}
 
 length-scan : (f : List ℕ → List ℕ → List ℕ) (a : List ℕ) (xs : List (List ℕ))
     → length (scan f f a xs) ≡ length xs
@@ -152,14 +152,14 @@ in_order half y out blocks whole placed =
 
 -- a block more, before the last
 pub xored-more : (start row : List ℕ) (last i : ℕ) (words sum : List ℕ) → i < last → IsXored start row last i words
-    → block_at i sum ≡ block_at i (xor_words words row)
+    → block_at i sum ≡ block_at i (xor_lists words row)
     → ((k : ℕ) → (k < i) ⊎ (i < k) → block_at k sum ≡ block_at k words)
     → IsXored start row last (i + 1) sum
 xored-more start row last i words sum inside before is others =
-    let here : block_at i (xor_words words row) ≡ block_at i (xor_words start row) =
-    part-xor_words 16 (16 * i) words row
-    ∙ ap (λ (xs : List ℕ). xor_words xs (block_at i row)) (before.rest i (omega arith) inside)
-    ∙ sym (part-xor_words 16 (16 * i) start row) in
+    let here : block_at i (xor_lists words row) ≡ block_at i (xor_lists start row) =
+    part-xor_lists 16 (16 * i) words row
+    ∙ ap (λ (xs : List ℕ). xor_lists xs (block_at i row)) (before.rest i (omega arith) inside)
+    ∙ sym (part-xor_lists 16 (16 * i) start row) in
     record {
       end = others last (inr (omega arith)) ∙ before.end;
       xored = λ k made low. elim (cases_lt k i) [
@@ -180,7 +180,7 @@ xored-past start row last i words past before = record {
 
 -- a block that is reached
 pub xored_at : (start row : List ℕ) (last n : ℕ) (words : List ℕ) → IsXored start row last n words → (i : ℕ) → i < n → i ≤ last
-    → block_at i words ≡ block_at i (xor_words start row)
+    → block_at i words ≡ block_at i (xor_lists start row)
 xored_at start row last n words is i reached inside = elim (cases_lt i last) [
   | inl below ↦ is.xored i reached below
   | inr above ↦ let at : i ≡ last = omega arith in rw at is.end
@@ -188,10 +188,10 @@ xored_at start row last n words is i reached inside = elim (cases_lt i last) [
 
 -- all of them
 pub xored-all : (start row : List ℕ) (last n : ℕ) (words : List ℕ) → length start ≡ 16 * last + 16 → length row ≡ length start
-    → length words ≡ length start → last < n → IsXored start row last n words → words ≡ xor_words start row
+    → length words ≡ length start → last < n → IsXored start row last n words → words ≡ xor_lists start row
 xored-all start row last n words whole same same_words all is =
-    let both = xor_words start row in
-    let count : length both ≡ 16 * (last + 1) = omega (arith, length-xor_words start row same) in
+    let both = xor_lists start row in
+    let count : length both ≡ 16 * (last + 1) = omega (arith, length-xor_lists start row same) in
     let pieces : length (chunks_exact both 16) ≡ last + 1 = length-chunks_exact both 16 (last + 1) (omega arith) count in
     joined_from_pieces 16 (chunks_exact both 16) words (omega arith) (λ i inside.
     get_or-chunks_exact both 16 (last + 1) i (omega arith) count (omega arith)

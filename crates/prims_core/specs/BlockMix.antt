@@ -1,12 +1,12 @@
 -- scryptBlockMix (RFC 7914, section 4), on the 32r words of 2r blocks of 64 bytes.
 use Rattle.std.specs.Prelude.{ℕ, ◌-◌, List, [], ◌∷◌, ◌++◌, length, drop, slice_index_or}
 use Rattle.std.specs.List.{concat, scan}
-use Rattle.prims_core.specs.Words.{chunks_exact, xor_words}
+use Rattle.prims_core.specs.Words.{chunks_exact, xor_lists}
 use Rattle.prims_core.specs.Salsa.{salsa20_8}
 
 -- Salsa20/8 of X xor B[i]
 abbrev pub mixed_block : List ℕ → List ℕ → List ℕ
-mixed_block x block = salsa20_8 (xor_words x block)
+mixed_block x block = salsa20_8 (xor_lists x block)
 
 -- Y[0], Y[1], ..: each block mixed with the result before it, and the first with the last block
 unfoldable pub mixed_blocks : List (List ℕ) → List (List ℕ)

@@ -7,7 +7,7 @@
 ghost use Rattle.std.specs.Prelude.{◌≡◌, ℕ, ◌+◌, ◌*◌, ◌^◌, ◌<◌, ◌≤◌, ◌⊎◌, List, [], length, slice_index_or};
 ghost use Rattle.prims_core.specs.BlockMix.{block_mix, mixed_block};
 ghost use Rattle.prims_core.specs.Private.Mixing.{block_at, ArePlaced, IsXored};
-ghost use Rattle.prims_core.specs.Words.{xor_words};
+ghost use Rattle.prims_core.specs.Words.{xor_lists};
 
 use crate::diagonals::Diagonals;
 use crate::meter::Meter;
@@ -50,8 +50,8 @@ pub fn block_mix_xor(src: &mut [u32], row: &[u32], dst: &mut [u32], meter: &mut 
     requires blocks { (r : ℕ) × (1 ≤ r) × (length src.old ≡ 32 * r) × (length row.now ≡ 32 * r)
         × (length dst.old ≡ 32 * r) }
     requires room { meter.old.mixes + 1 < 2 ^ 128 }
-    ensures xored { src.new ≡ xor_words src.old row.now }
-    ensures mixed { dst.new ≡ block_mix (xor_words src.old row.now) }
+    ensures xored { src.new ≡ xor_lists src.old row.now }
+    ensures mixed { dst.new ≡ block_mix (xor_lists src.old row.now) }
     ensures count { meter.new ≡ record meter.old { mixes = meter.old.mixes + 1 } }
 {
     let half = src.len() / (2 * BLOCK_WORDS);
@@ -107,7 +107,7 @@ fn xor_unless_last(blocks: &mut [u32], row: &[u32], last: usize, i: usize)
 fn xor_block(blocks: &mut [u32], row: &[u32], i: usize)
     requires inside { 16 * i + 16 ≤ length blocks.old }
     requires same_length { length row.now ≡ length blocks.old }
-    ensures xored { block_at i blocks.new ≡ block_at i (xor_words blocks.old row.now) }
+    ensures xored { block_at i blocks.new ≡ block_at i (xor_lists blocks.old row.now) }
     ensures rest { (k : ℕ) → (k < i) ⊎ (i < k) → block_at k blocks.new ≡ block_at k blocks.old }
 {
     let start = BLOCK_WORDS * i;
@@ -118,7 +118,7 @@ fn xor_block(blocks: &mut [u32], row: &[u32], i: usize)
 #[inline(always)]
 fn xor_words(block: &mut [u32], words: &[u32])
     requires { (length block.old ≡ 16) × (length words.now ≡ 16) }
-    ensures { block.new ≡ xor_words block.old words.now }
+    ensures { block.new ≡ xor_lists block.old words.now }
 {
     let both = u32x16::from_slice(block) ^ u32x16::from_slice(words);
     both.copy_to_slice(block);

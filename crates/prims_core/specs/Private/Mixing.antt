@@ -1,7 +1,7 @@
 -- Block mixing on its way: the results that are written, and the blocks that are made their exclusive or with
 -- a row's.
 use Rattle.std.specs.Prelude.{◌≡◌, ℕ, ◌+◌, ◌*◌, ◌/◌, ◌%◌, ◌<◌, ◌≤◌, List, [], take, drop, slice_index_or}
-use Rattle.prims_core.specs.Words.{xor_words}
+use Rattle.prims_core.specs.Words.{xor_lists}
 
 -- the words of 64-byte block i
 abbrev pub block_at : ℕ → List ℕ → List ℕ
@@ -16,6 +16,6 @@ ArePlaced results half n words =
 -- the last of these blocks, and those of the first n that come before it, are the exclusive or of what they
 -- were and the row's, and the others are as they were
 pub record IsXored (start row : List ℕ) (last n : ℕ) (words : List ℕ) : Type 0 where
-  pub end : block_at last words ≡ block_at last (xor_words start row)
-  pub xored : (i : ℕ) → i < n → i < last → block_at i words ≡ block_at i (xor_words start row)
+  pub end : block_at last words ≡ block_at last (xor_lists start row)
+  pub xored : (i : ℕ) → i < n → i < last → block_at i words ≡ block_at i (xor_lists start row)
   pub rest : (i : ℕ) → n ≤ i → i < last → block_at i words ≡ block_at i start

@@ -1,5 +1,5 @@
 use Rattle.std.proofs.Common.{◌≡◌, ◌+◌, ◌<◌, length, subst, sym, arith, rules}
-use Rattle.crypt_core.specs.declared.work.Work.{Work}
+use Rattle.prims_core.specs.declared.work.Work.{Work}
 use Rattle.crypt_core.specs.ShaCrypt.{sha_opening_digest, sha_opening_message}
 use Rattle.crypt_core.specs.Work.{digests_alone, first_byte, shacrypt_bytes, IsWithin, greatest_byte}
 use Rattle.crypt_core.proofs.WorkBounds.{shacrypt-within}

@@ -9,7 +9,7 @@ use Rattle.crypt_core.specs.Settings.{Kept, Spells}
 use Rattle.crypt_core.specs.Work.{work}
 use Rattle.crypt_core.specs.declared.hash.HashFault.{HashFault}
 use Rattle.crypt_core.specs.declared.hash.HashFault.TheVariants.{OutOfMemory}
-use Rattle.crypt_core.specs.declared.work.Work.{Work}
+use Rattle.prims_core.specs.declared.work.Work.{Work}
 use Rattle.mkpasswd.specs.Answers.{Answer, no_work, wanted_text}
 use Rattle.mkpasswd.specs.LineAnswers.{IsAnswer, HasSoundParts, compared_answer, hashed_answer, refused_answer, told_text, unhashed_answer}
 use Rattle.mkpasswd.specs.LineAnswers.IsAnswer.{refused, hashed, none, locked, ok, no}

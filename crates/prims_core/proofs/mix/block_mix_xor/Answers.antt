@@ -1,19 +1,19 @@
 use Rattle.std.proofs.Common.{◌≡◌, ◌+◌, ◌-◌, ◌*◌, ◌/◌, [], length, get_or, ap, ap₂, sym, ◌∙◌, length-take, length-drop, arith}
 use Rattle.prims_core.specs.BlockMix.{mixed_block, block_mix}
 use Rattle.prims_core.specs.Private.Mixing.{IsXored}
-use Rattle.prims_core.specs.Words.{xor_words}
+use Rattle.prims_core.specs.Words.{xor_lists}
 use Rattle.prims_core.proofs.MixFacts.{results, result-first, result-step, result_before-more, length-results, in_order, xored_at, xored-all}
-use Rattle.prims_core.proofs.WordFacts.{length-xor_words}
+use Rattle.prims_core.proofs.WordFacts.{length-xor_lists}
 use Rattle.prims_core.proofs.mix.block_mix_xor.Goals as goal
 
 pub mixing-init : goal.mixing-init
 mixing-init c =
     let src = c.args.src.now in
     let row = c.args.row.now in
-    let both = xor_words src row in
+    let both = xor_lists src row in
     let half = length src / 32 in
     let last = 2 * half - 1 in
-    let whole : length both ≡ 16 * (2 * half) = omega (arith, length-xor_words src row (omega arith)) in record {
+    let whole : length both ≡ 16 * (2 * half) = omega (arith, length-xor_lists src row (omega arith)) in record {
       xored = c.xor_last_and_first.ensures;
       before = c.of-x.ensures ∙ c.block.ensures ∙ c.xor_last_and_first.ensures.end ∙ sym (result-first both (2 * half) whole (omega arith));
       placed = λ k none. absurd (omega arith);
@@ -27,11 +27,11 @@ pub mixing-preserved : goal.mixing-preserved
 mixing-preserved c =
     let src = c.args.src.now in
     let row = c.args.row.now in
-    let both = xor_words src row in
+    let both = xor_lists src row in
     let i = c.mixing.i in
     let half = length src / 32 in
     let last = 2 * half - 1 in
-    let whole : length both ≡ 16 * (2 * half) = omega (arith, length-xor_words src row (omega arith)) in
+    let whole : length both ≡ 16 * (2 * half) = omega (arith, length-xor_lists src row (omega arith)) in
     let one_more : i + 8 + 1 ≡ i + 1 + 8 = omega arith in
     let blocks = c.xor_unless_last.new.blocks in
     let xored : IsXored src row last (i + 1 + 8) blocks =
@@ -55,9 +55,9 @@ returns-clause-xored c =
 pub returns-clause-mixed : goal.returns-clause-mixed
 unfolding block_mix
 returns-clause-mixed c =
-    let both = xor_words c.args.src.now c.args.row.now in
+    let both = xor_lists c.args.src.now c.args.row.now in
     let half = length c.args.src.now / 32 in
     let whole : length both ≡ 16 * (2 * half) =
-    omega (arith, length-xor_words c.args.src.now c.args.row.now (omega arith)) in
+    omega (arith, length-xor_lists c.args.src.now c.args.row.now (omega arith)) in
     in_order half (results both) c.mixing.dst (length-results both (2 * half) whole) (omega arith)
     (λ k inside. c.mixing.invariant.placed k (omega arith))
