@@ -30,9 +30,9 @@ round_length i x p q = x + p + cond (nat_eq (i % 3) 0) 0 q + cond (nat_eq (i % 7
 pub length-round_message : (i : ℕ) (x p q : List ℕ)
     → length (round_message i x p q) ≡ round_length i (length x) (length p) (length q)
 length-round_message i x p q = go (nat_eq (i % 2) 1) (nat_eq (i % 3) 0) (nat_eq (i % 7) 0) where
-  sum : (first salt again last : List ℕ) → length (first ++ salt ++ again ++ last) ≡ length first + length salt + length again + length last
-  sum first salt again last =
-      omega (arith, length-append (first ++ salt ++ again) last, length-append (first ++ salt) again, length-append first salt)
+  sum : (start salt repeated end : List ℕ) → length (start ++ salt ++ repeated ++ end) ≡ length start + length salt + length repeated + length end
+  sum start salt repeated end =
+      omega (arith, length-append (start ++ salt ++ repeated) end, length-append (start ++ salt) repeated, length-append start salt)
 
   ends : (odd : Bool) → length (cond odd p x) + length (cond odd x p) ≡ length x + length p
   ends true = omega arith

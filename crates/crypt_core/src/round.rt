@@ -54,20 +54,20 @@ impl<'a> RoundStrings<'a> {
     fn pieces<'b>(&'b self, i: u32, before: &'b [u8]) -> (&'b [u8], &'b [u8])
         ensures { result.0.now ++ result.1.now ≡ round_message i before.now self.now.password self.now.salt }
     {
-        let password = self.password.len();
-        let both = password + self.salt.len();
+        let password_len = self.password.len();
+        let salted_len = password_len + self.salt.len();
         let is_odd = i % 2 == 1;
         // Without the salt, the passwords are the two that stand side by side. With it, one comes before
         // it in an odd round, and none in an even one.
-        let (start, first) = if i % 3 == 0 {
-            (both, password)
+        let (start, once_len) = if i % 3 == 0 {
+            (salted_len, password_len)
         } else if is_odd {
-            (0, both)
+            (0, salted_len)
         } else {
-            (password, both)
+            (password_len, salted_len)
         };
-        let again = if i % 7 == 0 { 0 } else { password };
-        let beside = &self.joined.as_slice()[start..start + first + again];
+        let repeat_len = if i % 7 == 0 { 0 } else { password_len };
+        let beside = &self.joined.as_slice()[start..start + once_len + repeat_len];
         if is_odd {
             (beside, before)
         } else {
