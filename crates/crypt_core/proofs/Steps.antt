@@ -8,12 +8,12 @@ use Rattle.std.proofs.lemmas.Bool.{eqb-true, eqb-false, ltb-false}
 use Rattle.std.proofs.lemmas.List.{append-nil, take-append-drop, take-append-le, drop-append-le, get_or-take, get_or_append_left, length-append, length-take, length-drop}
 use Rattle.std.proofs.lemmas.List.Sums.{fails_before_first}
 use Rattle.std.proofs.lemmas.List.Quantifiers.{position-Some}
-use Rattle.std.proofs.lemmas.List.Elements.{All-from_get_or, All-get_or, All-take, All-drop, All-weaker}
+use Rattle.std.proofs.lemmas.List.Elements.{All-from_get_or, All-get_or, All-take, All-drop}
 use Rattle.std.proofs.lemmas.Int.Digits.{digits_value_more}
 use Rattle.std.proofs.lemmas.Str.{digit_value_digit}
 use Rattle.prims_core.specs.Alphabet.{alphabet, character_of, numerals}
 use Rattle.crypt_core.specs.Refusals.{LacksCost}
-use Rattle.crypt_core.specs.Settings.{dollar, IsEndOfField, IsField, IsRoundsNumber, scrypt_part, HasNumerals, IsCharacter, max_rounds, scrypt_part_len}
+use Rattle.crypt_core.specs.Settings.{dollar, IsEndOfField, IsField, IsRoundsNumber, scrypt_part, HasNumerals, max_rounds, scrypt_part_len}
 use Rattle.crypt_core.proofs.Fields.{field_unique}
 use Rattle.crypt_core.proofs.Rounds.{digits_are_field}
 
@@ -97,7 +97,7 @@ held_more ds i number digit lt is_number is held_so_far =
 pub lacks_first : (after : List ℕ) → (Contains alphabet (get_or after 0 0) → ⊥) → LacksCost after
 lacks_first after outside part rest len all parts =
     outside (subst (λ (xs : List ℕ). Contains alphabet (get_or xs 0 0)) (sym parts)
-    (rw (get_or_append_left part rest 0 0 (omega arith)) (All-get_or IsCharacter part 0 0 (omega arith) all).in_alphabet))
+    (rw (get_or_append_left part rest 0 0 (omega arith)) (All-get_or (Contains alphabet) part 0 0 (omega arith) all)))
 
 -- five of the characters
 pub lacks_group : (after : List ℕ) (i : ℕ) → i + 5 ≤ scrypt_part_len → ((length (take 5 (drop i after)) ≡ 5) × All (Contains alphabet) (take 5 (drop i after)) → ⊥) → LacksCost after
@@ -108,7 +108,7 @@ lacks_group after i within outside part rest len all parts =
     ∙ take-append-le 5 (drop i part) rest (rw length-drop (omega arith)) in
     outside (
       ap length group ∙ rw (length-take, length-drop) (omega arith),
-      subst (All (Contains alphabet)) (sym group) (All-weaker IsCharacter (Contains alphabet) (λ c h. h.in_alphabet) (take 5 (drop i part)) (All-take IsCharacter 5 (drop i part) (All-drop IsCharacter i part all))),
+      subst (All (Contains alphabet)) (sym group) (All-take (Contains alphabet) 5 (drop i part) (All-drop (Contains alphabet) i part all)),
     )
 
 -- too few bytes

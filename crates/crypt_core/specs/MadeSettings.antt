@@ -1,5 +1,6 @@
 -- Settings that are made of a method, a cost and a salt, and which refusal these get instead.
-use Rattle.std.specs.Prelude.{◌≡◌, ℕ, ◌+◌, ◌<◌, ◌≤◌, ◌⊎◌, ◌==◌, if◌then◌else◌, true, false, List, length, All}
+use Rattle.std.specs.Prelude.{◌≡◌, ℕ, ◌+◌, ◌<◌, ◌≤◌, ◌⊎◌, ◌==◌, if◌then◌else◌, true, false, List, length, All, Contains}
+use Rattle.prims_core.specs.Alphabet.{alphabet}
 use Rattle.kdf_core.specs.Params.{ScryptCost}
 use Rattle.crypt_core.specs.declared.method.Method.{Method}
 use Rattle.crypt_core.specs.declared.method.Method.TheVariants as methods
@@ -9,7 +10,7 @@ use Rattle.crypt_core.specs.declared.scheme.Scheme.TheVariants.{Md5crypt, Sha256
 use Rattle.crypt_core.specs.declared.setting.fault.MakeFault.{MakeFault}
 use Rattle.crypt_core.specs.declared.setting.fault.MakeFault.TheVariants.{SaltLength, SaltCharacter, Cost}
 use Rattle.crypt_core.specs.Methods.{salt_limit}
-use Rattle.crypt_core.specs.Settings.{Kept, default_rounds, held, IsCharacter}
+use Rattle.crypt_core.specs.Settings.{Kept, default_rounds, held}
 
 -- the default and no field for cost 0, and otherwise a field with the cost, held
 abbrev pub made_rounds : ℕ → Rounds
@@ -51,7 +52,7 @@ TakesCost method cost = Unit {0}
 pub record IsMakeable (method : Method) (cost : ℕ) (salt : List ℕ) : Type 0 where
   pub some : 0 < length salt
   pub short : length salt ≤ salt_limit method
-  pub characters : All IsCharacter salt
+  pub characters : All (Contains alphabet) salt
   pub taken : TakesCost method cost
 
 -- Refusals
@@ -64,7 +65,7 @@ make_rule_number Cost = 3
 -- the rule of a refusal holds of a method, a cost and a salt
 abbrev pub BreaksMake : MakeFault → Method → ℕ → List ℕ → Type 0
 BreaksMake SaltLength method cost salt = (length salt ≡ 0) ⊎ (salt_limit method < length salt)
-BreaksMake SaltCharacter method cost salt = ¬ All IsCharacter salt
+BreaksMake SaltCharacter method cost salt = ¬ All (Contains alphabet) salt
 BreaksMake Cost method cost salt = ¬ TakesCost method cost
 
 -- the rule holds, and no earlier one does

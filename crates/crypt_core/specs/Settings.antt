@@ -112,14 +112,10 @@ SpellsCost (Sha256crypt rounds) part after = SpellsRounds rounds part after
 SpellsCost (Sha512crypt rounds) part after = SpellsRounds rounds part after
 SpellsCost (Scrypt cost) part after = (part ≡ scrypt_part cost) × HasNumerals cost × IsAccepted cost
 
--- a character of crypt's alphabet
-pub record IsCharacter (c : ℕ) : Type 0 where
-  pub in_alphabet : Contains alphabet c
-
 -- no more characters than scrypt keeps, all of crypt's alphabet
 pub record IsScryptSalt (salt : List ℕ) : Type 0 where
   pub short : length salt ≤ scrypt_salt_limit
-  pub characters : All IsCharacter salt
+  pub characters : All (Contains alphabet) salt
 
 -- what is kept of the salt's field
 abbrev pub KeepsSalt : Method → List ℕ → List ℕ → Type 0

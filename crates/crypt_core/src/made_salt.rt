@@ -1,9 +1,9 @@
 //! Salts made of random words: three words of 64 bits are drawn, and their bits are read as
 //! characters of crypt's alphabet.
 
-ghost use Rattle.std.specs.Prelude.{◌≡◌, ◌≤◌, length, All};
+ghost use Rattle.std.specs.Prelude.{◌≡◌, ◌≤◌, length, All, Contains};
+ghost use Rattle.prims_core.specs.Alphabet.{alphabet};
 ghost use Rattle.crypt_core.specs.MadeSalts.{made_salt, made_salt_limit, three_words};
-ghost use Rattle.crypt_core.specs.Settings.{IsCharacter};
 
 #[cfg(test)]
 mod tests;
@@ -24,7 +24,7 @@ pub fn salt_of(words: [u64; 3], len: usize) -> ArrayVec<u8, MADE_SALT_LIMIT>
     requires { len ≤ made_salt_limit }
     ensures items { result.items ≡ made_salt words len }
     ensures length { length result.items ≡ len }
-    ensures characters { All IsCharacter result.items }
+    ensures characters { All (Contains alphabet) result.items }
 {
     let mut salt = ArrayVec::new();
     'characters: for i in 0..len {

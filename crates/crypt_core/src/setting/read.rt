@@ -10,7 +10,7 @@ ghost use Rattle.crypt_core.specs.declared.setting.fault.SettingFault.{SettingFa
 ghost use Rattle.crypt_core.specs.Methods.{prefix};
 ghost use Rattle.crypt_core.specs.Private.Parts.{AllRefused, HasField, HasNumber, HasNumbers, HasRounds, HasSalt, LacksNumber, LacksSalt};
 ghost use Rattle.crypt_core.specs.Refusals.{IsRefused, IsShaText, LacksCost};
-ghost use Rattle.crypt_core.specs.Settings.{Kept, IsSettingByte, IsSettingText, dollar, max_rounds, BeginsWith, IsRoundsNumber, scrypt_part_len, IsCharacter, IsScryptSalt, SpellsScheme, Spells};
+ghost use Rattle.crypt_core.specs.Settings.{Kept, IsSettingByte, IsSettingText, dollar, max_rounds, BeginsWith, IsRoundsNumber, scrypt_part_len, IsScryptSalt, SpellsScheme, Spells};
 
 use super::fault::SettingFault;
 use super::salt::in_alphabet;
