@@ -1,8 +1,8 @@
 -- Lemmas on the messages of SHA-crypt.
 use Rattle.crypt_core.specs.Methods.{shacrypt_salt_limit}
 use Rattle.crypt_core.specs.Passwords.{password_limit}
-use Rattle.std.proofs.Common.{◌≡◌, ℕ, zero, suc, ◌+◌, ◌*◌, ◌≤◌, List, [], ◌∷◌, ◌++◌, length, arith, refl, ap, ◌∙◌}
-use Rattle.std.specs.Prelude.{sum_by}
+use Rattle.std.proofs.Common.{◌≡◌, ℕ, zero, suc, ◌+◌, ◌*◌, ◌≤◌, ◌<◌, List, [], ◌∷◌, ◌++◌, length, arith, refl, ap, ◌∙◌}
+use Rattle.std.specs.Prelude.{sum_by, All}
 use Rattle.std.proofs.lemmas.List.{length-append}
 use Rattle.std.proofs.Math.Nat.{mul-le-mul_right}
 use Rattle.prims_core.specs.Meter.{AreInAll}
@@ -66,20 +66,27 @@ length-sha_opening h p s =
 abbrev pub start_limit : ℕ
 start_limit = 4 * (password_limit * password_limit)
 
-pub start_bytes : (h : List ℕ → List ℕ) (p s : List ℕ) (times : ℕ) → length p ≤ password_limit → length s ≤ shacrypt_salt_limit → length (h (salted_twice p s)) ≤ password_limit → times ≤ 16 + greatest_byte
-    → length (salted_twice p s) + length (sha_opening_message h p s) + length p * length p + times * length s ≤ start_limit
-start_bytes h p s times short salt_short small few =
-    omega (
-      arith,
-      length-salted_twice p s,
-      length-sha_opening h p s,
-      digit_bytes-few (length (h (salted_twice p s))) (length p) password_limit (length p) small short,
-      mul-le-mul_right (length p) short,
-      mul-le-mul_right (length s) few,
-    )
-
 -- where each digest has so many bytes
 module _ (h : List ℕ → List ℕ) (digest : ℕ) (length-digest : (m : List ℕ) → length (h m) ≡ digest) (p s : List ℕ) where
+  -- the four messages before the rounds stay within the limit
+  pub start_bytes : (times : ℕ) → digest ≤ 64 → length p ≤ password_limit → length s ≤ shacrypt_salt_limit → times ≤ 16 + greatest_byte
+      → length (salted_twice p s) + length (sha_opening_message h p s) + length p * length p + times * length s ≤ start_limit
+  start_bytes times small short salt_short few =
+      let below : length (h (salted_twice p s)) ≤ password_limit = omega (arith, length-digest (salted_twice p s), small) in
+      omega (
+        arith,
+        length-salted_twice p s,
+        length-sha_opening h p s,
+        digit_bytes-few (length (h (salted_twice p s))) (length p) password_limit (length p) below short,
+        mul-le-mul_right (length p) short,
+        mul-le-mul_right (length s) few,
+      )
+
+  -- A has a first byte
+  pub first_byte-below : 1 ≤ digest → ((m : List ℕ) → All (λ b. b < 256) (h m)) → first_byte h p s < 256
+  first_byte-below some bytes =
+      bytes (sha_opening_message h p s) 0 0 (omega (arith, length-digest (sha_opening_message h p s), some))
+
   length-digest_before : (i : ℕ) → length (sha_digest_before h p s i) ≡ digest
   unfolding sha_digest_before
   length-digest_before zero = length-digest (sha_opening_message h p s)

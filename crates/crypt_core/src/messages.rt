@@ -95,6 +95,7 @@ pub(crate) fn feed_digits<C: Counted>(
     }
 }
 
+// The piece for a binary digit.
 fn digit_piece<'a>(digit: usize, one: &'a [u8], other: &'a [u8]) -> &'a [u8]
     ensures { result.now ≡ (if digit == 1 then one.now else other.now) }
 {

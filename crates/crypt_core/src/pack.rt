@@ -91,6 +91,7 @@ pub fn pack(method: Method, digest: &[u8]) -> ArrayVec<u8, SHA512CRYPT_PACKED_LE
     buffer_of(text.as_slice())
 }
 
+// The table of the method's groups.
 fn groups(method: Method) -> &'static [&'static [usize]]
     ensures { groups_in result.now ≡ groups_of method }
 {

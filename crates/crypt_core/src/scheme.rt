@@ -54,6 +54,7 @@ pub enum Scheme {
 }
 
 impl Scheme {
+    /// The method of the scheme.
     pub fn method(&self) -> Method
         ensures { result ≡ method_of self.now }
     {

@@ -59,7 +59,7 @@ impl Setting {
         self.scheme.method()
     }
 
-    // The method with its cost, which is in range.
+    /// The method with its cost, which is in range.
     pub(crate) fn scheme(&self) -> Scheme
         ensures value { result ≡ self.now.scheme }
         ensures cost { HasCost self.now.scheme }

@@ -5,7 +5,7 @@ ghost use Rattle.prims_core.specs.Alphabet.{alphabet};
 
 use prims_core::alphabet::value_of;
 
-// Whether each byte is a character of crypt's alphabet.
+/// Whether each byte is a character of crypt's alphabet.
 pub(super) fn in_alphabet(bytes: &[u8]) -> bool
     ensures { IsTrue result ↔ All (Contains alphabet) bytes.now }
 {

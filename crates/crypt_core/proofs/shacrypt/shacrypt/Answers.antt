@@ -1,6 +1,6 @@
 use Rattle.crypt_core.specs.Work.{greatest_byte}
 use Rattle.crypt_core.specs.Passwords.{password_limit}
-use Rattle.std.proofs.Common.{◌≡◌, ◌+◌, ◌≤◌, ◌<◌, length, get_or, arith, refl, sym, ◌∙◌, ap}
+use Rattle.std.proofs.Common.{◌≡◌, ◌+◌, ◌≤◌, length, get_or, arith, refl, sym, ◌∙◌, ap}
 use Rattle.std.specs.List.{repeat}
 use Rattle.crypt_core.specs.RoundMessage.{salted_twice}
 use Rattle.crypt_core.specs.ShaCrypt.{password_repeated, salt_repeated, sha_opening_digest, sha_opening_message, shacrypt_digest, shacrypt_message, shacrypt_messages}
@@ -9,7 +9,7 @@ use Rattle.crypt_core.specs.Private.RoundStrings.{Strings}
 use Rattle.crypt_core.proofs.CycleLemmas.{length-cycle, length-repeat}
 use Rattle.crypt_core.proofs.MessageLists.{length-messages_to, messages-more, round_length-small}
 use Rattle.crypt_core.proofs.Metering.{digests_in_all, digests_more, four_digests}
-use Rattle.crypt_core.proofs.ShaCryptLemmas.{digest_before-more, digest_before-zero, length-message_round, message-number, messages-all, messages-four, messages-in_all, round_is, start_bytes}
+use Rattle.crypt_core.proofs.ShaCryptLemmas.{digest_before-more, digest_before-zero, first_byte-below, length-message_round, message-number, messages-all, messages-four, messages-in_all, round_is, start_bytes}
 use Rattle.crypt_core.proofs.shacrypt.shacrypt.Goals as goal
 
 pub string_of-password_string-requires-clause-bytes_room : goal.string_of-password_string-requires-clause-bytes_room
@@ -18,8 +18,7 @@ string_of-password_string-requires-clause-bytes_room g c =
     let p = c.bytes-password.result.now in
     let s = c.args.salt.now in
     let short : length p ≤ password_limit = omega (arith, ap length c.bytes-password.ensures.value, c.bytes-password.ensures.password.length_fits) in
-    let small : length (h (salted_twice p s)) ≤ password_limit = omega (arith, g.met.H.Counted.length_digest (salted_twice p s), g.met.H.Counted.at_most_64) in
-    omega (arith, ap (λ m. m.bytes) c.opening-digest.ensures.count, start_bytes h p s 0 short c.requires.salt small (omega arith), c.requires.room.1)
+    omega (arith, ap (λ m. m.bytes) c.opening-digest.ensures.count, start_bytes h g.H.Counted.LEN g.met.H.Counted.length_digest p s 0 g.met.H.Counted.at_most_64 short c.requires.salt (omega arith), c.requires.room.1)
 
 pub string_of-salt_string-requires-clause-bytes_room : goal.string_of-salt_string-requires-clause-bytes_room
 string_of-salt_string-requires-clause-bytes_room g c =
@@ -27,17 +26,15 @@ string_of-salt_string-requires-clause-bytes_room g c =
     let p = c.bytes-password.result.now in
     let s = c.args.salt.now in
     let short : length p ≤ password_limit = omega (arith, ap length c.bytes-password.ensures.value, c.bytes-password.ensures.password.length_fits) in
-    let small : length (h (salted_twice p s)) ≤ password_limit = omega (arith, g.met.H.Counted.length_digest (salted_twice p s), g.met.H.Counted.at_most_64) in
     let first = c.from-salt_times.ensures ∙ ap (λ xs. get_or xs 0 0) (c.as_slice.ensures.value ∙ c.opening-digest.ensures.digest) in
-    let some : 0 < length (sha_opening_digest h p s) = omega (arith, g.met.H.Counted.length_digest (sha_opening_message h p s), g.met.H.Counted.at_least_1) in
-    let byte = g.met.H.Counted.digest_bytes (sha_opening_message h p s) 0 0 some in
+    let byte = first_byte-below h g.H.Counted.LEN g.met.H.Counted.length_digest p s g.met.H.Counted.at_least_1 g.met.H.Counted.digest_bytes in
     let times : 16 + c.from-salt_times.result ≤ 16 + greatest_byte = omega (arith, first, byte) in
     omega (
       arith,
       ap (λ m. m.bytes) c.opening-digest.ensures.count,
       ap (λ m. m.bytes) c.string_of-password_string.ensures.count,
       length-repeat (length p) p,
-      start_bytes h p s (16 + c.from-salt_times.result) short c.requires.salt small times,
+      start_bytes h g.H.Counted.LEN g.met.H.Counted.length_digest p s (16 + c.from-salt_times.result) g.met.H.Counted.at_most_64 short c.requires.salt times,
       c.requires.room.1,
     )
 
@@ -72,9 +69,7 @@ rounds-init g c =
     let first = c.from-salt_times.ensures ∙ ap (λ xs. get_or xs 0 0) (c.as_slice.ensures.value ∙ digest) in
     let salted = rw first at c.string_of-salt_string.ensures.count in
     let short : length p ≤ password_limit = c.bytes-password.ensures.password.length_fits in
-    let small : length (h (salted_twice p s)) ≤ password_limit = omega (arith, g.met.H.Counted.length_digest (salted_twice p s), g.met.H.Counted.at_most_64) in
-    let some : 0 < length (sha_opening_digest h p s) = omega (arith, g.met.H.Counted.length_digest (sha_opening_message h p s), g.met.H.Counted.at_least_1) in
-    let byte = g.met.H.Counted.digest_bytes (sha_opening_message h p s) 0 0 some in
+    let byte = first_byte-below h g.H.Counted.LEN g.met.H.Counted.length_digest p s g.met.H.Counted.at_least_1 g.met.H.Counted.digest_bytes in
     let times : 16 + get_or (sha_opening_digest h p s) 0 0 ≤ 16 + greatest_byte = omega (arith, byte) in (
       digest ∙ sym (digest_before-zero h p s),
       c.opening-digest.ensures.length,
@@ -88,7 +83,7 @@ rounds-init g c =
         ap (λ m. m.bytes) salted,
         length-repeat (length p) p,
         length-repeat (16 + get_or (sha_opening_digest h p s) 0 0) s,
-        start_bytes h p s (16 + get_or (sha_opening_digest h p s) 0 0) short c.requires.salt small times,
+        start_bytes h g.H.Counted.LEN g.met.H.Counted.length_digest p s (16 + get_or (sha_opening_digest h p s) 0 0) g.met.H.Counted.at_most_64 short c.requires.salt times,
       ),
     )
 
