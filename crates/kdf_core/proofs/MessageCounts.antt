@@ -147,7 +147,7 @@ scrypt-in_all password salt cost count =
     let last = mixed_parts (rows cost) (part_bytes cost) derived in
     let derived_length : length derived ≡ first = length-pbkdf2_sha256 password salt first in
     let last_length : length last ≡ first =
-    length-mixed_parts (rows cost) (part_bytes cost) (2 * cost.r) cost.p derived (omega arith) derived_length ∙ derived_length in
+    length-mixed_parts (rows cost) (part_bytes cost) cost.r cost.p derived (omega arith) derived_length ∙ derived_length in
     let key = key-in_all password in
     let firsts = pbkdf2-in_all password salt 1 first (omega arith) in
     let lasts = pbkdf2-in_all password last 1 count (omega arith) in

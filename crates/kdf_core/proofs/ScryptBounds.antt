@@ -81,3 +81,11 @@ all_bytes-fit before password_length salt_length count first last cost accepted 
     let fit : parts_bytes cost ≤ 2 ^ 29 = parts-fit cost accepted in
     bytes-fit before (key_bytes password_length) (div_ceil first 32) (block_bytes salt_length 1) (div_ceil count 32) (block_bytes last 1) a
     (omega (arith, key_bytes-le password_length)) (omega arith) (omega arith) (omega arith) (omega arith)
+
+-- of lengths of at most 2 ^ 32 they fit 64 bits
+pub known_bytes-fit : (key parts tag blocks last : ℕ) → key ≤ 2 ^ 32 → parts ≤ 2 ^ 22 → tag ≤ 2 ^ 33 → blocks ≤ 2 ^ 27 → last ≤ 2 ^ 30
+    → key + 4 * parts * tag + blocks * last < 2 ^ 64
+known_bytes-fit key parts tag blocks last a b c d e =
+    let derived : 4 * parts * tag ≤ 2 ^ 24 * tag = mul-le-mul_right tag (omega arith) in
+    let answer : blocks * last ≤ 2 ^ 27 * last = mul-le-mul_right last d in
+    omega arith

@@ -8,7 +8,7 @@ use Rattle.prims_core.specs.Meter.{Counts}
 use Rattle.prims_core.specs.Work.{raised_by}
 use Rattle.prims_core.specs.declared.work.Work.{Work}
 use Rattle.prims_core.specs.Words.{words_of, bytes_of_words, xor_lists, chunks_exact}
-use Rattle.kdf_core.specs.Hmac.{key_digests, key_bytes, key_messages}
+use Rattle.kdf_core.specs.Hmac.{sha256_length, key_digests, key_bytes, key_messages, tag_bytes}
 use Rattle.kdf_core.specs.Params.{ScryptCost, rows}
 use Rattle.kdf_core.specs.Pbkdf2.{pbkdf2_messages, pbkdf2_sha256}
 
@@ -29,9 +29,13 @@ mixed_back n start words = block_mix (xor_lists words (iterate block_mix (intege
 unfoldable pub romix : ℕ → List ℕ → List ℕ
 romix n start = iterate (mixed_back n start) n (iterate block_mix n start)
 
--- the bytes of a part, which is 2r blocks of 64 bytes
+-- the bytes of two blocks, in which r counts
+abbrev pub unit_bytes : ℕ
+unit_bytes = 128
+
+-- the bytes of a part, which is 2r blocks
 abbrev pub part_bytes : ScryptCost → ℕ
-part_bytes cost = 128 * cost.r
+part_bytes cost = unit_bytes * cost.r
 
 -- the bytes of all p parts
 abbrev pub parts_bytes : ScryptCost → ℕ
@@ -65,25 +69,26 @@ scrypt_messages password salt cost count =
 -- digests: two for each 32 bytes of all parts and of the result, and one of a key longer than 64 bytes
 unfoldable pub scrypt_digests : ScryptCost → ℕ → ℕ → ℕ
 scrypt_digests cost password_length count =
-    8 * (cost.r * cost.p) + 2 * div_ceil count 32 + key_digests password_length
+    8 * (cost.r * cost.p) + 2 * div_ceil count sha256_length + key_digests password_length
 
--- the bytes of those digests
+-- the bytes of those digests: of the key, and of tags, each of a salt and the number of a block in 4 bytes. The
+-- salt of the result is all parts
 unfoldable pub scrypt_bytes : ScryptCost → ℕ → ℕ → ℕ → ℕ
 scrypt_bytes cost password_length salt_length count =
-    key_bytes password_length + 4 * (cost.r * cost.p) * (164 + salt_length)
-    + div_ceil count 32 * (164 + 128 * (cost.r * cost.p))
+    key_bytes password_length + 4 * (cost.r * cost.p) * tag_bytes (salt_length + 4)
+    + div_ceil count sha256_length * tag_bytes (parts_bytes cost + 4)
 
 -- mixings: N to make the rows and N to mix with them, for each part
 abbrev pub scrypt_mixes : ScryptCost → ℕ
 scrypt_mixes cost = 2 * rows cost * cost.p
 
--- the bytes of the one table
+-- the bytes of the one table, whose rows are as long as a part
 abbrev pub table_bytes : ScryptCost → ℕ
-table_bytes cost = 128 * (rows cost * cost.r)
+table_bytes cost = rows cost * part_bytes cost
 
 -- the bytes of the two halves in which a part is mixed
 abbrev pub halves_bytes : ScryptCost → ℕ
-halves_bytes cost = 256 * cost.r
+halves_bytes cost = 2 * part_bytes cost
 
 -- all five counts
 abbrev pub scrypt_work : ScryptCost → ℕ → ℕ → ℕ → Work

@@ -9,7 +9,7 @@ ghost use Rattle.kdf_core.specs.Params.{cost_of, rows, IsInRange, IsWithinCeilin
 use std::marker::Model;
 use thiserror::Error;
 
-/// The largest product `N * r * p`: 2^23, so that a table of `128 * N * r` bytes has at most 2^30.
+// The largest product `N * r * p`: 2^23, so that a table of `128 * N * r` bytes has at most 2^30.
 const CEILING: u64 = 8_388_608;
 
 /// Why three numbers are no parameters of scrypt.
