@@ -3,9 +3,8 @@ use Rattle.crypt_core.specs.Passwords.{password_limit}
 use Rattle.std.proofs.Common.{◌≡◌, ℕ, suc, ◌+◌, ◌*◌, List, [], ◌∷◌, ◌++◌, length, take, codes, arith, refl, ap, ◌∙◌}
 use Rattle.std.specs.Prelude.{sum_by}
 use Rattle.std.proofs.lemmas.List.{length-append}
-use Rattle.prims_core.specs.Digests.{md5}
+use Rattle.prims_core.specs.Digests.{length-md5, md5}
 use Rattle.prims_core.specs.Meter.{AreInAll}
-use Rattle.prims_core.specs.contracts.counted.counted_md5.CountedMd5Counted.TheImpl.Laws.{length_digest-law}
 use Rattle.crypt_core.specs.Cycle.{binary_digits, cycle, digit_pieces}
 use Rattle.crypt_core.specs.Md5crypt.{md5crypt_message, md5crypt_messages, opening_message}
 use Rattle.crypt_core.specs.RoundMessage.{round_message, salted_twice}
@@ -37,7 +36,7 @@ length-message_round p s i =
     let before = md5 (md5crypt_message p s (i + 1)) in
     ap length (message-round p s i)
     ∙ (length-round_message i before p s
-    ∙ ap (λ x. round_length i x (length p) (length s)) (length_digest-law (md5crypt_message p s (i + 1))))
+    ∙ ap (λ x. round_length i x (length p) (length s)) (length-md5 (md5crypt_message p s (i + 1))))
 
 -- a byte for each digit of the password's length; an empty password has none, and no first byte
 pub length-digits : (p : List ℕ) → length (digit_pieces (0 ∷ []) (take 1 p) (length p)) ≡ length (binary_digits (length p))
