@@ -6,7 +6,7 @@ use Rattle.std.proofs.lemmas.List.{length-append}
 use Rattle.prims_core.specs.Digests.{length-md5, md5}
 use Rattle.prims_core.specs.Meter.{AreInAll}
 use Rattle.crypt_core.specs.Cycle.{binary_digits, cycle, digit_pieces}
-use Rattle.crypt_core.specs.Md5crypt.{md5crypt_message, md5crypt_messages, opening_message}
+use Rattle.crypt_core.specs.Md5crypt.{md5crypt_message, md5crypt_messages, opening_message, md5crypt_rounds}
 use Rattle.crypt_core.specs.RoundMessage.{round_message, salted_twice}
 use Rattle.crypt_core.specs.Work.{md5crypt_bytes}
 use Rattle.crypt_core.proofs.CycleLemmas.{digit_bytes-ones, length-cycle, length-digit_pieces}
@@ -17,7 +17,7 @@ pub messages-two : (p s : List ℕ) → messages_to (md5crypt_message p s) 2 ≡
 unfolding messages_to md5crypt_message
 messages-two p s = refl
 
-pub messages-all : (p s : List ℕ) → messages_to (md5crypt_message p s) 1002 ≡ md5crypt_messages p s
+pub messages-all : (p s : List ℕ) → messages_to (md5crypt_message p s) (md5crypt_rounds + 2) ≡ md5crypt_messages p s
 unfolding messages_to md5crypt_messages
 messages-all p s = refl
 
@@ -63,12 +63,12 @@ abbrev pub message_limit : ℕ
 message_limit = 4 * password_limit
 
 -- all messages: how many, and how many bytes
-pub messages-in_all : (p s : List ℕ) → AreInAll (md5crypt_messages p s) 1002 (md5crypt_bytes (length p) (length s))
+pub messages-in_all : (p s : List ℕ) → AreInAll (md5crypt_messages p s) (md5crypt_rounds + 2) (md5crypt_bytes (length p) (length s))
 messages-in_all p s = rw (← messages-all p s) (record {
-  number = length-messages_to (md5crypt_message p s) 1002;
+  number = length-messages_to (md5crypt_message p s) (md5crypt_rounds + 2);
   sum = omega (
     arith,
-    rounds_sum (md5crypt_message p s) 2 16 (length p) (length s) (length-message_round p s) 1000,
+    rounds_sum (md5crypt_message p s) 2 16 (length p) (length s) (length-message_round p s) md5crypt_rounds,
     ap (sum_by length) (messages-two p s),
     length-salted_twice p s,
     length-opening p s,

@@ -8,8 +8,11 @@ pub use Rattle.prims_core.specs.Work.{raised_by, IsBelow, IsWithin}
 use Rattle.prims_core.specs.declared.work.Work.{Work}
 use Rattle.kdf_core.specs.Scrypt.{scrypt_work}
 use Rattle.crypt_core.specs.Cycle.{binary_digits}
+use Rattle.crypt_core.specs.Md5crypt.{md5crypt_rounds}
+use Rattle.crypt_core.specs.Packing.{digest_len}
 use Rattle.crypt_core.specs.Settings.{Kept}
 use Rattle.crypt_core.specs.ShaCrypt.{sha_opening_digest}
+use Rattle.crypt_core.specs.declared.method.Method.TheVariants as methods
 use Rattle.crypt_core.specs.declared.scheme.Scheme.{Scheme}
 use Rattle.crypt_core.specs.declared.scheme.Scheme.TheVariants.{Md5crypt, Sha256crypt, Sha512crypt, Scrypt}
 
@@ -22,11 +25,11 @@ rounds_bytes n digest password salt =
     n * (digest + password) + (n - div_ceil n 3) * salt + (n - div_ceil n 7) * password
 
 -- md5crypt: two passwords and a salt; the same, with the prefix and a byte for each binary digit of the
--- password's length; 1000 rounds
+-- password's length; the rounds
 abbrev pub md5crypt_bytes : ℕ → ℕ → ℕ
 md5crypt_bytes password salt =
     2 * password + salt + (2 * password + salt + 3 + length (binary_digits password))
-    + rounds_bytes 1000 16 password salt
+    + rounds_bytes md5crypt_rounds (digest_len methods.Md5crypt) password salt
 
 -- the bytes of the piece for a binary digit: so many for a 1, and so many for a 0
 abbrev pub piece_bytes : ℕ → ℕ → ℕ → ℕ
@@ -52,12 +55,12 @@ digests_alone digests bytes = record { digests = digests; bytes = bytes; mixes =
 -- for a password and a salt of so many bytes, where a is the first byte of the digest that Drepper calls
 -- A; only SHA-crypt has it
 abbrev pub work_by : Scheme → ℕ → ℕ → ℕ → Work
-work_by Md5crypt a password salt = digests_alone 1002 (md5crypt_bytes password salt)
+work_by Md5crypt a password salt = digests_alone (md5crypt_rounds + 2) (md5crypt_bytes password salt)
 work_by (Sha256crypt rounds) a password salt =
-    digests_alone (rounds.count + 4) (shacrypt_bytes 32 a rounds.count password salt)
+    digests_alone (rounds.count + 4) (shacrypt_bytes (digest_len methods.Sha256crypt) a rounds.count password salt)
 work_by (Sha512crypt rounds) a password salt =
-    digests_alone (rounds.count + 4) (shacrypt_bytes 64 a rounds.count password salt)
-work_by (Scrypt cost) a password salt = scrypt_work cost password salt 32
+    digests_alone (rounds.count + 4) (shacrypt_bytes (digest_len methods.Sha512crypt) a rounds.count password salt)
+work_by (Scrypt cost) a password salt = scrypt_work cost password salt (digest_len methods.Scrypt)
 
 -- A's first byte, for a digest function
 abbrev pub first_byte : (List ℕ → List ℕ) → List ℕ → List ℕ → ℕ

@@ -3,6 +3,7 @@ ghost use Rattle.std.specs.Prelude.{◌≡◌, ◌^◌, ◌≤◌, ◌++◌, len
 ghost use Rattle.prims_core.specs.Meter.{HasRoom};
 ghost use Rattle.kdf_core.specs.Params.{IsBounded};
 ghost use Rattle.kdf_core.specs.Scrypt.{scrypt, with_scrypt, IsAfterRefusal};
+ghost use Rattle.crypt_core.specs.declared.method.Method.TheVariants.{Scrypt};
 ghost use Rattle.crypt_core.specs.Crypt.{crypt, digest_by, hash_limit, IsRefusedBy};
 ghost use Rattle.crypt_core.specs.Packing.{digest_len, packed};
 ghost use Rattle.crypt_core.specs.Settings.{Spells, canonical_text, method_of};
@@ -141,7 +142,7 @@ fn digest_of(
     }
 }
 
-// scrypt's 32 bytes.
+// scrypt's digest.
 fn scrypt_digest(
     alloc: Global,
     password: &[u8],
@@ -150,10 +151,10 @@ fn scrypt_digest(
     meter: &mut Meter,
 ) -> Result<ArrayVec<u8, 64>, AllocError>
     requires { HasRoom meter.old }
-    ensures digest { IfOk result (λ digest. digest.items ≡ scrypt password.now salt.now params.now 32) }
-    ensures length { IfOk result (λ digest. length digest.items ≡ 32) }
+    ensures digest { IfOk result (λ digest. digest.items ≡ scrypt password.now salt.now params.now (digest_len Scrypt)) }
+    ensures length { IfOk result (λ digest. length digest.items ≡ digest_len Scrypt) }
     ensures count { OnOk result (meter.new
-        ≡ with_scrypt meter.old params.now (length password.now) (length salt.now) 32) }
+        ≡ with_scrypt meter.old params.now (length password.now) (length salt.now) (digest_len Scrypt)) }
     ensures refused { OnErr result (IsAfterRefusal meter.old params.now meter.new) }
     ensures bounded { IsBounded params.now }
 {

@@ -20,9 +20,9 @@ use arrayvec::ArrayVec;
 use prims_core::counted::Counted;
 use prims_core::meter::Meter;
 
-/// The digest of a password, a salt of at most 16 bytes, and 1000 to 999999999 rounds, by SHA-crypt
-/// over the digest function `H`. It has `H::LEN` bytes. The meter counts each of the `rounds + 4` messages,
-/// and each of its counts rises by less than 2^41.
+/// The digest of a password by SHA-crypt over the digest function `H`, with a salt of no more bytes than it
+/// keeps, and from the fewest rounds to the most. It has `H::LEN` bytes. The meter counts each of the
+/// `rounds + 4` messages, and each of its counts rises by less than 2^41.
 ///
 /// The meter has counted at most 2^120 digests and at most 2^120 bytes before.
 pub fn shacrypt<H: Counted>(

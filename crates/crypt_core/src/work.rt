@@ -2,6 +2,7 @@
 //! too much. It is the closed form of what the meter counts, step by step of each scheme.
 ghost use Rattle.std.specs.Prelude.{◌≡◌, ℕ, ◌+◌, ◌*◌, ◌^◌, ◌<◌, ◌≤◌, List, length};
 ghost use Rattle.crypt_core.specs.Methods.{md5crypt_salt_limit, scrypt_salt_limit, shacrypt_salt_limit};
+ghost use Rattle.crypt_core.specs.Md5crypt.{md5crypt_rounds};
 ghost use Rattle.crypt_core.specs.Passwords.{password_limit, IsPassword};
 ghost use Rattle.crypt_core.specs.Settings.{max_rounds};
 ghost use Rattle.crypt_core.specs.Work.{digests_alone, digit_bytes, first_byte, greatest_byte, md5crypt_bytes, piece_bytes, rounds_bytes, shacrypt_bytes, work, work_bound, work_by, work_limit, IsBelow, IsWithin};
@@ -48,7 +49,7 @@ pub fn bound(setting: &Setting, password_len: usize) -> Work
 fn md5crypt_bound(password: u64, salt: u64) -> Work
     requires password { password ≤ password_limit }
     requires salt { salt ≤ md5crypt_salt_limit }
-    ensures bound { result ≡ digests_alone 1002 (md5crypt_bytes password salt) }
+    ensures bound { result ≡ digests_alone (md5crypt_rounds + 2) (md5crypt_bytes password salt) }
     ensures below { IsBelow result work_limit }
 {
     let salted = 2 * password + salt;
