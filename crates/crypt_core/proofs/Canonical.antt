@@ -1,4 +1,5 @@
 -- The canonical text of a setting spells it.
+use Rattle.crypt_core.specs.Crypt.{hash_limit}
 use Rattle.std.proofs.Common.{◌≡◌, ◌≢◌, ℕ, ◌+◌, ◌≤◌, ◌<◌, ◌^◌, Bool, true, false, ◌⊎◌, inl, inr, List, [], ◌∷◌, ◌++◌, length, take, drop, get_or, All, length-append, append-nil, refl, sym, ap, subst, ◌∙◌, append_assoc, arith}
 use Rattle.std.specs.Prelude.{decimal, codes}
 use Rattle.std.specs.List.{AllByRecursion}
@@ -12,18 +13,18 @@ use Rattle.crypt_core.specs.declared.method.Method.{Method}
 use Rattle.crypt_core.specs.declared.method.Method.TheVariants as methods
 use Rattle.crypt_core.specs.declared.scheme.Scheme.{Scheme}
 use Rattle.crypt_core.specs.declared.scheme.Scheme.TheVariants.{Md5crypt, Sha256crypt, Sha512crypt, Scrypt}
-use Rattle.crypt_core.specs.Methods.{prefix, salt_limit}
+use Rattle.crypt_core.specs.Methods.{prefix, salt_limit, md5crypt_salt_limit, shacrypt_salt_limit, scrypt_salt_limit}
 use Rattle.crypt_core.specs.Packing.{packed_len}
 use Rattle.crypt_core.specs.Private.Costs.{HasCost}
-use Rattle.crypt_core.specs.Settings.{Kept, method_of, IsSettingByte, dollar, IsEndOfField, IsField, BeginsWith, rounds_word, rounds_field, IsRoundsNumber, held, SpellsRounds, SpellsCost, IsScryptSalt, KeepsSalt, Spells, IsSetting, cost_part, canonical_text}
+use Rattle.crypt_core.specs.Settings.{Kept, method_of, IsSettingByte, dollar, IsEndOfField, IsField, BeginsWith, rounds_word, rounds_field, IsRoundsNumber, held, SpellsRounds, SpellsCost, IsScryptSalt, KeepsSalt, Spells, IsSetting, cost_part, canonical_text, min_rounds, max_rounds, setting_limit, canonical_limit}
 use Rattle.crypt_core.proofs.Numerals.{length-scrypt_part}
 
 -- What a setting keeps is bounded
 
-pub held_range : (n : ℕ) → (1000 ≤ held n) × (held n ≤ 999999999)
+pub held_range : (n : ℕ) → (min_rounds ≤ held n) × (held n ≤ max_rounds)
 held_range n = (omega arith, omega arith)
 
-rounds_range : (count : ℕ) (flag : Bool) (part after : List ℕ) → SpellsRounds (record { count = count; is_written = flag }) part after → (1000 ≤ count) × (count ≤ 999999999)
+rounds_range : (count : ℕ) (flag : Bool) (part after : List ℕ) → SpellsRounds (record { count = count; is_written = flag }) part after → (min_rounds ≤ count) × (count ≤ max_rounds)
 rounds_range count true part after s = let r = held_range (digits_value 10 s.0) in (omega (arith, s.3, r.0), omega (arith, s.3, r.1))
 rounds_range count false part after s = (omega (arith, s.1), omega (arith, s.1))
 
@@ -37,9 +38,9 @@ cut : (n : ℕ) (field salt : List ℕ) → salt ≡ take n field → length sal
 cut n field salt e = omega (arith, ap length e, length-take n field)
 
 salt_bounded : (m : Method) (field salt : List ℕ) → KeepsSalt m field salt → length salt ≤ salt_limit m
-salt_bounded methods.Md5crypt field salt k = cut 8 field salt k
-salt_bounded methods.Sha256crypt field salt k = cut 16 field salt k
-salt_bounded methods.Sha512crypt field salt k = cut 16 field salt k
+salt_bounded methods.Md5crypt field salt k = cut md5crypt_salt_limit field salt k
+salt_bounded methods.Sha256crypt field salt k = cut shacrypt_salt_limit field salt k
+salt_bounded methods.Sha512crypt field salt k = cut shacrypt_salt_limit field salt k
 salt_bounded methods.Scrypt field salt k = omega (arith, ap length k.0, k.1.short)
 
 pub setting_bounded : (kept : Kept) → IsSetting kept → HasCost kept.scheme × (length kept.salt ≤ salt_limit (method_of kept.scheme))
@@ -48,16 +49,20 @@ setting_bounded kept (text, s) =
 
 -- Lengths
 
-length_written : (count : ℕ) → count ≤ 999999999 → length (rounds_field (decimal count)) ≤ 17
+-- the most bytes of a rounds field: the word, nine digits, and a `$`
+abbrev rounds_field_limit : ℕ
+rounds_field_limit = length rounds_word + 9 + 1
+
+length_written : (count : ℕ) → count ≤ max_rounds → length (rounds_field (decimal count)) ≤ rounds_field_limit
 length_written count high =
     omega (arith, length-append (decimal count) (codes "$"), length-append rounds_word (decimal count ++ codes "$"), length-decimal-le 9 count (omega arith) (omega arith) (omega arith))
 
-length_rounds : (count : ℕ) (flag : Bool) → count ≤ 999999999 → length (cost_part (Sha256crypt (record { count = count; is_written = flag }))) ≤ 17
+length_rounds : (count : ℕ) (flag : Bool) → count ≤ max_rounds → length (cost_part (Sha256crypt (record { count = count; is_written = flag }))) ≤ rounds_field_limit
 length_rounds count true high = length_written count high
 length_rounds count false high = omega arith
 
--- the canonical text has at most 100 bytes
-pub canonical_short : (scheme : Scheme) (salt : List ℕ) → HasCost scheme → length salt ≤ salt_limit (method_of scheme) → length (prefix (method_of scheme)) + (length (cost_part scheme) + length salt) ≤ 100
+-- the canonical text stays within its limit
+pub canonical_short : (scheme : Scheme) (salt : List ℕ) → HasCost scheme → length salt ≤ salt_limit (method_of scheme) → length (prefix (method_of scheme)) + (length (cost_part scheme) + length salt) ≤ canonical_limit
 canonical_short Md5crypt salt c l = omega arith
 canonical_short (Sha256crypt r) salt c l = omega (arith, length_rounds r.count r.is_written c.1)
 canonical_short (Sha512crypt r) salt c l = omega (arith, length_rounds r.count r.is_written c.1)
@@ -121,13 +126,13 @@ salt_is_front : (m : Method) (field salt : List ℕ) → KeepsSalt m field salt 
 salt_is_front methods.Md5crypt field salt k = k
 salt_is_front methods.Sha256crypt field salt k = k
 salt_is_front methods.Sha512crypt field salt k = k
-salt_is_front methods.Scrypt field salt k = k.0 ∙ sym (take_all 86 field k.1.short)
+salt_is_front methods.Scrypt field salt k = k.0 ∙ sym (take_all scrypt_salt_limit field k.1.short)
 
 -- the salt is what is kept of it
 salt_again : (m : Method) (field salt : List ℕ) → KeepsSalt m field salt → KeepsSalt m salt salt
-salt_again methods.Md5crypt field salt k = sym (take_all 8 salt (cut 8 field salt k))
-salt_again methods.Sha256crypt field salt k = sym (take_all 16 salt (cut 16 field salt k))
-salt_again methods.Sha512crypt field salt k = sym (take_all 16 salt (cut 16 field salt k))
+salt_again methods.Md5crypt field salt k = sym (take_all md5crypt_salt_limit salt (cut md5crypt_salt_limit field salt k))
+salt_again methods.Sha256crypt field salt k = sym (take_all shacrypt_salt_limit salt (cut shacrypt_salt_limit field salt k))
+salt_again methods.Sha512crypt field salt k = sym (take_all shacrypt_salt_limit salt (cut shacrypt_salt_limit field salt k))
 salt_again methods.Scrypt field salt k = (refl, subst IsScryptSalt (sym k.0) k.1)
 
 salt_is_field : (m : Method) (field rest salt tail : List ℕ) → IsField field rest → KeepsSalt m field salt → IsEndOfField tail → IsField salt tail
@@ -160,7 +165,7 @@ begins_within (y ∷ salt) tail (w ∷ word) none end (more, e) =
 rounds_word_no_dollar : AllByRecursion (λ b. b ≢ dollar) rounds_word
 rounds_word_no_dollar = (λ e. omega arith, (λ e. omega arith, (λ e. omega arith, (λ e. omega arith, (λ e. omega arith, (λ e. omega arith, (λ e. omega arith, tt)))))))
 
-pub held_again : (n : ℕ) → 1000 ≤ n → n ≤ 999999999 → n ≡ held n
+pub held_again : (n : ℕ) → min_rounds ≤ n → n ≤ max_rounds → n ≡ held n
 held_again n low high = omega arith
 
 rounds_again : (count : ℕ) (flag : Bool) (n : ℕ) (part field rest salt tail : List ℕ) → salt ≡ take n field → IsEndOfField tail → SpellsRounds (record { count = count; is_written = flag }) part (field ++ rest) → SpellsRounds (record { count = count; is_written = flag }) (cost_part (Sha256crypt (record { count = count; is_written = flag }))) (salt ++ tail)
@@ -182,7 +187,7 @@ cost_again (Sha512crypt r) n part field rest salt tail e end s = rounds_again r.
 cost_again (Scrypt c) n part field rest salt tail e end s = (refl, s.1, s.2)
 
 -- what a text spells, its canonical text spells, whatever stands behind a `$`
-pub canonical_spells_before : (text : List ℕ) (kept : Kept) (tail : List ℕ) → Spells text kept → IsEndOfField tail → All IsSettingByte tail → length tail ≤ 284
+pub canonical_spells_before : (text : List ℕ) (kept : Kept) (tail : List ℕ) → Spells text kept → IsEndOfField tail → All IsSettingByte tail → canonical_limit + length tail ≤ setting_limit
     → Spells (canonical_text kept ++ tail) kept
 canonical_spells_before text kept tail s end tail_bytes short =
     let m : Method = method_of kept.scheme in
@@ -215,9 +220,9 @@ pub canonical_spells : (text : List ℕ) (kept : Kept) → Spells text kept → 
 canonical_spells text kept s =
     subst (λ (t : List ℕ). Spells t kept) (append-nil (canonical_text kept)) (canonical_spells_before text kept [] s tt (All-nil IsSettingByte) (omega arith))
 
--- with the text of the method's digest the canonical text has at most 143 bytes
+-- with a `$` and the text of the method's digest it stays within the limit of a hash
 pub packed_short : (scheme : Scheme) (salt : List ℕ) → HasCost scheme → length salt ≤ salt_limit (method_of scheme)
-    → length (prefix (method_of scheme)) + (length (cost_part scheme) + length salt) + packed_len (method_of scheme) ≤ 143
+    → length (prefix (method_of scheme)) + (length (cost_part scheme) + length salt) + packed_len (method_of scheme) < hash_limit
 packed_short Md5crypt salt c l = omega arith
 packed_short (Sha256crypt r) salt c l = omega (arith, length_rounds r.count r.is_written c.1)
 packed_short (Sha512crypt r) salt c l = omega (arith, length_rounds r.count r.is_written c.1)

@@ -12,7 +12,7 @@ use Rattle.std.proofs.Math.Nat.{mul-le-mul_right}
 use Rattle.std.proofs.Math.Path.{fun_ext}
 use Rattle.std.proofs.Math.Seq.{take-suc}
 use Rattle.crypt_core.specs.Cycle.{cycle, binary_digits, digit_pieces, digits_up_to}
-use Rattle.crypt_core.specs.Work.{digit_bytes}
+use Rattle.crypt_core.specs.Work.{digit_bytes, piece_bytes}
 
 -- a byte more
 pub cycle-more : (d : List ℕ) (n : ℕ) → cycle d (n + 1) ≡ cycle d n ++ get_or d (n % length d) 0 ∷ []
@@ -105,28 +105,38 @@ length-cond false one other = refl
 
 -- all pieces have the bytes of the one for each digit 1, and of the other for each 0
 pub length-digit_pieces : (one other : List ℕ) (n : ℕ)
-    → length (digit_pieces one other n) ≡ sum_by (λ digit. cond (nat_eq digit 1) (length one) (length other)) (binary_digits n)
+    → length (digit_pieces one other n) ≡ digit_bytes (length one) (length other) n
 length-digit_pieces one other n =
     length-flat_map _ (binary_digits n)
     ∙ ap (λ f. sum_by f (binary_digits n)) (fun_ext (λ digit. length-cond (nat_eq digit 1) one other))
 
--- two pieces of a byte each: as many bytes as there are digits
-pub length-single_pieces : (a b n : ℕ) → length (digit_pieces (a ∷ []) (b ∷ []) n) ≡ length (binary_digits n)
-length-single_pieces a b n = length-digit_pieces (a ∷ []) (b ∷ []) n ∙ go (binary_digits n) where
+pub digit_bytes-none : (one other : ℕ) → digit_bytes one other 0 ≡ 0
+unfolding binary_digits
+digit_bytes-none one other = refl
+
+-- the piece of the lowest digit, and those of the half
+pub digit_bytes-step : (one other n : ℕ) → 0 < n
+    → digit_bytes one other n ≡ piece_bytes one other (n % 2) + digit_bytes one other (n / 2)
+digit_bytes-step one other n some =
+    ap (sum_by (piece_bytes one other)) (binary_digits-step n some)
+    ∙ sum_by-cons (piece_bytes one other) (n % 2) (binary_digits (n / 2))
+
+-- pieces of a byte each: as many bytes as there are digits
+pub digit_bytes-ones : (n : ℕ) → digit_bytes 1 1 n ≡ length (binary_digits n)
+digit_bytes-ones n = go (binary_digits n) where
   same : (b : Bool) → ◌≡◌ {A = ℕ} (cond b 1 1) 1
   same true = refl
   same false = refl
 
-  go : (digits : List ℕ) → sum_by (λ digit. cond (nat_eq digit 1) 1 1) digits ≡ length digits
+  go : (digits : List ℕ) → sum_by (piece_bytes 1 1) digits ≡ length digits
   go [] = refl
-  go (digit ∷ digits) =
-      omega (arith, sum_by-cons (λ d. cond (nat_eq d 1) 1 1) digit digits, same (nat_eq digit 1), go digits)
+  go (digit ∷ digits) = omega (arith, sum_by-cons (piece_bytes 1 1) digit digits, same (nat_eq digit 1), go digits)
 
--- a digest and a password of at most m bytes each
-pub digit_bytes-small : (digest n m : ℕ) → digest ≤ m → n ≤ m → digit_bytes digest n n ≤ n * m
-digit_bytes-small digest n m a b =
-    let all = sum_by-le (λ digit. cond (nat_eq digit 1) digest n) m (binary_digits n) (λ k d inside. small (nat_eq (get_or (binary_digits n) k d) 1)) in
+-- pieces of at most m bytes each
+pub digit_bytes-few : (one other m n : ℕ) → one ≤ m → other ≤ m → digit_bytes one other n ≤ n * m
+digit_bytes-few one other m n a b =
+    let all = sum_by-le (piece_bytes one other) m (binary_digits n) (λ k d inside. small (nat_eq (get_or (binary_digits n) k d) 1)) in
     omega (arith, all, mul-le-mul_right m (length-binary_digits n)) where
-      small : (b : Bool) → cond b digest n ≤ m
+      small : (b : Bool) → cond b one other ≤ m
       small true = a
       small false = b

@@ -10,7 +10,7 @@ use Rattle.crypt_core.specs.declared.setting.fault.SettingFault.{SettingFault}
 use Rattle.crypt_core.specs.declared.setting.fault.SettingFault.TheVariants.{TooLong, BadCharacter, UnknownScheme, BadRounds, BadCost, ScryptRange, AboveCeiling, BadSalt}
 use Rattle.crypt_core.specs.Methods.{prefix}
 use Rattle.crypt_core.specs.Refusals.{IsShaText, LacksRounds, LacksCost, IsScryptText, Breaks, IsRefused, rule_number}
-use Rattle.crypt_core.specs.Settings.{method_of, IsSettingByte, IsSettingText, IsField, BeginsWith, scrypt_part, IsScryptSalt, SpellsCost, SpellsScheme}
+use Rattle.crypt_core.specs.Settings.{method_of, IsSettingByte, IsSettingText, IsField, BeginsWith, scrypt_part, IsScryptSalt, SpellsCost, SpellsScheme, scrypt_part_len}
 use Rattle.crypt_core.proofs.Numerals.{scrypt_part_unique, length-scrypt_part, all_scrypt_part}
 use Rattle.crypt_core.proofs.Readings.{prefix_unique}
 use Rattle.crypt_core.proofs.Refusals.{scheme_breaks_none}
@@ -147,7 +147,7 @@ pub spelled_front : (text : List ℕ) (scheme : Scheme) (after part rest : List 
 spelled_front text scheme after part rest begins parts cost =
     record { part = part; parts = begins ∙ ap (λ (x : List ℕ). prefix (method_of scheme) ++ x) parts; cost = cost }
 
--- what follows the eleven characters of scrypt's numbers
-pub after_numbers : (after rest : List ℕ) (n : ScryptCost) → after ≡ scrypt_part n ++ rest → drop 11 after ≡ rest
+-- what follows the characters of scrypt's numbers
+pub after_numbers : (after rest : List ℕ) (n : ScryptCost) → after ≡ scrypt_part n ++ rest → drop scrypt_part_len after ≡ rest
 after_numbers after rest n parts =
     ap (λ (k : ℕ). drop k after) (sym (length-scrypt_part n)) ∙ ap (λ (t : List ℕ). drop (length (scrypt_part n)) t) parts ∙ drop-append_seam (scrypt_part n) rest

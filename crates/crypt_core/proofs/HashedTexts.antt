@@ -23,7 +23,7 @@ pub hashed_spells : (kept : Kept) (digest : List ℕ) → Spells (canonical_text
     → Spells (canonical_text kept ++ codes "$" ++ packed (method_of kept.scheme) digest) kept
 hashed_spells kept digest spelled =
     let text = packed (method_of kept.scheme) digest in
-    let bytes = All-weaker (Contains alphabet) IsSettingByte (λ c inside. character_is_byte c (record { in_alphabet = inside })) text (all_packed (method_of kept.scheme) digest) in
+    let bytes = All-weaker (Contains alphabet) IsSettingByte character_is_byte text (all_packed (method_of kept.scheme) digest) in
     let whole = canonical_spells_before (canonical_text kept) kept (codes "$" ++ text) spelled refl (All-cons IsSettingByte 36 text dollar_is_byte bytes)
     (omega (arith, length-packed_text (method_of kept.scheme) digest, packed_len-small (method_of kept.scheme))) in
     subst (λ (t : List ℕ). Spells t kept) (sym (append_assoc (canonical_text kept) (codes "$") text)) whole

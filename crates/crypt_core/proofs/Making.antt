@@ -1,4 +1,5 @@
 -- What a method, a cost and a salt make is a setting.
+use Rattle.std.specs.Prelude.{Contains}
 use Rattle.std.proofs.Common.{◌≡◌, ◌≢◌, ℕ, ◌+◌, ◌≤◌, ◌<◌, ◌^◌, Bool, true, false, not, cond, eqb, inl, inr, ◌&&◌, List, [], ◌++◌, length, get_or, All, length-append, append-nil, refl, sym, ap, subst, ◌∙◌, arith}
 use Rattle.std.specs.Prelude.{decimal, codes, nat_le, Result, Ok, Err, OnOk, IfErr, IsOk}
 use Rattle.std.specs.List.{list_all}
@@ -15,18 +16,18 @@ use Rattle.crypt_core.specs.declared.scheme.Scheme.{Scheme}
 use Rattle.crypt_core.specs.declared.scheme.Scheme.TheVariants.{Md5crypt, Sha256crypt, Sha512crypt, Scrypt}
 use Rattle.crypt_core.specs.declared.setting.fault.MakeFault.{MakeFault}
 use Rattle.crypt_core.specs.declared.setting.fault.MakeFault.TheVariants.{SaltLength, SaltCharacter, Cost}
-use Rattle.crypt_core.specs.Methods.{prefix, salt_limit}
-use Rattle.crypt_core.specs.MadeSettings.{made_cost, made_scheme, made_setting, TakesCost, IsMakeable, BreaksMake, IsMakeRefused, make_rule_number}
+use Rattle.crypt_core.specs.Methods.{prefix, salt_limit, md5crypt_salt_limit, shacrypt_salt_limit, scrypt_salt_limit}
+use Rattle.crypt_core.specs.MadeSettings.{made_cost, made_scheme, made_setting, TakesCost, IsMakeable, BreaksMake, IsMakeRefused, make_rule_number, max_cost, default_cost, scrypt_cost}
 use Rattle.crypt_core.specs.Private.Costs.{HasCost}
-use Rattle.crypt_core.specs.Settings.{Kept, method_of, IsSettingByte, dollar, BeginsWith, rounds_word, rounds_field, IsRoundsNumber, held, SpellsRounds, scrypt_part, SpellsCost, IsCharacter, KeepsSalt, IsSetting, cost_part, canonical_text}
+use Rattle.crypt_core.specs.Settings.{Kept, method_of, IsSettingByte, dollar, BeginsWith, rounds_word, rounds_field, IsRoundsNumber, held, SpellsRounds, scrypt_part, SpellsCost, KeepsSalt, IsSetting, cost_part, canonical_text, min_rounds, max_rounds, default_rounds}
 use Rattle.crypt_core.proofs.Numerals.{all_scrypt_part}
 use Rattle.crypt_core.proofs.Canonical.{canonical_short, decimal_is_number, number_bytes, held_again, held_range}
 
 -- Characters
 
 -- a test that each character of the alphabet passes
-character_passes : (p : ℕ → Bool) → list_all p alphabet ≡ true → (c : ℕ) → IsCharacter c → p c ≡ true
-character_passes p all c h = All-contains (λ x. p x ≡ true) alphabet c (AllPass-from_list_all p alphabet all) h.in_alphabet
+character_passes : (p : ℕ → Bool) → list_all p alphabet ≡ true → (c : ℕ) → Contains alphabet c → p c ≡ true
+character_passes p all c h = All-contains (λ x. p x ≡ true) alphabet c (AllPass-from_list_all p alphabet all) h
 
 differs : ℕ → ℕ → Bool
 differs a b = not (eqb a b)
@@ -59,16 +60,16 @@ byte_means b h =
 bytes_mean : (xs : List ℕ) → list_all is_byte xs ≡ true → All IsSettingByte xs
 bytes_mean xs all = All-weaker (λ x. is_byte x ≡ true) IsSettingByte byte_means xs (AllPass-from_list_all is_byte xs all)
 
-pub character_is_byte : (c : ℕ) → IsCharacter c → IsSettingByte c
+pub character_is_byte : (c : ℕ) → Contains alphabet c → IsSettingByte c
 unfolding is_byte differs alphabet
 character_is_byte c h = byte_means c (character_passes is_byte refl c h)
 
 -- neither `$` nor `=` is a character
-not_dollar : (c : ℕ) → IsCharacter c → c ≢ dollar
+not_dollar : (c : ℕ) → Contains alphabet c → c ≢ dollar
 unfolding differs alphabet
 not_dollar c h e = differs_means 36 c (character_passes (differs 36) refl c h) (sym e)
 
-not_equals : (c : ℕ) → IsCharacter c → c ≢ 61
+not_equals : (c : ℕ) → Contains alphabet c → c ≢ 61
 unfolding differs alphabet
 not_equals c h e = differs_means 61 c (character_passes (differs 61) refl c h) (sym e)
 
@@ -85,7 +86,7 @@ field_bytes : (ds : List ℕ) → IsRoundsNumber ds → All IsSettingByte (round
 unfolding is_byte differs
 field_bytes ds n = All-append IsSettingByte rounds_word (ds ++ codes "$") (bytes_mean rounds_word refl) (All-append IsSettingByte ds (codes "$") (number_bytes ds n) (bytes_mean (codes "$") refl))
 
-rounds_bytes : (count : ℕ) (flag : Bool) → 1000 ≤ count → count ≤ 999999999 → All IsSettingByte (cost_part (Sha256crypt (record { count = count; is_written = flag })))
+rounds_bytes : (count : ℕ) (flag : Bool) → min_rounds ≤ count → count ≤ max_rounds → All IsSettingByte (cost_part (Sha256crypt (record { count = count; is_written = flag })))
 rounds_bytes count true low high = field_bytes (decimal count) (decimal_is_number count (omega arith) (omega arith))
 rounds_bytes count false low high = All-nil IsSettingByte
 
@@ -93,43 +94,43 @@ cost_bytes : (scheme : Scheme) → HasCost scheme → All IsSettingByte (cost_pa
 cost_bytes Md5crypt c = All-nil IsSettingByte
 cost_bytes (Sha256crypt r) c = rounds_bytes r.count r.is_written c.0 c.1
 cost_bytes (Sha512crypt r) c = rounds_bytes r.count r.is_written c.0 c.1
-cost_bytes (Scrypt n) c = All-weaker IsCharacter IsSettingByte character_is_byte (scrypt_part n) (all_scrypt_part n)
+cost_bytes (Scrypt n) c = All-weaker (Contains alphabet) IsSettingByte character_is_byte (scrypt_part n) (all_scrypt_part n)
 
 -- The cost part
 
 -- no salt of characters begins with `rounds=`
-no_rounds : (salt : List ℕ) → All IsCharacter salt → BeginsWith (salt ++ []) rounds_word → ⊥
+no_rounds : (salt : List ℕ) → All (Contains alphabet) salt → BeginsWith (salt ++ []) rounds_word → ⊥
 no_rounds salt all (more, e) =
     let begins : salt ≡ rounds_word ++ more = sym (append-nil salt) ∙ e in
     let long : 6 < length salt = omega (arith, ap length begins) in
-    not_equals (get_or salt 6 0) (All-get_or IsCharacter salt 6 0 long all) (ap (λ (xs : List ℕ). get_or xs 6 0) begins)
+    not_equals (get_or salt 6 0) (All-get_or (Contains alphabet) salt 6 0 long all) (ap (λ (xs : List ℕ). get_or xs 6 0) begins)
 
 -- rounds without a field are the default
 abbrev IsMade : Scheme → Type 0
 IsMade Md5crypt = Unit {0}
-IsMade (Sha256crypt r) = r.is_written ≡ false → r.count ≡ 5000
-IsMade (Sha512crypt r) = r.is_written ≡ false → r.count ≡ 5000
+IsMade (Sha256crypt r) = r.is_written ≡ false → r.count ≡ default_rounds
+IsMade (Sha512crypt r) = r.is_written ≡ false → r.count ≡ default_rounds
 IsMade (Scrypt n) = Unit {0}
 
-rounds_spelled : (count : ℕ) (flag : Bool) (salt : List ℕ) → 1000 ≤ count → count ≤ 999999999 → (flag ≡ false → count ≡ 5000) → All IsCharacter salt → SpellsRounds (record { count = count; is_written = flag }) (cost_part (Sha256crypt (record { count = count; is_written = flag }))) (salt ++ [])
+rounds_spelled : (count : ℕ) (flag : Bool) (salt : List ℕ) → min_rounds ≤ count → count ≤ max_rounds → (flag ≡ false → count ≡ default_rounds) → All (Contains alphabet) salt → SpellsRounds (record { count = count; is_written = flag }) (cost_part (Sha256crypt (record { count = count; is_written = flag }))) (salt ++ [])
 rounds_spelled count true salt low high made all =
     let below : count < 2 ^ 64 = omega arith in
     (decimal count, decimal_is_number count (omega arith) below, refl, held_again count low high ∙ ap held (sym (decimal_is_IsNumeral count below).1))
 rounds_spelled count false salt low high made all = (refl, made refl, no_rounds salt all)
 
-cost_spelled : (scheme : Scheme) (salt : List ℕ) → HasCost scheme → IsMade scheme → All IsCharacter salt → SpellsCost scheme (cost_part scheme) (salt ++ [])
+cost_spelled : (scheme : Scheme) (salt : List ℕ) → HasCost scheme → IsMade scheme → All (Contains alphabet) salt → SpellsCost scheme (cost_part scheme) (salt ++ [])
 cost_spelled Md5crypt salt c m all = refl
 cost_spelled (Sha256crypt r) salt c m all = rounds_spelled r.count r.is_written salt c.0 c.1 m all
 cost_spelled (Sha512crypt r) salt c m all = rounds_spelled r.count r.is_written salt c.0 c.1 m all
 cost_spelled (Scrypt n) salt c m all = (refl, c.0, c.1)
 
-salt_kept : (m : Method) (salt : List ℕ) → length salt ≤ salt_limit m → All IsCharacter salt → KeepsSalt m salt salt
-salt_kept methods.Md5crypt salt short all = sym (take_all 8 salt short)
-salt_kept methods.Sha256crypt salt short all = sym (take_all 16 salt short)
-salt_kept methods.Sha512crypt salt short all = sym (take_all 16 salt short)
+salt_kept : (m : Method) (salt : List ℕ) → length salt ≤ salt_limit m → All (Contains alphabet) salt → KeepsSalt m salt salt
+salt_kept methods.Md5crypt salt short all = sym (take_all md5crypt_salt_limit salt short)
+salt_kept methods.Sha256crypt salt short all = sym (take_all shacrypt_salt_limit salt short)
+salt_kept methods.Sha512crypt salt short all = sym (take_all shacrypt_salt_limit salt short)
 salt_kept methods.Scrypt salt short all = (refl, record { short = short; characters = all })
 
-spelled : (scheme : Scheme) (salt : List ℕ) → HasCost scheme → IsMade scheme → length salt ≤ salt_limit (method_of scheme) → All IsCharacter salt → IsSetting (record { scheme = scheme; salt = salt })
+spelled : (scheme : Scheme) (salt : List ℕ) → HasCost scheme → IsMade scheme → length salt ≤ salt_limit (method_of scheme) → All (Contains alphabet) salt → IsSetting (record { scheme = scheme; salt = salt })
 spelled scheme salt c m short all =
     let kept : Kept = record { scheme = scheme; salt = salt } in (
       canonical_text kept,
@@ -137,11 +138,11 @@ spelled scheme salt c m short all =
         is_text = record {
           short = omega (arith, canonical_short scheme salt c short, length-append (prefix (method_of scheme)) (cost_part scheme ++ salt), length-append (cost_part scheme) salt);
           bytes = All-append IsSettingByte (prefix (method_of scheme)) (cost_part scheme ++ salt) (prefix_bytes (method_of scheme))
-              (All-append IsSettingByte (cost_part scheme) salt (cost_bytes scheme c) (All-weaker IsCharacter IsSettingByte character_is_byte salt all));
+              (All-append IsSettingByte (cost_part scheme) salt (cost_bytes scheme c) (All-weaker (Contains alphabet) IsSettingByte character_is_byte salt all));
         };
         field = salt;
         rest = [];
-        is_field = record { no_dollar = All-weaker IsCharacter (λ b. b ≢ dollar) not_dollar salt all; ended = tt };
+        is_field = record { no_dollar = All-weaker (Contains alphabet) (λ b. b ≢ dollar) not_dollar salt all; ended = tt };
         scheme = record {
           part = cost_part scheme;
           parts = ap (λ (x : List ℕ). prefix (method_of scheme) ++ (cost_part scheme ++ x)) (sym (append-nil salt));
@@ -153,24 +154,25 @@ spelled scheme salt c m short all =
 
 -- What is made
 
-pub accepted_at : (log_n : ℕ) → 0 < log_n → log_n ≤ 18 → HasCost (Scrypt (record { log_n = log_n; r = 32; p = 1 }))
-accepted_at log_n some high =
-    let power : 2 ^ log_n ≤ 2 ^ 18 = pow_mono high in (
+pub accepted_at : (cost : ℕ) → cost ≤ max_cost → HasCost (Scrypt (scrypt_cost cost))
+accepted_at cost high =
+    let log_high : cost + 7 ≤ max_cost + 7 = omega arith in
+    let power : 2 ^ (cost + 7) ≤ 2 ^ (max_cost + 7) = pow_mono log_high in (
       record { log_n = omega arith; r = omega arith; p = omega arith },
       record {
-        in_range = record { above_one = some; below = omega arith; some_block = omega arith; some_part = omega arith };
+        in_range = record { above_one = omega arith; below = omega arith; some_block = omega arith; some_part = omega arith };
         within = omega (arith, power);
       },
     )
 
 -- the numbers of a cost that scrypt takes are accepted
 pub made_cost_accepted : (cost : ℕ) → TakesCost methods.Scrypt cost → HasCost (Scrypt (made_cost cost))
-made_cost_accepted cost (inl none) = subst (λ (c : ℕ). HasCost (Scrypt (made_cost c))) (sym none) (accepted_at 14 (omega arith) (omega arith))
+made_cost_accepted cost (inl none) = subst (λ (c : ℕ). HasCost (Scrypt (made_cost c))) (sym none) (accepted_at default_cost (omega arith))
 made_cost_accepted cost (inr range) =
     let some : eqb cost 0 ≡ false = ne_eqb cost 0 (λ e. omega arith) in
-    subst (λ (b : Bool). HasCost (Scrypt (record { log_n = cond b 7 cost + 7; r = 32; p = 1 }))) (sym some) (accepted_at (cost + 7) (omega arith) (omega arith))
+    subst (λ (b : Bool). HasCost (Scrypt (scrypt_cost (cond b default_cost cost)))) (sym some) (accepted_at cost (omega arith))
 
-rounds_made : (b : Bool) (cost : ℕ) → HasCost (Sha256crypt (cond b (record { count = 5000; is_written = false }) (record { count = held cost; is_written = true }))) × IsMade (Sha256crypt (cond b (record { count = 5000; is_written = false }) (record { count = held cost; is_written = true })))
+rounds_made : (b : Bool) (cost : ℕ) → HasCost (Sha256crypt (cond b (record { count = default_rounds; is_written = false }) (record { count = held cost; is_written = true }))) × IsMade (Sha256crypt (cond b (record { count = default_rounds; is_written = false }) (record { count = held cost; is_written = true })))
 rounds_made true cost = ((omega arith, omega arith), λ e. refl)
 rounds_made false cost = (held_range cost, λ e. absurd (cc e))
 
@@ -192,7 +194,7 @@ made_is_setting m cost salt h =
     let bounded = made_bounded m cost h.taken in
     spelled (made_scheme m cost) salt bounded.0 bounded.1 (subst (λ (k : Method). length salt ≤ salt_limit k) (sym (made_method m cost)) h.short) h.characters
 
-pub limit_below : (m : Method) → salt_limit m ≤ 86
+pub limit_below : (m : Method) → salt_limit m ≤ scrypt_salt_limit
 limit_below methods.Md5crypt = omega arith
 limit_below methods.Sha256crypt = omega arith
 limit_below methods.Sha512crypt = omega arith
@@ -200,7 +202,7 @@ limit_below methods.Scrypt = omega arith
 
 -- Refusals
 
-pub make_refused_cost : (m : Method) (cost : ℕ) (salt : List ℕ) → 0 < length salt → length salt ≤ salt_limit m → All IsCharacter salt → (TakesCost m cost → ⊥) → IsMakeRefused m cost salt Cost
+pub make_refused_cost : (m : Method) (cost : ℕ) (salt : List ℕ) → 0 < length salt → length salt ≤ salt_limit m → All (Contains alphabet) salt → (TakesCost m cost → ⊥) → IsMakeRefused m cost salt Cost
 make_refused_cost m cost salt some short all bad = record { breaks = bad; first = earlier }
   where
     earlier : (f : MakeFault) → make_rule_number f < 3 → BreaksMake f m cost salt → ⊥

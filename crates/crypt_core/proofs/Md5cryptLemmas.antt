@@ -1,15 +1,15 @@
 -- Lemmas on the messages of md5crypt.
+use Rattle.crypt_core.specs.Passwords.{password_limit}
 use Rattle.std.proofs.Common.{◌≡◌, ℕ, suc, ◌+◌, ◌*◌, List, [], ◌∷◌, ◌++◌, length, take, codes, arith, refl, ap, ◌∙◌}
 use Rattle.std.specs.Prelude.{sum_by}
 use Rattle.std.proofs.lemmas.List.{length-append}
-use Rattle.prims_core.specs.Digests.{md5}
+use Rattle.prims_core.specs.Digests.{length-md5, md5}
 use Rattle.prims_core.specs.Meter.{AreInAll}
-use Rattle.prims_core.specs.contracts.counted.counted_md5.CountedMd5Counted.TheImpl.Laws.{length_digest-law}
 use Rattle.crypt_core.specs.Cycle.{binary_digits, cycle, digit_pieces}
-use Rattle.crypt_core.specs.Md5crypt.{md5crypt_message, md5crypt_messages, opening_message}
+use Rattle.crypt_core.specs.Md5crypt.{md5crypt_message, md5crypt_messages, opening_message, md5crypt_rounds}
 use Rattle.crypt_core.specs.RoundMessage.{round_message, salted_twice}
 use Rattle.crypt_core.specs.Work.{md5crypt_bytes}
-use Rattle.crypt_core.proofs.CycleLemmas.{length-cycle, length-single_pieces}
+use Rattle.crypt_core.proofs.CycleLemmas.{digit_bytes-ones, length-cycle, length-digit_pieces}
 use Rattle.crypt_core.proofs.MessageLists.{length-messages_to, length-round_message, length-salted_twice, messages_to, round_length}
 use Rattle.crypt_core.proofs.WorkSums.{rounds_sum}
 
@@ -17,7 +17,7 @@ pub messages-two : (p s : List ℕ) → messages_to (md5crypt_message p s) 2 ≡
 unfolding messages_to md5crypt_message
 messages-two p s = refl
 
-pub messages-all : (p s : List ℕ) → messages_to (md5crypt_message p s) 1002 ≡ md5crypt_messages p s
+pub messages-all : (p s : List ℕ) → messages_to (md5crypt_message p s) (md5crypt_rounds + 2) ≡ md5crypt_messages p s
 unfolding messages_to md5crypt_messages
 messages-all p s = refl
 
@@ -36,13 +36,13 @@ length-message_round p s i =
     let before = md5 (md5crypt_message p s (i + 1)) in
     ap length (message-round p s i)
     ∙ (length-round_message i before p s
-    ∙ ap (λ x. round_length i x (length p) (length s)) (length_digest-law (md5crypt_message p s (i + 1))))
+    ∙ ap (λ x. round_length i x (length p) (length s)) (length-md5 (md5crypt_message p s (i + 1))))
 
 -- a byte for each digit of the password's length; an empty password has none, and no first byte
 pub length-digits : (p : List ℕ) → length (digit_pieces (0 ∷ []) (take 1 p) (length p)) ≡ length (binary_digits (length p))
 unfolding binary_digits
 length-digits [] = refl
-length-digits (x ∷ p) = length-single_pieces 0 x (suc (length p))
+length-digits (x ∷ p) = length-digit_pieces (0 ∷ []) (x ∷ []) (suc (length p)) ∙ digit_bytes-ones (suc (length p))
 
 pub length-opening : (p s : List ℕ) → length (opening_message p s) ≡ 2 * length p + length s + 3 + length (binary_digits (length p))
 length-opening p s =
@@ -58,13 +58,17 @@ length-opening p s =
       length-digits p,
     )
 
+-- no less than the bytes of any message
+abbrev pub message_limit : ℕ
+message_limit = 4 * password_limit
+
 -- all messages: how many, and how many bytes
-pub messages-in_all : (p s : List ℕ) → AreInAll (md5crypt_messages p s) 1002 (md5crypt_bytes (length p) (length s))
+pub messages-in_all : (p s : List ℕ) → AreInAll (md5crypt_messages p s) (md5crypt_rounds + 2) (md5crypt_bytes (length p) (length s))
 messages-in_all p s = rw (← messages-all p s) (record {
-  number = length-messages_to (md5crypt_message p s) 1002;
+  number = length-messages_to (md5crypt_message p s) (md5crypt_rounds + 2);
   sum = omega (
     arith,
-    rounds_sum (md5crypt_message p s) 2 16 (length p) (length s) (length-message_round p s) 1000,
+    rounds_sum (md5crypt_message p s) 2 16 (length p) (length s) (length-message_round p s) md5crypt_rounds,
     ap (sum_by length) (messages-two p s),
     length-salted_twice p s,
     length-opening p s,

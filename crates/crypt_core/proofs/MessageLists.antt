@@ -1,4 +1,6 @@
 -- Lists of messages that are given by their number, the first message, and the message of a round.
+use Rattle.crypt_core.specs.Methods.{shacrypt_salt_limit}
+use Rattle.crypt_core.specs.Passwords.{password_limit}
 use Rattle.std.proofs.Common.{◌≡◌, ℕ, ◌+◌, ◌*◌, ◌%◌, ◌≤◌, Bool, true, false, cond, nat_eq, List, [], ◌∷◌, ◌++◌, length, map, arith}
 use Rattle.std.specs.List.{range_with_len}
 use Rattle.std.proofs.lemmas.List.{length-append}
@@ -28,9 +30,9 @@ round_length i x p q = x + p + cond (nat_eq (i % 3) 0) 0 q + cond (nat_eq (i % 7
 pub length-round_message : (i : ℕ) (x p q : List ℕ)
     → length (round_message i x p q) ≡ round_length i (length x) (length p) (length q)
 length-round_message i x p q = go (nat_eq (i % 2) 1) (nat_eq (i % 3) 0) (nat_eq (i % 7) 0) where
-  sum : (first salt again last : List ℕ) → length (first ++ salt ++ again ++ last) ≡ length first + length salt + length again + length last
-  sum first salt again last =
-      omega (arith, length-append (first ++ salt ++ again) last, length-append (first ++ salt) again, length-append first salt)
+  sum : (start salt repeated end : List ℕ) → length (start ++ salt ++ repeated ++ end) ≡ length start + length salt + length repeated + length end
+  sum start salt repeated end =
+      omega (arith, length-append (start ++ salt ++ repeated) end, length-append (start ++ salt) repeated, length-append start salt)
 
   ends : (odd : Bool) → length (cond odd p x) + length (cond odd x p) ≡ length x + length p
   ends true = omega arith
@@ -47,6 +49,10 @@ length-round_message i x p q = go (nat_eq (i % 2) 1) (nat_eq (i % 3) 0) (nat_eq 
         length-cond third [] q,
         length-cond seventh [] p,
       )
+
+-- no less than the bytes of a round's message, with a digest of at most 64
+abbrev pub round_limit : ℕ
+round_limit = 64 + 2 * password_limit + shacrypt_salt_limit
 
 -- it has the digest and the password once, and may have the salt and the password again
 pub round_length-small : (i x p q : ℕ) → round_length i x p q ≤ x + 2 * p + q

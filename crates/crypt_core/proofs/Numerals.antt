@@ -2,11 +2,11 @@
 use Rattle.std.proofs.Common.{◌≡◌, ℕ, zero, suc, ◌*◌, ◌/◌, ◌%◌, ◌^◌, ◌<◌, true, eqb, List, ◌++◌, length, length-append, All, Contains, refl, sym, ap, ◌∙◌, arith}
 use Rattle.std.specs.List.{position_or_len}
 use Rattle.std.proofs.Math.Nat.{pow-suc}
-use Rattle.std.proofs.lemmas.List.Elements.{All-nil, All-cons, All-append, All-weaker, Contains-get_or}
+use Rattle.std.proofs.lemmas.List.Elements.{All-nil, All-cons, All-append, Contains-get_or}
 use Rattle.std.proofs.lemmas.Bool.{agree_below_at, eqb-true}
 use Rattle.prims_core.specs.Alphabet.{alphabet, character_of, numerals}
-use Rattle.kdf_core.specs.Params.{ScryptCost}
-use Rattle.crypt_core.specs.Settings.{scrypt_part, HasNumerals, IsCharacter}
+use Rattle.kdf_core.specs.Params.{ScryptCost, cost_of}
+use Rattle.crypt_core.specs.Settings.{scrypt_part, HasNumerals, scrypt_part_len}
 use Rattle.crypt_core.proofs.Fields.{same_front}
 
 -- where a character stands in the alphabet
@@ -37,14 +37,11 @@ numerals_unique (suc n) a b small_a small_b e =
     let high : a / 64 ≡ b / 64 = numerals_unique n (a / 64) (b / 64) (omega arith) (omega arith) tails in
     omega arith
 
-pub length-scrypt_part : (cost : ScryptCost) → length (scrypt_part cost) ≡ 11
+pub length-scrypt_part : (cost : ScryptCost) → length (scrypt_part cost) ≡ scrypt_part_len
 length-scrypt_part cost =
     rw (length-append, length-append, length-numerals, length-numerals, length-numerals) refl
 
-abbrev cost_of : ℕ → ℕ → ℕ → ScryptCost
-cost_of log_n r p = record { log_n = log_n; r = r; p = p }
-
--- eleven characters say three numbers, and no others
+-- a cost part says three numbers, and no others
 pub scrypt_part_unique : (a b : ScryptCost) (x y : List ℕ) → HasNumerals a → HasNumerals b → scrypt_part a ++ x ≡ scrypt_part b ++ y → (a ≡ b) × (x ≡ y)
 scrypt_part_unique a b x y fits_a fits_b e =
     let whole = same_front (scrypt_part a) (scrypt_part b) x y (length-scrypt_part a ∙ sym (length-scrypt_part b)) e in
@@ -55,7 +52,7 @@ scrypt_part_unique a b x y fits_a fits_b e =
     let p : a.p ≡ b.p = numerals_unique 5 a.p b.p fits_a.p fits_b.p second.1 in
     (ap (λ (n : ℕ). cost_of n a.r a.p) log_n ∙ ap (λ (n : ℕ). cost_of b.log_n n a.p) r ∙ ap (cost_of b.log_n b.r) p, whole.1)
 
-in_alphabet : (v : ℕ) → Contains alphabet (character_of (v % 64))
+pub in_alphabet : (v : ℕ) → Contains alphabet (character_of (v % 64))
 unfolding alphabet
 in_alphabet v = Contains-get_or alphabet (v % 64) 0 (omega arith)
 
@@ -65,7 +62,7 @@ all_numerals zero value = All-nil (Contains alphabet)
 all_numerals (suc n) value =
     All-cons (Contains alphabet) (character_of (value % 64)) (numerals n (value / 64)) (in_alphabet value) (all_numerals n (value / 64))
 
-pub all_scrypt_part : (cost : ScryptCost) → All IsCharacter (scrypt_part cost)
-all_scrypt_part cost = All-weaker (Contains alphabet) IsCharacter (λ c h. record { in_alphabet = h }) (scrypt_part cost)
-    (All-append (Contains alphabet) (numerals 1 cost.log_n) (numerals 5 cost.r ++ numerals 5 cost.p) (all_numerals 1 cost.log_n)
-    (All-append (Contains alphabet) (numerals 5 cost.r) (numerals 5 cost.p) (all_numerals 5 cost.r) (all_numerals 5 cost.p)))
+pub all_scrypt_part : (cost : ScryptCost) → All (Contains alphabet) (scrypt_part cost)
+all_scrypt_part cost =
+    All-append (Contains alphabet) (numerals 1 cost.log_n) (numerals 5 cost.r ++ numerals 5 cost.p) (all_numerals 1 cost.log_n)
+    (All-append (Contains alphabet) (numerals 5 cost.r) (numerals 5 cost.p) (all_numerals 5 cost.r) (all_numerals 5 cost.p))

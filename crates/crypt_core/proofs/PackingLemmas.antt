@@ -1,5 +1,5 @@
 -- Lemmas on numerals and on groups of a digest's bytes.
-use Rattle.std.proofs.Common.{◌≡◌, ℕ, zero, suc, ◌+◌, ◌/◌, ◌^◌, ◌<◌, ◌≤◌, List, [], ◌∷◌, ◌++◌, length, drop, get_or, nat_lt, arith, refl, Bor}
+use Rattle.std.proofs.Common.{◌≡◌, ℕ, zero, suc, ◌+◌, ◌^◌, ◌<◌, ◌≤◌, List, [], ◌∷◌, ◌++◌, length, drop, get_or, nat_lt, arith, refl, Bor}
 use Rattle.std.proofs.lemmas.List.Sums.{sum_by-cons}
 use Rattle.std.proofs.lemmas.Bool.{and_parts, ltb-true}
 use Rattle.std.proofs.lemmas.List.{length-append}
@@ -10,15 +10,10 @@ use Rattle.std.specs.List.{list_all}
 use Rattle.std.specs.Prelude.{sum_by}
 use Rattle.crypt_core.specs.declared.method.Method.{Method}
 use Rattle.crypt_core.specs.declared.method.Method.TheVariants.{Md5crypt, Sha256crypt, Sha512crypt, Scrypt}
-use Rattle.prims_core.specs.Alphabet.{alphabet, numerals}
+use Rattle.prims_core.specs.Alphabet.{alphabet}
 use Rattle.crypt_core.specs.Packing.{packed, packed_by, packed_group, group_number, digest_len, groups_of, md5crypt_groups, sha256crypt_groups, sha512crypt_groups, scrypt_groups, packed_len}
-use Rattle.crypt_core.proofs.Numerals.{all_numerals}
+use Rattle.crypt_core.proofs.Numerals.{all_numerals, length-numerals}
 use Rattle.crypt_core.specs.Private.Tables.{groups_in, is_group, AreGroups, IsGroup}
-
-pub length-numerals : (n value : ℕ) → length (numerals n value) ≡ n
-unfolding numerals
-length-numerals zero value = refl
-length-numerals (suc n) value = omega (arith, length-numerals n (value / 64))
 
 -- a group has one to three places
 pub group_size : (n : ℕ) (places : List ℕ) → IsGroup n places → (0 < length places) × (length places < 4)
@@ -71,7 +66,7 @@ groups_fit Sha256crypt = refl
 groups_fit Sha512crypt = refl
 groups_fit Scrypt = refl
 
-pub packed_len-small : (method : Method) → packed_len method ≤ 86
+pub packed_len-small : (method : Method) → packed_len method ≤ packed_len Sha512crypt
 packed_len-small Md5crypt = omega arith
 packed_len-small Sha256crypt = omega arith
 packed_len-small Sha512crypt = omega arith

@@ -7,7 +7,7 @@ use Rattle.std.proofs.lemmas.List.Elements.{All-cons, All-weaker}
 use Rattle.crypt_core.specs.declared.scheme.Rounds.{Rounds}
 use Rattle.crypt_core.specs.Private.Parts.{LacksNumber}
 use Rattle.crypt_core.specs.Refusals.{LacksRounds}
-use Rattle.crypt_core.specs.Settings.{dollar, IsField, rounds_word, rounds_field, IsRoundsNumber, held, SpellsRounds}
+use Rattle.crypt_core.specs.Settings.{dollar, IsField, rounds_word, rounds_field, IsRoundsNumber, held, SpellsRounds, max_rounds}
 use Rattle.crypt_core.proofs.Fields.{field_unique}
 
 -- the digits of a proper field go up to its `$`
@@ -53,11 +53,11 @@ rounds_unique a b p q x y ra rb e =
     let flag : a.is_written ≡ b.is_written = all.1 in
     (ap (λ (n : ℕ). rounds_of n a.is_written) count ∙ ap (rounds_of b.count) flag, all.2)
 
-held_min : (n : ℕ) → held (min n 999999999) ≡ held n
+held_min : (n : ℕ) → held (min n max_rounds) ≡ held n
 held_min n = omega arith
 
 -- a proper field, with its held number
-pub written_rounds : (after field digits rest : List ℕ) (number : ℕ) (r : Rounds) → after ≡ rounds_word ++ field → IsRoundsNumber digits → field ≡ digits ++ (dollar ∷ rest) → number ≡ min (digits_value 10 digits) 999999999 → r ≡ record { count = held number; is_written = true } → (part : List ℕ) × (after ≡ part ++ rest) × SpellsRounds r part rest
+pub written_rounds : (after field digits rest : List ℕ) (number : ℕ) (r : Rounds) → after ≡ rounds_word ++ field → IsRoundsNumber digits → field ≡ digits ++ (dollar ∷ rest) → number ≡ min (digits_value 10 digits) max_rounds → r ≡ record { count = held number; is_written = true } → (part : List ℕ) × (after ≡ part ++ rest) × SpellsRounds r part rest
 written_rounds after field digits rest number r begins is_number parts is made = (
   rounds_field digits,
   begins ∙ ap (λ (x : List ℕ). rounds_word ++ x) parts ∙ sym (field_parts digits rest),

@@ -1,39 +1,31 @@
 -- Lemmas on the messages of SHA-crypt.
-use Rattle.std.proofs.Common.{◌≡◌, ℕ, zero, suc, ◌+◌, ◌*◌, ◌≤◌, ◌<◌, List, [], ◌∷◌, ◌++◌, length, arith, refl, sym, ap, ◌∙◌}
-use Rattle.std.specs.Prelude.{sum_by}
+use Rattle.crypt_core.specs.Methods.{shacrypt_salt_limit}
+use Rattle.crypt_core.specs.Passwords.{password_limit}
+use Rattle.std.proofs.Common.{◌≡◌, ℕ, zero, suc, ◌+◌, ◌*◌, ◌≤◌, ◌<◌, List, [], ◌∷◌, ◌++◌, length, arith, refl, ap, ◌∙◌}
+use Rattle.std.specs.Prelude.{sum_by, All}
 use Rattle.std.proofs.lemmas.List.{length-append}
 use Rattle.std.proofs.Math.Nat.{mul-le-mul_right}
 use Rattle.prims_core.specs.Meter.{AreInAll}
 use Rattle.crypt_core.specs.Cycle.{cycle, digit_pieces}
 use Rattle.crypt_core.specs.RoundMessage.{round_message, salted_twice}
-use Rattle.crypt_core.specs.ShaCrypt.{password_repeated, password_string, salt_repeated, salt_string, sha_opening_digest, sha_opening_message, sha_round_message, shacrypt_digest, shacrypt_message, shacrypt_messages}
-use Rattle.crypt_core.specs.Work.{digit_bytes, first_byte, shacrypt_bytes}
-use Rattle.crypt_core.proofs.CycleLemmas.{digit_bytes-small, length-cycle, length-digit_pieces, length-repeat}
+use Rattle.crypt_core.specs.ShaCrypt.{password_repeated, password_string, salt_repeated, salt_string, sha_opening_digest, sha_digest_before, sha_opening_message, sha_round_message, shacrypt_message, shacrypt_messages}
+use Rattle.crypt_core.specs.Work.{digit_bytes, first_byte, shacrypt_bytes, greatest_byte}
+use Rattle.crypt_core.proofs.CycleLemmas.{digit_bytes-few, length-cycle, length-digit_pieces, length-repeat}
 use Rattle.crypt_core.proofs.MessageLists.{length-messages_to, length-round_message, length-salted_twice, messages_to, round_length}
 use Rattle.crypt_core.proofs.WorkSums.{rounds_sum}
 
--- the digest that round i begins with
-unfoldable pub before_round : (List ℕ → List ℕ) → List ℕ → List ℕ → ℕ → List ℕ
-before_round h p s zero = sha_opening_digest h p s
-before_round h p s (suc i) = h (sha_round_message h p s i)
+pub digest_before-zero : (h : List ℕ → List ℕ) (p s : List ℕ) → sha_digest_before h p s 0 ≡ sha_opening_digest h p s
+unfolding sha_digest_before
+digest_before-zero h p s = refl
 
-pub before_round-zero : (h : List ℕ → List ℕ) (p s : List ℕ) → before_round h p s 0 ≡ sha_opening_digest h p s
-unfolding before_round
-before_round-zero h p s = refl
-
-pub before_round-more : (h : List ℕ → List ℕ) (p s : List ℕ) (i : ℕ) → before_round h p s (i + 1) ≡ h (sha_round_message h p s i)
-unfolding before_round
-before_round-more h p s i = let next : i + 1 ≡ suc i = omega arith in rw next refl
-
--- a round's message is made of the digest that the round begins with
-pub message-round : (h : List ℕ → List ℕ) (p s : List ℕ) (i : ℕ)
-    → sha_round_message h p s i ≡ round_message i (before_round h p s i) (password_string h p) (salt_string h p s)
-unfolding sha_round_message before_round
-message-round h p s zero = refl
-message-round h p s (suc i) = refl
+pub digest_before-more : (h : List ℕ → List ℕ) (p s : List ℕ) (i : ℕ)
+    → sha_digest_before h p s (i + 1) ≡ h (sha_round_message h p s i (sha_digest_before h p s i))
+unfolding sha_digest_before
+digest_before-more h p s i = let next : i + 1 ≡ suc i = omega arith in rw next refl
 
 -- the message of round i is number i + 4
-pub message-number : (h : List ℕ → List ℕ) (p s : List ℕ) (i : ℕ) → shacrypt_message h p s (i + 4) ≡ sha_round_message h p s i
+pub message-number : (h : List ℕ → List ℕ) (p s : List ℕ) (i : ℕ)
+    → shacrypt_message h p s (i + 4) ≡ sha_round_message h p s i (sha_digest_before h p s i)
 unfolding shacrypt_message
 message-number h p s i = let number : i + 4 ≡ suc (suc (suc (suc i))) = omega arith in rw number refl
 
@@ -47,18 +39,13 @@ pub messages-all : (h : List ℕ → List ℕ) (p s : List ℕ) (rounds : ℕ)
 unfolding messages_to shacrypt_messages
 messages-all h p s rounds = refl
 
--- what the last round leaves
-pub digest-last : (h : List ℕ → List ℕ) (p s : List ℕ) (rounds : ℕ) → 0 < rounds → shacrypt_digest h p s rounds ≡ before_round h p s rounds
-unfolding shacrypt_digest shacrypt_message before_round
-digest-last h p s zero some = absurd (omega arith)
-digest-last h p s (suc i) some = let number : suc i + 3 ≡ suc (suc (suc (suc i))) = omega arith in rw number refl
-
 pub round_is : (h : List ℕ → List ℕ) (p s : List ℕ) (i : ℕ) (x q r : List ℕ)
-    → x ≡ before_round h p s i → q ≡ password_string h p → r ≡ salt_string h p s → round_message i x q r ≡ sha_round_message h p s i
+    → x ≡ sha_digest_before h p s i → q ≡ password_string h p → r ≡ salt_string h p s
+    → round_message i x q r ≡ sha_round_message h p s i (sha_digest_before h p s i)
 round_is h p s i x q r digest password salt =
     ap (λ y. round_message i y q r) digest
-    ∙ (ap (λ y. round_message i (before_round h p s i) y r) password
-    ∙ (ap (λ y. round_message i (before_round h p s i) (password_string h p) y) salt ∙ sym (message-round h p s i)))
+    ∙ (ap (λ y. round_message i (sha_digest_before h p s i) y r) password
+    ∙ ap (λ y. round_message i (sha_digest_before h p s i) (password_string h p) y) salt)
 
 pub length-sha_opening : (h : List ℕ → List ℕ) (p s : List ℕ)
     → length (sha_opening_message h p s) ≡ 2 * length p + length s + digit_bytes (length (h (salted_twice p s))) (length p) (length p)
@@ -75,32 +62,42 @@ length-sha_opening h p s =
       length-digit_pieces b p (length p),
     )
 
--- the four messages before the rounds have at most 2^20 bytes
-pub start_bytes : (h : List ℕ → List ℕ) (p s : List ℕ) (times : ℕ) → length p ≤ 512 → length s ≤ 16 → length (h (salted_twice p s)) ≤ 512 → times ≤ 271
-    → length (salted_twice p s) + length (sha_opening_message h p s) + length p * length p + times * length s ≤ 1048576
-start_bytes h p s times short salt_short small few =
-    omega (
-      arith,
-      length-salted_twice p s,
-      length-sha_opening h p s,
-      digit_bytes-small (length (h (salted_twice p s))) (length p) 512 small short,
-      mul-le-mul_right (length p) short,
-      mul-le-mul_right (length s) few,
-    )
+-- no less than the bytes of the four messages before the rounds
+abbrev pub start_limit : ℕ
+start_limit = 4 * (password_limit * password_limit)
 
 -- where each digest has so many bytes
 module _ (h : List ℕ → List ℕ) (digest : ℕ) (length-digest : (m : List ℕ) → length (h m) ≡ digest) (p s : List ℕ) where
-  length-before_round : (i : ℕ) → length (before_round h p s i) ≡ digest
-  unfolding before_round
-  length-before_round zero = length-digest (sha_opening_message h p s)
-  length-before_round (suc i) = length-digest (sha_round_message h p s i)
+  -- the four messages before the rounds stay within the limit
+  pub start_bytes : (times : ℕ) → digest ≤ 64 → length p ≤ password_limit → length s ≤ shacrypt_salt_limit → times ≤ 16 + greatest_byte
+      → length (salted_twice p s) + length (sha_opening_message h p s) + length p * length p + times * length s ≤ start_limit
+  start_bytes times small short salt_short few =
+      let below : length (h (salted_twice p s)) ≤ password_limit = omega (arith, length-digest (salted_twice p s), small) in
+      omega (
+        arith,
+        length-salted_twice p s,
+        length-sha_opening h p s,
+        digit_bytes-few (length (h (salted_twice p s))) (length p) password_limit (length p) below short,
+        mul-le-mul_right (length p) short,
+        mul-le-mul_right (length s) few,
+      )
+
+  -- A has a first byte
+  pub first_byte-below : 1 ≤ digest → ((m : List ℕ) → All (λ b. b < 256) (h m)) → first_byte h p s < 256
+  first_byte-below some bytes =
+      bytes (sha_opening_message h p s) 0 0 (omega (arith, length-digest (sha_opening_message h p s), some))
+
+  length-digest_before : (i : ℕ) → length (sha_digest_before h p s i) ≡ digest
+  unfolding sha_digest_before
+  length-digest_before zero = length-digest (sha_opening_message h p s)
+  length-digest_before (suc i) = length-digest (sha_round_message h p s i (sha_digest_before h p s i))
 
   pub length-message_round : (i : ℕ) → length (shacrypt_message h p s (i + 4)) ≡ round_length i digest (length p) (length s)
   length-message_round i =
-      let whole = length-round_message i (before_round h p s i) (password_string h p) (salt_string h p s) in
+      let whole = length-round_message i (sha_digest_before h p s i) (password_string h p) (salt_string h p s) in
       let password = length-cycle (h (password_repeated p)) (length p) in
       let salt = length-cycle (h (salt_repeated h p s)) (length s) in
-      rw (message-number h p s i, message-round h p s i, whole, length-before_round i, password, salt) refl
+      rw (message-number h p s i, whole, length-digest_before i, password, salt) refl
 
   -- all messages: how many, and how many bytes
   pub messages-in_all : (rounds : ℕ)

@@ -1,4 +1,4 @@
--- What the steps of reading find: a field, a number of rounds, scrypt's eleven characters.
+-- What the steps of reading find: a field, a number of rounds, the characters of scrypt's cost part.
 use Rattle.std.proofs.Common.{◌≡◌, ◌≢◌, ℕ, zero, suc, ◌+◌, ◌-◌, ◌*◌, ◌≤◌, ◌<◌, ◌^◌, Bool, true, false, cond, eqb, List, [], ◌∷◌, ◌++◌, length, take, drop, get_or, All, Contains, Option, Some, None, refl, sym, ap, subst, ◌∙◌, append_assoc, add-one, arith}
 use Rattle.std.specs.Prelude.{IfNone, min}
 use Rattle.std.specs.List.{position, position_or_len}
@@ -8,12 +8,12 @@ use Rattle.std.proofs.lemmas.Bool.{eqb-true, eqb-false, ltb-false}
 use Rattle.std.proofs.lemmas.List.{append-nil, take-append-drop, take-append-le, drop-append-le, get_or-take, get_or_append_left, length-append, length-take, length-drop}
 use Rattle.std.proofs.lemmas.List.Sums.{fails_before_first}
 use Rattle.std.proofs.lemmas.List.Quantifiers.{position-Some}
-use Rattle.std.proofs.lemmas.List.Elements.{All-from_get_or, All-get_or, All-take, All-drop, All-weaker}
+use Rattle.std.proofs.lemmas.List.Elements.{All-from_get_or, All-get_or, All-take, All-drop}
 use Rattle.std.proofs.lemmas.Int.Digits.{digits_value_more}
 use Rattle.std.proofs.lemmas.Str.{digit_value_digit}
 use Rattle.prims_core.specs.Alphabet.{alphabet, character_of, numerals}
 use Rattle.crypt_core.specs.Refusals.{LacksCost}
-use Rattle.crypt_core.specs.Settings.{dollar, IsEndOfField, IsField, IsRoundsNumber, scrypt_part, HasNumerals, IsCharacter}
+use Rattle.crypt_core.specs.Settings.{dollar, IsEndOfField, IsField, IsRoundsNumber, scrypt_part, HasNumerals, max_rounds, scrypt_part_len}
 use Rattle.crypt_core.proofs.Fields.{field_unique}
 use Rattle.crypt_core.proofs.Rounds.{digits_are_field}
 
@@ -86,41 +86,41 @@ digit_range (d ∷ ds) zero number lt = (omega (arith, number.0), number.1)
 digit_range (d ∷ ds) (suc i) number lt = number.2 i 0 (omega arith)
 
 -- one more digit, held
-pub held_more : (ds : List ℕ) (i number digit : ℕ) → i < length ds → IsRoundsNumber ds → digit ≡ get_or ds i 0 → number ≡ min (digits_value 10 (take i ds)) 999999999 → min (number * 10 + (digit - 48)) 999999999 ≡ min (digits_value 10 (take (i + 1) ds)) 999999999
+pub held_more : (ds : List ℕ) (i number digit : ℕ) → i < length ds → IsRoundsNumber ds → digit ≡ get_or ds i 0 → number ≡ min (digits_value 10 (take i ds)) max_rounds → min (number * 10 + (digit - 48)) max_rounds ≡ min (digits_value 10 (take (i + 1) ds)) max_rounds
 held_more ds i number digit lt is_number is held_so_far =
     let range = digit_range ds i is_number lt in
     omega (arith, digits_value_more 10 ds i lt, digit_value_digit (get_or ds i 0) range, range, is, held_so_far)
 
--- The eleven characters of scrypt's cost part
+-- The characters of scrypt's cost part
 
--- a byte outside the alphabet among the eleven
+-- a byte outside the alphabet among them
 pub lacks_first : (after : List ℕ) → (Contains alphabet (get_or after 0 0) → ⊥) → LacksCost after
-lacks_first after outside part rest eleven all parts =
+lacks_first after outside part rest len all parts =
     outside (subst (λ (xs : List ℕ). Contains alphabet (get_or xs 0 0)) (sym parts)
-    (rw (get_or_append_left part rest 0 0 (omega arith)) (All-get_or IsCharacter part 0 0 (omega arith) all).in_alphabet))
+    (rw (get_or_append_left part rest 0 0 (omega arith)) (All-get_or (Contains alphabet) part 0 0 (omega arith) all)))
 
--- five characters of the eleven
-pub lacks_group : (after : List ℕ) (i : ℕ) → i + 5 ≤ 11 → ((length (take 5 (drop i after)) ≡ 5) × All (Contains alphabet) (take 5 (drop i after)) → ⊥) → LacksCost after
-lacks_group after i within outside part rest eleven all parts =
+-- five of the characters
+pub lacks_group : (after : List ℕ) (i : ℕ) → i + 5 ≤ scrypt_part_len → ((length (take 5 (drop i after)) ≡ 5) × All (Contains alphabet) (take 5 (drop i after)) → ⊥) → LacksCost after
+lacks_group after i within outside part rest len all parts =
     let group : take 5 (drop i after) ≡ take 5 (drop i part) =
     ap (λ (xs : List ℕ). take 5 (drop i xs)) parts
     ∙ ap (λ (xs : List ℕ). take 5 xs) (drop-append-le i part rest (omega arith))
     ∙ take-append-le 5 (drop i part) rest (rw length-drop (omega arith)) in
     outside (
       ap length group ∙ rw (length-take, length-drop) (omega arith),
-      subst (All (Contains alphabet)) (sym group) (All-weaker IsCharacter (Contains alphabet) (λ c h. h.in_alphabet) (take 5 (drop i part)) (All-take IsCharacter 5 (drop i part) (All-drop IsCharacter i part all))),
+      subst (All (Contains alphabet)) (sym group) (All-take (Contains alphabet) 5 (drop i part) (All-drop (Contains alphabet) i part all)),
     )
 
 -- too few bytes
-pub lacks_bytes : (after : List ℕ) → length after < 11 → LacksCost after
-lacks_bytes after short part rest eleven all parts = omega (arith, ap length parts, length-append part rest)
+pub lacks_bytes : (after : List ℕ) → length after < scrypt_part_len → LacksCost after
+lacks_bytes after short part rest len all parts = omega (arith, ap length parts, length-append part rest)
 
 one_numeral : (v : ℕ) → v < 64 → numerals 1 v ≡ character_of v ∷ []
 unfolding numerals
 one_numeral v below = ap (λ (w : ℕ). character_of w ∷ []) (omega arith)
 
--- the three numbers of eleven characters
-pub numbers_parts : (after : List ℕ) (v r p : ℕ) → 11 ≤ length after → v < 64 → character_of v ≡ get_or after 0 0 → r < 2 ^ 30 → numerals 5 r ≡ take 5 (drop 1 after) → p < 2 ^ 30 → numerals 5 p ≡ take 5 (drop 6 after) → (rest : List ℕ) × (after ≡ scrypt_part (record { log_n = v; r = r; p = p }) ++ rest) × HasNumerals (record { log_n = v; r = r; p = p })
+-- the three numbers of the characters
+pub numbers_parts : (after : List ℕ) (v r p : ℕ) → scrypt_part_len ≤ length after → v < 64 → character_of v ≡ get_or after 0 0 → r < 2 ^ 30 → numerals 5 r ≡ take 5 (drop 1 after) → p < 2 ^ 30 → numerals 5 p ≡ take 5 (drop 6 after) → (rest : List ℕ) × (after ≡ scrypt_part (record { log_n = v; r = r; p = p }) ++ rest) × HasNumerals (record { log_n = v; r = r; p = p })
 numbers_parts [] v r p long vs v_is rs r_is ps p_is = absurd (omega arith)
 numbers_parts (x ∷ xs) v r p long vs v_is rs r_is ps p_is =
     let first : numerals 1 v ≡ x ∷ [] = one_numeral v vs ∙ ap (λ (c : ℕ). c ∷ []) v_is in

@@ -50,13 +50,13 @@ rounds_bytes-more : (n x p q : ℕ) → rounds_bytes (n + 1) x p q ≡ rounds_by
 rounds_bytes-more n x p q = omega (arith, kept-more n 3 q (omega arith), kept-more n 7 p (omega arith))
 
 -- the bytes of the messages before the rounds, and of n rounds
-pub rounds_sum : (message : ℕ → List ℕ) (first x p q : ℕ) → ((i : ℕ) → length (message (i + first)) ≡ round_length i x p q)
-    → (n : ℕ) → sum_by length (messages_to message (n + first)) ≡ sum_by length (messages_to message first) + rounds_bytes n x p q
-rounds_sum message first x p q each zero =
-    let none : zero + first ≡ first = omega arith in
+pub rounds_sum : (message : ℕ → List ℕ) (before x p q : ℕ) → ((i : ℕ) → length (message (i + before)) ≡ round_length i x p q)
+    → (n : ℕ) → sum_by length (messages_to message (n + before)) ≡ sum_by length (messages_to message before) + rounds_bytes n x p q
+rounds_sum message before x p q each zero =
+    let none : zero + before ≡ before = omega arith in
     rw none (omega arith)
-rounds_sum message first x p q each (suc n) =
-    let next : suc n + first ≡ n + first + 1 = omega arith in
+rounds_sum message before x p q each (suc n) =
+    let next : suc n + before ≡ n + before + 1 = omega arith in
     let more : suc n ≡ n + 1 = omega arith in
-    rw (next, messages-more message (n + first), sum_by_push length (messages_to message (n + first)) (message (n + first)), more)
-    (omega (arith, rounds_sum message first x p q each n, each n, rounds_bytes-more n x p q))
+    rw (next, messages-more message (n + before), sum_by_push length (messages_to message (n + before)) (message (n + before)), more)
+    (omega (arith, rounds_sum message before x p q each n, each n, rounds_bytes-more n x p q))

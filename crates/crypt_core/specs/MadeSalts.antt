@@ -8,7 +8,11 @@ use Rattle.prims_core.specs.Alphabet.{character_of}
 abbrev pub made_character : List ℕ → ℕ → ℕ
 made_character words i = character_of (slice_index words (i / 10) / 2 ^ (6 * (i % 10)) % 64)
 
--- a salt of so many characters, at most 30
+-- the most characters of a made salt
+abbrev pub made_salt_limit : ℕ
+made_salt_limit = 22
+
+-- a salt of so many characters, at most ten a word
 unfoldable pub made_salt : List ℕ → ℕ → List ℕ
 made_salt words len = map (made_character words) (range_with_len 0 len)
 

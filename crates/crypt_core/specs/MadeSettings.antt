@@ -1,5 +1,6 @@
 -- Settings that are made of a method, a cost and a salt, and which refusal these get instead.
-use Rattle.std.specs.Prelude.{◌≡◌, ℕ, ◌+◌, ◌<◌, ◌≤◌, ◌⊎◌, ◌==◌, if◌then◌else◌, true, false, List, length, All}
+use Rattle.std.specs.Prelude.{◌≡◌, ℕ, ◌+◌, ◌<◌, ◌≤◌, ◌⊎◌, ◌==◌, if◌then◌else◌, true, false, List, length, All, Contains}
+use Rattle.prims_core.specs.Alphabet.{alphabet}
 use Rattle.kdf_core.specs.Params.{ScryptCost}
 use Rattle.crypt_core.specs.declared.method.Method.{Method}
 use Rattle.crypt_core.specs.declared.method.Method.TheVariants as methods
@@ -9,15 +10,28 @@ use Rattle.crypt_core.specs.declared.scheme.Scheme.TheVariants.{Md5crypt, Sha256
 use Rattle.crypt_core.specs.declared.setting.fault.MakeFault.{MakeFault}
 use Rattle.crypt_core.specs.declared.setting.fault.MakeFault.TheVariants.{SaltLength, SaltCharacter, Cost}
 use Rattle.crypt_core.specs.Methods.{salt_limit}
-use Rattle.crypt_core.specs.Settings.{Kept, held, IsCharacter}
+use Rattle.crypt_core.specs.Settings.{Kept, default_rounds, held}
 
--- 5000 and no field for cost 0, and otherwise a field with the cost, held
+-- the default and no field for cost 0, and otherwise a field with the cost, held
 abbrev pub made_rounds : ℕ → Rounds
-made_rounds cost = if cost == 0 then record { count = 5000; is_written = false } else record { count = held cost; is_written = true }
+made_rounds cost = if cost == 0 then record { count = default_rounds; is_written = false } else record { count = held cost; is_written = true }
 
--- N = 2 ^ (c + 7), r = 32 and p = 1 for cost c, and cost 0 stands for 7
+-- the least cost of scrypt, the greatest, and the one that 0 stands for
+abbrev pub min_cost : ℕ
+min_cost = 6
+
+abbrev pub max_cost : ℕ
+max_cost = 11
+
+abbrev pub default_cost : ℕ
+default_cost = 7
+
+-- N = 2 ^ (c + 7), r = 32 and p = 1 for cost c
+abbrev pub scrypt_cost : ℕ → ScryptCost
+scrypt_cost c = record { log_n = c + 7; r = 32; p = 1 }
+
 abbrev pub made_cost : ℕ → ScryptCost
-made_cost cost = record { log_n = (if cost == 0 then 7 else cost) + 7; r = 32; p = 1 }
+made_cost cost = scrypt_cost (if cost == 0 then default_cost else cost)
 
 abbrev pub made_scheme : Method → ℕ → Scheme
 made_scheme methods.Md5crypt cost = Md5crypt
@@ -29,16 +43,16 @@ made_scheme methods.Scrypt cost = Scrypt (made_cost cost)
 abbrev pub made_setting : Method → ℕ → List ℕ → Kept
 made_setting method cost salt = record { scheme = made_scheme method cost; salt = salt }
 
--- scrypt takes the costs 0 and 6 to 11, and the other methods take any
+-- scrypt takes the costs 0 and from the least to the greatest, and the other methods take any
 abbrev pub TakesCost : Method → ℕ → Type 0
-TakesCost methods.Scrypt cost = (cost ≡ 0) ⊎ ((6 ≤ cost) × (cost ≤ 11))
+TakesCost methods.Scrypt cost = (cost ≡ 0) ⊎ ((min_cost ≤ cost) × (cost ≤ max_cost))
 TakesCost method cost = Unit {0}
 
 -- one character of crypt's alphabet or more, no more than the method keeps, and a cost that it takes
 pub record IsMakeable (method : Method) (cost : ℕ) (salt : List ℕ) : Type 0 where
   pub some : 0 < length salt
   pub short : length salt ≤ salt_limit method
-  pub characters : All IsCharacter salt
+  pub characters : All (Contains alphabet) salt
   pub taken : TakesCost method cost
 
 -- Refusals
@@ -51,7 +65,7 @@ make_rule_number Cost = 3
 -- the rule of a refusal holds of a method, a cost and a salt
 abbrev pub BreaksMake : MakeFault → Method → ℕ → List ℕ → Type 0
 BreaksMake SaltLength method cost salt = (length salt ≡ 0) ⊎ (salt_limit method < length salt)
-BreaksMake SaltCharacter method cost salt = ¬ All IsCharacter salt
+BreaksMake SaltCharacter method cost salt = ¬ All (Contains alphabet) salt
 BreaksMake Cost method cost salt = ¬ TakesCost method cost
 
 -- the rule holds, and no earlier one does

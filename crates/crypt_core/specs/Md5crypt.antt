@@ -1,10 +1,14 @@
 -- The scheme md5crypt of FreeBSD, whose texts begin with `$1$`: 1,002 messages, each but the first
 -- made with the digest of the one before.
-use Rattle.std.specs.Prelude.{ℕ, zero, suc, List, [], ◌∷◌, ◌++◌, length, take, map, codes}
+use Rattle.std.specs.Prelude.{ℕ, zero, suc, ◌+◌, List, [], ◌∷◌, ◌++◌, length, take, map, codes}
 use Rattle.std.specs.List.{range_with_len}
 use Rattle.prims_core.specs.Digests.{md5}
 use Rattle.crypt_core.specs.Cycle.{cycle, digit_pieces}
 use Rattle.crypt_core.specs.RoundMessage.{round_message, salted_twice}
+
+-- how many rounds follow the first two messages
+abbrev pub md5crypt_rounds : ℕ
+md5crypt_rounds = 1000
 
 -- the second message; a digit 1 of the password's length stands for a zero byte, and a 0 for the
 -- password's first byte
@@ -23,8 +27,8 @@ md5crypt_message password salt (suc (suc i)) =
 
 -- all messages in order
 unfoldable pub md5crypt_messages : List ℕ → List ℕ → List (List ℕ)
-md5crypt_messages password salt = map (md5crypt_message password salt) (range_with_len 0 1002)
+md5crypt_messages password salt = map (md5crypt_message password salt) (range_with_len 0 (md5crypt_rounds + 2))
 
 -- the digest of the last message
 unfoldable pub md5crypt_digest : List ℕ → List ℕ → List ℕ
-md5crypt_digest password salt = md5 (md5crypt_message password salt 1001)
+md5crypt_digest password salt = md5 (md5crypt_message password salt (md5crypt_rounds + 1))

@@ -29,9 +29,21 @@ prefix Sha256crypt = codes "$5$"
 prefix Sha512crypt = codes "$6$"
 prefix Scrypt = codes "$7$"
 
+-- the most bytes of salt that md5crypt keeps
+abbrev pub md5crypt_salt_limit : ℕ
+md5crypt_salt_limit = 8
+
+-- and SHA-crypt, over either digest
+abbrev pub shacrypt_salt_limit : ℕ
+shacrypt_salt_limit = 16
+
+-- and scrypt
+abbrev pub scrypt_salt_limit : ℕ
+scrypt_salt_limit = 86
+
 -- the most bytes of salt that the method keeps
 abbrev pub salt_limit : Method → ℕ
-salt_limit Md5crypt = 8
-salt_limit Sha256crypt = 16
-salt_limit Sha512crypt = 16
-salt_limit Scrypt = 86
+salt_limit Md5crypt = md5crypt_salt_limit
+salt_limit Sha256crypt = shacrypt_salt_limit
+salt_limit Sha512crypt = shacrypt_salt_limit
+salt_limit Scrypt = scrypt_salt_limit

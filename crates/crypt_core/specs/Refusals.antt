@@ -1,12 +1,13 @@
 -- Which refusal a text gets that is no setting: the first rule that it breaks.
-use Rattle.std.specs.Prelude.{◌≡◌, ℕ, ◌<◌, ◌⊎◌, List, ◌++◌, length, All}
+use Rattle.std.specs.Prelude.{◌≡◌, ℕ, ◌<◌, ◌⊎◌, List, ◌++◌, length, All, Contains}
+use Rattle.prims_core.specs.Alphabet.{alphabet}
 use Rattle.kdf_core.specs.Params.{ScryptCost, IsInRange, IsWithinCeiling}
 use Rattle.crypt_core.specs.declared.method.Method.{Method}
 use Rattle.crypt_core.specs.declared.method.Method.TheVariants as methods
 use Rattle.crypt_core.specs.declared.setting.fault.SettingFault.{SettingFault}
 use Rattle.crypt_core.specs.declared.setting.fault.SettingFault.TheVariants.{TooLong, BadCharacter, UnknownScheme, BadRounds, BadCost, ScryptRange, AboveCeiling, BadSalt}
 use Rattle.crypt_core.specs.Methods.{prefix}
-use Rattle.crypt_core.specs.Settings.{IsSettingByte, IsField, BeginsWith, rounds_word, IsRoundsNumber, rounds_field, scrypt_part, HasNumerals, IsCharacter, IsScryptSalt}
+use Rattle.crypt_core.specs.Settings.{setting_limit, IsSettingByte, IsField, BeginsWith, rounds_word, IsRoundsNumber, rounds_field, scrypt_part, scrypt_part_len, HasNumerals, IsScryptSalt}
 
 abbrev pub rule_number : SettingFault → ℕ
 rule_number TooLong = 1
@@ -27,9 +28,9 @@ pub record LacksRounds (after : List ℕ) : Type 0 where
   pub begins : BeginsWith after rounds_word
   pub no_field : (digits rest : List ℕ) → IsRoundsNumber digits → after ≡ rounds_field digits ++ rest → ⊥
 
--- fewer than eleven characters of crypt's alphabet stand there
+-- fewer characters of crypt's alphabet than scrypt's cost part has stand there
 abbrev pub LacksCost : List ℕ → Type 0
-LacksCost after = (part rest : List ℕ) → length part ≡ 11 → All IsCharacter part → after ≡ part ++ rest → ⊥
+LacksCost after = (part rest : List ℕ) → length part ≡ scrypt_part_len → All (Contains alphabet) part → after ≡ part ++ rest → ⊥
 
 -- a text of scrypt with these three numbers, and what follows them
 pub record IsScryptText (text : List ℕ) (cost : ScryptCost) (after : List ℕ) : Type 0 where
@@ -38,7 +39,7 @@ pub record IsScryptText (text : List ℕ) (cost : ScryptCost) (after : List ℕ)
 
 -- the rule of a refusal holds of the text
 abbrev pub Breaks : SettingFault → List ℕ → Type 0
-Breaks TooLong text = 384 < length text
+Breaks TooLong text = setting_limit < length text
 Breaks BadCharacter text = ¬ All IsSettingByte text
 Breaks UnknownScheme text = (method : Method) → ¬ BeginsWith text (prefix method)
 Breaks BadRounds text = (after : List ℕ) × IsShaText text after × LacksRounds after

@@ -1,5 +1,5 @@
 -- Settings: which text spells which, and the one canonical text of each (crypt(5)).
-use Rattle.std.specs.Prelude.{◌≡◌, ◌≢◌, ℕ, ◌^◌, ◌<◌, ◌≤◌, if◌then◌else◌, min, max, List, [], ◌∷◌, ◌++◌, length, take, All, Contains, MatchBool, decimal, codes}
+use Rattle.std.specs.Prelude.{◌≡◌, ◌≢◌, ℕ, ◌+◌, ◌^◌, ◌<◌, ◌≤◌, if◌then◌else◌, min, max, List, [], ◌∷◌, ◌++◌, length, take, All, Contains, MatchBool, decimal, codes}
 use Rattle.std.specs.Str.Parse.{digits_value}
 use Rattle.prims_core.specs.Alphabet.{alphabet, numerals}
 use Rattle.kdf_core.specs.Params.{ScryptCost, IsAccepted}
@@ -8,7 +8,7 @@ use Rattle.crypt_core.specs.declared.method.Method.TheVariants as methods
 use Rattle.crypt_core.specs.declared.scheme.Rounds.{Rounds}
 use Rattle.crypt_core.specs.declared.scheme.Scheme.{Scheme}
 use Rattle.crypt_core.specs.declared.scheme.Scheme.TheVariants.{Md5crypt, Sha256crypt, Sha512crypt, Scrypt}
-use Rattle.crypt_core.specs.Methods.{prefix, salt_limit}
+use Rattle.crypt_core.specs.Methods.{prefix, salt_limit, scrypt_salt_limit}
 
 -- what is kept of a text: the scheme with its cost, and the salt
 pub record Kept : Type 0 where
@@ -29,9 +29,13 @@ pub record IsSettingByte (b : ℕ) : Type 0 where
   pub to : b ≤ 126
   pub apart : ¬ Contains (codes ":;*!\\") b
 
--- at most 384 bytes, all of them setting bytes
+-- the most bytes of a setting's text
+abbrev pub setting_limit : ℕ
+setting_limit = 384
+
+-- no more bytes than the limit, all of them setting bytes
 pub record IsSettingText (text : List ℕ) : Type 0 where
-  pub short : length text ≤ 384
+  pub short : length text ≤ setting_limit
   pub bytes : All IsSettingByte text
 
 abbrev pub dollar : ℕ
@@ -60,18 +64,28 @@ abbrev pub IsRoundsNumber : List ℕ → Type 0
 IsRoundsNumber [] = ⊥
 IsRoundsNumber (d ∷ ds) = (49 ≤ d) × (d ≤ 57) × All (λ c. (48 ≤ c) × (c ≤ 57)) ds
 
--- the nearest number from 1000 to 999999999
+-- the fewest rounds, the most, and those of a text without a field
+abbrev pub min_rounds : ℕ
+min_rounds = 1000
+
+abbrev pub max_rounds : ℕ
+max_rounds = 999999999
+
+abbrev pub default_rounds : ℕ
+default_rounds = 5000
+
+-- the nearest number of rounds
 abbrev pub held : ℕ → ℕ
-held n = max 1000 (min n 999999999)
+held n = max min_rounds (min n max_rounds)
 
 abbrev pub rounds_field : List ℕ → List ℕ
 rounds_field digits = rounds_word ++ (digits ++ codes "$")
 
--- a field, and then the rounds are its number, held; or no field, and then they are 5000
+-- a field, and then the rounds are its number, held; or no field, and then they are the default
 abbrev pub SpellsRounds : Rounds → List ℕ → List ℕ → Type 0
 SpellsRounds rounds part after = MatchBool rounds.is_written
     ((digits : List ℕ) × IsRoundsNumber digits × (part ≡ rounds_field digits) × (rounds.count ≡ held (digits_value 10 digits)))
-    ((part ≡ []) × (rounds.count ≡ 5000) × ¬ BeginsWith after rounds_word)
+    ((part ≡ []) × (rounds.count ≡ default_rounds) × ¬ BeginsWith after rounds_word)
 
 -- The cost part of scrypt's texts
 
@@ -79,7 +93,11 @@ SpellsRounds rounds part after = MatchBool rounds.is_written
 abbrev pub scrypt_part : ScryptCost → List ℕ
 scrypt_part cost = numerals 1 cost.log_n ++ (numerals 5 cost.r ++ numerals 5 cost.p)
 
--- the numbers that eleven characters can say
+-- how many characters these are
+abbrev pub scrypt_part_len : ℕ
+scrypt_part_len = 1 + 5 + 5
+
+-- the numbers that so many characters can say
 pub record HasNumerals (cost : ScryptCost) : Type 0 where
   pub log_n : cost.log_n < 64
   pub r : cost.r < 2 ^ 30
@@ -94,14 +112,10 @@ SpellsCost (Sha256crypt rounds) part after = SpellsRounds rounds part after
 SpellsCost (Sha512crypt rounds) part after = SpellsRounds rounds part after
 SpellsCost (Scrypt cost) part after = (part ≡ scrypt_part cost) × HasNumerals cost × IsAccepted cost
 
--- a character of crypt's alphabet
-pub record IsCharacter (c : ℕ) : Type 0 where
-  pub in_alphabet : Contains alphabet c
-
--- at most 86 characters of crypt's alphabet
+-- no more characters than scrypt keeps, all of crypt's alphabet
 pub record IsScryptSalt (salt : List ℕ) : Type 0 where
-  pub short : length salt ≤ 86
-  pub characters : All IsCharacter salt
+  pub short : length salt ≤ scrypt_salt_limit
+  pub characters : All (Contains alphabet) salt
 
 -- what is kept of the salt's field
 abbrev pub KeepsSalt : Method → List ℕ → List ℕ → Type 0
@@ -138,3 +152,7 @@ cost_part (Scrypt cost) = scrypt_part cost
 -- it ends with the salt
 abbrev pub canonical_text : Kept → List ℕ
 canonical_text kept = prefix (method_of kept.scheme) ++ (cost_part kept.scheme ++ kept.salt)
+
+-- the most bytes of a canonical text: scrypt's are the longest
+abbrev pub canonical_limit : ℕ
+canonical_limit = length (prefix methods.Scrypt) + scrypt_part_len + scrypt_salt_limit

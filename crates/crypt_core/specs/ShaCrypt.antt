@@ -33,13 +33,14 @@ password_string h password = cycle (h (password_repeated password)) (length pass
 abbrev pub salt_string : (List ℕ → List ℕ) → List ℕ → List ℕ → List ℕ
 salt_string h password salt = cycle (h (salt_repeated h password salt)) (length salt)
 
--- step 21: the message of round i. Round 0 begins with A, and each other with the digest of the round
--- before.
-unfoldable pub sha_round_message : (List ℕ → List ℕ) → List ℕ → List ℕ → ℕ → List ℕ
-sha_round_message h password salt zero =
-    round_message 0 (sha_opening_digest h password salt) (password_string h password) (salt_string h password salt)
-sha_round_message h password salt (suc i) =
-    round_message (suc i) (h (sha_round_message h password salt i)) (password_string h password) (salt_string h password salt)
+-- step 21: the message of round i, where x is the digest before it
+abbrev pub sha_round_message : (List ℕ → List ℕ) → List ℕ → List ℕ → ℕ → List ℕ → List ℕ
+sha_round_message h password salt i x = round_message i x (password_string h password) (salt_string h password salt)
+
+-- the digest before round i: A before round 0, and then that of the round before
+unfoldable pub sha_digest_before : (List ℕ → List ℕ) → List ℕ → List ℕ → ℕ → List ℕ
+sha_digest_before h password salt zero = sha_opening_digest h password salt
+sha_digest_before h password salt (suc i) = h (sha_round_message h password salt i (sha_digest_before h password salt i))
 
 -- message k
 unfoldable pub shacrypt_message : (List ℕ → List ℕ) → List ℕ → List ℕ → ℕ → List ℕ
@@ -47,12 +48,13 @@ shacrypt_message h password salt zero = salted_twice password salt
 shacrypt_message h password salt (suc zero) = sha_opening_message h password salt
 shacrypt_message h password salt (suc (suc zero)) = password_repeated password
 shacrypt_message h password salt (suc (suc (suc zero))) = salt_repeated h password salt
-shacrypt_message h password salt (suc (suc (suc (suc i)))) = sha_round_message h password salt i
+shacrypt_message h password salt (suc (suc (suc (suc i)))) =
+    sha_round_message h password salt i (sha_digest_before h password salt i)
 
 -- all messages of so many rounds, in order
 unfoldable pub shacrypt_messages : (List ℕ → List ℕ) → List ℕ → List ℕ → ℕ → List (List ℕ)
 shacrypt_messages h password salt rounds = map (shacrypt_message h password salt) (range_with_len 0 (rounds + 4))
 
--- the digest of the last message
+-- the digest of the last message, which would stand before one more round
 unfoldable pub shacrypt_digest : (List ℕ → List ℕ) → List ℕ → List ℕ → ℕ → List ℕ
-shacrypt_digest h password salt rounds = h (shacrypt_message h password salt (rounds + 3))
+shacrypt_digest h password salt rounds = sha_digest_before h password salt rounds

@@ -1,34 +1,20 @@
 -- The work of a hash, as a meter counts it: the messages that are digested, and for scrypt the mixings
 -- and the memory, in closed form by the lengths of the password and the salt.
-use Rattle.std.specs.Prelude.{ℕ, ◌+◌, ◌-◌, ◌*◌, ◌^◌, ◌≤◌, ◌<◌, ◌==◌, List, length, slice_index, sum_by, if◌then◌else◌}
+use Rattle.std.specs.Prelude.{ℕ, ◌+◌, ◌-◌, ◌*◌, ◌^◌, ◌==◌, List, length, slice_index, sum_by, if◌then◌else◌}
 use Rattle.std.specs.Int.{div_ceil}
 use Rattle.prims_core.specs.Digests.{sha256, sha512}
-use Rattle.prims_core.specs.Meter.{Counts}
--- all five counts leave room for any hash: what `hash` wants of a meter
-pub use Rattle.kdf_core.specs.Scrypt.{HasRoom}
-use Rattle.kdf_core.specs.Scrypt.{halves_bytes, parts_bytes, scrypt_bytes, scrypt_digests, scrypt_mixes, table_bytes}
+-- a meter raised by some work, and work within other work or below a number
+pub use Rattle.prims_core.specs.Work.{raised_by, IsBelow, IsWithin}
+use Rattle.prims_core.specs.declared.work.Work.{Work}
+use Rattle.kdf_core.specs.Scrypt.{scrypt_work}
 use Rattle.crypt_core.specs.Cycle.{binary_digits}
+use Rattle.crypt_core.specs.Md5crypt.{md5crypt_rounds}
+use Rattle.crypt_core.specs.Packing.{digest_len}
 use Rattle.crypt_core.specs.Settings.{Kept}
 use Rattle.crypt_core.specs.ShaCrypt.{sha_opening_digest}
+use Rattle.crypt_core.specs.declared.method.Method.TheVariants as methods
 use Rattle.crypt_core.specs.declared.scheme.Scheme.{Scheme}
 use Rattle.crypt_core.specs.declared.scheme.Scheme.TheVariants.{Md5crypt, Sha256crypt, Sha512crypt, Scrypt}
-use Rattle.crypt_core.specs.declared.work.Work.{Work}
-
--- Counting
-
--- the two counts that digests raise leave room for any hash
-abbrev pub HasDigestRoom : Counts → Type 0
-HasDigestRoom counts = (counts.digests ≤ 2 ^ 120) × (counts.bytes ≤ 2 ^ 120)
-
--- the meter, raised by some work in all five counts
-abbrev pub raised_by : Counts → Work → Counts
-raised_by counts work = record {
-  digests = counts.digests + work.digests;
-  bytes = counts.bytes + work.bytes;
-  mixes = counts.mixes + work.mixes;
-  table = counts.table + work.table;
-  scratch = counts.scratch + work.scratch;
-}
 
 -- The digested bytes of each scheme, for a password and a salt of so many bytes
 
@@ -39,15 +25,19 @@ rounds_bytes n digest password salt =
     n * (digest + password) + (n - div_ceil n 3) * salt + (n - div_ceil n 7) * password
 
 -- md5crypt: two passwords and a salt; the same, with the prefix and a byte for each binary digit of the
--- password's length; 1000 rounds
+-- password's length; the rounds
 abbrev pub md5crypt_bytes : ℕ → ℕ → ℕ
 md5crypt_bytes password salt =
     2 * password + salt + (2 * password + salt + 3 + length (binary_digits password))
-    + rounds_bytes 1000 16 password salt
+    + rounds_bytes md5crypt_rounds (digest_len methods.Md5crypt) password salt
 
--- the bytes of a piece for each binary digit of n: so many for a 1, and so many for a 0
+-- the bytes of the piece for a binary digit: so many for a 1, and so many for a 0
+abbrev pub piece_bytes : ℕ → ℕ → ℕ → ℕ
+piece_bytes one other digit = if digit == 1 then one else other
+
+-- the bytes of a piece for each binary digit of n
 abbrev pub digit_bytes : ℕ → ℕ → ℕ → ℕ
-digit_bytes one other n = sum_by (λ digit. if digit == 1 then one else other) (binary_digits n)
+digit_bytes one other n = sum_by (piece_bytes one other) (binary_digits n)
 
 -- SHA-crypt: two passwords and a salt; the same, with a digest for each binary digit 1 of the password's
 -- length and the password for each 0; the password as often as it has bytes; the salt 16 times and once more for each unit of a; the rounds
@@ -65,18 +55,12 @@ digests_alone digests bytes = record { digests = digests; bytes = bytes; mixes =
 -- for a password and a salt of so many bytes, where a is the first byte of the digest that Drepper calls
 -- A; only SHA-crypt has it
 abbrev pub work_by : Scheme → ℕ → ℕ → ℕ → Work
-work_by Md5crypt a password salt = digests_alone 1002 (md5crypt_bytes password salt)
+work_by Md5crypt a password salt = digests_alone (md5crypt_rounds + 2) (md5crypt_bytes password salt)
 work_by (Sha256crypt rounds) a password salt =
-    digests_alone (rounds.count + 4) (shacrypt_bytes 32 a rounds.count password salt)
+    digests_alone (rounds.count + 4) (shacrypt_bytes (digest_len methods.Sha256crypt) a rounds.count password salt)
 work_by (Sha512crypt rounds) a password salt =
-    digests_alone (rounds.count + 4) (shacrypt_bytes 64 a rounds.count password salt)
-work_by (Scrypt cost) a password salt = record {
-  digests = scrypt_digests cost password 32;
-  bytes = scrypt_bytes cost password salt 32;
-  mixes = scrypt_mixes cost;
-  table = table_bytes cost;
-  scratch = parts_bytes cost + halves_bytes cost;
-}
+    digests_alone (rounds.count + 4) (shacrypt_bytes (digest_len methods.Sha512crypt) a rounds.count password salt)
+work_by (Scrypt cost) a password salt = scrypt_work cost password salt (digest_len methods.Scrypt)
 
 -- A's first byte, for a digest function
 abbrev pub first_byte : (List ℕ → List ℕ) → List ℕ → List ℕ → ℕ
@@ -95,22 +79,13 @@ work password kept =
 
 -- The bound that is known before hashing
 
+abbrev pub greatest_byte : ℕ
+greatest_byte = 255
+
 -- the same for a password of so many bytes, with the greatest byte in place of a
 abbrev pub work_bound : Kept → ℕ → Work
-work_bound kept password = work_by kept.scheme 255 password (length kept.salt)
+work_bound kept password = work_by kept.scheme greatest_byte password (length kept.salt)
 
--- no count is above that of the other
-pub record IsWithin (work most : Work) : Type 0 where
-  pub digests : work.digests ≤ most.digests
-  pub bytes : work.bytes ≤ most.bytes
-  pub mixes : work.mixes ≤ most.mixes
-  pub table : work.table ≤ most.table
-  pub scratch : work.scratch ≤ most.scratch
-
--- each count is below a number
-pub record IsBelow (work : Work) (limit : ℕ) : Type 0 where
-  pub digests : work.digests < limit
-  pub bytes : work.bytes < limit
-  pub mixes : work.mixes < limit
-  pub table : work.table < limit
-  pub scratch : work.scratch < limit
+-- what no count of a hash reaches, for any password and any setting
+abbrev pub work_limit : ℕ
+work_limit = 2 ^ 41

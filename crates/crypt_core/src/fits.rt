@@ -1,11 +1,12 @@
 //! Checking a stored text, as crypt(3) is used for it: a password fits where its hash by the setting that the
 //! text spells is the text.
 ghost use Rattle.std.specs.Prelude.{◌≡◌, ◌^◌, ◌↔◌, Err, IsTrue, IfOk};
+ghost use Rattle.prims_core.specs.Meter.{HasRoom};
 ghost use Rattle.crypt_core.specs.declared.setting.fault.SettingFault.{SettingFault as Refusal};
 ghost use Rattle.crypt_core.specs.Fits.{Compares, Fits};
 ghost use Rattle.crypt_core.specs.Refusals.{IsRefused};
 ghost use Rattle.crypt_core.specs.Settings.{Kept, Spells};
-ghost use Rattle.crypt_core.specs.Work.{work, HasRoom, IsBelow};
+ghost use Rattle.crypt_core.specs.Work.{work, work_limit, IsBelow};
 
 use crate::hash::{HashFault, hash};
 use crate::password::Password;
@@ -79,7 +80,7 @@ pub fn fits(
     requires { HasRoom meter.old }
     ensures verdict { IfOk result (λ verdict. IsTrue verdict ↔ Fits password.now stored.now) }
     ensures compared { Compares password.now stored.now meter.old meter.new result }
-    ensures below { (kept : Kept) → Spells stored.now kept → IsBelow (work password.now kept) (2 ^ 41) }
+    ensures below { (kept : Kept) → Spells stored.now kept → IsBelow (work password.now kept) work_limit }
     ensures each_refusal { (fault : Refusal) → IsRefused stored.now fault → result ≡ Err (FitFault.Setting fault) }
 {
     let setting = Setting::read(stored)?;

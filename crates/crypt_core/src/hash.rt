@@ -1,16 +1,19 @@
 //! The text of crypt(3): a password, hashed by a setting.
 ghost use Rattle.std.specs.Prelude.{◌≡◌, ◌^◌, ◌≤◌, ◌++◌, length, codes, IfOk, OnOk, OnErr};
+ghost use Rattle.prims_core.specs.Meter.{HasRoom};
+ghost use Rattle.kdf_core.specs.Params.{IsBounded};
 ghost use Rattle.kdf_core.specs.Scrypt.{scrypt, with_scrypt, IsAfterRefusal};
-ghost use Rattle.crypt_core.specs.Crypt.{crypt, digest_by, IsRefusedBy};
+ghost use Rattle.crypt_core.specs.declared.method.Method.TheVariants.{Scrypt};
+ghost use Rattle.crypt_core.specs.Crypt.{crypt, digest_by, hash_limit, IsRefusedBy};
 ghost use Rattle.crypt_core.specs.Packing.{digest_len, packed};
 ghost use Rattle.crypt_core.specs.Settings.{Spells, canonical_text, method_of};
-ghost use Rattle.crypt_core.specs.Work.{raised_by, work, HasRoom, IsBelow};
+ghost use Rattle.crypt_core.specs.Work.{raised_by, work, work_limit, IsBelow};
 
 use crate::md5crypt::md5crypt;
-use crate::pack::pack;
+use crate::pack::{SCRYPT_PACKED_LEN, pack};
 use crate::password::Password;
 use crate::scheme::Scheme;
-use crate::setting::Setting;
+use crate::setting::{CANONICAL_LIMIT, Setting, TEXT_CAPACITY};
 use crate::shacrypt::shacrypt;
 use arrayvec::ArrayVec;
 use kdf_core::params::Params;
@@ -22,28 +25,32 @@ use std::alloc::{AllocError, Global};
 use std::marker::Model;
 use thiserror::Error;
 
-/// A hashed password, as crypt(3) gives it: a text of at most 144 bytes. A contract sees it as the
-/// list of its bytes.
+/// The most bytes of a hashed password: scrypt's canonical text, a `$`, and its packed digest.
+pub const HASH_LIMIT: usize = CANONICAL_LIMIT + 1 + SCRYPT_PACKED_LEN;
+
+/// A hashed password, as crypt(3) gives it: a text of at most [`HASH_LIMIT`] bytes. A contract sees it as
+/// the list of its bytes.
 #[derive(Debug, Drop)]
 pub struct Hashed {
-    text: ArrayVec<u8, 160>,
+    text: ArrayVec<u8, TEXT_CAPACITY>,
 }
 
 impl Model for Hashed {
     ghost use Rattle.std.specs.Prelude.{ℕ, List, length, ◌≤◌};
+    ghost use Rattle.crypt_core.specs.declared.hash.TheConstants.{HASH_LIMIT};
 
     ghost Value = { List ℕ };
 
     ghost view = { λ h. h.text.items };
 
-    ghost invariant = { λ h. length h.text.items ≤ 144 };
+    ghost invariant = { λ h. length h.text.items ≤ HASH_LIMIT };
 }
 
 impl Hashed {
     /// The canonical text of the setting, a `$`, and the packed digest.
     pub fn text(&self) -> &[u8]
         ensures text { result.now ≡ self.now }
-        ensures short { length result.now ≤ 144 }
+        ensures short { length result.now ≤ hash_limit }
     {
         self.text.as_slice()
     }
@@ -92,7 +99,7 @@ pub fn hash(
     ensures text { IfOk result (λ hashed. hashed ≡ crypt password.now setting.now) }
     ensures spells { IfOk result (λ hashed. Spells hashed setting.now) }
     ensures count { OnOk result (meter.new ≡ raised_by meter.old (work password.now setting.now)) }
-    ensures below { IsBelow (work password.now setting.now) (2 ^ 41) }
+    ensures below { IsBelow (work password.now setting.now) work_limit }
 
     // So an error comes only by a setting of scrypt.
     ensures refused { OnErr result (IsRefusedBy meter.old setting.now.scheme meter.new) }
@@ -113,7 +120,7 @@ fn digest_of(
         ≡ digest_by setting.now.scheme password.now setting.now.salt) }
     ensures length { IfOk result (λ digest. length digest.items ≡ digest_len (method_of setting.now.scheme)) }
     ensures count { OnOk result (meter.new ≡ raised_by meter.old (work password.now setting.now)) }
-    ensures below { IsBelow (work password.now setting.now) (2 ^ 41) }
+    ensures below { IsBelow (work password.now setting.now) work_limit }
     ensures refused { OnErr result (IsRefusedBy meter.old setting.now.scheme meter.new) }
 {
     let salt = setting.salt();
@@ -135,7 +142,7 @@ fn digest_of(
     }
 }
 
-// scrypt's 32 bytes.
+// scrypt's digest.
 fn scrypt_digest(
     alloc: Global,
     password: &[u8],
@@ -144,11 +151,12 @@ fn scrypt_digest(
     meter: &mut Meter,
 ) -> Result<ArrayVec<u8, 64>, AllocError>
     requires { HasRoom meter.old }
-    ensures digest { IfOk result (λ digest. digest.items ≡ scrypt password.now salt.now params.now 32) }
-    ensures length { IfOk result (λ digest. length digest.items ≡ 32) }
+    ensures digest { IfOk result (λ digest. digest.items ≡ scrypt password.now salt.now params.now (digest_len Scrypt)) }
+    ensures length { IfOk result (λ digest. length digest.items ≡ digest_len Scrypt) }
     ensures count { OnOk result (meter.new
-        ≡ with_scrypt meter.old params.now (length password.now) (length salt.now) 32) }
+        ≡ with_scrypt meter.old params.now (length password.now) (length salt.now) (digest_len Scrypt)) }
     ensures refused { OnErr result (IsAfterRefusal meter.old params.now meter.new) }
+    ensures bounded { IsBounded params.now }
 {
     let mut digest = [0; 32];
     scrypt(alloc, password, salt, params, &mut digest, meter)?;

@@ -1,9 +1,9 @@
 //! Salts made of random words: three words of 64 bits are drawn, and their bits are read as
 //! characters of crypt's alphabet.
 
-ghost use Rattle.std.specs.Prelude.{◌≡◌, ◌≤◌, length, All};
-ghost use Rattle.crypt_core.specs.MadeSalts.{made_salt, three_words};
-ghost use Rattle.crypt_core.specs.Settings.{IsCharacter};
+ghost use Rattle.std.specs.Prelude.{◌≡◌, ◌≤◌, length, All, Contains};
+ghost use Rattle.prims_core.specs.Alphabet.{alphabet};
+ghost use Rattle.crypt_core.specs.MadeSalts.{made_salt, made_salt_limit, three_words};
 
 #[cfg(test)]
 mod tests;
@@ -12,16 +12,19 @@ use arrayvec::ArrayVec;
 use prims_core::alphabet::char_of;
 use rand_core::Rng;
 
-/// The salt of `len` characters, at most 22, that three random words give.
+/// The most characters of a made salt, which scrypt has.
+pub const MADE_SALT_LIMIT: usize = 22;
+
+/// The salt of `len` characters, at most [`MADE_SALT_LIMIT`], that three random words give.
 ///
 /// A word gives up to ten characters, six bits for each, lowest bits first; its highest four bits are
-/// not used. A salt of 1 to 22 characters is one that [`Setting::make`](crate::setting::Setting::make)
+/// not used. A salt of some characters is one that [`Setting::make`](crate::setting::Setting::make)
 /// takes for each method that keeps as many.
-pub fn salt_of(words: [u64; 3], len: usize) -> ArrayVec<u8, 22>
-    requires { len ≤ 22 }
+pub fn salt_of(words: [u64; 3], len: usize) -> ArrayVec<u8, MADE_SALT_LIMIT>
+    requires { len ≤ made_salt_limit }
     ensures items { result.items ≡ made_salt words len }
     ensures length { length result.items ≡ len }
-    ensures characters { All IsCharacter result.items }
+    ensures characters { All (Contains alphabet) result.items }
 {
     let mut salt = ArrayVec::new();
     'characters: for i in 0..len {

@@ -3,11 +3,15 @@
 //! stands beside the digests in the rounds is joined once, in a buffer of fixed capacity.
 ghost use Rattle.std.specs.Prelude.{◌≡◌, ◌+◌, ◌*◌, ◌^◌, ◌<◌, ◌≤◌, length};
 ghost use Rattle.prims_core.specs.Digests.{md5};
-ghost use Rattle.prims_core.specs.Meter.{with_work, AreInAll};
-ghost use Rattle.crypt_core.specs.Md5crypt.{md5crypt_digest, md5crypt_message, md5crypt_messages, opening_message};
+ghost use Rattle.prims_core.specs.Meter.{with_work, AreInAll, HasDigestRoom};
+ghost use Rattle.crypt_core.specs.declared.method.Method.TheVariants.{Md5crypt};
+ghost use Rattle.crypt_core.specs.Md5crypt.{md5crypt_digest, md5crypt_message, md5crypt_messages, md5crypt_rounds, opening_message};
+ghost use Rattle.crypt_core.specs.Methods.{md5crypt_salt_limit};
+ghost use Rattle.crypt_core.specs.Packing.{digest_len};
+ghost use Rattle.crypt_core.specs.Passwords.{password_limit};
 ghost use Rattle.crypt_core.specs.RoundMessage.{salted_twice};
 ghost use Rattle.crypt_core.specs.Private.Counting.{with_digest};
-ghost use Rattle.crypt_core.specs.Work.{md5crypt_bytes, HasDigestRoom};
+ghost use Rattle.crypt_core.specs.Work.{md5crypt_bytes, work_limit};
 
 use crate::messages::{feed_cycle, feed_digits, salted};
 use crate::password::Password;
@@ -19,17 +23,17 @@ use prims_core::meter::Meter;
 /// How often the digest is made anew.
 pub(crate) const ROUNDS: u32 = 1000;
 
-/// The digest of a password and a salt of at most 8 bytes. The meter counts each of the 1,002 messages, and
+/// The digest of a password and a salt of no more bytes than md5crypt keeps. The meter counts each of the 1,002 messages, and
 /// each of its counts rises by less than 2^41.
 ///
 /// The meter has counted at most 2^120 digests and at most 2^120 bytes before.
 pub fn md5crypt(password: &Password, salt: &[u8], meter: &mut Meter) -> [u8; 16]
-    requires salt { length salt.now ≤ 8 }
+    requires salt { length salt.now ≤ md5crypt_salt_limit }
     requires room { HasDigestRoom meter.old }
     ensures digest { result ≡ md5crypt_digest password.now salt.now }
-    ensures count { meter.new ≡ with_work meter.old 1002 (md5crypt_bytes (length password.now) (length salt.now)) }
-    ensures below { md5crypt_bytes (length password.now) (length salt.now) < 2 ^ 41 }
-    ensures specified { AreInAll (md5crypt_messages password.now salt.now) 1002
+    ensures count { meter.new ≡ with_work meter.old (md5crypt_rounds + 2) (md5crypt_bytes (length password.now) (length salt.now)) }
+    ensures below { md5crypt_bytes (length password.now) (length salt.now) < work_limit }
+    ensures specified { AreInAll (md5crypt_messages password.now salt.now) (md5crypt_rounds + 2)
         (md5crypt_bytes (length password.now) (length salt.now)) }
 {
     let password = password.bytes();
@@ -45,11 +49,11 @@ pub fn md5crypt(password: &Password, salt: &[u8], meter: &mut Meter) -> [u8; 16]
 
 // The digest of the second message.
 fn opening(password: &[u8], salt: &[u8], meter: &mut Meter) -> ArrayVec<u8, 64>
-    requires password { length password.now ≤ 512 }
-    requires salt { length salt.now ≤ 8 }
+    requires password { length password.now ≤ password_limit }
+    requires salt { length salt.now ≤ md5crypt_salt_limit }
     requires room { HasDigestRoom meter.old }
     ensures digest { result.items ≡ md5 (opening_message password.now salt.now) }
-    ensures length { length result.items ≡ 16 }
+    ensures length { length result.items ≡ digest_len Md5crypt }
     ensures count { meter.new ≡ with_digest (with_digest meter.old (salted_twice password.now salt.now))
         (opening_message password.now salt.now) }
 {

@@ -2,11 +2,14 @@
 //! running digest: the first message, a digest repeated, a piece for each binary digit of a length.
 ghost use Rattle.std.specs.Prelude.{◌≡◌, ℕ, ◌+◌, ◌*◌, ◌^◌, ◌<◌, ◌≤◌, List, ◌++◌, length, ◌==◌, if◌then◌else◌};
 ghost use Rattle.std.specs.List.{repeat};
+ghost use Rattle.prims_core.specs.Meter.{HasDigestRoom};
 ghost use Rattle.crypt_core.specs.Cycle.{cycle, digit_pieces};
+ghost use Rattle.crypt_core.specs.Methods.{shacrypt_salt_limit};
+ghost use Rattle.crypt_core.specs.Passwords.{password_limit};
 ghost use Rattle.crypt_core.specs.RoundMessage.{salted_twice};
 ghost use Rattle.crypt_core.specs.Private.Counting.{with_digest};
-ghost use Rattle.crypt_core.specs.Work.{HasDigestRoom};
 
+use crate::password::PASSWORD_LIMIT;
 use arrayvec::ArrayVec;
 use prims_core::counted::Counted;
 use prims_core::meter::Meter;
@@ -17,8 +20,8 @@ pub(crate) fn salted<C: Counted>(
     salt: &[u8],
     meter: &mut Meter,
 ) -> ArrayVec<u8, 64>
-    requires password { length password.now ≤ 512 }
-    requires salt { length salt.now ≤ 16 }
+    requires password { length password.now ≤ password_limit }
+    requires salt { length salt.now ≤ shacrypt_salt_limit }
     requires room { HasDigestRoom meter.old }
     ensures digest { result.items ≡ C.digest (salted_twice password.now salt.now) }
     ensures length { length result.items ≡ C.LEN }
@@ -58,10 +61,10 @@ pub(crate) fn feed_cycle<C: Counted>(running: &mut C, meter: &mut Meter, digest:
     running.feed(meter, &digest[..len % digest.len()]);
 }
 
-/// `len` bytes of a digest, from its start again and again. They are at most 512.
-pub(crate) fn cycle_of(digest: &[u8], len: usize) -> ArrayVec<u8, 512>
+/// `len` bytes of a digest, from its start again and again. They are no more than a password has.
+pub(crate) fn cycle_of(digest: &[u8], len: usize) -> ArrayVec<u8, PASSWORD_LIMIT>
     requires some { 0 < length digest.now }
-    requires fits { len ≤ 512 }
+    requires fits { len ≤ password_limit }
     ensures { result.items ≡ cycle digest.now len }
 {
     let mut bytes = ArrayVec::new();
@@ -92,6 +95,7 @@ pub(crate) fn feed_digits<C: Counted>(
     }
 }
 
+// The piece for a binary digit.
 fn digit_piece<'a>(digit: usize, one: &'a [u8], other: &'a [u8]) -> &'a [u8]
     ensures { result.now ≡ (if digit == 1 then one.now else other.now) }
 {

@@ -4,6 +4,15 @@ ghost use Rattle.std.specs.Prelude.{◌≡◌};
 ghost use Rattle.std.specs.Str.{bytes_eq};
 ghost use Rattle.crypt_core.specs.Methods.{method_named, prefix, salt_limit};
 
+/// The most bytes of salt that md5crypt keeps.
+pub const MD5CRYPT_SALT_LIMIT: usize = 8;
+
+/// The most bytes of salt that SHA-crypt keeps, over either digest.
+pub const SHACRYPT_SALT_LIMIT: usize = 16;
+
+/// The most bytes of salt that scrypt keeps. No method keeps more.
+pub const SCRYPT_SALT_LIMIT: usize = 86;
+
 /// A hashing method of crypt(5).
 #[derive(Clone, Copy, Debug, PartialEq, Eq)]
 pub enum Method {
@@ -35,7 +44,7 @@ impl Method {
         }
     }
 
-    // What a text of the method begins with.
+    /// What a text of the method begins with.
     pub(crate) fn prefix(self) -> &'static [u8]
         ensures { result.now ≡ prefix self }
     {
@@ -47,14 +56,14 @@ impl Method {
         }
     }
 
-    // The most bytes of salt that the method keeps.
+    /// The most bytes of salt that the method keeps.
     pub(crate) fn salt_limit(self) -> usize
         ensures { result ≡ salt_limit self }
     {
         match self {
-            Method::Md5crypt => 8,
-            Method::Sha256crypt | Method::Sha512crypt => 16,
-            Method::Scrypt => 86,
+            Method::Md5crypt => MD5CRYPT_SALT_LIMIT,
+            Method::Sha256crypt | Method::Sha512crypt => SHACRYPT_SALT_LIMIT,
+            Method::Scrypt => SCRYPT_SALT_LIMIT,
         }
     }
 }

@@ -5,9 +5,16 @@ ghost use Rattle.crypt_core.specs.Packing.{digest_len, group_number, groups_of, 
 ghost use Rattle.crypt_core.specs.Private.Tables.{groups_in, AreGroups, IsGroup};
 
 use crate::method::Method;
+use crate::setting::TEXT_CAPACITY;
 use arrayvec::ArrayVec;
 use prims_core::alphabet::put_group;
 use prims_core::buffer::buffer_of;
+
+/// The characters of sha512crypt's packed digest. No other method's are more.
+pub const SHA512CRYPT_PACKED_LEN: usize = 86;
+
+/// The characters of scrypt's packed digest.
+pub const SCRYPT_PACKED_LEN: usize = 43;
 
 /// The places in the digest that each group takes, the first one highest in the group's number.
 const MD5CRYPT_GROUPS: [&[usize]; 6] = [
@@ -74,7 +81,7 @@ const SCRYPT_GROUPS: [&[usize]; 11] = [
 
 /// The text of a method's digest: 22, 43, 86 or 43 characters, in the order of `Method`. The digest
 /// has the method's length, which is 16, 32, 64 or 32 bytes.
-pub fn pack(method: Method, digest: &[u8]) -> ArrayVec<u8, 86>
+pub fn pack(method: Method, digest: &[u8]) -> ArrayVec<u8, SHA512CRYPT_PACKED_LEN>
     requires { length digest.now ≡ digest_len method }
     ensures text { result.items ≡ packed method digest.now }
     ensures length { length result.items ≡ packed_len method }
@@ -84,6 +91,7 @@ pub fn pack(method: Method, digest: &[u8]) -> ArrayVec<u8, 86>
     buffer_of(text.as_slice())
 }
 
+// The table of the method's groups.
 fn groups(method: Method) -> &'static [&'static [usize]]
     ensures { groups_in result.now ≡ groups_of method }
 {
@@ -96,9 +104,9 @@ fn groups(method: Method) -> &'static [&'static [usize]]
 }
 
 // Appends the digest's groups in turn.
-fn put_groups(out: &mut ArrayVec<u8, 160>, digest: &[u8], groups: &[&[usize]])
+fn put_groups(out: &mut ArrayVec<u8, TEXT_CAPACITY>, digest: &[u8], groups: &[&[usize]])
     requires groups { AreGroups (length digest.now) (groups_in groups.now) }
-    requires room { array_vec_len out.old + length (packed_by (groups_in groups.now) digest.now) ≤ 160 }
+    requires room { array_vec_len out.old + length (packed_by (groups_in groups.now) digest.now) ≤ TEXT_CAPACITY }
     ensures { out.new.items ≡ out.old.items ++ packed_by (groups_in groups.now) digest.now }
 {
     'groups: for places in groups {

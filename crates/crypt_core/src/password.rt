@@ -1,18 +1,18 @@
 //! Passwords: what they may be, before any scheme sees them.
 ghost use Rattle.std.specs.Prelude.{◌≡◌, ℕ, ◌<◌, ◌≤◌, ◌↔◌, List, length, Contains, IfOk, IfErr, IsErrOf};
-ghost use Rattle.crypt_core.specs.Passwords.{IsPassword, IsPasswordRefused};
+ghost use Rattle.crypt_core.specs.Passwords.{password_limit, IsPassword, IsPasswordRefused};
 
 use arrayvec::ArrayVec;
 use std::marker::Model;
 use thiserror::Error;
 
 /// The most bytes of a password.
-pub(crate) const PASSWORD_LIMIT: usize = 512;
+pub const PASSWORD_LIMIT: usize = 512;
 
 /// Why bytes are no password.
 #[derive(Clone, Copy, Debug, PartialEq, Eq, Error)]
 pub enum PasswordFault {
-    /// More than 512 bytes.
+    /// More than [`PASSWORD_LIMIT`] bytes.
     #[error("{}", self.text())]
     TooLong,
     /// A byte 0, which would end the password in C.
@@ -34,7 +34,7 @@ impl PasswordFault {
     }
 }
 
-/// A password of at most 512 bytes, none of them 0. A contract sees it as the list of its bytes.
+/// A password of at most [`PASSWORD_LIMIT`] bytes, none of them 0. A contract sees it as the list of its bytes.
 #[derive(Drop)]
 pub struct Password {
     bytes: ArrayVec<u8, PASSWORD_LIMIT>,
@@ -53,8 +53,8 @@ impl Password {
     pub fn new(bytes: &[u8]) -> Result<Password, PasswordFault>
         ensures ok { IfOk result (λ password. (password ≡ bytes.now) × IsPassword bytes.now) }
         ensures refused { IfErr result (IsPasswordRefused bytes.now) }
-        ensures too_long { IsErrOf result PasswordFault.TooLong ↔ (512 < length bytes.now) }
-        ensures has_nul { IsErrOf result PasswordFault.HasNul ↔ ((length bytes.now ≤ 512) × Contains bytes.now 0) }
+        ensures too_long { IsErrOf result PasswordFault.TooLong ↔ (password_limit < length bytes.now) }
+        ensures has_nul { IsErrOf result PasswordFault.HasNul ↔ ((length bytes.now ≤ password_limit) × Contains bytes.now 0) }
     {
         let mut kept = ArrayVec::new();
         if kept.try_extend_from_slice(bytes).is_err() {

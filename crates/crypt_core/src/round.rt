@@ -6,17 +6,15 @@ ghost use Rattle.crypt_core.specs.RoundMessage.{round_message};
 ghost use Rattle.crypt_core.specs.Private.Counting.{with_digest};
 ghost use Rattle.crypt_core.specs.Private.RoundStrings.{Strings};
 
+use crate::method::SHACRYPT_SALT_LIMIT;
 use crate::password::PASSWORD_LIMIT;
 use arrayvec::ArrayVec;
 use prims_core::counted::Counted;
 use prims_core::meter::Meter;
 use std::marker::Model;
 
-/// The most bytes of a salt, in either scheme.
-const SALT_LIMIT: usize = 16;
-
-/// Room for three passwords and a salt.
-const JOINED_LIMIT: usize = 3 * PASSWORD_LIMIT + SALT_LIMIT;
+/// Room for three passwords and a salt, in bytes. SHA-crypt's salts are the longer ones.
+const JOINED_LIMIT: usize = 3 * PASSWORD_LIMIT + SHACRYPT_SALT_LIMIT;
 
 /// What stands for the password and the salt in every round. A contract sees it as these two.
 #[derive(Drop)]
@@ -56,20 +54,20 @@ impl<'a> RoundStrings<'a> {
     fn pieces<'b>(&'b self, i: u32, before: &'b [u8]) -> (&'b [u8], &'b [u8])
         ensures { result.0.now ++ result.1.now ≡ round_message i before.now self.now.password self.now.salt }
     {
-        let password = self.password.len();
-        let both = password + self.salt.len();
+        let password_len = self.password.len();
+        let salted_len = password_len + self.salt.len();
         let is_odd = i % 2 == 1;
         // Without the salt, the passwords are the two that stand side by side. With it, one comes before
         // it in an odd round, and none in an even one.
-        let (start, first) = if i % 3 == 0 {
-            (both, password)
+        let (start, once_len) = if i % 3 == 0 {
+            (salted_len, password_len)
         } else if is_odd {
-            (0, both)
+            (0, salted_len)
         } else {
-            (password, both)
+            (password_len, salted_len)
         };
-        let again = if i % 7 == 0 { 0 } else { password };
-        let beside = &self.joined.as_slice()[start..start + first + again];
+        let repeat_len = if i % 7 == 0 { 0 } else { password_len };
+        let beside = &self.joined.as_slice()[start..start + once_len + repeat_len];
         if is_odd {
             (beside, before)
         } else {

@@ -1,18 +1,18 @@
 //! What a setting asks for: its method with the cost.
 
 ghost use Rattle.std.specs.Prelude.{◌≡◌, true, false};
-ghost use Rattle.crypt_core.specs.Settings.{held, method_of};
+ghost use Rattle.crypt_core.specs.Settings.{default_rounds, held, method_of};
 
 use crate::method::Method;
 use kdf_core::params::Params;
 
-/// The most rounds.
+/// The most rounds of SHA-crypt. A greater number of a text counts as this one.
 pub const MAX_ROUNDS: u64 = 999_999_999;
 
-/// The fewest rounds.
+/// The fewest rounds of SHA-crypt. A smaller number of a text counts as this one.
 const MIN_ROUNDS: u64 = 1000;
 
-/// The rounds of a text without a field for them.
+/// The rounds of SHA-crypt that a text without a field for them has.
 const DEFAULT_ROUNDS: u32 = 5000;
 
 /// The rounds of SHA-crypt, and whether the text has a field for them.
@@ -25,7 +25,7 @@ pub struct Rounds {
 impl Rounds {
     /// The rounds of a text without a field for them.
     pub fn unwritten() -> Rounds
-        ensures { result ≡ record { count = 5000; is_written = false } }
+        ensures { result ≡ record { count = default_rounds; is_written = false } }
     {
         Rounds {
             count: DEFAULT_ROUNDS,
@@ -33,7 +33,7 @@ impl Rounds {
         }
     }
 
-    /// The rounds of a field with this number: the nearest from 1000 to 999999999.
+    /// The rounds of a field with this number: the nearest from the fewest to the most.
     pub fn written(number: u64) -> Rounds
         ensures { result ≡ record { count = held number; is_written = true } }
     {
@@ -54,6 +54,7 @@ pub enum Scheme {
 }
 
 impl Scheme {
+    /// The method of the scheme.
     pub fn method(&self) -> Method
         ensures { result ≡ method_of self.now }
     {

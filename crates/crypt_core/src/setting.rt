@@ -16,17 +16,29 @@ mod salt;
 mod tests;
 mod text;
 
-use crate::method::Method;
+use crate::method::{Method, SCRYPT_SALT_LIMIT};
 use crate::scheme::Scheme;
 use arrayvec::ArrayVec;
 pub use fault::{MakeFault, SettingFault};
 use std::marker::Model;
 
+/// The most bytes of a setting's text.
+pub const SETTING_LIMIT: usize = 384;
+
+/// The characters of scrypt's cost part: one of log2 N, five of r and five of p.
+pub(crate) const COST_CHARACTERS: usize = 1 + 5 + 5;
+
+/// The most bytes of a canonical text: the three of scrypt's prefix, its cost part and its salt.
+pub const CANONICAL_LIMIT: usize = 3 + COST_CHARACTERS + SCRYPT_SALT_LIMIT;
+
+/// The bytes that a buffer for a text of crypt(5) has room for, with or without the hash.
+pub const TEXT_CAPACITY: usize = 160;
+
 /// What a text asks for: a method with its cost, and the salt that is kept of it.
 #[derive(Debug, Drop)]
 pub struct Setting {
     scheme: Scheme,
-    salt: ArrayVec<u8, 86>,
+    salt: ArrayVec<u8, SCRYPT_SALT_LIMIT>,
 }
 
 impl Model for Setting {
@@ -47,7 +59,7 @@ impl Setting {
         self.scheme.method()
     }
 
-    // The method with its cost, which is in range.
+    /// The method with its cost, which is in range.
     pub(crate) fn scheme(&self) -> Scheme
         ensures value { result ≡ self.now.scheme }
         ensures cost { HasCost self.now.scheme }
@@ -55,7 +67,7 @@ impl Setting {
         self.scheme
     }
 
-    /// The kept salt, undecoded: at most 8, 16, 16 or 86 bytes.
+    /// The kept salt, undecoded, of no more bytes than the method keeps.
     pub fn salt(&self) -> &[u8]
         ensures kept { result.now ≡ self.now.salt }
         ensures short { length result.now ≤ salt_limit (method_of self.now.scheme) }

@@ -3,23 +3,26 @@
 //! password and the salt in the rounds is made once, in buffers of fixed capacity.
 ghost use Rattle.std.specs.Prelude.{◌≡◌, ◌+◌, ◌*◌, ◌^◌, ◌<◌, ◌≤◌, length};
 ghost use Rattle.std.specs.List.{repeat};
-ghost use Rattle.prims_core.specs.Meter.{with_work, AreInAll};
+ghost use Rattle.prims_core.specs.Meter.{with_work, AreInAll, HasDigestRoom};
 ghost use Rattle.crypt_core.specs.Cycle.{cycle};
+ghost use Rattle.crypt_core.specs.Methods.{shacrypt_salt_limit};
+ghost use Rattle.crypt_core.specs.Passwords.{password_limit};
 ghost use Rattle.crypt_core.specs.RoundMessage.{salted_twice};
+ghost use Rattle.crypt_core.specs.Settings.{max_rounds, min_rounds};
 ghost use Rattle.crypt_core.specs.ShaCrypt.{sha_opening_digest, sha_opening_message, shacrypt_digest, shacrypt_messages};
 ghost use Rattle.crypt_core.specs.Private.Counting.{with_digest};
-ghost use Rattle.crypt_core.specs.Work.{first_byte, shacrypt_bytes, HasDigestRoom};
+ghost use Rattle.crypt_core.specs.Work.{first_byte, shacrypt_bytes, work_limit};
 
 use crate::messages::{cycle_of, feed_cycle, feed_digits, feed_repeated, salted};
-use crate::password::Password;
+use crate::password::{PASSWORD_LIMIT, Password};
 use crate::round::{RoundStrings, round};
 use arrayvec::ArrayVec;
 use prims_core::counted::Counted;
 use prims_core::meter::Meter;
 
-/// The digest of a password, a salt of at most 16 bytes, and 1000 to 999999999 rounds, by SHA-crypt
-/// over the digest function `H`. It has `H::LEN` bytes. The meter counts each of the `rounds + 4` messages,
-/// and each of its counts rises by less than 2^41.
+/// The digest of a password by SHA-crypt over the digest function `H`, with a salt of no more bytes than it
+/// keeps, and from the fewest rounds to the most. It has `H::LEN` bytes. The meter counts each of the
+/// `rounds + 4` messages, and each of its counts rises by less than 2^41.
 ///
 /// The meter has counted at most 2^120 digests and at most 2^120 bytes before.
 pub fn shacrypt<H: Counted>(
@@ -28,16 +31,16 @@ pub fn shacrypt<H: Counted>(
     rounds: u32,
     meter: &mut Meter,
 ) -> ArrayVec<u8, 64>
-    requires salt { length salt.now ≤ 16 }
-    requires least_rounds { 1000 ≤ rounds }
-    requires most_rounds { rounds ≤ 999999999 }
+    requires salt { length salt.now ≤ shacrypt_salt_limit }
+    requires least_rounds { min_rounds ≤ rounds }
+    requires most_rounds { rounds ≤ max_rounds }
     requires room { HasDigestRoom meter.old }
     ensures digest { result.items ≡ shacrypt_digest H.digest password.now salt.now rounds }
     ensures length { length result.items ≡ H.LEN }
     ensures count { meter.new ≡ with_work meter.old (rounds + 4) (shacrypt_bytes H.LEN
         (first_byte H.digest password.now salt.now) rounds (length password.now) (length salt.now)) }
     ensures below { shacrypt_bytes H.LEN (first_byte H.digest password.now salt.now) rounds (length password.now)
-        (length salt.now) < 2 ^ 41 }
+        (length salt.now) < work_limit }
     ensures specified { AreInAll (shacrypt_messages H.digest password.now salt.now rounds) (rounds + 4)
         (shacrypt_bytes H.LEN (first_byte H.digest password.now salt.now) rounds (length password.now) (length salt.now)) }
 {
@@ -55,8 +58,8 @@ pub fn shacrypt<H: Counted>(
 
 // Steps 1 to 12: the digest of the second message.
 fn opening<H: Counted>(password: &[u8], salt: &[u8], meter: &mut Meter) -> ArrayVec<u8, 64>
-    requires password { length password.now ≤ 512 }
-    requires salt { length salt.now ≤ 16 }
+    requires password { length password.now ≤ password_limit }
+    requires salt { length salt.now ≤ shacrypt_salt_limit }
     requires room { HasDigestRoom meter.old }
     ensures digest { result.items ≡ sha_opening_digest H.digest password.now salt.now }
     ensures length { length result.items ≡ H.LEN }
@@ -80,8 +83,12 @@ fn opening<H: Counted>(password: &[u8], salt: &[u8], meter: &mut Meter) -> Array
 
 // Steps 13 to 16 for the password, and 17 to 20 for the salt: the digest of all the times that the
 // piece is repeated, and as many bytes of it as the piece has.
-fn string_of<H: Counted>(piece: &[u8], times: usize, meter: &mut Meter) -> ArrayVec<u8, 512>
-    requires fits { length piece.now ≤ 512 }
+fn string_of<H: Counted>(
+    piece: &[u8],
+    times: usize,
+    meter: &mut Meter,
+) -> ArrayVec<u8, PASSWORD_LIMIT>
+    requires fits { length piece.now ≤ password_limit }
     requires bytes_room { meter.old.bytes + times * length piece.now < 2 ^ 128 }
     requires digests_room { meter.old.digests + 1 < 2 ^ 128 }
     ensures string { result.items ≡ cycle (H.digest (repeat times piece.now)) (length piece.now) }

@@ -1,53 +1,34 @@
 //! The work of a hash, known before hashing, so that a service can refuse a setting that would cost it
 //! too much. It is the closed form of what the meter counts, step by step of each scheme.
-ghost use Rattle.std.specs.Prelude.{◌≡◌, ℕ, ◌+◌, ◌^◌, ◌<◌, ◌≤◌, List, length};
-ghost use Rattle.kdf_core.specs.Scrypt.{parts_bytes, rows};
-ghost use Rattle.crypt_core.specs.Passwords.{IsPassword};
-ghost use Rattle.crypt_core.specs.Work.{digests_alone, digit_bytes, first_byte, md5crypt_bytes, rounds_bytes, shacrypt_bytes, work, work_bound, work_by, IsBelow, IsWithin};
+ghost use Rattle.std.specs.Prelude.{◌≡◌, ℕ, ◌+◌, ◌*◌, ◌^◌, ◌<◌, ◌≤◌, List, length};
+ghost use Rattle.crypt_core.specs.Methods.{md5crypt_salt_limit, scrypt_salt_limit, shacrypt_salt_limit};
+ghost use Rattle.crypt_core.specs.Md5crypt.{md5crypt_rounds};
+ghost use Rattle.crypt_core.specs.Passwords.{password_limit, IsPassword};
+ghost use Rattle.crypt_core.specs.Settings.{max_rounds};
+ghost use Rattle.crypt_core.specs.Work.{digests_alone, digit_bytes, first_byte, greatest_byte, md5crypt_bytes, piece_bytes, rounds_bytes, shacrypt_bytes, work, work_bound, work_by, work_limit, IsBelow, IsWithin};
 
 use crate::md5crypt::ROUNDS;
 use crate::scheme::Scheme;
 use crate::setting::Setting;
 use kdf_core::params::Params;
+use kdf_core::work::scrypt_work;
 use prims_core::counted::{Counted, CountedMd5, CountedSha256, CountedSha512};
+use prims_core::work::Work;
 
 /// The greatest byte.
 const GREATEST_BYTE: u64 = 255;
 
-/// The bytes of a key that HMAC over SHA-256 takes as they are.
-const HMAC_BLOCK: u64 = 64;
-
-/// The bytes that a tag of PBKDF2 digests beside its salt: two padded keys of 64 bytes, a digest of 32, and
-/// the number of the block in 4.
-const TAG_BYTES: u64 = 164;
-
-/// What a meter counts of a hash.
-#[derive(Clone, Copy, Debug, PartialEq, Eq)]
-pub struct Work {
-    /// Digests made.
-    pub digests: u64,
-    /// Bytes digested.
-    pub bytes: u64,
-    /// Mixings, which scrypt alone makes: each handles 2r blocks of 64 bytes, so that its price grows
-    /// with r.
-    pub mixes: u64,
-    /// Bytes of scrypt's table.
-    pub table: u64,
-    /// Bytes of scrypt's scratch memory.
-    pub scratch: u64,
-}
-
 /// The most that a hash by the setting counts, for any password of `password_len` bytes, which are at
-/// most 512. Nothing is hashed for it and no memory is taken.
+/// most [`PASSWORD_LIMIT`](crate::password::PASSWORD_LIMIT). Nothing is hashed for it and no memory is taken.
 ///
 /// A hash by md5crypt or scrypt counts exactly this. One by SHA-crypt counts for its salt of s bytes up
 /// to `255 * s` bytes less, and all else as it stands here. Each count is below 2^41.
 pub fn bound(setting: &Setting, password_len: usize) -> Work
-    requires { password_len ≤ 512 }
+    requires { password_len ≤ password_limit }
     ensures bound { result ≡ work_bound setting.now password_len }
     ensures never_passed { (password : List ℕ) → IsPassword password → length password ≡ password_len
         → IsWithin (work password setting.now) result }
-    ensures below { IsBelow result (2 ^ 41) }
+    ensures below { IsBelow result work_limit }
 {
     let password = password_len as u64;
     let salt = setting.salt().len() as u64;
@@ -66,10 +47,10 @@ pub fn bound(setting: &Setting, password_len: usize) -> Work
 // The second message of md5crypt has the three bytes `$1$`, and one byte for each binary digit of the
 // password's length.
 fn md5crypt_bound(password: u64, salt: u64) -> Work
-    requires password { password ≤ 512 }
-    requires salt { salt ≤ 8 }
-    ensures bound { result ≡ digests_alone 1002 (md5crypt_bytes password salt) }
-    ensures below { IsBelow result (2 ^ 41) }
+    requires password { password ≤ password_limit }
+    requires salt { salt ≤ md5crypt_salt_limit }
+    ensures bound { result ≡ digests_alone (md5crypt_rounds + 2) (md5crypt_bytes password salt) }
+    ensures below { IsBelow result work_limit }
 {
     let salted = 2 * password + salt;
     let opening = salted + 3 + digit_bytes(password, 1, 1);
@@ -83,14 +64,14 @@ fn md5crypt_bound(password: u64, salt: u64) -> Work
 
 // SHA-crypt repeats the salt 16 times, and once more for each unit of a byte that only hashing tells.
 fn shacrypt_bound<H: Counted>(rounds: u32, password: u64, salt: u64) -> Work
-    requires rounds { rounds ≤ 999999999 }
-    requires password { password ≤ 512 }
-    requires salt { salt ≤ 16 }
-    ensures bound { result ≡ digests_alone (rounds + 4) (shacrypt_bytes H.LEN 255 rounds password salt) }
+    requires rounds { rounds ≤ max_rounds }
+    requires password { password ≤ password_limit }
+    requires salt { salt ≤ shacrypt_salt_limit }
+    ensures bound { result ≡ digests_alone (rounds + 4) (shacrypt_bytes H.LEN greatest_byte rounds password salt) }
     ensures never_passed { (p s : List ℕ) → length p ≡ password → length s ≡ salt
         → let a = first_byte H.digest p s in
         IsWithin (digests_alone (rounds + 4) (shacrypt_bytes H.LEN a rounds password salt)) result }
-    ensures below { IsBelow result (2 ^ 41) }
+    ensures below { IsBelow result work_limit }
 {
     let rounds = u64::from(rounds);
     let digest = H::LEN as u64;
@@ -103,43 +84,14 @@ fn shacrypt_bound<H: Counted>(rounds: u32, password: u64, salt: u64) -> Work
     )
 }
 
-// Each 32 bytes of the parts are a tag over the salt, and scrypt's 32 bytes are one over the parts. A tag
-// has two digests, and a password that is longer than a block is digested once more, before all tags.
+// scrypt's result has 32 bytes.
 fn scrypt_bound(params: &Params, password: u64, salt: u64) -> Work
-    requires password { password ≤ 512 }
-    requires salt { salt ≤ 86 }
-    ensures bound { result ≡ work_by (Scheme.Scrypt params.now) 255 password salt }
-    ensures below { IsBelow result (2 ^ 41) }
+    requires password { password ≤ password_limit }
+    requires salt { salt ≤ scrypt_salt_limit }
+    ensures bound { result ≡ work_by (Scheme.Scrypt params.now) greatest_byte password salt }
+    ensures below { IsBelow result work_limit }
 {
-    let rows = row_count(params);
-    let r = u64::from(params.r());
-    let p = u64::from(params.p());
-    let parts = parts_bytes(params);
-    let tags = parts / 32;
-    let key_digests = u64::from(password > HMAC_BLOCK);
-    Work {
-        digests: key_digests + 2 * (tags + 1),
-        bytes: key_digests * password + tags * (TAG_BYTES + salt) + TAG_BYTES + parts,
-        mixes: 2 * rows * p,
-        table: 128 * rows * r,
-        scratch: parts + 256 * r,
-    }
-}
-
-// N, a power of two.
-fn row_count(params: &Params) -> u64
-    ensures rows { result ≡ rows params.now }
-    ensures few { result ≤ 2 ^ 23 }
-{
-    1 << params.log_n()
-}
-
-// The bytes of all parts of scrypt.
-fn parts_bytes(params: &Params) -> u64
-    ensures bytes { result ≡ parts_bytes params.now }
-    ensures few { result ≤ 2 ^ 29 }
-{
-    128 * u64::from(params.r()) * u64::from(params.p())
+    scrypt_work(params, password, salt, 32)
 }
 
 // The work of a scheme that mixes nothing and takes no memory.
@@ -157,30 +109,37 @@ fn digests_alone(digests: u64, bytes: u64) -> Work
 
 // The bytes of a piece for each binary digit of `number`: so many for a 1, and so many for a 0.
 fn digit_bytes(number: u64, one: u64, other: u64) -> u64
-    requires number { number ≤ 512 }
-    requires one { one ≤ 512 }
-    requires other { other ≤ 512 }
+    requires number { number ≤ password_limit }
+    requires one { one ≤ password_limit }
+    requires other { other ≤ password_limit }
     ensures bytes { result ≡ digit_bytes one other number }
-    ensures few { result ≤ 2 ^ 18 }
+    ensures few { result ≤ password_limit * password_limit }
 {
     let mut rest = number;
     let mut bytes = 0;
     'digits: while rest > 0 {
-        bytes += if rest % 2 == 1 { one } else { other };
+        bytes += piece_bytes(rest % 2, one, other);
         rest /= 2;
     }
     bytes
 }
 
+// The bytes of the piece for a binary digit.
+fn piece_bytes(digit: u64, one: u64, other: u64) -> u64
+    ensures { result ≡ piece_bytes one other digit }
+{
+    if digit == 1 { one } else { other }
+}
+
 // The bytes of so many rounds. The salt is left out of every third and the password's second place of
 // every seventh, from round 0 on.
 fn rounds_bytes(rounds: u64, digest: u64, password: u64, salt: u64) -> u64
-    requires rounds { rounds ≤ 999999999 }
+    requires rounds { rounds ≤ max_rounds }
     requires digest { digest ≤ 64 }
-    requires password { password ≤ 512 }
-    requires salt { salt ≤ 16 }
+    requires password { password ≤ password_limit }
+    requires salt { salt ≤ shacrypt_salt_limit }
     ensures bytes { result ≡ rounds_bytes rounds digest password salt }
-    ensures below { result < 2 ^ 40 }
+    ensures few { result ≤ rounds * (digest + 2 * password + salt) }
 {
     let with_salt = rounds - rounds.div_ceil(3);
     let with_password_twice = rounds - rounds.div_ceil(7);

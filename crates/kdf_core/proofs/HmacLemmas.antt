@@ -3,7 +3,7 @@ use Rattle.std.proofs.Common.{◌≡◌, ℕ, ◌-◌, ◌<◌, ◌≤◌, List,
 use Rattle.std.proofs.lemmas.List.{append-nil, drop-replicate}
 use Rattle.std.proofs.lemmas.Bool.{cond_below, cond_above}
 use Rattle.prims_core.specs.Digests.{sha256}
-use Rattle.prims_core.specs.Words.{xor_bytes}
+use Rattle.prims_core.specs.Words.{xor_lists}
 use Rattle.kdf_core.specs.Hmac.{hmac, hmac_sha256, ipad, opad, key_block, padded_key, PaddedKey, IsKeyOf}
 
 -- a tag is the digest of the outer pad and the digest of the inner pad and the text
@@ -41,6 +41,6 @@ short_block key kept zeros short is zeros_are =
 
 -- a block under a pad
 pub padded_is : (key block padded : List ℕ) (pad : ℕ) → block ≡ key_block sha256 64 key
-    → padded ≡ xor_bytes block (replicate 64 pad) → padded ≡ padded_key sha256 64 key pad
+    → padded ≡ xor_lists block (replicate 64 pad) → padded ≡ padded_key sha256 64 key pad
 unfolding padded_key
-padded_is key block padded pad is under = under ∙ ap (λ (b : List ℕ). xor_bytes b (replicate 64 pad)) is
+padded_is key block padded pad is under = under ∙ ap (λ (b : List ℕ). xor_lists b (replicate 64 pad)) is

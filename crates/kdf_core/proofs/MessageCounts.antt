@@ -10,12 +10,12 @@ use Rattle.std.proofs.lemmas.List.Sums.{sum_by-append}
 use Rattle.std.proofs.lemmas.Simd.{length-zip2}
 use Rattle.prims_core.specs.Digests.{sha256}
 use Rattle.prims_core.specs.Meter.{AreInAll}
-use Rattle.prims_core.specs.Words.{big_bytes, xor_bytes}
+use Rattle.prims_core.specs.Words.{big_bytes, xor_lists}
 use Rattle.prims_core.specs.contracts.counted.counted_sha256.CountedSha256Counted.TheImpl.Laws as sha256_laws
 use Rattle.kdf_core.specs.Hmac.{hmac, hmac_sha256, ipad, opad, key_block, padded_key, key_messages, tag_messages, key_digests, key_bytes, tag_bytes}
-use Rattle.kdf_core.specs.Params.{ScryptCost}
+use Rattle.kdf_core.specs.Params.{ScryptCost, rows}
 use Rattle.kdf_core.specs.Pbkdf2.{chain, block, pbkdf2, pbkdf2_sha256, block_messages, pbkdf2_messages, block_bytes, pbkdf2_digests, pbkdf2_bytes}
-use Rattle.kdf_core.specs.Scrypt.{rows, part_bytes, parts_bytes, mixed_parts, scrypt_messages, scrypt_digests, scrypt_bytes}
+use Rattle.kdf_core.specs.Scrypt.{part_bytes, parts_bytes, mixed_parts, scrypt_messages, scrypt_digests, scrypt_bytes}
 use Rattle.kdf_core.proofs.MixedLengths.{length-flat_map_same, length-mixed_parts}
 use Rattle.kdf_core.proofs.Pbkdf2Lemmas.{block-one}
 use Rattle.kdf_core.proofs.ScryptValue.{digests-are, bytes-are}
@@ -50,7 +50,7 @@ length-kept key = elim (cases_lt 64 (length key)) [
 
 -- so a key under a pad is a block
 length-padded_key : (key : List ℕ) (pad : ℕ) → length (padded_key sha256 64 key pad) ≡ 64
-unfolding padded_key key_block xor_bytes
+unfolding padded_key key_block xor_lists
 length-padded_key key pad =
     let kept = if nat_lt 64 (length key) then sha256 key else key in
     let whole : length (kept ++ replicate (64 - length kept) 0) ≡ 64 =
@@ -147,7 +147,7 @@ scrypt-in_all password salt cost count =
     let last = mixed_parts (rows cost) (part_bytes cost) derived in
     let derived_length : length derived ≡ first = length-pbkdf2_sha256 password salt first in
     let last_length : length last ≡ first =
-    length-mixed_parts (rows cost) (part_bytes cost) (2 * cost.r) cost.p derived (omega arith) derived_length ∙ derived_length in
+    length-mixed_parts (rows cost) (part_bytes cost) cost.r cost.p derived (omega arith) derived_length ∙ derived_length in
     let key = key-in_all password in
     let firsts = pbkdf2-in_all password salt 1 first (omega arith) in
     let lasts = pbkdf2-in_all password last 1 count (omega arith) in

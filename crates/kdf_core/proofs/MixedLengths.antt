@@ -1,18 +1,17 @@
 -- Block mixing, ROMix and the mixing of all parts keep the length of what they are given.
-use Rattle.std.proofs.Common.{◌≡◌, ℕ, zero, suc, ◌+◌, ◌-◌, ◌*◌, ◌/◌, ◌%◌, ◌<◌, ◌≤◌, List, [], ◌∷◌, length, get_or, take, drop, map, refl, sym, ap, ◌∙◌, arith}
-use Rattle.std.specs.Prelude.{All, slice_index, slice_index_or}
+use Rattle.std.proofs.Common.{◌≡◌, ℕ, zero, suc, ◌+◌, ◌-◌, ◌*◌, ◌/◌, ◌%◌, ◌<◌, ◌≤◌, List, [], ◌∷◌, ◌++◌, length, get_or, take, drop, map, refl, sym, ap, ◌∙◌, arith}
+use Rattle.std.specs.Prelude.{All, slice_index}
 use Rattle.std.specs.Fn.{iterate}
-use Rattle.std.specs.List.{concat, enumerate_from, flat_map, range_with_len, scan}
+use Rattle.std.specs.List.{concat, enumerate_from, flat_map, range_with_len}
 use Rattle.std.proofs.Math.Nat.{mul-div-le, mul-div_cancel_left, mul-le-mul_left}
 use Rattle.std.proofs.lemmas.List.{length-append, length-drop, length-map, length-take, length-take-le}
 use Rattle.std.proofs.lemmas.List.Concat.{concat_is}
-use Rattle.std.proofs.lemmas.List.Elements.{All-cons, All-head, All-map, All-tail}
-use Rattle.std.proofs.lemmas.List.Folds.{concat-append}
+use Rattle.std.proofs.lemmas.List.Elements.{All-append, All-head, All-map, All-tail}
 use Rattle.std.proofs.lemmas.List.FromFn.{get_or-enumerate_from, get_or-range_with_len, length-enumerate_from, length-map-range_with_len, length-range_with_len}
 use Rattle.std.proofs.lemmas.Simd.{length-zip2}
-use Rattle.prims_core.specs.BlockMix.{mixed_block, mixed_blocks, at_even_places, at_odd_places, block_mix}
+use Rattle.prims_core.specs.BlockMix.{block_at, mixed_block, x_after, y_at, block_mix}
 use Rattle.prims_core.specs.Salsa.{sum_of_words, quarter_round, begun_at, row_round, transpose, column_round, double_round, salsa20_8}
-use Rattle.prims_core.specs.Words.{little_bytes, xor_words, chunks_exact, words_of, bytes_of_words}
+use Rattle.prims_core.specs.Words.{little_bytes, xor_lists, chunks_exact, words_of, bytes_of_words}
 use Rattle.kdf_core.specs.Scrypt.{integerify, mixed_back, romix, mixed_part, mixed_parts}
 
 -- each of the pieces has so many items
@@ -118,100 +117,81 @@ length-salsa20_8 words sixteen =
 -- The blocks of sixteen words that are mixed
 
 size-mixed_block : (x block : List ℕ) → length x ≡ 16 → length block ≡ 16 → length (mixed_block x block) ≡ 16
-unfolding xor_words
+unfolding xor_lists
 size-mixed_block x block first second =
-    length-salsa20_8 (xor_words x block) (length-zip2 _ x block (first ∙ sym second) ∙ first)
+    length-salsa20_8 (xor_lists x block) (length-zip2 _ x block (first ∙ sym second) ∙ first)
 
-length-scan : (a : List ℕ) (blocks : List (List ℕ)) → length (scan mixed_block mixed_block a blocks) ≡ length blocks
-length-scan a [] = refl
-length-scan a (block ∷ blocks) = ap suc (length-scan (mixed_block a block) blocks)
+length-block_at : (words : List ℕ) (count i : ℕ) → length words ≡ 16 * count → i < count → length (block_at i words) ≡ 16
+length-block_at words count i is inside = length-take-le 16 (drop (16 * i) words) (omega (arith, length-drop (16 * i) words))
 
-size-scan : (a : List ℕ) (blocks : List (List ℕ)) → length a ≡ 16 → HaveSize 16 blocks → HaveSize 16 (scan mixed_block mixed_block a blocks)
-size-scan a [] first each = each
-size-scan a (block ∷ blocks) first each =
+size-x_after : (r : ℕ) (words : List ℕ) (i : ℕ) → length words ≡ 32 * r → 0 < r → i ≤ 2 * r → length (x_after r words i) ≡ 16
+unfolding x_after
+size-x_after r words zero is some inside = length-block_at words (2 * r) (2 * r - 1) (omega arith) (omega arith)
+size-x_after r words (suc i) is some inside =
+    size-mixed_block (x_after r words i) (block_at i words) (size-x_after r words i is some (omega arith))
+    (length-block_at words (2 * r) i (omega arith) (omega arith))
+
+pub length-block_mix : (words : List ℕ) (r : ℕ) → length words ≡ 32 * r → length (block_mix words) ≡ 32 * r
+unfolding block_mix
+length-block_mix words r is =
+    let n = length words / 32 in
+    let number : n ≡ r = ap (λ m. m / 32) is ∙ mul-div_cancel_left r (omega arith) in
+    let y = y_at n words in
+    let evens = map (λ i. y (2 * i)) (range_with_len 0 n) in
+    let odds = map (λ i. y (2 * i + 1)) (range_with_len 0 n) in
     let size = λ (piece : List ℕ). length piece ≡ 16 in
-    let next : length (mixed_block a block) ≡ 16 = size-mixed_block a block first (All-head size block blocks each) in
-    All-cons size (mixed_block a block) (scan mixed_block mixed_block (mixed_block a block) blocks) next
-    (size-scan (mixed_block a block) blocks next (All-tail size block blocks each))
-
-length-mixed_blocks : (blocks : List (List ℕ)) → length (mixed_blocks blocks) ≡ length blocks
-unfolding mixed_blocks
-length-mixed_blocks blocks = length-scan (slice_index_or blocks (length blocks - 1) []) blocks
-
-size-mixed_blocks : (blocks : List (List ℕ)) → HaveSize 16 blocks → HaveSize 16 (mixed_blocks blocks)
-unfolding mixed_blocks
-size-mixed_blocks [] each = each
-size-mixed_blocks (block ∷ blocks) each =
-    let all = block ∷ blocks in
-    size-scan (slice_index_or all (length all - 1) []) all (each (length all - 1) [] (omega arith)) each
-
--- the first block is at an even place, and those behind it change their places
-even-next : (x : List ℕ) (blocks : List (List ℕ)) → at_even_places (x ∷ blocks) ≡ x ∷ at_even_places (drop 1 blocks)
-unfolding at_even_places
-even-next x [] = refl
-even-next x (y ∷ blocks) = refl
-
--- the blocks at even places and those at odd places are all blocks
-length-even_odd : (blocks : List (List ℕ))
-    → length (concat (at_even_places blocks)) + length (concat (at_even_places (drop 1 blocks))) ≡ length (concat blocks)
-unfolding at_even_places
-length-even_odd [] = refl
-length-even_odd (x ∷ blocks) =
-    let rest = length-even_odd blocks in
-    let first = ap (λ (pieces : List (List ℕ)). length (concat pieces)) (even-next x blocks) in
-    omega (
+    let at : (k d : ℕ) → k < length (range_with_len 0 n) → get_or (range_with_len 0 n) k d < n =
+    λ k d inside. omega (arith, length-range_with_len 0 n, get_or-range_with_len 0 n k d (omega (arith, length-range_with_len 0 n))) in
+    let each : (i : ℕ) → i < 2 * n → length (y i) ≡ 16 =
+    λ i inside. size-x_after n words (i + 1) (omega arith) (omega arith) (omega arith) in
+    let pieces : HaveSize 16 (evens ++ odds) = All-append size evens odds
+    (All-map size (λ i. y (2 * i)) (range_with_len 0 n)
+    (λ k d inside. let below = at k d inside in each (2 * get_or (range_with_len 0 n) k d) (omega arith)))
+    (All-map size (λ i. y (2 * i + 1)) (range_with_len 0 n)
+    (λ k d inside. let below = at k d inside in each (2 * get_or (range_with_len 0 n) k d + 1) (omega arith))) in
+    length-concat 16 (evens ++ odds) pieces
+    ∙ omega (
       arith,
-      first,
-      rest,
-      length-append x (concat (at_even_places (drop 1 blocks))),
-      length-append x (concat blocks),
+      number,
+      length-append evens odds,
+      length-map-range_with_len (λ i. y (2 * i)) 0 n,
+      length-map-range_with_len (λ i. y (2 * i + 1)) 0 n,
     )
-
-pub length-block_mix : (words : List ℕ) (count : ℕ) → length words ≡ 16 * count → length (block_mix words) ≡ 16 * count
-unfolding block_mix at_odd_places
-length-block_mix words count is =
-    let blocks = chunks_exact words 16 in
-    let y = mixed_blocks blocks in
-    let number : length blocks ≡ count = length-chunks_exact words 16 ∙ (ap (λ n. n / 16) is ∙ mul-div_cancel_left count (omega arith)) in
-    let all : length (concat y) ≡ length y * 16 = length-concat 16 y (size-mixed_blocks blocks (size-chunks_exact words 16)) in
-    ap length (concat-append (at_even_places y) (at_odd_places y))
-    ∙ (length-append (concat (at_even_places y)) (concat (at_odd_places y))
-    ∙ (length-even_odd y ∙ omega (arith, all, length-mixed_blocks blocks, number)))
 
 -- The parts under ROMix
 
-length-mixed_back : (n : ℕ) (start : List ℕ) (count : ℕ) → length start ≡ 16 * count
-    → (words : List ℕ) → length words ≡ 16 * count → length (mixed_back n start words) ≡ 16 * count
-unfolding mixed_back xor_words
-length-mixed_back n start count first words is =
+length-mixed_back : (n : ℕ) (start : List ℕ) (r : ℕ) → length start ≡ 32 * r
+    → (words : List ℕ) → length words ≡ 32 * r → length (mixed_back n start words) ≡ 32 * r
+unfolding mixed_back xor_lists
+length-mixed_back n start r first words is =
     let row = iterate block_mix (integerify words % n) start in
-    let row_is : length row ≡ 16 * count =
-    iterate-keeps (λ (x : List ℕ). length x ≡ 16 * count) block_mix (λ x. length-block_mix x count) (integerify words % n) start first in
-    length-block_mix (xor_words words row) count (length-zip2 _ words row (is ∙ sym row_is) ∙ is)
+    let row_is : length row ≡ 32 * r =
+    iterate-keeps (λ (x : List ℕ). length x ≡ 32 * r) block_mix (λ x. length-block_mix x r) (integerify words % n) start first in
+    length-block_mix (xor_lists words row) r (length-zip2 _ words row (is ∙ sym row_is) ∙ is)
 
-length-romix : (n : ℕ) (start : List ℕ) (count : ℕ) → length start ≡ 16 * count → length (romix n start) ≡ 16 * count
+length-romix : (n : ℕ) (start : List ℕ) (r : ℕ) → length start ≡ 32 * r → length (romix n start) ≡ 32 * r
 unfolding romix
-length-romix n start count is =
-    let whole = λ (x : List ℕ). length x ≡ 16 * count in
-    iterate-keeps whole (mixed_back n start) (length-mixed_back n start count is) n (iterate block_mix n start)
-    (iterate-keeps whole block_mix (λ x. length-block_mix x count) n start is)
+length-romix n start r is =
+    let whole = λ (x : List ℕ). length x ≡ 32 * r in
+    iterate-keeps whole (mixed_back n start) (length-mixed_back n start r is) n (iterate block_mix n start)
+    (iterate-keeps whole block_mix (λ x. length-block_mix x r) n start is)
 
-length-mixed_part : (n : ℕ) (bytes : List ℕ) (count : ℕ) → length bytes ≡ 64 * count → length (mixed_part n bytes) ≡ 64 * count
+length-mixed_part : (n : ℕ) (bytes : List ℕ) (r : ℕ) → length bytes ≡ 128 * r → length (mixed_part n bytes) ≡ 128 * r
 unfolding mixed_part words_of bytes_of_words
-length-mixed_part n bytes count is =
-    let words : length (words_of bytes) ≡ 16 * count =
+length-mixed_part n bytes r is =
+    let words : length (words_of bytes) ≡ 32 * r =
     length-map (chunks_exact bytes 4) _ ∙ (length-chunks_exact bytes 4 ∙ omega (arith, is)) in
     length-flat_map_same (little_bytes 4) 4 (romix n (words_of bytes)) (λ k d inside. refl)
-    ∙ omega (arith, length-romix n (words_of bytes) count words)
+    ∙ omega (arith, length-romix n (words_of bytes) r words)
 
--- all parts, each of so many blocks of 64 bytes
-pub length-mixed_parts : (n size blocks count : ℕ) (bytes : List ℕ) → size ≡ 64 * blocks → length bytes ≡ size * count
+-- all parts, each of 2r blocks of 64 bytes
+pub length-mixed_parts : (n size r count : ℕ) (bytes : List ℕ) → size ≡ 128 * r → length bytes ≡ size * count
     → length (mixed_parts n size bytes) ≡ length bytes
 unfolding mixed_parts
-length-mixed_parts n size blocks count bytes size_is whole =
+length-mixed_parts n size r count bytes size_is whole =
     let parts = chunks_exact bytes size in
     length-flat_map_same (mixed_part n) size parts
-    (λ k d inside. length-mixed_part n (get_or parts k d) blocks (size-chunks_exact bytes size k d inside ∙ size_is) ∙ sym size_is)
+    (λ k d inside. length-mixed_part n (get_or parts k d) r (size-chunks_exact bytes size k d inside ∙ size_is) ∙ sym size_is)
     ∙ (ap (λ m. m * size) (length-chunks_exact bytes size) ∙ divided size whole) where
       divided : (size : ℕ) → length bytes ≡ size * count → length bytes / size * size ≡ length bytes
       divided zero is = omega arith

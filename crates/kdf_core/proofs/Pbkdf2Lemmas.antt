@@ -7,7 +7,7 @@ use Rattle.std.proofs.Math.Seq.{take-append-add}
 use Rattle.std.proofs.lemmas.Grind.{flat_map-append}
 use Rattle.std.proofs.lemmas.List.{append-nil, length-take, take_all}
 use Rattle.std.proofs.lemmas.List.Sums.{fold-append}
-use Rattle.prims_core.specs.Words.{big_bytes, xor_bytes}
+use Rattle.prims_core.specs.Words.{big_bytes, xor_lists}
 use Rattle.kdf_core.specs.Hmac.{hmac_sha256}
 use Rattle.kdf_core.specs.Pbkdf2.{chain, block, pbkdf2, pbkdf2_sha256}
 use Rattle.std.specs.Int.{div_ceil}
@@ -32,15 +32,15 @@ block-one password salt i = refl
 
 pub block-more : (password salt : List ℕ) (i rounds : ℕ) → 1 ≤ rounds
     → block hmac_sha256 password salt (rounds + 1) i
-    ≡ xor_bytes (block hmac_sha256 password salt rounds i) (chain hmac_sha256 password salt i (rounds + 1))
+    ≡ xor_lists (block hmac_sha256 password salt rounds i) (chain hmac_sha256 password salt i (rounds + 1))
 unfolding block
 block-more password salt i rounds some =
     let u : ℕ → List ℕ = chain hmac_sha256 password salt i in
     let count : rounds + 1 - 1 ≡ rounds - 1 + 1 = omega arith in
     let more : map u (range_with_len 2 (rounds - 1 + 1)) ≡ map u (range_with_len 2 (rounds - 1)) ++ u (rounds + 1) ∷ [] =
     map-range_with_len_more u 2 (rounds - 1) (rounds + 1) (omega arith) in
-    ap (λ n. fold xor_bytes (u 1) (map u (range_with_len 2 n))) count
-    ∙ (ap (fold xor_bytes (u 1)) more ∙ fold-append xor_bytes (u 1) (map u (range_with_len 2 (rounds - 1))) (u (rounds + 1) ∷ []))
+    ap (λ n. fold xor_lists (u 1) (map u (range_with_len 2 n))) count
+    ∙ (ap (fold xor_lists (u 1)) more ∙ fold-append xor_lists (u 1) (map u (range_with_len 2 (rounds - 1))) (u (rounds + 1) ∷ []))
 
 -- a number more
 pub range-more : (a n : ℕ) → range_with_len a (n + 1) ≡ range_with_len a n ++ (a + n) ∷ []

@@ -1,25 +1,13 @@
 -- What the ceiling on N * r * p bounds.
 use Rattle.std.proofs.Common.{◌≡◌, ℕ, ◌+◌, ◌-◌, ◌*◌, ◌^◌, ◌<◌, ◌≤◌, ap, ◌∙◌, true, false, nat_lt, if◌then◌else◌, arith}
-use Rattle.std.proofs.Math.Nat.{le-mul_of_pos_right, mul-le-mul_right, lt_of_not-le}
+use Rattle.std.proofs.Math.Nat.{le-mul_of_pos_right, mul-le-mul_left, mul-le-mul_right, lt_of_not-le}
 use Rattle.std.proofs.Math.Pow.{pow_mono}
-use Rattle.kdf_core.specs.Params.{ScryptCost, IsAccepted}
+use Rattle.kdf_core.specs.Params.{ScryptCost, rows, IsAccepted, IsBounded}
 use Rattle.kdf_core.specs.Private.Mixing.{IsPower}
 use Rattle.kdf_core.specs.Hmac.{key_bytes}
 use Rattle.kdf_core.specs.Pbkdf2.{block_bytes, pbkdf2_bytes}
-use Rattle.kdf_core.specs.Scrypt.{rows, parts_bytes, table_bytes}
+use Rattle.kdf_core.specs.Scrypt.{parts_bytes, table_bytes}
 use Rattle.std.specs.Int.{div_ceil}
-use Rattle.kdf_core.proofs.Ceiling.{above_from_24}
-
--- the numbers of scrypt, each below its bound
-pub record IsBounded (cost : ScryptCost) : Type 0 where
-  pub log : cost.log_n < 24
-  pub two_rows : 2 ≤ rows cost
-  pub table : rows cost * cost.r ≤ 2 ^ 23
-  pub parts : cost.r * cost.p ≤ 2 ^ 22
-  pub blocks : cost.r ≤ 2 ^ 22
-  pub some_block : 1 ≤ cost.r
-  pub some_part : 1 ≤ cost.p
-  pub mixes : rows cost * cost.p ≤ 2 ^ 23
 
 pub bounded : (cost : ScryptCost) → IsAccepted cost → IsBounded cost
 bounded cost accepted =
@@ -34,8 +22,13 @@ bounded cost accepted =
     let mixes : n * p ≤ n * p * r = le-mul_of_pos_right (n * p) some_r in
     let parts : 2 * (r * p) ≤ n * (r * p) = mul-le-mul_right (r * p) two in
     let blocks : r ≤ r * p = le-mul_of_pos_right r some_p in
+    let low : cost.log_n < 23 = lt_of_not-le (λ high.
+    let power : 2 ^ 23 ≤ n = pow_mono high in
+    let two_r : 2 ≤ r = omega (arith, accepted.in_range.below) in
+    let twice : n * 2 ≤ n * r = mul-le-mul_left n two_r in
+    omega arith) in
     record {
-      log = lt_of_not-le (λ high. above_from_24 cost.log_n r p high some_r some_p within);
+      log = omega (arith, low);
       two_rows = two;
       table = omega arith;
       parts = omega arith;
@@ -88,3 +81,11 @@ all_bytes-fit before password_length salt_length count first last cost accepted 
     let fit : parts_bytes cost ≤ 2 ^ 29 = parts-fit cost accepted in
     bytes-fit before (key_bytes password_length) (div_ceil first 32) (block_bytes salt_length 1) (div_ceil count 32) (block_bytes last 1) a
     (omega (arith, key_bytes-le password_length)) (omega arith) (omega arith) (omega arith) (omega arith)
+
+-- of lengths of at most 2 ^ 32 they fit 64 bits
+pub known_bytes-fit : (key parts tag blocks last : ℕ) → key ≤ 2 ^ 32 → parts ≤ 2 ^ 22 → tag ≤ 2 ^ 33 → blocks ≤ 2 ^ 27 → last ≤ 2 ^ 30
+    → key + 4 * parts * tag + blocks * last < 2 ^ 64
+known_bytes-fit key parts tag blocks last a b c d e =
+    let derived : 4 * parts * tag ≤ 2 ^ 24 * tag = mul-le-mul_right tag (omega arith) in
+    let answer : blocks * last ≤ 2 ^ 27 * last = mul-le-mul_right last d in
+    omega arith

@@ -1,13 +1,13 @@
 -- What scrypt leaves in its result and in the meter, from what its steps leave.
-use Rattle.std.proofs.Common.{◌≡◌, ℕ, ◌+◌, ◌*◌, List, ◌++◌, ◌-◌, length, take, drop, refl, sym, ap, ◌∙◌, arith}
+use Rattle.std.proofs.Common.{◌≡◌, ℕ, ◌+◌, ◌*◌, List, ◌++◌, length, take, drop, refl, sym, ap, ◌∙◌, arith}
 use Rattle.std.specs.Int.{div_ceil}
 use Rattle.std.proofs.lemmas.List.{take_at}
 use Rattle.prims_core.specs.Memory.{written_over}
 use Rattle.prims_core.specs.Meter.{Counts, with_work}
-use Rattle.kdf_core.specs.Hmac.{key_digests, key_bytes}
-use Rattle.kdf_core.specs.Params.{ScryptCost}
-use Rattle.kdf_core.specs.Pbkdf2.{pbkdf2_sha256, pbkdf2_digests, pbkdf2_bytes}
-use Rattle.kdf_core.specs.Scrypt.{rows, part_bytes, parts_bytes, mixed_parts, scrypt, scrypt_digests, scrypt_bytes}
+use Rattle.kdf_core.specs.Hmac.{key_digests, key_bytes, tag_bytes}
+use Rattle.kdf_core.specs.Params.{ScryptCost, rows}
+use Rattle.kdf_core.specs.Pbkdf2.{pbkdf2_sha256, block_bytes, pbkdf2_digests, pbkdf2_bytes}
+use Rattle.kdf_core.specs.Scrypt.{part_bytes, parts_bytes, mixed_parts, scrypt, scrypt_digests, scrypt_bytes}
 use Rattle.kdf_core.proofs.ScryptBounds.{parts-blocks}
 
 -- what is written over a list of its length stands there as it is
@@ -86,12 +86,12 @@ pub bytes-are : (cost : ScryptCost) (password_length salt_length count first las
 unfolding scrypt_bytes
 bytes-are cost password_length salt_length count first last is last_is =
     let blocks : div_ceil first 32 ≡ 4 * (cost.r * cost.p) = ap (λ n. div_ceil n 32) is ∙ parts-blocks cost in
-    let derived : pbkdf2_bytes salt_length 1 first ≡ 4 * (cost.r * cost.p) * (164 + salt_length) =
-    ap (λ n. n * (160 + (salt_length + 4) + (160 + 32) * (1 - 1))) blocks ∙ omega arith in
-    let answer : pbkdf2_bytes last 1 count ≡ div_ceil count 32 * (164 + 128 * (cost.r * cost.p)) =
-    ap (λ n. div_ceil count 32 * (160 + (n + 4) + (160 + 32) * (1 - 1))) last_is ∙ omega arith in
+    let derived : pbkdf2_bytes salt_length 1 first ≡ 4 * (cost.r * cost.p) * tag_bytes (salt_length + 4) =
+    ap (λ n. n * block_bytes salt_length 1) blocks ∙ omega arith in
+    let answer : pbkdf2_bytes last 1 count ≡ div_ceil count 32 * tag_bytes (parts_bytes cost + 4) =
+    ap (λ n. div_ceil count 32 * block_bytes n 1) last_is ∙ omega arith in
     ap (λ n. key_bytes password_length + n + pbkdf2_bytes last 1 count) derived
-    ∙ ap (λ n. key_bytes password_length + 4 * (cost.r * cost.p) * (164 + salt_length) + n) answer
+    ∙ ap (λ n. key_bytes password_length + 4 * (cost.r * cost.p) * tag_bytes (salt_length + 4) + n) answer
 
 -- the counts where the third growth is refused
 pub after_two_growths : (m0 m1 m2 m3 : Counts) (t s table parts : ℕ) → m1 ≡ record m0 { table = m0.table + t }

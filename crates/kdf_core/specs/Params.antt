@@ -10,6 +10,10 @@ pub record ScryptCost : Type 0 where
 abbrev pub cost_of : ℕ → ℕ → ℕ → ScryptCost
 cost_of log_n r p = record { log_n = log_n; r = r; p = p }
 
+-- N, the number of rows of a table
+abbrev pub rows : ScryptCost → ℕ
+rows cost = 2 ^ cost.log_n
+
 -- log2 N is at least 1 and stays below 16 r, and neither r nor p is 0
 pub record IsInRange (cost : ScryptCost) : Type 0 where
   pub above_one : 0 < cost.log_n
@@ -22,9 +26,20 @@ abbrev pub ceiling : ℕ
 ceiling = 8388608
 
 abbrev pub IsWithinCeiling : ScryptCost → Type 0
-IsWithinCeiling cost = 2 ^ cost.log_n * cost.r * cost.p ≤ ceiling
+IsWithinCeiling cost = rows cost * cost.r * cost.p ≤ ceiling
 
 -- the numbers that scrypt is run with
 pub record IsAccepted (cost : ScryptCost) : Type 0 where
   pub in_range : IsInRange cost
   pub within : IsWithinCeiling cost
+
+-- what each of the accepted numbers, and each product of two of them, is at most: N is at most 2 ^ 22
+pub record IsBounded (cost : ScryptCost) : Type 0 where
+  pub log : cost.log_n ≤ 22
+  pub two_rows : 2 ≤ rows cost
+  pub table : rows cost * cost.r ≤ 2 ^ 23
+  pub parts : cost.r * cost.p ≤ 2 ^ 22
+  pub blocks : cost.r ≤ 2 ^ 22
+  pub some_block : 1 ≤ cost.r
+  pub some_part : 1 ≤ cost.p
+  pub mixes : rows cost * cost.p ≤ 2 ^ 23

@@ -6,7 +6,7 @@
 ghost use Rattle.std.specs.Prelude.{◌≡◌, ℕ, ◌+◌, ◌^◌, ◌<◌, List, ◌++◌, length, replicate};
 ghost use Rattle.prims_core.specs.Digests.{sha256};
 ghost use Rattle.prims_core.specs.Meter.{with_work};
-ghost use Rattle.prims_core.specs.Words.{xor_bytes};
+ghost use Rattle.prims_core.specs.Words.{xor_lists};
 ghost use Rattle.kdf_core.specs.Hmac.{hmac_sha256, key_block, IsKeyOf, key_digests, key_bytes, tag_bytes};
 
 use crate::xor::xor_into;
@@ -15,12 +15,15 @@ use prims_core::meter::Meter;
 use std::marker::Model;
 
 /// The bytes of a block of SHA-256, to which a key is brought.
-const BLOCK: usize = 64;
+pub(crate) const SHA256_BLOCK: usize = 64;
 
-/// The byte of the inner pad.
+/// The bytes of its digest.
+pub(crate) const SHA256_LENGTH: usize = 32;
+
+// The byte of the inner pad.
 const IPAD: u8 = 0x36;
 
-/// The byte of the outer pad.
+// The byte of the outer pad.
 const OPAD: u8 = 0x5c;
 
 /// A key of HMAC-SHA-256, ready for tags. Contracts speak of the key that it was made of, by
@@ -79,9 +82,9 @@ fn block_of(key: &[u8], meter: &mut Meter) -> [u8; 64]
     ensures count { meter.new ≡ with_work meter.old (key_digests (length key.now)) (key_bytes (length key.now)) }
 {
     let mut block = [0; 64];
-    if key.len() > BLOCK {
+    if key.len() > SHA256_BLOCK {
         let digest = digest_of(key, &[], &[], meter);
-        block[..32].copy_from_slice(&digest);
+        block[..SHA256_LENGTH].copy_from_slice(&digest);
     } else {
         block[..key.len()].copy_from_slice(key);
     }
@@ -90,7 +93,7 @@ fn block_of(key: &[u8], meter: &mut Meter) -> [u8; 64]
 
 // A block under a pad.
 fn padded(block: &[u8; 64], pad: u8) -> [u8; 64]
-    ensures { result ≡ xor_bytes block.now (replicate 64 pad) }
+    ensures { result ≡ xor_lists block.now (replicate 64 pad) }
 {
     let mut padded = *block;
     xor_into(&mut padded, &[pad; 64]);

@@ -8,4 +8,5 @@ pub mod pbkdf2;
 pub mod scrypt;
 #[cfg(test)]
 mod tests;
+pub mod work;
 mod xor;

@@ -4,12 +4,12 @@
 //! the memory that it stands for.
 
 ghost use Rattle.std.specs.Prelude.{◌≡◌, ◌↔◌, IfOk, IsOk, IsTrue};
-ghost use Rattle.kdf_core.specs.Params.{cost_of, IsInRange, IsWithinCeiling, IsAccepted};
+ghost use Rattle.kdf_core.specs.Params.{cost_of, rows, IsInRange, IsWithinCeiling, IsAccepted, IsBounded};
 
 use std::marker::Model;
 use thiserror::Error;
 
-/// The largest product `N * r * p`: 2^23, so that a table of `128 * N * r` bytes has at most 2^30.
+// The largest product `N * r * p`: 2^23, so that a table of `128 * N * r` bytes has at most 2^30.
 const CEILING: u64 = 8_388_608;
 
 /// Why three numbers are no parameters of scrypt.
@@ -83,6 +83,14 @@ impl Params {
         ensures accepted { IsAccepted self.now }
     {
         self.log_n
+    }
+
+    /// N, the number of rows of the table: a power of two of at most 2^22.
+    pub fn row_count(&self) -> u32
+        ensures number { result ≡ rows self.now }
+        ensures bounded { IsBounded self.now }
+    {
+        1 << self.log_n()
     }
 
     /// The block size r, in units of 128 bytes.

@@ -8,13 +8,10 @@ ghost use Rattle.prims_core.specs.Meter.{with_work};
 ghost use Rattle.kdf_core.specs.Hmac.{hmac_sha256, IsKeyOf};
 ghost use Rattle.kdf_core.specs.Pbkdf2.{block, block_bytes, pbkdf2_sha256, pbkdf2_digests, pbkdf2_bytes};
 
-use crate::hmac::HmacKey;
+use crate::hmac::{HmacKey, SHA256_LENGTH};
 use crate::xor::xor_into;
 use prims_core::meter::Meter;
 use prims_core::words::number_be;
-
-/// The bytes of a block.
-const BLOCK: usize = 32;
 
 /// Fills `out` with bytes derived from a password, which `key` was made of, and a salt
 /// (RFC 8018, section 5.2).
@@ -32,9 +29,9 @@ pub fn pbkdf2(key: &HmacKey, salt: &[u8], rounds: u32, out: &mut [u8], meter: &m
     ensures count { meter.new ≡ with_work meter.old (pbkdf2_digests rounds (length out.old))
         (pbkdf2_bytes (length salt.now) rounds (length out.old)) }
 {
-    'filling: for i in 0..out.len().div_ceil(BLOCK) {
+    'filling: for i in 0..out.len().div_ceil(SHA256_LENGTH) {
         let block = derived_block(key, salt, rounds, i as u32 + 1, meter);
-        put_block(out, BLOCK * i, &block);
+        put_block(out, SHA256_LENGTH * i, &block);
     }
 }
 
@@ -67,6 +64,6 @@ fn put_block(out: &mut [u8], start: usize, block: &[u8; 32])
     requires { start < length out.old }
     ensures { take (start + 32) out.new ≡ take start out.old ++ take (length out.old - start) block.now }
 {
-    let count = (out.len() - start).min(BLOCK);
+    let count = (out.len() - start).min(SHA256_LENGTH);
     out[start..start + count].copy_from_slice(&block[..count]);
 }

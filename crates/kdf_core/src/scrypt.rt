@@ -6,9 +6,10 @@
 ghost use Rattle.std.specs.Prelude.{◌≡◌, ℕ, ◌+◌, ◌-◌, ◌*◌, ◌/◌, ◌^◌, ◌%◌, ◌<◌, ◌≤◌, List, length, OnOk, OnErr};
 ghost use Rattle.std.specs.Fn.{iterate};
 ghost use Rattle.prims_core.specs.BlockMix.{block_mix as mixed};
-ghost use Rattle.prims_core.specs.Meter.{AreInAll};
-ghost use Rattle.kdf_core.specs.Private.Mixing.{HasShape, HoldsMixings, AreHalves, IsPower};
-ghost use Rattle.kdf_core.specs.Scrypt.{scrypt, rows, integerify, mixed_back, romix, mixed_part, mixed_parts, scrypt_bytes, scrypt_digests, scrypt_messages, with_scrypt, IsAfterRefusal, HasRoom};
+ghost use Rattle.prims_core.specs.Meter.{AreInAll, HasRoom};
+ghost use Rattle.kdf_core.specs.Params.{IsBounded};
+ghost use Rattle.kdf_core.specs.Private.Mixing.{HasShape, HoldsMixings, AreHalves, IsPower, part_words};
+ghost use Rattle.kdf_core.specs.Scrypt.{scrypt, integerify, mixed_back, romix, mixed_part, mixed_parts, scrypt_bytes, scrypt_digests, scrypt_messages, with_scrypt, IsAfterRefusal};
 
 use crate::hmac::HmacKey;
 use crate::params::Params;
@@ -20,8 +21,14 @@ use prims_core::table::Table;
 use prims_core::words::{load_words, store_words};
 use std::alloc::{AllocError, Global};
 
-/// The words of a 64-byte block.
-const BLOCK_WORDS: usize = 16;
+/// The bytes of two blocks, in which r counts.
+pub(crate) const UNIT_BYTES: usize = 128;
+
+// Their words, of 4 bytes each.
+const UNIT_WORDS: usize = UNIT_BYTES / 4;
+
+// The words of a block.
+const BLOCK_WORDS: usize = UNIT_WORDS / 2;
 
 /// Fills `out` with bytes derived from a password and a salt (RFC 7914, section 6).
 ///
@@ -51,13 +58,14 @@ pub fn scrypt(
         (scrypt_bytes params.now (length password.now) (length salt.now) (length out.old)) }
     ensures unchanged { OnErr result (out.new ≡ out.old) }
     ensures refused { OnErr result (IsAfterRefusal meter.old params.now meter.new) }
+    ensures bounded { IsBounded params.now }
 {
-    let rows = row_count(params);
+    let rows = params.row_count() as usize;
     let r = params.r() as usize;
     let p = params.p() as usize;
-    let mut table = Table::new(alloc, rows, 32 * r, meter)?;
-    let mut parts = ByteScratch::new(alloc, 128 * r * p, meter)?;
-    let mut halves = WordScratch::new(alloc, 64 * r, meter)?;
+    let mut table = Table::new(alloc, rows, UNIT_WORDS * r, meter)?;
+    let mut parts = ByteScratch::new(alloc, UNIT_BYTES * r * p, meter)?;
+    let mut halves = WordScratch::new(alloc, 2 * UNIT_WORDS * r, meter)?;
     let key = HmacKey::new(password, meter);
     pbkdf2(&key, salt, 1, parts.bytes_mut(), meter);
     mix_parts(
@@ -72,13 +80,6 @@ pub fn scrypt(
     Ok(())
 }
 
-// N, a power of two of at most 2^22.
-fn row_count(params: &Params) -> usize
-    ensures { result ≡ rows params.now }
-{
-    1 << params.log_n()
-}
-
 // Each of the parts under ROMix, one after another in the same memory.
 fn mix_parts(
     parts: &mut [u8],
@@ -89,7 +90,7 @@ fn mix_parts(
     meter: &mut Meter,
 )
     requires power { (k : ℕ) × IsPower rows k }
-    requires some_block { (r : ℕ) × (1 ≤ r) × (length halves.old ≡ 64 * r) }
+    requires some_block { (r : ℕ) × (1 ≤ r) × (length halves.old ≡ 2 * part_words r) }
     requires whole { length parts.old ≡ 2 * length halves.old * count }
     requires shape { HasShape table.old rows (length halves.old / 2) }
     requires room { meter.old.mixes + 2 * rows * count < 2 ^ 128 }
@@ -111,7 +112,7 @@ fn mix_parts(
 // A part under ROMix.
 fn mix_part(part: &mut [u8], rows: usize, table: &mut Table, halves: &mut [u32], meter: &mut Meter)
     requires power { (k : ℕ) × IsPower rows k }
-    requires some_block { (r : ℕ) × (1 ≤ r) × (length halves.old ≡ 64 * r) }
+    requires some_block { (r : ℕ) × (1 ≤ r) × (length halves.old ≡ 2 * part_words r) }
     requires whole { length part.old ≡ 2 * length halves.old }
     requires shape { HasShape table.old rows (length halves.old / 2) }
     requires room { meter.old.mixes + 2 * rows < 2 ^ 128 }
@@ -119,8 +120,8 @@ fn mix_part(part: &mut [u8], rows: usize, table: &mut Table, halves: &mut [u32],
     ensures shape { HasShape table.new rows (length halves.old / 2) }
     ensures count { meter.new ≡ record meter.old { mixes = meter.old.mixes + 2 * rows } }
 {
-    let half = halves.len() / 2;
-    let (x, y) = halves.split_at_mut(half);
+    let part_words = halves.len() / 2;
+    let (x, y) = halves.split_at_mut(part_words);
     load_words(part, x);
     fill_table(table, rows, x, meter);
     mix_with_rows(table, rows, x, y, meter);
@@ -131,7 +132,7 @@ fn mix_part(part: &mut [u8], rows: usize, table: &mut Table, halves: &mut [u32],
 // leaves it in `x` after N.
 fn fill_table(table: &mut Table, rows: usize, x: &mut [u32], meter: &mut Meter)
     requires power { (k : ℕ) × IsPower rows k }
-    requires some_block { (r : ℕ) × (1 ≤ r) × (length x.old ≡ 32 * r) }
+    requires some_block { (r : ℕ) × (1 ≤ r) × (length x.old ≡ part_words r) }
     requires shape { HasShape table.old rows (length x.old) }
     requires room { meter.old.mixes + rows < 2 ^ 128 }
     ensures shape { HasShape table.new rows (length x.old) }
@@ -171,14 +172,14 @@ fn mix_back(table: &Table, rows: usize, x: &mut [u32], y: &mut [u32], meter: &mu
     ensures mixed { (start : List ℕ) → HoldsMixings table.now rows start → y.new ≡ mixed_back rows start x.old }
     ensures count { meter.new ≡ record meter.old { mixes = meter.old.mixes + 1 } }
 {
-    let row = table.row(index(x, rows));
+    let row = table.row(integerify(x, rows));
     block_mix_xor(x, row, y, meter);
 }
 
 // Integerify (X) mod N. As N is a power of two of at most 2^32, the block's first word decides.
-fn index(words: &[u32], rows: usize) -> usize
+fn integerify(words: &[u32], rows: usize) -> usize
     requires power { (k : ℕ) × IsPower rows k }
-    requires some_block { 16 ≤ length words.now }
+    requires some_block { BLOCK_WORDS ≤ length words.now }
     ensures { result ≡ integerify words.now % rows }
 {
     words[words.len() - BLOCK_WORDS] as usize % rows

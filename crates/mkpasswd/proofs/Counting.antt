@@ -2,7 +2,7 @@
 use Rattle.std.proofs.Common.{◌≡◌, ℕ, ◌+◌, ◌-◌, List, ◌++◌, ap, ◌∙◌, append_assoc, refl, arith}
 use Rattle.prims_core.specs.Meter.{Counts}
 use Rattle.crypt_core.specs.Work.{raised_by}
-use Rattle.crypt_core.specs.declared.work.Work.{Work}
+use Rattle.prims_core.specs.declared.work.Work.{Work}
 use Rattle.mkpasswd.specs.Answers.{no_work}
 use Rattle.mkpasswd.specs.Private.Made.{rise}
 

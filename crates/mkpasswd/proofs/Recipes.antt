@@ -1,10 +1,9 @@
 -- What `Setting::make` says of a salt that any method takes, and of a made one.
-use Rattle.std.proofs.Common.{◌≡◌, ℕ, List, [], ◌∷◌, length, All, Option, Some, None, unwrap_or, inl, inr, refl, sym, ap, subst, arith}
+use Rattle.std.proofs.Common.{◌≡◌, ℕ, List, [], ◌∷◌, length, All, Contains, Option, Some, None, unwrap_or, inl, inr, refl, sym, ap, subst, arith}
 use Rattle.std.proofs.lemmas.List.Elements.{All-from_recursion}
 use Rattle.std.specs.Borrow.{Bor}
 use Rattle.prims_core.specs.Alphabet.{alphabet}
 use Rattle.crypt_core.specs.MadeSettings.{BreaksMake, IsMakeRefused, IsMakeable, TakesCost, make_rule_number}
-use Rattle.crypt_core.specs.Settings.{IsCharacter}
 use Rattle.crypt_core.specs.declared.method.Method.{Method}
 use Rattle.crypt_core.specs.declared.method.Method.TheVariants.{Md5crypt, Sha256crypt, Sha512crypt, Scrypt}
 use Rattle.crypt_core.specs.declared.setting.fault.MakeFault.{MakeFault}
@@ -12,7 +11,7 @@ use Rattle.crypt_core.specs.declared.setting.fault.MakeFault.TheVariants.{SaltLe
 use Rattle.mkpasswd.specs.Makers.{IsAccepted, IsRefused, bytes_of, made_salt_length}
 
 -- as many characters as a made salt has make a salt that the method takes
-pub made_is_makeable : (m : Method) (cost : ℕ) (salt : List ℕ) → length salt ≡ made_salt_length m → All IsCharacter salt → TakesCost m cost → IsMakeable m cost salt
+pub made_is_makeable : (m : Method) (cost : ℕ) (salt : List ℕ) → length salt ≡ made_salt_length m → All (Contains alphabet) salt → TakesCost m cost → IsMakeable m cost salt
 made_is_makeable Md5crypt cost salt len all taken = record { some = omega arith; short = omega arith; characters = all; taken = taken }
 made_is_makeable Sha256crypt cost salt len all taken = record { some = omega arith; short = omega arith; characters = all; taken = taken }
 made_is_makeable Sha512crypt cost salt len all taken = record { some = omega arith; short = omega arith; characters = all; taken = taken }
@@ -23,9 +22,9 @@ made_is_makeable Scrypt cost salt len all taken = record { some = omega arith; s
 abbrev pub dot : List ℕ
 dot = 46 ∷ []
 
-dot_characters : All IsCharacter dot
+dot_characters : All (Contains alphabet) dot
 unfolding alphabet
-dot_characters = All-from_recursion IsCharacter dot (record { in_alphabet = (0, omega arith, refl) }, tt)
+dot_characters = All-from_recursion (Contains alphabet) dot ((0, omega arith, refl), tt)
 
 dot_is_makeable : (m : Method) (cost : ℕ) → TakesCost m cost → IsMakeable m cost dot
 dot_is_makeable Md5crypt cost taken = record { some = omega arith; short = omega arith; characters = dot_characters; taken = taken }

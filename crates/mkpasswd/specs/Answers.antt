@@ -5,7 +5,7 @@ use Rattle.prims_core.specs.Meter.{Counts}
 use Rattle.crypt_core.specs.Crypt.{crypt, IsRefusedBy}
 use Rattle.crypt_core.specs.Settings.{Kept}
 use Rattle.crypt_core.specs.Work.{raised_by, work}
-use Rattle.crypt_core.specs.declared.work.Work.{Work}
+use Rattle.prims_core.specs.declared.work.Work.{Work}
 use Rattle.mkpasswd.specs.Makers.{setting_by, words_for}
 use Rattle.mkpasswd.specs.Tallies.{no_line, one_line}
 use Rattle.mkpasswd.specs.Texts.{as_line}

@@ -4,7 +4,7 @@ use Rattle.rand_core.specs.Stream.{Stream}
 use Rattle.crypt_core.specs.Crypt.{crypt}
 use Rattle.crypt_core.specs.Settings.{Kept, Spells}
 use Rattle.crypt_core.specs.Work.{work}
-use Rattle.crypt_core.specs.declared.work.Work.{Work}
+use Rattle.prims_core.specs.declared.work.Work.{Work}
 use Rattle.mkpasswd.specs.Answers.{Answer, hashed_answer, no_work, wanted_text}
 use Rattle.mkpasswd.specs.LineFaults.{line_fault_text}
 use Rattle.mkpasswd.specs.Lines.{Parts, HasParts, IsLineRefused, IsLocked, IsSound}

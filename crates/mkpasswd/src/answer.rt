@@ -2,7 +2,8 @@
 ghost use Rattle.std.specs.Prelude.{◌≡◌, ◌+◌, ◌-◌, ◌^◌, ◌≤◌, ◌++◌, [], ◌∷◌, length, IfOk, OnOk, OnErr};
 ghost use Rattle.arrayvec.specs.ArrayVec.{array_vec_len};
 ghost use Rattle.crypt_core.specs.Crypt.{IsRefusedBy};
-ghost use Rattle.crypt_core.specs.Work.{raised_by, work, HasRoom};
+ghost use Rattle.crypt_core.specs.Work.{raised_by, work};
+ghost use Rattle.prims_core.specs.Meter.{HasRoom};
 ghost use Rattle.rand_core.specs.Stream.{Stream};
 ghost use Rattle.mkpasswd.specs.Answers.{Answer, count_text, counts_text, hash_text, hashed_answer};
 ghost use Rattle.mkpasswd.specs.LineAnswers.{IsAnswer, front_of, refused_answer};

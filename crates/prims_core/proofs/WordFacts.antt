@@ -4,7 +4,7 @@ use Rattle.std.proofs.lemmas.Grind.{same_number_lists}
 use Rattle.std.proofs.lemmas.List.{get_or-map, get_or-take, length-map}
 use Rattle.std.specs.Simd.Lanes.{zip2}
 use Rattle.std.proofs.lemmas.Simd.{length-zip2}
-use Rattle.prims_core.specs.Words.{chunks_exact, little_number, words_of, xor_words}
+use Rattle.prims_core.specs.Words.{chunks_exact, little_number, words_of, xor_lists}
 use Rattle.prims_core.proofs.ChunkFacts.{length-chunks_exact, get_or-chunks_exact}
 
 -- the number of four bytes reads no further byte
@@ -49,12 +49,12 @@ drop-zip2 f (suc n) [] ys = refl
 drop-zip2 f (suc n) (x ∷ xs) [] = sym (zip2-nil f (drop n xs))
 drop-zip2 f (suc n) (x ∷ xs) (y ∷ ys) = drop-zip2 f n xs ys
 
-pub part-xor_words : (size start : ℕ) (xs ys : List ℕ)
-    → take size (drop start (xor_words xs ys)) ≡ xor_words (take size (drop start xs)) (take size (drop start ys))
-unfolding xor_words
-part-xor_words size start xs ys =
+pub part-xor_lists : (size start : ℕ) (xs ys : List ℕ)
+    → take size (drop start (xor_lists xs ys)) ≡ xor_lists (take size (drop start xs)) (take size (drop start ys))
+unfolding xor_lists
+part-xor_lists size start xs ys =
     ap (take size) (drop-zip2 bit_xor start xs ys) ∙ take-zip2 bit_xor size (drop start xs) (drop start ys)
 
-pub length-xor_words : (xs ys : List ℕ) → length ys ≡ length xs → length (xor_words xs ys) ≡ length xs
-unfolding xor_words
-length-xor_words xs ys same = length-zip2 bit_xor xs ys (sym same)
+pub length-xor_lists : (xs ys : List ℕ) → length ys ≡ length xs → length (xor_lists xs ys) ≡ length xs
+unfolding xor_lists
+length-xor_lists xs ys same = length-zip2 bit_xor xs ys (sym same)

@@ -1,30 +1,29 @@
 -- scryptBlockMix (RFC 7914, section 4), on the 32r words of 2r blocks of 64 bytes.
-use Rattle.std.specs.Prelude.{ℕ, ◌-◌, List, [], ◌∷◌, ◌++◌, length, drop, slice_index_or}
-use Rattle.std.specs.List.{concat, scan}
-use Rattle.prims_core.specs.Words.{chunks_exact, xor_words}
+use Rattle.std.specs.Prelude.{ℕ, zero, suc, ◌+◌, ◌-◌, ◌*◌, ◌/◌, List, ◌++◌, length, take, drop, map}
+use Rattle.std.specs.List.{concat, range_with_len}
+use Rattle.prims_core.specs.Words.{xor_lists}
 use Rattle.prims_core.specs.Salsa.{salsa20_8}
 
--- Salsa20/8 of X xor B[i]
+-- B[i], the sixteen words of block i
+abbrev pub block_at : ℕ → List ℕ → List ℕ
+block_at i words = take 16 (drop (16 * i) words)
+
+-- Salsa20/8 of X xor a block
 abbrev pub mixed_block : List ℕ → List ℕ → List ℕ
-mixed_block x block = salsa20_8 (xor_words x block)
+mixed_block x block = salsa20_8 (xor_lists x block)
 
--- Y[0], Y[1], ..: each block mixed with the result before it, and the first with the last block
-unfoldable pub mixed_blocks : List (List ℕ) → List (List ℕ)
-mixed_blocks blocks =
-    scan mixed_block mixed_block (slice_index_or blocks (length blocks - 1) []) blocks
+-- X once i blocks are mixed: the last block at first, and then Salsa20/8 of X xor B[i] (steps 1 and 2)
+unfoldable pub x_after : ℕ → List ℕ → ℕ → List ℕ
+x_after r words zero = block_at (2 * r - 1) words
+x_after r words (suc i) = mixed_block (x_after r words i) (block_at i words)
 
--- the blocks at the places 0, 2, 4, ..
-unfoldable pub at_even_places : List (List ℕ) → List (List ℕ)
-at_even_places [] = []
-at_even_places (x ∷ []) = x ∷ []
-at_even_places (x ∷ y ∷ rest) = x ∷ at_even_places rest
+-- Y[i], which is X once block i is mixed too
+abbrev pub y_at : ℕ → List ℕ → ℕ → List ℕ
+y_at r words i = x_after r words (i + 1)
 
--- the blocks at the places 1, 3, 5, ..
-unfoldable pub at_odd_places : List (List ℕ) → List (List ℕ)
-at_odd_places blocks = at_even_places (drop 1 blocks)
-
--- Y[0], Y[2], .., and then Y[1], Y[3], ..
+-- Y[0], Y[2], .., and then Y[1], Y[3], .., of each r (step 3)
 unfoldable pub block_mix : List ℕ → List ℕ
 block_mix words =
-    let y = mixed_blocks (chunks_exact words 16) in
-    concat (at_even_places y ++ at_odd_places y)
+    let r = length words / 32 in
+    let y = y_at r words in
+    concat (map (λ i. y (2 * i)) (range_with_len 0 r) ++ map (λ i. y (2 * i + 1)) (range_with_len 0 r))

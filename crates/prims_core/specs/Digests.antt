@@ -4,3 +4,7 @@ pub use Rattle.md5.specs.Md5.{md5, Holds as HoldsMd5}
 pub use Rattle.sha2.specs.Sha256.{sha256}
 pub use Rattle.sha2.specs.Sha512.{sha512}
 pub use Rattle.sha2.specs.Hashers.{Holds256 as HoldsSha256, Holds512 as HoldsSha512}
+-- how many bytes each digest has, whatever the message
+pub use Rattle.md5.proofs.StandardFacts.{length-md5}
+pub use Rattle.sha2.proofs.Facts256.{length-sha256}
+pub use Rattle.sha2.proofs.Facts512.{length-sha512}

@@ -6,3 +6,4 @@ pub mod Meter
 pub mod Private
 pub mod Salsa
 pub mod Words
+pub mod Work

@@ -1,5 +1,5 @@
 -- What a meter has counted.
-use Rattle.std.specs.Prelude.{◌≡◌, ℕ, ◌+◌, List, length, sum_by}
+use Rattle.std.specs.Prelude.{◌≡◌, ℕ, ◌+◌, ◌^◌, ◌≤◌, List, length, sum_by}
 
 -- the five counts of the work done
 pub record Counts : Type 0 where
@@ -27,3 +27,15 @@ with_work counts digests bytes =
 pub record AreInAll (messages : List (List ℕ)) (digests bytes : ℕ) : Type 0 where
   pub number : length messages ≡ digests
   pub sum : sum_by length messages ≡ bytes
+
+-- counts that leave room for the work of any hash
+pub record HasRoom (counts : Counts) : Type 0 where
+  pub digests : counts.digests ≤ 2 ^ 120
+  pub bytes : counts.bytes ≤ 2 ^ 120
+  pub mixes : counts.mixes ≤ 2 ^ 120
+  pub table : counts.table ≤ 2 ^ 120
+  pub scratch : counts.scratch ≤ 2 ^ 120
+
+-- the two counts that digests raise leave that room
+abbrev pub HasDigestRoom : Counts → Type 0
+HasDigestRoom counts = (counts.digests ≤ 2 ^ 120) × (counts.bytes ≤ 2 ^ 120)

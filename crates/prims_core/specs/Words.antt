@@ -6,13 +6,9 @@ use Rattle.std.specs.Simd.Lanes.{zip2}
 -- lowest of them first; and the number that so many bytes are, the lowest first
 pub use Rattle.byteorder.specs.Endian.{big_bytes, little_bytes, little_number}
 
--- the exclusive or of two strings of one length, byte by byte
-unfoldable pub xor_bytes : List ℕ → List ℕ → List ℕ
-xor_bytes xs ys = zip2 bit_xor xs ys
-
--- the exclusive or of two lists of words of one length, word by word
-unfoldable pub xor_words : List ℕ → List ℕ → List ℕ
-xor_words xs ys = zip2 bit_xor xs ys
+-- the exclusive or of two lists of one length, of bytes or of words, item by item
+unfoldable pub xor_lists : List ℕ → List ℕ → List ℕ
+xor_lists xs ys = zip2 bit_xor xs ys
 
 -- a list in pieces of so many items, as `chunks_exact` cuts a slice
 unfoldable pub chunks_exact : List ℕ → ℕ → List (List ℕ)

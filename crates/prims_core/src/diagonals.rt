@@ -6,7 +6,7 @@
 
 ghost use Rattle.std.specs.Prelude.{◌≡◌, length};
 ghost use Rattle.std.specs.Simd.Lanes.{zip2};
-ghost use Rattle.prims_core.specs.Words.{xor_words};
+ghost use Rattle.prims_core.specs.Words.{xor_lists};
 ghost use Rattle.prims_core.specs.Salsa.{sum_of_words};
 
 use std::marker::Model;
@@ -71,7 +71,7 @@ impl Diagonals {
     /// The exclusive or of two blocks.
     #[inline(always)]
     pub(crate) fn xor(&self, other: &Diagonals) -> Diagonals
-        ensures { result ≡ xor_words self.now other.now }
+        ensures { result ≡ xor_lists self.now other.now }
     {
         Diagonals {
             first: self.first ^ other.first,

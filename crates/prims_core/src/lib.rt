@@ -14,3 +14,4 @@ pub mod salsa;
 pub mod scratch;
 pub mod table;
 pub mod words;
+pub mod work;

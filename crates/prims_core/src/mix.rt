@@ -4,10 +4,10 @@
 //! block, and the results at even places come before those at odd places. ROMix (section 5) mixes the
 //! exclusive or of blocks and a row of its table, which has a call of its own.
 
-ghost use Rattle.std.specs.Prelude.{◌≡◌, ℕ, ◌+◌, ◌*◌, ◌^◌, ◌<◌, ◌≤◌, ◌⊎◌, List, [], length, slice_index_or};
-ghost use Rattle.prims_core.specs.BlockMix.{block_mix, mixed_block};
-ghost use Rattle.prims_core.specs.Private.Mixing.{block_at, ArePlaced, IsXored};
-ghost use Rattle.prims_core.specs.Words.{xor_words};
+ghost use Rattle.std.specs.Prelude.{◌≡◌, ℕ, ◌+◌, ◌*◌, ◌^◌, ◌<◌, ◌≤◌, ◌⊎◌, List, length};
+ghost use Rattle.prims_core.specs.BlockMix.{block_at, block_mix, mixed_block};
+ghost use Rattle.prims_core.specs.Private.Mixing.{ArePlaced, IsXored};
+ghost use Rattle.prims_core.specs.Words.{xor_lists};
 
 use crate::diagonals::Diagonals;
 use crate::meter::Meter;
@@ -21,7 +21,7 @@ pub(crate) mod tests;
 const BLOCK_WORDS: usize = 16;
 
 // How many blocks ahead of the mixing the exclusive or with a row goes, so that a row which is far off in
-// memory comes in meanwhile. The invariants of `block_mix_xor` have the number too.
+// memory comes in meanwhile.
 const AHEAD: usize = 8;
 
 /// Mixes the 2r blocks of `src` into `dst`, and counts one mixing.
@@ -33,11 +33,11 @@ pub fn block_mix(src: &[u32], dst: &mut [u32], meter: &mut Meter)
     ensures mixed { dst.new ≡ block_mix src.now }
     ensures count { meter.new ≡ record meter.old { mixes = meter.old.mixes + 1 } }
 {
-    let half = src.len() / (2 * BLOCK_WORDS);
-    let mut x = Diagonals::of(block(src, 2 * half - 1));
-    'mixing: for i in 0..2 * half {
+    let r = src.len() / (2 * BLOCK_WORDS);
+    let mut x = Diagonals::of(block(src, 2 * r - 1));
+    'mixing: for i in 0..2 * r {
         x = mixed_block(&x, &Diagonals::of(block(src, i)));
-        put_result(&x, dst, i, half);
+        put_result(&x, dst, i, r);
     }
     meter.count_mix();
 }
@@ -50,30 +50,29 @@ pub fn block_mix_xor(src: &mut [u32], row: &[u32], dst: &mut [u32], meter: &mut 
     requires blocks { (r : ℕ) × (1 ≤ r) × (length src.old ≡ 32 * r) × (length row.now ≡ 32 * r)
         × (length dst.old ≡ 32 * r) }
     requires room { meter.old.mixes + 1 < 2 ^ 128 }
-    ensures xored { src.new ≡ xor_words src.old row.now }
-    ensures mixed { dst.new ≡ block_mix (xor_words src.old row.now) }
+    ensures xored { src.new ≡ xor_lists src.old row.now }
+    ensures mixed { dst.new ≡ block_mix (xor_lists src.old row.now) }
     ensures count { meter.new ≡ record meter.old { mixes = meter.old.mixes + 1 } }
 {
-    let half = src.len() / (2 * BLOCK_WORDS);
-    let last = 2 * half - 1;
+    let r = src.len() / (2 * BLOCK_WORDS);
+    let last = 2 * r - 1;
     xor_last_and_first(src, row, last);
     let mut x = Diagonals::of(block(src, last));
-    'mixing: for i in 0..2 * half {
+    'mixing: for i in 0..2 * r {
         xor_unless_last(src, row, last, i + AHEAD);
         x = mixed_block(&x, &Diagonals::of(block(src, i)));
-        put_result(&x, dst, i, half);
+        put_result(&x, dst, i, r);
     }
     meter.count_mix();
 }
 
-// Writes result `i` to its place, where `half` results stand at even places, and as many at odd ones.
+// Writes result `i` of 2r to its place: those at even places stand before those at odd ones.
 #[inline(always)]
-fn put_result(x: &Diagonals, dst: &mut [u32], i: usize, half: usize)
-    requires { (i < 2 * half) × (length dst.old ≡ 32 * half) }
-    ensures { (results : List (List ℕ)) → ArePlaced results half i dst.old → x.now ≡ slice_index_or results i []
-        → ArePlaced results half (i + 1) dst.new }
+fn put_result(x: &Diagonals, dst: &mut [u32], i: usize, r: usize)
+    requires { (i < 2 * r) × (length dst.old ≡ 32 * r) }
+    ensures { (y : ℕ → List ℕ) → ArePlaced y r i dst.old → x.now ≡ y i → ArePlaced y r (i + 1) dst.new }
 {
-    let place = BLOCK_WORDS * (i / 2 + i % 2 * half);
+    let place = BLOCK_WORDS * (i / 2 + i % 2 * r);
     x.store(&mut dst[place..place + BLOCK_WORDS]);
 }
 
@@ -107,7 +106,7 @@ fn xor_unless_last(blocks: &mut [u32], row: &[u32], last: usize, i: usize)
 fn xor_block(blocks: &mut [u32], row: &[u32], i: usize)
     requires inside { 16 * i + 16 ≤ length blocks.old }
     requires same_length { length row.now ≡ length blocks.old }
-    ensures xored { block_at i blocks.new ≡ block_at i (xor_words blocks.old row.now) }
+    ensures xored { block_at i blocks.new ≡ block_at i (xor_lists blocks.old row.now) }
     ensures rest { (k : ℕ) → (k < i) ⊎ (i < k) → block_at k blocks.new ≡ block_at k blocks.old }
 {
     let start = BLOCK_WORDS * i;
@@ -118,7 +117,7 @@ fn xor_block(blocks: &mut [u32], row: &[u32], i: usize)
 #[inline(always)]
 fn xor_words(block: &mut [u32], words: &[u32])
     requires { (length block.old ≡ 16) × (length words.now ≡ 16) }
-    ensures { block.new ≡ xor_words block.old words.now }
+    ensures { block.new ≡ xor_lists block.old words.now }
 {
     let both = u32x16::from_slice(block) ^ u32x16::from_slice(words);
     both.copy_to_slice(block);

@@ -7,7 +7,7 @@ use Rattle.crypt_core.specs.declared.method.Method.TheVariants as methods
 use Rattle.crypt_core.specs.declared.scheme.Rounds.{Rounds}
 use Rattle.crypt_core.specs.declared.setting.fault.SettingFault.{SettingFault}
 use Rattle.crypt_core.specs.Refusals.{IsRefused}
-use Rattle.crypt_core.specs.Settings.{dollar, IsField, IsRoundsNumber, IsScryptSalt, IsSettingText, HasNumerals, KeepsSalt, scrypt_part, SpellsRounds}
+use Rattle.crypt_core.specs.Settings.{dollar, max_rounds, IsField, IsRoundsNumber, IsScryptSalt, IsSettingText, HasNumerals, KeepsSalt, scrypt_part, SpellsRounds}
 
 -- every setting text of this form gets this refusal
 abbrev pub AllRefused : (List ℕ → Type 0) → SettingFault → Type 0
@@ -16,7 +16,7 @@ AllRefused HasForm fault = (text : List ℕ) → IsSettingText text → HasForm 
 -- the digits up to a `$` are this number, held at the upper end, and `rest` follows the `$`
 abbrev pub HasNumber : List ℕ → ℕ → List ℕ → Type 0
 HasNumber field number rest = (digits : List ℕ) × IsRoundsNumber digits × (field ≡ digits ++ (dollar ∷ rest))
-    × (number ≡ min (digits_value 10 digits) 999999999)
+    × (number ≡ min (digits_value 10 digits) max_rounds)
 
 -- no digits of a number stand there with a `$` behind them
 abbrev pub LacksNumber : List ℕ → Type 0

@@ -1,7 +1,7 @@
 //! Which passwords fit which stored texts, what a check counts, and what is refused.
 
 ghost use Rattle.std.specs.Prelude.{◌≤◌, ◌^◌, length, IsTrue, IfSome};
-ghost use Rattle.crypt_core.specs.Work.{HasRoom};
+ghost use Rattle.prims_core.specs.Meter.{HasRoom};
 
 use super::*;
 use std::process::Abort;

@@ -1,7 +1,7 @@
 //! Hashes, their counts, and what they are as settings.
 
 ghost use Rattle.std.specs.Prelude.{◌≡◌, IfSome};
-ghost use Rattle.kdf_core.specs.Scrypt.{HasRoom};
+ghost use Rattle.prims_core.specs.Meter.{HasRoom};
 
 mod tables;
 

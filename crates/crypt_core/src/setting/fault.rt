@@ -9,7 +9,7 @@ use thiserror::Error;
 /// Why a text is no setting: the first of these that holds.
 #[derive(Clone, Copy, Debug, PartialEq, Eq, Drop, Error)]
 pub enum SettingFault {
-    /// More than 384 bytes.
+    /// More than [`SETTING_LIMIT`](super::SETTING_LIMIT) bytes.
     #[error("{}", self.text())]
     TooLong,
     /// A byte that is not printable ASCII, or one of `:`, `;`, `*`, `!` and the backslash.
@@ -21,7 +21,7 @@ pub enum SettingFault {
     /// `rounds=` stands after SHA-crypt's prefix, but no proper field.
     #[error("{}", self.text())]
     BadRounds,
-    /// Fewer than 11 characters of crypt's alphabet follow scrypt's prefix.
+    /// Fewer characters of crypt's alphabet follow scrypt's prefix than its cost part has: 11.
     #[error("{}", self.text())]
     BadCost,
     /// N, r and p are outside scrypt's range.
@@ -30,7 +30,7 @@ pub enum SettingFault {
     /// The product of N, r and p is above 8388608.
     #[error("{}", self.text())]
     AboveCeiling,
-    /// scrypt's salt has more than 86 bytes, or one outside crypt's alphabet.
+    /// scrypt's salt has more bytes than it keeps, or one outside crypt's alphabet.
     #[error("{}", self.text())]
     BadSalt,
 }

@@ -2,7 +2,7 @@
 
 ghost use Rattle.std.specs.Prelude.{◌≡◌, ◌+◌, ◌≤◌, ◌↔◌, IsTrue, IsOk, IfOk, IfErr, OnOk};
 ghost use Rattle.crypt_core.specs.declared.setting.fault.MakeFault.{MakeFault as Fault};
-ghost use Rattle.crypt_core.specs.MadeSettings.{TakesCost, IsMakeable, IsMakeRefused, made_scheme, made_setting, made_rounds};
+ghost use Rattle.crypt_core.specs.MadeSettings.{max_cost, min_cost, scrypt_cost, TakesCost, IsMakeable, IsMakeRefused, made_scheme, made_setting, made_rounds};
 
 use super::Setting;
 use super::fault::MakeFault;
@@ -12,11 +12,22 @@ use crate::scheme::{Rounds, Scheme};
 use kdf_core::params::Params;
 use prims_core::buffer::buffer_of;
 
-/// The cost of scrypt that cost 0 stands for, and its block size and parts.
+/// The least cost of scrypt that a setting is made of, but for 0.
+const MIN_COST: u32 = 6;
+
+/// The greatest.
+const MAX_COST: u32 = 11;
+
+/// The cost of scrypt that 0 stands for.
 const DEFAULT_COST: u32 = 7;
 
+/// What log2 N is above the cost.
+const LOG_ABOVE_COST: u32 = 7;
+
+/// The block size r of every made setting of scrypt.
 const BLOCK_SIZE: u32 = 32;
 
+/// The number p of parts of every made setting of scrypt.
 const PARTS: u32 = 1;
 
 impl Setting {
@@ -25,7 +36,7 @@ impl Setting {
     /// Cost 0 is the method's default. SHA-crypt takes any other as a number of rounds, brought into
     /// range, that the text will show. scrypt takes a cost `c` from 6 to 11, for `N = 2^(c + 7)`,
     /// r = 32 and p = 1. md5crypt has but one cost. A salt has at least one character, and at most
-    /// as many as the method keeps: 8, 16, 16 or 86.
+    /// as many as the method keeps.
     pub fn make(method: Method, cost: u32, salt: &[u8]) -> Result<Setting, MakeFault>
         ensures made { IfOk result (λ setting. setting ≡ made_setting method cost salt.now) }
         ensures accepted { IsOk result ↔ IsMakeable method cost salt.now }
@@ -62,7 +73,7 @@ fn takes_cost(method: Method, cost: u32) -> bool
     ensures { IsTrue result ↔ TakesCost method cost }
 {
     match method {
-        Method::Scrypt => matches!(cost, 0 | 6..=11),
+        Method::Scrypt => matches!(cost, 0 | MIN_COST..=MAX_COST),
         _ => true,
     }
 }
@@ -81,11 +92,11 @@ fn scheme_of(method: Method, cost: u32) -> Scheme
 }
 
 fn params_of(cost: u32) -> Params
-    requires from { 6 ≤ cost }
-    requires to { cost ≤ 11 }
-    ensures { result ≡ record { log_n = cost + 7; r = 32; p = 1 } }
+    requires from { min_cost ≤ cost }
+    requires to { cost ≤ max_cost }
+    ensures { result ≡ scrypt_cost cost }
 {
-    Params::new((cost + 7) as u8, BLOCK_SIZE, PARTS).unwrap()
+    Params::new((cost + LOG_ABOVE_COST) as u8, BLOCK_SIZE, PARTS).unwrap()
 }
 
 fn rounds_of(cost: u32) -> Rounds

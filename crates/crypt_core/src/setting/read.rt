@@ -10,23 +10,17 @@ ghost use Rattle.crypt_core.specs.declared.setting.fault.SettingFault.{SettingFa
 ghost use Rattle.crypt_core.specs.Methods.{prefix};
 ghost use Rattle.crypt_core.specs.Private.Parts.{AllRefused, HasField, HasNumber, HasNumbers, HasRounds, HasSalt, LacksNumber, LacksSalt};
 ghost use Rattle.crypt_core.specs.Refusals.{IsRefused, IsShaText, LacksCost};
-ghost use Rattle.crypt_core.specs.Settings.{Kept, IsSettingByte, IsSettingText, dollar, BeginsWith, IsRoundsNumber, IsCharacter, IsScryptSalt, SpellsScheme, Spells};
+ghost use Rattle.crypt_core.specs.Settings.{Kept, IsSettingByte, IsSettingText, dollar, max_rounds, BeginsWith, IsRoundsNumber, scrypt_part_len, IsScryptSalt, SpellsScheme, Spells};
 
-use super::Setting;
 use super::fault::SettingFault;
 use super::salt::in_alphabet;
-use crate::method::Method;
+use super::{COST_CHARACTERS, SETTING_LIMIT, Setting};
+use crate::method::{Method, SCRYPT_SALT_LIMIT};
 use crate::scheme::{MAX_ROUNDS, Rounds, Scheme};
 use arrayvec::ArrayVec;
 use kdf_core::params::{ParamFault, Params};
 use prims_core::alphabet::{read_30, value_of};
 use prims_core::buffer::buffer_of;
-
-/// The most bytes of a setting's text.
-const MAX_TEXT: usize = 384;
-
-/// The characters of scrypt's cost part: one of log2 N, five of r and five of p.
-const COST_CHARACTERS: usize = 11;
 
 impl Setting {
     /// Reads what a text asks for, or answers the first fault, in the order of `SettingFault`.
@@ -62,7 +56,7 @@ fn check_bytes(text: &[u8]) -> Result<(), SettingFault>
     ensures ok { OnOk result (IsSettingText text.now) }
     ensures err { IfErr result (IsRefused text.now) }
 {
-    if text.len() > MAX_TEXT {
+    if text.len() > SETTING_LIMIT {
         return Err(SettingFault::TooLong);
     }
     if !text.iter().all(|byte| is_setting_byte(*byte)) {
@@ -147,11 +141,11 @@ fn is_rounds_number(digits: &[u8]) -> bool
     }
 }
 
-// The number that the digits say, or 999999999 where it is larger. It is held digit by digit, so
+// The number that the digits say, or the most rounds where it is larger. It is held digit by digit, so
 // that no number of digits overflows.
 fn capped_number(digits: &[u8]) -> u64
     requires { IsRoundsNumber digits.now }
-    ensures { result ≡ min (digits_value 10 digits.now) 999999999 }
+    ensures { result ≡ min (digits_value 10 digits.now) max_rounds }
 {
     let mut number = 0;
     for digit in digits {
@@ -160,10 +154,10 @@ fn capped_number(digits: &[u8]) -> u64
     number
 }
 
-// The parameters that follow scrypt's prefix, by their eleven characters.
+// The parameters that follow scrypt's prefix, by their characters.
 fn params_at(after: &[u8]) -> Result<Params, SettingFault>
     ensures ok { IfOk result (λ cost. HasNumbers after.now cost × IsAccepted cost) }
-    ensures long { OnOk result (11 ≤ length after.now) }
+    ensures long { OnOk result (scrypt_part_len ≤ length after.now) }
     ensures err { IfErr result (AllRefused (λ text. text ≡ prefix Method.Scrypt ++ after.now)) }
 {
     let Some((log_n, r, p)) = numbers_at(after) else {
@@ -176,10 +170,10 @@ fn params_at(after: &[u8]) -> Result<Params, SettingFault>
     }
 }
 
-// log2 N, r and p by their eleven characters.
+// log2 N, r and p by their characters.
 fn numbers_at(after: &[u8]) -> Option<(u8, u32, u32)>
     ensures none { IfNone result (LacksCost after.now) }
-    ensures long { OnSome result (11 ≤ length after.now) }
+    ensures long { OnSome result (scrypt_part_len ≤ length after.now) }
     ensures some { IfSome result (λ x. let cost : ScryptCost = record { log_n = x.0; r = x.1; p = x.2 } in
         HasNumbers after.now cost) }
 {
@@ -188,12 +182,12 @@ fn numbers_at(after: &[u8]) -> Option<(u8, u32, u32)>
     }
     let log_n = value_of(after[0])?;
     let r = read_30(&after[1..6])?;
-    let p = read_30(&after[6..11])?;
+    let p = read_30(&after[6..COST_CHARACTERS])?;
     Some((log_n, r, p))
 }
 
 // What is kept of the salt's field, or `None` where scrypt doesn't take it.
-fn salt_at(method: Method, after: &[u8]) -> Option<ArrayVec<u8, 86>>
+fn salt_at(method: Method, after: &[u8]) -> Option<ArrayVec<u8, SCRYPT_SALT_LIMIT>>
     ensures none { IfNone result (LacksSalt method after.now) }
     ensures some { IfSome result (λ salt. HasSalt method after.now salt.items) }
 {

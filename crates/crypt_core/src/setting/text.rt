@@ -2,25 +2,27 @@
 
 ghost use Rattle.std.specs.Prelude.{◌≡◌, ◌+◌, ◌<◌, ◌≤◌, ◌^◌, ◌++◌, length, decimal};
 ghost use Rattle.arrayvec.specs.ArrayVec.{array_vec_len};
+ghost use Rattle.crypt_core.specs.Crypt.{hash_limit};
 ghost use Rattle.crypt_core.specs.Private.Costs.{HasCost};
 ghost use Rattle.crypt_core.specs.Packing.{packed_len};
-ghost use Rattle.crypt_core.specs.Settings.{cost_part, canonical_text, method_of, Spells};
+ghost use Rattle.crypt_core.specs.Settings.{canonical_limit, cost_part, canonical_text, method_of, Spells};
 
-use super::Setting;
+use super::{Setting, TEXT_CAPACITY};
 use crate::scheme::Scheme;
 use arrayvec::ArrayVec;
 use prims_core::alphabet::put_group;
 
 impl Setting {
-    /// The canonical text, of at most 100 bytes. Read again, it is this setting. With the text of the
-    /// method's digest it has at most 143 bytes.
+    /// The canonical text, of at most [`CANONICAL_LIMIT`](super::CANONICAL_LIMIT) bytes. Read again, it is this
+    /// setting. With a `$` and the text of the method's digest it stays within
+    /// [`HASH_LIMIT`](crate::hash::HASH_LIMIT).
     ///
     /// A `rounds=` field stands exactly where the setting had one, with the held number.
-    pub fn text(&self) -> ArrayVec<u8, 160>
+    pub fn text(&self) -> ArrayVec<u8, TEXT_CAPACITY>
         ensures canonical { result.items ≡ canonical_text self.now }
         ensures spelled { Spells (canonical_text self.now) self.now }
-        ensures short { array_vec_len result ≤ 100 }
-        ensures room { array_vec_len result + packed_len (method_of self.now.scheme) ≤ 143 }
+        ensures short { array_vec_len result ≤ canonical_limit }
+        ensures room { array_vec_len result + packed_len (method_of self.now.scheme) < hash_limit }
     {
         let mut text = ArrayVec::new();
         append(&mut text, self.scheme.method().prefix());
@@ -31,8 +33,8 @@ impl Setting {
 }
 
 // Appends the scheme's cost part.
-fn append_cost(text: &mut ArrayVec<u8, 160>, scheme: &Scheme)
-    requires room { array_vec_len text.old + length (cost_part scheme.now) ≤ 160 }
+fn append_cost(text: &mut ArrayVec<u8, TEXT_CAPACITY>, scheme: &Scheme)
+    requires room { array_vec_len text.old + length (cost_part scheme.now) ≤ TEXT_CAPACITY }
     requires fits { HasCost scheme.now }
     ensures { text.new.items ≡ text.old.items ++ cost_part scheme.now }
 {
@@ -54,8 +56,8 @@ fn append_cost(text: &mut ArrayVec<u8, 160>, scheme: &Scheme)
 }
 
 // Appends a number in decimal, without leading zeros.
-fn append_decimal(text: &mut ArrayVec<u8, 160>, number: u32)
-    requires room { array_vec_len text.old + length (decimal number) ≤ 160 }
+fn append_decimal(text: &mut ArrayVec<u8, TEXT_CAPACITY>, number: u32)
+    requires room { array_vec_len text.old + length (decimal number) ≤ TEXT_CAPACITY }
     ensures { text.new.items ≡ text.old.items ++ decimal number }
 {
     if number < 10 {
@@ -66,8 +68,8 @@ fn append_decimal(text: &mut ArrayVec<u8, 160>, number: u32)
     text.push(b'0' + (number % 10) as u8);
 }
 
-fn append(text: &mut ArrayVec<u8, 160>, piece: &[u8])
-    requires room { array_vec_len text.old + length piece.now ≤ 160 }
+fn append(text: &mut ArrayVec<u8, TEXT_CAPACITY>, piece: &[u8])
+    requires room { array_vec_len text.old + length piece.now ≤ TEXT_CAPACITY }
     ensures { text.new.items ≡ text.old.items ++ piece.now }
 {
     text.try_extend_from_slice(piece).unwrap();

@@ -3,6 +3,10 @@ use Rattle.std.specs.Prelude.{◌≡◌, ℕ, ◌*◌, ◌^◌, ◌<◌, ◌≤�
 use Rattle.std.specs.Fn.{iterate}
 use Rattle.prims_core.specs.BlockMix.{block_mix}
 
+-- the words of a part, which is 2r blocks of sixteen words
+abbrev pub part_words : ℕ → ℕ
+part_words r = 32 * r
+
 -- a table of so many rows, each of so many words
 pub record HasShape (table : List (List ℕ)) (rows words : ℕ) : Type 0 where
   pub row_count : length table ≡ rows
@@ -15,8 +19,8 @@ HoldsMixings table count start = (i : ℕ) → i < count → slice_index_or tabl
 -- two halves of 2r blocks each
 pub record AreHalves (r : ℕ) (x y : List ℕ) : Type 0 where
   pub some_block : 1 ≤ r
-  pub first : length x ≡ 32 * r
-  pub second : length y ≡ 32 * r
+  pub first : length x ≡ part_words r
+  pub second : length y ≡ part_words r
 
 -- a number of rows that is a power of two, at least 2 and at most 2 ^ 32
 pub record IsPower (rows k : ℕ) : Type 0 where

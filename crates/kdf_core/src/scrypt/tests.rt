@@ -1,10 +1,12 @@
-//! The standard's vectors of scrypt, with their work, and a caller that stands on the contract alone.
+//! The standard's vectors of scrypt, with their work, told and known before, and a caller that stands on the contract alone.
 
 ghost use Rattle.std.specs.Prelude.{◌≡◌, ◌≤◌, length, IfOk};
 ghost use Rattle.kdf_core.specs.Scrypt.{scrypt};
 
 use super::*;
 use crate::tests::hexadecimal;
+use crate::work::scrypt_work;
+use prims_core::work::Work;
 use std::test::Fail;
 
 #[derive(Clone, Copy)]
@@ -106,6 +108,17 @@ const ROWS: [Row; 9] = [
     },
 ];
 
+// All counts of some work.
+fn counts_of(work: Work) -> (u128, u128, u128, u128, u128) {
+    (
+        u128::from(work.digests),
+        u128::from(work.bytes),
+        u128::from(work.mixes),
+        u128::from(work.table),
+        u128::from(work.scratch),
+    )
+}
+
 // All counts of a meter.
 fn counts(meter: &Meter) -> (u128, u128, u128, u128, u128) {
     (
@@ -121,7 +134,7 @@ fn counts(meter: &Meter) -> (u128, u128, u128, u128, u128) {
 fn rows_of_the_standard(rt: HostRuntime) -> Result<(), Fail> {
     for row in ROWS {
         let (log_n, r, p, count) = (row.log_n, row.r, row.p, row.wanted.len() / 2);
-        assert!(rt; count <= 128);
+        assert!(rt; count <= 128 && row.password.len() <= 65 && row.salt.len() <= 70);
         let params = Params::new(log_n, r, p)?;
         let mut out = vec![in rt.alloc(); 7; count]?;
         let mut meter = Meter::new();
@@ -143,6 +156,17 @@ fn rows_of_the_standard(rt: HostRuntime) -> Result<(), Fail> {
             counts(&meter),
             row.work,
             "work of {log_n}, {r}, {p}, {count} bytes"
+        );
+        let known = scrypt_work(
+            &params,
+            row.password.len() as u64,
+            row.salt.len() as u64,
+            count as u64,
+        );
+        assert_eq!(rt;
+            counts_of(known),
+            row.work,
+            "known work of {log_n}, {r}, {p}, {count} bytes"
         );
     }
     Ok(())

@@ -8,7 +8,7 @@ use Rattle.crypt_core.specs.Work.{raised_by, work}
 use Rattle.crypt_core.specs.declared.fits.FitFault.{FitFault}
 use Rattle.crypt_core.specs.declared.fits.FitFault.TheVariants.{Setting, OutOfMemory}
 use Rattle.crypt_core.specs.declared.hash.HashFault.{HashFault}
-use Rattle.crypt_core.specs.declared.work.Work.{Work}
+use Rattle.prims_core.specs.declared.work.Work.{Work}
 use Rattle.mkpasswd.specs.Answers.{Answer, IsRefusedAmong, after_work}
 use Rattle.mkpasswd.specs.LineAnswers.{verdict_text}
 use Rattle.mkpasswd.specs.Lines.{IsLocked, IsStored}

@@ -1,6 +1,6 @@
 //! Which text answers a line, what it counts as, and how many words are drawn for it.
 ghost use Rattle.std.specs.Prelude.{IsTrue};
-ghost use Rattle.crypt_core.specs.Work.{HasRoom};
+ghost use Rattle.prims_core.specs.Meter.{HasRoom};
 
 use super::*;
 use crate::maker::Maker;

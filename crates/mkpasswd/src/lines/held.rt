@@ -1,6 +1,6 @@
 //! What is held of the line that is being read.
 ghost use Rattle.std.specs.Prelude.{◌≡◌, ℕ, ◌++◌, ◌↔◌, [], List, IsTrue};
-ghost use Rattle.crypt_core.specs.Work.{HasRoom};
+ghost use Rattle.prims_core.specs.Meter.{HasRoom};
 ghost use Rattle.mkpasswd.specs.Answers.{Answer};
 ghost use Rattle.mkpasswd.specs.LineAnswers.{IsAnswer};
 ghost use Rattle.mkpasswd.specs.Private.Made.{IsRaisedBelow, Makes};

@@ -1,6 +1,6 @@
 use Rattle.std.proofs.Common.{◌≡◌, ◌+◌, length, arith, refl, sym, ◌∙◌, ap}
 use Rattle.prims_core.specs.Digests.{md5}
-use Rattle.crypt_core.specs.Md5crypt.{md5crypt_digest, md5crypt_message, md5crypt_messages, opening_message}
+use Rattle.crypt_core.specs.Md5crypt.{md5crypt_digest, md5crypt_message, md5crypt_messages, opening_message, md5crypt_rounds}
 use Rattle.crypt_core.specs.RoundMessage.{round_message, salted_twice}
 use Rattle.crypt_core.specs.Private.Counting.{with_digest}
 use Rattle.crypt_core.specs.Private.RoundStrings.{Strings}
@@ -65,16 +65,16 @@ rounds-preserved c =
 pub returns-clause-digest : goal.returns-clause-digest
 unfolding md5crypt_digest
 returns-clause-digest c =
-    let last : c.rounds.i + 1 ≡ 1001 = omega arith in
+    let last : c.rounds.i + 1 ≡ md5crypt_rounds + 1 = omega arith in
     c.copy_from_slice.ensures.after ∙ (c.as_slice-2.ensures.value ∙ rw last at c.rounds.invariant.0)
 
 pub returns-clause-count : goal.returns-clause-count
 returns-clause-count c =
     let p = c.args.password.now in
     let s = c.args.salt.now in
-    let last : c.rounds.i + 2 ≡ 1002 = omega arith in
+    let last : c.rounds.i + 2 ≡ md5crypt_rounds + 2 = omega arith in
     let counted = rw (last, messages-all p s) at c.rounds.invariant.2 in
-    counted ∙ digests_in_all c.args.meter.now (md5crypt_messages p s) 1002 _ (messages-in_all p s)
+    counted ∙ digests_in_all c.args.meter.now (md5crypt_messages p s) (md5crypt_rounds + 2) _ (messages-in_all p s)
 
 pub returns-clause-specified : goal.returns-clause-specified
 returns-clause-specified c = messages-in_all c.args.password.now c.args.salt.now

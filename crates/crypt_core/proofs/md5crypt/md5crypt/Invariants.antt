@@ -1,3 +1,4 @@
+use Rattle.crypt_core.proofs.Md5cryptLemmas.{message_limit}
 use Rattle.std.proofs.Common.{◌≡◌, ◌+◌, ◌*◌, ◌≤◌, length}
 use Rattle.prims_core.specs.Digests.{md5}
 use Rattle.crypt_core.specs.Md5crypt.{md5crypt_message}
@@ -11,4 +12,4 @@ invariant-rounds l =
     (l.digest.items ≡ md5 (md5crypt_message l.password l.salt (l.i + 1)))
     × (length l.digest.items ≡ 16)
     × (l.meter ≡ with_digests l.fn.meter (messages_to (md5crypt_message l.password l.salt) (l.i + 2)))
-    × (l.meter.bytes ≤ l.fn.meter.bytes + 2048 * (l.i + 2))
+    × (l.meter.bytes ≤ l.fn.meter.bytes + message_limit * (l.i + 2))

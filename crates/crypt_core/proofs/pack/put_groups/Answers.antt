@@ -2,7 +2,8 @@ use Rattle.std.proofs.Common.{◌+◌, ◌++◌, [], length, arith, ap, Bor, Lis
 use Rattle.std.proofs.lemmas.List.{length-append}
 use Rattle.crypt_core.specs.Packing.{packed_by, packed_group, group_number}
 use Rattle.crypt_core.specs.Private.Tables.{groups_in}
-use Rattle.crypt_core.proofs.PackingLemmas.{group_at, group_size, length-numerals, packed-drop}
+use Rattle.crypt_core.proofs.PackingLemmas.{group_at, group_size, packed-drop}
+use Rattle.crypt_core.proofs.Numerals.{length-numerals}
 use Rattle.crypt_core.proofs.pack.put_groups.Goals as goal
 
 pub number_of-requires : goal.number_of-requires

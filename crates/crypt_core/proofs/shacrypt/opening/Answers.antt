@@ -1,8 +1,9 @@
+use Rattle.crypt_core.specs.Passwords.{password_limit}
 use Rattle.std.proofs.Common.{◌≤◌, length, arith, refl, ◌∙◌, ap}
 use Rattle.crypt_core.specs.RoundMessage.{salted_twice}
 use Rattle.crypt_core.specs.ShaCrypt.{sha_opening_message}
 use Rattle.crypt_core.specs.Private.Counting.{with_digest}
-use Rattle.crypt_core.proofs.CycleLemmas.{digit_bytes-small, length-digit_pieces}
+use Rattle.crypt_core.proofs.CycleLemmas.{digit_bytes-few, length-digit_pieces}
 use Rattle.crypt_core.proofs.MessageLists.{length-salted_twice}
 use Rattle.crypt_core.proofs.Metering.{bytes_more, digest_after}
 use Rattle.crypt_core.proofs.ShaCryptLemmas.{length-sha_opening}
@@ -12,7 +13,7 @@ pub feed_digits-requires : goal.feed_digits-requires
 feed_digits-requires g c =
     let p = c.args.password.now in
     let b = c.as_slice-2.result.now in
-    let small : length b ≤ 512 = omega (arith, ap length c.as_slice-2.ensures.value, c.salted-salted.ensures.length, g.met.H.Counted.at_most_64) in
+    let small : length b ≤ password_limit = omega (arith, ap length c.as_slice-2.ensures.value, c.salted-salted.ensures.length, g.met.H.Counted.at_most_64) in
     omega (
       arith,
       ap (λ m. m.bytes) c.salted-salted.ensures.count,
@@ -24,7 +25,7 @@ feed_digits-requires g c =
       c.requires.salt,
       length-salted_twice p c.args.salt.now,
       length-digit_pieces b p (length p),
-      digit_bytes-small (length b) (length p) 512 small c.requires.password,
+      digit_bytes-few (length b) (length p) password_limit (length p) small c.requires.password,
     )
 
 pub returns-clause-count : goal.returns-clause-count

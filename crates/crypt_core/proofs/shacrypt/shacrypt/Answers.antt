@@ -1,13 +1,15 @@
-use Rattle.std.proofs.Common.{◌≡◌, ◌+◌, ◌≤◌, ◌<◌, length, get_or, arith, refl, sym, ◌∙◌, ap}
+use Rattle.crypt_core.specs.Work.{greatest_byte}
+use Rattle.crypt_core.specs.Passwords.{password_limit}
+use Rattle.std.proofs.Common.{◌≡◌, ◌+◌, ◌≤◌, length, get_or, arith, refl, sym, ◌∙◌, ap}
 use Rattle.std.specs.List.{repeat}
 use Rattle.crypt_core.specs.RoundMessage.{salted_twice}
-use Rattle.crypt_core.specs.ShaCrypt.{password_repeated, salt_repeated, sha_opening_digest, sha_opening_message, shacrypt_message, shacrypt_messages}
+use Rattle.crypt_core.specs.ShaCrypt.{password_repeated, salt_repeated, sha_opening_digest, sha_opening_message, shacrypt_digest, shacrypt_message, shacrypt_messages}
 use Rattle.crypt_core.specs.Private.Counting.{with_digest}
 use Rattle.crypt_core.specs.Private.RoundStrings.{Strings}
 use Rattle.crypt_core.proofs.CycleLemmas.{length-cycle, length-repeat}
 use Rattle.crypt_core.proofs.MessageLists.{length-messages_to, messages-more, round_length-small}
 use Rattle.crypt_core.proofs.Metering.{digests_in_all, digests_more, four_digests}
-use Rattle.crypt_core.proofs.ShaCryptLemmas.{before_round-more, before_round-zero, digest-last, length-message_round, message-number, messages-all, messages-four, messages-in_all, round_is, start_bytes}
+use Rattle.crypt_core.proofs.ShaCryptLemmas.{digest_before-more, digest_before-zero, first_byte-below, length-message_round, message-number, messages-all, messages-four, messages-in_all, round_is, start_bytes}
 use Rattle.crypt_core.proofs.shacrypt.shacrypt.Goals as goal
 
 pub string_of-password_string-requires-clause-bytes_room : goal.string_of-password_string-requires-clause-bytes_room
@@ -15,27 +17,24 @@ string_of-password_string-requires-clause-bytes_room g c =
     let h = g.H.Counted.digest in
     let p = c.bytes-password.result.now in
     let s = c.args.salt.now in
-    let short : length p ≤ 512 = omega (arith, ap length c.bytes-password.ensures.value, c.bytes-password.ensures.password.length_fits) in
-    let small : length (h (salted_twice p s)) ≤ 512 = omega (arith, g.met.H.Counted.length_digest (salted_twice p s), g.met.H.Counted.at_most_64) in
-    omega (arith, ap (λ m. m.bytes) c.opening-digest.ensures.count, start_bytes h p s 0 short c.requires.salt small (omega arith), c.requires.room.1)
+    let short : length p ≤ password_limit = omega (arith, ap length c.bytes-password.ensures.value, c.bytes-password.ensures.password.length_fits) in
+    omega (arith, ap (λ m. m.bytes) c.opening-digest.ensures.count, start_bytes h g.H.Counted.LEN g.met.H.Counted.length_digest p s 0 g.met.H.Counted.at_most_64 short c.requires.salt (omega arith), c.requires.room.1)
 
 pub string_of-salt_string-requires-clause-bytes_room : goal.string_of-salt_string-requires-clause-bytes_room
 string_of-salt_string-requires-clause-bytes_room g c =
     let h = g.H.Counted.digest in
     let p = c.bytes-password.result.now in
     let s = c.args.salt.now in
-    let short : length p ≤ 512 = omega (arith, ap length c.bytes-password.ensures.value, c.bytes-password.ensures.password.length_fits) in
-    let small : length (h (salted_twice p s)) ≤ 512 = omega (arith, g.met.H.Counted.length_digest (salted_twice p s), g.met.H.Counted.at_most_64) in
+    let short : length p ≤ password_limit = omega (arith, ap length c.bytes-password.ensures.value, c.bytes-password.ensures.password.length_fits) in
     let first = c.from-salt_times.ensures ∙ ap (λ xs. get_or xs 0 0) (c.as_slice.ensures.value ∙ c.opening-digest.ensures.digest) in
-    let some : 0 < length (sha_opening_digest h p s) = omega (arith, g.met.H.Counted.length_digest (sha_opening_message h p s), g.met.H.Counted.at_least_1) in
-    let byte = g.met.H.Counted.digest_bytes (sha_opening_message h p s) 0 0 some in
-    let times : 16 + c.from-salt_times.result ≤ 271 = omega (arith, first, byte) in
+    let byte = first_byte-below h g.H.Counted.LEN g.met.H.Counted.length_digest p s g.met.H.Counted.at_least_1 g.met.H.Counted.digest_bytes in
+    let times : 16 + c.from-salt_times.result ≤ 16 + greatest_byte = omega (arith, first, byte) in
     omega (
       arith,
       ap (λ m. m.bytes) c.opening-digest.ensures.count,
       ap (λ m. m.bytes) c.string_of-password_string.ensures.count,
       length-repeat (length p) p,
-      start_bytes h p s (16 + c.from-salt_times.result) short c.requires.salt small times,
+      start_bytes h g.H.Counted.LEN g.met.H.Counted.length_digest p s (16 + c.from-salt_times.result) g.met.H.Counted.at_most_64 short c.requires.salt times,
       c.requires.room.1,
     )
 
@@ -69,12 +68,10 @@ rounds-init g c =
     let repeated = rw is at c.string_of-password_string.ensures.count in
     let first = c.from-salt_times.ensures ∙ ap (λ xs. get_or xs 0 0) (c.as_slice.ensures.value ∙ digest) in
     let salted = rw first at c.string_of-salt_string.ensures.count in
-    let short : length p ≤ 512 = c.bytes-password.ensures.password.length_fits in
-    let small : length (h (salted_twice p s)) ≤ 512 = omega (arith, g.met.H.Counted.length_digest (salted_twice p s), g.met.H.Counted.at_most_64) in
-    let some : 0 < length (sha_opening_digest h p s) = omega (arith, g.met.H.Counted.length_digest (sha_opening_message h p s), g.met.H.Counted.at_least_1) in
-    let byte = g.met.H.Counted.digest_bytes (sha_opening_message h p s) 0 0 some in
-    let times : 16 + get_or (sha_opening_digest h p s) 0 0 ≤ 271 = omega (arith, byte) in (
-      digest ∙ sym (before_round-zero h p s),
+    let short : length p ≤ password_limit = c.bytes-password.ensures.password.length_fits in
+    let byte = first_byte-below h g.H.Counted.LEN g.met.H.Counted.length_digest p s g.met.H.Counted.at_least_1 g.met.H.Counted.digest_bytes in
+    let times : 16 + get_or (sha_opening_digest h p s) 0 0 ≤ 16 + greatest_byte = omega (arith, byte) in (
+      digest ∙ sym (digest_before-zero h p s),
       c.opening-digest.ensures.length,
       rw (messages-four h p s)
           (four_digests a (with_digest a (salted_twice p s)) c.opening-digest.new.meter c.string_of-password_string.new.meter c.string_of-salt_string.new.meter
@@ -86,7 +83,7 @@ rounds-init g c =
         ap (λ m. m.bytes) salted,
         length-repeat (length p) p,
         length-repeat (16 + get_or (sha_opening_digest h p s) 0 0) s,
-        start_bytes h p s (16 + get_or (sha_opening_digest h p s) 0 0) short c.requires.salt small times,
+        start_bytes h g.H.Counted.LEN g.met.H.Counted.length_digest p s (16 + get_or (sha_opening_digest h p s) 0 0) g.met.H.Counted.at_most_64 short c.requires.salt times,
       ),
     )
 
@@ -102,12 +99,13 @@ round-digest-requires-clause-digests_room g c =
     )
 
 pub returns-clause-digest : goal.returns-clause-digest
+unfolding shacrypt_digest
 returns-clause-digest g c =
     let h = g.H.Counted.digest in
     let p = c.args.password.now in
     let s = c.args.salt.now in
     let last : c.rounds.i ≡ c.args.rounds = omega arith in
-    rw last at c.rounds.invariant.0 ∙ sym (digest-last h p s c.args.rounds (omega (arith, c.requires.least_rounds)))
+    rw last at c.rounds.invariant.0
 
 pub returns-clause-count : goal.returns-clause-count
 returns-clause-count g c =
@@ -143,7 +141,7 @@ rounds-preserved g c =
     let same = round_is h p s i c.as_slice-in-rounds.result.now strings.password strings.salt digest_is password_is salt_is in
     let next : c.rounds.i + 1 + 4 ≡ c.rounds.i + 4 + 1 = omega arith in
     let counted = digests_more c.args.meter.now c.rounds.meter c.round-digest.new.meter _ _ c.rounds.invariant.2 c.round-digest.ensures.count in (
-      c.round-digest.ensures.digest ∙ (ap h same ∙ sym (before_round-more h p s i)),
+      c.round-digest.ensures.digest ∙ (ap h same ∙ sym (digest_before-more h p s i)),
       c.round-digest.ensures.length,
       rw (next, messages-more (shacrypt_message h p s) (i + 4), message-number h p s i, ← same) counted,
       omega (

@@ -1,14 +1,14 @@
 use Rattle.std.proofs.Common.{◌≡◌, ◌+◌, ◌*◌, ◌≤◌, length}
-use Rattle.crypt_core.specs.ShaCrypt.{shacrypt_message}
+use Rattle.crypt_core.specs.ShaCrypt.{sha_digest_before, shacrypt_message}
 use Rattle.crypt_core.proofs.Metering.{with_digests}
-use Rattle.crypt_core.proofs.MessageLists.{messages_to}
-use Rattle.crypt_core.proofs.ShaCryptLemmas.{before_round}
+use Rattle.crypt_core.proofs.MessageLists.{messages_to, round_limit}
+use Rattle.crypt_core.proofs.ShaCryptLemmas.{start_limit}
 use Rattle.crypt_core.proofs.shacrypt.shacrypt.Given as goal
 
 -- the digest of the round before, and the messages so far in the meter
 abbrev pub invariant-rounds : goal.invariant-rounds
 invariant-rounds g l =
-    (l.digest.items ≡ before_round g.H.Counted.digest l.password l.salt l.i)
+    (l.digest.items ≡ sha_digest_before g.H.Counted.digest l.password l.salt l.i)
     × (length l.digest.items ≡ g.H.Counted.LEN)
     × (l.meter ≡ with_digests l.fn.meter (messages_to (shacrypt_message g.H.Counted.digest l.password l.salt) (l.i + 4)))
-    × (l.meter.bytes ≤ l.fn.meter.bytes + 1048576 + 2048 * l.i)
+    × (l.meter.bytes ≤ l.fn.meter.bytes + start_limit + round_limit * l.i)

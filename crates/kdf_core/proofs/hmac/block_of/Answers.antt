@@ -4,13 +4,13 @@ use Rattle.prims_core.specs.Digests.{sha256}
 use Rattle.kdf_core.proofs.HmacLemmas.{long_block, short_block}
 use Rattle.kdf_core.proofs.hmac.block_of.Goals as goal
 
-pub returns-then-key-gt-BLOCK-clause-block : goal.returns-then-key-gt-BLOCK-clause-block
-returns-then-key-gt-BLOCK-clause-block c =
+pub returns-then-key-gt-SHA256_BLOCK-clause-block : goal.returns-then-key-gt-SHA256_BLOCK-clause-block
+returns-then-key-gt-SHA256_BLOCK-clause-block c =
     let digest = c.digest_of-digest.result in
     let kept = c.copy_from_slice.new.self in
     let digest_is : digest ≡ sha256 c.args.key.now = c.digest_of-digest.ensures.digest ∙ ap sha256 (append-nil _ ∙ append-nil _) in
-    long_block c.args.key.now kept c.if-key-gt-BLOCK.true (c.copy_from_slice.ensures.after ∙ digest_is) (omega arith)
+    long_block c.args.key.now kept c.if-key-gt-SHA256_BLOCK.true (c.copy_from_slice.ensures.after ∙ digest_is) (omega arith)
 
-pub returns-else-key-gt-BLOCK-clause-block : goal.returns-else-key-gt-BLOCK-clause-block
-returns-else-key-gt-BLOCK-clause-block c =
-    short_block c.args.key.now _ _ c.if-key-gt-BLOCK.false c.copy_from_slice-else-key-gt-BLOCK.ensures.after refl
+pub returns-else-key-gt-SHA256_BLOCK-clause-block : goal.returns-else-key-gt-SHA256_BLOCK-clause-block
+returns-else-key-gt-SHA256_BLOCK-clause-block c =
+    short_block c.args.key.now _ _ c.if-key-gt-SHA256_BLOCK.false c.copy_from_slice-else-key-gt-SHA256_BLOCK.ensures.after refl

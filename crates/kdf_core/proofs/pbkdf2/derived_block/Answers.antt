@@ -1,6 +1,6 @@
 use Rattle.std.proofs.Common.{◌≡◌, ◌≤◌, ℕ, List, [], ◌+◌, ◌++◌, length, sym, ap, ◌∙◌, arith}
 use Rattle.prims_core.specs.Meter.{with_work}
-use Rattle.prims_core.specs.Words.{xor_bytes}
+use Rattle.prims_core.specs.Words.{xor_lists}
 use Rattle.kdf_core.specs.Hmac.{hmac_sha256, IsKeyOf, tag_bytes}
 use Rattle.kdf_core.specs.Pbkdf2.{chain, block, block_bytes}
 use Rattle.kdf_core.proofs.Metering.{work_more}
@@ -39,8 +39,8 @@ rounds-preserved c =
     record {
       last = last;
       sum = λ password of_key. c.xor_into.ensures
-          ∙ (ap (λ (x : List ℕ). xor_bytes x c.tag-last-in-rounds.result) (before.sum password of_key)
-          ∙ (ap (λ (x : List ℕ). xor_bytes (block hmac_sha256 password salt n i) x) (last password of_key)
+          ∙ (ap (λ (x : List ℕ). xor_lists x c.tag-last-in-rounds.result) (before.sum password of_key)
+          ∙ (ap (λ (x : List ℕ). xor_lists (block hmac_sha256 password salt n i) x) (last password of_key)
           ∙ sym (block-more password salt i n some)));
       count = work_more c.args.meter.now c.rounds.meter c.tag-last-in-rounds.new.meter _ _ _ _ _ _ before.count
           c.tag-last-in-rounds.ensures.count (omega arith) (omega arith);

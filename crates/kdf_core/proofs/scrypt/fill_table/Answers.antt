@@ -22,11 +22,11 @@ filling-preserved c =
     let row = block_mix (get_or c.filling.table i []) in
     let is : row ≡ iterate block_mix (i + 1) start =
     ap block_mix (c.filling.invariant.filled.held i (omega arith)) ∙ sym (iterate-more block_mix i start) in
-    let blocks = 2 * c.requires.some_block.0 in
-    let before : length (get_or c.filling.table i []) ≡ 16 * blocks =
+    let r = c.requires.some_block.0 in
+    let before : length (get_or c.filling.table i []) ≡ 32 * r =
     omega (arith, c.filling.invariant.filled.shape.row_words i (omega arith), c.requires.some_block.2) in
     let long : length row ≡ length start =
-    omega (arith, length-block_mix (get_or c.filling.table i []) blocks before, c.requires.some_block.2) in
+    omega (arith, length-block_mix (get_or c.filling.table i []) r before, c.requires.some_block.2) in
     record {
       filled = filled-more c.filling.table c.mix_row.new.self c.args.rows (i + 1) start row c.filling.invariant.filled long
           (omega arith) c.mix_row.ensures.mixed is;

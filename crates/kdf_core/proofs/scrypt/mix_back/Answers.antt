@@ -1,7 +1,7 @@
 use Rattle.std.proofs.Common.{◌<◌, ap, ◌∙◌, arith}
 use Rattle.std.specs.Fn.{iterate}
 use Rattle.prims_core.specs.BlockMix.{block_mix}
-use Rattle.prims_core.specs.Words.{xor_words}
+use Rattle.prims_core.specs.Words.{xor_lists}
 use Rattle.kdf_core.specs.Scrypt.{mixed_back}
 use Rattle.kdf_core.proofs.ScryptLemmas.{some_row}
 use Rattle.kdf_core.proofs.scrypt.mix_back.Goals as goal
@@ -9,6 +9,6 @@ use Rattle.kdf_core.proofs.scrypt.mix_back.Goals as goal
 pub returns-clause-mixed : goal.returns-clause-mixed
 unfolding mixed_back
 returns-clause-mixed c start holds =
-    let inside : c.index.result < c.args.rows = omega (arith, some_row c.args.rows c.requires.power.0 c.requires.power.1) in
+    let inside : c.integerify.result < c.args.rows = omega (arith, some_row c.args.rows c.requires.power.0 c.requires.power.1) in
     c.block_mix_xor.ensures.mixed
-    ∙ ap (λ v. block_mix (xor_words c.args.x.now v)) (c.row-row.ensures ∙ (holds c.index.result inside ∙ ap (λ j. iterate block_mix j start) c.index.ensures))
+    ∙ ap (λ v. block_mix (xor_lists c.args.x.now v)) (c.row-row.ensures ∙ (holds c.integerify.result inside ∙ ap (λ j. iterate block_mix j start) c.integerify.ensures))

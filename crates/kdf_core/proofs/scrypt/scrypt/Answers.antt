@@ -1,10 +1,11 @@
 use Rattle.std.proofs.Common.{◌≡◌, ℕ, ◌+◌, ◌*◌, ◌∙◌, List, length, ap, refl, replicate, inr, arith, rules}
 use Rattle.std.proofs.lemmas.List.{length-replicate}
-use Rattle.kdf_core.specs.Scrypt.{rows, parts_bytes, table_bytes, halves_bytes, scrypt_mixes, with_scrypt, IsAfterRefusal}
+use Rattle.kdf_core.specs.Params.{rows}
+use Rattle.kdf_core.specs.Scrypt.{parts_bytes, table_bytes, halves_bytes, scrypt_mixes, with_scrypt, IsAfterRefusal}
 use Rattle.kdf_core.specs.Pbkdf2.{pbkdf2_sha256, pbkdf2_digests, pbkdf2_bytes}
 use Rattle.kdf_core.specs.Hmac.{key_digests, key_bytes}
 use Rattle.kdf_core.proofs.MessageCounts.{scrypt-in_all}
-use Rattle.kdf_core.proofs.ScryptBounds.{bounded, rows_power, parts-product, parts-fit, table-product, all_bytes-fit}
+use Rattle.kdf_core.proofs.ScryptBounds.{rows_power, parts-product, parts-fit, table-product, all_bytes-fit}
 use Rattle.kdf_core.proofs.ScryptValue.{after_two_growths, same_length, counts-are, same_counts, digests-are, bytes-are, value-is}
 use Rattle.kdf_core.proofs.scrypt.scrypt.Goals as goal
 
@@ -15,7 +16,7 @@ new-requires-2-clause-fits c =
 
 pub new-requires-3-clause-fits : goal.new-requires-3-clause-fits
 new-requires-3-clause-fits c =
-    omega (arith, (bounded c.args.params.now c.r-r.ensures.accepted).blocks, c.r-r.ensures.number)
+    omega (arith, c.row_count-rows.ensures.bounded.blocks, c.r-r.ensures.number)
 
 pub returns-in_err-halves-clause-refused : goal.returns-in_err-halves-clause-refused
 returns-in_err-halves-clause-refused c =
@@ -24,7 +25,7 @@ returns-in_err-halves-clause-refused c =
     inr (inr (after_two_growths c.args.meter.now c.new.new.meter c.new-2.new.meter c.new-3.new.meter
     (4 * (c.row_count-rows.result * (32 * c.r-r.result))) (128 * c.r-r.result * c.p-p.result) (table_bytes cost) (parts_bytes cost)
     c.in_ok-table.ensures.count c.in_ok-parts.ensures.count c.in_err-halves.ensures.refused
-    (table-product cost c.row_count-rows.result c.r-r.result c.row_count-rows.ensures c.r-r.ensures.number)
+    (table-product cost c.row_count-rows.result c.r-r.result c.row_count-rows.ensures.number c.r-r.ensures.number)
     (parts-product cost c.r-r.result c.p-p.result c.r-r.ensures.number c.p-p.ensures.number))) in
     search rules
 
@@ -44,7 +45,7 @@ pbkdf2-requires-clause-few_blocks c =
 
 pub mix_parts-requires-clause-power : goal.mix_parts-requires-clause-power
 mix_parts-requires-clause-power c =
-    (c.args.params.now.log_n, rows_power c.args.params.now c.row_count-rows.result c.r-r.ensures.accepted c.row_count-rows.ensures)
+    (c.args.params.now.log_n, rows_power c.args.params.now c.row_count-rows.result c.r-r.ensures.accepted c.row_count-rows.ensures.number)
 
 pub pbkdf2-requires-2-clause-bytes_room : goal.pbkdf2-requires-2-clause-bytes_room
 pbkdf2-requires-2-clause-bytes_room c =
@@ -86,7 +87,7 @@ returns-clause-bytes c =
     let derived : c.pbkdf2.new.out ≡ pbkdf2_sha256 password salt 1 (length zeros) =
     c.pbkdf2.ensures.bytes password c.new-key.ensures.key ∙ ap (λ (b : List ℕ). pbkdf2_sha256 password salt 1 (length b)) held in
     value-is password salt cost (length c.args.out.now) c.row_count-rows.result zeros c.pbkdf2.new.out c.bytes_mut-2.result.now
-    c.words_mut.result.now c.mix_parts.new.parts c.bytes.result.now c.pbkdf2-2.new.out c.row_count-rows.ensures whole blocks derived
+    c.words_mut.result.now c.mix_parts.new.parts c.bytes.result.now c.pbkdf2-2.new.out c.row_count-rows.ensures.number whole blocks derived
     (c.pbkdf2.auto.out ∙ ap length held) c.bytes_mut-2.ensures.value c.mix_parts.ensures.parts c.mix_parts.auto.parts c.bytes.ensures
     (c.pbkdf2-2.ensures.bytes password c.new-key.ensures.key)
 
@@ -106,12 +107,12 @@ returns-clause-count c =
     let last : length c.bytes.result.now ≡ length c.in_ok-parts.parts =
     same_length c.in_ok-parts.parts c.pbkdf2.new.out c.bytes_mut-2.result.now c.mix_parts.new.parts c.bytes.result.now
     (c.pbkdf2.auto.out ∙ ap length held) c.bytes_mut-2.ensures.value c.mix_parts.auto.parts c.bytes.ensures in
-    let table = table-product cost n r c.row_count-rows.ensures c.r-r.ensures.number in
+    let table = table-product cost n r c.row_count-rows.ensures.number c.r-r.ensures.number in
     let digests = digests-are cost password_length count (length c.bytes_mut.result.now) (ap length held ∙ whole) in
     let bytes = bytes-are cost password_length salt_length count (length c.bytes_mut.result.now) (length c.bytes.result.now)
     (ap length held ∙ whole) (last ∙ whole) in
     let mixes : 2 * n * c.p-p.result ≡ scrypt_mixes cost =
-    ap (λ k. 2 * k * c.p-p.result) c.row_count-rows.ensures ∙ ap (λ k. 2 * rows cost * k) c.p-p.ensures.number in
+    ap (λ k. 2 * k * c.p-p.result) c.row_count-rows.ensures.number ∙ ap (λ k. 2 * rows cost * k) c.p-p.ensures.number in
     let halves : 4 * (64 * r) ≡ halves_bytes cost = omega (arith, c.r-r.ensures.number) in
     counts-are before c.new.new.meter c.new-2.new.meter c.new-3.new.meter c.new-key.new.meter c.pbkdf2.new.meter c.mix_parts.new.meter
     c.pbkdf2-2.new.meter (4 * (n * (32 * r))) (128 * r * c.p-p.result) (4 * (64 * r)) (key_digests password_length) (key_bytes password_length)

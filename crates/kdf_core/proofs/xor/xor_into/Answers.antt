@@ -1,7 +1,7 @@
 use Rattle.std.proofs.Common.{arith}
-use Rattle.kdf_core.proofs.XorLemmas.{xor_bytes-from_places}
+use Rattle.kdf_core.proofs.XorLemmas.{xor_lists-from_places}
 use Rattle.kdf_core.proofs.xor.xor_into.Goals as goal
 
 pub returns : goal.returns
 returns c =
-    xor_bytes-from_places _ _ _ c.places.auto.sum c.requires (λ k inside. c.places.invariant.added k (omega arith))
+    xor_lists-from_places _ _ _ c.places.auto.sum c.requires (λ k inside. c.places.invariant.added k (omega arith))

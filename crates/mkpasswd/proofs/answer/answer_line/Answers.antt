@@ -9,7 +9,7 @@ use Rattle.crypt_core.specs.Settings.{Kept, Spells}
 use Rattle.crypt_core.specs.Work.{work}
 use Rattle.crypt_core.specs.declared.hash.HashFault.{HashFault}
 use Rattle.crypt_core.specs.declared.hash.HashFault.TheVariants.{OutOfMemory}
-use Rattle.crypt_core.specs.declared.work.Work.{Work}
+use Rattle.prims_core.specs.declared.work.Work.{Work}
 use Rattle.mkpasswd.specs.Answers.{Answer, hashed_answer, no_work}
 use Rattle.mkpasswd.specs.LineAnswers.{IsAnswer, HasSoundParts, compared_answer, front_of, refused_answer, unhashed_answer, verdict_text}
 use Rattle.mkpasswd.specs.LineAnswers.IsAnswer.{refused, hashed, none, locked, ok, no}

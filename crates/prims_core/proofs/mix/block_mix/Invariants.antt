@@ -1,11 +1,11 @@
 use Rattle.std.proofs.Common.{◌≡◌}
+use Rattle.prims_core.specs.BlockMix.{x_after, y_at}
 use Rattle.prims_core.specs.Private.Mixing.{ArePlaced}
-use Rattle.prims_core.proofs.MixFacts.{results, result_before}
 use Rattle.prims_core.proofs.mix.block_mix.Given as goal
 
--- x is the result before block i, and the results before it stand at their places
+-- x is X before block i is mixed, and the results before that block stand at their places
 abbrev pub invariant-mixing : goal.invariant-mixing
 invariant-mixing l = record {
-  before : l.x ≡ result_before l.src l.i;
-  placed : ArePlaced (results l.src) l.half l.i l.dst;
+  before : l.x ≡ x_after l.r l.src l.i;
+  placed : ArePlaced (y_at l.r l.src) l.r l.i l.dst;
 }

@@ -1,13 +1,14 @@
 use Rattle.std.proofs.Common.{◌≡◌, ◌+◌}
+use Rattle.prims_core.specs.BlockMix.{x_after, y_at}
 use Rattle.prims_core.specs.Private.Mixing.{ArePlaced, IsXored}
-use Rattle.prims_core.specs.Words.{xor_words}
-use Rattle.prims_core.proofs.MixFacts.{results, result_before}
+use Rattle.prims_core.specs.Words.{xor_lists}
+use Rattle.prims_core.specs.declared.mix.TheConstants.{AHEAD}
 use Rattle.prims_core.proofs.mix.block_mix_xor.Given as goal
 
--- the exclusive or is eight blocks ahead; else as in block_mix, of the exclusive or
+-- the exclusive or goes ahead; else as in block_mix, of the exclusive or
 abbrev pub invariant-mixing : goal.invariant-mixing
 invariant-mixing l = record {
-  xored : IsXored l.fn.src l.row l.last (l.i + 8) l.src;
-  before : l.x ≡ result_before (xor_words l.fn.src l.row) l.i;
-  placed : ArePlaced (results (xor_words l.fn.src l.row)) l.half l.i l.dst;
+  xored : IsXored l.fn.src l.row l.last (l.i + AHEAD) l.src;
+  before : l.x ≡ x_after l.r (xor_lists l.fn.src l.row) l.i;
+  placed : ArePlaced (y_at l.r (xor_lists l.fn.src l.row)) l.r l.i l.dst;
 }

@@ -3,6 +3,6 @@ use Rattle.prims_core.proofs.MixFacts.{placed_more}
 use Rattle.prims_core.proofs.mix.put_result.Goals as goal
 
 pub returns : goal.returns
-returns c results before is =
-    placed_more c.args.half c.args.i _ results c.args.dst.now c.store.new.words c.requires.1 c.requires.0 (omega arith)
+returns c y before is =
+    placed_more c.args.r c.args.i _ y c.args.dst.now c.store.new.words c.requires.1 c.requires.0 (omega arith)
     (omega arith) (c.store.ensures ∙ is) before

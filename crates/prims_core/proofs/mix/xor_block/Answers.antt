@@ -1,22 +1,18 @@
-use Rattle.std.proofs.Common.{◌≡◌, ℕ, ◌+◌, ◌-◌, ◌*◌, inl, inr, take, drop, ap, ap₂, ◌∙◌, sym, arith}
-use Rattle.prims_core.specs.Words.{xor_words}
-use Rattle.prims_core.proofs.MixFacts.{written_same, written_below, written_above}
-use Rattle.prims_core.proofs.WordFacts.{part-xor_words}
+use Rattle.std.proofs.Common.{◌≡◌, ℕ, ◌+◌, ◌-◌, ◌*◌, take, drop, ap, ap₂, ◌∙◌, sym, arith}
+use Rattle.prims_core.specs.Words.{xor_lists}
+use Rattle.prims_core.proofs.MixFacts.{written_same, written_other}
+use Rattle.prims_core.proofs.WordFacts.{part-xor_lists}
 use Rattle.prims_core.proofs.mix.xor_block.Goals as goal
 
 pub returns-clause-xored : goal.returns-clause-xored
 returns-clause-xored c =
     let start = 16 * c.args.i in
     let size : start + 16 - start ≡ 16 = omega arith in
-    written_same c.args.blocks.now c.xor_words.new.block start _ (omega arith) (omega arith)
+    written_same c.args.i _ c.args.blocks.now c.xor_words.new.block (omega arith) (omega arith)
     ∙ c.xor_words.ensures
-    ∙ ap₂ xor_words (ap (λ (n : ℕ). take n (drop start c.args.blocks.now)) size) c.block.ensures
-    ∙ sym (part-xor_words 16 start c.args.blocks.now c.args.row.now)
+    ∙ ap₂ xor_lists (ap (λ (n : ℕ). take n (drop start c.args.blocks.now)) size) c.block.ensures
+    ∙ sym (part-xor_lists 16 start c.args.blocks.now c.args.row.now)
 
 pub returns-clause-rest : goal.returns-clause-rest
 returns-clause-rest c k other =
-    let start = 16 * c.args.i in
-    elim other [
-      | inl below ↦ written_below c.args.blocks.now c.xor_words.new.block start _ (16 * k) (omega arith) (omega arith)
-      | inr above ↦ written_above c.args.blocks.now c.xor_words.new.block start _ (16 * k) (omega arith) (omega arith) (omega arith) (omega arith)
-    ]
+    written_other c.args.i _ k c.args.blocks.now c.xor_words.new.block (omega arith) (omega arith) (omega arith) other

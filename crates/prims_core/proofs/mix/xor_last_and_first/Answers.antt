@@ -1,4 +1,5 @@
 use Rattle.std.proofs.Common.{◌≡◌, inl, arith}
+use Rattle.prims_core.specs.declared.mix.TheConstants.{AHEAD}
 use Rattle.prims_core.proofs.mix.xor_last_and_first.Goals as goal
 
 pub first-init : goal.first-init
@@ -15,5 +16,5 @@ first-preserved c = record { xored = c.xor_unless_last.ensures c.args.blocks.now
 
 pub returns : goal.returns
 returns c =
-    let all : c.first.i ≡ 8 = omega arith in
+    let all : c.first.i ≡ AHEAD = omega arith in
     rw all at c.first.invariant.xored

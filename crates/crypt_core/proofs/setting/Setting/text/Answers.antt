@@ -1,4 +1,5 @@
-use Rattle.std.proofs.Common.{◌≡◌, ◌+◌, ◌≤◌, length, ap, subst, ◌∙◌, length-append, arith}
+use Rattle.crypt_core.specs.Crypt.{hash_limit}
+use Rattle.std.proofs.Common.{◌≡◌, ◌+◌, ◌<◌, length, ap, subst, ◌∙◌, length-append, arith}
 use Rattle.crypt_core.specs.declared.method.Method.{Method}
 use Rattle.crypt_core.specs.Methods.{prefix}
 use Rattle.crypt_core.specs.Packing.{packed_len}
@@ -36,5 +37,5 @@ returns-clause-room c =
     let kept : Kept = record { scheme = c.self.inside.scheme; salt = c.self.inside.salt.items } in
     let bounded = setting_bounded kept c.self.invariant in
     let front : length c.prefix.result.now ≡ length (prefix (method_of c.self.inside.scheme)) = ap length c.prefix.ensures ∙ ap (λ (m : Method). length (prefix m)) c.method.ensures in
-    subst (λ (k : Kept). length c.append-2.new.text.items + packed_len (method_of k.scheme) ≤ 143) c.self.view_is
+    subst (λ (k : Kept). length c.append-2.new.text.items + packed_len (method_of k.scheme) < hash_limit) c.self.view_is
     (omega (arith, packed_short kept.scheme kept.salt bounded.0 bounded.1, front, ap length c.append.ensures, length-append c.new-text.result.items c.prefix.result.now, ap length c.new-text.ensures, ap length c.append_cost.ensures, length-append c.append.new.text.items (cost_part c.self.inside.scheme), ap length c.append-2.ensures, length-append c.append_cost.new.text.items c.as_slice.result.now, ap length c.as_slice.ensures.value))

@@ -1,8 +1,9 @@
 -- the number so far is that of the digits so far, held at the upper end
+use Rattle.crypt_core.specs.Settings.{max_rounds}
 use Rattle.std.proofs.Common.{◌≡◌, take}
 use Rattle.std.specs.Prelude.{min}
 use Rattle.std.specs.Str.Parse.{digits_value}
 use Rattle.crypt_core.proofs.setting.read.capped_number.Given as goal
 
 abbrev pub invariant-loop-digit : goal.invariant-loop-digit
-invariant-loop-digit l = l.number ≡ min (digits_value 10 (take l.digit-index l.digits)) 999999999
+invariant-loop-digit l = l.number ≡ min (digits_value 10 (take l.digit-index l.digits)) max_rounds

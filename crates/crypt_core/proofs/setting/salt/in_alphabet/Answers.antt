@@ -1,7 +1,8 @@
+use Rattle.std.specs.Prelude.{Contains}
+use Rattle.prims_core.specs.Alphabet.{alphabet}
 use Rattle.std.proofs.Common.{All, refl, subst, length, ◌≤◌, arith}
 use Rattle.std.proofs.lemmas.List.{take_all}
 use Rattle.std.proofs.lemmas.List.Elements.{All-more}
-use Rattle.crypt_core.specs.Settings.{IsCharacter}
 use Rattle.crypt_core.proofs.setting.salt.in_alphabet.Goals as goal
 
 pub returns-then-not-is_in_alphabet : goal.returns-then-not-is_in_alphabet
@@ -10,9 +11,9 @@ returns-then-not-is_in_alphabet c =
 
 pub loop-byte-preserved : goal.loop-byte-preserved
 loop-byte-preserved c =
-    All-more IsCharacter c.args.bytes.now c.loop-byte.byte-index 0 c.loop-byte-test.true c.loop-byte.invariant (c.if-not-is_in_alphabet.ensures.0 refl)
+    All-more (Contains alphabet) c.args.bytes.now c.loop-byte.byte-index 0 c.loop-byte-test.true c.loop-byte.invariant (c.if-not-is_in_alphabet.ensures.0 refl)
 
 pub returns : goal.returns
 returns c =
     let whole : length c.args.bytes.now ≤ c.loop-byte.byte-index = omega arith in
-    (λ e. subst (All IsCharacter) (take_all c.loop-byte.byte-index c.args.bytes.now whole) c.loop-byte.invariant, λ all. refl)
+    (λ e. subst (All (Contains alphabet)) (take_all c.loop-byte.byte-index c.args.bytes.now whole) c.loop-byte.invariant, λ all. refl)

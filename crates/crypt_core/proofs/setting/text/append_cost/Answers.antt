@@ -1,20 +1,20 @@
 use Rattle.std.proofs.Common.{◌≡◌, length, ap, ◌∙◌, arith}
 use Rattle.crypt_core.specs.declared.scheme.Scheme.{Scheme}
-use Rattle.crypt_core.specs.Settings.{cost_part}
+use Rattle.crypt_core.specs.Settings.{cost_part, scrypt_part_len}
 use Rattle.crypt_core.proofs.Numerals.{length-scrypt_part}
 use Rattle.crypt_core.proofs.setting.text.append_cost.Goals as goal
 
 pub put_group-requires-clause-room : goal.put_group-requires-clause-room
 put_group-requires-clause-room c =
-    let eleven : length (cost_part c.args.scheme.now) ≡ 11 = ap (λ (s : Scheme). length (cost_part s)) c.in-Scrypt.is ∙ length-scrypt_part c.in-Scrypt.params in
+    let long : length (cost_part c.args.scheme.now) ≡ scrypt_part_len = ap (λ (s : Scheme). length (cost_part s)) c.in-Scrypt.is ∙ length-scrypt_part c.in-Scrypt.params in
     omega arith
 
 pub put_group-requires-in-Scrypt-clause-room : goal.put_group-requires-in-Scrypt-clause-room
 put_group-requires-in-Scrypt-clause-room c =
-    let eleven : length (cost_part c.args.scheme.now) ≡ 11 = ap (λ (s : Scheme). length (cost_part s)) c.in-Scrypt.is ∙ length-scrypt_part c.in-Scrypt.params in
+    let long : length (cost_part c.args.scheme.now) ≡ scrypt_part_len = ap (λ (s : Scheme). length (cost_part s)) c.in-Scrypt.is ∙ length-scrypt_part c.in-Scrypt.params in
     omega (arith, c.put_group.ensures.len)
 
 pub put_group-requires-in-Scrypt-2-clause-room : goal.put_group-requires-in-Scrypt-2-clause-room
 put_group-requires-in-Scrypt-2-clause-room c =
-    let eleven : length (cost_part c.args.scheme.now) ≡ 11 = ap (λ (s : Scheme). length (cost_part s)) c.in-Scrypt.is ∙ length-scrypt_part c.in-Scrypt.params in
+    let long : length (cost_part c.args.scheme.now) ≡ scrypt_part_len = ap (λ (s : Scheme). length (cost_part s)) c.in-Scrypt.is ∙ length-scrypt_part c.in-Scrypt.params in
     omega (arith, c.put_group.ensures.len, c.put_group-in-Scrypt.ensures.len)

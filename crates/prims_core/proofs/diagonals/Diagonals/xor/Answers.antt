@@ -1,6 +1,6 @@
 use Rattle.std.proofs.Common.{◌∙◌, ap₂}
 use Rattle.std.specs.Simd.Lanes.{zip2}
-use Rattle.prims_core.specs.Words.{xor_words}
+use Rattle.prims_core.specs.Words.{xor_lists}
 use Rattle.prims_core.proofs.DiagonalFacts.{words_on-zip2, length-of_lanes}
 use Rattle.prims_core.proofs.diagonals.Diagonals.xor.Goals as goal
 
@@ -13,7 +13,7 @@ invariant_of-result c = (
 )
 
 pub returns : goal.returns
-unfolding xor_words
+unfolding xor_lists
 returns c =
     words_on-zip2 _ _ _ _ _ _ _ _ _ c.self.invariant.0 c.self.invariant.1 c.self.invariant.2 c.self.invariant.3
     c.other.invariant.0 c.other.invariant.1 c.other.invariant.2 c.other.invariant.3

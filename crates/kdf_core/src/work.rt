@@ -1,0 +1,47 @@
+//! The work of scrypt, known before it is run: the closed form of what its meter counts.
+
+ghost use Rattle.std.specs.Prelude.{◌≡◌, ◌+◌, ◌^◌, ◌≤◌};
+ghost use Rattle.kdf_core.specs.Hmac.{tag_bytes};
+ghost use Rattle.kdf_core.specs.Params.{IsBounded};
+ghost use Rattle.kdf_core.specs.Scrypt.{scrypt_work};
+
+use crate::hmac::{SHA256_BLOCK, SHA256_LENGTH};
+use crate::params::Params;
+use crate::scrypt::UNIT_BYTES;
+use prims_core::work::Work;
+
+/// What a meter counts of scrypt, for a password, a salt and a result of so many bytes.
+///
+/// Each of the three is at most 2^32. Nothing is derived for it and no memory is taken.
+pub fn scrypt_work(params: &Params, password: u64, salt: u64, count: u64) -> Work
+    requires password { password ≤ 2 ^ 32 }
+    requires salt { salt ≤ 2 ^ 32 }
+    requires count { count ≤ 2 ^ 32 }
+    ensures work { result ≡ scrypt_work params.now password salt count }
+    ensures bounded { IsBounded params.now }
+{
+    let rows = u64::from(params.row_count());
+    let r = u64::from(params.r());
+    let p = u64::from(params.p());
+    let part = UNIT_BYTES as u64 * r;
+    let blocks = count.div_ceil(SHA256_LENGTH as u64);
+    let key_digests = u64::from(password > SHA256_BLOCK as u64);
+    Work {
+        digests: 8 * (r * p) + 2 * blocks + key_digests,
+        bytes: key_digests * password
+            + 4 * (r * p) * salted_tag_bytes(salt)
+            + blocks * salted_tag_bytes(part * p),
+        mixes: 2 * rows * p,
+        table: rows * part,
+        scratch: part * p + 2 * part,
+    }
+}
+
+// The bytes that a tag of a salt and the number of a block digests: both padded keys, the inner digest, and
+// these two, of which the number has 4 bytes.
+fn salted_tag_bytes(salt: u64) -> u64
+    requires { salt ≤ 2 ^ 32 }
+    ensures { result ≡ tag_bytes (salt + 4) }
+{
+    (2 * SHA256_BLOCK + SHA256_LENGTH) as u64 + (salt + 4)
+}
