@@ -11,7 +11,8 @@ use Rattle.mkpasswd.specs.Private.Made.{IsRaisedBelow, Says, fault_text_of, tall
 use Rattle.mkpasswd.specs.Private.Deliveries.{Sends}
 use Rattle.mkpasswd.specs.Private.Desks.{Outs}
 use Rattle.mkpasswd.specs.Private.Progress.{Answers, HasRoomIn}
-use Rattle.mkpasswd.specs.Private.Rooms.{HasCountsFor, HasRoomFor, answer_limit, calls_limit, work_limit}
+use Rattle.mkpasswd.specs.Private.Rooms.{HasCountsFor, HasRoomFor, answer_limit, calls_limit}
+use Rattle.crypt_core.specs.Work.{work_limit}
 use Rattle.mkpasswd.specs.Tallies.{both_tallies}
 use Rattle.mkpasswd.specs.declared.answer.LineAnswer.{LineAnswer}
 use Rattle.mkpasswd.specs.declared.answer.Outcome.{Outcome}

@@ -2,11 +2,12 @@
 use Rattle.std.proofs.Common.{◌≡◌, ℕ, ◌<◌, ◌⊎◌, List, ◌++◌, length, Contains, Option, Some, None, IfSome, Result, Ok, Err, IfOk, IsErrOf, inl, inr, sym, ap, subst, ◌∙◌, append-nil, arith}
 use Rattle.std.specs.Io.KnownBytes.{Consumes, IsAtEnd}
 use Rattle.std.proofs.lemmas.Bool.{cases_lt}
-use Rattle.crypt_core.specs.Passwords.{IsPasswordRefused}
+use Rattle.crypt_core.specs.Passwords.{IsPasswordRefused, password_limit}
 use Rattle.crypt_core.specs.declared.password.PasswordFault.{PasswordFault}
 use Rattle.crypt_core.specs.declared.password.PasswordFault.TheVariants.{TooLong, HasNul}
 use Rattle.mkpasswd.specs.Devices.{Device}
 use Rattle.mkpasswd.specs.Input.{first_line, Obtains, Reads}
+use Rattle.mkpasswd.specs.Texts.{line_feed}
 use Rattle.mkpasswd.specs.declared.faults.RunFault.{RunFault}
 use Rattle.mkpasswd.specs.declared.faults.RunFault.TheVariants.{Password}
 use Rattle.mkpasswd.proofs.LineFeeds.{feed_at, feed_at-append, feed_at-le, first_line-more, lacks_feed, length-first_line}
@@ -14,9 +15,9 @@ use Rattle.mkpasswd.proofs.LineFeeds.{feed_at, feed_at-append, feed_at-le, first
 -- the first line of all is that of the bytes, or both are too long for a password
 abbrev HasLine : List ℕ → List ℕ → Type 0
 HasLine all bytes =
-    (first_line all ≡ first_line bytes) ⊎ ((512 < length (first_line bytes)) × (512 < length (first_line all)))
+    (first_line all ≡ first_line bytes) ⊎ ((password_limit < length (first_line bytes)) × (password_limit < length (first_line all)))
 
-long_line : (bytes rest : List ℕ) → 512 < length (first_line bytes) → HasLine (bytes ++ rest) bytes
+long_line : (bytes rest : List ℕ) → password_limit < length (first_line bytes) → HasLine (bytes ++ rest) bytes
 long_line bytes rest long = elim (cases_lt (feed_at bytes) (length bytes)) [
   | inl some ↦ inl (first_line-more bytes rest some)
   | inr none ↦ inr (
@@ -26,14 +27,14 @@ long_line bytes rest long = elim (cases_lt (feed_at bytes) (length bytes)) [
   )
 ]
 
-with_feed : (bytes rest : List ℕ) → Contains bytes 10 → HasLine (bytes ++ rest) bytes
+with_feed : (bytes rest : List ℕ) → Contains bytes line_feed → HasLine (bytes ++ rest) bytes
 with_feed bytes rest has = elim (cases_lt (feed_at bytes) (length bytes)) [
   | inl some ↦ inl (first_line-more bytes rest some)
   | inr none ↦ absurd (lacks_feed bytes (omega (arith, none, feed_at-le bytes)) has)
 ]
 
 decided : (a b : Option (List ℕ)) (bytes : List ℕ) → Consumes a b bytes
-    → Contains bytes 10 ⊎ (IsAtEnd b ⊎ (512 < length (first_line bytes))) → IfSome a (λ all. HasLine all bytes)
+    → Contains bytes line_feed ⊎ (IsAtEnd b ⊎ (password_limit < length (first_line bytes))) → IfSome a (λ all. HasLine all bytes)
 decided None b bytes shown told = tt
 decided (Some all) None bytes shown told = absurd shown
 decided (Some all) (Some rest) bytes shown told = subst (λ xs. HasLine xs bytes) (sym shown) (elim told [

@@ -7,7 +7,7 @@ use Rattle.crypt_core.specs.declared.password.PasswordFault.{PasswordFault}
 use Rattle.crypt_core.specs.declared.password.PasswordFault.TheVariants.{TooLong, HasNul}
 use Rattle.crypt_core.specs.declared.setting.fault.SettingFault.{SettingFault}
 use Rattle.mkpasswd.specs.Texts.{colon}
-use Rattle.mkpasswd.specs.Lines.{Breaks, HasName, HasParts, IsLineRefused, IsSound, IsStored, Parts, rule_number}
+use Rattle.mkpasswd.specs.Lines.{Breaks, HasName, HasParts, IsLineRefused, IsSound, IsStored, Parts, line_limit, rule_number}
 use Rattle.mkpasswd.specs.Private.Entries.{HasBehind, IsBeforeField, IsCutOrWhole, IsEntry, IsFieldRefused, IsGoodField, IsGoodName, IsNamed, LacksParts}
 use Rattle.mkpasswd.specs.declared.line.Kind.{Kind}
 use Rattle.mkpasswd.specs.declared.line.Kind.TheVariants.{Batch, Check}
@@ -26,7 +26,7 @@ name_of_parts Batch line parts cut = inl (parts.password, cut.0)
 name_of_parts Check line parts cut = inl (cut.1, cut.2)
 
 -- a line with a good name breaks none of the rules on lengths and names
-name_breaks_none : (kind : Kind) (line name : List ℕ) → length line ≤ 1024 → IsGoodName name → HasName line name
+name_breaks_none : (kind : Kind) (line name : List ℕ) → length line ≤ line_limit → IsGoodName name → HasName line name
     → (fault : LineFault) → rule_number fault < 4 → Breaks kind fault line → ⊥
 name_breaks_none kind line name short good has LineTooLong below breaks = omega (arith, short, breaks)
 name_breaks_none kind line name short good has NoName below breaks = good.some (name_unique line name [] has breaks)
@@ -52,7 +52,7 @@ has_no_parts Check line name (Some back) first lacks parts cut =
     lacks (subst (λ (bytes : List ℕ). Contains bytes colon) (sym (cut_unique first cut.2).1) (cut_has_colon cut.3))
 
 -- a line with a good name and with parts breaks none of the first four rules
-parts_break_none : (kind : Kind) (line : List ℕ) (parts : Parts) → length line ≤ 1024 → IsGoodName parts.name → HasParts kind line parts
+parts_break_none : (kind : Kind) (line : List ℕ) (parts : Parts) → length line ≤ line_limit → IsGoodName parts.name → HasParts kind line parts
     → (fault : LineFault) → rule_number fault < 5 → Breaks kind fault line → ⊥
 parts_break_none kind line parts short good cut NoPassword below breaks = breaks parts cut
 parts_break_none kind line parts short good cut (Password fault) below breaks = omega arith

@@ -6,7 +6,7 @@ use Rattle.std.proofs.Math.Seq.{take-add}
 use Rattle.std.proofs.lemmas.List.{length-append, length-drop, length-take-le, take-take}
 use Rattle.mkpasswd.specs.Devices.{Device, IsUnfailed}
 use Rattle.mkpasswd.specs.Input.{first_line, IsUndecided, Reads}
-use Rattle.mkpasswd.specs.Private.Fetching.{Fetches, FindsLine}
+use Rattle.mkpasswd.specs.Private.Fetching.{Fetches, FindsLine, buffer_size}
 use Rattle.mkpasswd.specs.declared.faults.RunFault.{RunFault}
 use Rattle.mkpasswd.specs.declared.faults.RunFault.TheVariants.{Read, Write, OutOfMemory, Turns, Password}
 use Rattle.mkpasswd.proofs.LineFeeds.{feed_at, feed_at-append, first_line-is, first_line-whole, has_feed, lacks_feed, position-feed, position-none}
@@ -15,8 +15,8 @@ module _ {I : Type 0} (remaining : I → Option (List ℕ)) where
   -- the front of the buffer was read and has no line feed, in calls that did not fail and that each gave a
   -- byte
   pub record IsReading (old new : Device I) (buffer : List ℕ) (filled turns left : ℕ) : Type 0 where
-    pub size : length buffer ≡ 513
-    pub within : filled ≤ 513
+    pub size : length buffer ≡ buffer_size
+    pub within : filled ≤ buffer_size
     pub reads : Reads remaining old new (take filled buffer)
     pub no_line_feed : feed_at (take filled buffer) ≡ filled
     pub unfailed : IsUnfailed old new
@@ -37,15 +37,15 @@ module _ {I : Type 0} (remaining : I → Option (List ℕ)) where
   -- what a fetch gave behind the front
   pub record HasFetched (old mid new : Device I) (buffer next : List ℕ) (filled count turns left : ℕ) : Type 0 where
     pub before : IsReading old mid buffer filled turns left
-    pub room : filled < 513
-    pub size : length next ≡ 513
+    pub room : filled < buffer_size
+    pub size : length next ≡ buffer_size
     pub kept : take filled next ≡ take filled buffer
     pub fetched : Fetches remaining left mid new (drop filled next) (Ok count)
 
   -- all that was read by then
   read_so_far : (old mid new : Device I) (buffer next : List ℕ) (filled count turns left : ℕ)
       → HasFetched old mid new buffer next filled count turns left
-      → (filled + count ≤ 513)
+      → (filled + count ≤ buffer_size)
       × (take (filled + count) next ≡ take filled next ++ take count (drop filled next))
       × (length (take filled next) ≡ filled)
       × (length (take count (drop filled next)) ≡ count)
@@ -55,8 +55,8 @@ module _ {I : Type 0} (remaining : I → Option (List ℕ)) where
       let piece = take count (drop filled next) in
       let size = h.size in
       let room = h.room in
-      let rest : length (drop filled next) ≡ 513 - filled = omega (arith, length-drop filled next, size) in
-      let within : filled + count ≤ 513 = omega (arith, rest, h.fetched.0, room) in
+      let rest : length (drop filled next) ≡ buffer_size - filled = omega (arith, length-drop filled next, size) in
+      let within : filled + count ≤ buffer_size = omega (arith, rest, h.fetched.0, room) in
       let parts : take (filled + count) next ≡ take filled next ++ piece = take-add filled count next in
       let front_reads : Reads remaining old mid (take filled next) = subst (Reads remaining old mid) (sym h.kept) h.before.reads in (
         within,
@@ -149,7 +149,7 @@ module _ {I : Type 0} (remaining : I → Option (List ℕ)) where
       }
 
   undecided : (old mid : Device I) (buffer : List ℕ) (filled turns left : ℕ)
-      → IsReading old mid buffer filled turns left → filled < 513 → IsUndecided (take filled buffer)
+      → IsReading old mid buffer filled turns left → filled < buffer_size → IsUndecided (take filled buffer)
   undecided old mid buffer filled turns left before room =
       let long = before.size in
       let size : length (take filled buffer) ≡ filled = length-take-le filled buffer (omega (arith, long, room)) in
@@ -157,7 +157,7 @@ module _ {I : Type 0} (remaining : I → Option (List ℕ)) where
 
   -- a fetch failed, or no turn was left for it
   pub reading-cut : (old mid new : Device I) (buffer next : List ℕ) (filled turns left left_new : ℕ) (fault : RunFault)
-      → IsReading old mid buffer filled turns left → filled < 513
+      → IsReading old mid buffer filled turns left → filled < buffer_size
       → Fetches remaining left mid new (drop filled next) (Err fault) → left_new ≡ left - 1 → new.calls + left_new ≡ mid.calls + left
       → (bytes : List ℕ) × Reads remaining old new bytes × FindsLine remaining old new bytes left_new next (Err fault)
   reading-cut old mid new buffer next filled turns left left_new Read before room fetched took calls = (
@@ -182,7 +182,7 @@ module _ {I : Type 0} (remaining : I → Option (List ℕ)) where
 
   -- the buffer is full
   pub reading-full : (old mid : Device I) (buffer : List ℕ) (filled turns left : ℕ)
-      → IsReading old mid buffer filled turns left → 513 ≤ filled
+      → IsReading old mid buffer filled turns left → buffer_size ≤ filled
       → (bytes : List ℕ) × Reads remaining old mid bytes × FindsLine remaining old mid bytes left buffer (Ok filled)
   reading-full old mid buffer filled turns left before full =
       let bytes = take filled buffer in

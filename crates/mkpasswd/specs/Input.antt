@@ -2,7 +2,7 @@
 use Rattle.std.specs.Prelude.{◌≡◌, ℕ, ◌+◌, ◌<◌, ◌≤◌, ◌==◌, ◌⊎◌, List, length, take, Contains, Option, Result, Ok, Err}
 use Rattle.std.specs.List.{position_or_len}
 use Rattle.std.specs.Io.KnownBytes.{Consumes, IsAtEnd}
-use Rattle.crypt_core.specs.Passwords.{IsPassword, IsPasswordRefused}
+use Rattle.crypt_core.specs.Passwords.{IsPassword, IsPasswordRefused, password_limit}
 use Rattle.mkpasswd.specs.Devices.{Device, MovesBytes, FailsOnce, IsUnfailed}
 use Rattle.mkpasswd.specs.Texts.{line_feed}
 use Rattle.mkpasswd.specs.declared.faults.RunFault.{RunFault}
@@ -15,7 +15,7 @@ first_line bytes = take (position_or_len (λ b. b == line_feed) bytes) bytes
 -- the bytes that were read don't tell the password yet: they have no line feed, and could still be one
 pub record IsUndecided (bytes : List ℕ) : Type 0 where
   pub no_line_feed : ¬ Contains bytes line_feed
-  pub short : length bytes ≤ 512
+  pub short : length bytes ≤ password_limit
 
 module _ {I : Type 0} (remaining : I → Option (List ℕ)) where
   -- the fetches gave these bytes: the input's next ones, where it tells them
@@ -26,7 +26,7 @@ module _ {I : Type 0} (remaining : I → Option (List ℕ)) where
   -- they do tell it: a line feed is among them, or nothing is left to read, or they are too many without one
   abbrev pub IsDecided : Device I → List ℕ → Type 0
   IsDecided input bytes =
-      Contains bytes line_feed ⊎ (IsAtEnd (remaining input.inner) ⊎ (512 < length (first_line bytes)))
+      Contains bytes line_feed ⊎ (IsAtEnd (remaining input.inner) ⊎ (password_limit < length (first_line bytes)))
 
   -- the fetches gave these bytes, and their first line is the password, or is refused as one; or a fetch
   -- failed, or no turn was left where each fetch had given a byte, before that was known

@@ -73,7 +73,7 @@ module _ {I O E : Type 0} where
   abbrev pub IsReadOut : Tells I O E → Hands I O E → Type 0
   IsReadOut tells new = IsAtEnd (tells.remaining new.input.inner)
 
-  -- a line stands in front of what was read and isn't answered, with its line feed among the last 512 bytes;
+  -- a line stands in front of what was read and isn't answered, with its line feed in the piece that was read last;
   -- or it is all of that, and the end of the input
   abbrev pub IsNext : Tells I O E → Hands I O E → List ℕ → List ℕ → Type 0
   IsNext tells new line rest =

@@ -1,5 +1,5 @@
 //! Answers: the hash of a password, or what is told of a line. Each is made whole before anything is written.
-ghost use Rattle.std.specs.Prelude.{◌≡◌, ◌+◌, ◌-◌, ◌^◌, ◌≤◌, ◌++◌, [], ◌∷◌, length, IfOk, OnOk, OnErr};
+ghost use Rattle.std.specs.Prelude.{◌≡◌, ◌+◌, ◌-◌, ◌*◌, ◌<◌, ◌≤◌, ◌++◌, length, IfOk, OnOk, OnErr};
 ghost use Rattle.arrayvec.specs.ArrayVec.{array_vec_len};
 ghost use Rattle.crypt_core.specs.Crypt.{IsRefusedBy};
 ghost use Rattle.crypt_core.specs.Work.{raised_by, work};
@@ -7,16 +7,18 @@ ghost use Rattle.prims_core.specs.Meter.{HasRoom};
 ghost use Rattle.rand_core.specs.Stream.{Stream};
 ghost use Rattle.mkpasswd.specs.Answers.{Answer, count_text, counts_text, hash_text, hashed_answer};
 ghost use Rattle.mkpasswd.specs.LineAnswers.{IsAnswer, front_of, refused_answer};
+ghost use Rattle.mkpasswd.specs.Lines.{name_limit};
 ghost use Rattle.mkpasswd.specs.Private.Made.{Checks, IsRaisedBelow, Judges, Makes, Says, verdict_outcome, verdict_word};
-ghost use Rattle.mkpasswd.specs.Private.Rooms.{work_limit};
+ghost use Rattle.crypt_core.specs.Work.{work_limit};
+ghost use Rattle.mkpasswd.specs.Private.Rooms.{answer_limit, count_limit, front_limit};
 ghost use Rattle.mkpasswd.specs.Texts.{as_line};
 
 use crate::desk::Task;
 use crate::job::Job;
-use crate::line::{Field, Kind, LineFault, entry_of};
+use crate::line::{Field, LineFault, NAME_LIMIT, entry_of};
 use arrayvec::ArrayVec;
 use crypt_core::fits::{FitFault, fits};
-use crypt_core::hash::{HashFault, hash};
+use crypt_core::hash::{HASH_LIMIT, HashFault, hash};
 use crypt_core::password::Password;
 use crypt_core::setting::Setting;
 use itoa::Buffer;
@@ -25,9 +27,14 @@ use prims_core::meter::Meter;
 use rand_core::Rng;
 use std::alloc::Global;
 
-/// The text of an answer. A name of 64 bytes, a colon, a hash of 144, four counts of 41 and a line feed have
-/// 374 bytes.
-pub(crate) type Text = ArrayVec<u8, 384>;
+// The most bytes of a count: a colon, and what `itoa` writes of a number of 128 bits.
+const COUNT_LIMIT: usize = 41;
+
+// The most bytes of an answer: a name and a colon, a hash, four counts, and a line feed.
+const ANSWER_LIMIT: usize = NAME_LIMIT + 1 + HASH_LIMIT + 4 * COUNT_LIMIT + 1;
+
+/// The text of an answer.
+pub(crate) type Text = ArrayVec<u8, ANSWER_LIMIT>;
 
 /// What an answer to a line counts as. A refusal goes to the fault output, every other one to the output.
 #[derive(Clone, Copy, Debug, PartialEq, Eq)]
@@ -127,7 +134,7 @@ fn hashed<R: Rng>(
     meter: &mut Meter,
 ) -> Result<LineAnswer, HashFault>
     requires room { HasRoom meter.old }
-    requires short { length name.now ≤ 64 }
+    requires short { length name.now ≤ name_limit }
     ensures answer { Makes (hashed_answer job.now (front_of name.now) password.now (R.stream rng.old)) meter.old meter.new result }
     ensures stream { R.stream rng.new ≡ (hashed_answer job.now (front_of name.now) password.now (R.stream rng.old)).stream }
     ensures small { IsRaisedBelow work_limit meter.old meter.new }
@@ -152,7 +159,7 @@ fn checked(
     meter: &mut Meter,
 ) -> Result<LineAnswer, FitFault>
     requires room { HasRoom meter.old }
-    requires short { length name.now ≤ 64 }
+    requires short { length name.now ≤ name_limit }
     ensures checks { Checks job.now name.now field.now password.now meter.old meter.new result }
     ensures small { IsRaisedBelow work_limit meter.old meter.new }
 {
@@ -227,9 +234,9 @@ fn verdict_of(
 
 // A name and a colon.
 fn text_behind(name: &[u8]) -> Text
-    requires { length name.now ≤ 64 }
+    requires { length name.now ≤ name_limit }
     ensures text { result.items ≡ front_of name.now }
-    ensures short { array_vec_len result ≤ 65 }
+    ensures short { array_vec_len result ≤ front_limit }
 {
     let mut text = Text::new();
     append(&mut text, name);
@@ -247,9 +254,9 @@ fn append_hash(
     meter: &mut Meter,
 ) -> Result<(), HashFault>
     requires room { HasRoom meter.old }
-    requires short { array_vec_len text.old ≤ 65 }
+    requires short { array_vec_len text.old ≤ front_limit }
     ensures text { OnOk result (text.new.items ≡ text.old.items ++ hash_text job.now password.now setting.now) }
-    ensures fits { OnOk result (array_vec_len text.new ≤ 373) }
+    ensures fits { OnOk result (array_vec_len text.new < answer_limit) }
     ensures count { OnOk result (meter.new ≡ raised_by meter.old (work password.now setting.now)) }
     ensures refused { OnErr result (IsRefusedBy meter.old setting.now.scheme meter.new) }
     ensures small { IsRaisedBelow work_limit meter.old meter.new }
@@ -265,7 +272,7 @@ fn append_hash(
 
 // Bytes for which there is room.
 fn append(text: &mut Text, bytes: &[u8])
-    requires { array_vec_len text.old + length bytes.now ≤ 384 }
+    requires { array_vec_len text.old + length bytes.now ≤ answer_limit }
     ensures { text.new.items ≡ text.old.items ++ bytes.now }
 {
     text.try_extend_from_slice(bytes).unwrap();
@@ -295,7 +302,7 @@ impl Shown {
 
 // By how much each count has risen.
 fn append_counts(line: &mut Text, before: &Shown, after: &Shown)
-    requires room { array_vec_len line.old ≤ 209 }
+    requires room { array_vec_len line.old + 4 * count_limit < answer_limit }
     requires digests { before.now.digests ≤ after.now.digests }
     requires bytes { before.now.bytes ≤ after.now.bytes }
     requires mixes { before.now.mixes ≤ after.now.mixes }
@@ -303,7 +310,7 @@ fn append_counts(line: &mut Text, before: &Shown, after: &Shown)
     ensures counts { line.new.items ≡ line.old.items ++ counts_text
         (after.now.digests - before.now.digests) (after.now.bytes - before.now.bytes)
         (after.now.mixes - before.now.mixes) (after.now.table - before.now.table) }
-    ensures short { array_vec_len line.new ≤ array_vec_len line.old + 164 }
+    ensures short { array_vec_len line.new ≤ array_vec_len line.old + 4 * count_limit }
 {
     append_count(line, after.digests - before.digests);
     append_count(line, after.bytes - before.bytes);
@@ -311,11 +318,11 @@ fn append_counts(line: &mut Text, before: &Shown, after: &Shown)
     append_count(line, after.table - before.table);
 }
 
-// A colon and a number, which together have at most 41 bytes.
+// A colon and a number.
 fn append_count(line: &mut Text, count: u128)
-    requires { array_vec_len line.old + 41 ≤ 384 }
+    requires { array_vec_len line.old + count_limit ≤ answer_limit }
     ensures count { line.new.items ≡ line.old.items ++ count_text count }
-    ensures few { array_vec_len line.new ≤ array_vec_len line.old + 41 }
+    ensures few { array_vec_len line.new ≤ array_vec_len line.old + count_limit }
 {
     line.push(b':');
     line.try_extend_from_slice(Buffer::new().format(count).as_bytes())

@@ -14,10 +14,10 @@ use crypt_core::setting::{Setting, SettingFault};
 use thiserror::Error;
 
 /// The most bytes of a line, without its line feed.
-pub(crate) const LINE_LIMIT: usize = 1024;
+pub const LINE_LIMIT: usize = 1024;
 
 /// The most bytes of a name.
-const NAME_LIMIT: usize = 64;
+pub const NAME_LIMIT: usize = 64;
 
 /// What a run does with its lines.
 #[derive(Clone, Copy, Debug, PartialEq, Eq)]
@@ -31,13 +31,13 @@ pub enum Kind {
 /// What is wrong with a line: the first of these that holds.
 #[derive(Clone, Copy, Debug, PartialEq, Eq, Error)]
 pub enum LineFault {
-    /// More than 1,024 bytes.
+    /// More than [`LINE_LIMIT`] bytes.
     #[error("{}", self.text())]
     LineTooLong,
     /// Nothing stands before the first colon, or in the whole line.
     #[error("{}", self.text())]
     NoName,
-    /// More than 64 bytes stand before the first colon, or in the whole line without one.
+    /// More than [`NAME_LIMIT`] bytes stand before the first colon, or in the whole line without one.
     #[error("{}", self.text())]
     NameTooLong,
     /// No colon, or to check fewer than two.

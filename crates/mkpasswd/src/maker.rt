@@ -8,7 +8,7 @@ ghost use Rattle.mkpasswd.specs.Makers.{IsAccepted, IsRefused, bytes_of, made_sa
 
 use arrayvec::ArrayVec;
 use crypt_core::made_salt::{draw, salt_of};
-use crypt_core::method::Method;
+use crypt_core::method::{Method, SCRYPT_SALT_LIMIT};
 use crypt_core::setting::{MakeFault, Setting};
 use prims_core::buffer::buffer_of;
 use rand_core::Rng;
@@ -22,7 +22,7 @@ const ANY_SALT: &[u8] = b".";
 pub struct Maker {
     method: Method,
     cost: u32,
-    salt: Option<ArrayVec<u8, 86>>,
+    salt: Option<ArrayVec<u8, SCRYPT_SALT_LIMIT>>,
 }
 
 impl Model for Maker {

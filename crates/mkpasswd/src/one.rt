@@ -3,6 +3,7 @@
 ghost use Rattle.std.specs.Prelude.{◌≡◌, ◌+◌, ◌^◌, ◌≤◌};
 ghost use Rattle.mkpasswd.specs.Devices.{HasRoomForRun, MovesBytes};
 ghost use Rattle.mkpasswd.specs.One.{EndsOne, ObtainsFrom};
+ghost use Rattle.mkpasswd.specs.Private.Rooms.{turns_limit};
 ghost use Rattle.mkpasswd.specs.Runs.{hands, tells, HasCountsForRun, IsWithinTurns};
 
 mod password;
@@ -28,8 +29,8 @@ use std::io::{Read, Write};
 /// three words are drawn for a salt, where that has to be made, and these are drawn before anything is
 /// hashed. Both outputs are flushed at the end.
 ///
-/// - `Password`: the password is refused; from the input it is too long once 513 bytes without a line feed
-///   were read. Nothing was written, drawn or hashed.
+/// - `Password`: the password is refused; from the input it is too long once [`PASSWORD_LIMIT`] and one bytes
+///   without a line feed were read. Nothing was written, drawn or hashed.
 /// - `Read`: a read failed before the password was known. Likewise.
 /// - `OutOfMemory`: the memory of scrypt was refused, and nothing was written.
 /// - `Write`: a write or a flush failed. The output has taken the first bytes of the answer.
@@ -74,7 +75,7 @@ fn obtain<I: Read>(
     input: &mut Input<I>,
     left: &mut u64,
 ) -> Result<Password, RunFault>
-    requires turns { left.old ≤ 2 ^ 40 }
+    requires turns { left.old ≤ turns_limit }
     requires room { HasRoomForRun input.old }
     ensures password { ObtainsFrom I.remaining from.now input.old input.new left.new result }
     ensures turns { input.new.calls + left.new ≡ input.old.calls + left.old }

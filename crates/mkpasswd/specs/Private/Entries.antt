@@ -3,7 +3,7 @@ use Rattle.std.specs.Prelude.{◌≡◌, ◌≢◌, ℕ, ◌<◌, ◌≤◌, Lis
 use Rattle.crypt_core.specs.Passwords.{IsPassword}
 use Rattle.crypt_core.specs.Refusals.{IsRefused}
 use Rattle.crypt_core.specs.declared.setting.fault.SettingFault.{SettingFault}
-use Rattle.mkpasswd.specs.Lines.{HasParts, IsCut, IsLocked, IsStored, Parts, rule_number}
+use Rattle.mkpasswd.specs.Lines.{HasParts, IsCut, IsLocked, IsStored, Parts, line_limit, name_limit, rule_number}
 use Rattle.mkpasswd.specs.Texts.{colon}
 use Rattle.mkpasswd.specs.Makers.{bytes_of}
 use Rattle.mkpasswd.specs.declared.line.Entry.{Entry}
@@ -19,7 +19,7 @@ parts_of entry = record { name = entry.name.now; field = bytes_of entry.field; p
 -- a name that a line may have
 pub record IsGoodName (name : List ℕ) : Type 0 where
   pub some : name ≢ []
-  pub short : length name ≤ 64
+  pub short : length name ≤ name_limit
 
 -- what stands before the first colon, and behind it; or all of the line, which has none
 abbrev pub IsCutOrWhole : List ℕ → List ℕ → Option (List ℕ) → Type 0
@@ -28,7 +28,7 @@ IsCutOrWhole line name None = (line ≡ name) × ¬ Contains name colon
 
 -- a line that isn't too long, with its name
 pub record IsNamed (line name : List ℕ) (back : Option (List ℕ)) : Type 0 where
-  pub short : length line ≤ 1024
+  pub short : length line ≤ line_limit
   pub cut : IsCutOrWhole line name back
   pub good : IsGoodName name
 
@@ -38,7 +38,7 @@ IsBeforeField fault = rule_number fault < 6
 
 -- a line that breaks none of the rules but for that of its field
 pub record IsEntry (kind : Kind) (line : List ℕ) (parts : Parts) : Type 0 where
-  pub short : length line ≤ 1024
+  pub short : length line ≤ line_limit
   pub good : IsGoodName parts.name
   pub cut : HasParts kind line parts
   pub password : IsPassword parts.password

@@ -1,10 +1,15 @@
 -- One fetch, and the first line in a buffer that fetches fill.
-use Rattle.std.specs.Prelude.{◌≡◌, ℕ, ◌≤◌, List, [], length, take, Option, Result, Ok, Err}
+use Rattle.std.specs.Prelude.{◌≡◌, ℕ, ◌+◌, ◌≤◌, List, [], length, take, Option, Result, Ok, Err}
 use Rattle.std.specs.Io.KnownBytes.{IsAtEnd}
+use Rattle.crypt_core.specs.Passwords.{password_limit}
 use Rattle.mkpasswd.specs.Devices.{Device, MovesBytes, FailsOnce, IsUnfailed}
 use Rattle.mkpasswd.specs.Input.{first_line, IsDecided, IsUndecided, Reads}
 use Rattle.mkpasswd.specs.declared.faults.RunFault.{RunFault}
 use Rattle.mkpasswd.specs.declared.faults.RunFault.TheVariants.{Read, Turns}
+
+-- so many bytes without a line feed are one too many for a password
+abbrev pub buffer_size : ℕ
+buffer_size = password_limit + 1
 
 module _ {I : Type 0} (remaining : I → Option (List ℕ)) where
   -- the first so many bytes of the buffer were read, none only at the end; or nothing was, since the fetch

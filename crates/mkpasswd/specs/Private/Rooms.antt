@@ -1,7 +1,10 @@
 -- Room for what a run does: a number for each count, and what is left of it.
 use Rattle.std.specs.Prelude.{ℕ, ◌^◌, ◌+◌, ◌*◌, ◌≤◌}
 use Rattle.prims_core.specs.Meter.{Counts}
+use Rattle.crypt_core.specs.Crypt.{hash_limit}
+use Rattle.crypt_core.specs.Work.{work_limit}
 use Rattle.mkpasswd.specs.Devices.{Device}
+use Rattle.mkpasswd.specs.Lines.{name_limit}
 use Rattle.mkpasswd.specs.declared.tally.Tally.{Tally}
 
 -- the most turns of a run
@@ -16,12 +19,16 @@ calls_limit = 2 ^ 63 + turns_limit
 abbrev pub lines_limit : ℕ
 lines_limit = 2 ^ 50
 
--- the most bytes of an answer, and what a line raises each count by at most
-abbrev pub answer_limit : ℕ
-answer_limit = 384
+-- the most bytes of the front of an answer, of a count behind it, and of all of it: a front, a hash, four
+-- counts and a line feed
+abbrev pub front_limit : ℕ
+front_limit = name_limit + 1
 
-abbrev pub work_limit : ℕ
-work_limit = 2 ^ 41
+abbrev pub count_limit : ℕ
+count_limit = 41
+
+abbrev pub answer_limit : ℕ
+answer_limit = front_limit + hash_limit + 4 * count_limit + 1
 
 -- the numbers of a device leave room for what is left of a run
 pub record HasRoomInRun {T : Type 0} (device : Device T) : Type 0 where

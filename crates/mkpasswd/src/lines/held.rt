@@ -5,7 +5,7 @@ ghost use Rattle.mkpasswd.specs.Answers.{Answer};
 ghost use Rattle.mkpasswd.specs.LineAnswers.{IsAnswer};
 ghost use Rattle.mkpasswd.specs.Private.Made.{IsRaisedBelow, Makes};
 ghost use Rattle.mkpasswd.specs.Private.Progress.{StandsFor};
-ghost use Rattle.mkpasswd.specs.Private.Rooms.{work_limit};
+ghost use Rattle.crypt_core.specs.Work.{work_limit};
 
 use crate::answer::{LineAnswer, answer_line, refusal};
 use crate::desk::Task;

@@ -3,28 +3,29 @@
 ghost use Rattle.std.specs.Prelude.{◌≡◌, ℕ, ◌+◌, ◌-◌, ◌^◌, ◌<◌, ◌≤◌, List, drop, length, take};
 ghost use Rattle.mkpasswd.specs.Devices.{HasRoomForRun, MovesBytes};
 ghost use Rattle.mkpasswd.specs.Input.{Obtains, Reads};
-ghost use Rattle.mkpasswd.specs.Private.Fetching.{Fetches, FindsLine};
+ghost use Rattle.mkpasswd.specs.Private.Fetching.{Fetches, FindsLine, buffer_size};
+ghost use Rattle.mkpasswd.specs.Private.Rooms.{turns_limit};
 
 use crate::device::Input;
 use crate::faults::RunFault;
 use crate::fetch::{fetch_piece, line_feed_at};
-use crypt_core::password::Password;
+use crypt_core::password::{PASSWORD_LIMIT, Password};
 use std::io::Read;
 
-/// So many bytes without a line feed are one too many for a password.
-const TOO_MANY: usize = 513;
+// So many bytes without a line feed are one too many for a password.
+const BUFFER_SIZE: usize = PASSWORD_LIMIT + 1;
 
 /// Fetches until the first line is known, and takes it as a password. Each fetch takes one of the turns
 /// that are left. What follows the line feed in the piece that was fetched is dropped.
 ///
-/// `Password` is answered where the line is refused as a password, which is too long once 513 bytes without
-/// a line feed were read; before the line is known, `Read` after a fetch that failed, and `Turns` where
+/// `Password` is answered where the line is refused as a password, which is too long once more bytes than a password can
+/// have were read without a line feed; before the line is known, `Read` after a fetch that failed, and `Turns` where
 /// another fetch is needed and no turn is left.
 pub(crate) fn read_password<I: Read>(
     input: &mut Input<I>,
     left: &mut u64,
 ) -> Result<Password, RunFault>
-    requires turns { left.old ≤ 2 ^ 40 }
+    requires turns { left.old ≤ turns_limit }
     requires room { HasRoomForRun input.old }
     ensures read { (bytes : List ℕ) × Reads I.remaining input.old input.new bytes
         × Obtains I.remaining input.old input.new bytes left.new result }
@@ -32,7 +33,7 @@ pub(crate) fn read_password<I: Read>(
     ensures fewer { left.new ≤ left.old }
     ensures moves { MovesBytes 1 input.old input.new }
 {
-    let mut buffer = [0; TOO_MANY];
+    let mut buffer = [0; BUFFER_SIZE];
     let end = read_line(input, &mut buffer, left)?;
     Ok(Password::new(&buffer[..end])?)
 }
@@ -43,9 +44,9 @@ fn read_line<I: Read>(
     buffer: &mut [u8],
     left: &mut u64,
 ) -> Result<usize, RunFault>
-    requires turns { left.old ≤ 2 ^ 40 }
+    requires turns { left.old ≤ turns_limit }
     requires room { HasRoomForRun input.old }
-    requires size { length buffer.old ≡ 513 }
+    requires size { length buffer.old ≡ buffer_size }
     ensures read { (bytes : List ℕ) × Reads I.remaining input.old input.new bytes
         × FindsLine I.remaining input.old input.new bytes left.new buffer.new result }
     ensures turns { input.new.calls + left.new ≡ input.old.calls + left.old }
