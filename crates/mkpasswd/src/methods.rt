@@ -38,7 +38,8 @@ pub fn run_methods<O: Write>(out: &mut Output<O>, turns: u64) -> Result<Tally, R
 mod tests {
     use super::*;
     use crate::test_devices::MemoryWriter;
-    use std::io::ErrorKind;
+    use crate::test_devices::calls::Call::{Flush, Write};
+    use crate::test_devices::calls::{Device, FAILURE, Step, bytes_taken, calls_of};
     use std::test::Fail;
 
     const NO_LINE: Tally = Tally {
@@ -47,37 +48,55 @@ mod tests {
         misfits: 0,
     };
 
+    const LIST: &[u8] = b"Available methods:\nmd5crypt\nsha256crypt\nsha512crypt\nscrypt\n";
+
+    fn write(len: usize, taken: usize) -> Step {
+        (Device::Output, Write(len, Ok(taken)))
+    }
+
+    // The whole run, and with each of its calls failing in turn.
     #[test]
     fn lists_the_methods(rt: HostRuntime) -> Result<(), Fail> {
-        let alloc = rt.alloc();
-        let list = "Available methods:\nmd5crypt\nsha256crypt\nsha512crypt\nscrypt\n";
-        let second = MemoryWriter::new(alloc)
-            .by(19)
-            .failing_at(2, ErrorKind::PermissionDenied);
-        let flush = MemoryWriter::new(alloc).failing_flush(ErrorKind::BrokenPipe);
-        let rows = [
-            ("one turn", MemoryWriter::new(alloc), 1, Ok(NO_LINE), list),
+        let (alloc, flush) = (rt.alloc(), (Device::Output, Flush(Ok(()))));
+        let turns = Err(RunFault::Turns);
+        let rows: [(&str, usize, u64, &[Step], Result<Tally, RunFault>); 5] = [
+            ("one turn", 99, 1, &[write(59, 59), flush], Ok(NO_LINE)),
+            ("no turn", 99, 0, &[], turns),
             (
-                "no turn",
-                MemoryWriter::new(alloc),
-                0,
-                Err(RunFault::Turns),
-                "",
+                "in parts",
+                25,
+                3,
+                &[write(59, 25), write(34, 25), write(9, 9), flush],
+                Ok(NO_LINE),
             ),
             (
-                "second write",
-                second,
-                9,
-                Err(RunFault::Write),
-                "Available methods:\n",
+                "two turns of three",
+                25,
+                2,
+                &[write(59, 25), write(34, 25)],
+                turns,
             ),
-            ("flush", flush, 9, Err(RunFault::Write), list),
+            ("no byte taken", 0, 9, &[write(59, 0)], Err(RunFault::Write)),
         ];
-        for (what, writer, turns, wanted, taken) in rows {
+        for (what, most, turns, steps, outcome) in rows {
             assert!(rt; turns <= 1 << 40);
-            let mut out = Output::new(writer);
-            assert_eq!(rt; run_methods(&mut out, turns), wanted, "{what}");
-            assert_eq!(rt; out.into_inner().taken(), taken.as_bytes(), "{what}");
+            for whole in 0..steps.len() + 1 {
+                let call = whole as u64 + 1;
+                let mut out = Output::new(
+                    MemoryWriter::new(alloc).by(most).failing_at(call, FAILURE),
+                );
+                let wanted = if whole < steps.len() {
+                    Err(RunFault::Write)
+                } else {
+                    outcome
+                };
+                assert_eq!(rt; run_methods(&mut out, turns), wanted, "{what}, {call}");
+                let writer = out.into_inner();
+                let calls = calls_of(alloc, steps, whole, Device::Output)?;
+                assert_eq!(rt; writer.calls(), calls.as_slice(), "{what}, {call}");
+                let taken = LIST.get(..bytes_taken(calls.as_slice()));
+                assert_eq!(rt; Some(writer.taken()), taken, "{what}, {call}");
+            }
         }
         assert_eq!(rt; NO_LINE.status(), 0);
         Ok(())

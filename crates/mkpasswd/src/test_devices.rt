@@ -1,8 +1,12 @@
 //! Devices over memory, and a generator of known words, for tests. A device tells contracts its bytes,
-//! and fails with a kind of error that the test chooses, so that the test can tell it from any other.
+//! keeps a list of its calls, and fails with a kind of error that the test chooses, so that the test can
+//! tell it from any other.
 ghost use Rattle.std.specs.Prelude.{◌≡◌, ◌<◌, Some, None, drop, slice_index};
 ghost use Rattle.rand_core.specs.Steps.{stream_of, steps_u64_low};
 
+pub mod calls;
+
+use calls::Call;
 use rand_core::Rng;
 use rand_core::utils::{NextWord, fill_bytes_via_u64};
 use std::alloc::Global;
@@ -18,14 +22,25 @@ pub fn fault_of<T: Drop>(answer: io::Result<T>) -> Option<ErrorKind> {
     }
 }
 
+/// The failure of a device at this call, which is counted from 1.
+type Fault = Option<(u64, ErrorKind)>;
+
+// The kind of the error at the call behind these, where it is the one that fails.
+fn fault_behind(calls: &[Call], fault: Fault) -> Option<ErrorKind> {
+    match fault {
+        Some((call, kind)) if call == (calls.len() as u64).saturating_add(1) => Some(kind),
+        _ => None,
+    }
+}
+
 /// A writer that takes at most so many bytes a call, and may fail at one call or at its flush.
 #[derive(Drop)]
 pub struct MemoryWriter {
     taken: Vec<u8>,
+    calls: Vec<Call>,
     most: usize,
-    write_fault: Option<(u64, ErrorKind)>,
+    fault: Fault,
     flush_fault: Option<ErrorKind>,
-    calls: u64,
 }
 
 impl MemoryWriter {
@@ -33,10 +48,10 @@ impl MemoryWriter {
     pub fn new(alloc: Global) -> MemoryWriter {
         MemoryWriter {
             taken: Vec::new(alloc),
+            calls: Vec::new(alloc),
             most: usize::MAX,
-            write_fault: None,
+            fault: None,
             flush_fault: None,
-            calls: 0,
         }
     }
 
@@ -48,7 +63,7 @@ impl MemoryWriter {
 
     /// Fails at this call, counted from 1, with an error of this kind.
     pub fn failing_at(mut self, call: u64, kind: ErrorKind) -> MemoryWriter {
-        self.write_fault = Some((call, kind));
+        self.fault = Some((call, kind));
         self
     }
 
@@ -62,28 +77,35 @@ impl MemoryWriter {
     pub fn taken(&self) -> &[u8] {
         self.taken.as_slice()
     }
+
+    /// Its calls, in order.
+    pub fn calls(&self) -> &[Call] {
+        self.calls.as_slice()
+    }
 }
 
 impl Write for MemoryWriter {
     ghost contents = { λ writer. Some writer.taken.items };
 
     fn write(&mut self, buf: &[u8]) -> io::Result<usize> {
-        self.calls = self.calls.saturating_add(1);
-        if let Some((call, kind)) = self.write_fault {
-            if call == self.calls {
-                return Err(io::Error::from(kind));
-            }
-        }
         let count = buf.len().min(self.most);
+        if let Some(kind) = fault_behind(self.calls.as_slice(), self.fault) {
+            self.calls.push(Call::Write(buf.len(), Err(kind)))?;
+            return Err(io::Error::from(kind));
+        }
+        self.calls.push(Call::Write(buf.len(), Ok(count)))?;
         self.taken.extend_from_slice(&buf[..count])?;
         Ok(count)
     }
 
     fn flush(&mut self) -> io::Result<()> {
-        match self.flush_fault {
-            Some(kind) => Err(io::Error::from(kind)),
-            None => Ok(()),
+        let fault = fault_behind(self.calls.as_slice(), self.fault).or(self.flush_fault);
+        if let Some(kind) = fault {
+            self.calls.push(Call::Flush(Err(kind)))?;
+            return Err(io::Error::from(kind));
         }
+        self.calls.push(Call::Flush(Ok(())))?;
+        Ok(())
     }
 }
 
@@ -93,10 +115,10 @@ impl Write for MemoryWriter {
 pub struct MemoryReader<'a> {
     bytes: &'a [u8],
     left: &'a [u8],
+    calls: Vec<Call>,
     is_repeated: bool,
     most: usize,
-    fault: Option<(u64, ErrorKind)>,
-    calls: u64,
+    fault: Fault,
 }
 
 impl<'a> Model for MemoryReader<'a> {
@@ -111,16 +133,16 @@ impl<'a> Model for MemoryReader<'a> {
 
 impl<'a> MemoryReader<'a> {
     /// Gives these bytes once, as many a call as fit.
-    pub fn new(bytes: &'a [u8]) -> MemoryReader<'a>
+    pub fn new(alloc: Global, bytes: &'a [u8]) -> MemoryReader<'a>
         ensures { result ≡ Some bytes.now }
     {
         MemoryReader {
             bytes,
             left: bytes,
+            calls: Vec::new(alloc),
             is_repeated: false,
             most: usize::MAX,
             fault: None,
-            calls: 0,
         }
     }
 
@@ -148,22 +170,27 @@ impl<'a> MemoryReader<'a> {
         self.fault = Some((call, kind));
         self
     }
+
+    /// Its calls, in order.
+    pub fn calls(&self) -> &[Call] {
+        self.calls.as_slice()
+    }
 }
 
 impl Read for MemoryReader<'_> {
     ghost remaining = { λ reader. reader };
 
     fn read(&mut self, buf: &mut [u8]) -> io::Result<usize> {
-        self.calls = self.calls.saturating_add(1);
-        if let Some((call, kind)) = self.fault {
-            if call == self.calls {
-                return Err(io::Error::from(kind));
-            }
+        if let Some(kind) = fault_behind(self.calls.as_slice(), self.fault) {
+            self.calls.push(Call::Read(buf.len(), Err(kind)))?;
+            return Err(io::Error::from(kind));
         }
         if self.is_repeated && self.left.is_empty() {
             self.left = self.bytes;
         }
         let count = buf.len().min(self.most);
+        let given = count.min(self.left.len());
+        self.calls.push(Call::Read(buf.len(), Ok(given)))?;
         self.left.read(&mut buf[..count])
     }
 }
@@ -234,7 +261,7 @@ mod tests {
 
     #[test]
     fn begins_again(rt: HostRuntime) {
-        let mut reader = MemoryReader::new(b"abc").by(2).repeated();
+        let mut reader = MemoryReader::new(rt.alloc(), b"abc").by(2).repeated();
         let mut buffer = [b'.'; 3];
         for (count, gave) in [(2, *b"ab."), (1, *b"cb."), (2, *b"ab.")] {
             assert_eq!(rt; reader.read(&mut buffer).ok(), Some(count));

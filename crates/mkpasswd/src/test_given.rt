@@ -1,7 +1,12 @@
-//! What tests hand to a run.
+//! What tests hand to a run, what it leaves, and the run that they list.
 
+use crate::faults::RunFault;
+use crate::tally::Tally;
+use crate::test_devices::calls::{Device, FAILURE, Step, bytes_taken, calls_of};
 use crate::test_devices::{MemoryReader, MemoryWriter};
-use std::alloc::Global;
+use prims_core::meter::Meter;
+use std::alloc::{AllocError, Global};
+use std::process::Abort;
 
 /// What a run is given: an empty input, outputs that take all, and as many turns as may be, where a test
 /// has no other.
@@ -16,7 +21,7 @@ pub struct Given<'a> {
 impl<'a> Given<'a> {
     pub fn new(alloc: Global) -> Given<'a> {
         Given {
-            reader: MemoryReader::new(b""),
+            reader: MemoryReader::new(alloc, b""),
             writer: MemoryWriter::new(alloc),
             fault_writer: MemoryWriter::new(alloc),
             turns: 1 << 40,
@@ -41,5 +46,89 @@ impl<'a> Given<'a> {
     pub fn within(mut self, turns: u64) -> Given<'a> {
         self.turns = turns;
         self
+    }
+}
+
+/// What a run left: its outcome, its devices, the word that is drawn next, and the meter.
+#[derive(Drop)]
+pub struct Left<'a> {
+    pub outcome: Result<Tally, RunFault>,
+    pub reader: MemoryReader<'a>,
+    pub out: MemoryWriter,
+    pub faults: MemoryWriter,
+    pub next_word: u64,
+    pub meter: Meter,
+}
+
+/// A run as a test lists it: the words that it is planned by, what its devices are, each call that it makes of
+/// them, in order, and how it ends.
+#[derive(Clone, Copy)]
+pub struct Listed<'a> {
+    pub words: &'a [&'a str],
+    pub input: &'a [u8],
+    /// How many bytes the input gives and an output takes a call.
+    pub by: (usize, usize),
+    pub steps: &'a [Step],
+    pub outcome: Result<Tally, RunFault>,
+    pub out: &'a str,
+    pub faults: &'a str,
+}
+
+impl<'a> Listed<'a> {
+    /// The devices of the run, one of which fails at the step behind the first `whole`, if there is one.
+    pub fn given(&self, rt: &impl Abort, alloc: Global, whole: usize) -> Given<'a> {
+        let (gives, takes) = self.by;
+        assert!(rt; gives > 0);
+        let mut given = Given::new(alloc)
+            .reading(MemoryReader::new(alloc, self.input).by(gives))
+            .writing(MemoryWriter::new(alloc).by(takes))
+            .telling(MemoryWriter::new(alloc).by(takes));
+        if let Some((device, _)) = self.steps.get(whole) {
+            let mut call = 0u64;
+            for (number, (of, _)) in self.steps.iter().enumerate() {
+                if of == device && number <= whole {
+                    call = call.saturating_add(1);
+                }
+            }
+            match device {
+                Device::Input => given.reader = given.reader.failing_at(call, FAILURE),
+                Device::Output => given.writer = given.writer.failing_at(call, FAILURE),
+                Device::Faults => given.fault_writer = given.fault_writer.failing_at(call, FAILURE),
+            }
+        }
+        given
+    }
+
+    /// Wants the listed calls, texts and outcome of such a run, and nothing after the step that failed.
+    pub fn want(
+        &self,
+        rt: &impl Abort,
+        alloc: Global,
+        whole: usize,
+        left: &Left<'_>,
+    ) -> Result<(), AllocError> {
+        let outcome = match self.steps.get(whole) {
+            Some((Device::Input, _)) => Err(RunFault::Read),
+            Some(_) => Err(RunFault::Write),
+            None => self.outcome,
+        };
+        let what = (self.words, whole);
+        assert_eq!(rt; left.outcome, outcome, "{what:?}");
+        let calls = calls_of(alloc, self.steps, whole, Device::Input)?;
+        assert_eq!(rt;
+            left.reader.calls(),
+            calls.as_slice(),
+            "{what:?}: the input"
+        );
+        for (device, writer, text) in [
+            (Device::Output, &left.out, self.out),
+            (Device::Faults, &left.faults, self.faults),
+        ] {
+            let calls = calls_of(alloc, self.steps, whole, device)?;
+            assert_eq!(rt; writer.calls(), calls.as_slice(), "{what:?}: {device:?}");
+            let taken = text.as_bytes().get(..bytes_taken(calls.as_slice()));
+            assert_eq!(rt; Some(writer.taken()), taken, "{what:?}: {device:?}");
+        }
+        Ok(())
     }
 }

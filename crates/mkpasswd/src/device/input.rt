@@ -49,6 +49,14 @@ impl<I: Read> Input<I> {
         self.failures
     }
 
+    /// Gives the reader back.
+    #[cfg(test)]
+    pub fn into_inner(self) -> I
+        ensures { result ≡ self.inner }
+    {
+        self.inner
+    }
+
     /// Passes one `read` into the buffer on, and answers what it answered: how many bytes were given,
     /// which stand first in the buffer. None are given at the end, or into an empty buffer.
     pub fn fetch(&mut self, buffer: &mut [u8]) -> io::Result<usize>

@@ -113,6 +113,7 @@ impl<O: Write> Output<O> {
 #[cfg(test)]
 mod tests {
     use super::*;
+    use crate::test_devices::calls::Call::{Flush, Write};
     use crate::test_devices::{MemoryWriter, fault_of};
     use std::io::ErrorKind;
     use std::test::Fail;
@@ -141,6 +142,17 @@ mod tests {
         assert_eq!(rt; out.failures(), 2);
         drop(out);
         assert_eq!(rt; writer.taken(), b"ab".as_slice());
+        assert_eq!(rt;
+            writer.calls(),
+            [
+                Write(3, Ok(2)),
+                Write(1, Err(ErrorKind::PermissionDenied)),
+                Write(0, Ok(0)),
+                Flush(Err(ErrorKind::BrokenPipe))
+            ]
+            .as_slice(),
+            "a call each"
+        );
         Ok(())
     }
 }

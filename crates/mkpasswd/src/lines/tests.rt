@@ -4,14 +4,16 @@ ghost use Rattle.mkpasswd.specs.LineRuns.{AreAnswers, lines_of};
 ghost use Rattle.mkpasswd.specs.Runs.{HasCountsForRun};
 ghost use Rattle.mkpasswd.specs.declared.line.Kind.TheVariants.{Batch};
 
+mod calls;
 mod cut_short;
+mod hostile;
 
 use super::*;
 use crate::job::Plan;
 use crate::options::plan;
 use crate::options::tests::words_of;
 use crate::test_devices::{ListedWords, MemoryReader, MemoryWriter};
-use crate::test_given::Given;
+use crate::test_given::{Given, Left};
 use std::io::ErrorKind;
 use std::process::Abort;
 use std::test::Fail;
@@ -28,16 +30,21 @@ const NO_NAME: &str = "mkpasswd: line 2: no name\n";
 
 // Runs on devices that tell their bytes. That after a tally the outputs have their old bytes and the answers to
 // all lines of the input, and nothing else, follows from the clauses of `run_batch` alone.
-fn run_on<R: Rng>(
+fn run_on<'a, R: Rng>(
     alloc: Global,
     job: &Job,
-    reader: MemoryReader<'_>,
+    reader: MemoryReader<'a>,
     writer: MemoryWriter,
     fault_writer: MemoryWriter,
     rng: &mut R,
     meter: &mut Meter,
     turns: u64,
-) -> (Result<Tally, RunFault>, MemoryWriter, MemoryWriter)
+) -> (
+    Result<Tally, RunFault>,
+    MemoryWriter,
+    MemoryWriter,
+    MemoryReader<'a>,
+)
     requires turns { turns ≤ 2 ^ 40 }
     requires counts { HasCountsForRun meter.old }
     ensures { OnOk result.0 ((bytes : List ℕ) → reader.entry ≡ Some bytes
@@ -58,32 +65,27 @@ fn run_on<R: Rng>(
         meter,
         turns,
     );
-    (outcome, out.into_inner(), faults.into_inner())
-}
-
-// What a run left: its outcome, the two outputs, the word that is drawn next, and the meter.
-#[derive(Drop)]
-struct Left {
-    outcome: Result<Tally, RunFault>,
-    out: MemoryWriter,
-    faults: MemoryWriter,
-    next_word: u64,
-    meter: Meter,
+    (
+        outcome,
+        out.into_inner(),
+        faults.into_inner(),
+        input.into_inner(),
+    )
 }
 
 // Plans by the words, and runs the plan with the words 129, 0, 0, 130, 0, 0 and 7.
-fn run_words(
+fn run_words<'a>(
     rt: &impl Abort,
     alloc: Global,
     words: &[&str],
-    given: Given<'_>,
-) -> Result<Left, Fail> {
+    given: Given<'a>,
+) -> Result<Left<'a>, Fail> {
     assert!(rt; given.turns <= 1 << 40);
     let words = words_of(alloc, words)?;
     let plan = plan(alloc, words.as_slice())?;
     let mut rng = ListedWords::new(&[129, 0, 0, 130, 0, 0, 7]);
     let mut meter = Meter::new();
-    let (outcome, out, faults) = match &plan {
+    let (outcome, out, faults, reader) = match &plan {
         Plan::Batch(job) => run_on(
             alloc,
             job,
@@ -108,12 +110,18 @@ fn run_words(
                 &mut meter,
                 given.turns,
             );
-            (outcome, out.into_inner(), faults.into_inner())
+            (
+                outcome,
+                out.into_inner(),
+                faults.into_inner(),
+                input.into_inner(),
+            )
         }
         _ => panic!(rt; "the words are for no lines"),
     };
     Ok(Left {
         outcome,
+        reader,
         out,
         faults,
         next_word: rng.peek(),
@@ -252,7 +260,7 @@ fn answers_line_by_line(rt: HostRuntime) -> Result<(), Fail> {
     ];
     for (words, input, tally, out, faults) in rows {
         for most in [1, 7, 512] {
-            let reader = MemoryReader::new(input.as_bytes()).by(most);
+            let reader = MemoryReader::new(rt.alloc(), input.as_bytes()).by(most);
             let given = Given::new(rt.alloc()).reading(reader);
             want(
                 &rt,
@@ -273,7 +281,7 @@ fn answers_line_by_line(rt: HostRuntime) -> Result<(), Fail> {
 #[test]
 fn draws_words_for_hashed_lines_alone(rt: HostRuntime) -> Result<(), Fail> {
     let alloc = rt.alloc();
-    let reader = MemoryReader::new(b"ann:password\n:x\nbob:password\n");
+    let reader = MemoryReader::new(alloc, b"ann:password\n:x\nbob:password\n");
     let words = ["--batch", "-m", "md5crypt"];
     let left = run_words(&rt, alloc, &words, Given::new(alloc).reading(reader))?;
     assert_eq!(rt; left.outcome, Ok(tally(3, 1, 0)));
@@ -285,165 +293,9 @@ fn draws_words_for_hashed_lines_alone(rt: HostRuntime) -> Result<(), Fail> {
     assert_eq!(rt; left.next_word, 7, "six words");
     assert_eq!(rt; left.meter.digests(), 2004, "digests");
     assert_eq!(rt; left.meter.bytes(), 72478, "bytes");
-    let reader = MemoryReader::new(b"c::x\ne\n");
+    let reader = MemoryReader::new(alloc, b"c::x\ne\n");
     let left = run_words(&rt, alloc, &["--check"], Given::new(alloc).reading(reader))?;
     assert_eq!(rt; left.next_word, 129, "no word");
     assert_eq!(rt; left.meter.digests(), 0, "no digest");
     Ok(())
-}
-
-// Each line after one that is answered, so that it has the number 2.
-#[test]
-fn refuses_hostile_lines(rt: HostRuntime) -> Result<(), Fail> {
-    let alloc = rt.alloc();
-    // The kind, what stands before and behind so many of a byte, and what is told of the line.
-    let rows: [(&str, &str, u8, usize, &str, &str); 16] = [
-        ("--check", ":", b'a', 1024, "", "line too long"),
-        ("--check", "", b'a', 65, "", "name too long"),
-        ("--check", "a::", b'x', 513, "", "password too long"),
-        ("--check", "a:!:", 0, 1, "", "password has a zero byte"),
-        (
-            "--check",
-            "a:$2b$10$x:",
-            0,
-            1,
-            "",
-            "password has a zero byte",
-        ),
-        ("--check", "a:!a b:", b'x', 1, "", "a:locked"),
-        ("--check", "a:", b'$', 385, ":x", "setting too long"),
-        ("--check", "a:", b'!', 385, ":x", "a:locked"),
-        ("--check", "a:$9$a b:", b'x', 1, "", "bad character"),
-        (
-            "--check",
-            "a:$5$rounds=0$a b:",
-            b'x',
-            1,
-            "",
-            "bad character",
-        ),
-        ("--check", "a:$7$A:", b'x', 1, "", "bad cost"),
-        (
-            "--check",
-            "a:$7$E/..../....a_b:",
-            b'x',
-            1,
-            "",
-            "scrypt range",
-        ),
-        (
-            "--check",
-            "a:$7$J6..../....a_b:",
-            b'x',
-            1,
-            "",
-            "above ceiling",
-        ),
-        ("--batch", "", b'a', 1024, "", "name too long"),
-        ("--batch", ":", b'a', 1024, "", "line too long"),
-        ("--batch", "a:", b'x', 513, "", "password too long"),
-    ];
-    for (kind, front, byte, count, back, told) in rows {
-        let mut bytes = Vec::new(alloc);
-        bytes.extend_from_slice(if kind == "--check" {
-            b"c::\n"
-        } else {
-            b"ann:password\n"
-        })?;
-        bytes.extend_from_slice(front.as_bytes())?;
-        for _ in 0..count {
-            bytes.push(byte)?;
-        }
-        bytes.extend_from_slice(back.as_bytes())?;
-        let words = [kind, "-m", "md5", "-S", "xxxxxxxx"];
-        let given = Given::new(alloc).reading(MemoryReader::new(bytes.as_slice()));
-        let left = run_words(&rt, alloc, &words, given)?;
-        let first = if kind == "--check" { "c:none\n" } else { ANN };
-        let (mut out, mut faults) = (String::from_str(alloc, first)?, String::new(alloc));
-        if told.contains(':') {
-            out.push_str(told)?;
-            out.push('\n')?;
-        } else {
-            faults.push_str("mkpasswd: line 2: ")?;
-            faults.push_str(told)?;
-            faults.push('\n')?;
-        }
-        assert_eq!(rt; left.out.taken(), out.as_bytes(), "{front}: the output");
-        assert_eq!(rt;
-            left.faults.taken(),
-            faults.as_bytes(),
-            "{front}: the fault output"
-        );
-        assert_eq!(rt; left.next_word, 129, "{front}: no word");
-    }
-    let reader = MemoryReader::new(b"a\0b:password\n");
-    let told = ("a\0b:$1$xxxxxxxx$UYCIxa628.9qXjpQCjM4a.\n", "");
-    let given = Given::new(alloc).reading(reader);
-    want(
-        &rt,
-        alloc,
-        "a name with a zero byte",
-        &BATCH,
-        given,
-        Ok(tally(1, 0, 0)),
-        told,
-    )
-}
-
-// A line of so many letters behind one of another length, so that pieces cut it anywhere.
-#[test]
-fn skips_lines_that_are_too_long(rt: HostRuntime) -> Result<(), Fail> {
-    let alloc = rt.alloc();
-    let rows = [
-        (
-            1024,
-            "mkpasswd: line 1: no password field\nmkpasswd: line 2: name too long\n",
-        ),
-        (
-            1025,
-            "mkpasswd: line 1: no password field\nmkpasswd: line 2: line too long\n",
-        ),
-    ];
-    for (len, faults) in rows {
-        for ends_with_feed in [false, true] {
-            let mut bytes = Vec::new(alloc);
-            bytes.extend_from_slice(b"b\n")?;
-            for _ in 0..len {
-                bytes.push(b'a')?;
-            }
-            if ends_with_feed {
-                bytes.push(b'\n')?;
-            }
-            for most in 1..513 {
-                let reader = MemoryReader::new(bytes.as_slice()).by(most);
-                let given = Given::new(alloc).reading(reader);
-                let outcome = Ok(tally(2, 2, 0));
-                want(
-                    &rt,
-                    alloc,
-                    "a long line",
-                    &BATCH,
-                    given,
-                    outcome,
-                    ("", faults),
-                )?;
-            }
-        }
-    }
-    let mut bytes = Vec::new(alloc);
-    for _ in 0..1 << 20 {
-        bytes.push(b'a')?;
-    }
-    bytes.extend_from_slice(b"\nann:password")?;
-    let given = Given::new(alloc).reading(MemoryReader::new(bytes.as_slice()));
-    let told = (ANN, "mkpasswd: line 1: line too long\n");
-    want(
-        &rt,
-        alloc,
-        "1048576 bytes",
-        &BATCH,
-        given,
-        Ok(tally(2, 1, 0)),
-        told,
-    )
 }

@@ -3,12 +3,14 @@ ghost use Rattle.mkpasswd.specs.Answers.{password_answer};
 ghost use Rattle.mkpasswd.specs.Options.{IsFrom, word};
 ghost use Rattle.mkpasswd.specs.Runs.{HasCountsForRun};
 
+mod calls;
+
 use super::*;
 use crate::job::Plan;
 use crate::options::plan;
 use crate::options::tests::words_of;
 use crate::test_devices::{ListedWords, MemoryReader, MemoryWriter};
-use crate::test_given::Given;
+use crate::test_given::{Given, Left};
 use crypt_core::password::PasswordFault;
 use std::io::ErrorKind;
 use std::process::Abort;
@@ -31,17 +33,22 @@ const TOO_LONG: RunFault = RunFault::Password(PasswordFault::TooLong);
 
 // Runs on devices that tell their bytes. That the output has its old bytes and the answer to a word's
 // password after a tally, and nothing else, follows from the clauses of `run_one` alone.
-fn run_on<R: Rng>(
+fn run_on<'a, R: Rng>(
     alloc: Global,
     job: &Job,
     from: &PasswordFrom,
-    reader: MemoryReader<'_>,
+    reader: MemoryReader<'a>,
     writer: MemoryWriter,
     fault_writer: MemoryWriter,
     rng: &mut R,
     meter: &mut Meter,
     turns: u64,
-) -> (Result<Tally, RunFault>, MemoryWriter, MemoryWriter)
+) -> (
+    Result<Tally, RunFault>,
+    MemoryWriter,
+    MemoryWriter,
+    MemoryReader<'a>,
+)
     requires turns { turns ≤ 2 ^ 40 }
     requires counts { HasCountsForRun meter.old }
     ensures { OnOk result.0 ((password : List ℕ) → IsFrom (word password) from.now
@@ -62,30 +69,26 @@ fn run_on<R: Rng>(
         meter,
         turns,
     );
-    (outcome, out.into_inner(), faults.into_inner())
-}
-
-// What a run left: its outcome, the output, the word that is drawn next, and the meter.
-#[derive(Drop)]
-struct Left {
-    outcome: Result<Tally, RunFault>,
-    writer: MemoryWriter,
-    next_word: u64,
-    meter: Meter,
+    (
+        outcome,
+        out.into_inner(),
+        faults.into_inner(),
+        input.into_inner(),
+    )
 }
 
 // Runs a job with the words 129, 0, 0 and 7. It writes nothing to the fault output.
-fn run_job(
+fn run_job<'a>(
     rt: &impl Abort,
     alloc: Global,
     job: &Job,
     from: &PasswordFrom,
-    given: Given<'_>,
-) -> Left {
+    given: Given<'a>,
+) -> Left<'a> {
     assert!(rt; given.turns <= 1 << 40);
     let mut rng = ListedWords::new(&[129, 0, 0, 7]);
     let mut meter = Meter::new();
-    let (outcome, writer, fault_writer) = run_on(
+    let (outcome, out, faults, reader) = run_on(
         alloc,
         job,
         from,
@@ -96,22 +99,24 @@ fn run_job(
         &mut meter,
         given.turns,
     );
-    assert_eq!(rt; fault_writer.taken(), b"".as_slice(), "the fault output");
+    assert_eq!(rt; faults.taken(), b"".as_slice(), "the fault output");
     Left {
         outcome,
-        writer,
+        reader,
+        out,
+        faults,
         next_word: rng.peek(),
         meter,
     }
 }
 
 // Plans by the words, and runs the plan.
-fn run_words(
+fn run_words<'a>(
     rt: &impl Abort,
     alloc: Global,
     words: &[&str],
-    given: Given<'_>,
-) -> Result<Left, Fail> {
+    given: Given<'a>,
+) -> Result<Left<'a>, Fail> {
     let words = words_of(alloc, words)?;
     let Plan::One(job, from) = plan(alloc, words.as_slice())? else {
         panic!(rt; "the words are for no password");
@@ -131,7 +136,7 @@ fn want(
 ) -> Result<(), Fail> {
     let left = run_words(rt, alloc, words, given)?;
     assert_eq!(rt; left.outcome, outcome, "{what}");
-    assert_eq!(rt; left.writer.taken(), taken, "{what}: the output");
+    assert_eq!(rt; left.out.taken(), taken, "{what}: the output");
     Ok(())
 }
 
@@ -171,7 +176,7 @@ fn answers_with_the_hash(rt: HostRuntime) -> Result<(), Fail> {
         ),
     ];
     for (words, bytes, line) in rows {
-        let given = Given::new(rt.alloc()).reading(MemoryReader::new(bytes));
+        let given = Given::new(rt.alloc()).reading(MemoryReader::new(rt.alloc(), bytes));
         want(
             &rt,
             rt.alloc(),
@@ -191,10 +196,10 @@ fn hashes_the_longest_password(rt: HostRuntime) -> Result<(), Fail> {
     let mut bytes = [b'a'; 514];
     bytes[512] = b'\n';
     bytes[513] = b'b';
-    let given = Given::new(rt.alloc()).reading(MemoryReader::new(&bytes));
+    let given = Given::new(rt.alloc()).reading(MemoryReader::new(rt.alloc(), &bytes));
     let left = run_words(&rt, rt.alloc(), &["-m", "sha512crypt", "-s"], given)?;
     assert_eq!(rt; left.outcome, Ok(ONE_LINE));
-    let text = left.writer.taken();
+    let text = left.out.taken();
     assert_eq!(rt; text.len(), 107);
     assert!(rt; text.starts_with(b"$6$/0..............$"));
     assert_eq!(rt; text.last().copied(), Some(b'\n'));
@@ -211,8 +216,8 @@ fn draws_three_words_for_a_salt(rt: HostRuntime) -> Result<(), Fail> {
         Given::new(alloc),
     )?;
     assert_eq!(rt; left.outcome, Ok(ONE_LINE));
-    assert!(rt; left.writer.taken().starts_with(b"$1$/0......$"));
-    assert_eq!(rt; left.writer.taken().len(), 35);
+    assert!(rt; left.out.taken().starts_with(b"$1$/0......$"));
+    assert_eq!(rt; left.out.taken().len(), 35);
     assert_eq!(rt; left.next_word, 7, "three words");
     let left = run_words(&rt, alloc, &BY_WORD, Given::new(alloc))?;
     assert_eq!(rt; left.next_word, 129, "no word");
@@ -244,10 +249,10 @@ fn refuses_a_long_password_first(rt: HostRuntime) -> Result<(), Fail> {
         ("the input", PasswordFrom::Input),
     ];
     for (what, from) in rows {
-        let given = Given::new(alloc).reading(MemoryReader::new(&long));
+        let given = Given::new(alloc).reading(MemoryReader::new(alloc, &long));
         let left = run_job(&rt, alloc, &job, &from, given);
         assert_eq!(rt; left.outcome, Err(TOO_LONG), "{what}");
-        assert_eq!(rt; left.writer.taken(), b"".as_slice(), "{what}");
+        assert_eq!(rt; left.out.taken(), b"".as_slice(), "{what}");
         assert_eq!(rt; left.next_word, 129, "{what}: no word");
         assert_eq!(rt; left.meter.digests(), 0, "{what}: digests");
         assert_eq!(rt; left.meter.bytes(), 0, "{what}: bytes");
@@ -265,7 +270,7 @@ fn stops_with_its_turns(rt: HostRuntime) -> Result<(), Fail> {
         ("513 turns", 513, TOO_LONG),
     ];
     for (what, turns, fault) in rows {
-        let endless = MemoryReader::new(b"a").by(1).repeated();
+        let endless = MemoryReader::new(alloc, b"a").by(1).repeated();
         let given = Given::new(alloc).reading(endless).within(turns);
         want(&rt, alloc, what, &BY_INPUT, given, Err(fault), b"")?;
     }
@@ -287,12 +292,12 @@ fn stops_with_its_turns(rt: HostRuntime) -> Result<(), Fail> {
 fn stops_at_a_failed_read(rt: HostRuntime) -> Result<(), Fail> {
     let alloc = rt.alloc();
     for call in 1..10 {
-        let reader = MemoryReader::new(b"password\n")
+        let reader = MemoryReader::new(alloc, b"password\n")
             .by(1)
             .failing_at(call, ErrorKind::PermissionDenied);
         let left = run_words(&rt, alloc, &BY_INPUT, Given::new(alloc).reading(reader))?;
         assert_eq!(rt; left.outcome, Err(RunFault::Read), "read {call}");
-        assert_eq!(rt; left.writer.taken(), b"".as_slice(), "read {call}");
+        assert_eq!(rt; left.out.taken(), b"".as_slice(), "read {call}");
     }
     Ok(())
 }
@@ -308,7 +313,7 @@ fn stops_at_a_failed_write(rt: HostRuntime) -> Result<(), Fail> {
         let left = run_words(&rt, alloc, &BY_WORD, Given::new(alloc).writing(writer))?;
         assert_eq!(rt; left.outcome, write, "write {failing}");
         assert_eq!(rt;
-            left.writer.taken(),
+            left.out.taken(),
             &ANSWER.as_bytes()[..taken],
             "write {failing}"
         );

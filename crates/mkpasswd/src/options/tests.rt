@@ -10,6 +10,35 @@ pub(crate) fn words_of(alloc: Global, words: &[&str]) -> Result<Vec<String>, All
     Ok(owned)
 }
 
+// Words that the command takes, as many as it takes, and more than it takes, which it refuses by the first of them
+// that is one too many.
+#[test]
+fn plans_many_words(rt: HostRuntime) -> Result<(), Fail> {
+    let alloc = rt.alloc();
+    let mut words = words_of(
+        alloc,
+        &[
+            "-m", "md5", "-S", "ab", "-R", "5", "--work", "-s", "--batch", "--check", "--", "x",
+            "cd",
+        ],
+    )?;
+    let planned = plan(alloc, words.as_slice());
+    assert!(rt; matches!(&planned, Err(UsageFault::TwoSalts)), "13 words");
+    for _ in 0..200 {
+        words.push(String::from_str(alloc, "--check")?)?;
+    }
+    let Err(UsageFault::Parse(error)) = plan(alloc, words.as_slice()) else {
+        panic!(rt; "213 words are no fault of the command");
+    };
+    assert_eq!(rt; error.kind(), ErrorKind::UnknownArgument, "213 words");
+    let words = words_of(alloc, &["--check"; 200])?;
+    let Err(UsageFault::Parse(error)) = plan(alloc, words.as_slice()) else {
+        panic!(rt; "200 words are no fault of the command");
+    };
+    assert_eq!(rt; error.kind(), ErrorKind::ArgumentConflict, "200 words");
+    Ok(())
+}
+
 // The bytes of a password's word, or `None` for the input.
 fn word_in(from: &PasswordFrom) -> Option<&[u8]> {
     match from {

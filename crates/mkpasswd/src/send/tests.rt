@@ -39,6 +39,7 @@ fn takes_a_turn_a_call(rt: HostRuntime) -> Result<(), Fail> {
         ("no byte taken", 0, 9, Some(RunFault::Write), 0, 8),
     ];
     for (what, most, turns, fault, taken, left_after) in rows {
+        assert!(rt; turns <= 1 << 40);
         let writer = MemoryWriter::new(rt.alloc()).by(most);
         let (outcome, left, writer) = send_to(writer, TEXT.as_bytes(), turns);
         assert_eq!(rt; outcome.err(), fault, "{what}");

@@ -1,5 +1,11 @@
 use super::*;
+use std::mem::size_of;
 use std::test::Fail;
+
+// It has room for a line that is not too long, and for little else.
+const _: () = prove!(size_of::<Held>() <= LINE_LIMIT + 16);
+
+const _: () = prove!(LINE_LIMIT == 1024);
 
 // Whether these bytes are held, or `None`: that they are too many.
 fn holds(held: &Held, want: Option<&[u8]>) -> bool {

@@ -6,7 +6,7 @@ use super::*;
 fn stops_at_a_failed_read(rt: HostRuntime) -> Result<(), Fail> {
     let alloc = rt.alloc();
     for call in 1..32 {
-        let reader = MemoryReader::new(b"ann:password\n:x\nbob:password\n")
+        let reader = MemoryReader::new(alloc, b"ann:password\n:x\nbob:password\n")
             .by(1)
             .failing_at(call, ErrorKind::PermissionDenied);
         let left = run_words(&rt, alloc, &BATCH, Given::new(alloc).reading(reader))?;
@@ -34,7 +34,7 @@ fn stops_at_a_failed_read(rt: HostRuntime) -> Result<(), Fail> {
             "read {call}: the fault output"
         );
     }
-    let reader = MemoryReader::new(b"ann:password\nbob:pa")
+    let reader = MemoryReader::new(alloc, b"ann:password\nbob:pa")
         .by(20)
         .failing_at(2, ErrorKind::PermissionDenied);
     let given = Given::new(alloc).reading(reader);
@@ -59,7 +59,7 @@ fn stops_at_a_failed_write(rt: HostRuntime) -> Result<(), Fail> {
         let failing = taken as u64 + 1;
         let writer = MemoryWriter::new(alloc).by(1).failing_at(failing, denied);
         let given = Given::new(alloc)
-            .reading(MemoryReader::new(input))
+            .reading(MemoryReader::new(alloc, input))
             .writing(writer);
         let left = run_words(&rt, alloc, &BATCH, given)?;
         assert_eq!(rt; left.outcome, Err(RunFault::Write), "write {failing}");
@@ -85,7 +85,7 @@ fn stops_at_a_failed_write(rt: HostRuntime) -> Result<(), Fail> {
     }
     let writer = MemoryWriter::new(alloc).by(1).failing_at(9, denied);
     let given = Given::new(alloc)
-        .reading(MemoryReader::new(input))
+        .reading(MemoryReader::new(alloc, input))
         .telling(writer);
     let told = (ANN, "mkpasswd");
     want(
@@ -105,7 +105,7 @@ fn flushes_both_outputs(rt: HostRuntime) -> Result<(), Fail> {
     let input = b"ann:password\n:x\nbob:password\n";
     let failing = MemoryWriter::new(alloc).failing_flush(ErrorKind::BrokenPipe);
     let given = Given::new(alloc)
-        .reading(MemoryReader::new(input))
+        .reading(MemoryReader::new(alloc, input))
         .writing(failing);
     let told = (
         "ann:$1$xxxxxxxx$UYCIxa628.9qXjpQCjM4a.\nbob:$1$xxxxxxxx$UYCIxa628.9qXjpQCjM4a.\n",
@@ -115,7 +115,7 @@ fn flushes_both_outputs(rt: HostRuntime) -> Result<(), Fail> {
     want(&rt, alloc, "the output", &BATCH, given, write, told)?;
     let failing = MemoryWriter::new(alloc).failing_flush(ErrorKind::BrokenPipe);
     let given = Given::new(alloc)
-        .reading(MemoryReader::new(input))
+        .reading(MemoryReader::new(alloc, input))
         .telling(failing);
     want(&rt, alloc, "the fault output", &BATCH, given, write, told)
 }
@@ -125,10 +125,12 @@ fn stops_with_its_turns(rt: HostRuntime) -> Result<(), Fail> {
     let alloc = rt.alloc();
     let turns = Err(RunFault::Turns);
     let none = ("", "");
-    let reader = MemoryReader::new(b"ann:password\n");
+    let reader = MemoryReader::new(alloc, b"ann:password\n");
     let given = Given::new(alloc).reading(reader).within(0);
     want(&rt, alloc, "no turn", &BATCH, given, turns, none)?;
-    let given = Given::new(alloc).reading(MemoryReader::new(b"")).within(1);
+    let given = Given::new(alloc)
+        .reading(MemoryReader::new(alloc, b""))
+        .within(1);
     want(
         &rt,
         alloc,
@@ -144,14 +146,14 @@ fn stops_with_its_turns(rt: HostRuntime) -> Result<(), Fail> {
         (3, Ok(tally(1, 0, 0)), ANN),
     ] {
         let given = Given::new(alloc)
-            .reading(MemoryReader::new(b"ann:password\n"))
+            .reading(MemoryReader::new(alloc, b"ann:password\n"))
             .within(given_turns);
         want(&rt, alloc, "one line", &BATCH, given, outcome, (out, ""))?;
     }
-    let endless = MemoryReader::new(b"a").by(1).repeated();
+    let endless = MemoryReader::new(alloc, b"a").by(1).repeated();
     let given = Given::new(alloc).reading(endless).within(1000);
     want(&rt, alloc, "no line feed", &BATCH, given, turns, none)?;
-    let endless = MemoryReader::new(b"ann:password\n").repeated();
+    let endless = MemoryReader::new(alloc, b"ann:password\n").repeated();
     let given = Given::new(alloc).reading(endless).within(100);
     let left = run_words(&rt, alloc, &BATCH, given)?;
     assert_eq!(rt; left.outcome, turns, "lines without an end");

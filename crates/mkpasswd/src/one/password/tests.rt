@@ -63,7 +63,7 @@ fn reads_the_first_line(rt: HostRuntime) {
         ("a byte 0 later", b"pass\n\0", 999, Ok(b"pass"), 1),
     ];
     for (what, bytes, most, wanted, taken) in rows {
-        let reader = MemoryReader::new(bytes).by(most);
+        let reader = MemoryReader::new(rt.alloc(), bytes).by(most);
         want(&rt, what, reader, 999, wanted, taken);
     }
 }
@@ -73,14 +73,14 @@ fn stops_at_the_first_failure(rt: HostRuntime) {
     let denied = ErrorKind::PermissionDenied;
     let fault = Err(RunFault::Read);
     for call in 1..10 {
-        let reader = MemoryReader::new(b"password\nmore").by(1);
+        let reader = MemoryReader::new(rt.alloc(), b"password\nmore").by(1);
         let reader = reader.failing_at(call, denied);
         want(&rt, "a read", reader, 99, fault, call);
     }
-    let reader = MemoryReader::new(b"password\nmore").by(1);
+    let reader = MemoryReader::new(rt.alloc(), b"password\nmore").by(1);
     let reader = reader.failing_at(10, denied);
     want(&rt, "behind the line", reader, 99, Ok(b"password"), 9);
-    let reader = MemoryReader::new(b"password").failing_at(2, denied);
+    let reader = MemoryReader::new(rt.alloc(), b"password").failing_at(2, denied);
     want(&rt, "at the end", reader, 99, fault, 2);
 }
 
@@ -88,10 +88,24 @@ fn stops_at_the_first_failure(rt: HostRuntime) {
 fn stops_with_its_turns(rt: HostRuntime) {
     let too_long = Err(RunFault::Password(PasswordFault::TooLong));
     let turns = Err(RunFault::Turns);
-    want(&rt, "no turn", MemoryReader::new(b"a\n"), 0, turns, 0);
-    want(&rt, "an empty input", MemoryReader::new(b""), 0, turns, 0);
-    let endless = MemoryReader::new(b"a").repeated();
+    want(
+        &rt,
+        "no turn",
+        MemoryReader::new(rt.alloc(), b"a\n"),
+        0,
+        turns,
+        0,
+    );
+    want(
+        &rt,
+        "an empty input",
+        MemoryReader::new(rt.alloc(), b""),
+        0,
+        turns,
+        0,
+    );
+    let endless = MemoryReader::new(rt.alloc(), b"a").repeated();
     want(&rt, "512 turns", endless, 512, turns, 512);
-    let endless = MemoryReader::new(b"a").repeated();
+    let endless = MemoryReader::new(rt.alloc(), b"a").repeated();
     want(&rt, "513 turns", endless, 513, too_long, 513);
 }

@@ -1,0 +1,96 @@
+//! Each call that a run makes of its devices, and that none follows one that failed.
+
+use super::*;
+use crate::test_devices::calls::Call::{Flush, Read, Write};
+use crate::test_devices::calls::{Device, Step};
+use crate::test_given::Listed;
+
+const ALL: usize = usize::MAX;
+
+const LONG: [u8; 513] = [b'a'; 513];
+
+const FLUSH: Step = (Device::Output, Flush(Ok(())));
+
+const FLUSH_FAULTS: Step = (Device::Faults, Flush(Ok(())));
+
+fn from_word<'a>(takes: usize, steps: &'a [Step]) -> Listed<'a> {
+    Listed {
+        words: &BY_WORD,
+        input: b"",
+        by: (ALL, takes),
+        steps,
+        outcome: Ok(ONE_LINE),
+        out: ANSWER,
+        faults: "",
+    }
+}
+
+fn from_input<'a>(input: &'a [u8], gives: usize, steps: &'a [Step]) -> Listed<'a> {
+    Listed {
+        words: &BY_INPUT,
+        input,
+        by: (gives, ALL),
+        ..from_word(ALL, steps)
+    }
+}
+
+// Wants the run with each of its steps failing in turn, and the whole run.
+fn want_steps(rt: &impl Abort, alloc: Global, run: Listed<'_>) -> Result<(), Fail> {
+    for whole in 0..run.steps.len() + 1 {
+        let given = run.given(rt, alloc, whole);
+        let left = run_words(rt, alloc, run.words, given)?;
+        run.want(rt, alloc, whole, &left)?;
+    }
+    Ok(())
+}
+
+// A run from a word reads nothing. One from the input asks for what is missing of 513 bytes.
+#[test]
+fn calls_in_order(rt: HostRuntime) -> Result<(), Fail> {
+    let (input, write) = (Device::Input, (Device::Output, Write(35, Ok(35))));
+    let whole = [write, FLUSH, FLUSH_FAULTS];
+    let (first, second) = (Write(35, Ok(20)), Write(15, Ok(15)));
+    let in_two = [
+        (Device::Output, first),
+        (Device::Output, second),
+        FLUSH,
+        FLUSH_FAULTS,
+    ];
+    let none = [(Device::Output, Write(35, Ok(0)))];
+    let one_read = [(input, Read(513, Ok(13))), write, FLUSH, FLUSH_FAULTS];
+    let to_the_end = [
+        (input, Read(513, Ok(8))),
+        (input, Read(505, Ok(0))),
+        write,
+        FLUSH,
+        FLUSH_FAULTS,
+    ];
+    let by_four = [
+        (input, Read(513, Ok(4))),
+        (input, Read(509, Ok(4))),
+        (input, Read(505, Ok(4))),
+        write,
+        FLUSH,
+        FLUSH_FAULTS,
+    ];
+    let too_long = [(input, Read(513, Ok(300))), (input, Read(213, Ok(213)))];
+    let rows = [
+        from_word(ALL, &whole),
+        from_word(20, &in_two),
+        Listed {
+            outcome: Err(RunFault::Write),
+            ..from_word(0, &none)
+        },
+        from_input(b"password\nmore", ALL, &one_read),
+        from_input(b"password", ALL, &to_the_end),
+        from_input(b"password\nmore", 4, &by_four),
+        Listed {
+            outcome: Err(TOO_LONG),
+            ..from_input(&LONG, 300, &too_long)
+        },
+    ];
+    for run in rows {
+        want_steps(&rt, rt.alloc(), run)?;
+    }
+    Ok(())
+}
