@@ -15,8 +15,8 @@ use Rattle.mkpasswd.specs.Private.Deliveries.{Delivers, FinishesBoth}
 use Rattle.mkpasswd.specs.Runs.{Fails, Hands, IsAfter, IsAfterBoth, TakesAnswer, Tells, hands}
 use Rattle.mkpasswd.specs.Tallies.{one_line}
 use Rattle.mkpasswd.specs.Texts.{as_line}
-use Rattle.mkpasswd.specs.declared.faults.RunFault.{RunFault}
-use Rattle.mkpasswd.specs.declared.faults.RunFault.TheVariants.{Read, Write, OutOfMemory, Turns, Password}
+use Rattle.mkpasswd.specs.declared.fault.RunFault.{RunFault}
+use Rattle.mkpasswd.specs.declared.fault.RunFault.TheVariants.{Read, Write, OutOfMemory, Turns, Password}
 use Rattle.mkpasswd.specs.declared.job.Job.{Job}
 use Rattle.mkpasswd.specs.declared.job.PasswordFrom.{PasswordFrom}
 use Rattle.mkpasswd.specs.declared.job.PasswordFrom.TheVariants.{Word, Input}

@@ -6,8 +6,8 @@ use Rattle.mkpasswd.specs.Devices.{Device}
 use Rattle.mkpasswd.specs.Output.{Takes, TakesAndFlushes, TakesUnflushed}
 use Rattle.mkpasswd.specs.Private.Deliveries.{FinishesBoth, IsFinished, IsUnfinished}
 use Rattle.mkpasswd.specs.Runs.{Fails, Finishes, Hands, IsAfter, TakesAnswer, Tells, hands}
-use Rattle.mkpasswd.specs.declared.faults.RunFault.{RunFault}
-use Rattle.mkpasswd.specs.declared.faults.RunFault.TheVariants.{Read, Write, OutOfMemory, Turns, Password}
+use Rattle.mkpasswd.specs.declared.fault.RunFault.{RunFault}
+use Rattle.mkpasswd.specs.declared.fault.RunFault.TheVariants.{Read, Write, OutOfMemory, Turns, Password}
 use Rattle.mkpasswd.specs.declared.tally.Tally.{Tally}
 
 -- ---- one output

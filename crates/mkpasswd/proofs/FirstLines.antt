@@ -8,8 +8,8 @@ use Rattle.crypt_core.specs.declared.password.PasswordFault.TheVariants.{TooLong
 use Rattle.mkpasswd.specs.Devices.{Device}
 use Rattle.mkpasswd.specs.Input.{first_line, Obtains, Reads}
 use Rattle.mkpasswd.specs.Texts.{line_feed}
-use Rattle.mkpasswd.specs.declared.faults.RunFault.{RunFault}
-use Rattle.mkpasswd.specs.declared.faults.RunFault.TheVariants.{Password}
+use Rattle.mkpasswd.specs.declared.fault.RunFault.{RunFault}
+use Rattle.mkpasswd.specs.declared.fault.RunFault.TheVariants.{Password}
 use Rattle.mkpasswd.proofs.LineFeeds.{feed_at, feed_at-append, feed_at-le, first_line-more, lacks_feed, length-first_line}
 
 -- the first line of all is that of the bytes, or both are too long for a password

@@ -5,7 +5,7 @@ use Rattle.mkpasswd.specs.Private.LineEnds.{AnswersLast, IsAllAnswered}
 use Rattle.mkpasswd.specs.Private.Desks.{Outs}
 use Rattle.mkpasswd.specs.Private.Progress.{IsAt}
 use Rattle.mkpasswd.specs.Tallies.{both_tallies}
-use Rattle.mkpasswd.specs.declared.faults.RunFault.{RunFault}
+use Rattle.mkpasswd.specs.declared.fault.RunFault.{RunFault}
 use Rattle.mkpasswd.specs.declared.job.Job.{Job}
 use Rattle.mkpasswd.specs.declared.line.Kind.{Kind}
 use Rattle.mkpasswd.specs.declared.lines.progress.Progress.{Progress}

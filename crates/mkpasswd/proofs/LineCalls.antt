@@ -7,8 +7,8 @@ use Rattle.mkpasswd.specs.Private.Deliveries.{FinishesBoth, IsKept}
 use Rattle.mkpasswd.specs.Private.Desks.{Outs, TakesTurns, outs_of, with_input}
 use Rattle.mkpasswd.specs.Private.LineEnds.{TakesTurnsOf}
 use Rattle.mkpasswd.specs.Runs.{Fails, Finishes, Hands, IsCutShort, IsWithinTurns, Tells}
-use Rattle.mkpasswd.specs.declared.faults.RunFault.{RunFault}
-use Rattle.mkpasswd.specs.declared.faults.RunFault.TheVariants.{Read, Write, OutOfMemory, Turns, Password}
+use Rattle.mkpasswd.specs.declared.fault.RunFault.{RunFault}
+use Rattle.mkpasswd.specs.declared.fault.RunFault.TheVariants.{Read, Write, OutOfMemory, Turns, Password}
 use Rattle.mkpasswd.specs.declared.job.Job.{Job}
 use Rattle.mkpasswd.specs.declared.line.Kind.{Kind}
 use Rattle.mkpasswd.specs.declared.tally.Tally.{Tally}

@@ -13,8 +13,8 @@ use Rattle.mkpasswd.specs.Private.Progress.{AreGiven, IsAt, IsCutAt, IsInterrupt
 use Rattle.mkpasswd.specs.Runs.{Fails, Hands, IsCutShort, Tells, calls_of}
 use Rattle.mkpasswd.specs.Tallies.{no_line}
 use Rattle.mkpasswd.specs.Texts.{line_feed}
-use Rattle.mkpasswd.specs.declared.faults.RunFault.{RunFault}
-use Rattle.mkpasswd.specs.declared.faults.RunFault.TheVariants.{Read, Write, OutOfMemory, Turns, Password}
+use Rattle.mkpasswd.specs.declared.fault.RunFault.{RunFault}
+use Rattle.mkpasswd.specs.declared.fault.RunFault.TheVariants.{Read, Write, OutOfMemory, Turns, Password}
 use Rattle.mkpasswd.specs.declared.job.Job.{Job}
 use Rattle.mkpasswd.specs.declared.line.Kind.{Kind}
 use Rattle.mkpasswd.specs.declared.lines.progress.Progress.{Progress}

@@ -7,8 +7,8 @@ use Rattle.std.proofs.lemmas.List.{length-append, length-drop, length-take-le, t
 use Rattle.mkpasswd.specs.Devices.{Device, IsUnfailed}
 use Rattle.mkpasswd.specs.Input.{first_line, IsUndecided, Reads}
 use Rattle.mkpasswd.specs.Private.Fetching.{Fetches, FindsLine, buffer_size}
-use Rattle.mkpasswd.specs.declared.faults.RunFault.{RunFault}
-use Rattle.mkpasswd.specs.declared.faults.RunFault.TheVariants.{Read, Write, OutOfMemory, Turns, Password}
+use Rattle.mkpasswd.specs.declared.fault.RunFault.{RunFault}
+use Rattle.mkpasswd.specs.declared.fault.RunFault.TheVariants.{Read, Write, OutOfMemory, Turns, Password}
 use Rattle.mkpasswd.proofs.LineFeeds.{feed_at, feed_at-append, first_line-is, first_line-whole, has_feed, lacks_feed, position-feed, position-none}
 
 module _ {I : Type 0} (remaining : I → Option (List ℕ)) where

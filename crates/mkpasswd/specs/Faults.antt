@@ -7,12 +7,12 @@ use Rattle.crypt_core.specs.PasswordFaults.{password_text}
 use Rattle.crypt_core.specs.SettingFaults.{make_fault_text}
 use Rattle.clap.specs.declared.error.kind.ErrorKind.{ErrorKind}
 use Rattle.clap.specs.declared.error.kind.ErrorKind.TheVariants.{DisplayHelp, DisplayVersion}
-use Rattle.mkpasswd.specs.declared.faults.Fault.{Fault}
-use Rattle.mkpasswd.specs.declared.faults.Fault.TheVariants.{Start, Usage, Run}
-use Rattle.mkpasswd.specs.declared.faults.RunFault.{RunFault}
-use Rattle.mkpasswd.specs.declared.faults.RunFault.TheVariants.{Read, Write, OutOfMemory as NoMemory, Turns, Password}
-use Rattle.mkpasswd.specs.declared.faults.UsageFault.{UsageFault}
-use Rattle.mkpasswd.specs.declared.faults.UsageFault.TheVariants.{Parse, Method, TwoSalts, TwoModes, Make, OutOfMemory}
+use Rattle.mkpasswd.specs.declared.fault.Fault.{Fault}
+use Rattle.mkpasswd.specs.declared.fault.Fault.TheVariants.{Start, Usage, Run}
+use Rattle.mkpasswd.specs.declared.fault.RunFault.{RunFault}
+use Rattle.mkpasswd.specs.declared.fault.RunFault.TheVariants.{Read, Write, OutOfMemory as NoMemory, Turns, Password}
+use Rattle.mkpasswd.specs.declared.fault.UsageFault.{UsageFault}
+use Rattle.mkpasswd.specs.declared.fault.UsageFault.TheVariants.{Parse, Method, TwoSalts, TwoModes, Make, OutOfMemory}
 
 -- the exit status after `clap`'s answer: 0 where help or the version was asked for
 abbrev pub parse_status : ErrorKind → ℕ

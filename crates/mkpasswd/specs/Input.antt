@@ -5,8 +5,8 @@ use Rattle.std.specs.Io.KnownBytes.{Consumes, IsAtEnd}
 use Rattle.crypt_core.specs.Passwords.{IsPassword, IsPasswordRefused, password_limit}
 use Rattle.mkpasswd.specs.Devices.{Device, MovesBytes, FailsOnce, IsUnfailed}
 use Rattle.mkpasswd.specs.Texts.{line_feed}
-use Rattle.mkpasswd.specs.declared.faults.RunFault.{RunFault}
-use Rattle.mkpasswd.specs.declared.faults.RunFault.TheVariants.{Read, Turns, Password}
+use Rattle.mkpasswd.specs.declared.fault.RunFault.{RunFault}
+use Rattle.mkpasswd.specs.declared.fault.RunFault.TheVariants.{Read, Turns, Password}
 
 -- what stands before the first line feed, or all of it without one
 unfoldable pub first_line : List ℕ → List ℕ

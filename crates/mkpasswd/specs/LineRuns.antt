@@ -10,8 +10,8 @@ use Rattle.mkpasswd.specs.LineAnswers.{IsAnswer}
 use Rattle.mkpasswd.specs.Texts.{line_feed}
 use Rattle.mkpasswd.specs.Runs.{Finishes, Hands, IsCutShort, Tells}
 use Rattle.mkpasswd.specs.Tallies.{both_tallies}
-use Rattle.mkpasswd.specs.declared.faults.RunFault.{RunFault}
-use Rattle.mkpasswd.specs.declared.faults.RunFault.TheVariants.{Read, Write, OutOfMemory, Turns, Password}
+use Rattle.mkpasswd.specs.declared.fault.RunFault.{RunFault}
+use Rattle.mkpasswd.specs.declared.fault.RunFault.TheVariants.{Read, Write, OutOfMemory, Turns, Password}
 use Rattle.mkpasswd.specs.declared.job.Job.{Job}
 use Rattle.mkpasswd.specs.declared.line.Kind.{Kind}
 use Rattle.mkpasswd.specs.declared.tally.Tally.{Tally}

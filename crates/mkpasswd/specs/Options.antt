@@ -14,8 +14,8 @@ use Rattle.clap.specs.declared.error.kind.ErrorKind.TheVariants as kind
 use Rattle.crypt_core.specs.Methods.{method_named}
 use Rattle.crypt_core.specs.declared.method.Method.{Method}
 use Rattle.mkpasswd.specs.Makers.{IsAccepted, IsRefused}
-use Rattle.mkpasswd.specs.declared.faults.UsageFault.{UsageFault}
-use Rattle.mkpasswd.specs.declared.faults.UsageFault.TheVariants.{Parse, Method as UnknownMethod, TwoSalts, TwoModes, Make, OutOfMemory}
+use Rattle.mkpasswd.specs.declared.fault.UsageFault.{UsageFault}
+use Rattle.mkpasswd.specs.declared.fault.UsageFault.TheVariants.{Parse, Method as UnknownMethod, TwoSalts, TwoModes, Make, OutOfMemory}
 use Rattle.mkpasswd.specs.declared.job.Job.{Job}
 use Rattle.mkpasswd.specs.declared.job.PasswordFrom.{PasswordFrom}
 use Rattle.mkpasswd.specs.declared.job.PasswordFrom.TheVariants.{Word, Input}

@@ -2,8 +2,8 @@
 use Rattle.std.specs.Prelude.{◌≡◌, ℕ, ◌+◌, ◌<◌, ◌⊎◌, List, [], ◌++◌, length, Option, Result, Ok, Err}
 use Rattle.std.specs.Io.KnownBytes.{Appends}
 use Rattle.mkpasswd.specs.Devices.{Device, FailsOnce, FailsToFlush, IsFlushed, IsUnfailed, IsUnflushed}
-use Rattle.mkpasswd.specs.declared.faults.RunFault.{RunFault}
-use Rattle.mkpasswd.specs.declared.faults.RunFault.TheVariants.{Write, Turns}
+use Rattle.mkpasswd.specs.declared.fault.RunFault.{RunFault}
+use Rattle.mkpasswd.specs.declared.fault.RunFault.TheVariants.{Write, Turns}
 
 module _ {T : Type 0} (contents : T → Option (List ℕ)) where
   -- the output has taken these bytes and no others: the device shows them at its end, where it shows

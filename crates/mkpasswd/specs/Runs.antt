@@ -6,8 +6,8 @@ use Rattle.prims_core.specs.Meter.{Counts}
 use Rattle.mkpasswd.specs.Answers.{Answer, IsRefusedAmong, after_work}
 use Rattle.mkpasswd.specs.Devices.{Device, MovesBytes}
 use Rattle.mkpasswd.specs.Output.{Takes, TakesAndFlushes, TakesFront, TakesUnflushed}
-use Rattle.mkpasswd.specs.declared.faults.RunFault.{RunFault}
-use Rattle.mkpasswd.specs.declared.faults.RunFault.TheVariants.{Read, Write, OutOfMemory, Turns, Password}
+use Rattle.mkpasswd.specs.declared.fault.RunFault.{RunFault}
+use Rattle.mkpasswd.specs.declared.fault.RunFault.TheVariants.{Read, Write, OutOfMemory, Turns, Password}
 use Rattle.mkpasswd.specs.declared.tally.Tally.{Tally}
 
 -- what a run has in its hands

@@ -3,7 +3,7 @@ ghost use Rattle.std.specs.Prelude.{◌≡◌, ◌+◌, ◌-◌, ◌^◌, ◌<�
 ghost use Rattle.mkpasswd.specs.Private.Fetching.{Fetches};
 
 use crate::device::Input;
-use crate::faults::RunFault;
+use crate::fault::RunFault;
 use std::io::Read;
 
 /// Makes one fetch into the buffer, which takes one of the turns that are left, and answers how many bytes it

@@ -5,7 +5,7 @@
 mod answer;
 mod desk;
 pub mod device;
-pub mod faults;
+pub mod fault;
 mod fetch;
 pub mod job;
 pub mod line;

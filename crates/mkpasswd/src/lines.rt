@@ -16,7 +16,7 @@ mod progress;
 
 use crate::desk::{Desk, Task};
 use crate::device::{Input, Output};
-use crate::faults::RunFault;
+use crate::fault::RunFault;
 use crate::fetch::fetch_piece;
 use crate::job::Job;
 use crate::line::Kind;

@@ -6,7 +6,7 @@ ghost use Rattle.mkpasswd.specs.Output.{GivesAll, ShowsOutcome};
 ghost use Rattle.mkpasswd.specs.Tallies.{no_line};
 
 use crate::device::Output;
-use crate::faults::RunFault;
+use crate::fault::RunFault;
 use crate::send::{finish, send};
 use crate::tally::Tally;
 use std::io::Write;

@@ -10,7 +10,7 @@ mod password;
 
 use crate::answer::answer_password;
 use crate::device::{Input, Output};
-use crate::faults::RunFault;
+use crate::fault::RunFault;
 use crate::job::{Job, PasswordFrom};
 use crate::send::{finish_both, send};
 use crate::tally::Tally;

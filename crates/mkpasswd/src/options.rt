@@ -10,7 +10,7 @@ ghost use Rattle.mkpasswd.specs.Options.{AsksForMethods, Gives, HasTwoSalts, Nam
 ghost use Rattle.mkpasswd.specs.Options.{command, flag_rule, given_salt, input, is_set, modes_of, type_of, value_rule};
 ghost use Rattle.mkpasswd.specs.Private.Found.{mode_of, values_of};
 
-use crate::faults::UsageFault;
+use crate::fault::UsageFault;
 use crate::job::{Job, PasswordFrom, Plan};
 use crate::line::Kind;
 use crate::maker::Maker;

@@ -6,7 +6,7 @@ ghost use Rattle.mkpasswd.specs.Private.Deliveries.{Delivers, FinishesBoth, Fini
 ghost use Rattle.mkpasswd.specs.Private.Rooms.{HasRoomInRun, turns_limit};
 
 use crate::device::Output;
-use crate::faults::RunFault;
+use crate::fault::RunFault;
 use std::io::Write;
 
 /// Gives the whole text, in as many calls as the device wants, each of which takes one of the turns that

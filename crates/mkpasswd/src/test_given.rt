@@ -1,6 +1,6 @@
 //! What tests hand to a run, what it leaves, and the run that they list.
 
-use crate::faults::RunFault;
+use crate::fault::RunFault;
 use crate::tally::Tally;
 use crate::test_devices::calls::{Device, FAILURE, Step, bytes_taken, calls_of};
 use crate::test_devices::{MemoryReader, MemoryWriter};

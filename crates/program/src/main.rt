@@ -6,7 +6,7 @@ ghost use Rattle.std.specs.Prelude.{◌≡◌, ◌⊎◌};
 ghost use Rattle.mkpasswd.specs.Faults.{fault_status};
 
 use mkpasswd::device::{Input, Output};
-use mkpasswd::faults::{Fault, RunFault, UsageFault};
+use mkpasswd::fault::{Fault, RunFault, UsageFault};
 use mkpasswd::job::{Job, PasswordFrom, Plan};
 use mkpasswd::lines::{run_batch, run_check};
 use mkpasswd::methods::run_methods;

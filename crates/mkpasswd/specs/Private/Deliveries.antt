@@ -4,8 +4,8 @@ use Rattle.std.specs.Io.KnownBytes.{Keeps}
 use Rattle.mkpasswd.specs.Answers.{Answer}
 use Rattle.mkpasswd.specs.Devices.{Device, FailsOnce, FailsToFlush, IsFlushed, IsUnfailed}
 use Rattle.mkpasswd.specs.Output.{Takes, TakesFront}
-use Rattle.mkpasswd.specs.declared.faults.RunFault.{RunFault}
-use Rattle.mkpasswd.specs.declared.faults.RunFault.TheVariants.{Write, Turns}
+use Rattle.mkpasswd.specs.declared.fault.RunFault.{RunFault}
+use Rattle.mkpasswd.specs.declared.fault.RunFault.TheVariants.{Write, Turns}
 
 module _ {T : Type 0} (contents : T → Option (List ℕ)) where
   -- a text was given: whole where there is an answer; its first bytes where a call failed; and with some

@@ -4,8 +4,8 @@ use Rattle.std.specs.Io.KnownBytes.{IsAtEnd}
 use Rattle.crypt_core.specs.Passwords.{password_limit}
 use Rattle.mkpasswd.specs.Devices.{Device, MovesBytes, FailsOnce, IsUnfailed}
 use Rattle.mkpasswd.specs.Input.{first_line, IsDecided, IsUndecided, Reads}
-use Rattle.mkpasswd.specs.declared.faults.RunFault.{RunFault}
-use Rattle.mkpasswd.specs.declared.faults.RunFault.TheVariants.{Read, Turns}
+use Rattle.mkpasswd.specs.declared.fault.RunFault.{RunFault}
+use Rattle.mkpasswd.specs.declared.fault.RunFault.TheVariants.{Read, Turns}
 
 -- so many bytes without a line feed are one too many for a password
 abbrev pub buffer_size : ℕ

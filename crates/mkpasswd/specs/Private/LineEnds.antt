@@ -8,7 +8,7 @@ use Rattle.mkpasswd.specs.Private.Desks.{Outs, outs_of}
 use Rattle.mkpasswd.specs.Private.Progress.{AreGiven, HasRoomToAnswer, IsAt, IsCutAt}
 use Rattle.mkpasswd.specs.Private.Rooms.{calls_limit}
 use Rattle.mkpasswd.specs.Runs.{Hands, Tells, calls_of}
-use Rattle.mkpasswd.specs.declared.faults.RunFault.{RunFault}
+use Rattle.mkpasswd.specs.declared.fault.RunFault.{RunFault}
 use Rattle.mkpasswd.specs.declared.job.Job.{Job}
 use Rattle.mkpasswd.specs.declared.line.Kind.{Kind}
 use Rattle.mkpasswd.specs.declared.lines.progress.Progress.{Progress}

@@ -11,8 +11,8 @@ use Rattle.mkpasswd.specs.Private.Deliveries.{Sends}
 use Rattle.mkpasswd.specs.Private.Desks.{Outs}
 use Rattle.mkpasswd.specs.Private.Rooms.{HasCountsFor, HasRoomFor, IsTallied, calls_limit, lines_limit, turns_limit}
 use Rattle.mkpasswd.specs.Texts.{line_feed}
-use Rattle.mkpasswd.specs.declared.faults.RunFault.{RunFault}
-use Rattle.mkpasswd.specs.declared.faults.RunFault.TheVariants.{Read, Write, OutOfMemory, Turns, Password}
+use Rattle.mkpasswd.specs.declared.fault.RunFault.{RunFault}
+use Rattle.mkpasswd.specs.declared.fault.RunFault.TheVariants.{Read, Write, OutOfMemory, Turns, Password}
 use Rattle.mkpasswd.specs.declared.job.Job.{Job}
 use Rattle.mkpasswd.specs.declared.line.Kind.{Kind}
 use Rattle.mkpasswd.specs.declared.lines.held.Held.{Held}

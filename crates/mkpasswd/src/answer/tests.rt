@@ -3,6 +3,7 @@ ghost use Rattle.std.specs.Prelude.{IsTrue};
 ghost use Rattle.prims_core.specs.Meter.{HasRoom};
 
 use super::*;
+use crate::line::Kind;
 use crate::maker::Maker;
 use crate::test_devices::ListedWords;
 use Outcome::{Answered, Misfit, Refused};
@@ -155,10 +156,14 @@ fn want(rt: &impl Abort, alloc: Global, kind: Kind, job: &Job, rows: &[Row<'_>],
     for (number, line, outcome, text) in rows {
         let mut rng = ListedWords::new(&WORDS);
         let mut meter = Meter::new();
-        let answer = answer_line(alloc, kind, job, *number, *line, &mut rng, &mut meter).expect(
-            rt,
-            "an answer",
-        );
+        let answer = answer_line(
+            Task { alloc, kind, job },
+            *number,
+            *line,
+            &mut rng,
+            &mut meter,
+        )
+        .expect(rt, "an answer");
         assert_eq!(rt; answer.text.as_slice(), *text, "{line:?}");
         assert_eq!(rt; answer.outcome, *outcome, "{line:?}");
         assert_eq!(rt; rng.peek(), next_word, "{line:?}: the next word");
@@ -262,7 +267,12 @@ fn counts_each_answer_alone(rt: HostRuntime) -> Result<(), Fail> {
     let mut meter = Meter::new();
     for (kind, line, text) in rows {
         assert!(rt; has_room(&meter));
-        let answer = answer_line(rt.alloc(), kind, &job, 1, line, &mut rng, &mut meter)?;
+        let task = Task {
+            alloc: rt.alloc(),
+            kind,
+            job: &job,
+        };
+        let answer = answer_line(task, 1, line, &mut rng, &mut meter)?;
         assert_eq!(rt; answer.text.as_slice(), text, "{line:?}");
     }
     assert_eq!(rt; meter.digests(), 3006, "the digests of all");

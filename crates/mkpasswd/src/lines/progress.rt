@@ -16,7 +16,7 @@ ghost use Rattle.mkpasswd.specs.Tallies.{both_tallies, no_line};
 use super::held::Held;
 use crate::answer::{LineAnswer, Outcome};
 use crate::desk::{Desk, Task};
-use crate::faults::RunFault;
+use crate::fault::RunFault;
 use crate::fetch::line_feed_at;
 use crate::send::send;
 use crate::tally::Tally;

@@ -7,7 +7,7 @@ ghost use Rattle.mkpasswd.specs.Private.Fetching.{Fetches, FindsLine, buffer_siz
 ghost use Rattle.mkpasswd.specs.Private.Rooms.{turns_limit};
 
 use crate::device::Input;
-use crate::faults::RunFault;
+use crate::fault::RunFault;
 use crate::fetch::{fetch_piece, line_feed_at};
 use crypt_core::password::{PASSWORD_LIMIT, Password};
 use std::io::Read;

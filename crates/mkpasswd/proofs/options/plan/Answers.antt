@@ -4,8 +4,8 @@ use Rattle.clap.specs.Words.{Text, kind_of}
 use Rattle.clap.specs.declared.error.Error.{Error}
 use Rattle.clap.specs.declared.error.kind.ErrorKind.TheVariants as kind
 use Rattle.mkpasswd.specs.Options.{Plans, Refuses}
-use Rattle.mkpasswd.specs.declared.faults.UsageFault.{UsageFault}
-use Rattle.mkpasswd.specs.declared.faults.UsageFault.TheVariants.{Parse, Method, TwoSalts, TwoModes, Make, OutOfMemory}
+use Rattle.mkpasswd.specs.declared.fault.UsageFault.{UsageFault}
+use Rattle.mkpasswd.specs.declared.fault.UsageFault.TheVariants.{Parse, Method, TwoSalts, TwoModes, Make, OutOfMemory}
 use Rattle.mkpasswd.proofs.options.plan.Goals as goal
 
 -- `clap`'s error is a refusal of the words, or want of memory

@@ -9,9 +9,9 @@ const _: () = prove!(LINE_LIMIT == 1024);
 
 // Whether these bytes are held, or `None`: that they are too many.
 fn holds(held: &Held, want: Option<&[u8]>) -> bool {
-    match want {
-        Some(bytes) => !held.is_too_long && held.bytes.as_slice() == bytes,
-        None => held.is_too_long,
+    match held {
+        Held::Bytes(bytes) => want == Some(bytes.as_slice()),
+        Held::TooLong => want.is_none(),
     }
 }
 
@@ -43,11 +43,8 @@ fn holds_a_line_over_pieces(rt: HostRuntime) -> Result<(), Fail> {
         }
         assert!(rt; holds(&held, want), "{what}");
 
-        held.clear();
-        assert!(rt; held.is_empty(), "{what}, cleared");
-        held.append(b"bob");
-        assert!(rt; holds(&held, Some(b"bob")), "{what}, begun anew");
-        assert!(rt; !held.is_empty(), "{what}, begun anew");
+        let is_empty = want.is_some_and(|bytes| bytes.is_empty());
+        assert_eq!(rt; held.is_empty(), is_empty, "{what}, read");
     }
     Ok(())
 }

@@ -5,7 +5,7 @@ use Rattle.mkpasswd.specs.Devices.{Device}
 use Rattle.mkpasswd.specs.One.{EndsOne}
 use Rattle.mkpasswd.specs.Options.{IsFrom, word}
 use Rattle.mkpasswd.specs.Runs.{Hands, Tells}
-use Rattle.mkpasswd.specs.declared.faults.RunFault.{RunFault}
+use Rattle.mkpasswd.specs.declared.fault.RunFault.{RunFault}
 use Rattle.mkpasswd.specs.declared.job.Job.{Job}
 use Rattle.mkpasswd.specs.declared.job.PasswordFrom.{PasswordFrom}
 use Rattle.mkpasswd.specs.declared.job.PasswordFrom.TheVariants.{Word, Input}

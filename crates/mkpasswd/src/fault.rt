@@ -69,7 +69,7 @@ impl UsageFault {
 }
 
 impl From<clap::Error> for UsageFault {
-    ghost use Rattle.mkpasswd.specs.declared.faults.UsageFault.TheVariants.{Parse, OutOfMemory};
+    ghost use Rattle.mkpasswd.specs.declared.fault.UsageFault.TheVariants.{Parse, OutOfMemory};
     ghost use Rattle.clap.specs.declared.error.kind.ErrorKind.TheVariants as kind;
 
     ghost from_gives = { λ error fault. (kind_of error ≡ kind.OutOfMemory → fault ≡ OutOfMemory)
@@ -84,7 +84,7 @@ impl From<clap::Error> for UsageFault {
 }
 
 impl From<MakeFault> for UsageFault {
-    ghost use Rattle.mkpasswd.specs.declared.faults.UsageFault.TheVariants.{Make};
+    ghost use Rattle.mkpasswd.specs.declared.fault.UsageFault.TheVariants.{Make};
 
     ghost from_gives = { λ fault outer. outer ≡ Make fault };
 
@@ -94,7 +94,7 @@ impl From<MakeFault> for UsageFault {
 }
 
 impl From<AllocError> for UsageFault {
-    ghost use Rattle.mkpasswd.specs.declared.faults.UsageFault.TheVariants.{OutOfMemory};
+    ghost use Rattle.mkpasswd.specs.declared.fault.UsageFault.TheVariants.{OutOfMemory};
 
     ghost from_gives = { λ _ fault. fault ≡ OutOfMemory };
 
@@ -151,7 +151,7 @@ impl RunFault {
 }
 
 impl From<HashFault> for RunFault {
-    ghost use Rattle.mkpasswd.specs.declared.faults.RunFault.TheVariants.{OutOfMemory};
+    ghost use Rattle.mkpasswd.specs.declared.fault.RunFault.TheVariants.{OutOfMemory};
 
     ghost from_gives = { λ _ fault. fault ≡ OutOfMemory };
 
@@ -163,7 +163,7 @@ impl From<HashFault> for RunFault {
 }
 
 impl From<PasswordFault> for RunFault {
-    ghost use Rattle.mkpasswd.specs.declared.faults.RunFault.TheVariants.{Password};
+    ghost use Rattle.mkpasswd.specs.declared.fault.RunFault.TheVariants.{Password};
 
     ghost from_gives = { λ fault outer. outer ≡ Password fault };
 
@@ -211,8 +211,8 @@ impl Fault {
 }
 
 impl From<io::Error> for Fault {
-    ghost use Rattle.mkpasswd.specs.declared.faults.Fault.TheVariants.{Start, Usage};
-    ghost use Rattle.mkpasswd.specs.declared.faults.UsageFault.TheVariants.{OutOfMemory};
+    ghost use Rattle.mkpasswd.specs.declared.fault.Fault.TheVariants.{Start, Usage};
+    ghost use Rattle.mkpasswd.specs.declared.fault.UsageFault.TheVariants.{OutOfMemory};
     ghost use Rattle.std.specs.declared.io.ErrorKind.TheVariants as kind;
 
     ghost from_gives = { λ error fault. (error_kind error ≡ kind.OutOfMemory → fault ≡ Usage OutOfMemory)
@@ -227,8 +227,8 @@ impl From<io::Error> for Fault {
 }
 
 impl From<AllocError> for Fault {
-    ghost use Rattle.mkpasswd.specs.declared.faults.Fault.TheVariants.{Usage};
-    ghost use Rattle.mkpasswd.specs.declared.faults.UsageFault.TheVariants.{OutOfMemory};
+    ghost use Rattle.mkpasswd.specs.declared.fault.Fault.TheVariants.{Usage};
+    ghost use Rattle.mkpasswd.specs.declared.fault.UsageFault.TheVariants.{OutOfMemory};
 
     ghost from_gives = { λ _ fault. fault ≡ Usage OutOfMemory };
 
@@ -238,7 +238,7 @@ impl From<AllocError> for Fault {
 }
 
 impl From<UsageFault> for Fault {
-    ghost use Rattle.mkpasswd.specs.declared.faults.Fault.TheVariants.{Usage};
+    ghost use Rattle.mkpasswd.specs.declared.fault.Fault.TheVariants.{Usage};
 
     ghost from_gives = { λ fault outer. outer ≡ Usage fault };
 
@@ -248,7 +248,7 @@ impl From<UsageFault> for Fault {
 }
 
 impl From<RunFault> for Fault {
-    ghost use Rattle.mkpasswd.specs.declared.faults.Fault.TheVariants.{Run};
+    ghost use Rattle.mkpasswd.specs.declared.fault.Fault.TheVariants.{Run};
 
     ghost from_gives = { λ fault outer. outer ≡ Run fault };
 
