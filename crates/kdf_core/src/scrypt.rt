@@ -40,6 +40,8 @@ const BLOCK_WORDS: usize = UNIT_WORDS / 2;
 /// Otherwise the meter rises by these three, by `2 * N * p` mixings, and with q blocks of 32 bytes in
 /// `out`, a password of L bytes and a salt of s bytes by `8rp + 2q` digests of
 /// `4rp(164 + s) + q(164 + 128rp)` bytes; where L is above 64, by one more of L bytes.
+///
+/// It also says what the parameters are at most, since they are accepted.
 pub fn scrypt(
     alloc: Global,
     password: &[u8],

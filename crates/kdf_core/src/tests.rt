@@ -12,7 +12,7 @@ use prims_core::meter::Meter;
 use std::alloc::{AllocError, Global};
 use std::test::Fail;
 
-// Bytes in hexadecimal, as the standards print them.
+/// Bytes in hexadecimal, as the standards print them.
 pub(crate) fn hexadecimal(alloc: Global, bytes: &[u8]) -> Result<String, AllocError> {
     let mut text = String::new(alloc);
     for byte in bytes {

@@ -31,7 +31,11 @@ fn ranges_and_ceilings(rt: HostRuntime) {
             Ok(params) => {
                 assert_eq!(rt; Ok(()), wanted, "log2 N = {log_n}, r = {r}, p = {p}");
                 assert_eq!(rt; params.log_n(), log_n, "log2 N");
-                assert_eq!(rt; u64::from(params.row_count()), 2_u64.pow(u32::from(log_n)), "N");
+                assert_eq!(rt;
+                    u64::from(params.row_count()),
+                    2_u64.pow(u32::from(log_n)),
+                    "N"
+                );
                 assert_eq!(rt; params.r(), r, "r");
                 assert_eq!(rt; params.p(), p, "p");
             }

@@ -52,7 +52,7 @@ fn lanes_as_word_by_word(rt: HostRuntime) {
 fn word_by_word(block: [u32; 16]) -> [u32; 16] {
     let mut x = block;
     for _round in 0..4_u32 {
-        x = rows(columns(x));
+        x = double_round(x);
     }
     let mut sum = block;
     for k in 0..16 {
@@ -61,7 +61,8 @@ fn word_by_word(block: [u32; 16]) -> [u32; 16] {
     sum
 }
 
-fn columns(x: [u32; 16]) -> [u32; 16] {
+// The quarter rounds of the columns, and then those of the rows.
+fn double_round(x: [u32; 16]) -> [u32; 16] {
     let [
         x0,
         x1,
@@ -84,30 +85,6 @@ fn columns(x: [u32; 16]) -> [u32; 16] {
     let (x5, x9, x13, x1) = quarter(x5, x9, x13, x1);
     let (x10, x14, x2, x6) = quarter(x10, x14, x2, x6);
     let (x15, x3, x7, x11) = quarter(x15, x3, x7, x11);
-    [
-        x0, x1, x2, x3, x4, x5, x6, x7, x8, x9, x10, x11, x12, x13, x14, x15,
-    ]
-}
-
-fn rows(x: [u32; 16]) -> [u32; 16] {
-    let [
-        x0,
-        x1,
-        x2,
-        x3,
-        x4,
-        x5,
-        x6,
-        x7,
-        x8,
-        x9,
-        x10,
-        x11,
-        x12,
-        x13,
-        x14,
-        x15,
-    ] = x;
     let (x0, x1, x2, x3) = quarter(x0, x1, x2, x3);
     let (x5, x6, x7, x4) = quarter(x5, x6, x7, x4);
     let (x10, x11, x8, x9) = quarter(x10, x11, x8, x9);
@@ -117,6 +94,7 @@ fn rows(x: [u32; 16]) -> [u32; 16] {
     ]
 }
 
+// The quarter round of four words.
 fn quarter(a: u32, b: u32, c: u32, d: u32) -> (u32, u32, u32, u32) {
     let b = b ^ a.wrapping_add(d).rotate_left(7);
     let c = c ^ b.wrapping_add(a).rotate_left(9);
