@@ -13,7 +13,7 @@ use crate::setting::Setting;
 use kdf_core::params::Params;
 use kdf_core::work::scrypt_work;
 use prims_core::counted::{Counted, CountedMd5, CountedSha256, CountedSha512};
-use prims_core::work::Work;
+pub use prims_core::work::Work;
 
 /// The greatest byte.
 const GREATEST_BYTE: u64 = 255;

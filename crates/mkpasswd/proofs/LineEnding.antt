@@ -58,53 +58,52 @@ module _ {I O E : Type 0} (told : Tells I O E) (kind : Kind) (job : Job) where
     of_faults = given.faults_unfailed ∙ sym (add-zero _);
   }
 
+  -- a fetch that gave nothing leaves what was read
+  reads-none : (start old : Hands I O E) (input : Device I) (bytes : List ℕ) → Reads told.remaining start.input old.input bytes
+      → Reads told.remaining old.input input [] → Reads told.remaining start.input input bytes
+  reads-none start old input bytes before none =
+      subst (Reads told.remaining start.input input) (append-nil bytes) (Reads-trans told.remaining start.input old.input input bytes [] before none)
+
   -- more of the input was wanted
+  ends-reading : (turns : ℕ) (start old : Hands I O E) (input : Device I) (bytes : List ℕ) (progress : Progress) (fault : RunFault)
+      → (before : IsAtInput told turns kind job start old bytes progress) → MovesBytes 0 start.input input
+      → IsCutShort told turns before.answered.answers (no_answer before.answered.answers.stream) start (with_input input (outs_of old)) fault
+      → EndsReading told turns kind job bytes start (with_input input (outs_of old)) fault
+  ends-reading turns start old input bytes progress fault before moved cut =
+      let at = before.answered in
+      (at.done, at.rest, at.answers, record { split = at.split; lines = at.lines; are = at.are }, at.no_feed, moved, cut)
+
   ends-in_fetch : (turns : ℕ) (start old : Hands I O E) (input : Device I) (bytes buffer : List ℕ) (progress : Progress) (left : ℕ) (fault : RunFault)
-      → (before : IsAtInput told turns kind job start old bytes progress) → MovesBytes 0 start.input old.input
+      → IsAtInput told turns kind job start old bytes progress → MovesBytes 0 start.input old.input
       → Fetches told.remaining progress.left old.input input buffer (Err fault)
       → left ≡ progress.left - 1 → input.calls + left ≡ old.input.calls + progress.left
       → Reads told.remaining start.input input bytes × EndsReading told turns kind job bytes start (with_input input (outs_of old)) fault
   ends-in_fetch turns start old input bytes buffer progress left Read before moved fetched took calls =
-      let at = before.answered in
+      let given = before.answered.given in
       let gave = fetched.1.counted in (
-        subst (Reads told.remaining start.input input) (append-nil bytes)
-            (Reads-trans told.remaining start.input old.input input bytes [] before.reads fetched.1),
-        (
-          at.done,
-          at.rest,
-          at.answers,
-          record { split = at.split; lines = at.lines; are = at.are },
-          at.no_feed,
-          (let calls_made = calls in omega (arith, moved, fetched.0, gave, calls_made, took)),
-          (
-            fails-at_input start old input at.answers 1 at.given (let unfailed = before.unfailed in omega (arith, unfailed, fetched.0)),
-            record { text = at.given.text; fault_text = at.given.fault_text },
-            record { stream = at.given.stream; counts = at.given.counts },
-          ),
-        ),
+        reads-none start old input bytes before.reads fetched.1,
+        ends-reading turns start old input bytes progress Read before
+            (let calls_made = calls in omega (arith, moved, fetched.0, gave, calls_made, took)) (
+              fails-at_input start old input before.answered.answers 1 given (let unfailed = before.unfailed in omega (arith, unfailed, fetched.0)),
+              record { text = given.text; fault_text = given.fault_text },
+              record { stream = given.stream; counts = given.counts },
+            ),
       )
   ends-in_fetch turns start old input bytes buffer progress left Turns before moved fetched took calls =
-      let at = before.answered in
-      let gave = fetched.1.counted in (
-        subst (Reads told.remaining start.input input) (append-nil bytes)
-            (Reads-trans told.remaining start.input old.input input bytes [] before.reads fetched.1),
-        (
-          at.done,
-          at.rest,
-          at.answers,
-          record { split = at.split; lines = at.lines; are = at.are },
-          at.no_feed,
-          (let calls_made = calls in omega (arith, moved, fetched.0, fetched.2, gave, calls_made, took)),
-          (
-            fails-at_input start old input at.answers 0 at.given (fetched.0 ∙ before.unfailed ∙ sym (add-zero _)),
-            (let all = before.calls in omega (arith, all, fetched.2, took, calls)),
-            record {
-              text = front-none told.contents start.out old.out at.answers.text at.given.text;
-              fault_text = front-none told.fault_contents start.faults old.faults at.answers.fault_text at.given.fault_text;
-            },
-            record { stream = at.given.stream; counts = at.given.counts },
-          ),
-        ),
+      let given = before.answered.given in
+      let gave = fetched.1.counted in
+      let answers = before.answered.answers in (
+        reads-none start old input bytes before.reads fetched.1,
+        ends-reading turns start old input bytes progress Turns before
+            (let calls_made = calls in omega (arith, moved, fetched.0, fetched.2, gave, calls_made, took)) (
+              fails-at_input start old input answers 0 given (fetched.0 ∙ before.unfailed ∙ sym (add-zero _)),
+              (let all = before.calls in omega (arith, all, fetched.2, took, calls)),
+              record {
+                text = front-none told.contents start.out old.out answers.text given.text;
+                fault_text = front-none told.fault_contents start.faults old.faults answers.fault_text given.fault_text;
+              },
+              record { stream = given.stream; counts = given.counts },
+            ),
       )
   ends-in_fetch turns start old input bytes buffer progress left Write before moved fetched took calls = absurd fetched
   ends-in_fetch turns start old input bytes buffer progress left OutOfMemory before moved fetched took calls = absurd fetched

@@ -28,7 +28,7 @@ use rand_core::Rng;
 use std::alloc::Global;
 use std::io::{Read, Write};
 
-/// How many bytes are fetched at once.
+// How many bytes are fetched at once.
 const PIECE_SIZE: usize = 512;
 
 /// Hashes the password of each line `name:password` of the input by the job's setting, and gives
@@ -73,18 +73,9 @@ pub fn run_batch<I: Read, O: Write, E: Write, R: Rng>(
         (hands input.old out.old faults.old (R.stream rng.old) meter.old)
         (hands input.new out.new faults.new (R.stream rng.new) meter.new) }
 {
-    let task = Task {
-        alloc,
-        kind: Kind::Batch,
-        job,
-    };
-    let mut desk = Desk {
-        out,
-        faults,
-        rng,
-        meter,
-    };
-    run_lines(task, input, &mut desk, turns)
+    let kind = Kind::Batch;
+    let mut desk = Desk::new(out, faults, rng, meter);
+    run_lines(Task { alloc, kind, job }, input, &mut desk, turns)
 }
 
 /// Checks the password of each line `name:field:password` of the input against its field, and gives `name:ok`,
@@ -114,18 +105,9 @@ pub fn run_check<I: Read, O: Write, E: Write, R: Rng>(
         (hands input.old out.old faults.old (R.stream rng.old) meter.old)
         (hands input.new out.new faults.new (R.stream rng.new) meter.new) }
 {
-    let task = Task {
-        alloc,
-        kind: Kind::Check,
-        job,
-    };
-    let mut desk = Desk {
-        out,
-        faults,
-        rng,
-        meter,
-    };
-    run_lines(task, input, &mut desk, turns)
+    let kind = Kind::Check;
+    let mut desk = Desk::new(out, faults, rng, meter);
+    run_lines(Task { alloc, kind, job }, input, &mut desk, turns)
 }
 
 // The run over lines of either kind.

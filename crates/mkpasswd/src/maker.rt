@@ -14,7 +14,7 @@ use prims_core::buffer::buffer_of;
 use rand_core::Rng;
 use std::marker::Model;
 
-/// A salt that every method takes.
+// A salt that every method takes.
 const ANY_SALT: &[u8] = b".";
 
 /// A method with a cost that it takes, and a salt that it takes or none.

@@ -19,13 +19,13 @@ use clap::{Arg, ArgAction, ArgMatches, Command, value_parser};
 use crypt_core::method::Method;
 use std::alloc::{AllocError, Global};
 
-/// The TYPE of words without `-m`.
+// The TYPE of words without `-m`.
 const DEFAULT_TYPE: &str = "sha512crypt";
 
-/// What help ends with.
+// What help ends with.
 const AFTER_HELP: &str = "A password that begins with '-' is handed in by --stdin.";
 
-/// The values of the options and words.
+// The values of the options and words.
 #[derive(Clone, Copy)]
 struct Given<'a> {
     method: Option<&'a str>,
@@ -39,7 +39,7 @@ struct Given<'a> {
     password: Option<&'a str>,
 }
 
-/// What a plan does: it hashes the password of a word or that of the input, or hashes or checks lines.
+// What a plan does: it hashes the password of a word or that of the input, or hashes or checks lines.
 #[derive(Clone, Copy)]
 enum Mode<'a> {
     Word(&'a str),
@@ -83,7 +83,7 @@ pub fn plan(alloc: Global, words: &[String]) -> Result<Plan, UsageFault>
     })
 }
 
-/// Reads the words by the command. An error is `clap`'s own; where memory runs out, its kind says so.
+// Reads the words by the command. An error is `clap`'s own; where memory runs out, its kind says so.
 fn read_words<'a>(alloc: Global, words: &'a [String]) -> Result<Given<'a>, clap::Error>
     ensures ok { IfOk result (λ given. Gives (map string_bytes words.entry.now) (values_of given)) }
     ensures err { IfErr result (λ error. kind_of error ≢ ErrorKind.OutOfMemory
@@ -103,7 +103,7 @@ fn read_words<'a>(alloc: Global, words: &'a [String]) -> Result<Given<'a>, clap:
     })
 }
 
-/// Whether a flag was given.
+// Whether a flag was given.
 fn is_set(matches: &ArgMatches<'_>, id: &str) -> bool
     ensures { result ≡ is_set id.now (rows_of (found_of matches.now)) }
 {
@@ -111,7 +111,7 @@ fn is_set(matches: &ArgMatches<'_>, id: &str) -> bool
     matches.get_one(id).unwrap_or(false)
 }
 
-/// The method that TYPE names, or `None` where it asks for the list of methods.
+// The method that TYPE names, or `None` where it asks for the list of methods.
 fn one_method(given: &Given<'_>) -> Result<Option<Method>, UsageFault>
     ensures known { IfOk result (λ method.
         MatchOption method (AsksForMethods (values_of given.now)) (Names (values_of given.now))) }
@@ -128,7 +128,7 @@ fn one_method(given: &Given<'_>) -> Result<Option<Method>, UsageFault>
     }
 }
 
-/// The salt that was given, in one of the two ways at most.
+// The salt that was given, in one of the two ways at most.
 fn one_salt<'a>(given: &Given<'a>) -> Result<Option<&'a [u8]>, UsageFault>
     ensures once { IfOk result (λ salt. ¬ HasTwoSalts (values_of given.now)
         × (bytes_of salt ≡ given_salt (values_of given.now))) }
@@ -142,7 +142,7 @@ fn one_salt<'a>(given: &Given<'a>) -> Result<Option<&'a [u8]>, UsageFault>
     }
 }
 
-/// The mode that was asked for, or the input where none was.
+// The mode that was asked for, or the input where none was.
 fn one_mode<'a>(given: &Given<'a>) -> Result<Mode<'a>, UsageFault>
     ensures one { IfOk result (λ mode. (length (modes_of (values_of given.now)) ≤ 1)
         × (mode_of mode ≡ slice_index_or (modes_of (values_of given.now)) 0 input)) }
@@ -161,7 +161,7 @@ fn one_mode<'a>(given: &Given<'a>) -> Result<Mode<'a>, UsageFault>
     })
 }
 
-/// The command that the words are read by, with its help.
+// The command that the words are read by, with its help.
 fn command<'a>(alloc: Global) -> Result<Command<'a>, AllocError>
     ensures { IfOk result (λ made. app_of made ≡ command) }
 {
@@ -209,7 +209,7 @@ fn command<'a>(alloc: Global) -> Result<Command<'a>, AllocError>
         .arg(salt_word)
 }
 
-/// An option with one value, whose long name is its id.
+// An option with one value, whose long name is its id.
 fn option<'a>(alloc: Global, id: &'a str, value_name: &'a str) -> Arg<'a>
     ensures rule { rule_of result ≡ record (value_rule id.entry.now) { long = Some id.entry.now } }
     ensures local { result.global ≡ false }
@@ -217,7 +217,7 @@ fn option<'a>(alloc: Global, id: &'a str, value_name: &'a str) -> Arg<'a>
     word(alloc, id, value_name).long(id)
 }
 
-/// A flag whose long name is its id.
+// A flag whose long name is its id.
 fn flag<'a>(alloc: Global, id: &'a str) -> Arg<'a>
     ensures rule { rule_of result ≡ record (flag_rule id.entry.now) { long = Some id.entry.now } }
     ensures local { result.global ≡ false }
@@ -225,7 +225,7 @@ fn flag<'a>(alloc: Global, id: &'a str) -> Arg<'a>
     Arg::new(alloc, id).long(id).action(ArgAction::SetTrue)
 }
 
-/// A word that is one value.
+// A word that is one value.
 fn word<'a>(alloc: Global, id: &'a str, value_name: &'a str) -> Arg<'a>
     ensures rule { rule_of result ≡ value_rule id.entry.now }
     ensures local { result.global ≡ false }

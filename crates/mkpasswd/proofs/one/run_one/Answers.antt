@@ -27,9 +27,8 @@ pub returns-in_err-send-clause-ends : goal.returns-in_err-send-clause-ends
 returns-in_err-send-clause-ends g c =
     let told = tells g.I.Read.remaining g.O.Write.contents g.E.Write.contents in
     let old = hands c.args.input.now c.args.out.now c.args.faults.now (g.R.Rng.stream c.args.rng.now) c.args.meter.now in
-    let has = ending.has_hash told c.args.turns c.args.job.now c.args.from.now c.in_ok-password.password c.as_slice.result.now old
-    c.obtain.new.input (g.R.Rng.stream c.next_setting-setting.new.rng) c.answer_password.new.meter c.obtain.new.left c.next_setting-setting.result c.in_ok-password.ensures.password c.obtain.ensures.turns
-    (record { kept_is = c.next_setting-setting.ensures.setting; stream_is = c.next_setting-setting.ensures.stream })
+    let has = ending.has_hash told c.args.turns c.args.job.now c.args.from.now c.in_ok-password.password c.as_slice.result.now old c.obtain.new.input (g.R.Rng.stream c.next_setting-setting.new.rng) c.answer_password.new.meter
+    c.obtain.new.left c.next_setting-setting.result c.in_ok-password.ensures.password c.obtain.ensures.turns (record { kept_is = c.next_setting-setting.ensures.setting; stream_is = c.next_setting-setting.ensures.stream })
     c.in_ok-line.ensures.count (c.as_slice.ensures.value ∙ c.in_ok-line.ensures.line) in
     let p = err_from_is_err_and c.from_residual-in_err-send.result c.from_residual-in_err-send.ensures.1 in
     rw (p.1, p.2) (ending.ends-sending told c.args.turns c.args.job.now c.args.from.now c.in_ok-password.password c.as_slice.result.now old
@@ -40,9 +39,8 @@ pub returns-in_err-finish_both-clause-ends : goal.returns-in_err-finish_both-cla
 returns-in_err-finish_both-clause-ends g c =
     let told = tells g.I.Read.remaining g.O.Write.contents g.E.Write.contents in
     let old = hands c.args.input.now c.args.out.now c.args.faults.now (g.R.Rng.stream c.args.rng.now) c.args.meter.now in
-    let has = ending.has_hash told c.args.turns c.args.job.now c.args.from.now c.in_ok-password.password c.as_slice.result.now old
-    c.obtain.new.input (g.R.Rng.stream c.next_setting-setting.new.rng) c.answer_password.new.meter c.obtain.new.left c.next_setting-setting.result c.in_ok-password.ensures.password c.obtain.ensures.turns
-    (record { kept_is = c.next_setting-setting.ensures.setting; stream_is = c.next_setting-setting.ensures.stream })
+    let has = ending.has_hash told c.args.turns c.args.job.now c.args.from.now c.in_ok-password.password c.as_slice.result.now old c.obtain.new.input (g.R.Rng.stream c.next_setting-setting.new.rng) c.answer_password.new.meter
+    c.obtain.new.left c.next_setting-setting.result c.in_ok-password.ensures.password c.obtain.ensures.turns (record { kept_is = c.next_setting-setting.ensures.setting; stream_is = c.next_setting-setting.ensures.stream })
     c.in_ok-line.ensures.count (c.as_slice.ensures.value ∙ c.in_ok-line.ensures.line) in
     let p = err_from_is_err_and c.from_residual-in_err-finish_both.result c.from_residual-in_err-finish_both.ensures.1 in
     rw (p.1, p.2) (ending.ends-unfinished told c.args.turns c.args.job.now c.args.from.now c.in_ok-password.password c.as_slice.result.now old
@@ -54,9 +52,8 @@ pub returns-clause-ends : goal.returns-clause-ends
 returns-clause-ends g c =
     let told = tells g.I.Read.remaining g.O.Write.contents g.E.Write.contents in
     let old = hands c.args.input.now c.args.out.now c.args.faults.now (g.R.Rng.stream c.args.rng.now) c.args.meter.now in
-    let has = ending.has_hash told c.args.turns c.args.job.now c.args.from.now c.in_ok-password.password c.as_slice.result.now old
-    c.obtain.new.input (g.R.Rng.stream c.next_setting-setting.new.rng) c.answer_password.new.meter c.obtain.new.left c.next_setting-setting.result c.in_ok-password.ensures.password c.obtain.ensures.turns
-    (record { kept_is = c.next_setting-setting.ensures.setting; stream_is = c.next_setting-setting.ensures.stream })
+    let has = ending.has_hash told c.args.turns c.args.job.now c.args.from.now c.in_ok-password.password c.as_slice.result.now old c.obtain.new.input (g.R.Rng.stream c.next_setting-setting.new.rng) c.answer_password.new.meter
+    c.obtain.new.left c.next_setting-setting.result c.in_ok-password.ensures.password c.obtain.ensures.turns (record { kept_is = c.next_setting-setting.ensures.setting; stream_is = c.next_setting-setting.ensures.stream })
     c.in_ok-line.ensures.count (c.as_slice.ensures.value ∙ c.in_ok-line.ensures.line) in
     ending.ends-finished told c.args.turns c.args.job.now c.args.from.now c.in_ok-password.password c.as_slice.result.now old
     c.obtain.new.input c.send.new.out c.finish_both.new.out c.finish_both.new.faults
