@@ -178,4 +178,4 @@ fn hash_text(setting: &Setting, digest: &[u8]) -> Hashed
 }
 
 #[cfg(test)]
-mod tests;
+pub(crate) mod tests;

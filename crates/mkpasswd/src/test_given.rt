@@ -60,6 +60,28 @@ pub struct Left<'a> {
     pub meter: Meter,
 }
 
+impl<'a> Left<'a> {
+    pub fn new(ran: Ran<'a>, next_word: u64, meter: Meter) -> Left<'a> {
+        let (outcome, out, faults, reader) = ran;
+        Left {
+            outcome,
+            reader,
+            out,
+            faults,
+            next_word,
+            meter,
+        }
+    }
+}
+
+/// The outcome of a run, and its devices: the output, the fault output and the input.
+pub type Ran<'a> = (
+    Result<Tally, RunFault>,
+    MemoryWriter,
+    MemoryWriter,
+    MemoryReader<'a>,
+);
+
 /// A run as a test lists it: the words that it is planned by, what its devices are, each call that it makes of
 /// them, in order, and how it ends.
 #[derive(Clone, Copy)]

@@ -4,6 +4,7 @@ ghost use Rattle.std.specs.Prelude.{◌≤◌, ◌^◌, length, IsTrue, IfSome};
 ghost use Rattle.prims_core.specs.Meter.{HasRoom};
 
 use super::*;
+use crate::hash::tests::counts;
 use std::process::Abort;
 
 const MD5CRYPT: &str = "$1$xxxxxxxx$UYCIxa628.9qXjpQCjM4a.";
@@ -75,16 +76,6 @@ const REFUSALS: [(&[u8], SettingFault); 13] = [
 
 fn password_of(rt: &impl Abort, text: &str) -> Password {
     Password::new(text.as_bytes()).expect(rt, "a password")
-}
-
-fn counts(meter: &Meter) -> [u128; 5] {
-    [
-        meter.digests(),
-        meter.bytes(),
-        meter.mixes(),
-        meter.table(),
-        meter.scratch(),
-    ]
 }
 
 // Whether each count is at most 2^120, so that there is room for another check.

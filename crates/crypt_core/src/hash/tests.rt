@@ -26,7 +26,8 @@ fn setting_of(rt: &impl Abort, text: &str) -> Setting {
     Setting::read(text.as_bytes()).expect(rt, "a setting")
 }
 
-fn counts(meter: &Meter) -> [u128; 5] {
+/// The five counts of a meter.
+pub fn counts(meter: &Meter) -> [u128; 5] {
     [
         meter.digests(),
         meter.bytes(),

@@ -13,7 +13,7 @@ use crate::job::Plan;
 use crate::options::plan;
 use crate::options::tests::words_of;
 use crate::test_devices::{ListedWords, MemoryReader, MemoryWriter};
-use crate::test_given::{Given, Left};
+use crate::test_given::{Given, Left, Ran};
 use std::io::ErrorKind;
 use std::process::Abort;
 use std::test::Fail;
@@ -33,28 +33,19 @@ const NO_NAME: &str = "mkpasswd: line 2: no name\n";
 fn run_on<'a, R: Rng>(
     alloc: Global,
     job: &Job,
-    reader: MemoryReader<'a>,
-    writer: MemoryWriter,
-    fault_writer: MemoryWriter,
+    given: Given<'a>,
     rng: &mut R,
     meter: &mut Meter,
-    turns: u64,
-) -> (
-    Result<Tally, RunFault>,
-    MemoryWriter,
-    MemoryWriter,
-    MemoryReader<'a>,
-)
-    requires turns { turns ≤ 2 ^ 40 }
-    requires counts { HasCountsForRun meter.old }
-    ensures { OnOk result.0 ((bytes : List ℕ) → reader.entry ≡ Some bytes
+) -> Ran<'a>
+    requires { (given.turns ≤ 2 ^ 40) × HasCountsForRun meter.old }
+    ensures { OnOk result.0 ((bytes : List ℕ) → given.reader ≡ Some bytes
         → (answers : Answer) × AreAnswers Batch job.now 1 (lines_of bytes) (R.stream rng.old) answers
-        × (result.1.taken.items ≡ writer.taken.items ++ answers.text)
-        × (result.2.taken.items ≡ fault_writer.taken.items ++ answers.fault_text)) }
+        × (result.1.taken.items ≡ given.writer.taken.items ++ answers.text)
+        × (result.2.taken.items ≡ given.fault_writer.taken.items ++ answers.fault_text)) }
 {
-    let mut input = Input::new(reader);
-    let mut out = Output::new(writer);
-    let mut faults = Output::new(fault_writer);
+    let mut input = Input::new(given.reader);
+    let mut out = Output::new(given.writer);
+    let mut faults = Output::new(given.fault_writer);
     let outcome = run_batch(
         alloc,
         job,
@@ -63,7 +54,7 @@ fn run_on<'a, R: Rng>(
         &mut faults,
         rng,
         meter,
-        turns,
+        given.turns,
     );
     (
         outcome,
@@ -85,17 +76,8 @@ fn run_words<'a>(
     let plan = plan(alloc, words.as_slice())?;
     let mut rng = ListedWords::new(&[129, 0, 0, 130, 0, 0, 7]);
     let mut meter = Meter::new();
-    let (outcome, out, faults, reader) = match &plan {
-        Plan::Batch(job) => run_on(
-            alloc,
-            job,
-            given.reader,
-            given.writer,
-            given.fault_writer,
-            &mut rng,
-            &mut meter,
-            given.turns,
-        ),
+    let ran = match &plan {
+        Plan::Batch(job) => run_on(alloc, job, given, &mut rng, &mut meter),
         Plan::Check(job) => {
             let mut input = Input::new(given.reader);
             let mut out = Output::new(given.writer);
@@ -119,14 +101,7 @@ fn run_words<'a>(
         }
         _ => panic!(rt; "the words are for no lines"),
     };
-    Ok(Left {
-        outcome,
-        reader,
-        out,
-        faults,
-        next_word: rng.peek(),
-        meter,
-    })
+    Ok(Left::new(ran, rng.peek(), meter))
 }
 
 // Runs the plan of the words, and wants this outcome and these texts.

@@ -10,7 +10,7 @@ use crate::job::Plan;
 use crate::options::plan;
 use crate::options::tests::words_of;
 use crate::test_devices::{ListedWords, MemoryReader, MemoryWriter};
-use crate::test_given::{Given, Left};
+use crate::test_given::{Given, Left, Ran};
 use crypt_core::password::PasswordFault;
 use std::io::ErrorKind;
 use std::process::Abort;
@@ -37,27 +37,20 @@ fn run_on<'a, R: Rng>(
     alloc: Global,
     job: &Job,
     from: &PasswordFrom,
-    reader: MemoryReader<'a>,
-    writer: MemoryWriter,
-    fault_writer: MemoryWriter,
+    given: Given<'a>,
     rng: &mut R,
     meter: &mut Meter,
-    turns: u64,
-) -> (
-    Result<Tally, RunFault>,
-    MemoryWriter,
-    MemoryWriter,
-    MemoryReader<'a>,
-)
-    requires turns { turns ≤ 2 ^ 40 }
+) -> Ran<'a>
+    requires turns { given.turns ≤ 2 ^ 40 }
     requires counts { HasCountsForRun meter.old }
     ensures { OnOk result.0 ((password : List ℕ) → IsFrom (word password) from.now
-        → result.1.taken.items ≡ writer.taken.items
-        ++ (password_answer job.now.maker job.now.work password (R.stream rng.old)).text) }
+        → result.1.taken.items ≡ given.writer.taken.items
+        ++ (password_answer job.now password (R.stream rng.old)).text) }
 {
-    let mut input = Input::new(reader);
-    let mut out = Output::new(writer);
-    let mut faults = Output::new(fault_writer);
+    let turns = given.turns;
+    let mut input = Input::new(given.reader);
+    let mut out = Output::new(given.writer);
+    let mut faults = Output::new(given.fault_writer);
     let outcome = run_one(
         alloc,
         job,
@@ -88,26 +81,9 @@ fn run_job<'a>(
     assert!(rt; given.turns <= 1 << 40);
     let mut rng = ListedWords::new(&[129, 0, 0, 7]);
     let mut meter = Meter::new();
-    let (outcome, out, faults, reader) = run_on(
-        alloc,
-        job,
-        from,
-        given.reader,
-        given.writer,
-        given.fault_writer,
-        &mut rng,
-        &mut meter,
-        given.turns,
-    );
-    assert_eq!(rt; faults.taken(), b"".as_slice(), "the fault output");
-    Left {
-        outcome,
-        reader,
-        out,
-        faults,
-        next_word: rng.peek(),
-        meter,
-    }
+    let ran = run_on(alloc, job, from, given, &mut rng, &mut meter);
+    assert_eq!(rt; ran.2.taken(), b"".as_slice(), "the fault output");
+    Left::new(ran, rng.peek(), meter)
 }
 
 // Plans by the words, and runs the plan.

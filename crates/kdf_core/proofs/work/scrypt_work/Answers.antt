@@ -11,11 +11,9 @@ overflow_add-result-3 c =
     let few : parts ≤ 2 ^ 22 = rw (c.from-r.ensures ∙ c.r.ensures.number, c.from-p.ensures ∙ c.p.ensures.number) c.row_count.ensures.bounded.parts in
     let once : c.from-key_digests.result ≤ 1 = search rules in
     let key : c.from-key_digests.result * c.args.password ≤ 1 * 2 ^ 32 = mul-le-mul once c.requires.password in
-    omega (
-      arith,
-      known_bytes-fit (c.from-key_digests.result * c.args.password) parts c.salted_tag_bytes.result 0 0 (omega arith) few
-          (omega arith) (omega arith) (omega arith),
-    )
+    let fit = known_bytes-fit (c.from-key_digests.result * c.args.password) parts c.salted_tag_bytes.result 0 0 (omega arith) few
+    (omega arith) (omega arith) (omega arith) in
+    omega (arith, fit)
 
 pub overflow_add-result-4 : goal.overflow_add-result-4
 overflow_add-result-4 c =
@@ -23,11 +21,9 @@ overflow_add-result-4 c =
     let few : parts ≤ 2 ^ 22 = rw (c.from-r.ensures ∙ c.r.ensures.number, c.from-p.ensures ∙ c.p.ensures.number) c.row_count.ensures.bounded.parts in
     let once : c.from-key_digests.result ≤ 1 = search rules in
     let key : c.from-key_digests.result * c.args.password ≤ 1 * 2 ^ 32 = mul-le-mul once c.requires.password in
-    omega (
-      arith,
-      known_bytes-fit (c.from-key_digests.result * c.args.password) parts c.salted_tag_bytes.result c.div_ceil-blocks.result
-          c.salted_tag_bytes-2.result (omega arith) few (omega arith) (omega arith) (omega arith),
-    )
+    let fit = known_bytes-fit (c.from-key_digests.result * c.args.password) parts c.salted_tag_bytes.result c.div_ceil-blocks.result
+    c.salted_tag_bytes-2.result (omega arith) few (omega arith) (omega arith) (omega arith) in
+    omega (arith, fit)
 
 pub returns-clause-work : goal.returns-clause-work
 unfolding scrypt_bytes scrypt_digests

@@ -37,8 +37,7 @@ fn from_input<'a>(input: &'a [u8], gives: usize, steps: &'a [Step]) -> Listed<'a
 // Wants the run with each of its steps failing in turn, and the whole run.
 fn want_steps(rt: &impl Abort, alloc: Global, run: Listed<'_>) -> Result<(), Fail> {
     for whole in 0..run.steps.len() + 1 {
-        let given = run.given(rt, alloc, whole);
-        let left = run_words(rt, alloc, run.words, given)?;
+        let left = run_words(rt, alloc, run.words, run.given(rt, alloc, whole))?;
         run.want(rt, alloc, whole, &left)?;
     }
     Ok(())

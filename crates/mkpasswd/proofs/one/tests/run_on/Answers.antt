@@ -15,16 +15,16 @@ use Rattle.mkpasswd.proofs.one.tests.run_on.Goals as goal
 -- what the output has after a tally, if the password is a word's
 abbrev HasAnswer : {I O E : Type 0} → Tells I O E → Job → PasswordFrom → Hands I O E → Hands I O E → Type 0
 HasAnswer tells job from old new = (password : List ℕ) → IsFrom (word password) from
-    → Appends (tells.contents old.out.inner) (tells.contents new.out.inner) (password_answer job.maker job.work password old.stream).text
+    → Appends (tells.contents old.out.inner) (tells.contents new.out.inner) (password_answer job password old.stream).text
 
 has_answer : {I O E : Type 0} (tells : Tells I O E) (turns : ℕ) (job : Job) (from : PasswordFrom) (old new : Hands I O E)
     (result : Result Tally RunFault) → EndsOne tells turns job from old new result → OnOk result (HasAnswer tells job from old new)
 has_answer tells turns job (Word bytes) old new (Ok tally) (same, (ok, (is, fails, takes, after))) = λ password is_word.
-    subst (λ (p : List ℕ). Appends (tells.contents old.out.inner) (tells.contents new.out.inner) (password_answer job.maker job.work p old.stream).text) is_word takes.text.shown
+    subst (λ (p : List ℕ). Appends (tells.contents old.out.inner) (tells.contents new.out.inner) (password_answer job p old.stream).text) is_word takes.text.shown
 has_answer tells turns job Input old new (Ok tally) ends = λ password is_word. absurd is_word
 has_answer tells turns job from old new (Err fault) ends = tt
 
 pub returns : goal.returns
 returns g c =
-    let wrapped : c.new-out.result.inner ≡ c.args.writer = ap (λ (d : Device _). d.inner) c.new-out.ensures in
-    rw (c.into_inner.ensures, ← wrapped) (has_answer _ c.args.turns c.args.job.now c.args.from.now _ _ c.run_one-outcome.result c.run_one-outcome.ensures.ends)
+    let wrapped : c.new-out.result.inner ≡ c.args.given.writer = ap (λ (d : Device _). d.inner) c.new-out.ensures in
+    rw (c.into_inner.ensures, ← wrapped) (has_answer _ c.args.given.turns c.args.job.now c.args.from.now _ _ c.run_one-outcome.result c.run_one-outcome.ensures.ends)
