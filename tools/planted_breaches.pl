@@ -170,7 +170,7 @@ return {
         [
             'tests that are none, in a file',
             'crates/crypt_core/src/hash/tests.rt' => '',
-            $hash => ["#[cfg(test)]\nmod tests;", 'mod tests;'],
+            $hash => ["#[cfg(test)]\npub(crate) mod tests;", 'pub(crate) mod tests;'],
         ],
         [
             'tests that are none, below',
