@@ -10,7 +10,7 @@ use Rattle.mkpasswd.specs.Lines.{IsLineRefused, line_limit, rule_number}
 use Rattle.mkpasswd.specs.Private.Made.{IsRaisedBelow, Says, fault_text_of, tally_of, text_of}
 use Rattle.mkpasswd.specs.Private.Deliveries.{Sends}
 use Rattle.mkpasswd.specs.Private.Desks.{Outs}
-use Rattle.mkpasswd.specs.Private.Progress.{Answers, HasRoomIn}
+use Rattle.mkpasswd.specs.Private.Progress.{AnswersOne, HasRoomIn}
 use Rattle.mkpasswd.specs.Private.Rooms.{HasCountsFor, HasRoomFor, answer_limit, calls_limit}
 use Rattle.crypt_core.specs.Work.{work_limit}
 use Rattle.mkpasswd.specs.Tallies.{both_tallies}
@@ -124,7 +124,7 @@ module _ {O E : Type 0} where
   pub answers-sent : (contents : O → Option (List ℕ)) (fault_contents : E → Option (List ℕ)) (left : ℕ) (answer : Answer) (old new : Outs O E) {A : Type 0} (result : Result A RunFault)
       → new.stream ≡ answer.stream → new.counts ≡ after_work old.counts answer.hashings
       → Sends contents fault_contents left answer old.out old.faults new.out new.faults result
-      → Answers contents fault_contents left answer old new result
+      → AnswersOne contents fault_contents left answer old new result
   answers-sent contents fault_contents left answer old new (Ok done) stream counts sends = (stream, counts, sends)
   answers-sent contents fault_contents left answer old new (Err Read) stream counts sends = (stream, counts, sends)
   answers-sent contents fault_contents left answer old new (Err Write) stream counts sends = (stream, counts, sends)

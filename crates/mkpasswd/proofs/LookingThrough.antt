@@ -6,7 +6,7 @@ use Rattle.mkpasswd.specs.LineAnswers.{IsAnswer}
 use Rattle.mkpasswd.specs.LineRuns.{AreAnswers, HasNoLineFeed, both, piece_size, with_line_feeds}
 use Rattle.mkpasswd.specs.Output.{Takes}
 use Rattle.mkpasswd.specs.Private.Desks.{IsSameDesk, Outs, TakesTurns}
-use Rattle.mkpasswd.specs.Private.Progress.{Answers, AreGiven, HasRoomIn, IsAt, IsInterrupted, LooksThrough, StandsFor}
+use Rattle.mkpasswd.specs.Private.Progress.{AnswersOne, AreGiven, HasRoomIn, IsAt, IsInterrupted, LooksThrough, StandsFor}
 use Rattle.mkpasswd.specs.Tallies.{both_tallies}
 use Rattle.mkpasswd.specs.Texts.{line_feed}
 use Rattle.mkpasswd.specs.declared.desk.Desk.{Desk}
@@ -41,7 +41,7 @@ module _ {O E : Type 0} (contents : O → Option (List ℕ)) (fault_contents : E
   -- the next answer is given, behind those that were
   pub given-both : (start old new : Outs O E) (answers next : Answer) (left : ℕ) {A : Type 0} (done : A)
       → AreGiven contents fault_contents answers start old
-      → Answers contents fault_contents left next old new (Ok done)
+      → AnswersOne contents fault_contents left next old new (Ok done)
       → AreGiven contents fault_contents (both answers next) start new
   given-both start old new answers next left done before given = record {
     out_unfailed = given.2.0 ∙ before.out_unfailed;
@@ -59,7 +59,7 @@ module _ {O E : Type 0} (contents : O → Option (List ℕ)) (fault_contents : E
 
   pub at-answered : (start old new : Outs O E) (bytes front : List ℕ) (progress next_progress : Progress) (line : List ℕ) (next : Answer) {A : Type 0} (done : A)
       → IsAtLine start old bytes front progress line next
-      → Answers contents fault_contents next_progress.left next old new (Ok done)
+      → AnswersOne contents fault_contents next_progress.left next old new (Ok done)
       → next_progress.tally ≡ both_tallies progress.tally next.tally
       → StandsFor next_progress.held []
       → IsAt contents fault_contents kind job start new (bytes ++ (front ++ line_feed ∷ [])) next_progress
@@ -85,7 +85,7 @@ module _ {O E : Type 0} (contents : O → Option (List ℕ)) (fault_contents : E
   -- how it is cut short
   pub cut-answering : (start old new : Outs O E) (bytes front : List ℕ) (progress : Progress) (left : ℕ) (line : List ℕ) (next : Answer) (A : Type 0) (fault : RunFault)
       → (before : IsAtLine start old bytes front progress line next)
-      → Answers contents fault_contents left next old new {A = A} (Err fault)
+      → AnswersOne contents fault_contents left next old new {A = A} (Err fault)
       → IsInterrupted contents fault_contents left before.at.answers next start new fault
   cut-answering start old new bytes front progress left line next A Write before given =
       let at = before.at in
@@ -135,7 +135,7 @@ module _ {O E : Type 0} (contents : O → Option (List ℕ)) (fault_contents : E
 
   pub looks-cut : (start old new : Outs O E) (bytes front behind : List ℕ) (progress next_progress : Progress) (line : List ℕ) (next : Answer) (A : Type 0) (fault : RunFault)
       → IsAtLine start old bytes front progress line next
-      → Answers contents fault_contents next_progress.left next old new {A = A} (Err fault)
+      → AnswersOne contents fault_contents next_progress.left next old new {A = A} (Err fault)
       → length behind < piece_size
       → LooksThrough contents fault_contents kind job start new (bytes ++ (front ++ line_feed ∷ behind)) next_progress {A = A} (Err fault)
   looks-cut start old new bytes front behind progress next_progress line next A fault before given small =
@@ -184,7 +184,7 @@ module _ {O E : Type 0} (contents : O → Option (List ℕ)) (fault_contents : E
   AnswersHeld old new tally held next_progress result =
       (line : List ℕ) → StandsFor held line
       → (answer : Answer) × IsAnswer kind job (tally.lines + 1) line old.stream answer
-      × Answers contents fault_contents next_progress.left answer old new result
+      × AnswersOne contents fault_contents next_progress.left answer old new result
       × OnOk result (next_progress.tally ≡ both_tallies tally answer.tally)
 
   -- the step for one line of the piece, which ends at its first line feed
@@ -199,7 +199,7 @@ module _ {O E : Type 0} (contents : O → Option (List ℕ)) (fault_contents : E
       → (start : Outs O E) (bytes : List ℕ) → IsAt contents fault_contents kind job start old bytes old_progress
       → (line : List ℕ) × (next : Answer)
       × IsAtLine start mid (bytes ++ step.before.front) (take end rest) progress line next
-      × Answers contents fault_contents next_progress.left next mid new result
+      × AnswersOne contents fault_contents next_progress.left next mid new result
       × OnOk result (next_progress.tally ≡ both_tallies progress.tally next.tally)
   line-answered old mid new old_progress progress next_progress held piece rest end result step start bytes is =
       let at = step.before.at start bytes is in

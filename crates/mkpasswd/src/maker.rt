@@ -7,8 +7,8 @@ ghost use Rattle.crypt_core.specs.MadeSettings.{IsMakeable, made_setting};
 ghost use Rattle.mkpasswd.specs.Makers.{IsAccepted, IsRefused, bytes_of, made_salt_length, setting_by, words_for};
 
 use arrayvec::ArrayVec;
-use crypt_core::made_salt::{draw, salt_of};
-use crypt_core::method::{Method, SCRYPT_SALT_LIMIT};
+use crypt_core::made_salt::{MADE_SALT_LIMIT, draw, salt_of};
+use crypt_core::method::{MD5CRYPT_SALT_LIMIT, Method, SCRYPT_SALT_LIMIT, SHACRYPT_SALT_LIMIT};
 use crypt_core::setting::{MakeFault, Setting};
 use prims_core::buffer::buffer_of;
 use rand_core::Rng;
@@ -104,9 +104,9 @@ fn made_salt_length(method: Method) -> usize
     ensures { result ≡ made_salt_length method }
 {
     match method {
-        Method::Md5crypt => 8,
-        Method::Sha256crypt | Method::Sha512crypt => 16,
-        Method::Scrypt => 22,
+        Method::Md5crypt => MD5CRYPT_SALT_LIMIT,
+        Method::Sha256crypt | Method::Sha512crypt => SHACRYPT_SALT_LIMIT,
+        Method::Scrypt => MADE_SALT_LIMIT,
     }
 }
 

@@ -45,11 +45,11 @@ module _ {O E : Type 0} where
   -- ---- one answer
 
   -- it is made and given; or memory was refused before any of it was
-  abbrev pub Answers : (O → Option (List ℕ)) → (E → Option (List ℕ)) → ℕ → Answer → Outs O E → Outs O E → {A : Type 0} → Result A RunFault → Type 0
-  Answers contents fault_contents left answer old new (Err OutOfMemory) =
+  abbrev pub AnswersOne : (O → Option (List ℕ)) → (E → Option (List ℕ)) → ℕ → Answer → Outs O E → Outs O E → {A : Type 0} → Result A RunFault → Type 0
+  AnswersOne contents fault_contents left answer old new (Err OutOfMemory) =
       (new.out ≡ old.out) × (new.faults ≡ old.faults) × (new.stream ≡ answer.stream)
       × IsRefusedAmong old.counts answer.hashings new.counts
-  Answers contents fault_contents left answer old new result =
+  AnswersOne contents fault_contents left answer old new result =
       (new.stream ≡ answer.stream) × (new.counts ≡ after_work old.counts answer.hashings)
       × Sends contents fault_contents left answer old.out old.faults new.out new.faults result
 

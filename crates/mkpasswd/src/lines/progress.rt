@@ -9,7 +9,7 @@ ghost use Rattle.mkpasswd.specs.Private.Deliveries.{Sends};
 ghost use Rattle.mkpasswd.specs.Private.Desks.{IsSameDesk, Outs, TakesTurns, seen};
 ghost use Rattle.mkpasswd.specs.Private.LineEnds.{AnswersLast};
 ghost use Rattle.mkpasswd.specs.Private.Made.{Says, tally_of};
-ghost use Rattle.mkpasswd.specs.Private.Progress.{Answers, HasRoomIn, HasRoomToAnswer, IsAt, LooksThrough, StandsFor};
+ghost use Rattle.mkpasswd.specs.Private.Progress.{AnswersOne, HasRoomIn, HasRoomToAnswer, IsAt, LooksThrough, StandsFor};
 ghost use Rattle.mkpasswd.specs.Private.Rooms.{HasRoomInRun, answer_limit, lines_limit, turns_limit};
 ghost use Rattle.mkpasswd.specs.Tallies.{both_tallies, no_line};
 
@@ -104,7 +104,7 @@ impl Progress {
         requires room { HasRoomToAnswer 1 self.old (seen R.stream desk.old) }
         ensures answers { (line : List ℕ) → StandsFor self.old.held line
             → (answer : Answer) × IsAnswer task.entry.kind task.entry.job.now (self.old.tally.lines + 1) line (R.stream desk.old.rng.now) answer
-            × Answers O.contents E.contents self.new.left answer (seen R.stream desk.old) (seen R.stream desk.new) result
+            × AnswersOne O.contents E.contents self.new.left answer (seen R.stream desk.old) (seen R.stream desk.new) result
             × OnOk result (self.new.tally ≡ both_tallies self.old.tally answer.tally) }
         ensures held { OnOk result (StandsFor self.new.held []) }
         ensures room { OnOk result (HasRoomIn self.new.tally (seen R.stream desk.new)) }
