@@ -38,10 +38,10 @@ fn run_on<'a, R: Rng>(
     meter: &mut Meter,
 ) -> Ran<'a>
     requires { (given.turns ≤ 2 ^ 40) × HasCountsForRun meter.old }
-    ensures { OnOk result.0 ((bytes : List ℕ) → given.reader ≡ Some bytes
+    ensures { OnOk result.0 ((bytes : List ℕ) → given.entry.reader ≡ Some bytes
         → (answers : Answer) × AreAnswers Batch job.now 1 (lines_of bytes) (R.stream rng.old) answers
-        × (result.1.taken.items ≡ given.writer.taken.items ++ answers.text)
-        × (result.2.taken.items ≡ given.fault_writer.taken.items ++ answers.fault_text)) }
+        × (result.1.taken.items ≡ given.entry.writer.taken.items ++ answers.text)
+        × (result.2.taken.items ≡ given.entry.fault_writer.taken.items ++ answers.fault_text)) }
 {
     let mut input = Input::new(given.reader);
     let mut out = Output::new(given.writer);

@@ -44,7 +44,7 @@ fn run_on<'a, R: Rng>(
     requires turns { given.turns ≤ 2 ^ 40 }
     requires counts { HasCountsForRun meter.old }
     ensures { OnOk result.0 ((password : List ℕ) → IsFrom (word password) from.now
-        → result.1.taken.items ≡ given.writer.taken.items
+        → result.1.taken.items ≡ given.entry.writer.taken.items
         ++ (password_answer job.now password (R.stream rng.old)).text) }
 {
     let turns = given.turns;
