@@ -24,6 +24,7 @@ return {
         ['another digest crate for prims_core', 'crates.txt' => ['prims_core: ', 'prims_core: sha1 ']],
         ['a digest crate under another name', 'crates.txt' => ['crypt_core: ', 'crypt_core: hashes ']],
         ['a crate that is not known', 'crates.txt' => 'hashes: arrayvec'],
+        ['a generator for the library', 'crates.txt' => ['mkpasswd: arrayvec', 'mkpasswd: rand arrayvec']],
         ['another list of dependencies', 'crates/kdf_core/BUILD.bazel' => 'deps = ["md5"]'],
 
         ['a source that uses sha2', $main => 'use sha2::{Digest, Sha256};'],

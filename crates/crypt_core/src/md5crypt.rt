@@ -23,10 +23,12 @@ use prims_core::meter::Meter;
 /// How often the digest is made anew.
 pub(crate) const ROUNDS: u32 = 1000;
 
-/// The digest of a password and a salt of no more bytes than md5crypt keeps. The meter counts each of the 1,002 messages, and
-/// each of its counts rises by less than 2^41.
+/// The digest of a password and a salt of at most [`MD5CRYPT_SALT_LIMIT`] bytes. The meter counts each of the
+/// 1,002 messages, and each of its counts rises by less than 2^41.
 ///
 /// The meter has counted at most 2^120 digests and at most 2^120 bytes before.
+///
+/// [`MD5CRYPT_SALT_LIMIT`]: crate::method::MD5CRYPT_SALT_LIMIT
 pub fn md5crypt(password: &Password, salt: &[u8], meter: &mut Meter) -> [u8; 16]
     requires salt { length salt.now ≤ md5crypt_salt_limit }
     requires room { HasDigestRoom meter.old }

@@ -20,11 +20,13 @@ use arrayvec::ArrayVec;
 use prims_core::counted::Counted;
 use prims_core::meter::Meter;
 
-/// The digest of a password by SHA-crypt over the digest function `H`, with a salt of no more bytes than it
-/// keeps, and from the fewest rounds to the most. It has `H::LEN` bytes. The meter counts each of the
+/// The digest of a password by SHA-crypt over the digest function `H`, with a salt of at most
+/// [`SHACRYPT_SALT_LIMIT`] bytes and 1000 to 999999999 rounds. It has `H::LEN` bytes. The meter counts each of the
 /// `rounds + 4` messages, and each of its counts rises by less than 2^41.
 ///
 /// The meter has counted at most 2^120 digests and at most 2^120 bytes before.
+///
+/// [`SHACRYPT_SALT_LIMIT`]: crate::method::SHACRYPT_SALT_LIMIT
 pub fn shacrypt<H: Counted>(
     password: &Password,
     salt: &[u8],

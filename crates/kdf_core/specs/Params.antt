@@ -33,7 +33,8 @@ pub record IsAccepted (cost : ScryptCost) : Type 0 where
   pub in_range : IsInRange cost
   pub within : IsWithinCeiling cost
 
--- what each of the accepted numbers, and each product of two of them, is at most: N is at most 2 ^ 22
+-- what the accepted numbers are at least, and what they and products of two of them are at most: N is at
+-- most 2 ^ 22
 pub record IsBounded (cost : ScryptCost) : Type 0 where
   pub log : cost.log_n ≤ 22
   pub two_rows : 2 ≤ rows cost

@@ -13,23 +13,23 @@ use prims_core::work::Work;
 /// What a meter counts of scrypt, for a password, a salt and a result of so many bytes.
 ///
 /// Each of the three is at most 2^32. Nothing is derived for it and no memory is taken.
-pub fn scrypt_work(params: &Params, password: u64, salt: u64, count: u64) -> Work
-    requires password { password ≤ 2 ^ 32 }
-    requires salt { salt ≤ 2 ^ 32 }
-    requires count { count ≤ 2 ^ 32 }
-    ensures work { result ≡ scrypt_work params.now password salt count }
+pub fn scrypt_work(params: &Params, password_len: u64, salt_len: u64, out_len: u64) -> Work
+    requires password { password_len ≤ 2 ^ 32 }
+    requires salt { salt_len ≤ 2 ^ 32 }
+    requires out { out_len ≤ 2 ^ 32 }
+    ensures work { result ≡ scrypt_work params.now password_len salt_len out_len }
     ensures bounded { IsBounded params.now }
 {
     let rows = u64::from(params.row_count());
     let r = u64::from(params.r());
     let p = u64::from(params.p());
     let part = UNIT_BYTES as u64 * r;
-    let blocks = count.div_ceil(SHA256_LENGTH as u64);
-    let key_digests = u64::from(password > SHA256_BLOCK as u64);
+    let blocks = out_len.div_ceil(SHA256_LENGTH as u64);
+    let key_digests = u64::from(password_len > SHA256_BLOCK as u64);
     Work {
         digests: 8 * (r * p) + 2 * blocks + key_digests,
-        bytes: key_digests * password
-            + 4 * (r * p) * salted_tag_bytes(salt)
+        bytes: key_digests * password_len
+            + 4 * (r * p) * salted_tag_bytes(salt_len)
             + blocks * salted_tag_bytes(part * p),
         mixes: 2 * rows * p,
         table: rows * part,

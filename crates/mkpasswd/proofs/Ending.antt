@@ -9,7 +9,7 @@ use Rattle.crypt_core.specs.Work.{raised_by, work}
 use Rattle.mkpasswd.specs.Answers.{after_work, hash_text, no_answer, password_answer}
 use Rattle.mkpasswd.specs.Devices.{Device}
 use Rattle.mkpasswd.specs.Input.{first_line}
-use Rattle.mkpasswd.specs.One.{EndsBy, EndsOne, EndsOneOf, ObtainsFrom}
+use Rattle.mkpasswd.specs.One.{EndsBy, EndsOne, EndsByInput, ObtainsFrom}
 use Rattle.mkpasswd.specs.Output.{ShowsOutcome, Takes}
 use Rattle.mkpasswd.specs.Private.Deliveries.{Delivers, FinishesBoth}
 use Rattle.mkpasswd.specs.Runs.{Fails, Hands, IsAfter, IsAfterBoth, TakesAnswer, Tells, hands}
@@ -131,7 +131,7 @@ module _ {I O E : Type 0} (told : Tells I O E) (turns : ℕ) (job : Job) where
   ends-with_password Input old new left password result (bytes, reads, (unfailed, decided, is, ok)) ends =
       (bytes, reads, go result (subst (λ (p : List ℕ). EndsBy told turns job p old new result) is ends))
     where
-      go : (r : Result Tally RunFault) → EndsBy told turns job (first_line bytes) old new r → EndsOneOf told turns job bytes old new r
+      go : (r : Result Tally RunFault) → EndsBy told turns job (first_line bytes) old new r → EndsByInput told turns job bytes old new r
       go (Ok tally) e = (decided, e)
       go (Err Read) e = absurd e
       go (Err Write) e = (decided, e)

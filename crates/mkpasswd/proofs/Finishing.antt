@@ -3,7 +3,7 @@ use Rattle.std.proofs.Common.{◌≡◌, ℕ, ◌+◌, List, Option, Some, None,
 use Rattle.std.specs.Io.KnownBytes.{Appends, Keeps}
 use Rattle.mkpasswd.specs.Answers.{Answer}
 use Rattle.mkpasswd.specs.Devices.{Device}
-use Rattle.mkpasswd.specs.Output.{Takes, TakesAndFlushes, TakesUnflushed}
+use Rattle.mkpasswd.specs.Output.{Takes, TakesAndFlushes, TakesAndFailsToFlush}
 use Rattle.mkpasswd.specs.Private.Deliveries.{FinishesBoth, IsFinished, IsUnfinished}
 use Rattle.mkpasswd.specs.Runs.{Fails, Finishes, Hands, IsAfter, TakesAnswer, Tells, hands}
 use Rattle.mkpasswd.specs.declared.fault.RunFault.{RunFault}
@@ -31,13 +31,13 @@ module _ {T : Type 0} (contents : T → Option (List ℕ)) where
   }
 
   pub takes-unflushed : (old mid new : Device T) (bytes : List ℕ) → Takes contents old mid bytes → IsUnfinished contents mid new
-      → TakesUnflushed contents old new bytes
+      → TakesAndFailsToFlush contents old new bytes
   takes-unflushed old mid new bytes takes unfinished = record {
     shown = keeps-appended _ (contents mid.inner) _ bytes takes.shown unfinished.kept.shown;
     counted = unfinished.kept.bytes ∙ takes.counted;
     failed = record {
-      flushes = unfinished.unflushed.flushes ∙ ap (λ n. n + 1) takes.unflushed.flushes;
-      flushed = unfinished.unflushed.flushed ∙ takes.unflushed.flushed;
+      flushes = unfinished.flush_failed.flushes ∙ ap (λ n. n + 1) takes.unflushed.flushes;
+      flushed = unfinished.flush_failed.flushed ∙ takes.unflushed.flushed;
     };
   }
 

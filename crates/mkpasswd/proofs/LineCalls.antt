@@ -2,7 +2,7 @@
 use Rattle.std.proofs.Common.{◌≡◌, ℕ, ◌+◌, ◌≤◌, List, Option, Result, Ok, Err, ap, arith, inl, inr}
 use Rattle.mkpasswd.specs.Answers.{Answer}
 use Rattle.mkpasswd.specs.Devices.{Device, MovesBytes}
-use Rattle.mkpasswd.specs.LineRuns.{EndsAnswering, EndsLines, EndsLinesOf, EndsReading, EndsWhole}
+use Rattle.mkpasswd.specs.LineRuns.{EndsAnswering, EndsLines, EndsByLines, EndsReading, EndsWhole}
 use Rattle.mkpasswd.specs.Private.Deliveries.{FinishesBoth, IsKept}
 use Rattle.mkpasswd.specs.Private.Desks.{Outs, TakesTurns, outs_of, with_input}
 use Rattle.mkpasswd.specs.Private.LineEnds.{TakesTurnsOf}
@@ -60,7 +60,7 @@ module _ {I O E : Type 0} (told : Tells I O E) (kind : Kind) (job : Job) where
       cut-once turns answers next start new fault ends
 
   lines-once : (turns : ℕ) (start new : Hands I O E) (bytes : List ℕ) (result : Result Tally RunFault)
-      → EndsLinesOf told turns kind job bytes start new result → failures_of new ≤ failures_of start + 1
+      → EndsByLines told turns kind job bytes start new result → failures_of new ≤ failures_of start + 1
   lines-once turns start new bytes (Ok tally) ends = whole-once start new bytes (Ok tally) ends
   lines-once turns start new bytes (Err Read) ends = reading-once turns start new bytes Read ends
   lines-once turns start new bytes (Err Write) (inl ends) = answering-once turns start new bytes Write ends

@@ -39,6 +39,10 @@ abbrev pub moved_by : {E : Type 0} → Result ℕ E → ℕ
 moved_by (Ok count) = count
 moved_by (Err e) = 0
 
+-- the most turns of a run: calls that fetch or give
+abbrev pub turns_limit : ℕ
+turns_limit = 2 ^ 40
+
 -- the numbers of a device leave room for any run
 abbrev pub HasRoomForRun : {T : Type 0} → Device T → Type 0
 HasRoomForRun d = (d.failures ≤ 2 ^ 62) × (d.calls ≤ 2 ^ 62) × (d.bytes ≤ 2 ^ 62) × (d.flushes ≤ 2 ^ 62)
@@ -60,12 +64,12 @@ pub record IsUnflushed {T : Type 0} (old new : Device T) : Type 0 where
   pub flushes : new.flushes ≡ old.flushes
   pub flushed : new.flushed ≡ old.flushed
 
--- one flush was tried, and it worked where all bytes had been moved
+-- one flush was tried, when all bytes had been moved, and is kept as one that worked; that it did is seen in `failures`
 pub record IsFlushed {T : Type 0} (old new : Device T) : Type 0 where
   pub flushes : new.flushes ≡ old.flushes + 1
   pub flushed : new.flushed ≡ new.bytes
 
--- one flush was tried, and it failed
+-- one flush was tried, and is not kept as one that worked
 pub record FailsToFlush {T : Type 0} (old new : Device T) : Type 0 where
   pub flushes : new.flushes ≡ old.flushes + 1
   pub flushed : new.flushed ≡ old.flushed

@@ -73,7 +73,7 @@ module _ {I O E : Type 0} where
   abbrev pub IsReadOut : Tells I O E → Hands I O E → Type 0
   IsReadOut tells new = IsAtEnd (tells.remaining new.input.inner)
 
-  -- a line stands in front of what was read and isn't answered, with its line feed in the piece that was read last;
+  -- a line stands in front of what was read and isn't answered, with its line feed among the last bytes, as many as a piece has;
   -- or it is all of that, and the end of the input
   abbrev pub IsNext : Tells I O E → Hands I O E → List ℕ → List ℕ → Type 0
   IsNext tells new line rest =
@@ -113,17 +113,17 @@ module _ {I O E : Type 0} where
 
   -- A read fails where more is wanted, a write where an answer is given, and a flush at the end of all; the turns end
   -- where more is wanted or an answer is given; memory is wanted for a hash.
-  abbrev pub EndsLinesOf : Tells I O E → ℕ → Kind → Job → List ℕ → Hands I O E → Hands I O E → Result Tally RunFault → Type 0
-  EndsLinesOf tells turns kind job bytes old new (Ok tally) = EndsWhole tells kind job bytes old new (Ok tally)
-  EndsLinesOf tells turns kind job bytes old new (Err Read) = EndsReading tells turns kind job bytes old new Read
-  EndsLinesOf tells turns kind job bytes old new (Err Write) =
+  abbrev pub EndsByLines : Tells I O E → ℕ → Kind → Job → List ℕ → Hands I O E → Hands I O E → Result Tally RunFault → Type 0
+  EndsByLines tells turns kind job bytes old new (Ok tally) = EndsWhole tells kind job bytes old new (Ok tally)
+  EndsByLines tells turns kind job bytes old new (Err Read) = EndsReading tells turns kind job bytes old new Read
+  EndsByLines tells turns kind job bytes old new (Err Write) =
       EndsAnswering tells turns kind job bytes old new Write ⊎ EndsWhole tells kind job bytes old new (Err Write)
-  EndsLinesOf tells turns kind job bytes old new (Err Turns) =
+  EndsByLines tells turns kind job bytes old new (Err Turns) =
       EndsReading tells turns kind job bytes old new Turns ⊎ EndsAnswering tells turns kind job bytes old new Turns
-  EndsLinesOf tells turns kind job bytes old new (Err OutOfMemory) = EndsAnswering tells turns kind job bytes old new OutOfMemory
-  EndsLinesOf tells turns kind job bytes old new (Err (Password fault)) = ⊥
+  EndsByLines tells turns kind job bytes old new (Err OutOfMemory) = EndsAnswering tells turns kind job bytes old new OutOfMemory
+  EndsByLines tells turns kind job bytes old new (Err (Password fault)) = ⊥
 
   -- the run over the lines of an input
   abbrev pub EndsLines : Tells I O E → ℕ → Kind → Job → Hands I O E → Hands I O E → Result Tally RunFault → Type 0
   EndsLines tells turns kind job old new result =
-      (bytes : List ℕ) × Reads tells.remaining old.input new.input bytes × EndsLinesOf tells turns kind job bytes old new result
+      (bytes : List ℕ) × Reads tells.remaining old.input new.input bytes × EndsByLines tells turns kind job bytes old new result

@@ -53,12 +53,12 @@ module _ {I O E : Type 0} where
       IsUndecided bytes × IsCutShort tells turns none none old new fault
 
   -- the input gave these bytes, whose first line is the password
-  abbrev pub EndsOneOf : Tells I O E → ℕ → Job → List ℕ → Hands I O E → Hands I O E → Result Tally RunFault → Type 0
-  EndsOneOf tells turns job bytes old new (Err Read) = EndsUndecided tells turns bytes old new Read
-  EndsOneOf tells turns job bytes old new (Err Turns) =
+  abbrev pub EndsByInput : Tells I O E → ℕ → Job → List ℕ → Hands I O E → Hands I O E → Result Tally RunFault → Type 0
+  EndsByInput tells turns job bytes old new (Err Read) = EndsUndecided tells turns bytes old new Read
+  EndsByInput tells turns job bytes old new (Err Turns) =
       (EndsUndecided tells turns bytes old new Turns × MovesBytes 0 old.input new.input)
       ⊎ (IsDecided tells.remaining new.input bytes × EndsBy tells turns job (first_line bytes) old new (Err Turns))
-  EndsOneOf tells turns job bytes old new result =
+  EndsByInput tells turns job bytes old new result =
       IsDecided tells.remaining new.input bytes × EndsBy tells turns job (first_line bytes) old new result
 
   -- a word is the password itself, and the input is left alone
@@ -66,4 +66,4 @@ module _ {I O E : Type 0} where
   EndsOne tells turns job (Word bytes) old new result =
       (new.input ≡ old.input) × EndsBy tells turns job bytes.items old new result
   EndsOne tells turns job Input old new result =
-      (bytes : List ℕ) × Reads tells.remaining old.input new.input bytes × EndsOneOf tells turns job bytes old new result
+      (bytes : List ℕ) × Reads tells.remaining old.input new.input bytes × EndsByInput tells turns job bytes old new result

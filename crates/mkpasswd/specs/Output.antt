@@ -20,7 +20,7 @@ module _ {T : Type 0} (contents : T → Option (List ℕ)) where
     pub flushed : IsFlushed old new
 
   -- it has taken these bytes and no others, and a flush failed then
-  pub record TakesUnflushed (old new : Device T) (bytes : List ℕ) : Type 0 where
+  pub record TakesAndFailsToFlush (old new : Device T) (bytes : List ℕ) : Type 0 where
     pub shown : Appends (contents old.inner) (contents new.inner) bytes
     pub counted : new.bytes ≡ old.bytes + length bytes
     pub failed : FailsToFlush old new
@@ -30,11 +30,11 @@ module _ {T : Type 0} (contents : T → Option (List ℕ)) where
   TakesFront old new whole text =
       (sent : List ℕ) × (unsent : List ℕ) × (sent ++ unsent ≡ text) × Takes old new (whole ++ sent)
 
-  -- A text was given whole, and flushed. Or its first bytes were: one call failed, which was a flush only
-  -- behind the whole text; or the turns were over with some of it still to come.
+  -- A text was given whole, and flushed. Or its first bytes were: a call failed, as `ShowsOutcome` has it,
+  -- which was a flush only behind the whole text; or the turns were over with some of it still to come.
   abbrev pub GivesAll : {A : Type 0} → Device T → Device T → List ℕ → Result A RunFault → Type 0
   GivesAll old new text (Ok answer) = TakesAndFlushes old new text
-  GivesAll old new text (Err Write) = TakesFront old new [] text ⊎ TakesUnflushed old new text
+  GivesAll old new text (Err Write) = TakesFront old new [] text ⊎ TakesAndFailsToFlush old new text
   GivesAll old new text (Err Turns) = TakesFront old new [] text × (new.bytes < old.bytes + length text)
   GivesAll old new text (Err fault) = ⊥
 

@@ -5,7 +5,7 @@ use Rattle.rand_core.specs.Stream.{Stream}
 use Rattle.prims_core.specs.Meter.{Counts}
 use Rattle.mkpasswd.specs.Answers.{Answer, IsRefusedAmong, after_work}
 use Rattle.mkpasswd.specs.Devices.{Device, MovesBytes}
-use Rattle.mkpasswd.specs.Output.{Takes, TakesAndFlushes, TakesFront, TakesUnflushed}
+use Rattle.mkpasswd.specs.Output.{Takes, TakesAndFlushes, TakesFront, TakesAndFailsToFlush}
 use Rattle.mkpasswd.specs.declared.fault.RunFault.{RunFault}
 use Rattle.mkpasswd.specs.declared.fault.RunFault.TheVariants.{Read, Write, OutOfMemory, Turns, Password}
 use Rattle.mkpasswd.specs.declared.tally.Tally.{Tally}
@@ -106,14 +106,14 @@ module _ {I O E : Type 0} where
     pub fault_text : TakesAndFlushes tells.fault_contents old.faults new.faults answers.fault_text
 
   -- or the flush of the output failed, and the fault output was left
-  pub record FlushesNone (tells : Tells I O E) (answers : Answer) (old new : Hands I O E) : Type 0 where
-    pub text : TakesUnflushed tells.contents old.out new.out answers.text
+  pub record FirstFlushFails (tells : Tells I O E) (answers : Answer) (old new : Hands I O E) : Type 0 where
+    pub text : TakesAndFailsToFlush tells.contents old.out new.out answers.text
     pub fault_text : Takes tells.fault_contents old.faults new.faults answers.fault_text
 
   -- or only the flush of the fault output failed, which is the second
-  pub record FlushesFirst (tells : Tells I O E) (answers : Answer) (old new : Hands I O E) : Type 0 where
+  pub record SecondFlushFails (tells : Tells I O E) (answers : Answer) (old new : Hands I O E) : Type 0 where
     pub text : TakesAndFlushes tells.contents old.out new.out answers.text
-    pub fault_text : TakesUnflushed tells.fault_contents old.faults new.faults answers.fault_text
+    pub fault_text : TakesAndFailsToFlush tells.fault_contents old.faults new.faults answers.fault_text
 
   -- A run has given all its answers. A tally comes where no call failed, and both outputs are flushed; `Write`
   -- where one of these two flushes failed.
@@ -121,7 +121,7 @@ module _ {I O E : Type 0} where
   Finishes tells answers old new (Ok tally) =
       (tally ≡ answers.tally) × Fails 0 0 0 old new × FlushesBoth tells answers old new × IsAfter answers old new
   Finishes tells answers old new (Err Write) =
-      ((Fails 0 1 0 old new × FlushesNone tells answers old new) ⊎ (Fails 0 0 1 old new × FlushesFirst tells answers old new))
+      ((Fails 0 1 0 old new × FirstFlushFails tells answers old new) ⊎ (Fails 0 0 1 old new × SecondFlushFails tells answers old new))
       × IsAfter answers old new
   Finishes tells answers old new (Err fault) = ⊥
 

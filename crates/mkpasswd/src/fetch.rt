@@ -1,6 +1,7 @@
 //! What every run does with an input: it fetches pieces, by turns, and looks for line feeds in them.
 ghost use Rattle.std.specs.Prelude.{◌≡◌, ◌+◌, ◌-◌, ◌^◌, ◌<◌, ◌==◌, length, position, OnOk};
 ghost use Rattle.mkpasswd.specs.Private.Fetching.{Fetches};
+ghost use Rattle.mkpasswd.specs.Texts.{line_feed};
 
 use crate::device::Input;
 use crate::fault::RunFault;
@@ -36,7 +37,7 @@ pub(crate) fn fetch_piece<I: Read>(
 
 /// Where the first line feed stands.
 pub(crate) fn line_feed_at(bytes: &[u8]) -> Option<usize>
-    ensures { result ≡ position (λ b. b == 10) bytes.now }
+    ensures { result ≡ position (λ b. b == line_feed) bytes.now }
 {
     bytes.iter().position(|byte| *byte == b'\n')
 }

@@ -6,7 +6,7 @@ ghost use Rattle.mkpasswd.specs.LineRuns.{EndsLines};
 ghost use Rattle.mkpasswd.specs.Private.Desks.{IsSameDesk, seen, with_input};
 ghost use Rattle.mkpasswd.specs.Private.LineEnds.{GoesOn, GoesToEnd, HasRoomToRead, IsAtInput, TakesTurnsOf, spare_fetch};
 ghost use Rattle.mkpasswd.specs.Private.Progress.{StandsFor};
-ghost use Rattle.mkpasswd.specs.Private.Rooms.{turns_limit};
+ghost use Rattle.mkpasswd.specs.Devices.{turns_limit};
 ghost use Rattle.mkpasswd.specs.Runs.{Hands, HasCountsForRun, IsWithinTurns, hands, tells};
 ghost use Rattle.mkpasswd.specs.Tallies.{no_line};
 ghost use Rattle.mkpasswd.specs.declared.line.Kind.TheVariants.{Batch, Check};
@@ -48,9 +48,10 @@ const PIECE_SIZE: usize = 512;
 /// - `Read`: a read failed. The lines whose line feeds were read are answered whole, and nothing else is written.
 /// - `OutOfMemory`: the memory of scrypt for a line was refused. The lines before it are answered whole, and of
 ///   it nothing is written.
-/// - `Write`: a write or a flush failed. The lines before that one are answered whole, and of the answer that was
-///   being given a first part is.
-/// - `Turns`: one more fetch or give than `turns` is needed. Likewise.
+/// - `Write`: a write failed. The lines before the one that was being answered are answered whole, and of its answer
+///   a first part is given. Or a flush failed, after all lines were answered.
+/// - `Turns`: one more fetch or give than `turns` is needed. The lines before the one that was being answered, or
+///   read, are answered whole, and of its answer a first part is given.
 ///
 /// [`LineFault`]: crate::line::LineFault
 pub fn run_batch<I: Read, O: Write, E: Write, R: Rng>(
@@ -63,7 +64,7 @@ pub fn run_batch<I: Read, O: Write, E: Write, R: Rng>(
     meter: &mut Meter,
     turns: u64,
 ) -> Result<Tally, RunFault>
-    requires turns { turns ≤ 2 ^ 40 }
+    requires turns { turns ≤ turns_limit }
     requires devices { HasRoomForRun input.old × HasRoomForRun out.old × HasRoomForRun faults.old }
     requires counts { HasCountsForRun meter.old }
     ensures ends { EndsLines (tells I.remaining O.contents E.contents) turns Batch job.now
@@ -95,7 +96,7 @@ pub fn run_check<I: Read, O: Write, E: Write, R: Rng>(
     meter: &mut Meter,
     turns: u64,
 ) -> Result<Tally, RunFault>
-    requires turns { turns ≤ 2 ^ 40 }
+    requires turns { turns ≤ turns_limit }
     requires devices { HasRoomForRun input.old × HasRoomForRun out.old × HasRoomForRun faults.old }
     requires counts { HasCountsForRun meter.old }
     ensures ends { EndsLines (tells I.remaining O.contents E.contents) turns Check job.now

@@ -1,6 +1,6 @@
 //! The list of the methods, which TYPE `help` asks for.
 ghost use Rattle.std.specs.Prelude.{◌≡◌, ◌+◌, ◌^◌, ◌≤◌, IfOk};
-ghost use Rattle.mkpasswd.specs.Devices.{HasRoomForRun, MovesBytes};
+ghost use Rattle.mkpasswd.specs.Devices.{turns_limit, HasRoomForRun, MovesBytes};
 ghost use Rattle.mkpasswd.specs.Methods.{methods_text};
 ghost use Rattle.mkpasswd.specs.Output.{GivesAll, ShowsOutcome};
 ghost use Rattle.mkpasswd.specs.Tallies.{no_line};
@@ -20,7 +20,7 @@ const METHODS: &str = "Available methods:\nmd5crypt\nsha256crypt\nsha512crypt\ns
 /// than `turns` is needed; the output has then taken the first bytes of the list, or all of it where the
 /// flush is what failed.
 pub fn run_methods<O: Write>(out: &mut Output<O>, turns: u64) -> Result<Tally, RunFault>
-    requires turns { turns ≤ 2 ^ 40 }
+    requires turns { turns ≤ turns_limit }
     requires room { HasRoomForRun out.old }
     ensures tally { IfOk result (λ tally. tally ≡ no_line) }
     ensures gives { GivesAll O.contents out.old out.new methods_text result }

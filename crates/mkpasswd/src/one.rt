@@ -3,7 +3,7 @@
 ghost use Rattle.std.specs.Prelude.{◌≡◌, ◌+◌, ◌^◌, ◌≤◌};
 ghost use Rattle.mkpasswd.specs.Devices.{HasRoomForRun, MovesBytes};
 ghost use Rattle.mkpasswd.specs.One.{EndsOne, ObtainsFrom};
-ghost use Rattle.mkpasswd.specs.Private.Rooms.{turns_limit};
+ghost use Rattle.mkpasswd.specs.Devices.{turns_limit};
 ghost use Rattle.mkpasswd.specs.Runs.{hands, tells, HasCountsForRun, IsWithinTurns};
 
 mod password;
@@ -33,7 +33,8 @@ use std::io::{Read, Write};
 ///   without a line feed were read. Nothing was written, drawn or hashed.
 /// - `Read`: a read failed before the password was known. Likewise.
 /// - `OutOfMemory`: the memory of scrypt was refused, and nothing was written.
-/// - `Write`: a write or a flush failed. The output has taken the first bytes of the answer.
+/// - `Write`: a write or a flush failed. The output has taken the first bytes of the answer, or all of it where a
+///   flush failed.
 /// - `Turns`: one more fetch or give than `turns` is needed. Likewise.
 pub fn run_one<I: Read, O: Write, E: Write, R: Rng>(
     alloc: Global,
@@ -46,7 +47,7 @@ pub fn run_one<I: Read, O: Write, E: Write, R: Rng>(
     meter: &mut Meter,
     turns: u64,
 ) -> Result<Tally, RunFault>
-    requires turns { turns ≤ 2 ^ 40 }
+    requires turns { turns ≤ turns_limit }
     requires devices { HasRoomForRun input.old × HasRoomForRun out.old × HasRoomForRun faults.old }
     requires counts { HasCountsForRun meter.old }
     ensures ends { EndsOne (tells I.remaining O.contents E.contents) turns job.now from.now

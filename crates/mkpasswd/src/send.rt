@@ -1,9 +1,9 @@
 //! What every run does with its outputs: it gives whole texts, by turns, and flushes them at the end.
 ghost use Rattle.std.specs.Prelude.{◌≡◌, ◌+◌, ◌-◌, ◌^◌, ◌<◌, ◌≤◌, length};
-ghost use Rattle.mkpasswd.specs.Devices.{MovesBytes};
+ghost use Rattle.mkpasswd.specs.Devices.{turns_limit, MovesBytes};
 ghost use Rattle.mkpasswd.specs.Output.{ShowsOutcome};
 ghost use Rattle.mkpasswd.specs.Private.Deliveries.{Delivers, FinishesBoth, FinishesOutput};
-ghost use Rattle.mkpasswd.specs.Private.Rooms.{HasRoomInRun, turns_limit};
+ghost use Rattle.mkpasswd.specs.Private.Rooms.{HasRoomInRun};
 
 use crate::device::Output;
 use crate::fault::RunFault;

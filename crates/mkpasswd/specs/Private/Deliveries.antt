@@ -31,7 +31,7 @@ module _ {T : Type 0} (contents : T → Option (List ℕ)) where
   pub record IsUnfinished (old new : Device T) : Type 0 where
     pub kept : IsKept old new
     pub failed : FailsOnce old new
-    pub unflushed : FailsToFlush old new
+    pub flush_failed : FailsToFlush old new
 
   abbrev pub FinishesOutput : Device T → Device T → {A : Type 0} → Result A RunFault → Type 0
   FinishesOutput old new (Ok done) = IsFinished old new

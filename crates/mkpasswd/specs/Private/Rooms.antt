@@ -3,13 +3,9 @@ use Rattle.std.specs.Prelude.{ℕ, ◌^◌, ◌+◌, ◌*◌, ◌≤◌}
 use Rattle.prims_core.specs.Meter.{Counts}
 use Rattle.crypt_core.specs.Crypt.{hash_limit}
 use Rattle.crypt_core.specs.Work.{work_limit}
-use Rattle.mkpasswd.specs.Devices.{Device}
+use Rattle.mkpasswd.specs.Devices.{Device, turns_limit}
 use Rattle.mkpasswd.specs.Lines.{name_limit}
 use Rattle.mkpasswd.specs.declared.tally.Tally.{Tally}
-
--- the most turns of a run
-abbrev pub turns_limit : ℕ
-turns_limit = 2 ^ 40
 
 -- the most calls that two outputs can count in a run: those that both had before, and the turns
 abbrev pub calls_limit : ℕ

@@ -98,7 +98,7 @@ impl<O: Write> Output<O> {
         ensures calls { self.new.calls ≡ self.old.calls }
         ensures bytes { self.new.bytes ≡ self.old.bytes }
         ensures flushed { OnOk result (IsFlushed self.old self.new) }
-        ensures unflushed { OnErr result (FailsToFlush self.old self.new) }
+        ensures flush_failed { OnErr result (FailsToFlush self.old self.new) }
     {
         self.flushes += 1;
         let answer = self.inner.flush();

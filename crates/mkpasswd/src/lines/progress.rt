@@ -2,7 +2,7 @@
 //! ends in it.
 ghost use Rattle.std.specs.Prelude.{◌≡◌, ℕ, ◌+◌, ◌<◌, ◌≤◌, ◌++◌, [], List, length, OnOk};
 ghost use Rattle.mkpasswd.specs.Answers.{Answer};
-ghost use Rattle.mkpasswd.specs.Devices.{MovesBytes};
+ghost use Rattle.mkpasswd.specs.Devices.{turns_limit, MovesBytes};
 ghost use Rattle.mkpasswd.specs.LineAnswers.{IsAnswer};
 ghost use Rattle.mkpasswd.specs.LineRuns.{piece_size};
 ghost use Rattle.mkpasswd.specs.Private.Deliveries.{Sends};
@@ -10,7 +10,7 @@ ghost use Rattle.mkpasswd.specs.Private.Desks.{IsSameDesk, Outs, TakesTurns, see
 ghost use Rattle.mkpasswd.specs.Private.LineEnds.{AnswersLast};
 ghost use Rattle.mkpasswd.specs.Private.Made.{Says, tally_of};
 ghost use Rattle.mkpasswd.specs.Private.Progress.{AnswersOne, HasRoomIn, HasRoomToAnswer, IsAt, LooksThrough, StandsFor};
-ghost use Rattle.mkpasswd.specs.Private.Rooms.{HasRoomInRun, answer_limit, lines_limit, turns_limit};
+ghost use Rattle.mkpasswd.specs.Private.Rooms.{HasRoomInRun, answer_limit, lines_limit};
 ghost use Rattle.mkpasswd.specs.Tallies.{both_tallies, no_line};
 
 use super::held::Held;

@@ -4,7 +4,7 @@ ghost use Rattle.std.specs.Prelude.{◌≡◌, ℕ, ◌+◌, ◌-◌, ◌^◌, �
 ghost use Rattle.mkpasswd.specs.Devices.{HasRoomForRun, MovesBytes};
 ghost use Rattle.mkpasswd.specs.Input.{Obtains, Reads};
 ghost use Rattle.mkpasswd.specs.Private.Fetching.{Fetches, FindsLine, buffer_size};
-ghost use Rattle.mkpasswd.specs.Private.Rooms.{turns_limit};
+ghost use Rattle.mkpasswd.specs.Devices.{turns_limit};
 
 use crate::device::Input;
 use crate::fault::RunFault;

@@ -14,7 +14,7 @@ fn send_to(
     text: &[u8],
     turns: u64,
 ) -> (Result<(), RunFault>, u64, MemoryWriter)
-    requires turns { turns ≤ 2 ^ 40 }
+    requires turns { turns ≤ turns_limit }
     requires short { length text.now ≤ 2048 }
     ensures { OnOk result.0 (result.2.taken.items ≡ writer.taken.items ++ text.now) }
 {

@@ -10,8 +10,8 @@ overflow_add-result-3 c =
     let parts : ℕ = c.from-r.result * c.from-p.result in
     let few : parts ≤ 2 ^ 22 = rw (c.from-r.ensures ∙ c.r.ensures.number, c.from-p.ensures ∙ c.p.ensures.number) c.row_count.ensures.bounded.parts in
     let once : c.from-key_digests.result ≤ 1 = search rules in
-    let key : c.from-key_digests.result * c.args.password ≤ 1 * 2 ^ 32 = mul-le-mul once c.requires.password in
-    let fit = known_bytes-fit (c.from-key_digests.result * c.args.password) parts c.salted_tag_bytes.result 0 0 (omega arith) few
+    let key : c.from-key_digests.result * c.args.password_len ≤ 1 * 2 ^ 32 = mul-le-mul once c.requires.password in
+    let fit = known_bytes-fit (c.from-key_digests.result * c.args.password_len) parts c.salted_tag_bytes.result 0 0 (omega arith) few
     (omega arith) (omega arith) (omega arith) in
     omega (arith, fit)
 
@@ -20,8 +20,8 @@ overflow_add-result-4 c =
     let parts : ℕ = c.from-r.result * c.from-p.result in
     let few : parts ≤ 2 ^ 22 = rw (c.from-r.ensures ∙ c.r.ensures.number, c.from-p.ensures ∙ c.p.ensures.number) c.row_count.ensures.bounded.parts in
     let once : c.from-key_digests.result ≤ 1 = search rules in
-    let key : c.from-key_digests.result * c.args.password ≤ 1 * 2 ^ 32 = mul-le-mul once c.requires.password in
-    let fit = known_bytes-fit (c.from-key_digests.result * c.args.password) parts c.salted_tag_bytes.result c.div_ceil-blocks.result
+    let key : c.from-key_digests.result * c.args.password_len ≤ 1 * 2 ^ 32 = mul-le-mul once c.requires.password in
+    let fit = known_bytes-fit (c.from-key_digests.result * c.args.password_len) parts c.salted_tag_bytes.result c.div_ceil-blocks.result
     c.salted_tag_bytes-2.result (omega arith) few (omega arith) (omega arith) (omega arith) in
     omega (arith, fit)
 
@@ -31,5 +31,5 @@ returns-clause-work c =
     let n = c.from-rows.ensures ∙ c.row_count.ensures.number in
     let r = c.from-r.ensures ∙ c.r.ensures.number in
     let p = c.from-p.ensures ∙ c.p.ensures.number in
-    let key : c.from-key_digests.result ≡ key_digests c.args.password = search rules in
+    let key : c.from-key_digests.result ≡ key_digests c.args.password_len = search rules in
     rw (c.salted_tag_bytes.ensures, c.salted_tag_bytes-2.ensures, n, r, p, key, c.div_ceil-blocks.ensures) refl
