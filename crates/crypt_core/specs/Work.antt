@@ -6,7 +6,7 @@ use Rattle.prims_core.specs.Digests.{sha256, sha512}
 -- a meter raised by some work, and work within other work or below a number
 pub use Rattle.prims_core.specs.Work.{raised_by, IsBelow, IsWithin}
 use Rattle.prims_core.specs.declared.work.Work.{Work}
-use Rattle.kdf_core.specs.Scrypt.{scrypt_work}
+use Rattle.kdf_core.specs.Scrypt.{mixed_bytes, scrypt_work}
 use Rattle.crypt_core.specs.Cycle.{binary_digits}
 use Rattle.crypt_core.specs.Md5crypt.{md5crypt_rounds}
 use Rattle.crypt_core.specs.Packing.{digest_len}
@@ -89,3 +89,14 @@ work_bound kept password = work_by kept.scheme greatest_byte password (length ke
 -- what no count of a hash reaches, for any password and any setting
 abbrev pub work_limit : ℕ
 work_limit = 2 ^ 41
+
+-- The cost: the bound as one number, which a budget is compared with
+
+-- the bytes that are mixed, in scrypt alone
+abbrev pub mixed_bytes_by : Scheme → ℕ
+mixed_bytes_by (Scrypt cost) = mixed_bytes cost
+mixed_bytes_by scheme = 0
+
+-- for a password of so many bytes: the bytes that are digested at most, and those that are mixed
+abbrev pub cost : Kept → ℕ → ℕ
+cost kept password = (work_bound kept password).bytes + mixed_bytes_by kept.scheme

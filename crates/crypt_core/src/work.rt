@@ -5,13 +5,13 @@ ghost use Rattle.crypt_core.specs.Methods.{md5crypt_salt_limit, scrypt_salt_limi
 ghost use Rattle.crypt_core.specs.Md5crypt.{md5crypt_rounds};
 ghost use Rattle.crypt_core.specs.Passwords.{password_limit, IsPassword};
 ghost use Rattle.crypt_core.specs.Settings.{max_rounds};
-ghost use Rattle.crypt_core.specs.Work.{digests_alone, digit_bytes, first_byte, greatest_byte, md5crypt_bytes, piece_bytes, rounds_bytes, shacrypt_bytes, work, work_bound, work_by, work_limit, IsBelow, IsWithin};
+ghost use Rattle.crypt_core.specs.Work.{cost, digests_alone, digit_bytes, first_byte, greatest_byte, md5crypt_bytes, piece_bytes, rounds_bytes, shacrypt_bytes, work, work_bound, work_by, work_limit, IsBelow, IsWithin};
 
 use crate::md5crypt::ROUNDS;
 use crate::scheme::Scheme;
 use crate::setting::Setting;
 use kdf_core::params::Params;
-use kdf_core::work::scrypt_work;
+use kdf_core::work::{mixed_bytes, scrypt_work};
 use prims_core::counted::{Counted, CountedMd5, CountedSha256, CountedSha512};
 pub use prims_core::work::Work;
 
@@ -42,6 +42,23 @@ pub fn bound(setting: &Setting, password_len: usize) -> Work
         }
         Scheme::Scrypt(params) => scrypt_bound(&params, password, salt),
     }
+}
+
+/// What a hash by the setting costs at most, as one number, for any password of `password_len` bytes, which
+/// are at most [`PASSWORD_LIMIT`](crate::password::PASSWORD_LIMIT): the bytes of its [`bound`], and for
+/// scrypt the 128r bytes that each of the bound's mixings mixes.
+///
+/// It is what a budget is compared with. Nothing is hashed for it and no memory is taken. It fits 64 bits
+/// for every setting, so that nothing is cut off.
+pub fn cost(setting: &Setting, password_len: usize) -> u64
+    requires { password_len ≤ password_limit }
+    ensures { result ≡ cost setting.now password_len }
+{
+    let mixed = match setting.scheme() {
+        Scheme::Scrypt(params) => mixed_bytes(&params),
+        Scheme::Md5crypt | Scheme::Sha256crypt(_) | Scheme::Sha512crypt(_) => 0,
+    };
+    bound(setting, password_len).bytes + mixed
 }
 
 // The second message of md5crypt has the three bytes `$1$`, and one byte for each binary digit of the

@@ -82,6 +82,10 @@ scrypt_bytes cost password_length salt_length count =
 abbrev pub scrypt_mixes : ScryptCost → ℕ
 scrypt_mixes cost = 2 * rows cost * cost.p
 
+-- the bytes that are mixed: a part in each mixing
+abbrev pub mixed_bytes : ScryptCost → ℕ
+mixed_bytes cost = scrypt_mixes cost * part_bytes cost
+
 -- the bytes of the one table, whose rows are as long as a part
 abbrev pub table_bytes : ScryptCost → ℕ
 table_bytes cost = rows cost * part_bytes cost

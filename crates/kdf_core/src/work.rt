@@ -3,7 +3,7 @@
 ghost use Rattle.std.specs.Prelude.{◌≡◌, ◌+◌, ◌^◌, ◌≤◌};
 ghost use Rattle.kdf_core.specs.Hmac.{tag_bytes};
 ghost use Rattle.kdf_core.specs.Params.{IsBounded};
-ghost use Rattle.kdf_core.specs.Scrypt.{scrypt_work};
+ghost use Rattle.kdf_core.specs.Scrypt.{mixed_bytes, scrypt_work};
 
 use crate::hmac::{SHA256_BLOCK, SHA256_LENGTH};
 use crate::params::Params;
@@ -35,6 +35,16 @@ pub fn scrypt_work(params: &Params, password_len: u64, salt_len: u64, out_len: u
         table: rows * part,
         scratch: part * p + 2 * part,
     }
+}
+
+/// The bytes that scrypt's mixings mix: a part of 128r bytes in each of the 2Np. They are at most 2^31.
+pub fn mixed_bytes(params: &Params) -> u64
+    ensures bytes { result ≡ mixed_bytes params.now }
+    ensures below { result ≤ 2 ^ 31 }
+{
+    let rows = u64::from(params.row_count());
+    let part = UNIT_BYTES as u64 * u64::from(params.r());
+    2 * rows * u64::from(params.p()) * part
 }
 
 // The bytes that a tag of a salt and the number of a block digests: both padded keys, the inner digest, and

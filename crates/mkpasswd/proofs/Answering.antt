@@ -22,7 +22,7 @@ use Rattle.mkpasswd.specs.declared.fault.RunFault.TheVariants.{Read, Write, OutO
 use Rattle.mkpasswd.specs.declared.job.Job.{Job}
 use Rattle.mkpasswd.specs.declared.line.Kind.{Kind}
 use Rattle.mkpasswd.specs.declared.line.LineFault.{LineFault}
-use Rattle.mkpasswd.specs.declared.line.LineFault.TheVariants.{LineTooLong, NoName, NameTooLong, NoPassword, Password as WrongPassword, Setting}
+use Rattle.mkpasswd.specs.declared.line.LineFault.TheVariants.{LineTooLong, NoName, NameTooLong, NoPassword, Password as WrongPassword, Setting, OverBudget}
 use Rattle.mkpasswd.specs.declared.tally.Tally.{Tally}
 
 -- ---- a line that is too long
@@ -35,6 +35,7 @@ some_rule NameTooLong = omega arith
 some_rule NoPassword = omega arith
 some_rule (WrongPassword fault) = omega arith
 some_rule (Setting fault) = omega arith
+some_rule OverBudget = omega arith
 
 too_long-refused : (kind : Kind) (line : List ℕ) → line_limit < length line → IsLineRefused kind line LineTooLong
 too_long-refused kind line long = record {

@@ -1,14 +1,15 @@
 -- What the command is in the sense of `clap`, and what it makes of some words.
-use Rattle.std.proofs.Common.{◌≡◌, ◌<◌, ℕ, true, false, true≢false, zero, suc, sym, ap, refl, arith, List, [], ◌∷◌, length, codes, Some, None, inl, inr, slice_index}
+use Rattle.std.proofs.Common.{◌≡◌, ◌<◌, ◌&&◌, ℕ, Bool, not, true, false, true≢false, zero, suc, sym, ap, refl, arith, List, [], ◌∷◌, length, codes, Some, None, inl, inr, slice_index}
 use Rattle.std.specs.Prelude.{pos}
 use Rattle.std.specs.Str.{bytes_eq}
-use Rattle.clap.specs.declared.builder.value_parser.ValueParser.TheVariants.{Signed}
+use Rattle.clap.specs.declared.builder.value_parser.ValueParser.TheVariants.{Signed, Unsigned}
 use Rattle.std.specs.List.{list_all, slice_index_or}
 use Rattle.clap.specs.Simple.{is_ready, is_ready_leaf}
 use Rattle.clap.specs.Words.{Rule, Text, fault_of, is_simple, is_simple_and_free, matches_of, takes}
 use Rattle.clap.specs.declared.error.kind.ErrorKind.TheVariants as kind
 use Rattle.clap.proofs.OnLiterals.{clap_on_literals}
-use Rattle.mkpasswd.specs.Options.{command, rounds_rule, values_in}
+use Rattle.clap.proofs.WalkLemmas.{both}
+use Rattle.mkpasswd.specs.Options.{budget_rule, command, rounds_rule, values_in}
 use Rattle.mkpasswd.proofs.PassedValues.{IsOnlyRule, all_free}
 
 -- ---- a simple command, without exclusions
@@ -39,18 +40,29 @@ free = refl
 differ : (s t : Text) → (slice_index s 0 ≡ slice_index t 0 → ⊥) → s ≡ t → ⊥
 differ s t first same = first (ap (λ text. slice_index text 0) same)
 
-only_rounds : (j : ℕ) (z : Rule) → j < length command.top.rules → bytes_eq (slice_index_or command.top.rules j z).id (codes "rounds") ≡ true → j ≡ 2
-unfolding command
-only_rounds zero z lt same = absurd (true≢false (sym same))
-only_rounds (suc zero) z lt same = absurd (true≢false (sym same))
-only_rounds (suc (suc zero)) z lt same = refl
-only_rounds (suc (suc (suc zero))) z lt same = absurd (true≢false (sym same))
-only_rounds (suc (suc (suc (suc zero)))) z lt same = absurd (true≢false (sym same))
-only_rounds (suc (suc (suc (suc (suc zero))))) z lt same = absurd (true≢false (sym same))
-only_rounds (suc (suc (suc (suc (suc (suc zero)))))) z lt same = absurd (true≢false (sym same))
-only_rounds (suc (suc (suc (suc (suc (suc (suc zero))))))) z lt same = absurd (true≢false (sym same))
-only_rounds (suc (suc (suc (suc (suc (suc (suc (suc zero)))))))) z lt same = absurd (true≢false (sym same))
-only_rounds (suc (suc (suc (suc (suc (suc (suc (suc (suc j))))))))) z lt same = absurd (omega arith)
+-- no rule but the one at place k has this id
+abbrev lone : ℕ → Text → List Rule → Bool
+lone k id [] = true
+lone zero id (rule ∷ rules) = list_all (λ other. not (bytes_eq other.id id)) rules
+lone (suc k) id (rule ∷ rules) = not (bytes_eq rule.id id) && lone k id rules
+
+not_true : (b : Bool) → not b ≡ true → b ≡ true → ⊥
+not_true true no yes = true≢false (sym no)
+not_true false no yes = true≢false (sym yes)
+
+none_has : (id : Text) (rules : List Rule) → list_all (λ other. not (bytes_eq other.id id)) rules ≡ true
+    → (j : ℕ) (z : Rule) → j < length rules → bytes_eq (slice_index_or rules j z).id id ≡ true → ⊥
+none_has id [] all j z lt same = absurd (omega arith)
+none_has id (rule ∷ rules) all zero z lt same = not_true (bytes_eq rule.id id) (both _ _ all).0 same
+none_has id (rule ∷ rules) all (suc j) z lt same = none_has id rules (both _ _ all).1 j z (omega arith) same
+
+lone-only : (k : ℕ) (id : Text) (rules : List Rule) → lone k id rules ≡ true
+    → (j : ℕ) (z : Rule) → j < length rules → bytes_eq (slice_index_or rules j z).id id ≡ true → j ≡ k
+lone-only k id [] all j z lt same = absurd (omega arith)
+lone-only zero id (rule ∷ rules) all zero z lt same = refl
+lone-only zero id (rule ∷ rules) all (suc j) z lt same = absurd (none_has id rules all j z (omega arith) same)
+lone-only (suc k) id (rule ∷ rules) all zero z lt same = absurd (not_true (bytes_eq rule.id id) (both _ _ all).0 same)
+lone-only (suc k) id (rule ∷ rules) all (suc j) z lt same = ap suc (lone-only k id rules (both _ _ all).1 j z (omega arith) same)
 
 pub is_rounds : IsOnlyRule command.top.rules 2 rounds_rule (Signed (pos 0) (pos 4294967295))
 unfolding command
@@ -58,7 +70,18 @@ is_rounds = record {
   within = omega arith;
   place = λ z. refl;
   parser = refl;
-  only = only_rounds;
+  only = lone-only 2 (codes "rounds") command.top.rules refl;
+  named = differ _ _ (λ same. absurd (omega arith));
+  own = λ auto. elim auto [ inl help ↦ differ _ _ (λ same. absurd (omega arith)) help | inr version ↦ differ _ _ (λ same. absurd (omega arith)) version ];
+}
+
+pub is_budget : IsOnlyRule command.top.rules 7 budget_rule (Unsigned 0 18446744073709551615)
+unfolding command
+is_budget = record {
+  within = omega arith;
+  place = λ z. refl;
+  parser = refl;
+  only = lone-only 7 (codes "budget") command.top.rules refl;
   named = differ _ _ (λ same. absurd (omega arith));
   own = λ auto. elim auto [ inl help ↦ differ _ _ (λ same. absurd (omega arith)) help | inr version ↦ differ _ _ (λ same. absurd (omega arith)) version ];
 }
@@ -66,7 +89,8 @@ is_rounds = record {
 -- ---- what it makes of some words
 
 abbrev words : List Text
-words = codes "-m" ∷ codes "md5" ∷ codes "-R" ∷ codes "+07" ∷ codes "--work" ∷ codes "--check" ∷ codes "x" ∷ codes "ab" ∷ []
+words =
+    codes "-m" ∷ codes "md5" ∷ codes "-R" ∷ codes "+07" ∷ codes "--work" ∷ codes "--budget" ∷ codes "+036" ∷ codes "--check" ∷ codes "x" ∷ codes "ab" ∷ []
 
 takes_words : takes command words ≡ true
 unfolding command clap_on_literals
@@ -85,6 +109,7 @@ values_of_words : values_in (matches_of command words) ≡ record {
   batch = false;
   check = true;
   work = true;
+  budget = Some 36;
   password = Some (codes "x");
 }
 unfolding command clap_on_literals
@@ -103,6 +128,7 @@ values_of_no_words : values_in (matches_of command []) ≡ record {
   batch = false;
   check = false;
   work = false;
+  budget = None;
   password = None;
 }
 unfolding command clap_on_literals
@@ -119,3 +145,11 @@ takes_highest_number = refl
 refuses_higher_number : fault_of command (codes "-R" ∷ codes "4294967296" ∷ []) ≡ kind.ValueValidation ∷ []
 unfolding command clap_on_literals
 refuses_higher_number = refl
+
+takes_highest_budget : fault_of command (codes "--budget" ∷ codes "18446744073709551615" ∷ []) ≡ []
+unfolding command clap_on_literals
+takes_highest_budget = refl
+
+refuses_higher_budget : fault_of command (codes "--budget" ∷ codes "18446744073709551616" ∷ []) ≡ kind.ValueValidation ∷ []
+unfolding command clap_on_literals
+refuses_higher_budget = refl

@@ -1,9 +1,12 @@
--- The words that a setting takes from a stream.
-use Rattle.std.proofs.Common.{◌≡◌, ℕ, Bool, true, false, not, List, [], Option, Some, None, is_some, refl, sym, ap, ◌∙◌}
+-- The words that a setting takes from a stream, and what it costs whatever they are.
+use Rattle.std.proofs.Common.{◌≡◌, ℕ, ◌+◌, Bool, true, false, not, List, [], length, Option, Some, None, is_some, unwrap_or, refl, sym, ap, ◌∙◌}
+use Rattle.std.proofs.lemmas.List.FromFn.{length-map-range_with_len}
 use Rattle.rand_core.specs.Stream.{Stream}
-use Rattle.crypt_core.specs.MadeSalts.{three_words}
+use Rattle.crypt_core.specs.MadeSalts.{made_character, made_salt, three_words}
+use Rattle.crypt_core.specs.MadeSettings.{made_scheme}
 use Rattle.crypt_core.specs.Settings.{Kept}
-use Rattle.mkpasswd.specs.Makers.{Recipe, setting_by, words_for}
+use Rattle.crypt_core.specs.Work.{cost, greatest_byte, mixed_bytes_by, work_by}
+use Rattle.mkpasswd.specs.Makers.{Recipe, made_salt_length, setting_by, words_for}
 
 -- a given salt leaves the words no part in the setting
 same_setting : (recipe : Recipe) (words others : List ℕ) → is_some recipe.salt ≡ true → setting_by recipe words ≡ setting_by recipe others
@@ -54,3 +57,21 @@ is_not_drawn recipe before after words kept draws is off same made =
       kept_is = made ∙ same_setting recipe words (words_for recipe before).0 given;
       stream_is = same ∙ ap (λ (p : List ℕ × Stream). p.1) (sym words_are);
     }
+
+-- ---- the cost of a made setting
+
+made_salt-length : (words : List ℕ) (n : ℕ) → length (made_salt words n) ≡ n
+unfolding made_salt
+made_salt-length words n = length-map-range_with_len (made_character words) 0 n
+
+salt-length : (salt : Option (List ℕ)) (words others : List ℕ) (n : ℕ)
+    → length (unwrap_or salt (made_salt words n)) ≡ length (unwrap_or salt (made_salt others n))
+salt-length None words others n = made_salt-length words n ∙ sym (made_salt-length others n)
+salt-length (Some salt) words others n = refl
+
+-- it is the same for all words, since they make salts of one length
+pub same_cost : (recipe : Recipe) (words others : List ℕ) (password : ℕ) → cost (setting_by recipe words) password ≡ cost (setting_by recipe others) password
+same_cost recipe words others password =
+    let scheme = made_scheme recipe.method recipe.cost in
+    ap (λ (salt : ℕ). (work_by scheme greatest_byte password salt).bytes + mixed_bytes_by scheme)
+    (salt-length recipe.salt words others (made_salt_length recipe.method))

@@ -1,4 +1,5 @@
 pub mod Answering
+pub mod Budgeting
 pub mod CommandFacts
 pub mod Counting
 pub mod Cuts

@@ -6,7 +6,7 @@ use Rattle.crypt_core.specs.Crypt.{crypt, IsRefusedBy}
 use Rattle.crypt_core.specs.Settings.{Kept}
 use Rattle.crypt_core.specs.Work.{raised_by, work}
 use Rattle.prims_core.specs.declared.work.Work.{Work}
-use Rattle.mkpasswd.specs.Makers.{setting_by, words_for}
+use Rattle.mkpasswd.specs.Makers.{next_setting, words_for}
 use Rattle.mkpasswd.specs.Tallies.{no_line, one_line}
 use Rattle.mkpasswd.specs.Texts.{as_line}
 use Rattle.mkpasswd.specs.declared.job.Job.{Job}
@@ -82,14 +82,13 @@ hash_text job password kept = crypt password kept ++ wanted_text job (work passw
 -- behind this front, the hash by the setting that the job makes, on a line of its own
 abbrev pub hashed_answer : Job → List ℕ → List ℕ → Stream → Answer
 hashed_answer job front password stream =
-    let words = words_for job.maker stream in
-    let kept = setting_by job.maker words.0 in
+    let kept = next_setting job.maker stream in
     record {
       text = as_line (front ++ hash_text job password kept);
       fault_text = [];
       tally = one_line;
       hashings = record { password = password; setting = kept } ∷ [];
-      stream = words.1;
+      stream = (words_for job.maker stream).1;
     }
 
 -- a single password has no front

@@ -1,4 +1,5 @@
 pub mod Answers
+pub mod Budgets
 pub mod Devices
 pub mod Faults
 pub mod Input

@@ -7,7 +7,7 @@ use Rattle.mkpasswd.specs.Texts.{colon}
 use Rattle.mkpasswd.specs.declared.line.Kind.{Kind}
 use Rattle.mkpasswd.specs.declared.line.Kind.TheVariants.{Batch, Check}
 use Rattle.mkpasswd.specs.declared.line.LineFault.{LineFault}
-use Rattle.mkpasswd.specs.declared.line.LineFault.TheVariants.{LineTooLong, NoName, NameTooLong, NoPassword, Password, Setting}
+use Rattle.mkpasswd.specs.declared.line.LineFault.TheVariants.{LineTooLong, NoName, NameTooLong, NoPassword, Password, Setting, OverBudget}
 
 -- ---- the parts
 
@@ -59,6 +59,7 @@ rule_number NameTooLong = 3
 rule_number NoPassword = 4
 rule_number (Password fault) = 5
 rule_number (Setting fault) = 6
+rule_number OverBudget = 7
 
 -- the rule of a refusal holds of the line
 abbrev pub Breaks : Kind → LineFault → List ℕ → Type 0
@@ -69,6 +70,8 @@ Breaks kind NoPassword line = (parts : Parts) → ¬ HasParts kind line parts
 Breaks kind (Password fault) line = (parts : Parts) × HasParts kind line parts × IsPasswordRefused parts.password fault
 Breaks kind (Setting fault) line =
     (parts : Parts) × (field : List ℕ) × HasParts kind line parts × (parts.field ≡ Some field) × IsStored field × IsRefused field fault
+-- what a hash costs is no rule of the line alone
+Breaks kind OverBudget line = ⊥
 
 -- the rule holds of the line, and no earlier one does
 pub record IsLineRefused (kind : Kind) (line : List ℕ) (fault : LineFault) : Type 0 where

@@ -48,3 +48,7 @@ setting_by recipe words =
 -- none otherwise
 abbrev pub words_for : Recipe → Stream → List ℕ × Stream
 words_for recipe stream = if is_some recipe.salt then ([], stream) else three_words stream
+
+-- the setting of the next hash
+abbrev pub next_setting : Recipe → Stream → Kept
+next_setting recipe stream = setting_by recipe (words_for recipe stream).0

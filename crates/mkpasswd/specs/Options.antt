@@ -1,14 +1,14 @@
 -- The words after the program's name: the command, what `clap` finds in them, and what they mean.
 use Rattle.std.specs.Prelude.{◌≡◌, ◌≢◌, ◌<◌, ◌≤◌, ⊤, ℕ, pos, Bool, true, false, List, [], ◌∷◌, ◌++◌, length, fold, Option, Some, None, IsSome, is_some, Result, Ok, Err, codes, unwrap_or, if◌then◌else◌}
 use Rattle.std.specs.List.{slice_index_or}
-use Rattle.std.specs.Option.{option_map_or}
+use Rattle.std.specs.Option.{option_map, option_map_or}
 use Rattle.std.specs.Str.{bytes_eq}
 use Rattle.std.specs.Str.Parse.{digits_value, without_leading_plus}
 use Rattle.clap.specs.Words.{App, IsAmong, Row, Rule, Text, fault_of, first_of, kind_of, matches_of, one_of}
 use Rattle.clap.specs.Words.{new_app, new_rule, takes, with_rule}
 use Rattle.clap.specs.Simple.{on_top}
 use Rattle.clap.specs.declared.builder.ArgAction.TheVariants.{Set, SetTrue}
-use Rattle.clap.specs.declared.builder.value_parser.ValueParser.TheVariants.{Signed}
+use Rattle.clap.specs.declared.builder.value_parser.ValueParser.TheVariants.{Signed, Unsigned}
 use Rattle.clap.specs.declared.error.Error.{Error}
 use Rattle.clap.specs.declared.error.kind.ErrorKind.TheVariants as kind
 use Rattle.crypt_core.specs.Methods.{method_named}
@@ -64,6 +64,13 @@ check_rule = record (flag_rule (codes "check")) { long = Some (codes "check") }
 abbrev pub work_rule : Rule
 work_rule = record (flag_rule (codes "work")) { long = Some (codes "work") }
 
+-- --budget NUMBER, from 0 to 18446744073709551615
+abbrev pub budget_rule : Rule
+budget_rule = record (value_rule (codes "budget")) {
+  long = Some (codes "budget");
+  parser = Some (Unsigned 0 18446744073709551615);
+}
+
 -- PASSWORD, and then SALT
 abbrev pub password_rule : Rule
 password_rule = value_rule (codes "password")
@@ -79,7 +86,7 @@ bare_command = on_top (λ s. record s { no_binary_name = true; has_version = tru
 unfoldable pub command : App
 command = fold with_rule bare_command
     (method_rule ∷ salt_rule ∷ rounds_rule ∷ stdin_rule ∷ batch_rule ∷ check_rule ∷ work_rule
-    ∷ password_rule ∷ salt_word_rule ∷ [])
+    ∷ budget_rule ∷ password_rule ∷ salt_word_rule ∷ [])
 
 -- ---- what `clap` finds
 
@@ -97,26 +104,35 @@ pub record Values : Type 0 where
   pub batch : Bool
   pub check : Bool
   pub work : Bool
+  -- the number of --budget
+  pub budget : Option ℕ
   -- the first word
   pub password : Option Text
 
 abbrev pub is_set : Text → List Row → Bool
 is_set id rows = option_map_or (bytes_eq (codes "true")) (one_of id rows) false
 
-abbrev pub number_of : Text → List Row → ℕ
-number_of id rows =
-    option_map_or (λ text. digits_value 10 (without_leading_plus text)) (one_of id rows) 0
+-- the number that a text is, where there may be a plus before its digits
+abbrev pub number_of : Text → ℕ
+number_of text = digits_value 10 (without_leading_plus text)
+
+abbrev pub number_in : Text → List Row → Option ℕ
+number_in id rows = option_map number_of (one_of id rows)
+
+abbrev pub number_or_0 : Text → List Row → ℕ
+number_or_0 id rows = option_map_or number_of (one_of id rows) 0
 
 abbrev pub values_in : List Row → Values
 values_in rows = record {
   method = first_of (codes "method") rows;
   salt = first_of (codes "salt") rows;
   salt_word = first_of (codes "salt-word") rows;
-  cost = number_of (codes "rounds") rows;
+  cost = number_or_0 (codes "rounds") rows;
   stdin = is_set (codes "stdin") rows;
   batch = is_set (codes "batch") rows;
   check = is_set (codes "check") rows;
   work = is_set (codes "work") rows;
+  budget = number_in (codes "budget") rows;
   password = first_of (codes "password") rows;
 }
 
@@ -188,11 +204,13 @@ IsFrom (word password) (Word bytes) = bytes.items ≡ password
 IsFrom input Input = ⊤
 IsFrom mode from = ⊥
 
--- settings are made of the method, the cost and the salt; the counts are wanted where `--work` was given
+-- settings are made of the method, the cost and the salt; the counts are wanted where `--work` was given, and
+-- the budget is that of `--budget`
 pub record IsJob (values : Values) (method : Method) (job : Job) : Type 0 where
   pub accepted : IsAccepted method values.cost (given_salt values)
   pub maker : job.maker ≡ record { method = method; cost = values.cost; salt = given_salt values }
   pub work : job.work ≡ values.work
+  pub budget : job.budget ≡ values.budget
 
 -- the first refusal whose rule holds, or else the plan
 abbrev pub Means : Values → Result Plan UsageFault → Type 0

@@ -20,7 +20,7 @@ use arrayvec::ArrayVec;
 use crypt_core::fits::{FitFault, fits};
 use crypt_core::hash::{HASH_LIMIT, HashFault, hash};
 use crypt_core::password::Password;
-use crypt_core::setting::Setting;
+use crypt_core::setting::{Setting, SettingFault};
 use itoa::Buffer;
 use prims_core::buffer::buffer_of;
 use prims_core::meter::Meter;
@@ -32,6 +32,9 @@ const COUNT_LIMIT: usize = 41;
 
 // The most bytes of an answer: a name and a colon, a hash, four counts, and a line feed.
 const ANSWER_LIMIT: usize = NAME_LIMIT + 1 + HASH_LIMIT + 4 * COUNT_LIMIT + 1;
+
+// Words for a setting that is priced before any are drawn: which characters a salt has changes no cost.
+const ANY_WORDS: [u64; 3] = [0; 3];
 
 /// The text of an answer.
 pub(crate) type Text = ArrayVec<u8, ANSWER_LIMIT>;
@@ -80,7 +83,7 @@ pub(crate) fn answer_password(
 /// verdict on its password, or its refusal. The counts are those of this answer alone.
 ///
 /// Three words are drawn where a salt is made for a hash, and none otherwise. A line that is refused is not
-/// hashed. `OutOfMemory` comes as `hash` has it.
+/// hashed, and one whose hash is over budget is refused. `OutOfMemory` comes as `hash` has it.
 pub(crate) fn answer_line<R: Rng>(
     task: Task<'_>,
     number: u64,
@@ -99,11 +102,14 @@ pub(crate) fn answer_line<R: Rng>(
         Err(fault) => return Ok(refusal(number, fault)),
     };
     match entry.field {
+        None if job.is_over(&job.maker.setting(ANY_WORDS), &entry.password) => {
+            Ok(refusal(number, LineFault::OverBudget))
+        }
         None => hashed(alloc, job, entry.name, &entry.password, rng, meter),
         Some(field) => match checked(alloc, job, entry.name, field, &entry.password, meter) {
             Ok(answer) => Ok(answer),
-            Err(FitFault::Setting(fault)) => Ok(refusal(number, LineFault::Setting(fault))),
-            Err(FitFault::OutOfMemory) => Err(HashFault::OutOfMemory),
+            Err(Halt::Refused(fault)) => Ok(refusal(number, fault)),
+            Err(Halt::OutOfMemory) => Err(HashFault::OutOfMemory),
         },
     }
 }
@@ -157,14 +163,14 @@ fn checked(
     field: &[u8],
     password: &Password,
     meter: &mut Meter,
-) -> Result<LineAnswer, FitFault>
+) -> Result<LineAnswer, Halt>
     requires room { HasRoom meter.old }
     requires short { length name.now ≤ name_limit }
     ensures checks { Checks job.now name.now field.now password.now meter.old meter.new result }
     ensures small { IsRaisedBelow work_limit meter.old meter.new }
 {
     let before = Shown::by(meter);
-    let verdict = verdict_of(alloc, field, password, meter)?;
+    let verdict = verdict_of(alloc, job, field, password, meter)?;
     let mut text = text_behind(name);
     append(&mut text, verdict.text().as_bytes());
     if job.work {
@@ -208,21 +214,57 @@ impl Verdict {
     }
 }
 
-// The verdict on a password, by a field.
+// Why there is no verdict.
+#[derive(Clone, Copy, Debug, PartialEq, Eq)]
+enum Halt {
+    // The line is refused, and nothing was hashed.
+    Refused(LineFault),
+    OutOfMemory,
+}
+
+impl From<SettingFault> for Halt {
+    ghost use Rattle.mkpasswd.specs.declared.answer.Halt.TheVariants.{Refused};
+    ghost use Rattle.mkpasswd.specs.declared.line.LineFault.TheVariants.{Setting};
+
+    ghost from_gives = { λ fault halt. halt ≡ Refused (Setting fault) };
+
+    fn from(fault: SettingFault) -> Halt {
+        Halt::Refused(LineFault::Setting(fault))
+    }
+}
+
+impl From<FitFault> for Halt {
+    ghost use Rattle.mkpasswd.specs.Private.Made.{halt_of};
+
+    ghost from_gives = { λ fault halt. halt ≡ halt_of fault };
+
+    fn from(fault: FitFault) -> Halt {
+        match fault {
+            FitFault::Setting(fault) => Halt::from(fault),
+            FitFault::OutOfMemory => Halt::OutOfMemory,
+        }
+    }
+}
+
+// The verdict on a password, by a field. What its hash costs is known before anything is hashed.
 fn verdict_of(
     alloc: Global,
+    job: &Job,
     field: &[u8],
     password: &Password,
     meter: &mut Meter,
-) -> Result<Verdict, FitFault>
+) -> Result<Verdict, Halt>
     requires { HasRoom meter.old }
-    ensures judges { Judges field.now password.now meter.old meter.new result }
+    ensures judges { Judges job.now field.now password.now meter.old meter.new result }
     ensures small { IsRaisedBelow work_limit meter.old meter.new }
 {
     match Field::of(field) {
         Field::Empty => Ok(Verdict::NoneStored),
         Field::Locked => Ok(Verdict::Locked),
         Field::Stored => {
+            if job.is_over(&Setting::read(field)?, password) {
+                return Err(Halt::Refused(LineFault::OverBudget));
+            }
             if fits(alloc, password, field, meter)? {
                 Ok(Verdict::Fits)
             } else {

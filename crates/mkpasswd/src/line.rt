@@ -49,6 +49,9 @@ pub enum LineFault {
     /// The field to check isn't empty and not locked by a `!` or `*` at its front, and spells no setting.
     #[error("{}", self.text())]
     Setting(SettingFault),
+    /// The hash of the password costs more than the budget. It is no fault of the line alone.
+    #[error("{}", self.text())]
+    OverBudget,
 }
 
 impl LineFault {
@@ -65,6 +68,7 @@ impl LineFault {
             LineFault::NoPassword => "no password field",
             LineFault::Password(fault) => fault.text(),
             LineFault::Setting(fault) => fault.text(),
+            LineFault::OverBudget => "over budget",
         }
     }
 }
@@ -72,7 +76,7 @@ impl LineFault {
 /// The first thing that is wrong with a line, given without its line feed, or `None` where it gets an answer.
 ///
 /// A field that is empty or locked is right whatever else it has, and the password is looked at before the
-/// field. It takes no memory, and nothing is hashed.
+/// field. It takes no memory, and nothing is hashed. A budget is not looked at: `OverBudget` is never answered.
 pub fn inspect(kind: Kind, line: &[u8]) -> Option<LineFault>
     ensures sound { IfNone result (IsSound kind line.now) }
     ensures refused { IfSome result (IsLineRefused kind line.now) }

@@ -2,6 +2,7 @@
 //! that a run holds one line and one piece of its input, whatever that is.
 ghost use Rattle.std.specs.Prelude.{◌≡◌, ℕ, ◌^◌, ◌<◌, ◌≤◌, [], List, OnOk};
 ghost use Rattle.mkpasswd.specs.Devices.{HasRoomForRun, MovesBytes};
+ghost use Rattle.mkpasswd.specs.LineAnswers.{OnlyRefuses};
 ghost use Rattle.mkpasswd.specs.LineRuns.{EndsLines};
 ghost use Rattle.mkpasswd.specs.Private.Desks.{IsSameDesk, seen, with_input};
 ghost use Rattle.mkpasswd.specs.Private.LineEnds.{GoesOn, GoesToEnd, HasRoomToRead, IsAtInput, TakesTurnsOf, spare_fetch};
@@ -42,6 +43,10 @@ const PIECE_SIZE: usize = 512;
 /// A line that is refused gets `mkpasswd: line NUMBER: TEXT`, with the text of its [`LineFault`], and the run
 /// goes on. Both outputs are flushed at the end, and the tally counts the lines and those that were refused.
 ///
+/// With the job's `budget` a line is refused whose hash would cost more, by [`cost`](crypt_core::work::cost), once
+/// nothing else is wrong with it: nothing is hashed for it, no memory is asked for and no word is drawn. All other
+/// lines are answered as without a budget.
+///
 /// Conditions: `turns` is at most 2^40, each count of the meter at most 2^100, and the numbers of the devices at
 /// most 2^62. A run that can't go on answers a fault:
 ///
@@ -54,6 +59,7 @@ const PIECE_SIZE: usize = 512;
 ///   read, are answered whole, and of its answer a first part is given.
 ///
 /// [`LineFault`]: crate::line::LineFault
+#[tactic(auto, using(crate::proofs::Budgeting::only_refuses))]
 pub fn run_batch<I: Read, O: Write, E: Write, R: Rng>(
     alloc: Global,
     job: &Job,
@@ -73,6 +79,7 @@ pub fn run_batch<I: Read, O: Write, E: Write, R: Rng>(
     ensures within_turns { IsWithinTurns turns
         (hands input.old out.old faults.old (R.stream rng.old) meter.old)
         (hands input.new out.new faults.new (R.stream rng.new) meter.new) }
+    ensures budget { OnlyRefuses Batch job.now }
 {
     let kind = Kind::Batch;
     let mut desk = Desk::new(out, faults, rng, meter);
@@ -83,9 +90,10 @@ pub fn run_batch<I: Read, O: Write, E: Write, R: Rng>(
 /// `name:no`, `name:none` for an empty field or `name:locked` for one that begins with `!` or `*` to the output,
 /// or what is wrong with the line to the fault output.
 ///
-/// The password is all that follows the second colon. No word is drawn, and of the job only `work` has an effect:
-/// for `none` and `locked` the counts are four zeros. The tally counts the answers `no` too. Otherwise as
-/// [`run_batch`].
+/// The password is all that follows the second colon. No word is drawn, and of the job only `work` and `budget`
+/// have an effect: for `none` and `locked` the counts are four zeros, and they are never over budget. The tally
+/// counts the answers `no` too. Otherwise as [`run_batch`].
+#[tactic(auto, using(crate::proofs::Budgeting::only_refuses))]
 pub fn run_check<I: Read, O: Write, E: Write, R: Rng>(
     alloc: Global,
     job: &Job,
@@ -105,6 +113,7 @@ pub fn run_check<I: Read, O: Write, E: Write, R: Rng>(
     ensures within_turns { IsWithinTurns turns
         (hands input.old out.old faults.old (R.stream rng.old) meter.old)
         (hands input.new out.new faults.new (R.stream rng.new) meter.new) }
+    ensures budget { OnlyRefuses Check job.now }
 {
     let kind = Kind::Check;
     let mut desk = Desk::new(out, faults, rng, meter);

@@ -4,7 +4,7 @@
 ghost use Rattle.std.specs.Prelude.{◌≡◌, ◌↔◌, Err, IsOk, IfOk, IfErr, is_some, not};
 ghost use Rattle.crypt_core.specs.declared.setting.fault.MakeFault.{MakeFault as Fault};
 ghost use Rattle.crypt_core.specs.MadeSettings.{IsMakeable, made_setting};
-ghost use Rattle.mkpasswd.specs.Makers.{IsAccepted, IsRefused, bytes_of, made_salt_length, setting_by, words_for};
+ghost use Rattle.mkpasswd.specs.Makers.{IsAccepted, IsRefused, bytes_of, made_salt_length, next_setting, setting_by, words_for};
 
 use arrayvec::ArrayVec;
 use crypt_core::made_salt::{MADE_SALT_LIMIT, draw, salt_of};
@@ -83,7 +83,7 @@ impl Maker {
     /// The setting of the next hash. Three words are drawn where its salt has to be made, and none
     /// otherwise.
     pub(crate) fn next_setting<R: Rng>(&self, rng: &mut R) -> Setting
-        ensures setting { result ≡ setting_by self.now (words_for self.now (R.stream rng.old)).0 }
+        ensures setting { result ≡ next_setting self.now (R.stream rng.old) }
         ensures stream { R.stream rng.new ≡ (words_for self.now (R.stream rng.old)).1 }
     {
         let words = if self.draws() { draw(rng) } else { [0; 3] };

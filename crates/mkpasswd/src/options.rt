@@ -36,6 +36,7 @@ struct Given<'a> {
     batch: bool,
     check: bool,
     work: bool,
+    budget: Option<u64>,
     password: Option<&'a str>,
 }
 
@@ -71,6 +72,7 @@ pub fn plan(alloc: Global, words: &[String]) -> Result<Plan, UsageFault>
     let job = Job {
         maker,
         work: given.work,
+        budget: given.budget,
     };
     Ok(match mode {
         Mode::Word(password) => {
@@ -99,6 +101,7 @@ fn read_words<'a>(alloc: Global, words: &'a [String]) -> Result<Given<'a>, clap:
         batch: is_set(&matches, "batch"),
         check: is_set(&matches, "check"),
         work: is_set(&matches, "work"),
+        budget: matches.get_one("budget"),
         password: matches.get_str("password"),
     })
 }
@@ -189,6 +192,9 @@ fn command<'a>(alloc: Global) -> Result<Command<'a>, AllocError>
     let work = flag(alloc, "work").help(
         "Show what the hash cost: digests, bytes, mixings, bytes of table",
     );
+    let budget = option(alloc, "budget", "NUMBER")
+        .value_parser(value_parser!(u64))
+        .help("What the hash of a line may cost, by --batch and --check: bytes digested and mixed");
     let password = word(alloc, "password", "PASSWORD").help(
         "The password; without it, as by --stdin",
     );
@@ -205,6 +211,7 @@ fn command<'a>(alloc: Global) -> Result<Command<'a>, AllocError>
         .arg(batch)?
         .arg(check)?
         .arg(work)?
+        .arg(budget)?
         .arg(password)?
         .arg(salt_word)
 }

@@ -46,6 +46,27 @@ const BOUNDS: [(&str, usize, [u64; 5]); 13] = [
     ),
 ];
 
+// A setting, the length of a password, and what its hash costs at most.
+const COSTS: [(&str, usize, u64); 8] = [
+    ("$1$xxxxxxxx", 8, 36239),
+    ("$5$saltstring", 12, 307760),
+    ("$7$2/..../....", 0, 5044),
+    ("$7$86....E....NaCl", 8, 33_656_996),
+    (
+        "$7$C6..../....SodiumChloride",
+        13,
+        33_561_316,
+    ),
+    (
+        "$6$rounds=999999999$saltstringsaltst",
+        512,
+        1_025_524_081_584,
+    ),
+    // The most bytes that are mixed, and with them the most that are digested.
+    ("$7$J2..../....", 0, 2_147_486_948),
+    ("$7$/...E./....", 512, 5_435_818_660),
+];
+
 // Settings that are cheap to hash by, and the length of a password.
 const HASHED: [(&str, usize); 28] = [
     ("$1$", 0),
@@ -97,6 +118,13 @@ fn bounds(rt: HostRuntime) {
             counts,
             "{len} bytes by {text}"
         );
+    }
+}
+
+#[test]
+fn costs(rt: HostRuntime) {
+    for (text, len, number) in COSTS {
+        assert_eq!(rt; cost(&setting_of(&rt, text), len), number, "{len} bytes by {text}");
     }
 }
 

@@ -32,7 +32,7 @@ pub record IsNamed (line name : List ℕ) (back : Option (List ℕ)) : Type 0 wh
   pub cut : IsCutOrWhole line name back
   pub good : IsGoodName name
 
--- a refusal for another rule than that of the field, which is the last
+-- a refusal for a rule that comes before that of the field, the last one of a line alone
 abbrev pub IsBeforeField : LineFault → Type 0
 IsBeforeField fault = rule_number fault < 6
 

@@ -15,6 +15,7 @@ values_of given = record {
   batch = given.batch;
   check = given.check;
   work = given.work;
+  budget = given.budget;
   password = bytes_of given.password;
 }
 

@@ -2,24 +2,28 @@
 use Rattle.std.specs.Prelude.{◌≡◌, ◌≢◌, ℕ, ◌+◌, ◌-◌, ◌<◌, List, [], codes, Result, Ok, Err}
 use Rattle.prims_core.specs.Meter.{Counts}
 use Rattle.crypt_core.specs.Crypt.{crypt, IsRefusedBy}
-use Rattle.crypt_core.specs.Refusals.{IsRefused}
 use Rattle.crypt_core.specs.Settings.{Kept, Spells}
 use Rattle.crypt_core.specs.Work.{raised_by, work}
 use Rattle.crypt_core.specs.declared.fits.FitFault.{FitFault}
-use Rattle.crypt_core.specs.declared.fits.FitFault.TheVariants.{Setting, OutOfMemory}
+use Rattle.crypt_core.specs.declared.fits.FitFault.TheVariants.{Setting as NoSetting, OutOfMemory as NoMemory}
 use Rattle.crypt_core.specs.declared.hash.HashFault.{HashFault}
 use Rattle.prims_core.specs.declared.work.Work.{Work}
 use Rattle.mkpasswd.specs.Answers.{Answer, IsRefusedAmong, after_work}
+use Rattle.mkpasswd.specs.Budgets.{IsOver}
 use Rattle.mkpasswd.specs.LineAnswers.{verdict_text}
 use Rattle.mkpasswd.specs.Lines.{IsLocked, IsStored}
-use Rattle.mkpasswd.specs.Private.Entries.{IsGoodField}
+use Rattle.mkpasswd.specs.Private.Entries.{IsFieldRefused, IsGoodField}
 use Rattle.mkpasswd.specs.Tallies.{misfit_line, one_line, refused_line}
+use Rattle.mkpasswd.specs.declared.answer.Halt.{Halt}
+use Rattle.mkpasswd.specs.declared.answer.Halt.TheVariants.{Refused as HaltedBy, OutOfMemory}
 use Rattle.mkpasswd.specs.declared.answer.LineAnswer.{LineAnswer}
 use Rattle.mkpasswd.specs.declared.answer.Outcome.{Outcome}
 use Rattle.mkpasswd.specs.declared.answer.Outcome.TheVariants.{Answered, Misfit, Refused}
 use Rattle.mkpasswd.specs.declared.answer.Verdict.{Verdict}
 use Rattle.mkpasswd.specs.declared.answer.Verdict.TheVariants.{Fits, Differs, NoneStored, Locked}
 use Rattle.mkpasswd.specs.declared.job.Job.{Job}
+use Rattle.mkpasswd.specs.declared.line.LineFault.{LineFault}
+use Rattle.mkpasswd.specs.declared.line.LineFault.TheVariants.{Setting, OverBudget}
 use Rattle.mkpasswd.specs.declared.tally.Tally.{Tally}
 
 -- ---- outcomes
@@ -74,21 +78,34 @@ verdict_outcome Differs = Misfit
 verdict_outcome NoneStored = Answered
 verdict_outcome Locked = Answered
 
--- what a verdict says of a field and a password
-abbrev pub IsVerdict : List ℕ → List ℕ → Counts → Counts → Verdict → Type 0
-IsVerdict field password before after NoneStored = (field ≡ []) × (after ≡ before)
-IsVerdict field password before after Locked = IsLocked field × (after ≡ before)
-IsVerdict field password before after Fits =
-    (kept : Kept) × Spells field kept × (crypt password kept ≡ field) × (after ≡ raised_by before (work password kept))
-IsVerdict field password before after Differs =
-    (kept : Kept) × Spells field kept × (crypt password kept ≢ field) × (after ≡ raised_by before (work password kept))
+-- what a verdict says of a field and a password; a hash that is over budget isn't made for one
+abbrev pub IsVerdict : Job → List ℕ → List ℕ → Counts → Counts → Verdict → Type 0
+IsVerdict job field password before after NoneStored = (field ≡ []) × (after ≡ before)
+IsVerdict job field password before after Locked = IsLocked field × (after ≡ before)
+IsVerdict job field password before after Fits =
+    (kept : Kept) × Spells field kept × ¬ IsOver job kept password × (crypt password kept ≡ field)
+    × (after ≡ raised_by before (work password kept))
+IsVerdict job field password before after Differs =
+    (kept : Kept) × Spells field kept × ¬ IsOver job kept password × (crypt password kept ≢ field)
+    × (after ≡ raised_by before (work password kept))
 
--- a verdict; or the field has to be a stored text, and is refused as one, or memory for the hash was refused
-abbrev pub Judges : List ℕ → List ℕ → Counts → Counts → Result Verdict FitFault → Type 0
-Judges field password before after (Ok verdict) = IsGoodField field × IsVerdict field password before after verdict
-Judges field password before after (Err (Setting fault)) = IsStored field × IsRefused field fault × (after ≡ before)
-Judges field password before after (Err OutOfMemory) =
-    IsGoodField field × (kept : Kept) × Spells field kept × IsRefusedBy before kept.scheme after
+-- what stops `fits` stops the verdict
+abbrev pub halt_of : FitFault → Halt
+halt_of (NoSetting fault) = HaltedBy (Setting fault)
+halt_of NoMemory = OutOfMemory
+
+-- why a field gets no verdict: it has to be a stored text, and is refused as one, or the hash by it is over budget
+abbrev pub IsHalted : Job → List ℕ → List ℕ → LineFault → Type 0
+IsHalted job field password (Setting fault) = IsFieldRefused field fault
+IsHalted job field password OverBudget = IsGoodField field × (kept : Kept) × Spells field kept × IsOver job kept password
+IsHalted job field password fault = ⊥
+
+-- a verdict, or why there is none; or memory for the hash was refused
+abbrev pub Judges : Job → List ℕ → List ℕ → Counts → Counts → Result Verdict Halt → Type 0
+Judges job field password before after (Ok verdict) = IsGoodField field × IsVerdict job field password before after verdict
+Judges job field password before after (Err (HaltedBy fault)) = IsHalted job field password fault × (after ≡ before)
+Judges job field password before after (Err OutOfMemory) =
+    IsGoodField field × (kept : Kept) × Spells field kept × ¬ IsOver job kept password × IsRefusedBy before kept.scheme after
 
 -- by how much the counts have risen
 abbrev pub rise : Counts → Counts → Work
@@ -106,7 +123,7 @@ TellsVerdict job name before after verdict made =
     (made.outcome ≡ verdict_outcome verdict)
     × (made.text.items ≡ verdict_text job name (verdict_word verdict) (rise before after))
 
-abbrev pub Checks : Job → List ℕ → List ℕ → List ℕ → Counts → Counts → Result LineAnswer FitFault → Type 0
+abbrev pub Checks : Job → List ℕ → List ℕ → List ℕ → Counts → Counts → Result LineAnswer Halt → Type 0
 Checks job name field password before after (Ok made) =
-    (verdict : Verdict) × Judges field password before after (Ok verdict) × TellsVerdict job name before after verdict made
-Checks job name field password before after (Err fault) = Judges field password before after (Err fault)
+    (verdict : Verdict) × Judges job field password before after (Ok verdict) × TellsVerdict job name before after verdict made
+Checks job name field password before after (Err halt) = Judges job field password before after (Err halt)

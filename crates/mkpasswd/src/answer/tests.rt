@@ -148,7 +148,11 @@ const REFUSED_TO_CHECK: [Row<'static>; 3] = [
 // Hashes by md5crypt, or checks.
 fn job_with(salt: Option<&[u8]>, work: bool) -> Result<Job, MakeFault> {
     let maker = Maker::new(Method::Md5crypt, 0, salt)?;
-    Ok(Job { maker, work })
+    Ok(Job {
+        maker,
+        work,
+        budget: None,
+    })
 }
 
 // Answers each line on a meter and with words of its own, and wants what its row has, and this next word.
@@ -192,7 +196,11 @@ fn hashes_passwords(rt: HostRuntime) -> Result<(), Fail> {
 #[test]
 fn hashes_by_scrypt(rt: HostRuntime) -> Result<(), Fail> {
     let maker = Maker::new(Method::Scrypt, 0, Some(b"ab"))?;
-    let job = Job { maker, work: false };
+    let job = Job {
+        maker,
+        work: false,
+        budget: None,
+    };
     let text = b"ann:$7$CU..../....ab$TioQ/OazCAbGpb/E7e054xV/7lAamSWFPOGclTgvmt0\n";
     let rows: [Row<'_>; 1] = [(1, b"ann:x", Answered, text)];
     want(&rt, rt.alloc(), Kind::Batch, &job, &rows, FIRST_WORD);

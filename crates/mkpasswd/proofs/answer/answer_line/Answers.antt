@@ -1,4 +1,4 @@
-use Rattle.std.proofs.Common.{◌≡◌, ℕ, Bool, true, false, List, Some, None, Result, Ok, Err, codes, inl, refl, sym, ap, ◌∙◌, true≢false}
+use Rattle.std.proofs.Common.{◌≡◌, ℕ, Bool, true, false, List, length, Some, None, Result, Ok, Err, codes, inl, inr, refl, sym, ap, subst, ◌∙◌, true≢false}
 use Rattle.std.specs.Bool.{Decides}
 use Rattle.std.specs.Str.{bytes_eq}
 use Rattle.std.proofs.lemmas.Slice.Eq.{bytes_eq-Decides}
@@ -11,18 +11,22 @@ use Rattle.crypt_core.specs.declared.hash.HashFault.{HashFault}
 use Rattle.crypt_core.specs.declared.hash.HashFault.TheVariants.{OutOfMemory}
 use Rattle.prims_core.specs.declared.work.Work.{Work}
 use Rattle.mkpasswd.specs.Answers.{Answer, hashed_answer, no_work}
+use Rattle.mkpasswd.specs.Budgets.{IsAbove, IsOver}
 use Rattle.mkpasswd.specs.LineAnswers.{IsAnswer, HasSoundParts, compared_answer, front_of, refused_answer, unhashed_answer, verdict_text}
-use Rattle.mkpasswd.specs.LineAnswers.IsAnswer.{refused, hashed, none, locked, ok, no}
+use Rattle.mkpasswd.specs.LineAnswers.IsAnswer.{refused, over, hashed, none, locked, ok, no}
 use Rattle.mkpasswd.specs.Lines.{Parts}
+use Rattle.mkpasswd.specs.Makers.{next_setting, setting_by, words_for}
 use Rattle.mkpasswd.specs.Private.Entries.{IsEntry, IsGoodField, parts_of}
-use Rattle.mkpasswd.specs.Private.Made.{IsVerdict, Makes, TellsVerdict, rise, verdict_word}
+use Rattle.mkpasswd.specs.Private.Made.{IsHalted, IsVerdict, Makes, TellsVerdict, rise, verdict_word}
 use Rattle.mkpasswd.specs.Tallies.{misfit_line, one_line}
 use Rattle.mkpasswd.specs.declared.answer.LineAnswer.{LineAnswer}
 use Rattle.mkpasswd.specs.declared.answer.Verdict.{Verdict}
 use Rattle.mkpasswd.specs.declared.answer.Verdict.TheVariants.{Fits, Differs, NoneStored, Locked}
 use Rattle.mkpasswd.specs.declared.job.Job.{Job}
 use Rattle.mkpasswd.specs.declared.line.Kind.{Kind}
-use Rattle.mkpasswd.specs.declared.line.LineFault.TheVariants.{Setting}
+use Rattle.mkpasswd.specs.declared.line.LineFault.{LineFault}
+use Rattle.mkpasswd.specs.declared.line.LineFault.TheVariants.{Setting, OverBudget}
+use Rattle.mkpasswd.proofs.Drawing.{same_cost}
 use Rattle.mkpasswd.proofs.Counting.{rise-raised, rise-same}
 use Rattle.mkpasswd.proofs.LineRules.{refused_field, sound_with_field, sound_without_field}
 use Rattle.mkpasswd.proofs.answer.answer_line.Goals as goal
@@ -47,7 +51,7 @@ told job name before after verdict made work tells risen =
 
 verdict_is_answered : (kind : Kind) (job : Job) (number : ℕ) (line : List ℕ) (stream : Stream) (parts : Parts) (field : List ℕ) (before after : Counts)
     (verdict : Verdict) (made : LineAnswer) → HasSoundParts kind line parts → parts.field ≡ Some field
-    → IsVerdict field parts.password before after verdict → TellsVerdict job parts.name before after verdict made
+    → IsVerdict job field parts.password before after verdict → TellsVerdict job parts.name before after verdict made
     → IsAnswered kind job number line stream before after (Ok made)
 verdict_is_answered kind job number line stream parts field before after NoneStored made taken is judged tells =
     let text = told job parts.name before after NoneStored made no_work tells (rise-same before after judged.1) in (
@@ -65,39 +69,39 @@ verdict_is_answered kind job number line stream parts field before after Locked 
     )
 verdict_is_answered kind job number line stream parts field before after Fits made taken is judged tells =
     let kept = judged.0 in
-    let text = told job parts.name before after Fits made (work parts.password kept) tells (rise-raised before after (work parts.password kept) judged.3) in (
+    let text = told job parts.name before after Fits made (work parts.password kept) tells (rise-raised before after (work parts.password kept) judged.4) in (
       compared_answer job parts.name (codes "ok") parts.password kept one_line stream,
-      ok parts field kept taken is judged.1 judged.2 refl,
-      (rw tells.0 (record { text = text; fault_text = refl; tally = refl }), judged.3),
+      ok parts field kept taken is judged.1 judged.2 judged.3 refl,
+      (rw tells.0 (record { text = text; fault_text = refl; tally = refl }), judged.4),
       refl,
     )
 verdict_is_answered kind job number line stream parts field before after Differs made taken is judged tells =
     let kept = judged.0 in
-    let text = told job parts.name before after Differs made (work parts.password kept) tells (rise-raised before after (work parts.password kept) judged.3) in (
+    let text = told job parts.name before after Differs made (work parts.password kept) tells (rise-raised before after (work parts.password kept) judged.4) in (
       compared_answer job parts.name (codes "no") parts.password kept misfit_line stream,
-      no parts field kept taken is judged.1 judged.2 refl,
-      (rw tells.0 (record { text = text; fault_text = refl; tally = refl }), judged.3),
+      no parts field kept taken is judged.1 judged.2 judged.3 refl,
+      (rw tells.0 (record { text = text; fault_text = refl; tally = refl }), judged.4),
       refl,
     )
 
 -- where memory is refused, the answer is what its hash would have said
 refused_is_answered : (kind : Kind) (job : Job) (number : ℕ) (line : List ℕ) (stream : Stream) (parts : Parts) (field : List ℕ) (before after : Counts)
-    (kept : Kept) → HasSoundParts kind line parts → parts.field ≡ Some field → Spells field kept → IsRefusedBy before kept.scheme after
+    (kept : Kept) → HasSoundParts kind line parts → parts.field ≡ Some field → Spells field kept → ¬ IsOver job kept parts.password → IsRefusedBy before kept.scheme after
     → IsAnswered kind job number line stream before after (Err OutOfMemory)
-refused_is_answered kind job number line stream parts field before after kept taken is spelled without =
+refused_is_answered kind job number line stream parts field before after kept taken is spelled within without =
     go (bytes_eq (crypt parts.password kept) field) (bytes_eq-Decides (crypt parts.password kept) field)
   where
     go : (same : Bool) → Decides same (crypt parts.password kept ≡ field)
         → IsAnswered kind job number line stream before after (Err OutOfMemory)
     go true decides = (
       compared_answer job parts.name (codes "ok") parts.password kept one_line stream,
-      ok parts field kept taken is spelled (decides.0 refl) refl,
+      ok parts field kept taken is spelled within (decides.0 refl) refl,
       inl without,
       refl,
     )
     go false decides = (
       compared_answer job parts.name (codes "no") parts.password kept misfit_line stream,
-      no parts field kept taken is spelled (λ equal. true≢false (sym (decides.1 equal))) refl,
+      no parts field kept taken is spelled within (λ equal. true≢false (sym (decides.1 equal))) refl,
       inl without,
       refl,
     )
@@ -111,18 +115,63 @@ returns-in-Err-clause-answer g c =
       refl,
     )
 
+-- an entry without a field
+unfielded : (kind : Kind) (line : List ℕ) (parts : Parts) → IsEntry kind line parts → parts.field ≡ None → HasSoundParts kind line parts
+unfielded kind line parts entry lacks = record { sound = sound_without_field kind line parts entry lacks; cut = entry.cut }
+
+-- which words make its salt has no part in whether a setting is over budget
+over_by_any : (job : Job) (kept : Kept) (words others password : List ℕ) → kept ≡ setting_by job.maker words → IsOver job kept password
+    → IsOver job (setting_by job.maker others) password
+over_by_any job kept words others password is above =
+    subst (λ (n : ℕ). IsAbove job.budget n) (same_cost job.maker words others (length password)) (subst (λ (k : Kept). IsOver job k password) is above)
+
+within_by_any : (job : Job) (kept : Kept) (words others password : List ℕ) → kept ≡ setting_by job.maker words → ¬ IsOver job kept password
+    → ¬ IsOver job (setting_by job.maker others) password
+within_by_any job kept words others password is within above =
+    within (subst (λ (k : Kept). IsOver job k password) (sym is) (over_by_any job (setting_by job.maker others) others words password refl above))
+
+-- what stops a check refuses the line
+halted_is_answered : (kind : Kind) (job : Job) (number : ℕ) (line : List ℕ) (stream : Stream) (parts : Parts) (field : List ℕ) (fault : LineFault)
+    → IsEntry kind line parts → parts.field ≡ Some field → IsHalted job field parts.password fault
+    → IsAnswer kind job number line stream (refused_answer number fault stream)
+halted_is_answered kind job number line stream parts field (Setting fault) entry is halted =
+    refused (Setting fault) (refused_field kind line parts field fault entry is halted) refl
+halted_is_answered kind job number line stream parts field OverBudget entry is halted = over (record {
+  parts = parts;
+  kept = halted.1;
+  sound = entry_is_taken kind line parts field entry is halted.0;
+  hashed_by = inr (field, is, halted.2);
+  over = halted.3;
+}) refl
+halted_is_answered kind job number line stream parts field fault entry is halted = absurd halted
+
 pub returns-in-None-clause-answer : goal.returns-in-None-clause-answer
 returns-in-None-clause-answer g c =
-    let entry = c.in-Ok.entry in
-    let parts = parts_of entry in
+    let parts = parts_of c.in-Ok.entry in
     let stream = g.R.Rng.stream c.args.rng.now in
-    let field : parts.field ≡ None = rw c.in-None.is refl in
-    let taken : HasSoundParts c.args.task.kind c.args.line.now parts = record {
-      sound = sound_without_field c.args.task.kind c.args.line.now parts c.in-Ok.ensures.entry field;
-      cut = c.in-Ok.ensures.entry.cut;
-    } in (
+    let lacks : parts.field ≡ None = rw c.in-None.is refl in
+    let over_budget = over_by_any c.args.task.job.now c.setting.result _ (words_for c.args.task.job.now.maker stream).0 parts.password c.setting.ensures (c.is_over.ensures.0 c.if-is_over.true) in (
+      refused_answer c.args.number OverBudget stream,
+      over (record {
+        parts = parts;
+        kept = next_setting c.args.task.job.now.maker stream;
+        sound = unfielded c.args.task.kind c.args.line.now parts c.in-Ok.ensures.entry lacks;
+        hashed_by = inl (lacks, refl);
+        over = over_budget;
+      }) refl,
+      (c.refusal-in-None.ensures stream, refl),
+      refl,
+    )
+
+pub returns-in-None-2-clause-answer : goal.returns-in-None-2-clause-answer
+returns-in-None-2-clause-answer g c =
+    let parts = parts_of c.in-Ok.entry in
+    let stream = g.R.Rng.stream c.args.rng.now in
+    let lacks : parts.field ≡ None = rw c.in-None-2.is refl in
+    let within = within_by_any c.args.task.job.now c.setting.result _ (words_for c.args.task.job.now.maker stream).0 parts.password c.setting.ensures
+    (λ over_budget. true≢false (sym (c.is_over.ensures.1 over_budget) ∙ c.if-is_over.false)) in (
       hashed_answer c.args.task.job.now (front_of parts.name) parts.password stream,
-      hashed parts taken field refl,
+      hashed parts (unfielded c.args.task.kind c.args.line.now parts c.in-Ok.ensures.entry lacks) lacks within refl,
       c.hashed.ensures.answer,
       c.hashed.ensures.stream,
     )
@@ -136,16 +185,16 @@ returns-in-Ok-checked-clause-answer g c =
     verdict_is_answered c.args.task.kind c.args.task.job.now c.args.number c.args.line.now (g.R.Rng.stream c.args.rng.now) parts field c.args.meter.now c.checked.new.meter
     judged.0 c.in-Ok-checked.answer (entry_is_taken c.args.task.kind c.args.line.now parts field c.in-Ok.ensures.entry is judged.1.0) is judged.1.1 judged.2
 
-pub returns-in-Err-Setting-clause-answer : goal.returns-in-Err-Setting-clause-answer
-returns-in-Err-Setting-clause-answer g c =
+pub returns-in-Err-Refused-clause-answer : goal.returns-in-Err-Refused-clause-answer
+returns-in-Err-Refused-clause-answer g c =
     let parts = parts_of c.in-Ok.entry in
     let field = c.in-Some.field.now in
     let is : parts.field ≡ Some field = rw c.in-Some.is refl in
-    let judged = rw c.in-Err-Setting.field-0-is at c.in-Err-Setting.ensures.checks in
+    let judged = rw c.in-Err-Refused.field-0-is at c.in-Err-Refused.ensures.checks in
     let stream = g.R.Rng.stream c.args.rng.now in (
-      refused_answer c.args.number (Setting c.in-Err-Setting.fault) stream,
-      refused (Setting c.in-Err-Setting.fault) (refused_field c.args.task.kind c.args.line.now parts field c.in-Err-Setting.fault c.in-Ok.ensures.entry is (judged.0, judged.1)) refl,
-      (c.refusal-in-Err-Setting.ensures stream, judged.2),
+      refused_answer c.args.number c.in-Err-Refused.fault stream,
+      halted_is_answered c.args.task.kind c.args.task.job.now c.args.number c.args.line.now stream parts field c.in-Err-Refused.fault c.in-Ok.ensures.entry is judged.0,
+      (c.refusal-in-Err-Refused.ensures stream, judged.1),
       refl,
     )
 
@@ -156,4 +205,4 @@ returns-in-Err-OutOfMemory-clause-answer g c =
     let is : parts.field ≡ Some field = rw c.in-Some.is refl in
     let judged = rw c.in-Err-OutOfMemory.field-0-is at c.in-Err-OutOfMemory.ensures.checks in
     refused_is_answered c.args.task.kind c.args.task.job.now c.args.number c.args.line.now (g.R.Rng.stream c.args.rng.now) parts field c.args.meter.now c.checked.new.meter
-    judged.1 (entry_is_taken c.args.task.kind c.args.line.now parts field c.in-Ok.ensures.entry is judged.0) is judged.2 judged.3
+    judged.1 (entry_is_taken c.args.task.kind c.args.line.now parts field c.in-Ok.ensures.entry is judged.0) is judged.2 judged.3 judged.4

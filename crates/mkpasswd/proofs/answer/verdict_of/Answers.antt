@@ -1,26 +1,46 @@
-use Rattle.std.proofs.Common.{◌≡◌, ℕ, Bool, List, Result, Err}
+use Rattle.std.proofs.Common.{◌≡◌, ◌∙◌, ℕ, Bool, true≢false, List, Result, Ok, Err, subst, sym}
 use Rattle.std.proofs.lemmas.Result.{err_from_is_err_and}
 use Rattle.prims_core.specs.Meter.{Counts}
 use Rattle.crypt_core.specs.Fits.{Compares}
 use Rattle.crypt_core.specs.Refusals.{IsRefused}
+use Rattle.crypt_core.specs.Settings.{Kept, Spells}
 use Rattle.crypt_core.specs.declared.fits.FitFault.{FitFault}
 use Rattle.crypt_core.specs.declared.fits.FitFault.TheVariants.{Setting, OutOfMemory}
 use Rattle.crypt_core.specs.declared.setting.fault.SettingFault.{SettingFault}
+use Rattle.mkpasswd.specs.Budgets.{IsOver}
 use Rattle.mkpasswd.specs.Lines.{IsStored}
-use Rattle.mkpasswd.specs.Private.Made.{Judges}
+use Rattle.mkpasswd.specs.Private.Entries.{IsGoodField}
+use Rattle.mkpasswd.specs.Private.Made.{Judges, halt_of}
+use Rattle.mkpasswd.specs.declared.job.Job.{Job}
 use Rattle.mkpasswd.proofs.answer.verdict_of.Goals as goal
 
--- a field for which memory was refused is none that is refused as a setting
-fault_is_judged : (field password : List ℕ) (before after : Counts) (result : Result Bool FitFault) (fault : FitFault) → IsStored field
-    → result ≡ Err fault → Compares password field before after (Err fault)
-    → ((refusal : SettingFault) → IsRefused field refusal → result ≡ Err (Setting refusal))
-    → Judges field password before after (Err fault)
-fault_is_judged field password before after result (Setting refusal) stored was compares each = (stored, compares.0, compares.1)
-fault_is_judged field password before after result OutOfMemory stored was compares each =
-    (λ still refusal refused. absurd (cc (was, each refusal refused)), compares.0, compares.1, compares.2)
+-- a field that was read as a setting is good, and spells nothing else
+good_field : (field : List ℕ) (kept : Kept) (read : Result Kept SettingFault) → read ≡ Ok kept
+    → ((fault : SettingFault) → IsRefused field fault → read ≡ Err fault) → IsGoodField field
+good_field field kept read is each stored fault refused = let bad = each fault refused in cc
+
+only_setting : (field : List ℕ) (kept other : Kept) (read : Result Kept SettingFault) → read ≡ Ok kept
+    → ((spelled : Kept) → Spells field spelled → read ≡ Ok spelled) → Spells field other → kept ≡ other
+only_setting field kept other read is each spelled = let same = each other spelled in cc
+
+-- what stopped `fits`
+fault_is_judged : (job : Job) (field password : List ℕ) (before after : Counts) (fault : FitFault) → IsStored field → IsGoodField field
+    → ((other : Kept) → Spells field other → ¬ IsOver job other password) → Compares password field before after (Err fault)
+    → Judges job field password before after (Err (halt_of fault))
+fault_is_judged job field password before after (Setting refusal) stored good within compares = ((stored, compares.0), compares.1)
+fault_is_judged job field password before after OutOfMemory stored good within compares =
+    (good, compares.0, compares.1, within compares.0 compares.1, compares.2)
 
 pub returns-in_err-fits-in-Stored-clause-judges : goal.returns-in_err-fits-in-Stored-clause-judges
 returns-in_err-fits-in-Stored-clause-judges c =
-    let p = err_from_is_err_and c.from_residual.result c.from_residual.ensures.1 in
-    rw (p.1, p.2) (fault_is_judged c.args.field.now c.args.password.now c.args.meter.now c.fits.new.meter c.fits.result c.in_err-fits-in-Stored.field-0.0
-    c.in-Stored.ensures c.in_err-fits-in-Stored.was c.in_err-fits-in-Stored.ensures.compared c.fits.ensures.each_refusal)
+    let job = c.args.job.now in
+    let field = c.args.field.now in
+    let password = c.args.password.now in
+    let kept = c.in_ok-read-in-Stored.field-0 in
+    let good = good_field field kept c.read.result c.in_ok-read-in-Stored.was c.read.ensures.each_refusal in
+    let within : (other : Kept) → Spells field other → ¬ IsOver job other password = λ other spelled over.
+        let same = only_setting field kept other c.read.result c.in_ok-read-in-Stored.was c.read.ensures.each_setting spelled in
+        true≢false (sym (c.is_over.ensures.1 (subst (λ (k : Kept). IsOver job k password) (sym same) over)) ∙ c.if-is_over.false) in
+    let p = err_from_is_err_and c.from_residual-in_err-fits-in-Stored.result c.from_residual-in_err-fits-in-Stored.ensures.1 in
+    rw (p.1, p.2) (fault_is_judged job field password c.args.meter.now c.fits.new.meter c.in_err-fits-in-Stored.field-0.0
+    c.in-Stored.ensures good within c.in_err-fits-in-Stored.ensures.compared)

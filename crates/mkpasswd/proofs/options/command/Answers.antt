@@ -1,11 +1,11 @@
 -- The command is put together as its definition is: by its settings, and then by one argument after
 -- another.
 use Rattle.std.proofs.Common.{ℕ, Option, Some, true, false, ap, ap₂, codes, ◌≡◌, ◌∙◌}
-use Rattle.std.proofs.lemmas.Result.{IfOk-weaker}
+use Rattle.std.proofs.lemmas.Result.{IfOk-weaker, err_from_is_err_and}
 use Rattle.clap.specs.Simple.{App, app_of, app_of_fields, new_app, on_top, with_rule}
 use Rattle.clap.specs.Walk.{Rule, Text, rule_of}
 use Rattle.clap.specs.declared.builder.value_parser.ValueParser.{ValueParser}
-use Rattle.mkpasswd.specs.Options.{bare_command, batch_rule, check_rule, command, method_rule, password_rule, rounds_rule, salt_rule, salt_word_rule, stdin_rule, value_rule, work_rule}
+use Rattle.mkpasswd.specs.Options.{bare_command, batch_rule, budget_rule, check_rule, command, method_rule, password_rule, rounds_rule, salt_rule, salt_word_rule, stdin_rule, value_rule, work_rule}
 use Rattle.mkpasswd.proofs.options.command.Goals as goal
 
 abbrev versioned : App → App
@@ -43,6 +43,10 @@ returns c =
     let check_local : c.help-check.result.global ≡ false = rw c.help-check.ensures c.flag-3.ensures.local in
     let work_is : rule_of c.help-work.result ≡ work_rule = rw c.help-work.ensures c.flag-4.ensures.rule in
     let work_local : c.help-work.result.global ≡ false = rw c.help-work.ensures c.flag-4.ensures.local in
+    let budget_given = c.value_parser-4.ensures.given in
+    let budget_parser_is = budget_given.1 ∙ ap (λ (p : ValueParser). Some p) (budget_given.2 ∙ c.value_parser-3.ensures) in
+    let budget_is : rule_of c.help-budget.result ≡ budget_rule = rw c.help-budget.ensures (ap rule_of c.value_parser-4.ensures.others ∙ ap₂ with_parser_of c.option-4.ensures.rule budget_parser_is) in
+    let budget_local : c.help-budget.result.global ≡ false = rw (c.help-budget.ensures, c.value_parser-4.ensures.others) c.option-4.ensures.local in
     let password_is : rule_of c.help-password.result ≡ password_rule = rw c.help-password.ensures c.word.ensures.rule in
     let password_local : c.help-password.result.global ≡ false = rw c.help-password.ensures c.word.ensures.local in
     let salt_word_is : rule_of c.help-salt_word.result ≡ salt_word_rule = rw c.help-salt_word.ensures c.word-2.ensures.rule in
@@ -58,5 +62,10 @@ returns c =
     let five_is = c.in_ok-arg-5.ensures.shape batch_local ∙ ap₂ with_rule four_is batch_is in
     let six_is = c.in_ok-arg-6.ensures.shape check_local ∙ ap₂ with_rule five_is check_is in
     let seven_is = c.in_ok-arg-7.ensures.shape work_local ∙ ap₂ with_rule six_is work_is in
-    let eight_is = c.in_ok-arg-8.ensures.shape password_local ∙ ap₂ with_rule seven_is password_is in
-    IfOk-weaker c.arg-9.result _ _ (λ made added. added.shape salt_word_local ∙ ap₂ with_rule eight_is salt_word_is) c.arg-9.ensures
+    let eight_is = c.in_ok-arg-8.ensures.shape budget_local ∙ ap₂ with_rule seven_is budget_is in
+    let nine_is = c.in_ok-arg-9.ensures.shape password_local ∙ ap₂ with_rule eight_is password_is in
+    IfOk-weaker c.arg-10.result _ _ (λ made added. added.shape salt_word_local ∙ ap₂ with_rule nine_is salt_word_is) c.arg-10.ensures
+
+-- what `search` doesn't find among so many steps
+pub returns-in_err-arg-2 : goal.returns-in_err-arg-2
+returns-in_err-arg-2 c = rw (err_from_is_err_and c.from_residual-in_err-arg-2.result c.from_residual-in_err-arg-2.ensures.1).1 tt

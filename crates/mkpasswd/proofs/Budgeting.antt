@@ -1,0 +1,124 @@
+-- What a budget changes of the answers to lines, and that it changes nothing for a single password.
+use Rattle.std.proofs.Common.{◌≡◌, ℕ, ◌⊎◌, List, [], ◌++◌, Some, Result, Ok, Err, codes, slice_index, inl, inr, refl, subst, ◌∙◌, ap, arith}
+use Rattle.rand_core.specs.Stream.{Stream}
+use Rattle.crypt_core.specs.Methods.{prefix}
+use Rattle.crypt_core.specs.Settings.{BeginsWith, Kept, Spells, method_of}
+use Rattle.crypt_core.specs.declared.method.Method.{Method}
+use Rattle.crypt_core.specs.declared.method.Method.TheVariants.{Md5crypt, Sha256crypt, Sha512crypt, Scrypt}
+use Rattle.mkpasswd.specs.Answers.{Answer}
+use Rattle.mkpasswd.specs.Budgets.{without_budget}
+use Rattle.mkpasswd.specs.LineAnswers.{IsAnswer, IsCostly, OnlyRefuses, refused_answer}
+use Rattle.mkpasswd.specs.LineAnswers.IsAnswer.{refused, over, hashed, none, locked, ok, no}
+use Rattle.mkpasswd.specs.Lines.{HasParts, IsStored, Parts}
+use Rattle.mkpasswd.specs.Makers.{next_setting}
+use Rattle.mkpasswd.specs.One.{EndsBy, EndsByInput, EndsOne}
+use Rattle.mkpasswd.specs.Runs.{Hands, Tells}
+use Rattle.mkpasswd.specs.declared.fault.RunFault.{RunFault}
+use Rattle.mkpasswd.specs.declared.fault.RunFault.TheVariants.{Read, Write, OutOfMemory, Turns, Password}
+use Rattle.mkpasswd.specs.declared.job.Job.{Job}
+use Rattle.mkpasswd.specs.declared.job.PasswordFrom.{PasswordFrom}
+use Rattle.mkpasswd.specs.declared.job.PasswordFrom.TheVariants.{Word, Input}
+use Rattle.mkpasswd.specs.declared.line.Kind.{Kind}
+use Rattle.mkpasswd.specs.declared.line.LineFault.TheVariants.{OverBudget}
+use Rattle.mkpasswd.specs.declared.tally.Tally.{Tally}
+use Rattle.mkpasswd.proofs.Cuts.{parts_unique}
+
+-- ---- lines
+
+-- without a budget nothing is over it, so that an answer which isn't the refusal stands
+answer-without : (kind : Kind) (job : Job) (number : ℕ) (line : List ℕ) (stream : Stream) (answer : Answer) → IsAnswer kind job number line stream answer
+    → IsAnswer kind (without_budget job) number line stream answer
+    ⊎ (IsCostly kind job line stream × (answer ≡ refused_answer number OverBudget stream))
+answer-without kind job number line stream answer (refused fault breaks is) = inl (refused fault breaks is)
+answer-without kind job number line stream answer (over costly is) = inr (costly, is)
+answer-without kind job number line stream answer (hashed parts taken lacks within is) = inl (hashed parts taken lacks (λ above. above) is)
+answer-without kind job number line stream answer (none parts taken empty is) = inl (none parts taken empty is)
+answer-without kind job number line stream answer (locked parts field taken has is_locked is) = inl (locked parts field taken has is_locked is)
+answer-without kind job number line stream answer (ok parts field kept taken has spells within same is) = inl (ok parts field kept taken has spells (λ above. above) same is)
+answer-without kind job number line stream answer (no parts field kept taken has spells within differs is) = inl (no parts field kept taken has spells (λ above. above) differs is)
+
+-- a line that isn't costly is answered as without a budget
+answer-within : (kind : Kind) (job : Job) (number : ℕ) (line : List ℕ) (stream : Stream) (answer : Answer) → ¬ IsCostly kind job line stream
+    → IsAnswer kind (without_budget job) number line stream answer → IsAnswer kind job number line stream answer
+answer-within kind job number line stream answer cheap (refused fault breaks is) = refused fault breaks is
+answer-within kind job number line stream answer cheap (over costly is) = absurd costly.over
+answer-within kind job number line stream answer cheap (hashed parts taken lacks within is) =
+    hashed parts taken lacks (λ above. cheap (record { parts = parts; kept = next_setting job.maker stream; sound = taken; hashed_by = inl (lacks, refl); over = above })) is
+answer-within kind job number line stream answer cheap (none parts taken empty is) = none parts taken empty is
+answer-within kind job number line stream answer cheap (locked parts field taken has is_locked is) = locked parts field taken has is_locked is
+answer-within kind job number line stream answer cheap (ok parts field kept taken has spells within same is) =
+    ok parts field kept taken has spells (λ above. cheap (record { parts = parts; kept = kept; sound = taken; hashed_by = inr (field, has, spells); over = above })) same is
+answer-within kind job number line stream answer cheap (no parts field kept taken has spells within differs is) =
+    no parts field kept taken has spells (λ above. cheap (record { parts = parts; kept = kept; sound = taken; hashed_by = inr (field, has, spells); over = above })) differs is
+
+-- a text that spells a setting begins with a `$`
+first_of_prefix : (method : Method) (rest : List ℕ) → slice_index (prefix method ++ rest) 0 ≡ 36
+first_of_prefix Md5crypt rest = refl
+first_of_prefix Sha256crypt rest = refl
+first_of_prefix Sha512crypt rest = refl
+first_of_prefix Scrypt rest = refl
+
+first_is_dollar : (field : List ℕ) (kept : Kept) → Spells field kept → slice_index field 0 ≡ 36
+first_is_dollar field kept spells =
+    ap (λ (text : List ℕ). slice_index text 0) spells.scheme.parts ∙ first_of_prefix (method_of kept.scheme) (spells.scheme.part ++ (spells.field ++ spells.rest))
+
+begins_with : (field front : List ℕ) (first : ℕ) → ((rest : List ℕ) → slice_index (front ++ rest) 0 ≡ first) → BeginsWith field front → slice_index field 0 ≡ first
+begins_with field front first starts begins = ap (λ (text : List ℕ). slice_index text 0) begins.1 ∙ starts begins.0
+
+spelled-stored : (field : List ℕ) (kept : Kept) → Spells field kept → IsStored field
+spelled-stored field kept spells =
+    let dollar = first_is_dollar field kept spells in
+    record {
+      some = λ empty. let no_byte = ap (λ (text : List ℕ). slice_index text 0) empty in absurd (omega (arith, dollar, no_byte));
+      unlocked = λ is_locked. elim is_locked [
+        | inl bang ↦ let other = begins_with field (codes "!") 33 (λ rest. refl) bang in absurd (omega (arith, dollar, other))
+        | inr star ↦ let other = begins_with field (codes "*") 42 (λ rest. refl) star in absurd (omega (arith, dollar, other))
+      ];
+    }
+
+-- and a field that spells none has no cost
+unstored-cheap : (kind : Kind) (job : Job) (line : List ℕ) (stream : Stream) (parts : Parts) (field : List ℕ) → HasParts kind line parts
+    → parts.field ≡ Some field → ¬ IsStored field → ¬ IsCostly kind job line stream
+unstored-cheap kind job line stream parts field has is unstored costly =
+    let same = ap (λ (p : Parts). p.field) (parts_unique kind line costly.parts parts costly.sound.cut has) in
+    elim costly.hashed_by [
+      | inl lacks ↦ let bad = lacks.0 in cc
+      | inr spelled ↦
+          let fields : spelled.0 ≡ field = let own = spelled.1 in cc in
+          unstored (subst IsStored fields (spelled-stored spelled.0 costly.kept spelled.2))
+    ]
+
+pub only_refuses : (kind : Kind) (job : Job) → OnlyRefuses kind job
+only_refuses kind job = record {
+  answers = answer-without kind job;
+  others = answer-within kind job;
+  unhashed = unstored-cheap kind job;
+}
+
+-- ---- a single password
+
+module _ {I O E : Type 0} where
+  unbudgeted-by : (tells : Tells I O E) (turns : ℕ) (job : Job) (password : List ℕ) (old new : Hands I O E) (result : Result Tally RunFault)
+      → EndsBy tells turns job password old new result → EndsBy tells turns (without_budget job) password old new result
+  unbudgeted-by tells turns job password old new (Ok tally) ends = ends
+  unbudgeted-by tells turns job password old new (Err Read) ends = ends
+  unbudgeted-by tells turns job password old new (Err Write) ends = ends
+  unbudgeted-by tells turns job password old new (Err OutOfMemory) ends = ends
+  unbudgeted-by tells turns job password old new (Err Turns) ends = ends
+  unbudgeted-by tells turns job password old new (Err (Password fault)) ends = ends
+
+  unbudgeted-input : (tells : Tells I O E) (turns : ℕ) (job : Job) (bytes : List ℕ) (old new : Hands I O E) (result : Result Tally RunFault)
+      → EndsByInput tells turns job bytes old new result → EndsByInput tells turns (without_budget job) bytes old new result
+  unbudgeted-input tells turns job bytes old new (Ok tally) ends = ends
+  unbudgeted-input tells turns job bytes old new (Err Read) ends = ends
+  unbudgeted-input tells turns job bytes old new (Err Write) ends = ends
+  unbudgeted-input tells turns job bytes old new (Err OutOfMemory) ends = ends
+  unbudgeted-input tells turns job bytes old new (Err Turns) ends = ends
+  unbudgeted-input tells turns job bytes old new (Err (Password fault)) ends = ends
+
+  -- its run ends as without a budget
+  pub unbudgeted : (tells : Tells I O E) (turns : ℕ) (job : Job) (from : PasswordFrom) (old new : Hands I O E) (result : Result Tally RunFault)
+      → EndsOne tells turns job from old new result → EndsOne tells turns (without_budget job) from old new result
+  unbudgeted tells turns job (Word bytes) old new result ends = (ends.0, unbudgeted-by tells turns job bytes.items old new result ends.1)
+  unbudgeted tells turns job Input old new result ends =
+      (ends.0, ends.1, unbudgeted-input tells turns job ends.0 old new result ends.2)
