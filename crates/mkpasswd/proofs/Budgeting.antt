@@ -1,5 +1,5 @@
 -- What a budget changes of the answers to lines, and that it changes nothing for a single password.
-use Rattle.std.proofs.Common.{◌≡◌, ℕ, ◌⊎◌, List, [], ◌++◌, Some, Result, Ok, Err, codes, slice_index, inl, inr, refl, subst, ◌∙◌, ap, arith}
+use Rattle.std.proofs.Common.{◌≡◌, ℕ, ◌⊎◌, List, ◌++◌, Some, Result, Ok, Err, codes, slice_index, inl, inr, refl, subst, ◌∙◌, ap, arith}
 use Rattle.rand_core.specs.Stream.{Stream}
 use Rattle.crypt_core.specs.Methods.{prefix}
 use Rattle.crypt_core.specs.Settings.{BeginsWith, Kept, Spells, method_of}

@@ -47,8 +47,8 @@ lone zero id (rule ∷ rules) = list_all (λ other. not (bytes_eq other.id id)) 
 lone (suc k) id (rule ∷ rules) = not (bytes_eq rule.id id) && lone k id rules
 
 not_true : (b : Bool) → not b ≡ true → b ≡ true → ⊥
-not_true true no yes = true≢false (sym no)
-not_true false no yes = true≢false (sym yes)
+not_true true is_not is = true≢false (sym is_not)
+not_true false is_not is = true≢false (sym is)
 
 none_has : (id : Text) (rules : List Rule) → list_all (λ other. not (bytes_eq other.id id)) rules ≡ true
     → (j : ℕ) (z : Rule) → j < length rules → bytes_eq (slice_index_or rules j z).id id ≡ true → ⊥

@@ -11,7 +11,7 @@ use Rattle.prims_core.specs.declared.work.Work.{Work}
 use Rattle.mkpasswd.specs.Answers.{Answer, IsRefusedAmong, after_work}
 use Rattle.mkpasswd.specs.Budgets.{IsOver}
 use Rattle.mkpasswd.specs.LineAnswers.{verdict_text}
-use Rattle.mkpasswd.specs.Lines.{IsLocked, IsStored}
+use Rattle.mkpasswd.specs.Lines.{IsLocked}
 use Rattle.mkpasswd.specs.Private.Entries.{IsFieldRefused, IsGoodField}
 use Rattle.mkpasswd.specs.Tallies.{misfit_line, one_line, refused_line}
 use Rattle.mkpasswd.specs.declared.answer.Halt.{Halt}
