@@ -1,5 +1,6 @@
 -- What a budget changes of the answers to lines, and that it changes nothing for a single password.
-use Rattle.std.proofs.Common.{◌≡◌, ℕ, ◌⊎◌, List, ◌++◌, Some, Result, Ok, Err, codes, slice_index, inl, inr, refl, subst, ◌∙◌, ap, arith}
+use Rattle.std.proofs.Common.{◌≡◌, ℕ, List, [], ◌++◌, Some, Result, Ok, Err, codes, slice_index, inl, inr, refl, sym, subst, ◌∙◌, ap, arith}
+use Rattle.std.proofs.lemmas.Option.{none-some}
 use Rattle.rand_core.specs.Stream.{Stream}
 use Rattle.crypt_core.specs.Methods.{prefix}
 use Rattle.crypt_core.specs.Settings.{BeginsWith, Kept, Spells, method_of}
@@ -10,7 +11,6 @@ use Rattle.mkpasswd.specs.Budgets.{without_budget}
 use Rattle.mkpasswd.specs.LineAnswers.{IsAnswer, IsCostly, OnlyRefuses, refused_answer}
 use Rattle.mkpasswd.specs.LineAnswers.IsAnswer.{refused, over, hashed, none, locked, ok, no}
 use Rattle.mkpasswd.specs.Lines.{HasParts, IsStored, Parts}
-use Rattle.mkpasswd.specs.Makers.{next_setting}
 use Rattle.mkpasswd.specs.One.{EndsBy, EndsByInput, EndsOne}
 use Rattle.mkpasswd.specs.Runs.{Hands, Tells}
 use Rattle.mkpasswd.specs.declared.fault.RunFault.{RunFault}
@@ -25,31 +25,33 @@ use Rattle.mkpasswd.proofs.Cuts.{parts_unique}
 
 -- ---- lines
 
--- without a budget nothing is over it, so that an answer which isn't the refusal stands
-answer-without : (kind : Kind) (job : Job) (number : ℕ) (line : List ℕ) (stream : Stream) (answer : Answer) → IsAnswer kind job number line stream answer
-    → IsAnswer kind (without_budget job) number line stream answer
-    ⊎ (IsCostly kind job line stream × (answer ≡ refused_answer number OverBudget stream))
-answer-without kind job number line stream answer (refused fault breaks is) = inl (refused fault breaks is)
-answer-without kind job number line stream answer (over costly is) = inr (costly, is)
-answer-without kind job number line stream answer (hashed parts taken lacks within is) = inl (hashed parts taken lacks (λ above. above) is)
-answer-without kind job number line stream answer (none parts taken empty is) = inl (none parts taken empty is)
-answer-without kind job number line stream answer (locked parts field taken has is_locked is) = inl (locked parts field taken has is_locked is)
-answer-without kind job number line stream answer (ok parts field kept taken has spells within same is) = inl (ok parts field kept taken has spells (λ above. above) same is)
-answer-without kind job number line stream answer (no parts field kept taken has spells within differs is) = inl (no parts field kept taken has spells (λ above. above) differs is)
+-- without a budget no line is costly
+free : (kind : Kind) (job : Job) (line : List ℕ) (stream : Stream) → ¬ IsCostly kind (without_budget job) line stream
+free kind job line stream costly = costly.above
 
--- a line that isn't costly is answered as without a budget
+-- so each answer to one that isn't stands
+answer-without : (kind : Kind) (job : Job) (number : ℕ) (line : List ℕ) (stream : Stream) (answer : Answer) → ¬ IsCostly kind job line stream
+    → IsAnswer kind job number line stream answer → IsAnswer kind (without_budget job) number line stream answer
+answer-without kind job number line stream answer cheap (refused fault breaks is) = refused fault breaks is
+answer-without kind job number line stream answer cheap (over costly is) = absurd (cheap costly)
+answer-without kind job number line stream answer cheap (hashed parts taken lacks within is) = hashed parts taken lacks (free kind job line stream) is
+answer-without kind job number line stream answer cheap (none parts taken empty is) = none parts taken empty is
+answer-without kind job number line stream answer cheap (locked parts field taken has is_locked is) = locked parts field taken has is_locked is
+answer-without kind job number line stream answer cheap (ok parts field kept taken has spells within same is) =
+    ok parts field kept taken has spells (free kind job line stream) same is
+answer-without kind job number line stream answer cheap (no parts field kept taken has spells within differs is) =
+    no parts field kept taken has spells (free kind job line stream) differs is
+
+-- and the other way round
 answer-within : (kind : Kind) (job : Job) (number : ℕ) (line : List ℕ) (stream : Stream) (answer : Answer) → ¬ IsCostly kind job line stream
     → IsAnswer kind (without_budget job) number line stream answer → IsAnswer kind job number line stream answer
 answer-within kind job number line stream answer cheap (refused fault breaks is) = refused fault breaks is
-answer-within kind job number line stream answer cheap (over costly is) = absurd costly.over
-answer-within kind job number line stream answer cheap (hashed parts taken lacks within is) =
-    hashed parts taken lacks (λ above. cheap (record { parts = parts; kept = next_setting job.maker stream; sound = taken; hashed_by = inl (lacks, refl); over = above })) is
+answer-within kind job number line stream answer cheap (over costly is) = absurd costly.above
+answer-within kind job number line stream answer cheap (hashed parts taken lacks within is) = hashed parts taken lacks cheap is
 answer-within kind job number line stream answer cheap (none parts taken empty is) = none parts taken empty is
 answer-within kind job number line stream answer cheap (locked parts field taken has is_locked is) = locked parts field taken has is_locked is
-answer-within kind job number line stream answer cheap (ok parts field kept taken has spells within same is) =
-    ok parts field kept taken has spells (λ above. cheap (record { parts = parts; kept = kept; sound = taken; hashed_by = inr (field, has, spells); over = above })) same is
-answer-within kind job number line stream answer cheap (no parts field kept taken has spells within differs is) =
-    no parts field kept taken has spells (λ above. cheap (record { parts = parts; kept = kept; sound = taken; hashed_by = inr (field, has, spells); over = above })) differs is
+answer-within kind job number line stream answer cheap (ok parts field kept taken has spells within same is) = ok parts field kept taken has spells cheap same is
+answer-within kind job number line stream answer cheap (no parts field kept taken has spells within differs is) = no parts field kept taken has spells cheap differs is
 
 -- a text that spells a setting begins with a `$`
 first_of_prefix : (method : Method) (rest : List ℕ) → slice_index (prefix method ++ rest) 0 ≡ 36
@@ -80,18 +82,32 @@ spelled-stored field kept spells =
 unstored-cheap : (kind : Kind) (job : Job) (line : List ℕ) (stream : Stream) (parts : Parts) (field : List ℕ) → HasParts kind line parts
     → parts.field ≡ Some field → ¬ IsStored field → ¬ IsCostly kind job line stream
 unstored-cheap kind job line stream parts field has is unstored costly =
-    let same = ap (λ (p : Parts). p.field) (parts_unique kind line costly.parts parts costly.sound.cut has) in
-    elim costly.hashed_by [
-      | inl lacks ↦ let bad = lacks.0 in cc
+    let same = ap (λ (p : Parts). p.field) (parts_unique kind line costly.parts parts costly.taken.cut has) in
+    elim costly.cost [
+      | inl made ↦ absurd (none-some field (sym made.0 ∙ (same ∙ is)))
       | inr spelled ↦
-          let fields : spelled.0 ≡ field = let own = spelled.1 in cc in
-          unstored (subst IsStored fields (spelled-stored spelled.0 costly.kept spelled.2))
+          let fields : spelled.0 ≡ field = cc (spelled.2, same, is) in
+          unstored (subst IsStored fields (spelled-stored spelled.0 spelled.1 spelled.3))
     ]
+
+-- what breaks no rule and costs too much gets no answer but the refusal
+costly-refused : (kind : Kind) (job : Job) (number : ℕ) (line : List ℕ) (stream : Stream) (answer : Answer) → IsCostly kind job line stream
+    → IsAnswer kind job number line stream answer → answer ≡ refused_answer number OverBudget stream
+costly-refused kind job number line stream answer costly (refused fault breaks is) = absurd (costly.taken.sound fault breaks.breaks)
+costly-refused kind job number line stream answer costly (over other is) = is
+costly-refused kind job number line stream answer costly (hashed parts taken lacks cheap is) = absurd (cheap costly)
+costly-refused kind job number line stream answer costly (none parts taken empty is) =
+    absurd (unstored-cheap kind job line stream parts [] taken.cut empty (λ stored. stored.some refl) costly)
+costly-refused kind job number line stream answer costly (locked parts field taken has is_locked is) =
+    absurd (unstored-cheap kind job line stream parts field taken.cut has (λ stored. stored.unlocked is_locked) costly)
+costly-refused kind job number line stream answer costly (ok parts field kept taken has spells cheap same is) = absurd (cheap costly)
+costly-refused kind job number line stream answer costly (no parts field kept taken has spells cheap differs is) = absurd (cheap costly)
 
 pub only_refuses : (kind : Kind) (job : Job) → OnlyRefuses kind job
 only_refuses kind job = record {
-  answers = answer-without kind job;
-  others = answer-within kind job;
+  costly = costly-refused kind job;
+  others = λ number line stream answer cheap.
+      (answer-without kind job number line stream answer cheap, answer-within kind job number line stream answer cheap);
   unhashed = unstored-cheap kind job;
 }
 

@@ -1,12 +1,12 @@
 -- What is answered to one line, by the parts that it has.
-use Rattle.std.specs.Prelude.{◌≡◌, ◌≢◌, ℕ, ◌⊎◌, List, [], ◌∷◌, ◌++◌, codes, decimal, Some, None}
+use Rattle.std.specs.Prelude.{◌≡◌, ◌≢◌, ℕ, ◌⊎◌, ◌↔◌, List, [], ◌∷◌, ◌++◌, length, codes, decimal, Some, None}
 use Rattle.rand_core.specs.Stream.{Stream}
 use Rattle.crypt_core.specs.Crypt.{crypt}
 use Rattle.crypt_core.specs.Settings.{Kept, Spells}
-use Rattle.crypt_core.specs.Work.{work}
+use Rattle.crypt_core.specs.Work.{cost, work}
 use Rattle.prims_core.specs.declared.work.Work.{Work}
 use Rattle.mkpasswd.specs.Answers.{Answer, hashed_answer, no_work, wanted_text}
-use Rattle.mkpasswd.specs.Budgets.{IsOver, without_budget}
+use Rattle.mkpasswd.specs.Budgets.{IsAbove, without_budget}
 use Rattle.mkpasswd.specs.LineFaults.{line_fault_text}
 use Rattle.mkpasswd.specs.Lines.{Parts, HasParts, IsLineRefused, IsLocked, IsSound, IsStored}
 use Rattle.mkpasswd.specs.Makers.{next_setting}
@@ -69,23 +69,24 @@ pub record HasSoundParts (kind : Kind) (line : List ℕ) (parts : Parts) : Type 
   pub sound : IsSound kind line
   pub cut : HasParts kind line parts
 
--- the setting by which a password is hashed: the one that the job makes, where there is no field, or the one
--- that the field spells
-abbrev pub IsHashedBy : Job → Parts → Stream → Kept → Type 0
-IsHashedBy job parts stream kept =
-    ((parts.field ≡ None) × (kept ≡ next_setting job.maker stream))
-    ⊎ ((field : List ℕ) × (parts.field ≡ Some field) × Spells field kept)
+-- what hashing the password of these parts costs at most: by the setting that the job makes, where there is no
+-- field, or by the one that the field spells
+abbrev pub HasCost : Job → Parts → Stream → ℕ → Type 0
+HasCost job parts stream number =
+    ((parts.field ≡ None) × (number ≡ cost (next_setting job.maker stream) (length parts.password)))
+    ⊎ ((field : List ℕ) × (kept : Kept) × (parts.field ≡ Some field) × Spells field kept
+    × (number ≡ cost kept (length parts.password)))
 
--- the hash of a sound line's password is over budget
+-- a line that breaks no rule, and costs more than the budget
 pub record IsCostly (kind : Kind) (job : Job) (line : List ℕ) (stream : Stream) : Type 0 where
   pub parts : Parts
-  pub kept : Kept
-  pub sound : HasSoundParts kind line parts
-  pub hashed_by : IsHashedBy job parts stream kept
-  pub over : IsOver job kept parts.password
+  pub taken : HasSoundParts kind line parts
+  pub number : ℕ
+  pub cost : HasCost job parts stream number
+  pub above : IsAbove job.budget number
 
--- The answer to the line with this number. It is refused by the first rule that it breaks, or since its hash is
--- over budget. Else it has no field, and its password is hashed; or its field is empty, or locked, or spells a
+-- The answer to the line with this number. It is refused by the first rule that it breaks, or since it costs more
+-- than the budget. Else it has no field, and its password is hashed; or its field is empty, or locked, or spells a
 -- setting by which the password's hash is that field, or isn't.
 pub data IsAnswer (kind : Kind) (job : Job) (number : ℕ) (line : List ℕ) (stream : Stream) (answer : Answer) : Type 0 where
   refused : (fault : LineFault) → IsLineRefused kind line fault
@@ -95,7 +96,7 @@ pub data IsAnswer (kind : Kind) (job : Job) (number : ℕ) (line : List ℕ) (st
       → answer ≡ refused_answer number OverBudget stream
       → IsAnswer kind job number line stream answer
   hashed : (parts : Parts) → HasSoundParts kind line parts → parts.field ≡ None
-      → ¬ IsOver job (next_setting job.maker stream) parts.password
+      → ¬ IsCostly kind job line stream
       → answer ≡ hashed_answer job (front_of parts.name) parts.password stream
       → IsAnswer kind job number line stream answer
   none : (parts : Parts) → HasSoundParts kind line parts → parts.field ≡ Some []
@@ -105,25 +106,24 @@ pub data IsAnswer (kind : Kind) (job : Job) (number : ℕ) (line : List ℕ) (st
       → answer ≡ unhashed_answer job parts.name (codes "locked") stream
       → IsAnswer kind job number line stream answer
   ok : (parts : Parts) → (field : List ℕ) → (kept : Kept) → HasSoundParts kind line parts → parts.field ≡ Some field → Spells field kept
-      → ¬ IsOver job kept parts.password
+      → ¬ IsCostly kind job line stream
       → crypt parts.password kept ≡ field
       → answer ≡ compared_answer job parts.name (codes "ok") parts.password kept one_line stream
       → IsAnswer kind job number line stream answer
   no : (parts : Parts) → (field : List ℕ) → (kept : Kept) → HasSoundParts kind line parts → parts.field ≡ Some field → Spells field kept
-      → ¬ IsOver job kept parts.password
+      → ¬ IsCostly kind job line stream
       → crypt parts.password kept ≢ field
       → answer ≡ compared_answer job parts.name (codes "no") parts.password kept misfit_line stream
       → IsAnswer kind job number line stream answer
 
 -- ---- what a budget changes of them
 
--- An answer is the one without a budget, or a costly line's refusal; each line that isn't costly keeps its answer;
--- and no line is costly whose field is empty or locked.
+-- A costly line gets this refusal, and each other line the answer without a budget; no line is costly whose field
+-- is empty or locked.
 pub record OnlyRefuses (kind : Kind) (job : Job) : Type 0 where
-  pub answers : (number : ℕ) → (line : List ℕ) → (stream : Stream) → (answer : Answer) → IsAnswer kind job number line stream answer
-      → IsAnswer kind (without_budget job) number line stream answer
-      ⊎ (IsCostly kind job line stream × (answer ≡ refused_answer number OverBudget stream))
+  pub costly : (number : ℕ) → (line : List ℕ) → (stream : Stream) → (answer : Answer) → IsCostly kind job line stream
+      → IsAnswer kind job number line stream answer → answer ≡ refused_answer number OverBudget stream
   pub others : (number : ℕ) → (line : List ℕ) → (stream : Stream) → (answer : Answer) → ¬ IsCostly kind job line stream
-      → IsAnswer kind (without_budget job) number line stream answer → IsAnswer kind job number line stream answer
+      → IsAnswer kind job number line stream answer ↔ IsAnswer kind (without_budget job) number line stream answer
   pub unhashed : (line : List ℕ) → (stream : Stream) → (parts : Parts) → (field : List ℕ) → HasParts kind line parts
       → parts.field ≡ Some field → ¬ IsStored field → ¬ IsCostly kind job line stream

@@ -2,7 +2,7 @@
 ghost use Rattle.std.specs.Prelude.{◌≡◌, ◌+◌, ◌-◌, ◌*◌, ◌<◌, ◌≤◌, ◌++◌, length, IfOk, OnOk, OnErr};
 ghost use Rattle.arrayvec.specs.ArrayVec.{array_vec_len};
 ghost use Rattle.crypt_core.specs.Crypt.{IsRefusedBy};
-ghost use Rattle.crypt_core.specs.Work.{raised_by, work};
+ghost use Rattle.crypt_core.specs.Work.{cost, raised_by, work};
 ghost use Rattle.prims_core.specs.Meter.{HasRoom};
 ghost use Rattle.rand_core.specs.Stream.{Stream};
 ghost use Rattle.mkpasswd.specs.Answers.{Answer, count_text, counts_text, hash_text, hashed_answer};
@@ -21,6 +21,7 @@ use crypt_core::fits::{FitFault, fits};
 use crypt_core::hash::{HASH_LIMIT, HashFault, hash};
 use crypt_core::password::Password;
 use crypt_core::setting::{Setting, SettingFault};
+use crypt_core::work::cost;
 use itoa::Buffer;
 use prims_core::buffer::buffer_of;
 use prims_core::meter::Meter;
@@ -102,7 +103,7 @@ pub(crate) fn answer_line<R: Rng>(
         Err(fault) => return Ok(refusal(number, fault)),
     };
     match entry.field {
-        None if job.is_over(&job.maker.setting(ANY_WORDS), &entry.password) => {
+        None if job.is_over_budget(cost_of(&job.maker.setting(ANY_WORDS), &entry.password)) => {
             Ok(refusal(number, LineFault::OverBudget))
         }
         None => hashed(alloc, job, entry.name, &entry.password, rng, meter),
@@ -262,7 +263,7 @@ fn verdict_of(
         Field::Empty => Ok(Verdict::NoneStored),
         Field::Locked => Ok(Verdict::Locked),
         Field::Stored => {
-            if job.is_over(&Setting::read(field)?, password) {
+            if job.is_over_budget(cost_of(&Setting::read(field)?, password)) {
                 return Err(Halt::Refused(LineFault::OverBudget));
             }
             if fits(alloc, password, field, meter)? {
@@ -310,6 +311,13 @@ fn append_hash(
         append_counts(text, &before, &Shown::by(meter));
     }
     Ok(())
+}
+
+// What the hash of a password by a setting costs at most.
+fn cost_of(setting: &Setting, password: &Password) -> u64
+    ensures { result ≡ cost setting.now (length password.now) }
+{
+    cost(setting, password.bytes().len())
 }
 
 // Bytes for which there is room.

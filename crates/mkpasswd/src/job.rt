@@ -1,11 +1,8 @@
 //! What the program is asked to do.
 ghost use Rattle.std.specs.Prelude.{◌↔◌, IsTrue};
-ghost use Rattle.mkpasswd.specs.Budgets.{IsOver};
+ghost use Rattle.mkpasswd.specs.Budgets.{IsAbove};
 
 use crate::maker::Maker;
-use crypt_core::password::Password;
-use crypt_core::setting::Setting;
-use crypt_core::work::cost;
 
 /// What the words after the program's name ask for.
 #[derive(Drop)]
@@ -27,19 +24,16 @@ pub struct Job {
     pub maker: Maker,
     /// Whether each answer shows the counts of its work.
     pub work: bool,
-    /// What the hash of a line may cost, in the unit of [`cost`]. A single password has no budget.
+    /// What the hash of a line may cost, in the unit of [`cost`](crypt_core::work::cost). A single password has no budget.
     pub budget: Option<u64>,
 }
 
 impl Job {
-    /// Whether the hash of a password by a setting costs more than the budget. Without one nothing does.
-    pub(crate) fn is_over(&self, setting: &Setting, password: &Password) -> bool
-        ensures { IsTrue result ↔ IsOver self.now setting.now password.now }
+    /// Whether a cost is above the budget. Without one none is.
+    pub(crate) fn is_over_budget(&self, cost: u64) -> bool
+        ensures { IsTrue result ↔ IsAbove self.now.budget cost }
     {
-        match self.budget {
-            Some(budget) => cost(setting, password.bytes().len()) > budget,
-            None => false,
-        }
+        self.budget.is_some_and(|budget| cost > budget)
     }
 }
 

@@ -1,15 +1,15 @@
 -- How an answer to a line is made, before it is given to one of the outputs.
-use Rattle.std.specs.Prelude.{◌≡◌, ◌≢◌, ℕ, ◌+◌, ◌-◌, ◌<◌, List, [], codes, Result, Ok, Err}
+use Rattle.std.specs.Prelude.{◌≡◌, ◌≢◌, ℕ, ◌+◌, ◌-◌, ◌<◌, List, [], length, codes, Result, Ok, Err}
 use Rattle.prims_core.specs.Meter.{Counts}
 use Rattle.crypt_core.specs.Crypt.{crypt, IsRefusedBy}
 use Rattle.crypt_core.specs.Settings.{Kept, Spells}
-use Rattle.crypt_core.specs.Work.{raised_by, work}
+use Rattle.crypt_core.specs.Work.{cost, raised_by, work}
 use Rattle.crypt_core.specs.declared.fits.FitFault.{FitFault}
 use Rattle.crypt_core.specs.declared.fits.FitFault.TheVariants.{Setting as NoSetting, OutOfMemory as NoMemory}
 use Rattle.crypt_core.specs.declared.hash.HashFault.{HashFault}
 use Rattle.prims_core.specs.declared.work.Work.{Work}
 use Rattle.mkpasswd.specs.Answers.{Answer, IsRefusedAmong, after_work}
-use Rattle.mkpasswd.specs.Budgets.{IsOver}
+use Rattle.mkpasswd.specs.Budgets.{IsAbove}
 use Rattle.mkpasswd.specs.LineAnswers.{verdict_text}
 use Rattle.mkpasswd.specs.Lines.{IsLocked}
 use Rattle.mkpasswd.specs.Private.Entries.{IsFieldRefused, IsGoodField}
@@ -78,15 +78,19 @@ verdict_outcome Differs = Misfit
 verdict_outcome NoneStored = Answered
 verdict_outcome Locked = Answered
 
--- what a verdict says of a field and a password; a hash that is over budget isn't made for one
+-- a setting that the field spells costs no more than the budget
+abbrev pub IsWithinBudget : Job → List ℕ → List ℕ → Type 0
+IsWithinBudget job field password = (kept : Kept) → Spells field kept → ¬ IsAbove job.budget (cost kept (length password))
+
+-- what a verdict says of a field and a password
 abbrev pub IsVerdict : Job → List ℕ → List ℕ → Counts → Counts → Verdict → Type 0
 IsVerdict job field password before after NoneStored = (field ≡ []) × (after ≡ before)
 IsVerdict job field password before after Locked = IsLocked field × (after ≡ before)
 IsVerdict job field password before after Fits =
-    (kept : Kept) × Spells field kept × ¬ IsOver job kept password × (crypt password kept ≡ field)
+    (kept : Kept) × Spells field kept × IsWithinBudget job field password × (crypt password kept ≡ field)
     × (after ≡ raised_by before (work password kept))
 IsVerdict job field password before after Differs =
-    (kept : Kept) × Spells field kept × ¬ IsOver job kept password × (crypt password kept ≢ field)
+    (kept : Kept) × Spells field kept × IsWithinBudget job field password × (crypt password kept ≢ field)
     × (after ≡ raised_by before (work password kept))
 
 -- what stops `fits` stops the verdict
@@ -94,10 +98,10 @@ abbrev pub halt_of : FitFault → Halt
 halt_of (NoSetting fault) = HaltedBy (Setting fault)
 halt_of NoMemory = OutOfMemory
 
--- why a field gets no verdict: it has to be a stored text, and is refused as one, or the hash by it is over budget
+-- why a field gets no verdict: it has to be a stored text, and is refused as one, or costs more than the budget
 abbrev pub IsHalted : Job → List ℕ → List ℕ → LineFault → Type 0
 IsHalted job field password (Setting fault) = IsFieldRefused field fault
-IsHalted job field password OverBudget = IsGoodField field × (kept : Kept) × Spells field kept × IsOver job kept password
+IsHalted job field password OverBudget = IsGoodField field × (kept : Kept) × Spells field kept × IsAbove job.budget (cost kept (length password))
 IsHalted job field password fault = ⊥
 
 -- a verdict, or why there is none; or memory for the hash was refused
@@ -105,7 +109,7 @@ abbrev pub Judges : Job → List ℕ → List ℕ → Counts → Counts → Resu
 Judges job field password before after (Ok verdict) = IsGoodField field × IsVerdict job field password before after verdict
 Judges job field password before after (Err (HaltedBy fault)) = IsHalted job field password fault × (after ≡ before)
 Judges job field password before after (Err OutOfMemory) =
-    IsGoodField field × (kept : Kept) × Spells field kept × ¬ IsOver job kept password × IsRefusedBy before kept.scheme after
+    IsGoodField field × (kept : Kept) × Spells field kept × IsWithinBudget job field password × IsRefusedBy before kept.scheme after
 
 -- by how much the counts have risen
 abbrev pub rise : Counts → Counts → Work

@@ -1,23 +1,24 @@
 use Rattle.std.proofs.Common.{◌≡◌, ℕ, Bool, true, false, List, length, Some, None, Result, Ok, Err, codes, inl, inr, refl, sym, ap, subst, ◌∙◌, true≢false}
 use Rattle.std.specs.Bool.{Decides}
 use Rattle.std.specs.Str.{bytes_eq}
+use Rattle.std.proofs.lemmas.Option.{none-some}
 use Rattle.std.proofs.lemmas.Slice.Eq.{bytes_eq-Decides}
 use Rattle.rand_core.specs.Stream.{Stream}
 use Rattle.prims_core.specs.Meter.{Counts}
 use Rattle.crypt_core.specs.Crypt.{crypt, IsRefusedBy}
 use Rattle.crypt_core.specs.Settings.{Kept, Spells}
-use Rattle.crypt_core.specs.Work.{work}
+use Rattle.crypt_core.specs.Work.{cost, work}
 use Rattle.crypt_core.specs.declared.hash.HashFault.{HashFault}
 use Rattle.crypt_core.specs.declared.hash.HashFault.TheVariants.{OutOfMemory}
 use Rattle.prims_core.specs.declared.work.Work.{Work}
 use Rattle.mkpasswd.specs.Answers.{Answer, hashed_answer, no_work}
-use Rattle.mkpasswd.specs.Budgets.{IsAbove, IsOver}
-use Rattle.mkpasswd.specs.LineAnswers.{IsAnswer, HasSoundParts, compared_answer, front_of, refused_answer, unhashed_answer, verdict_text}
+use Rattle.mkpasswd.specs.Budgets.{IsAbove}
+use Rattle.mkpasswd.specs.LineAnswers.{IsAnswer, IsCostly, HasSoundParts, compared_answer, front_of, refused_answer, unhashed_answer, verdict_text}
 use Rattle.mkpasswd.specs.LineAnswers.IsAnswer.{refused, over, hashed, none, locked, ok, no}
-use Rattle.mkpasswd.specs.Lines.{Parts}
+use Rattle.mkpasswd.specs.Lines.{HasParts, Parts}
 use Rattle.mkpasswd.specs.Makers.{next_setting, setting_by, words_for}
 use Rattle.mkpasswd.specs.Private.Entries.{IsEntry, IsGoodField, parts_of}
-use Rattle.mkpasswd.specs.Private.Made.{IsHalted, IsVerdict, Makes, TellsVerdict, rise, verdict_word}
+use Rattle.mkpasswd.specs.Private.Made.{IsHalted, IsWithinBudget, IsVerdict, Makes, TellsVerdict, rise, verdict_word}
 use Rattle.mkpasswd.specs.Tallies.{misfit_line, one_line}
 use Rattle.mkpasswd.specs.declared.answer.LineAnswer.{LineAnswer}
 use Rattle.mkpasswd.specs.declared.answer.Verdict.{Verdict}
@@ -26,6 +27,7 @@ use Rattle.mkpasswd.specs.declared.job.Job.{Job}
 use Rattle.mkpasswd.specs.declared.line.Kind.{Kind}
 use Rattle.mkpasswd.specs.declared.line.LineFault.{LineFault}
 use Rattle.mkpasswd.specs.declared.line.LineFault.TheVariants.{Setting, OverBudget}
+use Rattle.mkpasswd.proofs.Cuts.{parts_unique}
 use Rattle.mkpasswd.proofs.Drawing.{same_cost}
 use Rattle.mkpasswd.proofs.Counting.{rise-raised, rise-same}
 use Rattle.mkpasswd.proofs.LineRules.{refused_field, sound_with_field, sound_without_field}
@@ -42,6 +44,44 @@ entry_is_taken kind line parts field entry is good = record {
   sound = sound_with_field kind line parts field entry is good;
   cut = entry.cut;
 }
+
+-- ---- what a line costs
+
+-- an entry without a field
+unfielded : (kind : Kind) (line : List ℕ) (parts : Parts) → IsEntry kind line parts → parts.field ≡ None → HasSoundParts kind line parts
+unfielded kind line parts entry lacks = record { sound = sound_without_field kind line parts entry lacks; cut = entry.cut }
+
+-- which words make its salt has no part in what it costs
+cost_by_any : (job : Job) (kept : Kept) (words : List ℕ) (stream : Stream) (password : List ℕ) → kept ≡ setting_by job.maker words
+    → cost kept (length password) ≡ cost (next_setting job.maker stream) (length password)
+cost_by_any job kept words stream password is =
+    ap (λ (k : Kept). cost k (length password)) is ∙ same_cost job.maker words (words_for job.maker stream).0 (length password)
+
+cheap_unfielded : (kind : Kind) (job : Job) (line : List ℕ) (stream : Stream) (parts : Parts) → HasParts kind line parts → parts.field ≡ None
+    → ¬ IsAbove job.budget (cost (next_setting job.maker stream) (length parts.password)) → ¬ IsCostly kind job line stream
+cheap_unfielded kind job line stream parts has lacks within costly =
+    let same = parts_unique kind line costly.parts parts costly.taken.cut has in
+    elim costly.cost [
+      | inl made ↦ within (subst (λ (n : ℕ). IsAbove job.budget n)
+      (made.1 ∙ ap (λ (p : Parts). cost (next_setting job.maker stream) (length p.password)) same) costly.above)
+      | inr spelled ↦ absurd (none-some spelled.0 (sym lacks ∙ (sym (ap (λ (p : Parts). p.field) same) ∙ spelled.2)))
+    ]
+
+-- a field costs what a setting that it spells does
+cheap_field : (kind : Kind) (job : Job) (line : List ℕ) (stream : Stream) (parts : Parts) (field : List ℕ) → HasSoundParts kind line parts
+    → parts.field ≡ Some field → IsWithinBudget job field parts.password → ¬ IsCostly kind job line stream
+cheap_field kind job line stream parts field taken is within costly =
+    let same = parts_unique kind line costly.parts parts costly.taken.cut taken.cut in
+    let other = ap (λ (p : Parts). p.field) same in
+    elim costly.cost [
+      | inl made ↦ absurd (none-some field (sym made.0 ∙ (other ∙ is)))
+      | inr spelled ↦
+          let fields : spelled.0 ≡ field = cc (spelled.2, other, is) in
+          within spelled.1 (subst (λ (f : List ℕ). Spells f spelled.1) fields spelled.3) (subst (λ (n : ℕ). IsAbove job.budget n)
+          (spelled.4 ∙ ap (λ (p : Parts). cost spelled.1 (length p.password)) same) costly.above)
+    ]
+
+-- ---- what is answered
 
 -- the counts that are told are those of the work behind the verdict
 told : (job : Job) (name : List ℕ) (before after : Counts) (verdict : Verdict) (made : LineAnswer) (work : Work) → TellsVerdict job name before after verdict made
@@ -71,7 +111,7 @@ verdict_is_answered kind job number line stream parts field before after Fits ma
     let kept = judged.0 in
     let text = told job parts.name before after Fits made (work parts.password kept) tells (rise-raised before after (work parts.password kept) judged.4) in (
       compared_answer job parts.name (codes "ok") parts.password kept one_line stream,
-      ok parts field kept taken is judged.1 judged.2 judged.3 refl,
+      ok parts field kept taken is judged.1 (cheap_field kind job line stream parts field taken is judged.2) judged.3 refl,
       (rw tells.0 (record { text = text; fault_text = refl; tally = refl }), judged.4),
       refl,
     )
@@ -79,29 +119,32 @@ verdict_is_answered kind job number line stream parts field before after Differs
     let kept = judged.0 in
     let text = told job parts.name before after Differs made (work parts.password kept) tells (rise-raised before after (work parts.password kept) judged.4) in (
       compared_answer job parts.name (codes "no") parts.password kept misfit_line stream,
-      no parts field kept taken is judged.1 judged.2 judged.3 refl,
+      no parts field kept taken is judged.1 (cheap_field kind job line stream parts field taken is judged.2) judged.3 refl,
       (rw tells.0 (record { text = text; fault_text = refl; tally = refl }), judged.4),
       refl,
     )
 
 -- where memory is refused, the answer is what its hash would have said
 refused_is_answered : (kind : Kind) (job : Job) (number : ℕ) (line : List ℕ) (stream : Stream) (parts : Parts) (field : List ℕ) (before after : Counts)
-    (kept : Kept) → HasSoundParts kind line parts → parts.field ≡ Some field → Spells field kept → ¬ IsOver job kept parts.password → IsRefusedBy before kept.scheme after
+    (kept : Kept) → HasSoundParts kind line parts → parts.field ≡ Some field → Spells field kept → IsWithinBudget job field parts.password → IsRefusedBy before kept.scheme after
     → IsAnswered kind job number line stream before after (Err OutOfMemory)
 refused_is_answered kind job number line stream parts field before after kept taken is spelled within without =
     go (bytes_eq (crypt parts.password kept) field) (bytes_eq-Decides (crypt parts.password kept) field)
   where
+    cheap : ¬ IsCostly kind job line stream
+    cheap = cheap_field kind job line stream parts field taken is within
+
     go : (same : Bool) → Decides same (crypt parts.password kept ≡ field)
         → IsAnswered kind job number line stream before after (Err OutOfMemory)
     go true decides = (
       compared_answer job parts.name (codes "ok") parts.password kept one_line stream,
-      ok parts field kept taken is spelled within (decides.0 refl) refl,
+      ok parts field kept taken is spelled cheap (decides.0 refl) refl,
       inl without,
       refl,
     )
     go false decides = (
       compared_answer job parts.name (codes "no") parts.password kept misfit_line stream,
-      no parts field kept taken is spelled within (λ equal. true≢false (sym (decides.1 equal))) refl,
+      no parts field kept taken is spelled cheap (λ equal. true≢false (sym (decides.1 equal))) refl,
       inl without,
       refl,
     )
@@ -115,21 +158,6 @@ returns-in-Err-clause-answer g c =
       refl,
     )
 
--- an entry without a field
-unfielded : (kind : Kind) (line : List ℕ) (parts : Parts) → IsEntry kind line parts → parts.field ≡ None → HasSoundParts kind line parts
-unfielded kind line parts entry lacks = record { sound = sound_without_field kind line parts entry lacks; cut = entry.cut }
-
--- which words make its salt has no part in whether a setting is over budget
-over_by_any : (job : Job) (kept : Kept) (words others password : List ℕ) → kept ≡ setting_by job.maker words → IsOver job kept password
-    → IsOver job (setting_by job.maker others) password
-over_by_any job kept words others password is above =
-    subst (λ (n : ℕ). IsAbove job.budget n) (same_cost job.maker words others (length password)) (subst (λ (k : Kept). IsOver job k password) is above)
-
-within_by_any : (job : Job) (kept : Kept) (words others password : List ℕ) → kept ≡ setting_by job.maker words → ¬ IsOver job kept password
-    → ¬ IsOver job (setting_by job.maker others) password
-within_by_any job kept words others password is within above =
-    within (subst (λ (k : Kept). IsOver job k password) (sym is) (over_by_any job (setting_by job.maker others) others words password refl above))
-
 -- what stops a check refuses the line
 halted_is_answered : (kind : Kind) (job : Job) (number : ℕ) (line : List ℕ) (stream : Stream) (parts : Parts) (field : List ℕ) (fault : LineFault)
     → IsEntry kind line parts → parts.field ≡ Some field → IsHalted job field parts.password fault
@@ -138,26 +166,27 @@ halted_is_answered kind job number line stream parts field (Setting fault) entry
     refused (Setting fault) (refused_field kind line parts field fault entry is halted) refl
 halted_is_answered kind job number line stream parts field OverBudget entry is halted = over (record {
   parts = parts;
-  kept = halted.1;
-  sound = entry_is_taken kind line parts field entry is halted.0;
-  hashed_by = inr (field, is, halted.2);
-  over = halted.3;
+  taken = entry_is_taken kind line parts field entry is halted.0;
+  number = cost halted.1 (length parts.password);
+  cost = inr (field, halted.1, is, halted.2, refl);
+  above = halted.3;
 }) refl
 halted_is_answered kind job number line stream parts field fault entry is halted = absurd halted
 
 pub returns-in-None-clause-answer : goal.returns-in-None-clause-answer
 returns-in-None-clause-answer g c =
+    let job = c.args.task.job.now in
     let parts = parts_of c.in-Ok.entry in
     let stream = g.R.Rng.stream c.args.rng.now in
     let lacks : parts.field ≡ None = rw c.in-None.is refl in
-    let over_budget = over_by_any c.args.task.job.now c.setting.result _ (words_for c.args.task.job.now.maker stream).0 parts.password c.setting.ensures (c.is_over.ensures.0 c.if-is_over.true) in (
+    let priced = c.cost_of.ensures ∙ cost_by_any job c.setting.result _ stream parts.password c.setting.ensures in (
       refused_answer c.args.number OverBudget stream,
       over (record {
         parts = parts;
-        kept = next_setting c.args.task.job.now.maker stream;
-        sound = unfielded c.args.task.kind c.args.line.now parts c.in-Ok.ensures.entry lacks;
-        hashed_by = inl (lacks, refl);
-        over = over_budget;
+        taken = unfielded c.args.task.kind c.args.line.now parts c.in-Ok.ensures.entry lacks;
+        number = c.cost_of.result;
+        cost = inl (lacks, priced);
+        above = c.is_over_budget.ensures.0 c.if-is_over_budget.true;
       }) refl,
       (c.refusal-in-None.ensures stream, refl),
       refl,
@@ -165,13 +194,16 @@ returns-in-None-clause-answer g c =
 
 pub returns-in-None-2-clause-answer : goal.returns-in-None-2-clause-answer
 returns-in-None-2-clause-answer g c =
+    let job = c.args.task.job.now in
     let parts = parts_of c.in-Ok.entry in
     let stream = g.R.Rng.stream c.args.rng.now in
     let lacks : parts.field ≡ None = rw c.in-None-2.is refl in
-    let within = within_by_any c.args.task.job.now c.setting.result _ (words_for c.args.task.job.now.maker stream).0 parts.password c.setting.ensures
-    (λ over_budget. true≢false (sym (c.is_over.ensures.1 over_budget) ∙ c.if-is_over.false)) in (
-      hashed_answer c.args.task.job.now (front_of parts.name) parts.password stream,
-      hashed parts (unfielded c.args.task.kind c.args.line.now parts c.in-Ok.ensures.entry lacks) lacks within refl,
+    let taken = unfielded c.args.task.kind c.args.line.now parts c.in-Ok.ensures.entry lacks in
+    let priced = c.cost_of.ensures ∙ cost_by_any job c.setting.result _ stream parts.password c.setting.ensures in
+    let within = λ (above : IsAbove job.budget (cost (next_setting job.maker stream) (length parts.password))).
+        true≢false (sym (c.is_over_budget.ensures.1 (subst (λ (n : ℕ). IsAbove job.budget n) (sym priced) above)) ∙ c.if-is_over_budget.false) in (
+      hashed_answer job (front_of parts.name) parts.password stream,
+      hashed parts taken lacks (cheap_unfielded c.args.task.kind job c.args.line.now stream parts taken.cut lacks within) refl,
       c.hashed.ensures.answer,
       c.hashed.ensures.stream,
     )

@@ -1,16 +1,18 @@
-use Rattle.std.proofs.Common.{◌≡◌, ◌∙◌, ℕ, true≢false, List, Result, Ok, Err, subst, sym}
+use Rattle.std.proofs.Common.{◌≡◌, ◌∙◌, ◌↔◌, ℕ, Bool, false, true≢false, List, length, Result, Ok, Err, subst, sym}
+use Rattle.std.specs.Prelude.{IsTrue}
 use Rattle.std.proofs.lemmas.Result.{err_from_is_err_and}
 use Rattle.prims_core.specs.Meter.{Counts}
 use Rattle.crypt_core.specs.Fits.{Compares}
 use Rattle.crypt_core.specs.Refusals.{IsRefused}
 use Rattle.crypt_core.specs.Settings.{Kept, Spells}
+use Rattle.crypt_core.specs.Work.{cost}
 use Rattle.crypt_core.specs.declared.fits.FitFault.{FitFault}
 use Rattle.crypt_core.specs.declared.fits.FitFault.TheVariants.{Setting, OutOfMemory}
 use Rattle.crypt_core.specs.declared.setting.fault.SettingFault.{SettingFault}
-use Rattle.mkpasswd.specs.Budgets.{IsOver}
+use Rattle.mkpasswd.specs.Budgets.{IsAbove}
 use Rattle.mkpasswd.specs.Lines.{IsStored}
 use Rattle.mkpasswd.specs.Private.Entries.{IsGoodField}
-use Rattle.mkpasswd.specs.Private.Made.{Judges, halt_of}
+use Rattle.mkpasswd.specs.Private.Made.{IsWithinBudget, Judges, halt_of}
 use Rattle.mkpasswd.specs.declared.job.Job.{Job}
 use Rattle.mkpasswd.proofs.answer.verdict_of.Goals as goal
 
@@ -23,13 +25,21 @@ only_setting : (field : List ℕ) (kept other : Kept) (read : Result Kept Settin
     → ((spelled : Kept) → Spells field spelled → read ≡ Ok spelled) → Spells field other → kept ≡ other
 only_setting field kept other read is each spelled = let same = each other spelled in cc
 
+-- it costs what was compared with the budget
+within_budget : (job : Job) (field password : List ℕ) (kept : Kept) (read : Result Kept SettingFault) (over : Bool) → read ≡ Ok kept
+    → ((spelled : Kept) → Spells field spelled → read ≡ Ok spelled) → over ≡ false
+    → IsTrue over ↔ IsAbove job.budget (cost kept (length password)) → IsWithinBudget job field password
+within_budget job field password kept read over is each not_over tests other spelled above =
+    let same = only_setting field kept other read is each spelled in
+    true≢false (sym (tests.1 (subst (λ (k : Kept). IsAbove job.budget (cost k (length password))) (sym same) above)) ∙ not_over)
+
 -- what stopped `fits`
 fault_is_judged : (job : Job) (field password : List ℕ) (before after : Counts) (fault : FitFault) → IsStored field → IsGoodField field
-    → ((other : Kept) → Spells field other → ¬ IsOver job other password) → Compares password field before after (Err fault)
+    → IsWithinBudget job field password → Compares password field before after (Err fault)
     → Judges job field password before after (Err (halt_of fault))
 fault_is_judged job field password before after (Setting refusal) stored good within compares = ((stored, compares.0), compares.1)
 fault_is_judged job field password before after OutOfMemory stored good within compares =
-    (good, compares.0, compares.1, within compares.0 compares.1, compares.2)
+    (good, compares.0, compares.1, within, compares.2)
 
 pub returns-in_err-fits-in-Stored-clause-judges : goal.returns-in_err-fits-in-Stored-clause-judges
 returns-in_err-fits-in-Stored-clause-judges c =
@@ -38,9 +48,8 @@ returns-in_err-fits-in-Stored-clause-judges c =
     let password = c.args.password.now in
     let kept = c.in_ok-read-in-Stored.field-0 in
     let good = good_field field kept c.read.result c.in_ok-read-in-Stored.was c.read.ensures.each_refusal in
-    let within : (other : Kept) → Spells field other → ¬ IsOver job other password = λ other spelled over.
-        let same = only_setting field kept other c.read.result c.in_ok-read-in-Stored.was c.read.ensures.each_setting spelled in
-        true≢false (sym (c.is_over.ensures.1 (subst (λ (k : Kept). IsOver job k password) (sym same) over)) ∙ c.if-is_over.false) in
+    let tests = rw c.cost_of.ensures at c.is_over_budget.ensures in
+    let within = within_budget job field password kept c.read.result c.is_over_budget.result c.in_ok-read-in-Stored.was c.read.ensures.each_setting c.if-is_over_budget.false tests in
     let p = err_from_is_err_and c.from_residual-in_err-fits-in-Stored.result c.from_residual-in_err-fits-in-Stored.ensures.1 in
     rw (p.1, p.2) (fault_is_judged job field password c.args.meter.now c.fits.new.meter c.in_err-fits-in-Stored.field-0.0
     c.in-Stored.ensures good within c.in_err-fits-in-Stored.ensures.compared)
