@@ -221,6 +221,7 @@ fn tells_faults_in_words(rt: HostRuntime) {
         (bad_setting(SettingFault::ScryptRange), "scrypt range"),
         (bad_setting(SettingFault::AboveCeiling), "above ceiling"),
         (bad_setting(SettingFault::BadSalt), "bad salt"),
+        (Some(LineFault::OverBudget), "over budget"),
     ];
     for (fault, text) in rows {
         assert_eq!(rt; fault.map(|fault| fault.text()), Some(text), "{text}");

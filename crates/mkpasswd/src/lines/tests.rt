@@ -4,6 +4,7 @@ ghost use Rattle.mkpasswd.specs.LineRuns.{AreAnswers, lines_of};
 ghost use Rattle.mkpasswd.specs.Runs.{HasCountsForRun};
 ghost use Rattle.mkpasswd.specs.declared.line.Kind.TheVariants.{Batch};
 
+mod budget;
 mod calls;
 mod cut_short;
 mod hostile;

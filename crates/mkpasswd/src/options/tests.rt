@@ -148,6 +148,32 @@ fn plans_counts_of_work(rt: HostRuntime) -> Result<(), Fail> {
     Ok(())
 }
 
+// The budget of the job, in each of its plans.
+#[test]
+fn plans_budgets(rt: HostRuntime) -> Result<(), Fail> {
+    let rows: [(&[&str], Option<u64>); 7] = [
+        (&["x"], None),
+        (&["--check"], None),
+        (&["--check", "--budget", "0"], Some(0)),
+        (&["--batch", "--budget=36239"], Some(36239)),
+        (&["--check", "--budget", "+007"], Some(7)),
+        (
+            &["--check", "--budget", "18446744073709551615"],
+            Some(u64::MAX),
+        ),
+        (&["--budget", "5", "x"], Some(5)),
+    ];
+    for (row, budget) in rows {
+        let words = words_of(rt.alloc(), row)?;
+        let job = match plan(rt.alloc(), words.as_slice())? {
+            Plan::One(job, _) | Plan::Batch(job) | Plan::Check(job) => job,
+            Plan::Methods => panic!(rt; "{row:?} asks for the methods"),
+        };
+        assert_eq!(rt; job.budget, budget, "the budget of {row:?}");
+    }
+    Ok(())
+}
+
 #[test]
 fn plans_lines(rt: HostRuntime) -> Result<(), Fail> {
     // The words; the setting, as above; and whether the lines are checked.
@@ -198,7 +224,7 @@ fn lists_methods_whatever_else_is_given(rt: HostRuntime) -> Result<(), Fail> {
 
 #[test]
 fn refuses_in_order(rt: HostRuntime) -> Result<(), Fail> {
-    let rows: [(&[&str], u8, &str); 40] = [
+    let rows: [(&[&str], u8, &str); 44] = [
         (&["--help"], 0, ""),
         (&["-V"], 0, ""),
         (&["-Q"], 2, ""),
@@ -209,6 +235,10 @@ fn refuses_in_order(rt: HostRuntime) -> Result<(), Fail> {
         (&["-R", "-1"], 2, ""),
         (&["-R", "x"], 2, ""),
         (&["-R", ""], 2, ""),
+        (&["--budget", "18446744073709551616"], 2, ""),
+        (&["--budget=-1"], 2, ""),
+        (&["--budget", "few"], 2, ""),
+        (&["--budget"], 2, ""),
         (&["-m", "sha1", "x"], 2, "unknown method"),
         (&["-m", "", "x"], 2, "unknown method"),
         (&["-m", "sha1", "-S", "ab", "x", "cd"], 2, "unknown method"),
