@@ -166,7 +166,8 @@ fn plans_budgets(rt: HostRuntime) -> Result<(), Fail> {
     for (row, budget) in rows {
         let words = words_of(rt.alloc(), row)?;
         let job = match plan(rt.alloc(), words.as_slice())? {
-            Plan::One(job, _) | Plan::Batch(job) | Plan::Check(job) => job,
+            Plan::One(job, _from) => job,
+            Plan::Batch(job) | Plan::Check(job) => job,
             Plan::Methods => panic!(rt; "{row:?} asks for the methods"),
         };
         assert_eq!(rt; job.budget, budget, "the budget of {row:?}");
