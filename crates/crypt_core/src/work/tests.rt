@@ -52,11 +52,7 @@ const COSTS: [(&str, usize, u64); 8] = [
     ("$5$saltstring", 12, 307760),
     ("$7$2/..../....", 0, 5044),
     ("$7$86....E....NaCl", 8, 33_656_996),
-    (
-        "$7$C6..../....SodiumChloride",
-        13,
-        33_561_316,
-    ),
+    ("$7$C6..../....SodiumChloride", 13, 33_561_316),
     (
         "$6$rounds=999999999$saltstringsaltst",
         512,
@@ -124,7 +120,11 @@ fn bounds(rt: HostRuntime) {
 #[test]
 fn costs(rt: HostRuntime) {
     for (text, len, number) in COSTS {
-        assert_eq!(rt; cost(&setting_of(&rt, text), len), number, "{len} bytes by {text}");
+        assert_eq!(rt;
+            cost(&setting_of(&rt, text), len),
+            number,
+            "{len} bytes by {text}"
+        );
     }
 }
 

@@ -118,9 +118,19 @@ fn want(
 
 #[test]
 fn has_no_budget(rt: HostRuntime) -> Result<(), Fail> {
-    let words = ["--budget", "0", "-m", "md5crypt", "-S", "xxxxxxxx", "password"];
+    let words = [
+        "--budget", "0", "-m", "md5crypt", "-S", "xxxxxxxx", "password",
+    ];
     let given = Given::new(rt.alloc());
-    want(&rt, rt.alloc(), "a budget", &words, given, Ok(ONE_LINE), ANSWER.as_bytes())
+    want(
+        &rt,
+        rt.alloc(),
+        "a budget",
+        &words,
+        given,
+        Ok(ONE_LINE),
+        ANSWER.as_bytes(),
+    )
 }
 
 // Published texts: of openssl-passwd(1), of Drepper's specification, also with its own number of rounds,

@@ -63,7 +63,7 @@ cheap_unfielded kind job line stream parts has lacks within costly =
     let same = parts_unique kind line costly.parts parts costly.taken.cut has in
     elim costly.cost [
       | inl made ↦ within (subst (λ (n : ℕ). IsAbove job.budget n)
-      (made.1 ∙ ap (λ (p : Parts). cost (next_setting job.maker stream) (length p.password)) same) costly.above)
+          (made.1 ∙ ap (λ (p : Parts). cost (next_setting job.maker stream) (length p.password)) same) costly.above)
       | inr spelled ↦ absurd (none-some spelled.0 (sym lacks ∙ (sym (ap (λ (p : Parts). p.field) same) ∙ spelled.2)))
     ]
 
@@ -201,7 +201,7 @@ returns-in-None-2-clause-answer g c =
     let taken = unfielded c.args.task.kind c.args.line.now parts c.in-Ok.ensures.entry lacks in
     let priced = c.cost_of.ensures ∙ cost_by_any job c.setting.result _ stream parts.password c.setting.ensures in
     let within = λ (above : IsAbove job.budget (cost (next_setting job.maker stream) (length parts.password))).
-        true≢false (sym (c.is_over_budget.ensures.1 (subst (λ (n : ℕ). IsAbove job.budget n) (sym priced) above)) ∙ c.if-is_over_budget.false) in (
+    true≢false (sym (c.is_over_budget.ensures.1 (subst (λ (n : ℕ). IsAbove job.budget n) (sym priced) above)) ∙ c.if-is_over_budget.false) in (
       hashed_answer job (front_of parts.name) parts.password stream,
       hashed parts taken lacks (cheap_unfielded c.args.task.kind job c.args.line.now stream parts taken.cut lacks within) refl,
       c.hashed.ensures.answer,

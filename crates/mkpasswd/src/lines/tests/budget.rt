@@ -33,10 +33,26 @@ fn want_line(
     let left = run_words(rt, alloc, words, given)?;
     let refused = if told.1.is_empty() { 0 } else { 1 };
     assert_eq!(rt; left.outcome, Ok(tally(1, refused, 0)), "{words:?}: {line}");
-    assert_eq!(rt; left.out.taken(), told.0.as_bytes(), "{words:?}: the output for {line}");
-    assert_eq!(rt; left.faults.taken(), told.1.as_bytes(), "{words:?}: the faults of {line}");
-    assert_eq!(rt; left.next_word, next_word, "{words:?}: the next word after {line}");
-    assert_eq!(rt; left.meter.digests(), digests, "{words:?}: digests of {line}");
+    assert_eq!(rt;
+        left.out.taken(),
+        told.0.as_bytes(),
+        "{words:?}: the output for {line}"
+    );
+    assert_eq!(rt;
+        left.faults.taken(),
+        told.1.as_bytes(),
+        "{words:?}: the faults of {line}"
+    );
+    assert_eq!(rt;
+        left.next_word,
+        next_word,
+        "{words:?}: the next word after {line}"
+    );
+    assert_eq!(rt;
+        left.meter.digests(),
+        digests,
+        "{words:?}: digests of {line}"
+    );
     if digests == 0 {
         assert_eq!(rt; counted(&left.meter), [0; 5], "{words:?}: counts of {line}");
     }
@@ -109,7 +125,14 @@ fn hashes_within_a_budget(rt: HostRuntime) -> Result<(), Fail> {
     // The method and cost, the budget, the line, what is told, the word that is drawn next, and the digests.
     let rows: [(&[&str], &str, &str, (&str, &str), u64, u128); 6] = [
         (&["-m", "md5crypt"], "36238", "ann:password", OVER, 129, 0),
-        (&["-m", "md5crypt"], "36239", "ann:password", made, 130, 1002),
+        (
+            &["-m", "md5crypt"],
+            "36239",
+            "ann:password",
+            made,
+            130,
+            1002,
+        ),
         (&["-m", "md5crypt"], "0", "ann:password", OVER, 129, 0),
         (&["-m", "md5crypt"], "0", "ann:a\0b", zero_byte, 129, 0),
         (
@@ -132,7 +155,15 @@ fn hashes_within_a_budget(rt: HostRuntime) -> Result<(), Fail> {
     for (method, budget, line, told, next_word, digests) in rows {
         let mut words = Vec::from_slice(rt.alloc(), method)?;
         words.extend_from_slice(&["--batch", "--budget", budget])?;
-        want_line(&rt, rt.alloc(), words.as_slice(), line, told, next_word, digests)?;
+        want_line(
+            &rt,
+            rt.alloc(),
+            words.as_slice(),
+            line,
+            told,
+            next_word,
+            digests,
+        )?;
     }
     Ok(())
 }
@@ -140,12 +171,21 @@ fn hashes_within_a_budget(rt: HostRuntime) -> Result<(), Fail> {
 // The lines round one that is over budget are answered, and each has its own number.
 #[test]
 fn goes_on_behind_a_line_that_is_over(rt: HostRuntime) -> Result<(), Fail> {
-    let input = "h:$6$rounds=999999999$ab$:x\nann:$1$xxxxxxxx$UYCIxa628.9qXjpQCjM4a.:password\nh:$5$ab$:x\nc::x\n";
+    let input =
+        "h:$6$rounds=999999999$ab$:x\nann:$1$xxxxxxxx$UYCIxa628.9qXjpQCjM4a.:password\nh:$5$ab$:x\nc::x\n";
     let given = Given::new(rt.alloc()).reading(MemoryReader::new(rt.alloc(), input.as_bytes()));
     let words = ["--check", "--work", "--budget", "40000"];
     let told = (
         "ann:ok:1002:36239:0:0\nc:none:0:0:0:0\n",
         "mkpasswd: line 1: over budget\nmkpasswd: line 3: over budget\n",
     );
-    want(&rt, rt.alloc(), "four lines", &words, given, Ok(tally(4, 2, 0)), told)
+    want(
+        &rt,
+        rt.alloc(),
+        "four lines",
+        &words,
+        given,
+        Ok(tally(4, 2, 0)),
+        told,
+    )
 }
