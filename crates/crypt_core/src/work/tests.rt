@@ -47,7 +47,7 @@ const BOUNDS: [(&str, usize, [u64; 5]); 13] = [
 ];
 
 // A setting, the length of a password, and what its hash costs at most.
-const COSTS: [(&str, usize, u64); 8] = [
+const COSTS: [(&str, usize, u64); 11] = [
     ("$1$xxxxxxxx", 8, 36239),
     ("$5$saltstring", 12, 307760),
     ("$7$2/..../....", 0, 5044),
@@ -58,9 +58,12 @@ const COSTS: [(&str, usize, u64); 8] = [
         512,
         1_025_524_081_584,
     ),
-    // The most bytes that are mixed, and with them the most that are digested.
+    ("$6$rounds=999999999$saltstringsaltst", 8, 89_523_813_984),
+    ("$5$rounds=999999999$saltstringsaltst", 8, 57_523_813_984),
+    // The most bytes that are mixed.
     ("$7$J2..../....", 0, 2_147_486_948),
     ("$7$/...E./....", 512, 5_435_818_660),
+    ("$7$/...E./....", 0, 5_435_818_148),
 ];
 
 // Settings that are cheap to hash by, and the length of a password.

@@ -95,7 +95,7 @@ fn checks_within_a_budget(rt: HostRuntime) -> Result<(), Fail> {
             ("", "mkpasswd: line 1: above ceiling\n"),
             0,
         ),
-        // Half an hour of rounds, and the most memory and mixings that a text can ask for.
+        // The most rounds, and scrypt at its ceiling.
         (
             "89523813983",
             "h:$6$rounds=999999999$saltstringsaltst$:password",
