@@ -83,10 +83,16 @@ abbrev pub bare_command : App
 bare_command = on_top (λ s. record s { no_binary_name = true; has_version = true })
     (new_app (codes "mkpasswd"))
 
+-- what is hashed, and how
+abbrev pub hash_rules : List Rule
+hash_rules = method_rule ∷ salt_rule ∷ rounds_rule ∷ stdin_rule ∷ []
+
+-- what is done with lines, and what is told
+abbrev pub line_rules : List Rule
+line_rules = batch_rule ∷ check_rule ∷ work_rule ∷ budget_rule ∷ []
+
 unfoldable pub command : App
-command = fold with_rule bare_command
-    (method_rule ∷ salt_rule ∷ rounds_rule ∷ stdin_rule ∷ batch_rule ∷ check_rule ∷ work_rule
-    ∷ budget_rule ∷ password_rule ∷ salt_word_rule ∷ [])
+command = fold with_rule bare_command (hash_rules ++ line_rules ++ password_rule ∷ salt_word_rule ∷ [])
 
 -- ---- what `clap` finds
 

@@ -1,13 +1,13 @@
 //! The words after the program's name: the command that `clap` reads them by, and what they ask the
 //! program to do. Each refusal has its place in one order; want of memory comes where it arises.
-ghost use Rattle.std.specs.Prelude.{◌≡◌, ◌≢◌, ◌<◌, ◌≤◌, None, Some, false, length, map, string_bytes};
+ghost use Rattle.std.specs.Prelude.{◌≡◌, ◌≢◌, ◌<◌, ◌≤◌, None, Some, false, fold, length, map, string_bytes};
 ghost use Rattle.std.specs.Prelude.{IfErr, IfOk, MatchOption};
 ghost use Rattle.std.specs.List.{slice_index_or};
-ghost use Rattle.clap.specs.Words.{app_of, found_of, kind_of, rows_of, rule_of};
+ghost use Rattle.clap.specs.Words.{app_of, found_of, kind_of, rows_of, rule_of, with_rule};
 ghost use Rattle.crypt_core.specs.Methods.{method_named};
 ghost use Rattle.mkpasswd.specs.Makers.{bytes_of};
 ghost use Rattle.mkpasswd.specs.Options.{AsksForMethods, Gives, HasTwoSalts, Names, Plans, Refuses};
-ghost use Rattle.mkpasswd.specs.Options.{command, flag_rule, given_salt, input, is_set, modes_of, type_of, value_rule};
+ghost use Rattle.mkpasswd.specs.Options.{command, flag_rule, given_salt, hash_rules, input, is_set, line_rules, modes_of, type_of, value_rule};
 ghost use Rattle.mkpasswd.specs.Private.Found.{mode_of, values_of};
 
 use crate::fault::UsageFault;
@@ -168,6 +168,24 @@ fn one_mode<'a>(given: &Given<'a>) -> Result<Mode<'a>, UsageFault>
 fn command<'a>(alloc: Global) -> Result<Command<'a>, AllocError>
     ensures { IfOk result (λ made. app_of made ≡ command) }
 {
+    let password = word(alloc, "password", "PASSWORD").help(
+        "The password; without it, as by --stdin",
+    );
+    let salt_word = word(alloc, "salt-word", "SALT").help("The salt, in place of --salt");
+    let bare = Command::new(alloc, "mkpasswd")
+        .version("0.1.0")
+        .about("Prints the crypt(5) hash of a password, and hashes or checks the lines of a file")
+        .after_help(AFTER_HELP)
+        .no_binary_name(true);
+    with_line_options(alloc, with_hash_options(alloc, bare)?)?
+        .arg(password)?
+        .arg(salt_word)
+}
+
+// Adds the options on how passwords are hashed.
+fn with_hash_options<'a>(alloc: Global, command: Command<'a>) -> Result<Command<'a>, AllocError>
+    ensures { IfOk result (λ made. app_of made ≡ fold with_rule (app_of command.entry) hash_rules) }
+{
     let method = option(alloc, "method", "TYPE").short('m').help(
         "The method: md5crypt, sha256crypt, sha512crypt (the default) or scrypt; help lists them",
     );
@@ -183,6 +201,13 @@ fn command<'a>(alloc: Global) -> Result<Command<'a>, AllocError>
     let stdin = flag(alloc, "stdin")
         .short('s')
         .help("The password is the first line of standard input");
+    command.arg(method)?.arg(salt)?.arg(rounds)?.arg(stdin)
+}
+
+// Adds the options on what is done with lines, and on what is told.
+fn with_line_options<'a>(alloc: Global, command: Command<'a>) -> Result<Command<'a>, AllocError>
+    ensures { IfOk result (λ made. app_of made ≡ fold with_rule (app_of command.entry) line_rules) }
+{
     let batch = flag(alloc, "batch").help(
         "Hash the password of each line of standard input: name:password",
     );
@@ -195,25 +220,7 @@ fn command<'a>(alloc: Global) -> Result<Command<'a>, AllocError>
     let budget = option(alloc, "budget", "NUMBER")
         .value_parser(value_parser!(u64))
         .help("What the hash of a line may cost, by --batch and --check: bytes digested and mixed");
-    let password = word(alloc, "password", "PASSWORD").help(
-        "The password; without it, as by --stdin",
-    );
-    let salt_word = word(alloc, "salt-word", "SALT").help("The salt, in place of --salt");
-    Command::new(alloc, "mkpasswd")
-        .version("0.1.0")
-        .about("Prints the crypt(5) hash of a password, and hashes or checks the lines of a file")
-        .after_help(AFTER_HELP)
-        .no_binary_name(true)
-        .arg(method)?
-        .arg(salt)?
-        .arg(rounds)?
-        .arg(stdin)?
-        .arg(batch)?
-        .arg(check)?
-        .arg(work)?
-        .arg(budget)?
-        .arg(password)?
-        .arg(salt_word)
+    command.arg(batch)?.arg(check)?.arg(work)?.arg(budget)
 }
 
 // An option with one value, whose long name is its id.
