@@ -12,6 +12,7 @@ pub mod PasswordFaults
 pub mod Passwords
 pub mod Private
 pub mod Refusals
+pub mod Replacements
 pub mod RoundMessage
 pub mod SettingFaults
 pub mod Settings

@@ -6,6 +6,7 @@
 ghost use Rattle.std.specs.Prelude.{◌≡◌, ◌≤◌, length};
 ghost use Rattle.crypt_core.specs.Methods.{salt_limit};
 ghost use Rattle.crypt_core.specs.Private.Costs.{HasCost};
+ghost use Rattle.crypt_core.specs.Replacements.{is_replaced_by};
 ghost use Rattle.crypt_core.specs.Settings.{method_of};
 
 mod fault;
@@ -73,5 +74,28 @@ impl Setting {
         ensures short { length result.now ≤ salt_limit (method_of self.now.scheme) }
     {
         self.salt.as_slice()
+    }
+
+    /// Whether a hash by this setting is out of date where new ones are made by the other: that is of another method,
+    /// or of the same one with more rounds, or for scrypt with a greater `N * r * p`. Salts don't matter, nor whether
+    /// the rounds have a field.
+    pub fn replaced_by(&self, new: &Setting) -> bool
+        ensures { result ≡ is_replaced_by self.now.scheme new.now.scheme }
+    {
+        match self.scheme() {
+            Scheme::Md5crypt => !matches!(new.scheme(), Scheme::Md5crypt),
+            Scheme::Sha256crypt(old) => match new.scheme() {
+                Scheme::Sha256crypt(new) => old.count < new.count,
+                _ => true,
+            },
+            Scheme::Sha512crypt(old) => match new.scheme() {
+                Scheme::Sha512crypt(new) => old.count < new.count,
+                _ => true,
+            },
+            Scheme::Scrypt(old) => match new.scheme() {
+                Scheme::Scrypt(new) => old.product() < new.product(),
+                _ => true,
+            },
+        }
     }
 }

@@ -48,11 +48,12 @@ pub fn bound(setting: &Setting, password_len: usize) -> Work
 /// are at most [`PASSWORD_LIMIT`](crate::password::PASSWORD_LIMIT): the bytes of its [`bound`], and for
 /// scrypt the 128r bytes that each of the bound's mixings mixes.
 ///
-/// It is what a budget is compared with. Nothing is hashed for it and no memory is taken. It fits 64 bits
-/// for every setting, so that nothing is cut off.
+/// It is what a budget is compared with. Nothing is hashed for it and no memory is taken. It is below 2^42
+/// for every setting.
 pub fn cost(setting: &Setting, password_len: usize) -> u64
     requires { password_len ≤ password_limit }
-    ensures { result ≡ cost setting.now password_len }
+    ensures number { result ≡ cost setting.now password_len }
+    ensures below { result < 2 ^ 42 }
 {
     let mixed = match setting.scheme() {
         Scheme::Scrypt(params) => mixed_bytes(&params),

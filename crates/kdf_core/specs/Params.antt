@@ -25,8 +25,12 @@ pub record IsInRange (cost : ScryptCost) : Type 0 where
 abbrev pub ceiling : ℕ
 ceiling = 8388608
 
+-- N * r * p, by which memory and time grow
+abbrev pub product : ScryptCost → ℕ
+product cost = rows cost * cost.r * cost.p
+
 abbrev pub IsWithinCeiling : ScryptCost → Type 0
-IsWithinCeiling cost = rows cost * cost.r * cost.p ≤ ceiling
+IsWithinCeiling cost = product cost ≤ ceiling
 
 -- the numbers that scrypt is run with
 pub record IsAccepted (cost : ScryptCost) : Type 0 where

@@ -4,7 +4,7 @@
 //! the memory that it stands for.
 
 ghost use Rattle.std.specs.Prelude.{◌≡◌, ◌↔◌, IfOk, IsOk, IsTrue};
-ghost use Rattle.kdf_core.specs.Params.{cost_of, rows, IsInRange, IsWithinCeiling, IsAccepted, IsBounded};
+ghost use Rattle.kdf_core.specs.Params.{cost_of, product, rows, IsInRange, IsWithinCeiling, IsAccepted, IsBounded};
 
 use std::marker::Model;
 use thiserror::Error;
@@ -107,6 +107,13 @@ impl Params {
         ensures accepted { IsAccepted self.now }
     {
         self.p
+    }
+
+    /// The product `N * r * p`, by which scrypt's time grows: at most 2^23.
+    pub fn product(&self) -> u32
+        ensures { result ≡ product self.now }
+    {
+        self.row_count() * self.r() * self.p()
     }
 }
 

@@ -11,8 +11,7 @@ use Rattle.mkpasswd.specs.Private.Made.{IsRaisedBelow, Says, fault_text_of, tall
 use Rattle.mkpasswd.specs.Private.Deliveries.{Sends}
 use Rattle.mkpasswd.specs.Private.Desks.{Outs}
 use Rattle.mkpasswd.specs.Private.Progress.{AnswersOne, HasRoomIn}
-use Rattle.mkpasswd.specs.Private.Rooms.{HasCountsFor, HasRoomFor, answer_limit, calls_limit}
-use Rattle.crypt_core.specs.Work.{work_limit}
+use Rattle.mkpasswd.specs.Private.Rooms.{HasCountsFor, HasRoomFor, answer_limit, calls_limit, line_work_limit}
 use Rattle.mkpasswd.specs.Tallies.{both_tallies}
 use Rattle.mkpasswd.specs.declared.answer.LineAnswer.{LineAnswer}
 use Rattle.mkpasswd.specs.declared.answer.Outcome.{Outcome}
@@ -47,12 +46,11 @@ too_long-refused kind line long = record {
 pub too_long-answered : (kind : Kind) (job : Job) (number : ℕ) (line : List ℕ) (stream : Stream) (made : LineAnswer) (counts : Counts)
     → line_limit < length line → ((stream : Stream) → Says made.outcome made.text.items (refused_answer number LineTooLong stream))
     → (answer : Answer) × IsAnswer kind job number line stream answer
-    × (Says made.outcome made.text.items answer × (counts ≡ after_work counts answer.hashings)) × (stream ≡ answer.stream)
+    × (Says made.outcome made.text.items answer × (counts ≡ after_work counts answer.hashings) × (stream ≡ answer.stream))
 too_long-answered kind job number line stream made counts long says = (
   refused_answer number LineTooLong stream,
   refused LineTooLong (too_long-refused kind line long) refl,
-  (says stream, refl),
-  refl,
+  (says stream, refl, refl),
 )
 
 -- ---- one more line
@@ -86,7 +84,7 @@ one_more-device lines old new room unfailed unflushed calls bytes =
     let flushes = room.flushes in
     record { failures = omega arith; calls = calls; bytes = omega arith; flushes = rw (unflushed.flushes) flushes }
 
-one_more-counts : (lines : ℕ) (old new : Counts) → HasCountsFor lines old → IsRaisedBelow work_limit old new → HasCountsFor (lines + 1) new
+one_more-counts : (lines : ℕ) (old new : Counts) → HasCountsFor lines old → IsRaisedBelow line_work_limit old new → HasCountsFor (lines + 1) new
 one_more-counts lines old new room small = record {
   digests = (let before = room.digests in let more = small.digests in omega arith);
   bytes = (let before = room.bytes in let more = small.bytes in omega arith);
@@ -98,7 +96,7 @@ one_more-counts lines old new room small = record {
 module _ {O E : Type 0} where
   -- room for the next line is left after an answer
   pub room-after : (contents : O → Option (List ℕ)) (fault_contents : E → Option (List ℕ)) (tally : Tally) (made : LineAnswer) (old new : Outs O E) (left new_left : ℕ) {A : Type 0} (done : A)
-      → HasRoomIn tally old → IsRaisedBelow work_limit old.counts new.counts
+      → HasRoomIn tally old → IsRaisedBelow line_work_limit old.counts new.counts
       → ((told : Answer) → Says made.outcome made.text.items told → Sends contents fault_contents new_left told old.out old.faults new.out new.faults (Ok done))
       → old.out.calls + old.faults.calls + left ≤ calls_limit
       → new.out.calls + new.faults.calls + new_left ≡ old.out.calls + old.faults.calls + left

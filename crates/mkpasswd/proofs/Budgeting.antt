@@ -1,4 +1,4 @@
--- What a budget changes of the answers to lines, and that it changes nothing for a single password.
+-- What a budget changes of the answers to lines, and that options of lines change nothing for a single password.
 use Rattle.std.proofs.Common.{◌≡◌, ℕ, List, [], ◌++◌, Some, Result, Ok, Err, codes, slice_index, inl, inr, refl, sym, subst, ◌∙◌, ap, arith}
 use Rattle.std.proofs.lemmas.Option.{none-some}
 use Rattle.rand_core.specs.Stream.{Stream}
@@ -9,9 +9,10 @@ use Rattle.crypt_core.specs.declared.method.Method.TheVariants.{Md5crypt, Sha256
 use Rattle.mkpasswd.specs.Answers.{Answer}
 use Rattle.mkpasswd.specs.Budgets.{without_budget}
 use Rattle.mkpasswd.specs.LineAnswers.{IsAnswer, IsCostly, OnlyRefuses, refused_answer}
-use Rattle.mkpasswd.specs.LineAnswers.IsAnswer.{refused, over, hashed, none, locked, ok, no}
+use Rattle.mkpasswd.specs.LineAnswers.IsAnswer.{refused, over, hashed, none, locked, ok, rehashed, no}
 use Rattle.mkpasswd.specs.Lines.{HasParts, IsStored, Parts}
 use Rattle.mkpasswd.specs.One.{EndsBy, EndsByInput, EndsOne}
+use Rattle.mkpasswd.specs.Rehashes.{without_rehash}
 use Rattle.mkpasswd.specs.Runs.{Hands, Tells}
 use Rattle.mkpasswd.specs.declared.fault.RunFault.{RunFault}
 use Rattle.mkpasswd.specs.declared.fault.RunFault.TheVariants.{Read, Write, OutOfMemory, Turns, Password}
@@ -37,8 +38,10 @@ answer-without kind job number line stream answer cheap (over costly is) = absur
 answer-without kind job number line stream answer cheap (hashed parts taken lacks within is) = hashed parts taken lacks (free kind job line stream) is
 answer-without kind job number line stream answer cheap (none parts taken empty is) = none parts taken empty is
 answer-without kind job number line stream answer cheap (locked parts field taken has is_locked is) = locked parts field taken has is_locked is
-answer-without kind job number line stream answer cheap (ok parts field kept taken has spells within same is) =
-    ok parts field kept taken has spells (free kind job line stream) same is
+answer-without kind job number line stream answer cheap (ok parts field kept taken has spells within same recent is) =
+    ok parts field kept taken has spells (free kind job line stream) same recent is
+answer-without kind job number line stream answer cheap (rehashed parts field kept taken has spells within same outdated is) =
+    rehashed parts field kept taken has spells (free kind job line stream) same outdated is
 answer-without kind job number line stream answer cheap (no parts field kept taken has spells within differs is) =
     no parts field kept taken has spells (free kind job line stream) differs is
 
@@ -50,7 +53,10 @@ answer-within kind job number line stream answer cheap (over costly is) = absurd
 answer-within kind job number line stream answer cheap (hashed parts taken lacks within is) = hashed parts taken lacks cheap is
 answer-within kind job number line stream answer cheap (none parts taken empty is) = none parts taken empty is
 answer-within kind job number line stream answer cheap (locked parts field taken has is_locked is) = locked parts field taken has is_locked is
-answer-within kind job number line stream answer cheap (ok parts field kept taken has spells within same is) = ok parts field kept taken has spells cheap same is
+answer-within kind job number line stream answer cheap (ok parts field kept taken has spells within same recent is) =
+    ok parts field kept taken has spells cheap same recent is
+answer-within kind job number line stream answer cheap (rehashed parts field kept taken has spells within same outdated is) =
+    rehashed parts field kept taken has spells cheap same outdated is
 answer-within kind job number line stream answer cheap (no parts field kept taken has spells within differs is) = no parts field kept taken has spells cheap differs is
 
 -- a text that spells a setting begins with a `$`
@@ -100,7 +106,8 @@ costly-refused kind job number line stream answer costly (none parts taken empty
     absurd (unstored-cheap kind job line stream parts [] taken.cut empty (λ stored. stored.some refl) costly)
 costly-refused kind job number line stream answer costly (locked parts field taken has is_locked is) =
     absurd (unstored-cheap kind job line stream parts field taken.cut has (λ stored. stored.unlocked is_locked) costly)
-costly-refused kind job number line stream answer costly (ok parts field kept taken has spells cheap same is) = absurd (cheap costly)
+costly-refused kind job number line stream answer costly (ok parts field kept taken has spells cheap same recent is) = absurd (cheap costly)
+costly-refused kind job number line stream answer costly (rehashed parts field kept taken has spells cheap same outdated is) = absurd (cheap costly)
 costly-refused kind job number line stream answer costly (no parts field kept taken has spells cheap differs is) = absurd (cheap costly)
 
 pub only_refuses : (kind : Kind) (job : Job) → OnlyRefuses kind job
@@ -114,27 +121,27 @@ only_refuses kind job = record {
 -- ---- a single password
 
 module _ {I O E : Type 0} where
-  unbudgeted-by : (tells : Tells I O E) (turns : ℕ) (job : Job) (password : List ℕ) (old new : Hands I O E) (result : Result Tally RunFault)
-      → EndsBy tells turns job password old new result → EndsBy tells turns (without_budget job) password old new result
-  unbudgeted-by tells turns job password old new (Ok tally) ends = ends
-  unbudgeted-by tells turns job password old new (Err Read) ends = ends
-  unbudgeted-by tells turns job password old new (Err Write) ends = ends
-  unbudgeted-by tells turns job password old new (Err OutOfMemory) ends = ends
-  unbudgeted-by tells turns job password old new (Err Turns) ends = ends
-  unbudgeted-by tells turns job password old new (Err (Password fault)) ends = ends
+  unoptioned-by : (tells : Tells I O E) (turns : ℕ) (job : Job) (password : List ℕ) (old new : Hands I O E) (result : Result Tally RunFault)
+      → EndsBy tells turns job password old new result → EndsBy tells turns (without_rehash (without_budget job)) password old new result
+  unoptioned-by tells turns job password old new (Ok tally) ends = ends
+  unoptioned-by tells turns job password old new (Err Read) ends = ends
+  unoptioned-by tells turns job password old new (Err Write) ends = ends
+  unoptioned-by tells turns job password old new (Err OutOfMemory) ends = ends
+  unoptioned-by tells turns job password old new (Err Turns) ends = ends
+  unoptioned-by tells turns job password old new (Err (Password fault)) ends = ends
 
-  unbudgeted-input : (tells : Tells I O E) (turns : ℕ) (job : Job) (bytes : List ℕ) (old new : Hands I O E) (result : Result Tally RunFault)
-      → EndsByInput tells turns job bytes old new result → EndsByInput tells turns (without_budget job) bytes old new result
-  unbudgeted-input tells turns job bytes old new (Ok tally) ends = ends
-  unbudgeted-input tells turns job bytes old new (Err Read) ends = ends
-  unbudgeted-input tells turns job bytes old new (Err Write) ends = ends
-  unbudgeted-input tells turns job bytes old new (Err OutOfMemory) ends = ends
-  unbudgeted-input tells turns job bytes old new (Err Turns) ends = ends
-  unbudgeted-input tells turns job bytes old new (Err (Password fault)) ends = ends
+  unoptioned-input : (tells : Tells I O E) (turns : ℕ) (job : Job) (bytes : List ℕ) (old new : Hands I O E) (result : Result Tally RunFault)
+      → EndsByInput tells turns job bytes old new result → EndsByInput tells turns (without_rehash (without_budget job)) bytes old new result
+  unoptioned-input tells turns job bytes old new (Ok tally) ends = ends
+  unoptioned-input tells turns job bytes old new (Err Read) ends = ends
+  unoptioned-input tells turns job bytes old new (Err Write) ends = ends
+  unoptioned-input tells turns job bytes old new (Err OutOfMemory) ends = ends
+  unoptioned-input tells turns job bytes old new (Err Turns) ends = ends
+  unoptioned-input tells turns job bytes old new (Err (Password fault)) ends = ends
 
-  -- its run ends as without a budget
-  pub unbudgeted : (tells : Tells I O E) (turns : ℕ) (job : Job) (from : PasswordFrom) (old new : Hands I O E) (result : Result Tally RunFault)
-      → EndsOne tells turns job from old new result → EndsOne tells turns (without_budget job) from old new result
-  unbudgeted tells turns job (Word bytes) old new result ends = (ends.0, unbudgeted-by tells turns job bytes.items old new result ends.1)
-  unbudgeted tells turns job Input old new result ends =
-      (ends.0, ends.1, unbudgeted-input tells turns job ends.0 old new result ends.2)
+  -- its run ends as without what only lines have
+  pub unoptioned : (tells : Tells I O E) (turns : ℕ) (job : Job) (from : PasswordFrom) (old new : Hands I O E) (result : Result Tally RunFault)
+      → EndsOne tells turns job from old new result → EndsOne tells turns (without_rehash (without_budget job)) from old new result
+  unoptioned tells turns job (Word bytes) old new result ends = (ends.0, unoptioned-by tells turns job bytes.items old new result ends.1)
+  unoptioned tells turns job Input old new result ends =
+      (ends.0, ends.1, unoptioned-input tells turns job ends.0 old new result ends.2)

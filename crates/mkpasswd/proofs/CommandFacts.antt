@@ -75,13 +75,13 @@ is_rounds = record {
   own = λ auto. elim auto [ inl help ↦ differ _ _ (λ same. absurd (omega arith)) help | inr version ↦ differ _ _ (λ same. absurd (omega arith)) version ];
 }
 
-pub is_budget : IsOnlyRule command.top.rules 7 budget_rule (Unsigned 0 18446744073709551615)
+pub is_budget : IsOnlyRule command.top.rules 8 budget_rule (Unsigned 0 18446744073709551615)
 unfolding command
 is_budget = record {
   within = omega arith;
   place = λ z. refl;
   parser = refl;
-  only = lone-only 7 (codes "budget") command.top.rules refl;
+  only = lone-only 8 (codes "budget") command.top.rules refl;
   named = differ _ _ (λ same. absurd (omega arith));
   own = λ auto. elim auto [ inl help ↦ differ _ _ (λ same. absurd (omega arith)) help | inr version ↦ differ _ _ (λ same. absurd (omega arith)) version ];
 }
@@ -90,7 +90,7 @@ is_budget = record {
 
 abbrev words : List Text
 words =
-    codes "-m" ∷ codes "md5" ∷ codes "-R" ∷ codes "+07" ∷ codes "--work" ∷ codes "--budget" ∷ codes "+036" ∷ codes "--check" ∷ codes "x" ∷ codes "ab" ∷ []
+    codes "-m" ∷ codes "md5" ∷ codes "-R" ∷ codes "+07" ∷ codes "--work" ∷ codes "--budget" ∷ codes "+036" ∷ codes "--check" ∷ codes "--rehash" ∷ codes "x" ∷ codes "ab" ∷ []
 
 takes_words : takes command words ≡ true
 unfolding command clap_on_literals
@@ -108,6 +108,7 @@ values_of_words : values_in (matches_of command words) ≡ record {
   stdin = false;
   batch = false;
   check = true;
+  rehash = true;
   work = true;
   budget = Some 36;
   password = Some (codes "x");
@@ -127,6 +128,7 @@ values_of_no_words : values_in (matches_of command []) ≡ record {
   stdin = false;
   batch = false;
   check = false;
+  rehash = false;
   work = false;
   budget = None;
   password = None;

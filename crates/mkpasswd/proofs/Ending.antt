@@ -153,8 +153,7 @@ module _ {I O E : Type 0} (told : Tells I O E) (turns : ℕ) (job : Job) where
         (
           fails-in_input old input stream counts 0 (is.1 ∙ sym (add-zero _)),
           takes-none old input stream counts,
-          drawn.stream_is,
-          inl (subst (λ (k : Kept). IsRefusedBy old.counts k.scheme counts) drawn.kept_is refused),
+          inl (subst (λ (k : Kept). IsRefusedBy old.counts k.scheme counts) drawn.kept_is refused, drawn.stream_is),
         ),
       )
 

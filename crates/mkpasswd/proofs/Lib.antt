@@ -18,4 +18,5 @@ pub mod LookingThrough
 pub mod PassedValues
 pub mod Reading
 pub mod Recipes
+pub mod Renewing
 pub mod Sending

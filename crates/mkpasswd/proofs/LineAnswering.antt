@@ -4,7 +4,7 @@ use Rattle.rand_core.specs.Stream.{Stream}
 use Rattle.prims_core.specs.Meter.{Counts}
 use Rattle.crypt_core.specs.Work.{raised_by, work}
 use Rattle.mkpasswd.specs.Answers.{Answer, Hashing, after_work, no_answer}
-use Rattle.mkpasswd.specs.LineAnswers.{IsAnswer, refused, over, hashed, none, locked, ok, no}
+use Rattle.mkpasswd.specs.LineAnswers.{IsAnswer, refused, over, hashed, none, locked, ok, rehashed, no}
 use Rattle.mkpasswd.specs.LineRuns.{AreAnswers, both}
 use Rattle.mkpasswd.specs.declared.job.Job.{Job}
 use Rattle.mkpasswd.specs.declared.line.Kind.{Kind}
@@ -33,7 +33,8 @@ lines-of_answer kind job number line stream answer (over costly is) = ap (λ a. 
 lines-of_answer kind job number line stream answer (hashed parts taken no_field within is) = ap (λ a. a.tally.lines) is
 lines-of_answer kind job number line stream answer (none parts taken empty is) = ap (λ a. a.tally.lines) is
 lines-of_answer kind job number line stream answer (locked parts field taken has is_locked is) = ap (λ a. a.tally.lines) is
-lines-of_answer kind job number line stream answer (ok parts field kept taken has spells within same is) = ap (λ a. a.tally.lines) is
+lines-of_answer kind job number line stream answer (ok parts field kept taken has spells within same recent is) = ap (λ a. a.tally.lines) is
+lines-of_answer kind job number line stream answer (rehashed parts field kept taken has spells within same outdated is) = ap (λ a. a.tally.lines) is
 lines-of_answer kind job number line stream answer (no parts field kept taken has spells within differs is) = ap (λ a. a.tally.lines) is
 
 -- the tally counts each line

@@ -147,10 +147,9 @@ module _ {I O E : Type 0} (told : Tells I O E) (kind : Kind) (job : Job) where
     record { text = text; fault_text = fault_text },
     record { stream = stream; counts = counts },
   )
-  cut-ends turns start new left done next OutOfMemory unfailed calls (stream, refused, kept, faults_kept, text, fault_text) = (
+  cut-ends turns start new left done next OutOfMemory unfailed calls (refused, kept, faults_kept, text, fault_text) = (
     record { of_input = unfailed ∙ sym (add-zero _); of_out = kept ∙ sym (add-zero _); of_faults = faults_kept ∙ sym (add-zero _) },
     record { text = text; fault_text = fault_text },
-    stream,
     refused,
   )
   cut-ends turns start new left done next Read unfailed calls cut = absurd cut

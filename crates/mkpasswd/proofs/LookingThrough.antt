@@ -123,8 +123,7 @@ module _ {O E : Type 0} (contents : O → Option (List ℕ)) (fault_contents : E
       )
   cut-answering start old new bytes front progress left line next A OutOfMemory before given =
       let at = before.at in (
-        given.2,
-        subst (λ counts. IsRefusedAmong counts next.hashings new.counts) at.given.counts given.3,
+        subst (λ counts. IsRefusedAmong counts next.hashings new.counts new.stream) at.given.counts given.2,
         ap (λ d. d.failures) given.0 ∙ at.given.out_unfailed,
         ap (λ d. d.failures) given.1 ∙ at.given.faults_unfailed,
         subst (λ d. Takes contents start.out d at.answers.text) (sym given.0) at.given.text,

@@ -1,5 +1,5 @@
 -- What is answered to one item: a password or a line.
-use Rattle.std.specs.Prelude.{ℕ, List, [], ◌∷◌, ◌++◌, ◌⊎◌, codes, decimal, if◌then◌else◌}
+use Rattle.std.specs.Prelude.{ℕ, ◌+◌, List, [], ◌∷◌, ◌++◌, ◌⊎◌, ◌≡◌, codes, decimal, if◌then◌else◌}
 use Rattle.rand_core.specs.Stream.{Stream}
 use Rattle.prims_core.specs.Meter.{Counts}
 use Rattle.crypt_core.specs.Crypt.{crypt, IsRefusedBy}
@@ -14,22 +14,23 @@ use Rattle.mkpasswd.specs.declared.tally.Tally.{Tally}
 
 -- ---- the hashes behind answers
 
--- a hash that is made: of which password, by which setting
+-- a hash that is made: of which password, by which setting, and what was left of the stream when that was known
 pub record Hashing : Type 0 where
   pub password : List ℕ
   pub setting : Kept
+  pub stream : Stream
 
 -- the counts after the work of these hashes
 abbrev pub after_work : Counts → List Hashing → Counts
 after_work counts [] = counts
 after_work counts (hashing ∷ hashings) = after_work (raised_by counts (work hashing.password hashing.setting)) hashings
 
--- the counts where memory was refused for one of them, and the ones before it were made
-abbrev pub IsRefusedAmong : Counts → List Hashing → Counts → Type 0
-IsRefusedAmong before [] after = ⊥
-IsRefusedAmong before (hashing ∷ hashings) after =
-    IsRefusedBy before hashing.setting.scheme after
-    ⊎ IsRefusedAmong (raised_by before (work hashing.password hashing.setting)) hashings after
+-- the counts and the stream where memory was refused for one of them, and the ones before it were made
+abbrev pub IsRefusedAmong : Counts → List Hashing → Counts → Stream → Type 0
+IsRefusedAmong before [] after stream = ⊥
+IsRefusedAmong before (hashing ∷ hashings) after stream =
+    (IsRefusedBy before hashing.setting.scheme after × (stream ≡ hashing.stream))
+    ⊎ IsRefusedAmong (raised_by before (work hashing.password hashing.setting)) hashings after stream
 
 -- ---- answers
 
@@ -57,6 +58,15 @@ no_answer stream = record {
 abbrev pub no_work : Work
 no_work = record { digests = 0; bytes = 0; mixes = 0; table = 0; scratch = 0 }
 
+abbrev pub both_works : Work → Work → Work
+both_works first second = record {
+  digests = first.digests + second.digests;
+  bytes = first.bytes + second.bytes;
+  mixes = first.mixes + second.mixes;
+  table = first.table + second.table;
+  scratch = first.scratch + second.scratch;
+}
+
 -- a colon and a number in decimal
 abbrev pub count_text : ℕ → List ℕ
 count_text count = codes ":" ++ decimal count
@@ -83,12 +93,13 @@ hash_text job password kept = crypt password kept ++ wanted_text job (work passw
 abbrev pub hashed_answer : Job → List ℕ → List ℕ → Stream → Answer
 hashed_answer job front password stream =
     let kept = next_setting job.maker stream in
+    let left = (words_for job.maker stream).1 in
     record {
       text = as_line (front ++ hash_text job password kept);
       fault_text = [];
       tally = one_line;
-      hashings = record { password = password; setting = kept } ∷ [];
-      stream = (words_for job.maker stream).1;
+      hashings = record { password = password; setting = kept; stream = left } ∷ [];
+      stream = left;
     }
 
 -- a single password has no front

@@ -13,6 +13,7 @@ pub mod One
 pub mod Options
 pub mod Output
 pub mod Private
+pub mod Rehashes
 pub mod Runs
 pub mod Tallies
 pub mod Texts

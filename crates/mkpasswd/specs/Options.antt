@@ -60,6 +60,10 @@ batch_rule = record (flag_rule (codes "batch")) { long = Some (codes "batch") }
 abbrev pub check_rule : Rule
 check_rule = record (flag_rule (codes "check")) { long = Some (codes "check") }
 
+-- --rehash
+abbrev pub rehash_rule : Rule
+rehash_rule = record (flag_rule (codes "rehash")) { long = Some (codes "rehash") }
+
 -- --work
 abbrev pub work_rule : Rule
 work_rule = record (flag_rule (codes "work")) { long = Some (codes "work") }
@@ -89,7 +93,7 @@ hash_rules = method_rule ∷ salt_rule ∷ rounds_rule ∷ stdin_rule ∷ []
 
 -- what is done with lines, and what is told
 abbrev pub line_rules : List Rule
-line_rules = batch_rule ∷ check_rule ∷ work_rule ∷ budget_rule ∷ []
+line_rules = batch_rule ∷ check_rule ∷ rehash_rule ∷ work_rule ∷ budget_rule ∷ []
 
 unfoldable pub command : App
 command = fold with_rule bare_command (hash_rules ++ line_rules ++ password_rule ∷ salt_word_rule ∷ [])
@@ -105,10 +109,11 @@ pub record Values : Type 0 where
   pub salt_word : Option Text
   -- the number of -R, or 0
   pub cost : ℕ
-  -- -s, --batch, --check, and --work
+  -- -s, --batch, --check, --rehash, and --work
   pub stdin : Bool
   pub batch : Bool
   pub check : Bool
+  pub rehash : Bool
   pub work : Bool
   -- the number of --budget
   pub budget : Option ℕ
@@ -137,6 +142,7 @@ values_in rows = record {
   stdin = is_set (codes "stdin") rows;
   batch = is_set (codes "batch") rows;
   check = is_set (codes "check") rows;
+  rehash = is_set (codes "rehash") rows;
   work = is_set (codes "work") rows;
   budget = number_in (codes "budget") rows;
   password = first_of (codes "password") rows;
@@ -210,11 +216,12 @@ IsFrom (word password) (Word bytes) = bytes.items ≡ password
 IsFrom input Input = ⊤
 IsFrom mode from = ⊥
 
--- settings are made of the method, the cost and the salt; the counts are wanted where `--work` was given, and
--- the budget is that of `--budget`
+-- settings are made of the method, the cost and the salt; new hashes are wanted where `--rehash` was given, the counts
+-- where `--work` was, and the budget is that of `--budget`
 pub record IsJob (values : Values) (method : Method) (job : Job) : Type 0 where
   pub accepted : IsAccepted method values.cost (given_salt values)
   pub maker : job.maker ≡ record { method = method; cost = values.cost; salt = given_salt values }
+  pub rehash : job.rehash ≡ values.rehash
   pub work : job.work ≡ values.work
   pub budget : job.budget ≡ values.budget
 

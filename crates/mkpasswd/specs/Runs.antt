@@ -139,7 +139,7 @@ module _ {I O E : Type 0} where
       Fails 0 0 0 old new × (calls_of new ≡ calls_of old + turns) × TakesAnswerFront tells done next old new
       × IsAfterBoth done next old new
   IsCutShort tells turns done next old new OutOfMemory =
-      Fails 0 0 0 old new × TakesAnswer tells done old new × (new.stream ≡ next.stream)
-      × IsRefusedAmong (after_work old.counts done.hashings) next.hashings new.counts
+      Fails 0 0 0 old new × TakesAnswer tells done old new
+      × IsRefusedAmong (after_work old.counts done.hashings) next.hashings new.counts new.stream
   IsCutShort tells turns done next old new (Password fault) =
       Fails 0 0 0 old new × TakesAnswer tells done old new × IsAfter done old new

@@ -1,41 +1,39 @@
 //! Answers: the hash of a password, or what is told of a line. Each is made whole before anything is written.
-ghost use Rattle.std.specs.Prelude.{◌≡◌, ◌+◌, ◌-◌, ◌*◌, ◌<◌, ◌≤◌, ◌++◌, length, IfOk, OnOk, OnErr};
+ghost use Rattle.std.specs.Prelude.{◌≡◌, ◌+◌, ◌-◌, ◌*◌, ◌<◌, ◌≤◌, ◌∷◌, ◌++◌, length, IfOk, OnOk, OnErr};
 ghost use Rattle.arrayvec.specs.ArrayVec.{array_vec_len};
-ghost use Rattle.crypt_core.specs.Crypt.{IsRefusedBy};
-ghost use Rattle.crypt_core.specs.Work.{cost, raised_by, work};
+ghost use Rattle.crypt_core.specs.Crypt.{IsRefusedBy, crypt};
+ghost use Rattle.crypt_core.specs.Work.{raised_by, work};
 ghost use Rattle.prims_core.specs.Meter.{HasRoom};
 ghost use Rattle.rand_core.specs.Stream.{Stream};
 ghost use Rattle.mkpasswd.specs.Answers.{Answer, count_text, counts_text, hash_text, hashed_answer};
 ghost use Rattle.mkpasswd.specs.LineAnswers.{IsAnswer, front_of, refused_answer};
 ghost use Rattle.mkpasswd.specs.Lines.{name_limit};
-ghost use Rattle.mkpasswd.specs.Private.Made.{Checks, IsRaisedBelow, Judges, Makes, Says, verdict_outcome, verdict_word};
+ghost use Rattle.mkpasswd.specs.Private.Made.{Checks, IsRaisedBelow, Makes, Says};
 ghost use Rattle.crypt_core.specs.Work.{work_limit};
-ghost use Rattle.mkpasswd.specs.Private.Rooms.{answer_limit, count_limit, front_limit};
-ghost use Rattle.mkpasswd.specs.Texts.{as_line};
+ghost use Rattle.mkpasswd.specs.Private.Rooms.{HasRoomForLine, answer_limit, count_limit, front_limit, line_work_limit, verdict_front_limit};
+ghost use Rattle.mkpasswd.specs.Texts.{as_line, colon};
+
+mod verdict;
 
 use crate::desk::Task;
 use crate::job::Job;
-use crate::line::{Field, LineFault, NAME_LIMIT, entry_of};
+use crate::line::{LineFault, NAME_LIMIT, entry_of};
 use arrayvec::ArrayVec;
-use crypt_core::fits::{FitFault, fits};
 use crypt_core::hash::{HASH_LIMIT, HashFault, hash};
 use crypt_core::password::Password;
-use crypt_core::setting::{Setting, SettingFault};
-use crypt_core::work::cost;
+use crypt_core::setting::Setting;
 use itoa::Buffer;
 use prims_core::buffer::buffer_of;
 use prims_core::meter::Meter;
 use rand_core::Rng;
 use std::alloc::Global;
+use verdict::{NoVerdict, cost_of, verdict_of};
 
 // The most bytes of a count: a colon, and what `itoa` writes of a number of 128 bits.
 const COUNT_LIMIT: usize = 41;
 
-// The most bytes of an answer: a name and a colon, a hash, four counts, and a line feed.
-const ANSWER_LIMIT: usize = NAME_LIMIT + 1 + HASH_LIMIT + 4 * COUNT_LIMIT + 1;
-
-// Words for a setting that is priced before any are drawn: which characters a salt has changes no cost.
-const ANY_WORDS: [u64; 3] = [0; 3];
+// The most bytes of an answer: a name, `:ok:`, a hash, four counts, and a line feed.
+const ANSWER_LIMIT: usize = NAME_LIMIT + 4 + HASH_LIMIT + 4 * COUNT_LIMIT + 1;
 
 /// The text of an answer.
 pub(crate) type Text = ArrayVec<u8, ANSWER_LIMIT>;
@@ -83,8 +81,9 @@ pub(crate) fn answer_password(
 /// The answer to the line with this number: the hash of its password by a setting that the job makes, the
 /// verdict on its password, or its refusal. The counts are those of this answer alone.
 ///
-/// Three words are drawn where a salt is made for a hash, and none otherwise. A line that is refused is not
-/// hashed, and one whose hash is over budget is refused. `OutOfMemory` comes as `hash` has it.
+/// Three words are drawn where a salt is made for a hash, and none otherwise; for a new hash in place of an old one
+/// that is after the verdict. A line that is refused is not hashed, and one that costs more than the budget is refused.
+/// `OutOfMemory` comes as `hash` has it, at either hash of a line.
 pub(crate) fn answer_line<R: Rng>(
     task: Task<'_>,
     number: u64,
@@ -92,10 +91,10 @@ pub(crate) fn answer_line<R: Rng>(
     rng: &mut R,
     meter: &mut Meter,
 ) -> Result<LineAnswer, HashFault>
-    requires { HasRoom meter.old }
+    requires { HasRoomForLine meter.old }
     ensures answer { (answer : Answer) × IsAnswer task.entry.kind task.entry.job.now number line.now (R.stream rng.old) answer
-        × Makes answer meter.old meter.new result × (R.stream rng.new ≡ answer.stream) }
-    ensures small { IsRaisedBelow work_limit meter.old meter.new }
+        × Makes answer meter.old meter.new (R.stream rng.new) result }
+    ensures small { IsRaisedBelow line_work_limit meter.old meter.new }
 {
     let Task { alloc, kind, job } = task;
     let entry = match entry_of(kind, line) {
@@ -103,15 +102,17 @@ pub(crate) fn answer_line<R: Rng>(
         Err(fault) => return Ok(refusal(number, fault)),
     };
     match entry.field {
-        None if job.is_over_budget(cost_of(&job.maker.setting(ANY_WORDS), &entry.password)) => {
+        None if job.is_over_budget(cost_of(&job.maker.any_setting(), &entry.password)) => {
             Ok(refusal(number, LineFault::OverBudget))
         }
         None => hashed(alloc, job, entry.name, &entry.password, rng, meter),
-        Some(field) => match checked(alloc, job, entry.name, field, &entry.password, meter) {
-            Ok(answer) => Ok(answer),
-            Err(Halt::Refused(fault)) => Ok(refusal(number, fault)),
-            Err(Halt::OutOfMemory) => Err(HashFault::OutOfMemory),
-        },
+        Some(field) => {
+            match checked(alloc, job, entry.name, field, &entry.password, rng, meter) {
+                Ok(answer) => Ok(answer),
+                Err(NoVerdict::Refused(fault)) => Ok(refusal(number, fault)),
+                Err(NoVerdict::OutOfMemory) => Err(HashFault::OutOfMemory),
+            }
+        }
     }
 }
 
@@ -140,11 +141,11 @@ fn hashed<R: Rng>(
     rng: &mut R,
     meter: &mut Meter,
 ) -> Result<LineAnswer, HashFault>
-    requires room { HasRoom meter.old }
+    requires room { HasRoomForLine meter.old }
     requires short { length name.now ≤ name_limit }
-    ensures answer { Makes (hashed_answer job.now (front_of name.now) password.now (R.stream rng.old)) meter.old meter.new result }
-    ensures stream { R.stream rng.new ≡ (hashed_answer job.now (front_of name.now) password.now (R.stream rng.old)).stream }
-    ensures small { IsRaisedBelow work_limit meter.old meter.new }
+    ensures answer { Makes (hashed_answer job.now (front_of name.now) password.now (R.stream rng.old)) meter.old meter.new
+        (R.stream rng.new) result }
+    ensures small { IsRaisedBelow line_work_limit meter.old meter.new }
 {
     let setting = job.maker.next_setting(rng);
     let mut text = text_behind(name);
@@ -156,24 +157,29 @@ fn hashed<R: Rng>(
     })
 }
 
-// What is told of a line's password, behind the name.
-fn checked(
+// What is told of a line's password, behind the name, with a new hash where the old one is out of date.
+fn checked<R: Rng>(
     alloc: Global,
     job: &Job,
     name: &[u8],
     field: &[u8],
     password: &Password,
+    rng: &mut R,
     meter: &mut Meter,
-) -> Result<LineAnswer, Halt>
-    requires room { HasRoom meter.old }
+) -> Result<LineAnswer, NoVerdict>
+    requires room { HasRoomForLine meter.old }
     requires short { length name.now ≤ name_limit }
-    ensures checks { Checks job.now name.now field.now password.now meter.old meter.new result }
-    ensures small { IsRaisedBelow work_limit meter.old meter.new }
+    ensures checks { Checks job.now name.now field.now password.now meter.old meter.new (R.stream rng.old) (R.stream rng.new) result }
+    ensures small { IsRaisedBelow line_work_limit meter.old meter.new }
 {
     let before = Shown::by(meter);
     let verdict = verdict_of(alloc, job, field, password, meter)?;
     let mut text = text_behind(name);
     append(&mut text, verdict.text().as_bytes());
+    if verdict.is_outdated() {
+        let setting = job.maker.next_setting(rng);
+        append_new_hash(&mut text, alloc, password, &setting, meter)?;
+    }
     if job.work {
         append_counts(&mut text, &before, &Shown::by(meter));
     }
@@ -184,95 +190,26 @@ fn checked(
     })
 }
 
-// What a check says of a password.
-#[derive(Clone, Copy, Debug, PartialEq, Eq)]
-enum Verdict {
-    Fits,
-    Differs,
-    NoneStored,
-    Locked,
-}
-
-impl Verdict {
-    fn text(self) -> &'static str
-        ensures { result.now ≡ verdict_word self }
-    {
-        match self {
-            Verdict::Fits => "ok",
-            Verdict::Differs => "no",
-            Verdict::NoneStored => "none",
-            Verdict::Locked => "locked",
-        }
-    }
-
-    fn outcome(self) -> Outcome
-        ensures { result ≡ verdict_outcome self }
-    {
-        match self {
-            Verdict::Differs => Outcome::Misfit,
-            Verdict::Fits | Verdict::NoneStored | Verdict::Locked => Outcome::Answered,
-        }
-    }
-}
-
-// Why there is no verdict.
-#[derive(Clone, Copy, Debug, PartialEq, Eq)]
-enum Halt {
-    // The line is refused, and nothing was hashed.
-    Refused(LineFault),
-    OutOfMemory,
-}
-
-impl From<SettingFault> for Halt {
-    ghost use Rattle.mkpasswd.specs.declared.answer.Halt.TheVariants.{Refused};
-    ghost use Rattle.mkpasswd.specs.declared.line.LineFault.TheVariants.{Setting};
-
-    ghost from_gives = { λ fault halt. halt ≡ Refused (Setting fault) };
-
-    fn from(fault: SettingFault) -> Halt {
-        Halt::Refused(LineFault::Setting(fault))
-    }
-}
-
-impl From<FitFault> for Halt {
-    ghost use Rattle.mkpasswd.specs.Private.Made.{halt_of};
-
-    ghost from_gives = { λ fault halt. halt ≡ halt_of fault };
-
-    fn from(fault: FitFault) -> Halt {
-        match fault {
-            FitFault::Setting(fault) => Halt::from(fault),
-            FitFault::OutOfMemory => Halt::OutOfMemory,
-        }
-    }
-}
-
-// The verdict on a password, by a field. What its hash costs is known before anything is hashed.
-fn verdict_of(
+// The new hash of a password, behind a colon.
+fn append_new_hash(
+    text: &mut Text,
     alloc: Global,
-    job: &Job,
-    field: &[u8],
     password: &Password,
+    setting: &Setting,
     meter: &mut Meter,
-) -> Result<Verdict, Halt>
-    requires { HasRoom meter.old }
-    ensures judges { Judges job.now field.now password.now meter.old meter.new result }
+) -> Result<(), HashFault>
+    requires room { HasRoom meter.old }
+    requires short { array_vec_len text.old ≤ verdict_front_limit }
+    ensures text { OnOk result (text.new.items ≡ text.old.items ++ colon ∷ crypt password.now setting.now) }
+    ensures fits { OnOk result (array_vec_len text.new + 4 * count_limit < answer_limit) }
+    ensures count { OnOk result (meter.new ≡ raised_by meter.old (work password.now setting.now)) }
+    ensures refused { OnErr result (IsRefusedBy meter.old setting.now.scheme meter.new) }
     ensures small { IsRaisedBelow work_limit meter.old meter.new }
 {
-    match Field::of(field) {
-        Field::Empty => Ok(Verdict::NoneStored),
-        Field::Locked => Ok(Verdict::Locked),
-        Field::Stored => {
-            if job.is_over_budget(cost_of(&Setting::read(field)?, password)) {
-                return Err(Halt::Refused(LineFault::OverBudget));
-            }
-            if fits(alloc, password, field, meter)? {
-                Ok(Verdict::Fits)
-            } else {
-                Ok(Verdict::Differs)
-            }
-        }
-    }
+    let new = hash(alloc, password, setting, meter)?;
+    text.push(b':');
+    append(text, new.text());
+    Ok(())
 }
 
 // A name and a colon.
@@ -311,13 +248,6 @@ fn append_hash(
         append_counts(text, &before, &Shown::by(meter));
     }
     Ok(())
-}
-
-// What the hash of a password by a setting costs at most.
-fn cost_of(setting: &Setting, password: &Password) -> u64
-    ensures { result ≡ cost setting.now (length password.now) }
-{
-    cost(setting, password.bytes().len())
 }
 
 // Bytes for which there is room.

@@ -1,8 +1,10 @@
 //! What the program is asked to do.
-ghost use Rattle.std.specs.Prelude.{◌↔◌, IsTrue};
+ghost use Rattle.std.specs.Prelude.{◌≡◌, ◌↔◌, IsTrue};
 ghost use Rattle.mkpasswd.specs.Budgets.{IsAbove};
+ghost use Rattle.mkpasswd.specs.Rehashes.{is_outdated};
 
 use crate::maker::Maker;
+use crypt_core::setting::Setting;
 
 /// What the words after the program's name ask for.
 #[derive(Drop)]
@@ -22,13 +24,23 @@ pub enum Plan {
 pub struct Job {
     /// What makes the setting of each hash.
     pub maker: Maker,
+    /// Whether a check makes a new hash for each password that fits one which is out of date.
+    pub rehash: bool,
     /// Whether each answer shows the counts of its work.
     pub work: bool,
-    /// What the hash of a line may cost, in the unit of [`cost`](crypt_core::work::cost). A single password has no budget.
+    /// What a line may cost, in the unit of [`cost`](crypt_core::work::cost). A single password has no budget.
     pub budget: Option<u64>,
 }
 
 impl Job {
+    /// Whether a hash by the setting gets a new one in its place: these are wanted, and the setting is replaced by
+    /// those that the job makes.
+    pub(crate) fn renews(&self, setting: &Setting) -> bool
+        ensures { result ≡ is_outdated self.now setting.now }
+    {
+        self.rehash && setting.replaced_by(&self.maker.any_setting())
+    }
+
     /// Whether a cost is above the budget. Without one none is.
     pub(crate) fn is_over_budget(&self, cost: u64) -> bool
         ensures { IsTrue result ↔ IsAbove self.now.budget cost }

@@ -49,7 +49,7 @@ pub enum LineFault {
     /// The field to check isn't empty and not locked by a `!` or `*` at its front, and spells no setting.
     #[error("{}", self.text())]
     Setting(SettingFault),
-    /// The hash of the password costs more than the budget. It is no fault of the line alone.
+    /// The line can cost more than the budget. It is no fault of the line alone.
     #[error("{}", self.text())]
     OverBudget,
 }

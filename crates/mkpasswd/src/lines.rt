@@ -2,7 +2,7 @@
 //! that a run holds one line and one piece of its input, whatever that is.
 ghost use Rattle.std.specs.Prelude.{◌≡◌, ℕ, ◌^◌, ◌<◌, ◌≤◌, [], List, OnOk};
 ghost use Rattle.mkpasswd.specs.Devices.{HasRoomForRun, MovesBytes};
-ghost use Rattle.mkpasswd.specs.LineAnswers.{OnlyRefuses};
+ghost use Rattle.mkpasswd.specs.LineAnswers.{OnlyRefuses, OnlyRenews, RenewsNone};
 ghost use Rattle.mkpasswd.specs.LineRuns.{EndsLines};
 ghost use Rattle.mkpasswd.specs.Private.Desks.{IsSameDesk, seen, with_input};
 ghost use Rattle.mkpasswd.specs.Private.LineEnds.{GoesOn, GoesToEnd, HasRoomToRead, IsAtInput, TakesTurnsOf, spare_fetch};
@@ -80,6 +80,7 @@ pub fn run_batch<I: Read, O: Write, E: Write, R: Rng>(
         (hands input.old out.old faults.old (R.stream rng.old) meter.old)
         (hands input.new out.new faults.new (R.stream rng.new) meter.new) }
     ensures budget { OnlyRefuses Batch job.now }
+    ensures rehash { RenewsNone Batch job.now }
 {
     let kind = Kind::Batch;
     let mut desk = Desk::new(out, faults, rng, meter);
@@ -90,9 +91,16 @@ pub fn run_batch<I: Read, O: Write, E: Write, R: Rng>(
 /// `name:no`, `name:none` for an empty field or `name:locked` for one that begins with `!` or `*` to the output,
 /// or what is wrong with the line to the fault output.
 ///
-/// The password is all that follows the second colon. No word is drawn, and of the job only `work` and `budget`
-/// have an effect: for `none` and `locked` the counts are four zeros, and they are never over budget. The tally
-/// counts the answers `no` too. Otherwise as [`run_batch`].
+/// The password is all that follows the second colon. For `none` and `locked` the counts are four zeros, and they are
+/// never over budget. The tally counts the answers `no` too.
+///
+/// With the job's `rehash` a line whose password fits gets `name:ok:NEWHASH` where its setting is replaced by the job's
+/// ([`Setting::replaced_by`]): the hash of the password by that, for which words are drawn after the verdict where its
+/// salt has to be made. Its counts are those of both hashes. A line whose setting is replaced costs what both hashes
+/// cost, also where the password doesn't fit. No other line has to do with the maker, and none but a renewed one draws a
+/// word. Otherwise as [`run_batch`], where `rehash` has no effect.
+///
+/// [`Setting::replaced_by`]: crypt_core::setting::Setting::replaced_by
 #[tactic(auto, using(crate::proofs::Budgeting::only_refuses))]
 pub fn run_check<I: Read, O: Write, E: Write, R: Rng>(
     alloc: Global,
@@ -114,6 +122,7 @@ pub fn run_check<I: Read, O: Write, E: Write, R: Rng>(
         (hands input.old out.old faults.old (R.stream rng.old) meter.old)
         (hands input.new out.new faults.new (R.stream rng.new) meter.new) }
     ensures budget { OnlyRefuses Check job.now }
+    ensures rehash { OnlyRenews Check job.now }
 {
     let kind = Kind::Check;
     let mut desk = Desk::new(out, faults, rng, meter);

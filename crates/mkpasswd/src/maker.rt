@@ -1,9 +1,11 @@
 //! What makes the setting of each hash: a method and a cost, with a salt that was given once or is
 //! made anew from random words.
 
-ghost use Rattle.std.specs.Prelude.{◌≡◌, ◌↔◌, Err, IsOk, IfOk, IfErr, is_some, not};
+ghost use Rattle.std.specs.Prelude.{◌≡◌, ◌↔◌, ℕ, Err, IsOk, IfOk, IfErr, is_some, not};
 ghost use Rattle.crypt_core.specs.declared.setting.fault.MakeFault.{MakeFault as Fault};
-ghost use Rattle.crypt_core.specs.MadeSettings.{IsMakeable, made_setting};
+ghost use Rattle.crypt_core.specs.MadeSettings.{IsMakeable, made_scheme, made_setting};
+ghost use Rattle.crypt_core.specs.Work.{cost};
+ghost use Rattle.rand_core.specs.Stream.{Stream};
 ghost use Rattle.mkpasswd.specs.Makers.{IsAccepted, IsRefused, bytes_of, made_salt_length, next_setting, setting_by, words_for};
 
 use arrayvec::ArrayVec;
@@ -88,6 +90,15 @@ impl Maker {
     {
         let words = if self.draws() { draw(rng) } else { [0; 3] };
         self.setting(words)
+    }
+
+    /// A setting to be priced or compared before any words are drawn: which characters a made salt has changes
+    /// neither the cost of a hash nor whether it is out of date.
+    pub(crate) fn any_setting(&self) -> Setting
+        ensures scheme { result.scheme ≡ made_scheme self.now.method self.now.cost }
+        ensures cost { (stream : Stream) → (len : ℕ) → cost result len ≡ cost (next_setting self.now stream) len }
+    {
+        self.setting([0; 3])
     }
 
     // The setting by a salt.

@@ -4,6 +4,7 @@ ghost use Rattle.std.specs.Prelude.{◌≡◌, ◌+◌, ◌^◌, ◌≤◌};
 ghost use Rattle.mkpasswd.specs.Budgets.{without_budget};
 ghost use Rattle.mkpasswd.specs.Devices.{HasRoomForRun, MovesBytes};
 ghost use Rattle.mkpasswd.specs.One.{EndsOne, ObtainsFrom};
+ghost use Rattle.mkpasswd.specs.Rehashes.{without_rehash};
 ghost use Rattle.mkpasswd.specs.Devices.{turns_limit};
 ghost use Rattle.mkpasswd.specs.Runs.{hands, tells, HasCountsForRun, IsWithinTurns};
 
@@ -28,7 +29,7 @@ use std::io::{Read, Write};
 /// The password is a word's bytes; or of the input what stands before the first line feed, or all of it
 /// without one, and what follows the line feed in the piece that was read is dropped. It is tested before
 /// three words are drawn for a salt, where that has to be made, and these are drawn before anything is
-/// hashed. Both outputs are flushed at the end. The job's budget has no effect.
+/// hashed. Both outputs are flushed at the end. The job's `budget` and `rehash` have no effect.
 ///
 /// - `Password`: the password is refused; from the input it is too long once [`PASSWORD_LIMIT`] and one bytes
 ///   without a line feed were read. Nothing was written, drawn or hashed.
@@ -54,7 +55,7 @@ pub fn run_one<I: Read, O: Write, E: Write, R: Rng>(
     ensures ends { EndsOne (tells I.remaining O.contents E.contents) turns job.now from.now
         (hands input.old out.old faults.old (R.stream rng.old) meter.old)
         (hands input.new out.new faults.new (R.stream rng.new) meter.new) result }
-    ensures budget { EndsOne (tells I.remaining O.contents E.contents) turns (without_budget job.now) from.now
+    ensures options { EndsOne (tells I.remaining O.contents E.contents) turns (without_rehash (without_budget job.now)) from.now
         (hands input.old out.old faults.old (R.stream rng.old) meter.old)
         (hands input.new out.new faults.new (R.stream rng.new) meter.new) result }
     ensures within_turns { IsWithinTurns turns

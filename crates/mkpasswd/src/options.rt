@@ -35,6 +35,7 @@ struct Given<'a> {
     stdin: bool,
     batch: bool,
     check: bool,
+    rehash: bool,
     work: bool,
     budget: Option<u64>,
     password: Option<&'a str>,
@@ -71,6 +72,7 @@ pub fn plan(alloc: Global, words: &[String]) -> Result<Plan, UsageFault>
     let maker = Maker::new(method, given.cost, salt)?;
     let job = Job {
         maker,
+        rehash: given.rehash,
         work: given.work,
         budget: given.budget,
     };
@@ -100,6 +102,7 @@ fn read_words<'a>(alloc: Global, words: &'a [String]) -> Result<Given<'a>, clap:
         stdin: is_set(&matches, "stdin"),
         batch: is_set(&matches, "batch"),
         check: is_set(&matches, "check"),
+        rehash: is_set(&matches, "rehash"),
         work: is_set(&matches, "work"),
         budget: matches.get_one("budget"),
         password: matches.get_str("password"),
@@ -182,7 +185,7 @@ fn command<'a>(alloc: Global) -> Result<Command<'a>, AllocError>
         .arg(salt_word)
 }
 
-// Adds the options on how passwords are hashed.
+// Adds the options on what is hashed, and how.
 fn with_hash_options<'a>(alloc: Global, command: Command<'a>) -> Result<Command<'a>, AllocError>
     ensures { IfOk result (λ made. app_of made ≡ fold with_rule (app_of command.entry) hash_rules) }
 {
@@ -214,13 +217,21 @@ fn with_line_options<'a>(alloc: Global, command: Command<'a>) -> Result<Command<
     let check = flag(alloc, "check").help(
         "Check the password of each line of standard input: name:field:password",
     );
+    let rehash = flag(alloc, "rehash").help(
+        "With --check, a new hash for each password that fits a hash of another method or a lower cost",
+    );
     let work = flag(alloc, "work").help(
         "Show what the hash cost: digests, bytes, mixings, bytes of table",
     );
     let budget = option(alloc, "budget", "NUMBER")
         .value_parser(value_parser!(u64))
-        .help("What the hash of a line may cost, by --batch and --check: bytes digested and mixed");
-    command.arg(batch)?.arg(check)?.arg(work)?.arg(budget)
+        .help("What a line may cost, by --batch and --check: bytes digested and mixed");
+    command
+        .arg(batch)?
+        .arg(check)?
+        .arg(rehash)?
+        .arg(work)?
+        .arg(budget)
 }
 
 // An option with one value, whose long name is its id.

@@ -287,3 +287,52 @@ fn fault_texts(rt: HostRuntime) {
         assert_eq!(rt; fault.text(), text, "{fault:?}");
     }
 }
+
+// A text of each method, and whether a hash by it is out of date where new ones are made by another: between methods
+// it is, and by the same setting it isn't.
+#[test]
+fn replaced_by_other_methods(rt: HostRuntime) -> Result<(), Fail> {
+    let texts = ["$1$ab", "$5$ab", "$6$ab", "$7$2/..../....ab"];
+    for old in texts {
+        for new in texts {
+            let setting = Setting::read(old.as_bytes())?;
+            let other = Setting::read(new.as_bytes())?;
+            assert_eq!(rt; setting.replaced_by(&other), old != new, "{old} by {new}");
+        }
+    }
+    Ok(())
+}
+
+#[test]
+fn replaced_by_greater_costs(rt: HostRuntime) -> Result<(), Fail> {
+    // Old and new, and whether the old one is replaced.
+    let rows = [
+        ("$1$ab", "$1$xxxxxxxx", false),
+        ("$5$ab", "$5$rounds=5000$cd", false),
+        ("$5$rounds=5000$ab", "$5$ab", false),
+        ("$5$ab", "$5$rounds=5001$ab", true),
+        ("$5$rounds=5001$ab", "$5$", false),
+        ("$6$rounds=4999$ab", "$6$ab", true),
+        ("$6$ab", "$6$rounds=4999$ab", false),
+        ("$6$rounds=10$ab", "$6$rounds=1000$ab", false),
+        ("$6$rounds=999999998$ab", "$6$rounds=999999999$ab", true),
+        // N of 16 and 32
+        ("$7$2/..../....ab", "$7$2/..../....", false),
+        ("$7$2/..../....ab", "$7$3/..../....ab", true),
+        ("$7$3/..../....ab", "$7$2/..../....ab", false),
+        // 64, as 32 times 2 and as 64
+        ("$7$30..../....ab", "$7$4/..../....ab", false),
+        ("$7$4/..../....ab", "$7$30..../....ab", false),
+        ("$7$3/....0....ab", "$7$4/..../....ab", false),
+        // 128, and 256 with a smaller N
+        ("$7$5/..../....ab", "$7$36..../....ab", true),
+        ("$7$36..../....ab", "$7$5/..../....ab", false),
+        ("$7$5/..../....ab", "$7$3/....6....ab", true),
+    ];
+    for (old, new, is_replaced) in rows {
+        let setting = Setting::read(old.as_bytes())?;
+        let other = Setting::read(new.as_bytes())?;
+        assert_eq!(rt; setting.replaced_by(&other), is_replaced, "{old} by {new}");
+    }
+    Ok(())
+}

@@ -14,6 +14,7 @@ values_of given = record {
   stdin = given.stdin;
   batch = given.batch;
   check = given.check;
+  rehash = given.rehash;
   work = given.work;
   budget = given.budget;
   password = bytes_of given.password;

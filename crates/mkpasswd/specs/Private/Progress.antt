@@ -47,8 +47,7 @@ module _ {O E : Type 0} where
   -- it is made and given; or memory was refused before any of it was
   abbrev pub AnswersOne : (O → Option (List ℕ)) → (E → Option (List ℕ)) → ℕ → Answer → Outs O E → Outs O E → {A : Type 0} → Result A RunFault → Type 0
   AnswersOne contents fault_contents left answer old new (Err OutOfMemory) =
-      (new.out ≡ old.out) × (new.faults ≡ old.faults) × (new.stream ≡ answer.stream)
-      × IsRefusedAmong old.counts answer.hashings new.counts
+      (new.out ≡ old.out) × (new.faults ≡ old.faults) × IsRefusedAmong old.counts answer.hashings new.counts new.stream
   AnswersOne contents fault_contents left answer old new result =
       (new.stream ≡ answer.stream) × (new.counts ≡ after_work old.counts answer.hashings)
       × Sends contents fault_contents left answer old.out old.faults new.out new.faults result
@@ -97,7 +96,7 @@ module _ {O E : Type 0} where
       × (new.out.bytes + new.faults.bytes
       < start.out.bytes + start.faults.bytes + length (done.text ++ next.text) + length (done.fault_text ++ next.fault_text))
   IsInterrupted contents fault_contents left done next start new OutOfMemory =
-      (new.stream ≡ next.stream) × IsRefusedAmong (after_work start.counts done.hashings) next.hashings new.counts
+      IsRefusedAmong (after_work start.counts done.hashings) next.hashings new.counts new.stream
       × IsUnfailed start.out new.out × IsUnfailed start.faults new.faults
       × Takes contents start.out new.out done.text × Takes fault_contents start.faults new.faults done.fault_text
   IsInterrupted contents fault_contents left done next start new Read = ⊥

@@ -15,16 +15,23 @@ calls_limit = 2 ^ 63 + turns_limit
 abbrev pub lines_limit : ℕ
 lines_limit = 2 ^ 50
 
--- the most bytes of the front of an answer, of a count behind it, and of all of it: a front, a hash, four
--- counts and a line feed
+-- what no count of a line reaches: there are two hashes at most
+abbrev pub line_work_limit : ℕ
+line_work_limit = 2 * work_limit
+
+-- the most bytes of the front of an answer, and of that with `ok` behind it; of a count; and of all of it: a front with
+-- a verdict, a colon and a hash, four counts and a line feed
 abbrev pub front_limit : ℕ
 front_limit = name_limit + 1
+
+abbrev pub verdict_front_limit : ℕ
+verdict_front_limit = front_limit + 2
 
 abbrev pub count_limit : ℕ
 count_limit = 41
 
 abbrev pub answer_limit : ℕ
-answer_limit = front_limit + hash_limit + 4 * count_limit + 1
+answer_limit = verdict_front_limit + 1 + hash_limit + 4 * count_limit + 1
 
 -- the numbers of a device leave room for what is left of a run
 pub record HasRoomInRun {T : Type 0} (device : Device T) : Type 0 where
@@ -40,12 +47,20 @@ pub record HasRoomFor {T : Type 0} (lines : ℕ) (device : Device T) : Type 0 wh
   pub bytes : device.bytes ≤ 2 ^ 62 + answer_limit * lines
   pub flushes : device.flushes ≤ 2 ^ 62
 
+-- the counts leave room for the hashes of one more line
+pub record HasRoomForLine (counts : Counts) : Type 0 where
+  pub digests : counts.digests ≤ 2 ^ 110
+  pub bytes : counts.bytes ≤ 2 ^ 110
+  pub mixes : counts.mixes ≤ 2 ^ 110
+  pub table : counts.table ≤ 2 ^ 110
+  pub scratch : counts.scratch ≤ 2 ^ 110
+
 pub record HasCountsFor (lines : ℕ) (counts : Counts) : Type 0 where
-  pub digests : counts.digests ≤ 2 ^ 100 + work_limit * lines
-  pub bytes : counts.bytes ≤ 2 ^ 100 + work_limit * lines
-  pub mixes : counts.mixes ≤ 2 ^ 100 + work_limit * lines
-  pub table : counts.table ≤ 2 ^ 100 + work_limit * lines
-  pub scratch : counts.scratch ≤ 2 ^ 100 + work_limit * lines
+  pub digests : counts.digests ≤ 2 ^ 100 + line_work_limit * lines
+  pub bytes : counts.bytes ≤ 2 ^ 100 + line_work_limit * lines
+  pub mixes : counts.mixes ≤ 2 ^ 100 + line_work_limit * lines
+  pub table : counts.table ≤ 2 ^ 100 + line_work_limit * lines
+  pub scratch : counts.scratch ≤ 2 ^ 100 + line_work_limit * lines
 
 -- no count of the tally is above that of its lines
 pub record IsTallied (tally : Tally) : Type 0 where

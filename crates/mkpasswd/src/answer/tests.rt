@@ -1,6 +1,6 @@
 //! Which text answers a line, what it counts as, and how many words are drawn for it.
 ghost use Rattle.std.specs.Prelude.{IsTrue};
-ghost use Rattle.prims_core.specs.Meter.{HasRoom};
+ghost use Rattle.mkpasswd.specs.Private.Rooms.{HasRoomForLine};
 
 use super::*;
 use crate::line::Kind;
@@ -150,6 +150,7 @@ fn job_with(salt: Option<&[u8]>, work: bool) -> Result<Job, MakeFault> {
     let maker = Maker::new(Method::Md5crypt, 0, salt)?;
     Ok(Job {
         maker,
+        rehash: false,
         work,
         budget: None,
     })
@@ -174,11 +175,11 @@ fn want(rt: &impl Abort, alloc: Global, kind: Kind, job: &Job, rows: &[Row<'_>],
     }
 }
 
-// Whether each count is at most 2^120, so that there is room for another hash.
+// Whether each count is at most 2^110, so that there is room for another line.
 fn has_room(meter: &Meter) -> bool
-    ensures { IsTrue result → HasRoom meter.now }
+    ensures { IsTrue result → HasRoomForLine meter.now }
 {
-    let most = 1 << 120;
+    let most = 1 << 110;
     meter.digests() <= most
         && meter.bytes() <= most
         && meter.mixes() <= most
@@ -198,6 +199,7 @@ fn hashes_by_scrypt(rt: HostRuntime) -> Result<(), Fail> {
     let maker = Maker::new(Method::Scrypt, 0, Some(b"ab"))?;
     let job = Job {
         maker,
+        rehash: false,
         work: false,
         budget: None,
     };

@@ -1,11 +1,10 @@
 //! What is held of the line that is being read.
 ghost use Rattle.std.specs.Prelude.{◌≡◌, ℕ, ◌++◌, ◌↔◌, [], List, IsTrue};
-ghost use Rattle.prims_core.specs.Meter.{HasRoom};
 ghost use Rattle.mkpasswd.specs.Answers.{Answer};
 ghost use Rattle.mkpasswd.specs.LineAnswers.{IsAnswer};
 ghost use Rattle.mkpasswd.specs.Private.Made.{IsRaisedBelow, Makes};
 ghost use Rattle.mkpasswd.specs.Private.Progress.{StandsFor};
-ghost use Rattle.crypt_core.specs.Work.{work_limit};
+ghost use Rattle.mkpasswd.specs.Private.Rooms.{HasRoomForLine, line_work_limit};
 
 use crate::answer::{LineAnswer, answer_line, refusal};
 use crate::desk::Task;
@@ -58,11 +57,11 @@ impl Held {
         rng: &mut R,
         meter: &mut Meter,
     ) -> Result<LineAnswer, HashFault>
-        requires { HasRoom meter.old }
+        requires { HasRoomForLine meter.old }
         ensures answer { (line : List ℕ) → StandsFor self.now line
             → (answer : Answer) × IsAnswer task.entry.kind task.entry.job.now number line (R.stream rng.old) answer
-            × Makes answer meter.old meter.new result × (R.stream rng.new ≡ answer.stream) }
-        ensures small { IsRaisedBelow work_limit meter.old meter.new }
+            × Makes answer meter.old meter.new (R.stream rng.new) result }
+        ensures small { IsRaisedBelow line_work_limit meter.old meter.new }
     {
         match self {
             Held::Bytes(line) => answer_line(task, number, line.as_slice(), rng, meter),

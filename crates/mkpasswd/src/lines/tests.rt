@@ -8,6 +8,7 @@ mod budget;
 mod calls;
 mod cut_short;
 mod hostile;
+mod rehash;
 
 use super::*;
 use crate::job::Plan;
@@ -132,6 +133,65 @@ fn tally(lines: u64, refused: u64, misfits: u64) -> Tally {
         refused,
         misfits,
     }
+}
+
+// What is told of a line that costs more than the budget.
+const OVER: (&str, &str) = ("", "mkpasswd: line 1: over budget\n");
+
+// The five counts of a meter.
+fn counted(meter: &Meter) -> [u128; 5] {
+    [
+        meter.digests(),
+        meter.bytes(),
+        meter.mixes(),
+        meter.table(),
+        meter.scratch(),
+    ]
+}
+
+// Runs over one line, and wants this text on the one output or the other, word that is drawn next, and digests.
+fn want_line(
+    rt: &impl Abort,
+    alloc: Global,
+    words: &[&str],
+    line: &str,
+    told: (&str, &str),
+    next_word: u64,
+    digests: u128,
+) -> Result<(), Fail> {
+    let given = Given::new(alloc).reading(MemoryReader::new(alloc, line.as_bytes()));
+    let left = run_words(rt, alloc, words, given)?;
+    let refused = u64::from(!told.1.is_empty());
+    let misfits = u64::from(told.0.contains(":no:") || told.0.ends_with(":no\n"));
+    assert_eq!(rt;
+        left.outcome,
+        Ok(tally(1, refused, misfits)),
+        "{words:?}: {line}"
+    );
+    assert_eq!(rt;
+        left.out.taken(),
+        told.0.as_bytes(),
+        "{words:?}: the output for {line}"
+    );
+    assert_eq!(rt;
+        left.faults.taken(),
+        told.1.as_bytes(),
+        "{words:?}: the faults of {line}"
+    );
+    assert_eq!(rt;
+        left.next_word,
+        next_word,
+        "{words:?}: the next word after {line}"
+    );
+    assert_eq!(rt;
+        left.meter.digests(),
+        digests,
+        "{words:?}: digests of {line}"
+    );
+    if digests == 0 {
+        assert_eq!(rt; counted(&left.meter), [0; 5], "{words:?}: counts of {line}");
+    }
+    Ok(())
 }
 
 // Published texts: of openssl-passwd(1), of Drepper's specification, and of libxcrypt.

@@ -176,6 +176,21 @@ fn plans_budgets(rt: HostRuntime) -> Result<(), Fail> {
 }
 
 #[test]
+fn plans_new_hashes(rt: HostRuntime) -> Result<(), Fail> {
+    for (row, rehash) in [
+        (["--check", "--rehash"], true),
+        (["--check", "--work"], false),
+    ] {
+        let words = words_of(rt.alloc(), &row)?;
+        let Plan::Check(job) = plan(rt.alloc(), words.as_slice())? else {
+            panic!(rt; "{row:?} asks for no check");
+        };
+        assert_eq!(rt; job.rehash, rehash, "{row:?}");
+    }
+    Ok(())
+}
+
+#[test]
 fn plans_lines(rt: HostRuntime) -> Result<(), Fail> {
     // The words; the setting, as above; and whether the lines are checked.
     let rows: [(&[&str], &str, bool); 4] = [

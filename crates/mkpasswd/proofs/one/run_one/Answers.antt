@@ -1,7 +1,7 @@
 use Rattle.std.proofs.Common.{◌∙◌, arith}
 use Rattle.std.proofs.lemmas.Result.{err_from_is_err_and}
 use Rattle.mkpasswd.specs.Runs.{hands, tells}
-use Rattle.mkpasswd.proofs.Budgeting.{unbudgeted}
+use Rattle.mkpasswd.proofs.Budgeting.{unoptioned}
 use Rattle.mkpasswd.proofs.Ending as ending
 use Rattle.mkpasswd.proofs.one.run_one.Goals as goal
 
@@ -61,24 +61,24 @@ returns-clause-ends g c =
     (g.R.Rng.stream c.next_setting-setting.new.rng) c.answer_password.new.meter c.obtain.new.left c.in_ok-finish_both.field-0
     has c.in_ok-send.ensures.delivers c.in_ok-send.ensures.outcome c.in_ok-finish_both.ensures.finishes
 
--- ---- a budget has no effect
+-- ---- what only lines have has no effect
 
-pub returns-in_err-password-clause-budget : goal.returns-in_err-password-clause-budget
-returns-in_err-password-clause-budget g c =
-    unbudgeted (tells g.I.Read.remaining g.O.Write.contents g.E.Write.contents) c.args.turns c.args.job.now c.args.from.now _ _ c.from_residual.result (returns-in_err-password-clause-ends g c)
+pub returns-in_err-password-clause-options : goal.returns-in_err-password-clause-options
+returns-in_err-password-clause-options g c =
+    unoptioned (tells g.I.Read.remaining g.O.Write.contents g.E.Write.contents) c.args.turns c.args.job.now c.args.from.now _ _ c.from_residual.result (returns-in_err-password-clause-ends g c)
 
-pub returns-in_err-line-clause-budget : goal.returns-in_err-line-clause-budget
-returns-in_err-line-clause-budget g c =
-    unbudgeted (tells g.I.Read.remaining g.O.Write.contents g.E.Write.contents) c.args.turns c.args.job.now c.args.from.now _ _ c.from_residual-in_err-line.result (returns-in_err-line-clause-ends g c)
+pub returns-in_err-line-clause-options : goal.returns-in_err-line-clause-options
+returns-in_err-line-clause-options g c =
+    unoptioned (tells g.I.Read.remaining g.O.Write.contents g.E.Write.contents) c.args.turns c.args.job.now c.args.from.now _ _ c.from_residual-in_err-line.result (returns-in_err-line-clause-ends g c)
 
-pub returns-in_err-send-clause-budget : goal.returns-in_err-send-clause-budget
-returns-in_err-send-clause-budget g c =
-    unbudgeted (tells g.I.Read.remaining g.O.Write.contents g.E.Write.contents) c.args.turns c.args.job.now c.args.from.now _ _ c.from_residual-in_err-send.result (returns-in_err-send-clause-ends g c)
+pub returns-in_err-send-clause-options : goal.returns-in_err-send-clause-options
+returns-in_err-send-clause-options g c =
+    unoptioned (tells g.I.Read.remaining g.O.Write.contents g.E.Write.contents) c.args.turns c.args.job.now c.args.from.now _ _ c.from_residual-in_err-send.result (returns-in_err-send-clause-ends g c)
 
-pub returns-in_err-finish_both-clause-budget : goal.returns-in_err-finish_both-clause-budget
-returns-in_err-finish_both-clause-budget g c =
-    unbudgeted (tells g.I.Read.remaining g.O.Write.contents g.E.Write.contents) c.args.turns c.args.job.now c.args.from.now _ _ c.from_residual-in_err-finish_both.result (returns-in_err-finish_both-clause-ends g c)
+pub returns-in_err-finish_both-clause-options : goal.returns-in_err-finish_both-clause-options
+returns-in_err-finish_both-clause-options g c =
+    unoptioned (tells g.I.Read.remaining g.O.Write.contents g.E.Write.contents) c.args.turns c.args.job.now c.args.from.now _ _ c.from_residual-in_err-finish_both.result (returns-in_err-finish_both-clause-ends g c)
 
-pub returns-clause-budget : goal.returns-clause-budget
-returns-clause-budget g c =
-    unbudgeted (tells g.I.Read.remaining g.O.Write.contents g.E.Write.contents) c.args.turns c.args.job.now c.args.from.now _ _ _ (returns-clause-ends g c)
+pub returns-clause-options : goal.returns-clause-options
+returns-clause-options g c =
+    unoptioned (tells g.I.Read.remaining g.O.Write.contents g.E.Write.contents) c.args.turns c.args.job.now c.args.from.now _ _ _ (returns-clause-ends g c)

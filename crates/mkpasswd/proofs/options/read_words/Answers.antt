@@ -94,7 +94,7 @@ returns-clause-ok c =
     let set_is = λ (id : Text). ap (is_set id) rows in
     let cost_is = c.unwrap_or.ensures ∙ number_read _ c.get_one.result c.get_one.ensures.none c.get_one.ensures.value (option_passed _ m 2 rounds_rule (Signed (pos 0) (pos 4294967295)) is clauses.parsed facts.is_rounds)
     ∙ ap (λ (value : Option Text). option_map_or number_of value 0) (one_text-rows (found_of m) (codes "rounds") ∙ ap (one_of (codes "rounds")) rows) in
-    let budget_is = budget_read _ c.get_one-2.result c.get_one-2.ensures.none c.get_one-2.ensures.value (option_passed _ m 7 budget_rule (Unsigned 0 18446744073709551615) is clauses.parsed facts.is_budget)
+    let budget_is = budget_read _ c.get_one-2.result c.get_one-2.ensures.none c.get_one-2.ensures.value (option_passed _ m 8 budget_rule (Unsigned 0 18446744073709551615) is clauses.parsed facts.is_budget)
     ∙ ap (λ (value : Option Text). option_map number_of value) (one_text-rows (found_of m) (codes "budget") ∙ ap (one_of (codes "budget")) rows) in
     record {
       taken = subst (λ (a : App). fault_of a words ≡ []) is (clauses.kinds (ap is_simple_and_free is ∙ facts.simple_and_free));
@@ -106,7 +106,8 @@ returns-clause-ok c =
         c.is_set.ensures ∙ set_is (codes "stdin"),
         c.is_set-2.ensures ∙ set_is (codes "batch"),
         c.is_set-3.ensures ∙ set_is (codes "check"),
-        c.is_set-4.ensures ∙ set_is (codes "work"),
+        c.is_set-4.ensures ∙ set_is (codes "rehash"),
+        c.is_set-5.ensures ∙ set_is (codes "work"),
         budget_is,
         c.get_str-4.ensures ∙ text_is (codes "password"),
       );

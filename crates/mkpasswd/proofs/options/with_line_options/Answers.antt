@@ -3,7 +3,7 @@ use Rattle.std.proofs.lemmas.Result.{IfOk-weaker}
 use Rattle.clap.specs.Simple.{with_rule}
 use Rattle.clap.specs.Walk.{Rule, rule_of}
 use Rattle.clap.specs.declared.builder.value_parser.ValueParser.{ValueParser}
-use Rattle.mkpasswd.specs.Options.{batch_rule, budget_rule, check_rule, work_rule}
+use Rattle.mkpasswd.specs.Options.{batch_rule, budget_rule, check_rule, rehash_rule, work_rule}
 use Rattle.mkpasswd.proofs.options.with_line_options.Goals as goal
 
 abbrev with_parser_of : Rule → Option ValueParser → Rule
@@ -15,13 +15,16 @@ returns c =
     let batch_local : c.help-batch.result.global ≡ false = rw c.help-batch.ensures c.flag.ensures.local in
     let check_is : rule_of c.help-check.result ≡ check_rule = rw c.help-check.ensures c.flag-2.ensures.rule in
     let check_local : c.help-check.result.global ≡ false = rw c.help-check.ensures c.flag-2.ensures.local in
-    let work_is : rule_of c.help-work.result ≡ work_rule = rw c.help-work.ensures c.flag-3.ensures.rule in
-    let work_local : c.help-work.result.global ≡ false = rw c.help-work.ensures c.flag-3.ensures.local in
+    let rehash_is : rule_of c.help-rehash.result ≡ rehash_rule = rw c.help-rehash.ensures c.flag-3.ensures.rule in
+    let rehash_local : c.help-rehash.result.global ≡ false = rw c.help-rehash.ensures c.flag-3.ensures.local in
+    let work_is : rule_of c.help-work.result ≡ work_rule = rw c.help-work.ensures c.flag-4.ensures.rule in
+    let work_local : c.help-work.result.global ≡ false = rw c.help-work.ensures c.flag-4.ensures.local in
     let given = c.value_parser-2.ensures.given in
     let parser_is = given.1 ∙ ap (λ (p : ValueParser). Some p) (given.2 ∙ c.value_parser.ensures) in
     let budget_is : rule_of c.help-budget.result ≡ budget_rule = rw c.help-budget.ensures (ap rule_of c.value_parser-2.ensures.others ∙ ap₂ with_parser_of c.option.ensures.rule parser_is) in
     let budget_local : c.help-budget.result.global ≡ false = rw (c.help-budget.ensures, c.value_parser-2.ensures.others) c.option.ensures.local in
     let one_is = c.in_ok-arg.ensures.shape batch_local ∙ ap₂ with_rule refl batch_is in
     let two_is = c.in_ok-arg-2.ensures.shape check_local ∙ ap₂ with_rule one_is check_is in
-    let three_is = c.in_ok-arg-3.ensures.shape work_local ∙ ap₂ with_rule two_is work_is in
-    IfOk-weaker c.arg-4.result _ _ (λ made added. added.shape budget_local ∙ ap₂ with_rule three_is budget_is) c.arg-4.ensures
+    let three_is = c.in_ok-arg-3.ensures.shape rehash_local ∙ ap₂ with_rule two_is rehash_is in
+    let four_is = c.in_ok-arg-4.ensures.shape work_local ∙ ap₂ with_rule three_is work_is in
+    IfOk-weaker c.arg-5.result _ _ (λ made added. added.shape budget_local ∙ ap₂ with_rule four_is budget_is) c.arg-5.ensures

@@ -7,60 +7,6 @@ const ANN_STORED: &str = "ann:$1$xxxxxxxx$UYCIxa628.9qXjpQCjM4a.:password";
 
 const SCRYPT_STORED: &str = "s:$7$2/..../....$rNxJWVHNv/mCNcgE/f6/L4zO6Fos5c2uTzhyzoisI62:";
 
-// The five counts of a meter.
-fn counted(meter: &Meter) -> [u128; 5] {
-    [
-        meter.digests(),
-        meter.bytes(),
-        meter.mixes(),
-        meter.table(),
-        meter.scratch(),
-    ]
-}
-
-// Runs over one line, and wants this tally, text on the one output or the other, word that is drawn next, and
-// digests.
-fn want_line(
-    rt: &impl Abort,
-    alloc: Global,
-    words: &[&str],
-    line: &str,
-    told: (&str, &str),
-    next_word: u64,
-    digests: u128,
-) -> Result<(), Fail> {
-    let given = Given::new(alloc).reading(MemoryReader::new(alloc, line.as_bytes()));
-    let left = run_words(rt, alloc, words, given)?;
-    let refused = if told.1.is_empty() { 0 } else { 1 };
-    assert_eq!(rt; left.outcome, Ok(tally(1, refused, 0)), "{words:?}: {line}");
-    assert_eq!(rt;
-        left.out.taken(),
-        told.0.as_bytes(),
-        "{words:?}: the output for {line}"
-    );
-    assert_eq!(rt;
-        left.faults.taken(),
-        told.1.as_bytes(),
-        "{words:?}: the faults of {line}"
-    );
-    assert_eq!(rt;
-        left.next_word,
-        next_word,
-        "{words:?}: the next word after {line}"
-    );
-    assert_eq!(rt;
-        left.meter.digests(),
-        digests,
-        "{words:?}: digests of {line}"
-    );
-    if digests == 0 {
-        assert_eq!(rt; counted(&left.meter), [0; 5], "{words:?}: counts of {line}");
-    }
-    Ok(())
-}
-
-const OVER: (&str, &str) = ("", "mkpasswd: line 1: over budget\n");
-
 #[test]
 fn checks_within_a_budget(rt: HostRuntime) -> Result<(), Fail> {
     // The budget, the line, what is told, and the digests.

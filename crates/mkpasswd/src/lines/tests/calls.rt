@@ -145,3 +145,34 @@ fn calls_in_order_in_a_check(rt: HostRuntime) -> Result<(), Fail> {
     }
     Ok(())
 }
+
+#[test]
+fn calls_in_order_in_a_check_that_hashes_anew(rt: HostRuntime) -> Result<(), Fail> {
+    let run = Listed {
+        words: &[
+            "--check",
+            "--rehash",
+            "-m",
+            "sha256crypt",
+            "-R",
+            "1000",
+            "-S",
+            "ab",
+        ],
+        input: b"a:$1$xxxxxxxx$UYCIxa628.9qXjpQCjM4a.:password\nb:!:x\nc:$1$xxxxxxxx$UYCIxa628.9qXjpQCjM4a.:password\n",
+        by: (ALL, ALL),
+        steps: &[
+            read(98),
+            write(67, 67),
+            write(9, 9),
+            write(67, 67),
+            read(0),
+            FLUSH,
+            FLUSH_FAULTS,
+        ],
+        outcome: Ok(tally(3, 0, 0)),
+        out: "a:ok:$5$rounds=1000$ab$1w1vy5uCLDQWfIMwmaMatnSGmBa34fZnvo3JO2w3CP1\nb:locked\nc:ok:$5$rounds=1000$ab$1w1vy5uCLDQWfIMwmaMatnSGmBa34fZnvo3JO2w3CP1\n",
+        faults: "",
+    };
+    want_steps(&rt, rt.alloc(), run)
+}

@@ -9,7 +9,7 @@ pub returns-in_err-answer-clause-answers : goal.returns-in_err-answer-clause-ans
 returns-in_err-answer-clause-answers g c line stands =
     let p = err_from_is_err_and c.from_residual.result c.from_residual.ensures.1 in
     let made = c.in_err-answer.ensures.answer line stands in
-    rw (p.1, p.2) (made.0, made.1, (refl {a = c.args.desk.now.out.now}, refl {a = c.args.desk.now.faults.now}, made.3, made.2), tt)
+    rw (p.1, p.2) (made.0, made.1, (refl {a = c.args.desk.now.out.now}, refl {a = c.args.desk.now.faults.now}, made.2), tt)
 
 pub returns-in_err-give-clause-answers : goal.returns-in_err-give-clause-answers
 returns-in_err-give-clause-answers g c line stands =
@@ -17,7 +17,7 @@ returns-in_err-give-clause-answers g c line stands =
     let made = c.in_ok-answer.ensures.answer line stands in
     let sent = answers-sent g.O.Write.contents g.E.Write.contents c.give.new.left made.0
     (seen g.R.Rng.stream c.args.desk.now) (seen g.R.Rng.stream c.give.new.desk) c.give.result
-    (ap g.R.Rng.stream c.give.ensures.rest.0 ∙ made.3) (c.give.ensures.rest.1 ∙ made.2.1) (c.give.ensures.sends made.0 made.2.0) in
+    (ap g.R.Rng.stream c.give.ensures.rest.0 ∙ made.2.2) (c.give.ensures.rest.1 ∙ made.2.1) (c.give.ensures.sends made.0 made.2.0) in
     rw (p.1, p.2) (made.0, made.1, rw c.in_err-give.was at sent, tt)
 
 pub returns-clause-answers : goal.returns-clause-answers
@@ -25,7 +25,7 @@ returns-clause-answers g c line stands =
     let made = c.in_ok-answer.ensures.answer line stands in (
       made.0,
       made.1,
-      (ap g.R.Rng.stream c.give.ensures.rest.0 ∙ made.3, c.give.ensures.rest.1 ∙ made.2.1, c.in_ok-give.ensures.sends made.0 made.2.0),
+      (ap g.R.Rng.stream c.give.ensures.rest.0 ∙ made.2.2, c.give.ensures.rest.1 ∙ made.2.1, c.in_ok-give.ensures.sends made.0 made.2.0),
       c.count_line.ensures ∙ ap (both_tallies c.args.self.now.tally) (sym made.2.0.tally),
     )
 

@@ -1,20 +1,21 @@
-use Rattle.std.proofs.Common.{◌≡◌, ◌∙◌, ◌↔◌, ℕ, Bool, false, true≢false, List, length, Result, Ok, Err, subst, sym}
+use Rattle.std.proofs.Common.{◌≡◌, ◌∙◌, ◌↔◌, ℕ, Bool, false, true≢false, List, length, Result, Ok, Err, ap, subst, sym}
 use Rattle.std.specs.Prelude.{IsTrue}
 use Rattle.std.proofs.lemmas.Result.{err_from_is_err_and}
 use Rattle.prims_core.specs.Meter.{Counts}
 use Rattle.crypt_core.specs.Fits.{Compares}
 use Rattle.crypt_core.specs.Refusals.{IsRefused}
 use Rattle.crypt_core.specs.Settings.{Kept, Spells}
-use Rattle.crypt_core.specs.Work.{cost}
+use Rattle.rand_core.specs.Stream.{Stream}
 use Rattle.crypt_core.specs.declared.fits.FitFault.{FitFault}
 use Rattle.crypt_core.specs.declared.fits.FitFault.TheVariants.{Setting, OutOfMemory}
 use Rattle.crypt_core.specs.declared.setting.fault.SettingFault.{SettingFault}
 use Rattle.mkpasswd.specs.Budgets.{IsAbove}
 use Rattle.mkpasswd.specs.Lines.{IsStored}
 use Rattle.mkpasswd.specs.Private.Entries.{IsGoodField}
-use Rattle.mkpasswd.specs.Private.Made.{IsWithinBudget, Judges, halt_of}
+use Rattle.mkpasswd.specs.Private.Made.{IsWithinBudget, Judges, no_verdict_of}
+use Rattle.mkpasswd.specs.Rehashes.{check_cost}
 use Rattle.mkpasswd.specs.declared.job.Job.{Job}
-use Rattle.mkpasswd.proofs.answer.verdict_of.Goals as goal
+use Rattle.mkpasswd.proofs.answer.verdict.verdict_of.Goals as goal
 
 -- a field that was read as a setting is good, and spells nothing else
 good_field : (field : List ℕ) (kept : Kept) (read : Result Kept SettingFault) → read ≡ Ok kept
@@ -26,17 +27,20 @@ only_setting : (field : List ℕ) (kept other : Kept) (read : Result Kept Settin
 only_setting field kept other read is each spelled = let same = each other spelled in cc
 
 -- it costs what was compared with the budget
-within_budget : (job : Job) (field password : List ℕ) (kept : Kept) (read : Result Kept SettingFault) (over : Bool) → read ≡ Ok kept
+within_budget : (job : Job) (field password : List ℕ) (kept : Kept) (read : Result Kept SettingFault) (over : Bool) (number : ℕ) → read ≡ Ok kept
     → ((spelled : Kept) → Spells field spelled → read ≡ Ok spelled) → over ≡ false
-    → IsTrue over ↔ IsAbove job.budget (cost kept (length password)) → IsWithinBudget job field password
-within_budget job field password kept read over is each not_over tests other spelled above =
+    → IsTrue over ↔ IsAbove job.budget number → ((stream : Stream) → number ≡ check_cost job kept stream (length password))
+    → IsWithinBudget job field password
+within_budget job field password kept read over number is each not_over tests priced other spelled stream above =
     let same = only_setting field kept other read is each spelled in
-    true≢false (sym (tests.1 (subst (λ (k : Kept). IsAbove job.budget (cost k (length password))) (sym same) above)) ∙ not_over)
+    let number_is : number ≡ check_cost job other stream (length password) =
+    priced stream ∙ ap (λ (k : Kept). check_cost job k stream (length password)) same in
+    true≢false (sym (tests.1 (subst (λ (n : ℕ). IsAbove job.budget n) (sym number_is) above)) ∙ not_over)
 
 -- what stopped `fits`
 fault_is_judged : (job : Job) (field password : List ℕ) (before after : Counts) (fault : FitFault) → IsStored field → IsGoodField field
     → IsWithinBudget job field password → Compares password field before after (Err fault)
-    → Judges job field password before after (Err (halt_of fault))
+    → Judges job field password before after (Err (no_verdict_of fault))
 fault_is_judged job field password before after (Setting refusal) stored good within compares = ((stored, compares.0), compares.1)
 fault_is_judged job field password before after OutOfMemory stored good within compares =
     (good, compares.0, compares.1, within, compares.2)
@@ -46,10 +50,10 @@ returns-in_err-fits-in-Stored-clause-judges c =
     let job = c.args.job.now in
     let field = c.args.field.now in
     let password = c.args.password.now in
-    let kept = c.in_ok-read-in-Stored.field-0 in
-    let good = good_field field kept c.read.result c.in_ok-read-in-Stored.was c.read.ensures.each_refusal in
-    let tests = rw c.cost_of.ensures at c.is_over_budget.ensures in
-    let within = within_budget job field password kept c.read.result c.is_over_budget.result c.in_ok-read-in-Stored.was c.read.ensures.each_setting c.if-is_over_budget.false tests in
+    let kept = c.in_ok-setting-in-Stored.setting in
+    let good = good_field field kept c.read.result c.in_ok-setting-in-Stored.was c.read.ensures.each_refusal in
+    let within = within_budget job field password kept c.read.result c.is_over_budget.result c.check_cost.result c.in_ok-setting-in-Stored.was c.read.ensures.each_setting
+    c.if-is_over_budget.false c.is_over_budget.ensures c.check_cost.ensures in
     let p = err_from_is_err_and c.from_residual-in_err-fits-in-Stored.result c.from_residual-in_err-fits-in-Stored.ensures.1 in
     rw (p.1, p.2) (fault_is_judged job field password c.args.meter.now c.fits.new.meter c.in_err-fits-in-Stored.field-0.0
     c.in-Stored.ensures good within c.in_err-fits-in-Stored.ensures.compared)

@@ -1,0 +1,14 @@
+-- Which settings are out of date where new hashes are made by another one.
+use Rattle.std.specs.Prelude.{Bool, true, false, nat_lt}
+use Rattle.kdf_core.specs.Params.{product}
+use Rattle.crypt_core.specs.declared.scheme.Scheme.{Scheme}
+use Rattle.crypt_core.specs.declared.scheme.Scheme.TheVariants.{Md5crypt, Sha256crypt, Sha512crypt, Scrypt}
+
+-- a scheme is replaced by one of another method, by the same SHA-crypt with more rounds, and by scrypt with a
+-- greater N * r * p; md5crypt has nothing that could grow
+abbrev pub is_replaced_by : Scheme → Scheme → Bool
+is_replaced_by Md5crypt Md5crypt = false
+is_replaced_by (Sha256crypt old) (Sha256crypt new) = nat_lt old.count new.count
+is_replaced_by (Sha512crypt old) (Sha512crypt new) = nat_lt old.count new.count
+is_replaced_by (Scrypt old) (Scrypt new) = nat_lt (product old) (product new)
+is_replaced_by old new = true
