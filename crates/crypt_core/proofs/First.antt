@@ -10,12 +10,12 @@ use Rattle.crypt_core.specs.declared.setting.fault.SettingFault.{SettingFault}
 use Rattle.crypt_core.specs.declared.setting.fault.SettingFault.TheVariants.{TooLong, BadCharacter, UnknownScheme, BadRounds, BadCost, ScryptRange, AboveCeiling, BadSalt}
 use Rattle.crypt_core.specs.Methods.{prefix}
 use Rattle.crypt_core.specs.Refusals.{IsShaText, LacksRounds, LacksCost, IsScryptText, Breaks, IsRefused, rule_number}
-use Rattle.crypt_core.specs.Settings.{method_of, IsSettingByte, IsSettingText, IsField, BeginsWith, scrypt_part, IsScryptSalt, SpellsCost, SpellsScheme, scrypt_part_len}
+use Rattle.crypt_core.specs.Settings.{method_of, IsSettingByte, IsSettingText, IsField, BeginsWith, scrypt_part, IsScryptSalt, SpellsCost, SpellsScheme, scrypt_part_len, setting_limit}
 use Rattle.crypt_core.proofs.Numerals.{scrypt_part_unique, length-scrypt_part, all_scrypt_part}
 use Rattle.crypt_core.proofs.Readings.{prefix_unique}
 use Rattle.crypt_core.proofs.Refusals.{scheme_breaks_none}
 
-pub refused_long : (text : List ℕ) → 384 < length text → IsRefused text TooLong
+pub refused_long : (text : List ℕ) → setting_limit < length text → IsRefused text TooLong
 refused_long text long = record { breaks = long; first = λ f below b. rules_begin f below }
   where
     rules_begin : (f : SettingFault) → rule_number f < 1 → ⊥
@@ -28,7 +28,7 @@ refused_long text long = record { breaks = long; first = λ f below b. rules_beg
     rules_begin AboveCeiling below = omega arith
     rules_begin BadSalt below = omega arith
 
-pub refused_character : (text : List ℕ) → length text ≤ 384 → (All IsSettingByte text → ⊥) → IsRefused text BadCharacter
+pub refused_character : (text : List ℕ) → length text ≤ setting_limit → (All IsSettingByte text → ⊥) → IsRefused text BadCharacter
 refused_character text short bad = record { breaks = bad; first = earlier }
   where
     earlier : (f : SettingFault) → rule_number f < 2 → Breaks f text → ⊥
