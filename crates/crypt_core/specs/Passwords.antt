@@ -5,7 +5,7 @@ use Rattle.crypt_core.specs.declared.password.PasswordFault.TheVariants.{TooLong
 
 -- the most bytes of a password
 abbrev pub password_limit : ℕ
-password_limit = 512
+password_limit = 1024
 
 -- no more bytes than the limit, and no byte 0 among them
 pub record IsPassword (bytes : List ℕ) : Type 0 where

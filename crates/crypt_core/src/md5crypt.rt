@@ -79,7 +79,7 @@ mod tests {
 
     #[test]
     fn counts_its_messages(rt: HostRuntime) -> Result<(), Fail> {
-        for (len, bytes) in [(0, 21347), (512, 974189)] {
+        for (len, bytes) in [(0, 21347), (512, 974189), (1024, 1927022)] {
             let password = vec![in rt.alloc(); b'a'; len]?;
             let password = Password::new(password.as_slice()).expect(&rt, "a password");
             let mut meter = Meter::new();

@@ -7,7 +7,7 @@ use std::marker::Model;
 use thiserror::Error;
 
 /// The most bytes of a password.
-pub const PASSWORD_LIMIT: usize = 512;
+pub const PASSWORD_LIMIT: usize = 1024;
 
 /// Why bytes are no password.
 #[derive(Clone, Copy, Debug, PartialEq, Eq, Error)]
@@ -85,9 +85,12 @@ mod tests {
         let alloc = rt.alloc();
         let cases = [
             (0, b'a', None),
-            (512, b'a', None),
-            (513, b'a', Some(PasswordFault::TooLong)),
-            (513, 0, Some(PasswordFault::TooLong)),
+            (513, b'a', None),
+            (513, 0, Some(PasswordFault::HasNul)),
+            (1024, b'a', None),
+            (1024, 0, Some(PasswordFault::HasNul)),
+            (1025, b'a', Some(PasswordFault::TooLong)),
+            (1025, 0, Some(PasswordFault::TooLong)),
             (1, 0, Some(PasswordFault::HasNul)),
         ];
         for (count, byte, fault) in cases {

@@ -47,7 +47,7 @@ pub record IsStored (field : List ℕ) : Type 0 where
 
 -- the most bytes of a line without its line feed, and of a name
 abbrev pub line_limit : ℕ
-line_limit = 1024
+line_limit = 2048
 
 abbrev pub name_limit : ℕ
 name_limit = 64

@@ -14,7 +14,7 @@ use crypt_core::setting::{Setting, SettingFault};
 use thiserror::Error;
 
 /// The most bytes of a line, without its line feed.
-pub const LINE_LIMIT: usize = 1024;
+pub const LINE_LIMIT: usize = 2048;
 
 /// The most bytes of a name.
 pub const NAME_LIMIT: usize = 64;

@@ -172,7 +172,7 @@ fn command<'a>(alloc: Global) -> Result<Command<'a>, AllocError>
     ensures { IfOk result (λ made. app_of made ≡ command) }
 {
     let password = word(alloc, "password", "PASSWORD").help(
-        "The password; without it, as by --stdin",
+        "The password, of at most 1,024 bytes; without it, as by --stdin",
     );
     let salt_word = word(alloc, "salt-word", "SALT").help("The salt, in place of --salt");
     let bare = Command::new(alloc, "mkpasswd")

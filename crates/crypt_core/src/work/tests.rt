@@ -9,10 +9,11 @@ use std::process::Abort;
 use std::test::Fail;
 
 // A setting, the length of a password, and its bound: digests, bytes, mixings, table and scratch.
-const BOUNDS: [(&str, usize, [u64; 5]); 13] = [
+const BOUNDS: [(&str, usize, [u64; 5]); 16] = [
     ("$1$xxxxxxxx", 0, [1002, 21347, 0, 0, 0]),
     ("$1$xxxxxxxx", 8, [1002, 36239, 0, 0, 0]),
     ("$1$xxxxxxxx", 512, [1002, 974189, 0, 0, 0]),
+    ("$1$xxxxxxxx", 1024, [1002, 1_927_022, 0, 0, 0]),
     ("$5$", 0, [5004, 160000, 0, 0, 0]),
     ("$5$saltstring", 12, [5004, 307760, 0, 0, 0]),
     (
@@ -20,9 +21,15 @@ const BOUNDS: [(&str, usize, [u64; 5]); 13] = [
         512,
         [1_000_000_003, 1_025_524_081_584, 0, 0, 0],
     ),
+    (
+        "$6$rounds=999999999$saltstringsaltst",
+        1024,
+        [1_000_000_003, 1_976_382_017_456, 0, 0, 0],
+    ),
     ("$7$2/..../....", 0, [10, 948, 32, 2048, 384]),
     ("$7$2/..../....", 64, [10, 948, 32, 2048, 384]),
     ("$7$2/..../....", 65, [11, 1013, 32, 2048, 384]),
+    ("$7$2/..../....", 1024, [11, 1972, 32, 2048, 384]),
     (
         "$7$86....E....NaCl",
         8,
@@ -47,7 +54,7 @@ const BOUNDS: [(&str, usize, [u64; 5]); 13] = [
 ];
 
 // A setting, the length of a password, and what its hash costs at most.
-const COSTS: [(&str, usize, u64); 11] = [
+const COSTS: [(&str, usize, u64); 13] = [
     ("$1$xxxxxxxx", 8, 36239),
     ("$5$saltstring", 12, 307760),
     ("$7$2/..../....", 0, 5044),
@@ -58,22 +65,30 @@ const COSTS: [(&str, usize, u64); 11] = [
         512,
         1_025_524_081_584,
     ),
+    (
+        "$6$rounds=999999999$saltstringsaltst",
+        1024,
+        1_976_382_017_456,
+    ),
     ("$6$rounds=999999999$saltstringsaltst", 8, 89_523_813_984),
     ("$5$rounds=999999999$saltstringsaltst", 8, 57_523_813_984),
     // The most bytes that are mixed.
     ("$7$J2..../....", 0, 2_147_486_948),
     ("$7$/...E./....", 512, 5_435_818_660),
+    ("$7$/...E./....", 1024, 5_435_819_172),
     ("$7$/...E./....", 0, 5_435_818_148),
 ];
 
 // Settings that are cheap to hash by, and the length of a password.
-const HASHED: [(&str, usize); 28] = [
+const HASHED: [(&str, usize); 33] = [
     ("$1$", 0),
     ("$1$ab", 1),
     ("$1$xxxxxxxx", 7),
     ("$1$xxxxxxxx", 8),
     ("$1$", 64),
     ("$1$xxxxxxxx", 511),
+    ("$1$xxxxxxxx", 1023),
+    ("$1$", 1024),
     ("$5$rounds=1000$", 0),
     ("$5$rounds=1000$saltstring", 1),
     ("$5$rounds=1001$0123456789abcdef", 7),
@@ -81,12 +96,14 @@ const HASHED: [(&str, usize); 28] = [
     ("$5$rounds=1000$", 63),
     ("$5$rounds=1000$ab", 65),
     ("$5$rounds=1000$saltstring", 512),
+    ("$5$rounds=1001$saltstring", 1024),
     ("$6$rounds=1000$saltstringsaltst", 0),
     ("$6$rounds=1002$ab", 1),
     ("$6$rounds=1000$", 8),
     ("$6$rounds=1006$saltstringsaltst", 63),
     ("$6$rounds=1000$ab", 64),
     ("$6$rounds=1000$saltstring", 511),
+    ("$6$rounds=1002$", 1023),
     ("$7$2/..../....", 0),
     ("$7$2/..../....ab", 1),
     ("$7$20..../....ab", 7),
@@ -95,7 +112,8 @@ const HASHED: [(&str, usize); 28] = [
     ("$7$2/..../....ab", 64),
     ("$7$2/..../....ab", 65),
     ("$7$20....1....SodiumChloride", 511),
-    ("$7$2/..../....", 512),
+    ("$7$2/..../....", 1023),
+    ("$7$20..../....NaCl", 1024),
 ];
 
 fn setting_of(rt: &impl Abort, text: &str) -> Setting {
@@ -134,7 +152,7 @@ fn costs(rt: HostRuntime) {
 #[test]
 fn digests_at_every_length(rt: HostRuntime) {
     let setting = setting_of(&rt, "$5$rounds=123456789012$ab");
-    for len in 0..513 {
+    for len in 0..1025 {
         let work = bound(&setting, len);
         assert_eq!(rt; work.digests, 1_000_000_003, "{len} bytes");
     }

@@ -61,13 +61,13 @@ const REFUSED_TO_HASH: [Row<'static>; 7] = [
     ),
     (
         1,
-        &[b'a'; 1025],
+        &[b'a'; 2049],
         Refused,
         b"mkpasswd: line 1: line too long\n",
     ),
     (
         1,
-        &[b'a'; 1024],
+        &[b'a'; 2048],
         Refused,
         b"mkpasswd: line 1: name too long\n",
     ),

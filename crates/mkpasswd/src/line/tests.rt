@@ -118,16 +118,16 @@ fn measures_lines(rt: HostRuntime) -> Result<(), Fail> {
     let check = Kind::Check;
     let rows: [(&str, Kind, Pieces<'_>, Option<LineFault>); 20] = [
         (
-            "1,025 bytes",
+            "2,049 bytes",
             batch,
-            (b":", (1024, b'x'), b""),
+            (b":", (2048, b'x'), b""),
             line_too_long,
         ),
-        ("1,024 bytes", batch, (b":", (1023, b'x'), b""), NO_NAME),
+        ("2,048 bytes", batch, (b":", (2047, b'x'), b""), NO_NAME),
         (
-            "1,024 of a name",
+            "2,048 of a name",
             batch,
-            (b"", (1024, b'x'), b""),
+            (b"", (2048, b'x'), b""),
             NAME_TOO_LONG,
         ),
         (
@@ -138,25 +138,30 @@ fn measures_lines(rt: HostRuntime) -> Result<(), Fail> {
         ),
         ("64 of a name", batch, (b"", (64, b'a'), b":x"), None),
         (
-            "513 of a password",
+            "1,025 of a password",
             batch,
-            (b"a:", (513, b'x'), b""),
-            PASSWORD_TOO_LONG,
-        ),
-        ("512 of a password", batch, (b"a:", (512, b'x'), b""), None),
-        (
-            "513 and a colon",
-            batch,
-            (b"a:b:", (511, b'x'), b""),
+            (b"a:", (1025, b'x'), b""),
             PASSWORD_TOO_LONG,
         ),
         (
-            "1,025 bytes",
+            "1,024 of a password",
+            batch,
+            (b"a:", (1024, b'x'), b""),
+            None,
+        ),
+        (
+            "1,025 and a colon",
+            batch,
+            (b"a:b:", (1023, b'x'), b""),
+            PASSWORD_TOO_LONG,
+        ),
+        (
+            "2,049 bytes",
             check,
-            (b":", (1024, b'x'), b""),
+            (b":", (2048, b'x'), b""),
             line_too_long,
         ),
-        ("1,024 bytes", check, (b":", (1023, b'x'), b""), NO_NAME),
+        ("2,048 bytes", check, (b":", (2047, b'x'), b""), NO_NAME),
         ("65 bytes", check, (b"", (65, b'a'), b""), NAME_TOO_LONG),
         ("64 bytes", check, (b"", (64, b'a'), b""), NO_PASSWORD),
         (
@@ -167,16 +172,21 @@ fn measures_lines(rt: HostRuntime) -> Result<(), Fail> {
         ),
         ("64 of a name", check, (b"", (64, b'a'), b"::x"), None),
         (
-            "513 of a password",
+            "1,025 of a password",
             check,
-            (b"a::", (513, b'x'), b""),
+            (b"a::", (1025, b'x'), b""),
             PASSWORD_TOO_LONG,
         ),
-        ("512 of a password", check, (b"a::", (512, b'x'), b""), None),
         (
-            "513 and a colon",
+            "1,024 of a password",
             check,
-            (b"a::b:", (511, b'x'), b""),
+            (b"a::", (1024, b'x'), b""),
+            None,
+        ),
+        (
+            "1,025 and a colon",
+            check,
+            (b"a::b:", (1023, b'x'), b""),
             PASSWORD_TOO_LONG,
         ),
         (

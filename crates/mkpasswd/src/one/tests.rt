@@ -186,9 +186,9 @@ fn answers_with_the_hash(rt: HostRuntime) -> Result<(), Fail> {
 
 #[test]
 fn hashes_the_longest_password(rt: HostRuntime) -> Result<(), Fail> {
-    let mut bytes = [b'a'; 514];
-    bytes[512] = b'\n';
-    bytes[513] = b'b';
+    let mut bytes = [b'a'; 1026];
+    bytes[1024] = b'\n';
+    bytes[1025] = b'b';
     let given = Given::new(rt.alloc()).reading(MemoryReader::new(rt.alloc(), &bytes));
     let left = run_words(&rt, rt.alloc(), &["-m", "sha512crypt", "-s"], given)?;
     assert_eq!(rt; left.outcome, Ok(ONE_LINE));
@@ -232,7 +232,7 @@ fn counts_its_work(rt: HostRuntime) -> Result<(), Fail> {
 #[test]
 fn refuses_a_long_password_first(rt: HostRuntime) -> Result<(), Fail> {
     let alloc = rt.alloc();
-    let long = [b'a'; 513];
+    let long = [b'a'; 1025];
     let words = words_of(alloc, &["-m", "md5crypt", "-s"])?;
     let Plan::One(job, _from) = plan(alloc, words.as_slice())? else {
         panic!(rt; "the words are for no password");
@@ -259,8 +259,8 @@ fn refuses_a_long_password_first(rt: HostRuntime) -> Result<(), Fail> {
 fn stops_with_its_turns(rt: HostRuntime) -> Result<(), Fail> {
     let alloc = rt.alloc();
     let rows = [
-        ("512 turns", 512, RunFault::Turns),
-        ("513 turns", 513, TOO_LONG),
+        ("1,024 turns", 1024, RunFault::Turns),
+        ("1,025 turns", 1025, TOO_LONG),
     ];
     for (what, turns, fault) in rows {
         let endless = MemoryReader::new(alloc, b"a").by(1).repeated();

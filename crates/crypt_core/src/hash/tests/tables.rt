@@ -1,7 +1,7 @@
 //! Texts of perl's `crypt`, which is libxcrypt, and counts of an independent list of whole messages.
 
 // By length of the patterned password: a setting, and the text of md5crypt.
-pub const MD5CRYPT_TEXTS: [(usize, &str, &str); 19] = [
+pub const MD5CRYPT_TEXTS: [(usize, &str, &str); 21] = [
     (0, "$1$", "$1$$qRPK7m23GJusamGpoGLby/"),
     (1, "$1$R", "$1$R$3PO.qyEPPJaJW47aGj1DL0"),
     (15, "$1$2c", "$1$2c$N9Y5iXmkOPW0wT82BZbPf/"),
@@ -20,12 +20,14 @@ pub const MD5CRYPT_TEXTS: [(usize, &str, &str); 19] = [
     (511, "$1$rjyiLbWw", "$1$rjyiLbWw$6/euL2NHJ6AVIvdJEyGk4."),
     (100, "$1$toolongsalt", "$1$toolongs$7BhZvYYvZICkc2Inkr/vj1"),
     (9, "$1$rounds=5", "$1$rounds=5$w2c5HnAwXDBlwoqm00sZx."),
-    // libxcrypt takes at most 511 bytes; this one is passlib's.
+    // libxcrypt takes at most 511 bytes; these are passlib's.
     (512, "$1$zzzzzzzz", "$1$zzzzzzzz$V8yS6fUhzypu8CmYcRZIt/"),
+    (1023, "$1$abcdefg", "$1$abcdefg$g4Z4sCMaj5f3I3eE66nXe/"),
+    (1024, "$1$zzzzzzzz", "$1$zzzzzzzz$zlpp15fqO68UnvLb8k3tP0"),
 ];
 
 // By length of the patterned password: a setting, and the text of sha256crypt.
-pub const SHA256CRYPT_TEXTS: [(usize, &str, &str); 23] = [
+pub const SHA256CRYPT_TEXTS: [(usize, &str, &str); 25] = [
     (0, "$5$", "$5$$3c2QQ0KjIU1OLtB29cl8Fplc2WN7X89bnoEjaR7tWu."),
     (
         0,
@@ -132,16 +134,26 @@ pub const SHA256CRYPT_TEXTS: [(usize, &str, &str); 23] = [
         "$5$rounds=1000$rounds=5",
         "$5$rounds=1000$rounds=5$nduJq4wGdt5H52DQB4zz.d12Ozx7MUnaQmhxtn0Kt94",
     ),
-    // Computed in Python, since libxcrypt takes at most 511 bytes.
+    // Of the definition in Python, and passlib's, since libxcrypt takes at most 511 bytes.
     (
         512,
         "$5$rounds=1000$zzzzzzzzzzzzzzzz",
         "$5$rounds=1000$zzzzzzzzzzzzzzzz$gz2GH61rDRvqS3W7upN57Ui6RsNvrMTqjmFyn68yVV6",
     ),
+    (
+        1023,
+        "$5$rounds=1001$saltstring.0123",
+        "$5$rounds=1001$saltstring.0123$Ii3CpvR40Zdw/CDBR0zLvSq2fvnO6QyD1Bofu2eV2H8",
+    ),
+    (
+        1024,
+        "$5$rounds=1000$zzzzzzzzzzzzzzzz",
+        "$5$rounds=1000$zzzzzzzzzzzzzzzz$EwKqIFG7C2VPeESiKrblcXpwtsIWmKTYEDbIN.hsGr0",
+    ),
 ];
 
 // By length of the patterned password: a setting, and the text of sha512crypt.
-pub const SHA512CRYPT_TEXTS: [(usize, &str, &str); 23] = [
+pub const SHA512CRYPT_TEXTS: [(usize, &str, &str); 25] = [
     (
         0,
         "$6$",
@@ -252,16 +264,26 @@ pub const SHA512CRYPT_TEXTS: [(usize, &str, &str); 23] = [
         "$6$rounds=1000$rounds=5",
         "$6$rounds=1000$rounds=5$qc0QBxUeSq2PflI3wZ5ti6PyCtP2UE.czN25DVluGRhjB0sowwFKOArzzUneOuYWU2wmwVAvmOGcIHAINKmC90",
     ),
-    // Computed in Python, since libxcrypt takes at most 511 bytes.
+    // Of the definition in Python, and passlib's, since libxcrypt takes at most 511 bytes.
     (
         512,
         "$6$rounds=1000$zzzzzzzzzzzzzzzz",
         "$6$rounds=1000$zzzzzzzzzzzzzzzz$dg0DklAJpo6Sr.mQlTXQFgnnxM3S6ZbenRjIBE4ijlSgbDx3dOZD/i7qCzojamqyxnadn/plUal9k5kVypnRv/",
     ),
+    (
+        1023,
+        "$6$rounds=1001$saltstring.0123",
+        "$6$rounds=1001$saltstring.0123$CeDjK/dEjKLmoiXrNvRBrN7h7tbAmoT2pEOiREhY99Yic8YRFkgrBqBF11J9jqSBDExTXtJL1w9SwrO313kvv1",
+    ),
+    (
+        1024,
+        "$6$rounds=1000$zzzzzzzzzzzzzzzz",
+        "$6$rounds=1000$zzzzzzzzzzzzzzzz$WRNe5Pn35hadSz6/aozDaVOyv42utX8zH2sLr0O8qqWngfpfGJ6xfb/lJ2rq7SEBfw8JAyjEROCOWjplfvKsC/",
+    ),
 ];
 
 // By length of the patterned password: a setting, the digests and their bytes.
-pub const COUNTS: [(usize, &str, u128, u128); 23] = [
+pub const COUNTS: [(usize, &str, u128, u128); 29] = [
     (0, "$1$", 1002, 16003),
     (15, "$1$2c", 1002, 45258),
     (65, "$1$", 1002, 136975),
@@ -285,6 +307,12 @@ pub const COUNTS: [(usize, &str, u128, u128); 23] = [
     (100, "$6$rounds=1000$toolongsaltstring/cut", 1004, 275652),
     (512, "$5$rounds=1000$zzzzzzzzzzzzzzzz", 1004, 1266192),
     (512, "$6$rounds=1000$zzzzzzzzzzzzzzzz", 1004, 1294992),
+    (1023, "$1$abcdefg", 1002, 1_924_492),
+    (1024, "$1$zzzzzzzz", 1002, 1_927_022),
+    (1023, "$5$rounds=1001$saltstring.0123", 1005, 2_996_040),
+    (1024, "$5$rounds=1000$zzzzzzzzzzzzzzzz", 1004, 3_010_992),
+    (1023, "$6$rounds=1001$saltstring.0123", 1005, 3_029_967),
+    (1024, "$6$rounds=1000$zzzzzzzzzzzzzzzz", 1004, 3_042_144),
 ];
 
 // Published vectors of other passwords: a setting, the digests, their bytes, and the text. Ten rounds count
@@ -329,7 +357,7 @@ pub const NAMED: [(&str, &str, u128, u128, &str); 5] = [
 
 // By length of the patterned password: a setting, and the text of scrypt, by libxcrypt and by Python's
 // hashlib alike.
-pub const SCRYPT_TEXTS: [(usize, &str, &str); 15] = [
+pub const SCRYPT_TEXTS: [(usize, &str, &str); 17] = [
     (
         0,
         "$7$0/..../....",
@@ -404,6 +432,17 @@ pub const SCRYPT_TEXTS: [(usize, &str, &str); 15] = [
         13,
         "$7$9/..../....large.N",
         "$7$9/..../....large.N$9nNmFO.JwBNgdTdApEQbrtNefeGqENGk/nkOa9z8o3C",
+    ),
+    // By hashlib and passlib, since libxcrypt takes at most 511 bytes.
+    (
+        1023,
+        "$7$24..../....long.password",
+        "$7$24..../....long.password$vycW6EBm0CJ4veuCyih9XvJBg3zliB/COvoDaksgAfC",
+    ),
+    (
+        1024,
+        "$7$3/....0....yyyyyyyyyyyyyyyyyyyyyyyyyyyyyyyyyyyyyyyyyyyyyyyyyyyyyyyyyyyyyyyyyyyyyyyyyyyyyyyyyyyyyy",
+        "$7$3/....0....yyyyyyyyyyyyyyyyyyyyyyyyyyyyyyyyyyyyyyyyyyyyyyyyyyyyyyyyyyyyyyyyyyyyyyyyyyyyyyyyyyyyyy$o36Q2WYa4g3X/jHgB2THufxvvcfwYZMBZNcfX8LgO1D",
     ),
 ];
 

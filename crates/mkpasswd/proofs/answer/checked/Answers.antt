@@ -32,7 +32,7 @@ worded g c =
     elim c.if-is_outdated.branch [
       | then-is_outdated+in_ok-append_new_hash w ↦ rw (sym c.is_outdated.ensures ∙ w.if-is_outdated.true, w.text-is)
           (w.in_ok-append_new_hash.ensures.text ∙ (ap₂ (λ (x : List ℕ) (k : Kept). x ++ colon ∷ crypt c.args.password.now k) so_far w.next_setting-setting.ensures.setting
-      ∙ append_assoc front word new))
+          ∙ append_assoc front word new))
       | else-is_outdated w ↦ rw (sym c.is_outdated.ensures ∙ w.if-is_outdated.false, w.text-is) (so_far ∙ ap (λ (x : List ℕ). front ++ x) (sym (append-nil word)))
     ]
 

@@ -5,7 +5,7 @@ use std::test::Fail;
 // It has room for a line that is not too long, and for little else.
 const _: () = prove!(size_of::<Held>() <= LINE_LIMIT + 16);
 
-const _: () = prove!(LINE_LIMIT == 1024);
+const _: () = prove!(LINE_LIMIT == 2048);
 
 // Whether these bytes are held, or `None`: that they are too many.
 fn holds(held: &Held, want: Option<&[u8]>) -> bool {
@@ -17,20 +17,20 @@ fn holds(held: &Held, want: Option<&[u8]>) -> bool {
 
 #[test]
 fn holds_a_line_over_pieces(rt: HostRuntime) -> Result<(), Fail> {
-    let long = [b'a'; 1025];
+    let long = [b'a'; 2049];
     let rows: [(&str, [&[u8]; 3], Option<&[u8]>); 7] = [
         ("nothing", [b"", b"", b""], Some(b"")),
         ("three pieces", [b"al", b"", b"ice:x"], Some(b"alice:x")),
         (
-            "1,024 bytes",
-            [&long[..512], &long[..511], b"a"],
-            Some(&long[..1024]),
+            "2,048 bytes",
+            [&long[..512], &long[..1535], b"a"],
+            Some(&long[..2048]),
         ),
-        ("the 1,025th", [&long[..512], &long[..512], b"a"], None),
-        ("1,025 at once", [&long, b"", b""], None),
+        ("the 2,049th", [&long[..512], &long[..1536], b"a"], None),
+        ("2,049 at once", [&long, b"", b""], None),
         (
             "too many, and few",
-            [&long[..1000], &long[..25], b"a"],
+            [&long[..2000], &long[..49], b"a"],
             None,
         ),
         ("too many twice", [&long, &long, b"a"], None),

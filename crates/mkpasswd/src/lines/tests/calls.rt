@@ -9,10 +9,10 @@ const ALL: usize = usize::MAX;
 
 const CHECK: [&str; 1] = ["--check"];
 
-// A line of 1,030 bytes, and its line feed.
-fn long_line() -> [u8; 1031] {
-    let mut bytes = [b'a'; 1031];
-    bytes[1030] = b'\n';
+// A line of 2,054 bytes, and its line feed.
+fn long_line() -> [u8; 2055] {
+    let mut bytes = [b'a'; 2055];
+    bytes[2054] = b'\n';
     bytes
 }
 
@@ -91,6 +91,8 @@ fn calls_in_order_in_a_batch(rt: HostRuntime) -> Result<(), Fail> {
     let long = Listed {
         input: &long_line(),
         steps: &[
+            read(512),
+            read(512),
             read(512),
             read(512),
             read(7),

@@ -17,9 +17,9 @@ fn refuses_hostile_lines(rt: HostRuntime) -> Result<(), Fail> {
     let alloc = rt.alloc();
     // The kind, what stands before and behind so many of a byte, and what is told of the line.
     let rows: [(&str, &str, u8, usize, &str, &str); 16] = [
-        ("--check", ":", b'a', 1024, "", "line too long"),
+        ("--check", ":", b'a', 2048, "", "line too long"),
         ("--check", "", b'a', 65, "", "name too long"),
-        ("--check", "a::", b'x', 513, "", "password too long"),
+        ("--check", "a::", b'x', 1025, "", "password too long"),
         ("--check", "a:!:", 0, 1, "", "password has a zero byte"),
         (
             "--check",
@@ -58,9 +58,9 @@ fn refuses_hostile_lines(rt: HostRuntime) -> Result<(), Fail> {
             "",
             "above ceiling",
         ),
-        ("--batch", "", b'a', 1024, "", "name too long"),
-        ("--batch", ":", b'a', 1024, "", "line too long"),
-        ("--batch", "a:", b'x', 513, "", "password too long"),
+        ("--batch", "", b'a', 2048, "", "name too long"),
+        ("--batch", ":", b'a', 2048, "", "line too long"),
+        ("--batch", "a:", b'x', 1025, "", "password too long"),
     ];
     for (kind, front, byte, count, back, told) in rows {
         let mut bytes = Vec::new(alloc);
@@ -118,11 +118,11 @@ fn skips_lines_that_are_too_long(rt: HostRuntime) -> Result<(), Fail> {
     let alloc = rt.alloc();
     let rows = [
         (
-            1024,
+            2048,
             "mkpasswd: line 1: no password field\nmkpasswd: line 2: name too long\n",
         ),
         (
-            1025,
+            2049,
             "mkpasswd: line 1: no password field\nmkpasswd: line 2: line too long\n",
         ),
     ];

@@ -40,13 +40,13 @@ fn want(
 
 #[test]
 fn reads_the_first_line(rt: HostRuntime) {
-    let long = [b'a'; 513];
-    let mut more = [b'a'; 514];
-    more[512] = b'\n';
-    more[513] = b'b';
+    let long = [b'a'; 1025];
+    let mut more = [b'a'; 1026];
+    more[1024] = b'\n';
+    more[1025] = b'b';
     let too_long = Err(RunFault::Password(PasswordFault::TooLong));
     let has_nul = Err(RunFault::Password(PasswordFault::HasNul));
-    let rows: [(&str, &[u8], usize, Result<&[u8], RunFault>, u64); 14] = [
+    let rows: [(&str, &[u8], usize, Result<&[u8], RunFault>, u64); 15] = [
         ("whole", b"password\n", 999, Ok(b"password"), 1),
         ("by the byte", b"password\n", 1, Ok(b"password"), 9),
         ("no line feed", b"password", 999, Ok(b"password"), 2),
@@ -55,16 +55,17 @@ fn reads_the_first_line(rt: HostRuntime) {
         ("two pieces", b"password\nmore", 6, Ok(b"password"), 2),
         ("an empty line", b"\nmore", 999, Ok(b""), 1),
         ("an empty input", b"", 999, Ok(b""), 1),
-        ("512 bytes", &long[..512], 999, Ok(&long[..512]), 2),
-        ("512 bytes and more", &more, 999, Ok(&long[..512]), 1),
-        ("513 bytes", &long, 999, too_long, 1),
-        ("513 by the byte", &long, 1, too_long, 513),
+        ("513 bytes", &long[..513], 9999, Ok(&long[..513]), 2),
+        ("1,024 bytes", &long[..1024], 9999, Ok(&long[..1024]), 2),
+        ("1,024 bytes and more", &more, 9999, Ok(&long[..1024]), 1),
+        ("1,025 bytes", &long, 9999, too_long, 1),
+        ("1,025 by the byte", &long, 1, too_long, 1025),
         ("a byte 0", b"pass\0word\n", 999, has_nul, 1),
         ("a byte 0 later", b"pass\n\0", 999, Ok(b"pass"), 1),
     ];
     for (what, bytes, most, wanted, taken) in rows {
         let reader = MemoryReader::new(rt.alloc(), bytes).by(most);
-        want(&rt, what, reader, 999, wanted, taken);
+        want(&rt, what, reader, 9999, wanted, taken);
     }
 }
 
@@ -105,7 +106,7 @@ fn stops_with_its_turns(rt: HostRuntime) {
         0,
     );
     let endless = MemoryReader::new(rt.alloc(), b"a").repeated();
-    want(&rt, "512 turns", endless, 512, turns, 512);
+    want(&rt, "1,024 turns", endless, 1024, turns, 1024);
     let endless = MemoryReader::new(rt.alloc(), b"a").repeated();
-    want(&rt, "513 turns", endless, 513, too_long, 513);
+    want(&rt, "1,025 turns", endless, 1025, too_long, 1025);
 }

@@ -7,7 +7,7 @@ use crate::test_given::Listed;
 
 const ALL: usize = usize::MAX;
 
-const LONG: [u8; 513] = [b'a'; 513];
+const LONG: [u8; 1025] = [b'a'; 1025];
 
 const FLUSH: Step = (Device::Output, Flush(Ok(())));
 
@@ -43,7 +43,7 @@ fn want_steps(rt: &impl Abort, alloc: Global, run: Listed<'_>) -> Result<(), Fai
     Ok(())
 }
 
-// A run from a word reads nothing. One from the input asks for what is missing of 513 bytes.
+// A run from a word reads nothing. One from the input asks for what is missing of 1,025 bytes.
 #[test]
 fn calls_in_order(rt: HostRuntime) -> Result<(), Fail> {
     let (input, write) = (Device::Input, (Device::Output, Write(35, Ok(35))));
@@ -56,23 +56,28 @@ fn calls_in_order(rt: HostRuntime) -> Result<(), Fail> {
         FLUSH_FAULTS,
     ];
     let none = [(Device::Output, Write(35, Ok(0)))];
-    let one_read = [(input, Read(513, Ok(13))), write, FLUSH, FLUSH_FAULTS];
+    let one_read = [(input, Read(1025, Ok(13))), write, FLUSH, FLUSH_FAULTS];
     let to_the_end = [
-        (input, Read(513, Ok(8))),
-        (input, Read(505, Ok(0))),
+        (input, Read(1025, Ok(8))),
+        (input, Read(1017, Ok(0))),
         write,
         FLUSH,
         FLUSH_FAULTS,
     ];
     let by_four = [
-        (input, Read(513, Ok(4))),
-        (input, Read(509, Ok(4))),
-        (input, Read(505, Ok(4))),
+        (input, Read(1025, Ok(4))),
+        (input, Read(1021, Ok(4))),
+        (input, Read(1017, Ok(4))),
         write,
         FLUSH,
         FLUSH_FAULTS,
     ];
-    let too_long = [(input, Read(513, Ok(300))), (input, Read(213, Ok(213)))];
+    let too_long = [
+        (input, Read(1025, Ok(300))),
+        (input, Read(725, Ok(300))),
+        (input, Read(425, Ok(300))),
+        (input, Read(125, Ok(125))),
+    ];
     let rows = [
         from_word(ALL, &whole),
         from_word(20, &in_two),
