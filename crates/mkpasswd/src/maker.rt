@@ -128,7 +128,7 @@ mod tests {
 
     #[test]
     fn takes_what_settings_take(rt: HostRuntime) {
-        let most = [b'z'; SCRYPT_SALT_LIMIT];
+        let most = [b'z'; 86];
         let rows: [(Method, u32, Option<&[u8]>, Option<MakeFault>); 13] = [
             (Method::Scrypt, 0, Some(b"ab"), None),
             (Method::Scrypt, 11, Some(&most), None),

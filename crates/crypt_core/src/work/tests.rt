@@ -54,8 +54,10 @@ const BOUNDS: [(&str, usize, [u64; 5]); 16] = [
 ];
 
 // A setting, the length of a password, and what its hash costs at most.
-const COSTS: [(&str, usize, u64); 13] = [
+const COSTS: [(&str, usize, u64); 15] = [
     ("$1$xxxxxxxx", 8, 36239),
+    ("$1$xxxxxxxx", 1024, 1_927_022),
+    ("$6$saltstringsaltst", 1024, 10_948_512),
     ("$5$saltstring", 12, 307760),
     ("$7$2/..../....", 0, 5044),
     ("$7$86....E....NaCl", 8, 33_656_996),

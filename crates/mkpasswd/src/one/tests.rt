@@ -185,17 +185,23 @@ fn answers_with_the_hash(rt: HostRuntime) -> Result<(), Fail> {
 }
 
 #[test]
-fn hashes_the_longest_password(rt: HostRuntime) -> Result<(), Fail> {
+fn hashes_long_passwords(rt: HostRuntime) -> Result<(), Fail> {
     let mut bytes = [b'a'; 1026];
     bytes[1024] = b'\n';
     bytes[1025] = b'b';
-    let given = Given::new(rt.alloc()).reading(MemoryReader::new(rt.alloc(), &bytes));
-    let left = run_words(&rt, rt.alloc(), &["-m", "sha512crypt", "-s"], given)?;
-    assert_eq!(rt; left.outcome, Ok(ONE_LINE));
-    let text = left.out.taken();
-    assert_eq!(rt; text.len(), 107);
-    assert!(rt; text.starts_with(b"$6$/0..............$"));
-    assert_eq!(rt; text.last().copied(), Some(b'\n'));
+    let mut shorter = [b'a'; 514];
+    shorter[512] = b'\n';
+    shorter[513] = b'b';
+    let inputs: [&[u8]; 2] = [&bytes, &shorter];
+    for input in inputs {
+        let given = Given::new(rt.alloc()).reading(MemoryReader::new(rt.alloc(), input));
+        let left = run_words(&rt, rt.alloc(), &["-m", "sha512crypt", "-s"], given)?;
+        assert_eq!(rt; left.outcome, Ok(ONE_LINE));
+        let text = left.out.taken();
+        assert_eq!(rt; text.len(), 107);
+        assert!(rt; text.starts_with(b"$6$/0..............$"));
+        assert_eq!(rt; text.last().copied(), Some(b'\n'));
+    }
     Ok(())
 }
 

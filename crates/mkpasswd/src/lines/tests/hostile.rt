@@ -16,7 +16,7 @@ fn is_told(text: &[u8], first: &str, told: &str) -> bool {
 fn refuses_hostile_lines(rt: HostRuntime) -> Result<(), Fail> {
     let alloc = rt.alloc();
     // The kind, what stands before and behind so many of a byte, and what is told of the line.
-    let rows: [(&str, &str, u8, usize, &str, &str); 16] = [
+    let rows: [(&str, &str, u8, usize, &str, &str); 17] = [
         ("--check", ":", b'a', 2048, "", "line too long"),
         ("--check", "", b'a', 65, "", "name too long"),
         ("--check", "a::", b'x', 1025, "", "password too long"),
@@ -58,6 +58,7 @@ fn refuses_hostile_lines(rt: HostRuntime) -> Result<(), Fail> {
             "",
             "above ceiling",
         ),
+        ("--batch", "", b'a', 1024, "", "name too long"),
         ("--batch", "", b'a', 2048, "", "name too long"),
         ("--batch", ":", b'a', 2048, "", "line too long"),
         ("--batch", "a:", b'x', 1025, "", "password too long"),
@@ -152,20 +153,24 @@ fn skips_lines_that_are_too_long(rt: HostRuntime) -> Result<(), Fail> {
             }
         }
     }
-    let mut bytes = Vec::new(alloc);
-    for _ in 0..1 << 20 {
-        bytes.push(b'a')?;
+    for len in [2049, 1 << 20] {
+        let mut bytes = Vec::new(alloc);
+        for _ in 0..len {
+            bytes.push(b'a')?;
+        }
+        bytes.extend_from_slice(b"\nann:password")?;
+        let given = Given::new(alloc).reading(MemoryReader::new(alloc, bytes.as_slice()));
+        let told = (ANN, "mkpasswd: line 1: line too long\n");
+        let outcome = Ok(tally(2, 1, 0));
+        want(
+            &rt,
+            alloc,
+            "a line behind a long one",
+            &BATCH,
+            given,
+            outcome,
+            told,
+        )?;
     }
-    bytes.extend_from_slice(b"\nann:password")?;
-    let given = Given::new(alloc).reading(MemoryReader::new(alloc, bytes.as_slice()));
-    let told = (ANN, "mkpasswd: line 1: line too long\n");
-    want(
-        &rt,
-        alloc,
-        "1048576 bytes",
-        &BATCH,
-        given,
-        Ok(tally(2, 1, 0)),
-        told,
-    )
+    Ok(())
 }
