@@ -3,15 +3,14 @@
 ghost use Rattle.std.specs.Prelude.{◌≡◌, IfSome};
 ghost use Rattle.prims_core.specs.Meter.{HasRoom};
 
+mod scrypt_tables;
 mod tables;
 
 use super::*;
+use scrypt_tables::{SCRYPT_COUNTS, SCRYPT_TEXTS};
 use std::process::Abort;
 use std::test::Fail;
-use tables::{
-    COUNTS, MD5CRYPT_TEXTS, NAMED, SCRYPT_COUNTS, SCRYPT_TEXTS, SHA256CRYPT_TEXTS,
-    SHA512CRYPT_TEXTS,
-};
+use tables::{COUNTS, MD5CRYPT_TEXTS, NAMED, SHA256CRYPT_TEXTS, SHA512CRYPT_TEXTS};
 
 // A password of every kind of byte but 0.
 fn patterned(rt: &impl Abort, alloc: Global, len: usize) -> Result<Password, Fail> {
