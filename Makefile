@@ -2,14 +2,16 @@
 # make run        builds what is missing and hashes a first password
 # make check      every test there is, and the gate
 # make bench      measures against libxcrypt, in some two minutes
-# make install    puts the program under PREFIX/bin (default /usr/local)
+# make lib        builds the C libraries, libmkpasswd.a and libmkpasswd.so.1
+# make install    puts the program, the C libraries and their header under PREFIX (default /usr/local)
 # make clean      removes what was built
 PREFIX ?= /usr/local
+LIBDIR ?= $(PREFIX)/lib
 RT ?= rt
 
 SOURCES := $(shell find crates -path '*/out' -prune -o \( -name '*.rt' -o -name '*.antt' \) -print) crates.txt
 
-.PHONY: all run check bench install clean
+.PHONY: all run lib check bench install clean
 
 all: mkpasswd
 
@@ -20,6 +22,23 @@ mkpasswd: $(SOURCES)
 run: mkpasswd
 	@./mkpasswd -m md5crypt -S xxxxxxxx password
 
+lib: libmkpasswd.a libmkpasswd.so.1
+
+# One object of the proved calls and the toolchain's few lines for memory, which offers the calls alone.
+build/mkpasswd.o: $(SOURCES)
+	cd crates/crypt_c && $(RT) lib > /dev/null
+	mkdir -p build
+	cd build && ar x ../crates/crypt_c/out/libcrypt_c.a crypt_c.o && ar x $$(dirname $$($(RT) doc))/c/liblibc_c.a heap.pic.o
+	ld -r -o $@ build/crypt_c.o build/heap.pic.o
+	objcopy --wildcard --keep-global-symbol='mkpasswd_*' $@
+
+libmkpasswd.a: build/mkpasswd.o
+	rm -f $@
+	ar rcsD $@ build/mkpasswd.o
+
+libmkpasswd.so.1: build/mkpasswd.o
+	$(CC) -shared -Wl,-soname,$@ -Wl,-z,relro -Wl,-z,now -o $@ build/mkpasswd.o
+
 check: mkpasswd
 	tools/check-layers --selftest
 	tools/check-layers
@@ -29,13 +48,23 @@ check: mkpasswd
 	tools/compare ./mkpasswd
 	tools/compare-lines --selftest ./mkpasswd
 	tools/compare-lines ./mkpasswd
+	installed=$$(mktemp -d) && trap 'rm -rf "$$installed"' EXIT && \
+	$(MAKE) --no-print-directory install DESTDIR= PREFIX="$$installed" LIBDIR="$$installed/lib" && \
+	tools/check-c --selftest "$$installed" && \
+	tools/check-c "$$installed"
 	$(RT) ci
 
 bench: mkpasswd
 	tools/bench ./mkpasswd
 
-install: mkpasswd
+install: mkpasswd lib
 	install -D -m 755 mkpasswd $(DESTDIR)$(PREFIX)/bin/mkpasswd
+	install -D -m 644 include/mkpasswd.h $(DESTDIR)$(PREFIX)/include/mkpasswd.h
+	install -D -m 644 libmkpasswd.a $(DESTDIR)$(LIBDIR)/libmkpasswd.a
+	install -D -m 755 libmkpasswd.so.1 $(DESTDIR)$(LIBDIR)/libmkpasswd.so.1
+	ln -sf libmkpasswd.so.1 $(DESTDIR)$(LIBDIR)/libmkpasswd.so
+	mkdir -p $(DESTDIR)$(LIBDIR)/pkgconfig
+	sed -e 's|@PREFIX@|$(PREFIX)|' -e 's|@LIBDIR@|$(LIBDIR)|' mkpasswd.pc.in > $(DESTDIR)$(LIBDIR)/pkgconfig/mkpasswd.pc
 
 clean:
-	rm -rf mkpasswd crates/*/out
+	rm -rf mkpasswd libmkpasswd.a libmkpasswd.so.1 build crates/*/out

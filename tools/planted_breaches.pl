@@ -13,6 +13,7 @@ my $sha256 = "$counted/counted_sha256.rt";
 my $main = 'crates/program/src/main.rt';
 my $hash = 'crates/crypt_core/src/hash.rt';
 my $scheme = 'crates/crypt_core/src/md5crypt.rt';
+my $exports = 'crates/crypt_c/src/lib.rt';
 my $lines = 'crates/mkpasswd/src/lines';
 my $import = 'use prims_core::meter::Meter;';
 my $makes = 'fn f() { let mut meter = Meter::new(); }';
@@ -141,6 +142,10 @@ return {
             'crates/program/src/other.rt' => "$import\n$makes",
             $main => 'mod other;',
         ],
+        ['a meter made in another room of the calls for C', 'crates/crypt_c/src/calls.rt' => 'fn f() { let mut meter = Meter::new(); }'],
+        ['a call for C under another name', $exports => '#[unsafe(no_mangle)] pub extern "C" fn other() {}'],
+        ['a call for C in a library', $hash => '#[unsafe(no_mangle)] pub extern "C" fn mkpasswd_other() {}'],
+        ['what is unsafe among the calls for C', $exports => 'fn f() { unsafe { g() }; }'],
         ['a meter made by its path', $hash => 'fn f() { prims_core::meter::Meter::new(); }'],
         ['a meter made by its type in brackets', $hash => 'fn f() { <Meter>::new(); }'],
         ['a meter made with a space', $hash => 'fn f() { Meter ::new(); }'],
@@ -175,7 +180,7 @@ return {
         ],
         [
             'tests that are none, below',
-            "$lines/tests/cut_short.rt" => $makes, "$lines.rt" => ["#[cfg(test)]\nmod tests;", 'mod tests;'],
+            "$lines/tests/cut_short.rt" => $makes, "$lines.rt" => ["#[cfg(test)]\npub(crate) mod tests;", 'pub(crate) mod tests;'],
         ],
         [
             'a comment in place of the attribute',
@@ -215,6 +220,6 @@ return {
             'a second module of tests',
             $hash => "#[cfg(test)]\n#[allow(unused)]\nmod more {\n    mod below {\n        $makes\n    }\n}",
         ],
-        ['a remark behind a crate', 'crates.txt' => ['program: clap', "# md5\nprogram: clap"]],
+        ['a remark behind a crate', 'crates.txt' => ['program: mkpasswd', "# md5\nprogram: mkpasswd"]],
     ],
 };

@@ -1,12 +1,18 @@
 -- Lemmas on salts made of random words.
-use Rattle.std.proofs.Common.{◌≡◌, ℕ, ◌+◌, List, [], ◌∷◌, ◌++◌, All, arith}
+use Rattle.std.proofs.Common.{◌≡◌, ◌<◌, ◌⊎◌, ℕ, ◌+◌, List, [], ◌∷◌, ◌++◌, All, arith, inl, inr, length, refl}
 use Rattle.std.specs.List.{range_with_len}
 use Rattle.std.proofs.lemmas.List.FromFn.{map-range_with_len_more}
 use Rattle.std.proofs.lemmas.List.Elements.{All-map}
 use Rattle.prims_core.specs.Alphabet.{alphabet}
 use Rattle.std.specs.Prelude.{Contains}
 use Rattle.crypt_core.proofs.Numerals.{in_alphabet}
-use Rattle.crypt_core.specs.MadeSalts.{made_character, made_salt}
+use Rattle.crypt_core.specs.MadeSalts.{made_character, made_salt, made_salt_length}
+use Rattle.crypt_core.specs.MadeSettings.{IsMakeRefused, IsMakeable, TakesCost}
+use Rattle.crypt_core.specs.Methods.{salt_limit}
+use Rattle.crypt_core.specs.declared.method.Method.{Method}
+use Rattle.crypt_core.specs.declared.method.Method.TheVariants.{Md5crypt, Sha256crypt, Sha512crypt, Scrypt}
+use Rattle.crypt_core.specs.declared.setting.fault.MakeFault.{MakeFault}
+use Rattle.crypt_core.specs.declared.setting.fault.MakeFault.TheVariants.{SaltLength, SaltCharacter, Cost}
 
 -- one character more
 pub made_salt-more : (words : List ℕ) (n : ℕ) → made_salt words (n + 1) ≡ made_salt words n ++ made_character words n ∷ []
@@ -16,3 +22,27 @@ made_salt-more words n = map-range_with_len_more (made_character words) 0 n n (o
 pub all_made_salt : (words : List ℕ) (n : ℕ) → All (Contains alphabet) (made_salt words n)
 unfolding made_salt
 all_made_salt words n = All-map (Contains alphabet) (made_character words) (range_with_len 0 n) (λ k d h. in_alphabet _)
+
+-- as many characters as a made salt has make a salt that the method takes
+pub made_is_makeable : (m : Method) (cost : ℕ) (salt : List ℕ) → length salt ≡ made_salt_length m → All (Contains alphabet) salt → TakesCost m cost → IsMakeable m cost salt
+made_is_makeable Md5crypt cost salt len all taken = record { some = omega arith; short = omega arith; characters = all; taken = taken }
+made_is_makeable Sha256crypt cost salt len all taken = record { some = omega arith; short = omega arith; characters = all; taken = taken }
+made_is_makeable Sha512crypt cost salt len all taken = record { some = omega arith; short = omega arith; characters = all; taken = taken }
+made_is_makeable Scrypt cost salt len all taken = record { some = omega arith; short = omega arith; characters = all; taken = taken }
+
+-- so only its cost can be refused
+pub only_cost : (m : Method) (cost : ℕ) (salt : List ℕ) → length salt ≡ made_salt_length m → All (Contains alphabet) salt
+    → (fault : MakeFault) → IsMakeRefused m cost salt fault → fault ≡ Cost
+only_cost m cost salt len all SaltLength refused = absurd (never_short m salt len refused.breaks)
+  where
+    never_short : (m : Method) (salt : List ℕ) → length salt ≡ made_salt_length m → (length salt ≡ 0) ⊎ (salt_limit m < length salt) → ⊥
+    never_short Md5crypt salt len (inl none) = omega (arith, len, none)
+    never_short Sha256crypt salt len (inl none) = omega (arith, len, none)
+    never_short Sha512crypt salt len (inl none) = omega (arith, len, none)
+    never_short Scrypt salt len (inl none) = omega (arith, len, none)
+    never_short Md5crypt salt len (inr long) = omega (arith, len, long)
+    never_short Sha256crypt salt len (inr long) = omega (arith, len, long)
+    never_short Sha512crypt salt len (inr long) = omega (arith, len, long)
+    never_short Scrypt salt len (inr long) = omega (arith, len, long)
+only_cost m cost salt len all SaltCharacter refused = absurd (refused.breaks all)
+only_cost m cost salt len all Cost refused = refl

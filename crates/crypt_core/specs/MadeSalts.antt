@@ -3,6 +3,9 @@ use Rattle.std.specs.Prelude.{ℕ, ◌*◌, ◌/◌, ◌%◌, ◌^◌, List, [],
 use Rattle.std.specs.List.{range_with_len}
 use Rattle.rand_core.specs.Stream.{Stream, next_u64}
 use Rattle.prims_core.specs.Alphabet.{character_of}
+use Rattle.crypt_core.specs.Methods.{md5crypt_salt_limit, shacrypt_salt_limit}
+use Rattle.crypt_core.specs.declared.method.Method.{Method}
+use Rattle.crypt_core.specs.declared.method.Method.TheVariants.{Md5crypt, Sha256crypt, Sha512crypt, Scrypt}
 
 -- character i: a word gives up to ten characters, six bits for each, lowest bits first
 abbrev pub made_character : List ℕ → ℕ → ℕ
@@ -11,6 +14,13 @@ made_character words i = character_of (slice_index words (i / 10) / 2 ^ (6 * (i 
 -- the most characters of a made salt
 abbrev pub made_salt_limit : ℕ
 made_salt_limit = 22
+
+-- the characters of a made salt: as many as the method takes, but for scrypt, where three words give no more
+abbrev pub made_salt_length : Method → ℕ
+made_salt_length Md5crypt = md5crypt_salt_limit
+made_salt_length Sha256crypt = shacrypt_salt_limit
+made_salt_length Sha512crypt = shacrypt_salt_limit
+made_salt_length Scrypt = made_salt_limit
 
 -- a salt of so many characters, at most ten a word
 unfoldable pub made_salt : List ℕ → ℕ → List ℕ

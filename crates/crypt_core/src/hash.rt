@@ -1,5 +1,5 @@
 //! The text of crypt(3): a password, hashed by a setting.
-ghost use Rattle.std.specs.Prelude.{◌≡◌, ◌^◌, ◌≤◌, ◌++◌, length, codes, IfOk, OnOk, OnErr};
+ghost use Rattle.std.specs.Prelude.{◌≡◌, ℕ, ◌^◌, ◌≤◌, ◌++◌, List, length, codes, IfOk, OnOk, OnErr};
 ghost use Rattle.prims_core.specs.Meter.{HasRoom};
 ghost use Rattle.kdf_core.specs.Params.{IsBounded};
 ghost use Rattle.kdf_core.specs.Scrypt.{scrypt, with_scrypt, IsAfterRefusal};
@@ -10,7 +10,7 @@ ghost use Rattle.crypt_core.specs.Settings.{Spells, canonical_text, method_of};
 ghost use Rattle.crypt_core.specs.Work.{raised_by, work, work_limit, IsBelow};
 
 use crate::md5crypt::md5crypt;
-use crate::pack::{SCRYPT_PACKED_LEN, pack};
+use crate::pack::{SCRYPT_PACKED_LEN, pack, packed_len};
 use crate::password::Password;
 use crate::scheme::Scheme;
 use crate::setting::{CANONICAL_LIMIT, Setting, TEXT_CAPACITY};
@@ -106,6 +106,14 @@ pub fn hash(
 {
     let digest = digest_of(alloc, password, setting, meter)?;
     Ok(hash_text(setting, digest.as_slice()))
+}
+
+/// How many bytes each hash by the setting has, known before hashing: at most [`HASH_LIMIT`].
+pub fn hash_len(setting: &Setting) -> usize
+    ensures each { (password : List ℕ) → length (crypt password setting.now) ≡ result }
+    ensures short { result ≤ hash_limit }
+{
+    setting.text().len() + 1 + packed_len(setting.method())
 }
 
 // The digest that the setting's scheme makes of the password.

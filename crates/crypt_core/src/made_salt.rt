@@ -3,11 +3,12 @@
 
 ghost use Rattle.std.specs.Prelude.{◌≡◌, ◌≤◌, length, All, Contains};
 ghost use Rattle.prims_core.specs.Alphabet.{alphabet};
-ghost use Rattle.crypt_core.specs.MadeSalts.{made_salt, made_salt_limit, three_words};
+ghost use Rattle.crypt_core.specs.MadeSalts.{made_salt, made_salt_length, made_salt_limit, three_words};
 
 #[cfg(test)]
 mod tests;
 
+use crate::method::{MD5CRYPT_SALT_LIMIT, Method, SHACRYPT_SALT_LIMIT};
 use arrayvec::ArrayVec;
 use prims_core::alphabet::char_of;
 use rand_core::Rng;
@@ -32,6 +33,18 @@ pub fn salt_of(words: [u64; 3], len: usize) -> ArrayVec<u8, MADE_SALT_LIMIT>
         salt.push(char_of(value as u8));
     }
     salt
+}
+
+/// How many characters a made salt has: as many as the method keeps, but for scrypt, where three words give no more.
+pub fn made_salt_length(method: Method) -> usize
+    ensures length { result ≡ made_salt_length method }
+    ensures enough { result ≤ made_salt_limit }
+{
+    match method {
+        Method::Md5crypt => MD5CRYPT_SALT_LIMIT,
+        Method::Sha256crypt | Method::Sha512crypt => SHACRYPT_SALT_LIMIT,
+        Method::Scrypt => MADE_SALT_LIMIT,
+    }
 }
 
 /// The next three words of the generator, in the order in which it gives them.

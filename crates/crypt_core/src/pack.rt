@@ -10,6 +10,11 @@ use arrayvec::ArrayVec;
 use prims_core::alphabet::put_group;
 use prims_core::buffer::buffer_of;
 
+// The characters of md5crypt's packed digest, and of sha256crypt's.
+const MD5CRYPT_PACKED_LEN: usize = 22;
+
+const SHA256CRYPT_PACKED_LEN: usize = 43;
+
 /// The characters of sha512crypt's packed digest. No other method's are more.
 pub const SHA512CRYPT_PACKED_LEN: usize = 86;
 
@@ -89,6 +94,18 @@ pub fn pack(method: Method, digest: &[u8]) -> ArrayVec<u8, SHA512CRYPT_PACKED_LE
     let mut text = ArrayVec::new();
     put_groups(&mut text, digest, groups(method));
     buffer_of(text.as_slice())
+}
+
+/// How many characters the text of the method's digest has.
+pub fn packed_len(method: Method) -> usize
+    ensures { result ≡ packed_len method }
+{
+    match method {
+        Method::Md5crypt => MD5CRYPT_PACKED_LEN,
+        Method::Sha256crypt => SHA256CRYPT_PACKED_LEN,
+        Method::Sha512crypt => SHA512CRYPT_PACKED_LEN,
+        Method::Scrypt => SCRYPT_PACKED_LEN,
+    }
 }
 
 // The table of the method's groups.

@@ -3,7 +3,7 @@ use Rattle.std.proofs.Common.{◌≡◌, ℕ, ◌+◌, ◌<◌, ◌≤◌, List,
 use Rattle.rand_core.specs.Stream.{Stream}
 use Rattle.prims_core.specs.Meter.{Counts}
 use Rattle.mkpasswd.specs.Answers.{Answer, after_work}
-use Rattle.mkpasswd.specs.Devices.{Device, IsUnfailed, IsUnflushed}
+use Rattle.mkpasswd.specs.Devices.{Device, IsUnfailed, IsUnflushed, calls_limit}
 use Rattle.mkpasswd.specs.LineAnswers.{IsAnswer, refused_answer}
 use Rattle.mkpasswd.specs.LineAnswers.IsAnswer.{refused}
 use Rattle.mkpasswd.specs.Lines.{IsLineRefused, line_limit, rule_number}
@@ -11,7 +11,7 @@ use Rattle.mkpasswd.specs.Private.Made.{IsRaisedBelow, Says, fault_text_of, tall
 use Rattle.mkpasswd.specs.Private.Deliveries.{Sends}
 use Rattle.mkpasswd.specs.Private.Desks.{Outs}
 use Rattle.mkpasswd.specs.Private.Progress.{AnswersOne, HasRoomIn}
-use Rattle.mkpasswd.specs.Private.Rooms.{HasCountsFor, HasRoomFor, answer_limit, calls_limit, line_work_limit}
+use Rattle.mkpasswd.specs.Private.Rooms.{HasCountsFor, HasRoomFor, answer_limit, line_work_limit}
 use Rattle.mkpasswd.specs.Tallies.{both_tallies}
 use Rattle.mkpasswd.specs.declared.answer.LineAnswer.{LineAnswer}
 use Rattle.mkpasswd.specs.declared.answer.Outcome.{Outcome}

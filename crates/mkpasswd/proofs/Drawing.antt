@@ -2,11 +2,11 @@
 use Rattle.std.proofs.Common.{◌≡◌, ℕ, ◌+◌, Bool, true, false, not, List, [], length, Option, Some, None, is_some, unwrap_or, refl, sym, ap, ◌∙◌}
 use Rattle.std.proofs.lemmas.List.FromFn.{length-map-range_with_len}
 use Rattle.rand_core.specs.Stream.{Stream}
-use Rattle.crypt_core.specs.MadeSalts.{made_character, made_salt, three_words}
+use Rattle.crypt_core.specs.MadeSalts.{made_character, made_salt, three_words, made_salt_length}
 use Rattle.crypt_core.specs.MadeSettings.{made_scheme}
 use Rattle.crypt_core.specs.Settings.{Kept}
 use Rattle.crypt_core.specs.Work.{cost, greatest_byte, mixed_bytes_by, work_by}
-use Rattle.mkpasswd.specs.Makers.{Recipe, made_salt_length, setting_by, words_for}
+use Rattle.mkpasswd.specs.Makers.{Recipe, setting_by, words_for}
 
 -- a given salt leaves the words no part in the setting
 same_setting : (recipe : Recipe) (words others : List ℕ) → is_some recipe.salt ≡ true → setting_by recipe words ≡ setting_by recipe others

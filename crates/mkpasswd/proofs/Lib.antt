@@ -7,6 +7,7 @@ pub mod Drawing
 pub mod Ending
 pub mod Finishing
 pub mod FirstLines
+pub mod GivenWords
 pub mod LastLine
 pub mod LineAnswering
 pub mod LineCalls
@@ -16,7 +17,10 @@ pub mod LineRules
 pub mod LinesOf
 pub mod LookingThrough
 pub mod PassedValues
+pub mod Prints
 pub mod Reading
 pub mod Recipes
 pub mod Renewing
 pub mod Sending
+pub mod Serving
+pub mod Wholes

@@ -1,5 +1,5 @@
--- What `Setting::make` says of a salt that any method takes, and of a made one.
-use Rattle.std.proofs.Common.{◌≡◌, ℕ, List, [], ◌∷◌, length, All, Contains, Option, Some, None, unwrap_or, inl, inr, refl, sym, ap, subst, arith}
+-- What `Setting::make` says of a salt that any method takes.
+use Rattle.std.proofs.Common.{◌≡◌, ℕ, List, [], ◌∷◌, All, Contains, Option, Some, None, unwrap_or, inl, inr, refl, sym, ap, subst, arith}
 use Rattle.std.proofs.lemmas.List.Elements.{All-from_recursion}
 use Rattle.std.specs.Borrow.{Bor}
 use Rattle.prims_core.specs.Alphabet.{alphabet}
@@ -8,14 +8,7 @@ use Rattle.crypt_core.specs.declared.method.Method.{Method}
 use Rattle.crypt_core.specs.declared.method.Method.TheVariants.{Md5crypt, Sha256crypt, Sha512crypt, Scrypt}
 use Rattle.crypt_core.specs.declared.setting.fault.MakeFault.{MakeFault}
 use Rattle.crypt_core.specs.declared.setting.fault.MakeFault.TheVariants.{SaltLength, SaltCharacter, Cost}
-use Rattle.mkpasswd.specs.Makers.{IsAccepted, IsRefused, bytes_of, made_salt_length}
-
--- as many characters as a made salt has make a salt that the method takes
-pub made_is_makeable : (m : Method) (cost : ℕ) (salt : List ℕ) → length salt ≡ made_salt_length m → All (Contains alphabet) salt → TakesCost m cost → IsMakeable m cost salt
-made_is_makeable Md5crypt cost salt len all taken = record { some = omega arith; short = omega arith; characters = all; taken = taken }
-made_is_makeable Sha256crypt cost salt len all taken = record { some = omega arith; short = omega arith; characters = all; taken = taken }
-made_is_makeable Sha512crypt cost salt len all taken = record { some = omega arith; short = omega arith; characters = all; taken = taken }
-made_is_makeable Scrypt cost salt len all taken = record { some = omega arith; short = omega arith; characters = all; taken = taken }
+use Rattle.mkpasswd.specs.Makers.{IsAccepted, IsRefused, bytes_of}
 
 -- ---- the salt `.`
 

@@ -47,6 +47,17 @@ turns_limit = 2 ^ 40
 abbrev pub HasRoomForRun : {T : Type 0} → Device T → Type 0
 HasRoomForRun d = (d.failures ≤ 2 ^ 62) × (d.calls ≤ 2 ^ 62) × (d.bytes ≤ 2 ^ 62) × (d.flushes ≤ 2 ^ 62)
 
+-- the most calls that two outputs can count in a run: those that both had before, and the turns
+abbrev pub calls_limit : ℕ
+calls_limit = 2 ^ 63 + turns_limit
+
+-- the numbers of a device leave room for the rest of a run, and for one more text behind it
+pub record HasRoomInRun {T : Type 0} (device : Device T) : Type 0 where
+  pub failures : device.failures ≤ 2 ^ 63
+  pub calls : device.calls ≤ calls_limit
+  pub bytes : device.bytes ≤ 2 ^ 63
+  pub flushes : device.flushes ≤ 2 ^ 63
+
 -- each call that was made to move bytes moved one or failed, but for so many
 abbrev pub MovesBytes : {T : Type 0} → ℕ → Device T → Device T → Type 0
 MovesBytes spare old new = new.calls + old.bytes + old.failures ≤ old.calls + new.bytes + new.failures + spare

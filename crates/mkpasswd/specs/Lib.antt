@@ -1,5 +1,6 @@
 pub mod Answers
 pub mod Budgets
+pub mod Commands
 pub mod Devices
 pub mod Faults
 pub mod Input

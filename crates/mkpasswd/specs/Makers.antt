@@ -2,12 +2,10 @@
 use Rattle.std.specs.Prelude.{◌≡◌, ℕ, List, [], Option, Some, None, is_some, option_map, unwrap_or, if◌then◌else◌}
 use Rattle.std.specs.Borrow.{Bor}
 use Rattle.rand_core.specs.Stream.{Stream}
-use Rattle.crypt_core.specs.MadeSalts.{made_salt, made_salt_limit, three_words}
+use Rattle.crypt_core.specs.MadeSalts.{made_salt, made_salt_length, three_words}
 use Rattle.crypt_core.specs.MadeSettings.{IsMakeable, IsMakeRefused, TakesCost, made_setting}
-use Rattle.crypt_core.specs.Methods.{md5crypt_salt_limit, shacrypt_salt_limit}
 use Rattle.crypt_core.specs.Settings.{Kept}
 use Rattle.crypt_core.specs.declared.method.Method.{Method}
-use Rattle.crypt_core.specs.declared.method.Method.TheVariants.{Md5crypt, Sha256crypt, Sha512crypt, Scrypt}
 use Rattle.crypt_core.specs.declared.setting.fault.MakeFault.{MakeFault}
 use Rattle.crypt_core.specs.declared.setting.fault.MakeFault.TheVariants.{Cost}
 
@@ -30,13 +28,6 @@ IsAccepted method cost (Some salt) = IsMakeable method cost salt
 abbrev pub IsRefused : Method → ℕ → Option (List ℕ) → MakeFault → Type 0
 IsRefused method cost None fault = (fault ≡ Cost) × ¬ TakesCost method cost
 IsRefused method cost (Some salt) fault = IsMakeRefused method cost salt fault
-
--- the characters of a made salt: as many as the method takes, but for scrypt, where three words give no more
-abbrev pub made_salt_length : Method → ℕ
-made_salt_length Md5crypt = md5crypt_salt_limit
-made_salt_length Sha256crypt = shacrypt_salt_limit
-made_salt_length Sha512crypt = shacrypt_salt_limit
-made_salt_length Scrypt = made_salt_limit
 
 -- the setting: by the salt that was given, or by one made of the words
 abbrev pub setting_by : Recipe → List ℕ → Kept

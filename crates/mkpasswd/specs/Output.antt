@@ -1,7 +1,7 @@
 -- What is left in an output that a text was given to.
-use Rattle.std.specs.Prelude.{◌≡◌, ℕ, ◌+◌, ◌<◌, ◌⊎◌, List, [], ◌++◌, length, Option, Result, Ok, Err}
+use Rattle.std.specs.Prelude.{◌≡◌, ℕ, ◌+◌, ◌<◌, ◌≤◌, ◌⊎◌, List, [], ◌++◌, length, Option, Result, Ok, Err}
 use Rattle.std.specs.Io.KnownBytes.{Appends}
-use Rattle.mkpasswd.specs.Devices.{Device, FailsOnce, FailsToFlush, IsFlushed, IsUnfailed, IsUnflushed}
+use Rattle.mkpasswd.specs.Devices.{Device, FailsOnce, FailsToFlush, IsFlushed, IsUnfailed, IsUnflushed, MovesBytes}
 use Rattle.mkpasswd.specs.declared.fault.RunFault.{RunFault}
 use Rattle.mkpasswd.specs.declared.fault.RunFault.TheVariants.{Write, Turns}
 
@@ -46,3 +46,12 @@ module _ {T : Type 0} where
   ShowsOutcome turns old new (Err Write) = FailsOnce old new
   ShowsOutcome turns old new (Err Turns) = IsUnfailed old new × (new.calls ≡ old.calls + turns)
   ShowsOutcome turns old new (Err fault) = ⊥
+
+module _ {T : Type 0} (contents : T → Option (List ℕ)) where
+  -- A text was shown on an output: given in at most so many calls, and flushed; or that failed. Each call moved a byte
+  -- or failed.
+  pub record Shows {A : Type 0} (turns : ℕ) (old new : Device T) (text : List ℕ) (result : Result A RunFault) : Type 0 where
+    pub gives : GivesAll contents old new text result
+    pub outcome : ShowsOutcome turns old new result
+    pub turns_taken : new.calls ≤ old.calls + turns
+    pub moves : MovesBytes 0 old new

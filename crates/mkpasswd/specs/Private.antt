@@ -8,3 +8,4 @@ pub mod LineEnds
 pub mod Made
 pub mod Progress
 pub mod Rooms
+pub mod Telling

@@ -175,7 +175,7 @@ impl From<PasswordFault> for RunFault {
 /// What keeps the program from its answer.
 #[derive(Debug, Drop)]
 pub enum Fault {
-    /// The arguments can't be read as text, or the system gave no seed for the generator.
+    /// The arguments can't be read as text, or a plan that hashes lacks a generator, since the system gave no seed.
     Start,
     /// The words give no plan, or memory ran out.
     Usage(UsageFault),

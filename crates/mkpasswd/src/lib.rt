@@ -3,6 +3,7 @@
 #![tactic(auto)]
 
 mod answer;
+pub mod command;
 mod desk;
 pub mod device;
 pub mod fault;

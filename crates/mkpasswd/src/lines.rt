@@ -1,13 +1,12 @@
 //! The runs over the lines of an input. Each line is answered once its end was read, before more is read, so
 //! that a run holds one line and one piece of its input, whatever that is.
 ghost use Rattle.std.specs.Prelude.{◌≡◌, ℕ, ◌^◌, ◌<◌, ◌≤◌, [], List, OnOk};
-ghost use Rattle.mkpasswd.specs.Devices.{HasRoomForRun, MovesBytes};
+ghost use Rattle.mkpasswd.specs.Devices.{HasRoomForRun, HasRoomInRun, MovesBytes, turns_limit};
 ghost use Rattle.mkpasswd.specs.LineAnswers.{OnlyRefuses, OnlyRenews, RenewsNone};
 ghost use Rattle.mkpasswd.specs.LineRuns.{EndsLines};
 ghost use Rattle.mkpasswd.specs.Private.Desks.{IsSameDesk, seen, with_input};
 ghost use Rattle.mkpasswd.specs.Private.LineEnds.{GoesOn, GoesToEnd, HasRoomToRead, IsAtInput, TakesTurnsOf, spare_fetch};
 ghost use Rattle.mkpasswd.specs.Private.Progress.{StandsFor};
-ghost use Rattle.mkpasswd.specs.Devices.{turns_limit};
 ghost use Rattle.mkpasswd.specs.Runs.{Hands, HasCountsForRun, IsWithinTurns, hands, tells};
 ghost use Rattle.mkpasswd.specs.Tallies.{no_line};
 ghost use Rattle.mkpasswd.specs.declared.line.Kind.TheVariants.{Batch, Check};
@@ -79,6 +78,7 @@ pub fn run_batch<I: Read, O: Write, E: Write, R: Rng>(
     ensures within_turns { IsWithinTurns turns
         (hands input.old out.old faults.old (R.stream rng.old) meter.old)
         (hands input.new out.new faults.new (R.stream rng.new) meter.new) }
+    ensures fault_room { HasRoomInRun faults.new }
     ensures budget { OnlyRefuses Batch job.now }
     ensures rehash { RenewsNone Batch job.now }
 {
@@ -121,6 +121,7 @@ pub fn run_check<I: Read, O: Write, E: Write, R: Rng>(
     ensures within_turns { IsWithinTurns turns
         (hands input.old out.old faults.old (R.stream rng.old) meter.old)
         (hands input.new out.new faults.new (R.stream rng.new) meter.new) }
+    ensures fault_room { HasRoomInRun faults.new }
     ensures budget { OnlyRefuses Check job.now }
     ensures rehash { OnlyRenews Check job.now }
 {
@@ -143,6 +144,7 @@ fn run_lines<I: Read, O: Write, E: Write, R: Rng>(
         (with_input input.old (seen R.stream desk.old)) (with_input input.new (seen R.stream desk.new)) result }
     ensures within_turns { IsWithinTurns turns
         (with_input input.old (seen R.stream desk.old)) (with_input input.new (seen R.stream desk.new)) }
+    ensures fault_room { HasRoomInRun desk.new.faults.now }
     ensures same { IsSameDesk desk.old desk.new }
 {
     let mut progress = Progress::new(turns);
@@ -167,6 +169,7 @@ fn read_all<I: Read, O: Write, E: Write, R: Rng>(
     ensures room { OnOk result (HasRoomToRead progress.new (with_input input.new (seen R.stream desk.new))) }
     ensures turns { TakesTurnsOf 1 progress.old.left progress.new.left
         (with_input input.old (seen R.stream desk.old)) (with_input input.new (seen R.stream desk.new)) }
+    ensures fault_room { HasRoomInRun desk.new.faults.now }
     ensures same { IsSameDesk desk.old desk.new }
 {
     let mut has_more = true;
@@ -194,6 +197,7 @@ fn read_piece<I: Read, O: Write, E: Write, R: Rng>(
     ensures fewer { OnOk result (progress.new.left < progress.old.left) }
     ensures turns { TakesTurnsOf (spare_fetch result) progress.old.left progress.new.left
         (with_input input.old (seen R.stream desk.old)) (with_input input.new (seen R.stream desk.new)) }
+    ensures fault_room { HasRoomInRun desk.new.faults.now }
     ensures same { IsSameDesk desk.old desk.new }
 {
     let mut piece = [0; PIECE_SIZE];
@@ -206,4 +210,4 @@ fn read_piece<I: Read, O: Write, E: Write, R: Rng>(
 }
 
 #[cfg(test)]
-mod tests;
+pub(crate) mod tests;

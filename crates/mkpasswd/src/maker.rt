@@ -6,11 +6,11 @@ ghost use Rattle.crypt_core.specs.declared.setting.fault.MakeFault.{MakeFault as
 ghost use Rattle.crypt_core.specs.MadeSettings.{IsMakeable, made_scheme, made_setting};
 ghost use Rattle.crypt_core.specs.Work.{cost};
 ghost use Rattle.rand_core.specs.Stream.{Stream};
-ghost use Rattle.mkpasswd.specs.Makers.{IsAccepted, IsRefused, bytes_of, made_salt_length, next_setting, setting_by, words_for};
+ghost use Rattle.mkpasswd.specs.Makers.{IsAccepted, IsRefused, bytes_of, next_setting, setting_by, words_for};
 
 use arrayvec::ArrayVec;
-use crypt_core::made_salt::{MADE_SALT_LIMIT, draw, salt_of};
-use crypt_core::method::{MD5CRYPT_SALT_LIMIT, Method, SCRYPT_SALT_LIMIT, SHACRYPT_SALT_LIMIT};
+use crypt_core::made_salt::draw;
+use crypt_core::method::{Method, SCRYPT_SALT_LIMIT};
 use crypt_core::setting::{MakeFault, Setting};
 use prims_core::buffer::buffer_of;
 use rand_core::Rng;
@@ -77,8 +77,8 @@ impl Maker {
         ensures { result ≡ setting_by self.now words }
     {
         match &self.salt {
-            Some(salt) => self.setting_with(salt.as_slice()),
-            None => self.setting_with(salt_of(words, made_salt_length(self.method)).as_slice()),
+            Some(salt) => Setting::make(self.method, self.cost, salt.as_slice()).unwrap(),
+            None => Setting::with_made_salt(self.method, self.cost, words).unwrap(),
         }
     }
 
@@ -99,25 +99,6 @@ impl Maker {
         ensures cost { (stream : Stream) → (len : ℕ) → cost result len ≡ cost (next_setting self.now stream) len }
     {
         self.setting([0; 3])
-    }
-
-    // The setting by a salt.
-    fn setting_with(&self, salt: &[u8]) -> Setting
-        requires { IsMakeable self.now.method self.now.cost salt.now }
-        ensures { result ≡ made_setting self.now.method self.now.cost salt.now }
-    {
-        Setting::make(self.method, self.cost, salt).unwrap()
-    }
-}
-
-// How many characters a made salt has.
-fn made_salt_length(method: Method) -> usize
-    ensures { result ≡ made_salt_length method }
-{
-    match method {
-        Method::Md5crypt => MD5CRYPT_SALT_LIMIT,
-        Method::Sha256crypt | Method::Sha512crypt => SHACRYPT_SALT_LIMIT,
-        Method::Scrypt => MADE_SALT_LIMIT,
     }
 }
 

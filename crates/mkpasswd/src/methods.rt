@@ -1,13 +1,13 @@
 //! The list of the methods, which TYPE `help` asks for.
-ghost use Rattle.std.specs.Prelude.{◌≡◌, ◌+◌, ◌^◌, ◌≤◌, IfOk};
-ghost use Rattle.mkpasswd.specs.Devices.{turns_limit, HasRoomForRun, MovesBytes};
+ghost use Rattle.std.specs.Prelude.{◌≡◌, ◌≤◌, IfOk};
+ghost use Rattle.mkpasswd.specs.Devices.{HasRoomForRun, turns_limit};
 ghost use Rattle.mkpasswd.specs.Methods.{methods_text};
-ghost use Rattle.mkpasswd.specs.Output.{GivesAll, ShowsOutcome};
+ghost use Rattle.mkpasswd.specs.Output.{Shows};
 ghost use Rattle.mkpasswd.specs.Tallies.{no_line};
 
 use crate::device::Output;
 use crate::fault::RunFault;
-use crate::send::{finish, send};
+use crate::send::show;
 use crate::tally::Tally;
 use std::io::Write;
 
@@ -22,15 +22,10 @@ const METHODS: &str = "Available methods:\nmd5crypt\nsha256crypt\nsha512crypt\ns
 pub fn run_methods<O: Write>(out: &mut Output<O>, turns: u64) -> Result<Tally, RunFault>
     requires turns { turns ≤ turns_limit }
     requires room { HasRoomForRun out.old }
+    ensures shows { Shows O.contents turns out.old out.new methods_text result }
     ensures tally { IfOk result (λ tally. tally ≡ no_line) }
-    ensures gives { GivesAll O.contents out.old out.new methods_text result }
-    ensures outcome { ShowsOutcome turns out.old out.new result }
-    ensures turns { out.new.calls ≤ out.old.calls + turns }
-    ensures moves { MovesBytes 0 out.old out.new }
 {
-    let mut left = turns;
-    send(out, METHODS.as_bytes(), &mut left)?;
-    finish(out)?;
+    show(out, METHODS.as_bytes(), turns)?;
     Ok(Tally::new())
 }
 

@@ -2,10 +2,9 @@
 //! the output.
 ghost use Rattle.std.specs.Prelude.{◌≡◌, ◌+◌, ◌^◌, ◌≤◌};
 ghost use Rattle.mkpasswd.specs.Budgets.{without_budget};
-ghost use Rattle.mkpasswd.specs.Devices.{HasRoomForRun, MovesBytes};
+ghost use Rattle.mkpasswd.specs.Devices.{HasRoomForRun, HasRoomInRun, MovesBytes, turns_limit};
 ghost use Rattle.mkpasswd.specs.One.{EndsOne, ObtainsFrom};
 ghost use Rattle.mkpasswd.specs.Rehashes.{without_rehash};
-ghost use Rattle.mkpasswd.specs.Devices.{turns_limit};
 ghost use Rattle.mkpasswd.specs.Runs.{hands, tells, HasCountsForRun, IsWithinTurns};
 
 mod password;
@@ -61,6 +60,7 @@ pub fn run_one<I: Read, O: Write, E: Write, R: Rng>(
     ensures within_turns { IsWithinTurns turns
         (hands input.old out.old faults.old (R.stream rng.old) meter.old)
         (hands input.new out.new faults.new (R.stream rng.new) meter.new) }
+    ensures fault_room { HasRoomInRun faults.new }
 {
     let mut left = turns;
     let password = obtain(from, input, &mut left)?;

@@ -1,9 +1,8 @@
 //! What every run does with its outputs: it gives whole texts, by turns, and flushes them at the end.
 ghost use Rattle.std.specs.Prelude.{◌≡◌, ◌+◌, ◌-◌, ◌^◌, ◌<◌, ◌≤◌, length};
-ghost use Rattle.mkpasswd.specs.Devices.{turns_limit, MovesBytes};
-ghost use Rattle.mkpasswd.specs.Output.{ShowsOutcome};
+ghost use Rattle.mkpasswd.specs.Devices.{HasRoomInRun, MovesBytes, turns_limit};
+ghost use Rattle.mkpasswd.specs.Output.{Shows, ShowsOutcome};
 ghost use Rattle.mkpasswd.specs.Private.Deliveries.{Delivers, FinishesBoth, FinishesOutput};
-ghost use Rattle.mkpasswd.specs.Private.Rooms.{HasRoomInRun};
 
 use crate::device::Output;
 use crate::fault::RunFault;
@@ -21,13 +20,15 @@ pub(crate) fn send<O: Write>(
 ) -> Result<(), RunFault>
     requires turns { left.old ≤ turns_limit }
     requires room { HasRoomInRun out.old }
-    requires short { length text.now ≤ 2048 }
+    requires short { length text.now < 2 ^ 63 }
     ensures delivers { Delivers O.contents out.old out.new text.now result }
     ensures outcome { ShowsOutcome left.old out.old out.new result }
     ensures turns { out.new.calls + left.new ≡ out.old.calls + left.old }
     ensures fewer { left.new ≤ left.old }
     ensures moves { MovesBytes 0 out.old out.new }
     ensures few_bytes { out.new.bytes ≤ out.old.bytes + length text.now }
+    ensures few_failures { out.new.failures ≤ out.old.failures + 1 }
+    ensures unflushed { out.new.flushes ≡ out.old.flushes }
 {
     let mut rest = text;
     'pieces: while !rest.is_empty() {
@@ -41,6 +42,19 @@ pub(crate) fn send<O: Write>(
         }
     }
     Ok(())
+}
+
+/// Gives the whole text in at most so many calls, and flushes the output. `Write` and `Turns` are answered as by
+/// [`send`], and `Write` also where the flush fails.
+pub(crate) fn show<O: Write>(out: &mut Output<O>, text: &[u8], turns: u64) -> Result<(), RunFault>
+    requires turns { turns ≤ turns_limit }
+    requires room { HasRoomInRun out.old }
+    requires short { length text.now < 2 ^ 63 }
+    ensures { Shows O.contents turns out.old out.new text.now result }
+{
+    let mut left = turns;
+    send(out, text, &mut left)?;
+    finish(out)
 }
 
 /// Flushes both outputs at the end of a run, which takes no byte and no turn. `Write` is answered after the first

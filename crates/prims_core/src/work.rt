@@ -1,6 +1,7 @@
 //! The work of a hash, as the five counts by which it raises a meter.
 
-/// What a meter counts of a hash.
+/// What a meter counts of a hash. Its form is that of a struct of C.
+#[repr(C)]
 #[derive(Clone, Copy, Debug, PartialEq, Eq)]
 pub struct Work {
     /// Digests made.

@@ -2,11 +2,13 @@
 
 ghost use Rattle.std.specs.Prelude.{◌≡◌, ◌+◌, ◌≤◌, ◌↔◌, IsTrue, IsOk, IfOk, IfErr, OnOk};
 ghost use Rattle.crypt_core.specs.declared.setting.fault.MakeFault.{MakeFault as Fault};
+ghost use Rattle.crypt_core.specs.MadeSalts.{made_salt, made_salt_length};
 ghost use Rattle.crypt_core.specs.MadeSettings.{max_cost, min_cost, scrypt_cost, TakesCost, IsMakeable, IsMakeRefused, made_scheme, made_setting, made_rounds};
 
 use super::Setting;
 use super::fault::MakeFault;
 use super::salt::in_alphabet;
+use crate::made_salt::{made_salt_length, salt_of};
 use crate::method::Method;
 use crate::scheme::{Rounds, Scheme};
 use kdf_core::params::Params;
@@ -49,6 +51,19 @@ impl Setting {
             scheme: scheme_of(method, cost),
             salt: buffer_of(salt),
         })
+    }
+
+    /// The setting of a method with a cost and a new salt, which three random words make. Only `Cost` can come.
+    pub fn with_made_salt(method: Method, cost: u32, words: [u64; 3]) -> Result<Setting, MakeFault>
+        ensures made { IfOk result (λ setting. setting ≡ made_setting method cost (made_salt words (made_salt_length method))) }
+        ensures accepted { IsOk result ↔ TakesCost method cost }
+        ensures refused { IfErr result (λ fault. fault ≡ MakeFault.Cost) }
+    {
+        Setting::make(
+            method,
+            cost,
+            salt_of(words, made_salt_length(method)).as_slice(),
+        )
     }
 }
 

@@ -1,12 +1,11 @@
 -- Where a run over lines is between two fetches, and how its steps can end.
 use Rattle.std.specs.Prelude.{◌≡◌, ◌≢◌, ℕ, ◌+◌, ◌*◌, ◌^◌, ◌≤◌, Bool, true, false, List, [], Option, Result, Ok, Err}
 use Rattle.mkpasswd.specs.Answers.{Answer}
-use Rattle.mkpasswd.specs.Devices.{IsUnfailed, MovesBytes}
+use Rattle.mkpasswd.specs.Devices.{IsUnfailed, MovesBytes, calls_limit}
 use Rattle.mkpasswd.specs.Input.{Reads}
 use Rattle.mkpasswd.specs.LineRuns.{AreAnswers, EndsLines, IsReadOut, lines_of, piece_size}
 use Rattle.mkpasswd.specs.Private.Desks.{Outs, outs_of}
 use Rattle.mkpasswd.specs.Private.Progress.{AreGiven, HasRoomToAnswer, IsAt, IsCutAt}
-use Rattle.mkpasswd.specs.Private.Rooms.{calls_limit}
 use Rattle.mkpasswd.specs.Runs.{Hands, Tells, calls_of}
 use Rattle.mkpasswd.specs.declared.fault.RunFault.{RunFault}
 use Rattle.mkpasswd.specs.declared.job.Job.{Job}

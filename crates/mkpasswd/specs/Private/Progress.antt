@@ -2,14 +2,14 @@
 use Rattle.std.specs.Prelude.{◌≡◌, ℕ, ◌+◌, ◌<◌, ◌≤◌, ◌⊎◌, List, ◌∷◌, ◌++◌, length, Option, Result, Ok, Err}
 use Rattle.std.specs.List.{AllByRecursion}
 use Rattle.mkpasswd.specs.Answers.{Answer, IsRefusedAmong, after_work}
-use Rattle.mkpasswd.specs.Devices.{turns_limit, FailsOnce, IsUnfailed}
+use Rattle.mkpasswd.specs.Devices.{FailsOnce, IsUnfailed, calls_limit, turns_limit}
 use Rattle.mkpasswd.specs.LineAnswers.{IsAnswer}
 use Rattle.mkpasswd.specs.LineRuns.{AreAnswers, HasNoLineFeed, piece_size, with_line_feeds}
 use Rattle.mkpasswd.specs.Lines.{line_limit}
 use Rattle.mkpasswd.specs.Output.{Takes, TakesFront}
 use Rattle.mkpasswd.specs.Private.Deliveries.{Sends}
 use Rattle.mkpasswd.specs.Private.Desks.{Outs}
-use Rattle.mkpasswd.specs.Private.Rooms.{HasCountsFor, HasRoomFor, IsTallied, calls_limit, lines_limit}
+use Rattle.mkpasswd.specs.Private.Rooms.{HasCountsFor, HasRoomFor, IsTallied, lines_limit}
 use Rattle.mkpasswd.specs.Texts.{line_feed}
 use Rattle.mkpasswd.specs.declared.fault.RunFault.{RunFault}
 use Rattle.mkpasswd.specs.declared.fault.RunFault.TheVariants.{Read, Write, OutOfMemory, Turns, Password}

@@ -3,13 +3,9 @@ use Rattle.std.specs.Prelude.{ℕ, ◌^◌, ◌+◌, ◌*◌, ◌≤◌}
 use Rattle.prims_core.specs.Meter.{Counts}
 use Rattle.crypt_core.specs.Crypt.{hash_limit}
 use Rattle.crypt_core.specs.Work.{work_limit}
-use Rattle.mkpasswd.specs.Devices.{Device, turns_limit}
+use Rattle.mkpasswd.specs.Devices.{Device, calls_limit}
 use Rattle.mkpasswd.specs.Lines.{name_limit}
 use Rattle.mkpasswd.specs.declared.tally.Tally.{Tally}
-
--- the most calls that two outputs can count in a run: those that both had before, and the turns
-abbrev pub calls_limit : ℕ
-calls_limit = 2 ^ 63 + turns_limit
 
 -- more lines than a run can read
 abbrev pub lines_limit : ℕ
@@ -33,14 +29,7 @@ count_limit = 41
 abbrev pub answer_limit : ℕ
 answer_limit = verdict_front_limit + 1 + hash_limit + 4 * count_limit + 1
 
--- the numbers of a device leave room for what is left of a run
-pub record HasRoomInRun {T : Type 0} (device : Device T) : Type 0 where
-  pub failures : device.failures ≤ 2 ^ 63
-  pub calls : device.calls ≤ calls_limit
-  pub bytes : device.bytes ≤ 2 ^ 63
-  pub flushes : device.flushes ≤ 2 ^ 63
-
--- the same after the answers to so many lines
+-- the numbers of a device leave room after the answers to so many lines
 pub record HasRoomFor {T : Type 0} (lines : ℕ) (device : Device T) : Type 0 where
   pub failures : device.failures ≤ 2 ^ 62
   pub calls : device.calls ≤ calls_limit

@@ -2,7 +2,7 @@
 //! ends in it.
 ghost use Rattle.std.specs.Prelude.{◌≡◌, ℕ, ◌+◌, ◌<◌, ◌≤◌, ◌++◌, [], List, length, OnOk};
 ghost use Rattle.mkpasswd.specs.Answers.{Answer};
-ghost use Rattle.mkpasswd.specs.Devices.{turns_limit, MovesBytes};
+ghost use Rattle.mkpasswd.specs.Devices.{HasRoomInRun, MovesBytes, turns_limit};
 ghost use Rattle.mkpasswd.specs.LineAnswers.{IsAnswer};
 ghost use Rattle.mkpasswd.specs.LineRuns.{piece_size};
 ghost use Rattle.mkpasswd.specs.Private.Deliveries.{Sends};
@@ -10,7 +10,7 @@ ghost use Rattle.mkpasswd.specs.Private.Desks.{IsSameDesk, Outs, TakesTurns, see
 ghost use Rattle.mkpasswd.specs.Private.LineEnds.{AnswersLast};
 ghost use Rattle.mkpasswd.specs.Private.Made.{Says, tally_of};
 ghost use Rattle.mkpasswd.specs.Private.Progress.{AnswersOne, HasRoomIn, HasRoomToAnswer, IsAt, LooksThrough, StandsFor};
-ghost use Rattle.mkpasswd.specs.Private.Rooms.{HasRoomInRun, answer_limit, lines_limit};
+ghost use Rattle.mkpasswd.specs.Private.Rooms.{answer_limit, lines_limit};
 ghost use Rattle.mkpasswd.specs.Tallies.{both_tallies, no_line};
 
 use super::held::Held;
@@ -63,6 +63,7 @@ impl Progress {
         ensures room { OnOk result (HasRoomIn self.new.tally (seen R.stream desk.new)) }
         ensures lines { self.new.tally.lines ≤ self.old.tally.lines + length piece.now }
         ensures turns { TakesTurns self.old.left self.new.left (seen R.stream desk.old) (seen R.stream desk.new) }
+        ensures fault_room { HasRoomInRun desk.new.faults.now }
         ensures same { IsSameDesk desk.old desk.new }
     {
         let mut rest = piece;
@@ -87,6 +88,7 @@ impl Progress {
             → AnswersLast O.contents E.contents task.entry.kind task.entry.job.now start (seen R.stream desk.new) bytes self.new result }
         ensures room { OnOk result (HasRoomIn self.new.tally (seen R.stream desk.new)) }
         ensures turns { TakesTurns self.old.left self.new.left (seen R.stream desk.old) (seen R.stream desk.new) }
+        ensures fault_room { HasRoomInRun desk.new.faults.now }
         ensures same { IsSameDesk desk.old desk.new }
     {
         if self.held.is_empty() {
@@ -110,6 +112,7 @@ impl Progress {
         ensures room { OnOk result (HasRoomIn self.new.tally (seen R.stream desk.new)) }
         ensures lines { self.new.tally.lines ≤ self.old.tally.lines + 1 }
         ensures turns { TakesTurns self.old.left self.new.left (seen R.stream desk.old) (seen R.stream desk.new) }
+        ensures fault_room { HasRoomInRun desk.new.faults.now }
         ensures same { IsSameDesk desk.old desk.new }
     {
         let number = self.tally.lines + 1;
@@ -140,6 +143,8 @@ fn give<O: Write, E: Write, R>(
     ensures out_bytes { desk.new.out.now.bytes ≤ desk.old.out.now.bytes + answer_limit }
     ensures faults_bytes { desk.new.faults.now.bytes ≤ desk.old.faults.now.bytes + answer_limit }
     ensures rest { (desk.new.rng.now ≡ desk.old.rng.now) × (desk.new.meter.now ≡ desk.old.meter.now) }
+    ensures fault_failures { desk.new.faults.now.failures ≤ desk.old.faults.now.failures + 1 }
+    ensures fault_flushes { desk.new.faults.now.flushes ≡ desk.old.faults.now.flushes }
     ensures same { IsSameDesk desk.old desk.new }
 {
     match answer.outcome {

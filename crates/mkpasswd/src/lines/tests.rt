@@ -194,108 +194,101 @@ fn want_line(
     Ok(())
 }
 
-// Published texts: of openssl-passwd(1), of Drepper's specification, and of libxcrypt.
+const CHECK: &[&str] = &["--check"];
+
+const COUNTED: &[&str] = &["--check", "--work"];
+
+// Words, an input, the lines with those that are refused and those that are answered `no`, and both texts. Published
+// texts: of openssl-passwd(1), of Drepper's specification, and of libxcrypt.
+pub(crate) const ANSWERED: [(&[&str], &str, (u64, u64, u64), &str, &str); 15] = [
+    (&BATCH, "", (0, 0, 0), "", ""),
+    (&BATCH, "\n", (1, 1, 0), "", "mkpasswd: line 1: no name\n"),
+    (
+        &BATCH,
+        "ann:password\n:x\nbob:password",
+        (3, 1, 0),
+        "ann:$1$xxxxxxxx$UYCIxa628.9qXjpQCjM4a.\nbob:$1$xxxxxxxx$UYCIxa628.9qXjpQCjM4a.\n",
+        NO_NAME,
+    ),
+    (
+        &BATCH,
+        "ann:password\n:x\nbob:password\n",
+        (3, 1, 0),
+        "ann:$1$xxxxxxxx$UYCIxa628.9qXjpQCjM4a.\nbob:$1$xxxxxxxx$UYCIxa628.9qXjpQCjM4a.\n",
+        NO_NAME,
+    ),
+    (&BATCH, "ann:password\n\n", (2, 1, 0), ANN, NO_NAME),
+    (
+        &["--batch", "--work", "-m", "md5", "-S", "xxxxxxxx"],
+        "ann:password\nann:password\n",
+        (2, 0, 0),
+        "ann:$1$xxxxxxxx$UYCIxa628.9qXjpQCjM4a.:1002:36239:0:0\nann:$1$xxxxxxxx$UYCIxa628.9qXjpQCjM4a.:1002:36239:0:0\n",
+        "",
+    ),
+    (
+        CHECK,
+        "ann:$1$xxxxxxxx$UYCIxa628.9qXjpQCjM4a.:password",
+        (1, 0, 0),
+        "ann:ok\n",
+        "",
+    ),
+    (
+        COUNTED,
+        "ann:$1$xxxxxxxx$UYCIxa628.9qXjpQCjM4a.:password",
+        (1, 0, 0),
+        "ann:ok:1002:36239:0:0\n",
+        "",
+    ),
+    (
+        COUNTED,
+        "s:$7$2/..../....$rNxJWVHNv/mCNcgE/f6/L4zO6Fos5c2uTzhyzoisI62:\n",
+        (1, 0, 0),
+        "s:ok:10:948:32:2048\n",
+        "",
+    ),
+    (
+        CHECK,
+        "b:!:x\nc::x\nd:$1$xxxxxxxx$UYCIxa628.9qXjpQCjM4a.:Password\ne\n",
+        (4, 1, 1),
+        "b:locked\nc:none\nd:no\n",
+        "mkpasswd: line 4: no password field\n",
+    ),
+    (CHECK, "b:!:x\nc::x\n", (2, 0, 0), "b:locked\nc:none\n", ""),
+    (
+        COUNTED,
+        "b:!:x\nc::x\n",
+        (2, 0, 0),
+        "b:locked:0:0:0:0\nc:none:0:0:0:0\n",
+        "",
+    ),
+    (
+        CHECK,
+        "r:$6$rounds=10$roundstoolow$kUMsbe306n21p9R.FRkW3IGn.S9NPN0x50YhH1xhLsPuWGsUSklZt58jaTfF4ZEQpyUNGc0dqbpBYYBaHHrsX.:the minimum number is still observed",
+        (1, 0, 1),
+        "r:no\n",
+        "",
+    ),
+    (
+        CHECK,
+        "r:$6$rounds=1000$roundstoolow$kUMsbe306n21p9R.FRkW3IGn.S9NPN0x50YhH1xhLsPuWGsUSklZt58jaTfF4ZEQpyUNGc0dqbpBYYBaHHrsX.:the minimum number is still observed",
+        (1, 0, 0),
+        "r:ok\n",
+        "",
+    ),
+    (
+        CHECK,
+        "h:$5$saltstring$5B8vYYiY.CVt1RlTTf8KbXBH3hsxY/GNooZaBBGWEc5:Hello world!\r\n",
+        (1, 0, 1),
+        "h:no\n",
+        "",
+    ),
+];
+
 #[test]
 fn answers_line_by_line(rt: HostRuntime) -> Result<(), Fail> {
-    let check: &[&str] = &["--check"];
-    let counted: &[&str] = &["--check", "--work"];
-    let rows: [(&[&str], &str, Tally, &str, &str); 15] = [
-        (&BATCH, "", tally(0, 0, 0), "", ""),
-        (
-            &BATCH,
-            "\n",
-            tally(1, 1, 0),
-            "",
-            "mkpasswd: line 1: no name\n",
-        ),
-        (
-            &BATCH,
-            "ann:password\n:x\nbob:password",
-            tally(3, 1, 0),
-            "ann:$1$xxxxxxxx$UYCIxa628.9qXjpQCjM4a.\nbob:$1$xxxxxxxx$UYCIxa628.9qXjpQCjM4a.\n",
-            NO_NAME,
-        ),
-        (
-            &BATCH,
-            "ann:password\n:x\nbob:password\n",
-            tally(3, 1, 0),
-            "ann:$1$xxxxxxxx$UYCIxa628.9qXjpQCjM4a.\nbob:$1$xxxxxxxx$UYCIxa628.9qXjpQCjM4a.\n",
-            NO_NAME,
-        ),
-        (&BATCH, "ann:password\n\n", tally(2, 1, 0), ANN, NO_NAME),
-        (
-            &["--batch", "--work", "-m", "md5", "-S", "xxxxxxxx"],
-            "ann:password\nann:password\n",
-            tally(2, 0, 0),
-            "ann:$1$xxxxxxxx$UYCIxa628.9qXjpQCjM4a.:1002:36239:0:0\nann:$1$xxxxxxxx$UYCIxa628.9qXjpQCjM4a.:1002:36239:0:0\n",
-            "",
-        ),
-        (
-            check,
-            "ann:$1$xxxxxxxx$UYCIxa628.9qXjpQCjM4a.:password",
-            tally(1, 0, 0),
-            "ann:ok\n",
-            "",
-        ),
-        (
-            counted,
-            "ann:$1$xxxxxxxx$UYCIxa628.9qXjpQCjM4a.:password",
-            tally(1, 0, 0),
-            "ann:ok:1002:36239:0:0\n",
-            "",
-        ),
-        (
-            counted,
-            "s:$7$2/..../....$rNxJWVHNv/mCNcgE/f6/L4zO6Fos5c2uTzhyzoisI62:\n",
-            tally(1, 0, 0),
-            "s:ok:10:948:32:2048\n",
-            "",
-        ),
-        (
-            check,
-            "b:!:x\nc::x\nd:$1$xxxxxxxx$UYCIxa628.9qXjpQCjM4a.:Password\ne\n",
-            tally(4, 1, 1),
-            "b:locked\nc:none\nd:no\n",
-            "mkpasswd: line 4: no password field\n",
-        ),
-        (
-            check,
-            "b:!:x\nc::x\n",
-            tally(2, 0, 0),
-            "b:locked\nc:none\n",
-            "",
-        ),
-        (
-            counted,
-            "b:!:x\nc::x\n",
-            tally(2, 0, 0),
-            "b:locked:0:0:0:0\nc:none:0:0:0:0\n",
-            "",
-        ),
-        (
-            check,
-            "r:$6$rounds=10$roundstoolow$kUMsbe306n21p9R.FRkW3IGn.S9NPN0x50YhH1xhLsPuWGsUSklZt58jaTfF4ZEQpyUNGc0dqbpBYYBaHHrsX.:the minimum number is still observed",
-            tally(1, 0, 1),
-            "r:no\n",
-            "",
-        ),
-        (
-            check,
-            "r:$6$rounds=1000$roundstoolow$kUMsbe306n21p9R.FRkW3IGn.S9NPN0x50YhH1xhLsPuWGsUSklZt58jaTfF4ZEQpyUNGc0dqbpBYYBaHHrsX.:the minimum number is still observed",
-            tally(1, 0, 0),
-            "r:ok\n",
-            "",
-        ),
-        (
-            check,
-            "h:$5$saltstring$5B8vYYiY.CVt1RlTTf8KbXBH3hsxY/GNooZaBBGWEc5:Hello world!\r\n",
-            tally(1, 0, 1),
-            "h:no\n",
-            "",
-        ),
-    ];
-    for (words, input, tally, out, faults) in rows {
+    for (words, input, counts, out, faults) in ANSWERED {
         for most in [1, 7, 512] {
+            assert!(rt; most > 0);
             let reader = MemoryReader::new(rt.alloc(), input.as_bytes()).by(most);
             let given = Given::new(rt.alloc()).reading(reader);
             want(
@@ -304,7 +297,7 @@ fn answers_line_by_line(rt: HostRuntime) -> Result<(), Fail> {
                 input,
                 words,
                 given,
-                Ok(tally),
+                Ok(tally(counts.0, counts.1, counts.2)),
                 (out, faults),
             )?;
         }

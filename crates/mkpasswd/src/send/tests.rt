@@ -1,4 +1,4 @@
-ghost use Rattle.std.specs.Prelude.{◌≡◌, ◌≤◌, ◌++◌, length, OnOk};
+ghost use Rattle.std.specs.Prelude.{◌≡◌, ◌^◌, ◌<◌, ◌≤◌, ◌++◌, length, OnOk};
 ghost use Rattle.mkpasswd.specs.Devices.{turns_limit};
 
 use super::*;
@@ -16,7 +16,7 @@ fn send_to(
     turns: u64,
 ) -> (Result<(), RunFault>, u64, MemoryWriter)
     requires turns { turns ≤ turns_limit }
-    requires short { length text.now ≤ 2048 }
+    requires short { length text.now < 2 ^ 63 }
     ensures { OnOk result.0 (result.2.taken.items ≡ writer.taken.items ++ text.now) }
 {
     let mut out = Output::new(writer);

@@ -1,0 +1,20 @@
+-- The hash that is put into the caller's bytes.
+use Rattle.std.proofs.Common.{◌≡◌, ◌<◌, ℕ, List, length, IfOk, IfErr, Result, Ok, Err}
+use Rattle.prims_core.specs.declared.work.Work.{Work}
+use Rattle.crypt_core.specs.Crypt.{crypt}
+use Rattle.crypt_core.specs.Passwords.{IsPassword}
+use Rattle.crypt_core.specs.Settings.{Kept, Spells}
+use Rattle.crypt_core.specs.Work.{work}
+use Rattle.crypt_c.specs.Calls.{HasRoomFor, Hashes, IsPut}
+use Rattle.crypt_c.specs.declared.refusal.Refusal.{Refusal}
+use Rattle.crypt_c.specs.declared.refusal.Refusal.TheVariants.{TooFewBytes}
+
+-- there was room for it
+pub hashes : (password setting text old new : List ℕ) (kept : Kept) (done : Work) (result : Result ℕ Refusal)
+    → IsPassword password → Spells setting kept → text ≡ crypt password kept → length text < length old → done ≡ work password kept
+    → IfOk result (λ count. (count ≡ length text) × HasRoomFor text old × IsPut text old new)
+    → IfErr result (λ refusal. (refusal ≡ TooFewBytes) × (¬ HasRoomFor text old) × (new ≡ old))
+    → Hashes password setting old new done result
+hashes password setting text old new kept done (Ok count) is spells text_is room done_is put few =
+    (is, (kept, spells, rw text_is at put.0, rw text_is at put.2, done_is))
+hashes password setting text old new kept done (Err refusal) is spells text_is room done_is put few = absurd (few.1 room)

@@ -1,0 +1,138 @@
+//! What the calls do, with refusals that are not yet numbers.
+ghost use Rattle.std.specs.Prelude.{◌≡◌, ◌<◌, ◌≤◌, ◌^◌, length, IfOk, IfErr};
+ghost use Rattle.prims_core.specs.Meter.{no_counts};
+ghost use Rattle.crypt_core.specs.Work.{cost, work_bound};
+ghost use Rattle.crypt_core.specs.Passwords.{password_limit};
+ghost use Rattle.crypt_core.specs.Settings.{Spells};
+ghost use Rattle.prims_core.specs.declared.work.Work.{Work as Done};
+ghost use Rattle.crypt_c.specs.Calls.{Compares, Explains, Hashes, IsPriceRefused, IsSmall, Makes, Replaces, Tells, counts_of, method_numbered};
+
+use crate::put::put;
+use crate::refusal::Refusal;
+use crypt_core::fits::fits;
+use crypt_core::hash::{hash, hash_len};
+use crypt_core::method::Method;
+use crypt_core::password::{PASSWORD_LIMIT, Password, PasswordFault};
+use crypt_core::setting::Setting;
+use crypt_core::work::{bound, cost};
+use prims_core::meter::Meter;
+use prims_core::work::Work;
+use std::alloc::Global;
+
+/// Whether a password fits a stored text.
+pub(crate) fn compared(
+    alloc: Global,
+    password: &[u8],
+    stored: &[u8],
+    meter: &mut Meter,
+) -> Result<bool, Refusal>
+    requires { meter.old ≡ no_counts }
+    ensures compares { (done : Done) → counts_of done ≡ meter.new → Compares password.now stored.now done result }
+    ensures small { IsSmall meter.new }
+{
+    let password = Password::new(password)?;
+    Ok(fits(alloc, &password, stored, meter)?)
+}
+
+/// Puts the hash of a password by a setting, and answers its length.
+pub(crate) fn hashed(
+    alloc: Global,
+    password: &[u8],
+    setting: &[u8],
+    out: &mut [u8],
+    meter: &mut Meter,
+) -> Result<usize, Refusal>
+    requires { meter.old ≡ no_counts }
+    ensures hashes { (done : Done) → counts_of done ≡ meter.new → Hashes password.now setting.now out.old out.new done result }
+    ensures short { IfOk result (λ count. count < 2 ^ 31) }
+    ensures small { IsSmall meter.new }
+{
+    let password = Password::new(password)?;
+    let setting = Setting::read(setting)?;
+    if hash_len(&setting) >= out.len() {
+        return Err(Refusal::TooFewBytes);
+    }
+    let hashed = hash(alloc, &password, &setting, meter)?;
+    put(out, hashed.text())
+}
+
+/// What a hash by a setting counts at most, for a password of so many bytes.
+pub(crate) fn bounded(stored: &[u8], password_len: usize, most: &mut Work) -> Result<usize, Refusal>
+    ensures tells { Tells work_bound stored.now password_len most.old most.new result }
+    ensures nothing { IfOk result (λ count. count ≡ 0) }
+{
+    *most = bound(&priced_setting(stored, password_len)?, password_len);
+    Ok(0)
+}
+
+/// What it costs at most.
+pub(crate) fn priced(stored: &[u8], password_len: usize, number: &mut u64) -> Result<usize, Refusal>
+    ensures tells { Tells cost stored.now password_len number.old number.new result }
+    ensures nothing { IfOk result (λ count. count ≡ 0) }
+{
+    *number = cost(&priced_setting(stored, password_len)?, password_len);
+    Ok(0)
+}
+
+// The setting of a text, where a password may have so many bytes.
+fn priced_setting(stored: &[u8], password_len: usize) -> Result<Setting, Refusal>
+    ensures read { IfOk result (λ setting. (password_len ≤ password_limit) × Spells stored.now setting) }
+    ensures refused { IfErr result (IsPriceRefused stored.now password_len) }
+{
+    if password_len > PASSWORD_LIMIT {
+        return Err(Refusal::Password(PasswordFault::TooLong));
+    }
+    Ok(Setting::read(stored)?)
+}
+
+/// Whether the one setting is replaced by the other.
+pub(crate) fn replaced(stored: &[u8], new: &[u8]) -> Result<bool, Refusal>
+    ensures { Replaces stored.now new.now result }
+{
+    let stored = Setting::read(stored)?;
+    let new = Setting::read(new)?;
+    Ok(stored.replaced_by(&new))
+}
+
+/// Puts the text of a setting that is made of a method, a cost and three words, and answers its length.
+pub(crate) fn made(
+    method: u32,
+    cost: u32,
+    words: [u64; 3],
+    out: &mut [u8],
+) -> Result<usize, Refusal>
+    ensures makes { Makes method cost words out.old out.new result }
+    ensures short { IfOk result (λ count. count < 2 ^ 31) }
+{
+    let Some(method) = method_numbered(method) else {
+        return Err(Refusal::UnknownMethod);
+    };
+    let Ok(setting) = Setting::with_made_salt(method, cost, words) else {
+        return Err(Refusal::Cost);
+    };
+    put(out, setting.text().as_slice())
+}
+
+// The method that a number stands for.
+fn method_numbered(number: u32) -> Option<Method>
+    ensures { result ≡ method_numbered number }
+{
+    match number {
+        1 => Some(Method::Md5crypt),
+        5 => Some(Method::Sha256crypt),
+        6 => Some(Method::Sha512crypt),
+        7 => Some(Method::Scrypt),
+        _ => None,
+    }
+}
+
+/// Puts the words for a refusal, and answers their length.
+pub(crate) fn explained(number: i32, out: &mut [u8]) -> Result<usize, Refusal>
+    ensures explains { Explains number out.old out.new result }
+    ensures short { IfOk result (λ count. count < 2 ^ 31) }
+{
+    match Refusal::numbered(number) {
+        Some(refusal) => put(out, refusal.text().as_bytes()),
+        None => Err(Refusal::UnknownNumber),
+    }
+}

@@ -1,0 +1,150 @@
+-- The words `-m TYPE -S SALT PASSWORD`, for any texts that are no options.
+use Rattle.std.proofs.Common.{◌≡◌, ◌==◌, ℕ, false, refl, ap, List, [], ◌∷◌, codes, Some, None, inl, inr}
+use Rattle.std.proofs.lemmas.Bool.{ne_eqb}
+use Rattle.std.specs.List.{fold}
+use Rattle.std.specs.Str.{bytes_eq}
+use Rattle.clap.specs.Faults.{defaults_fault, turn_fault, walk_fault}
+use Rattle.clap.specs.Lexer.{long_of, short_of}
+use Rattle.clap.specs.Simple.{built}
+use Rattle.clap.specs.Walk.{Row, Walk, Waiting, idle, nothing_held, option, used, walk_from, walked}
+use Rattle.clap.specs.Words.{Shape, Text, fault_of, matches_of}
+use Rattle.clap.proofs.OnLiterals.{clap_on_literals}
+use Rattle.mkpasswd.specs.Commands.{IsNoOption, hash_words}
+use Rattle.mkpasswd.specs.Options.{command, method_rule, salt_rule, values_in}
+
+-- ---- a word that is no option
+
+-- the tests by which `clap` tells options from other words
+record IsPlain (word : Text) : Type 0 where
+  pub no_end : bytes_eq word (45 ∷ 45 ∷ []) ≡ false
+  pub no_long : long_of word ≡ None
+  pub no_short : short_of word ≡ None
+
+no_option-plain : (word : Text) → IsNoOption word → IsPlain word
+no_option-plain word (inl hyphen) = rw hyphen (record { no_end = refl; no_long = refl; no_short = refl })
+no_option-plain [] (inr none) = record { no_end = refl; no_long = refl; no_short = refl }
+no_option-plain (b ∷ bs) (inr none) =
+    let other : (b == 45) ≡ false = ne_eqb b 45 (λ same. none (bs, ap (λ n. n ∷ bs) same)) in
+    record { no_end = rw other; no_long = rw other; no_short = rw other }
+
+-- ---- one word after another
+
+-- the command as `clap` builds it
+shape : Shape
+shape = (built command).top
+
+-- a word is taken without a fault
+record Goes (w : Walk) (word : Text) (v : Walk) : Type 0 where
+  pub goes : walked shape.rules [] w word ≡ v
+  pub faultless : turn_fault shape [] w word ≡ []
+
+-- and so are some
+data GoesOn : Walk → List Text → Walk → Type 0 where
+  stays : {w : Walk} → GoesOn w [] w
+  first : {w v u : Walk} {word : Text} {rest : List Text} → Goes w word v → GoesOn v rest u → GoesOn w (word ∷ rest) u
+
+goes-fold : (w u : Walk) (words : List Text) → GoesOn w words u → fold (walked shape.rules []) w words ≡ u
+goes-fold w u words stays = refl
+goes-fold w u words (first one others) = rw one.goes (goes-fold _ u _ others)
+
+goes-faultless : (w u : Walk) (words : List Text) → GoesOn w words u → walk_fault shape [] w words ≡ []
+unfolding walk_fault
+goes-faultless w u words stays = refl
+goes-faultless w u words (first one others) = rw (one.faultless, one.goes) (goes-faultless _ u _ others)
+
+-- ---- the words
+
+-- where the walk is between two of them: these values of the argument have been read, and are to be used
+abbrev at : List Row → Text → List Text → Waiting → ℕ → Walk
+at rows id values waiting position = record {
+  held = record { rows = rows; pending = Some (id, values); skip = 0 };
+  waiting = waiting;
+  position = position;
+  is_trailing = false;
+  stopped = None;
+}
+
+abbrev start : Walk
+start = walk_from nothing_held
+
+abbrev at_type : Walk
+at_type = at [] (codes "method") [] (option (codes "method")) 1
+
+abbrev behind_type : Text → Walk
+behind_type name = at [] (codes "method") (name ∷ []) idle 1
+
+abbrev type_row : Text → List Row
+type_row name = used method_rule (name ∷ []) []
+
+abbrev at_salt : Text → Walk
+at_salt name = at (type_row name) (codes "salt") [] (option (codes "salt")) 1
+
+abbrev behind_salt : Text → Text → Walk
+behind_salt name salt = at (type_row name) (codes "salt") (salt ∷ []) idle 1
+
+abbrev behind_password : Text → Text → Text → Walk
+behind_password name salt password =
+    at (used salt_rule (salt ∷ []) (type_row name)) (codes "password") (password ∷ []) idle 2
+
+word_1 : Goes start (codes "-m") at_type
+unfolding shape command clap_on_literals
+word_1 = record { goes = refl; faultless = refl }
+
+word_2 : (name : Text) → IsPlain name → Goes at_type name (behind_type name)
+unfolding shape command walked
+word_2 name p = record {
+  goes = rw (p.no_end, p.no_long, p.no_short);
+  faultless = rw (p.no_end, p.no_long, p.no_short);
+}
+
+word_3 : (name : Text) → Goes (behind_type name) (codes "-S") (at_salt name)
+unfolding shape command clap_on_literals
+word_3 name = record { goes = refl; faultless = refl }
+
+word_4 : (name salt : Text) → IsPlain salt → Goes (at_salt name) salt (behind_salt name salt)
+unfolding shape command walked
+word_4 name salt p = record {
+  goes = rw (p.no_end, p.no_long, p.no_short);
+  faultless = rw (p.no_end, p.no_long, p.no_short);
+}
+
+word_5 : (name salt password : Text) → IsPlain password
+    → Goes (behind_salt name salt) password (behind_password name salt password)
+unfolding shape command walked
+word_5 name salt password p = record {
+  goes = rw (p.no_end, p.no_long, p.no_short);
+  faultless = rw (p.no_end, p.no_long, p.no_short);
+}
+
+all_words : (name salt password : Text) → IsNoOption name → IsNoOption salt → IsNoOption password
+    → GoesOn start (hash_words name salt password) (behind_password name salt password)
+all_words name salt password n s p =
+    first word_1 (first (word_2 name (no_option-plain name n)) (first (word_3 name)
+    (first (word_4 name salt (no_option-plain salt s))
+    (first (word_5 name salt password (no_option-plain password p)) stays))))
+
+-- ---- what the command makes of them
+
+pub given_fault : (name salt password : Text) → IsNoOption name → IsNoOption salt → IsNoOption password
+    → fault_of command (hash_words name salt password) ≡ []
+unfolding shape command defaults_fault
+given_fault name salt password n s p =
+    let on = all_words name salt password n s p in
+    rw (goes-faultless _ _ _ on, goes-fold _ _ _ on)
+
+pub given_values : (name salt password : Text) → IsNoOption name → IsNoOption salt → IsNoOption password
+    → values_in (matches_of command (hash_words name salt password)) ≡ record {
+      method = Some name;
+      salt = Some salt;
+      salt_word = None;
+      cost = 0;
+      stdin = false;
+      batch = false;
+      check = false;
+      rehash = false;
+      work = false;
+      budget = None;
+      password = Some password;
+    }
+unfolding shape command
+given_values name salt password n s p = rw (goes-fold _ _ _ (all_words name salt password n s p))

@@ -1,0 +1,112 @@
+-- One hash by words that are written out.
+use Rattle.std.proofs.Common.{◌≡◌, List, [], Some, None, false, codes, ap, subst, ◌∙◌, inl, inr, append-nil}
+use Rattle.std.proofs.lemmas.Option.{none-some}
+use Rattle.clap.specs.Words.{Text, matches_of}
+use Rattle.rand_core.specs.Stream.{Stream}
+use Rattle.crypt_core.specs.Crypt.{crypt}
+use Rattle.crypt_core.specs.MadeSettings.{made_setting}
+use Rattle.crypt_core.specs.Methods.{method_named}
+use Rattle.crypt_core.specs.Settings.{BeginsWith}
+use Rattle.crypt_core.specs.declared.method.Method.{Method}
+use Rattle.mkpasswd.specs.Answers.{password_answer}
+use Rattle.mkpasswd.specs.Commands.{IsNoOption, IsWhole, PrintsHash, hash_words}
+use Rattle.mkpasswd.specs.Options.{Gives, HasMode, IsJob, Mode, Values, command, input, lines, values_in, word}
+use Rattle.mkpasswd.specs.Runs.{Hands, Tells}
+use Rattle.mkpasswd.specs.Texts.{as_line}
+use Rattle.mkpasswd.specs.declared.job.Job.{Job}
+use Rattle.mkpasswd.specs.declared.job.PasswordFrom.TheVariants.{Word, Input}
+use Rattle.mkpasswd.specs.declared.job.Plan.TheVariants.{Methods, One, Batch, Check}
+use Rattle.mkpasswd.specs.declared.line.Kind.TheVariants as kinds
+use Rattle.mkpasswd.proofs.GivenWords.{given_fault, given_values}
+
+-- ---- a name is no option
+
+module _ (name : Text) (method : Method) (named : method_named name ≡ Some method) where
+  no_hyphen : ¬ BeginsWith name (codes "-")
+  no_hyphen (rest, is) = none-some method (subst (λ (text : Text). method_named text ≡ Some method) is named)
+
+  not_help : ¬ (name ≡ codes "help")
+  not_help is = none-some method (subst (λ (text : Text). method_named text ≡ Some method) is named)
+
+-- ---- what they mean
+
+-- the text of a mode that has one
+abbrev text_of : Mode → Text
+text_of (word text) = text
+text_of input = []
+text_of (lines kind) = []
+
+abbrev given : Text → Text → Text → Values
+given name salt password = record {
+  method = Some name;
+  salt = Some salt;
+  salt_word = None;
+  cost = 0;
+  stdin = false;
+  batch = false;
+  check = false;
+  rehash = false;
+  work = false;
+  budget = None;
+  password = Some password;
+}
+
+-- the answer of their job is the hash alone
+text_by : (method : Method) (salt password : Text) (job : Job) (bytes : Text) (stream : Stream)
+    → job.maker ≡ record { method = method; cost = 0; salt = Some salt } → job.work ≡ false → bytes ≡ password
+    → (password_answer job bytes stream).text ≡ as_line (crypt password (made_setting method 0 salt))
+text_by method salt password job bytes stream maker_is work_is bytes_is =
+    rw (maker_is, work_is, bytes_is) (ap as_line (append-nil (crypt password (made_setting method 0 salt))))
+
+module _ {I O E : Type 0} (told : Tells I O E) (name salt password : Text) (method : Method) (named : method_named name ≡ Some method)
+    (salt_is : IsNoOption salt) (password_is : IsNoOption password) where
+  name_is : IsNoOption name
+  name_is = inr (no_hyphen name method named)
+
+  values_are : (words : List Text) (values : Values) → words ≡ hash_words name salt password → Gives words values → values ≡ given name salt password
+  values_are words values are gives =
+      gives.found ∙ (ap (λ (w : List Text). values_in (matches_of command w)) are ∙ given_values name salt password name_is salt_is password_is)
+
+  -- the one mode is that of the password's word
+  one_mode : (words : List Text) (values : Values) (own : Method) (mode : Mode) → words ≡ hash_words name salt password → Gives words values
+      → HasMode values own mode → mode ≡ word password
+  one_mode words values own mode are gives has = rw (values_are words values are gives) at has.mode_is
+
+  one_method : (words : List Text) (values : Values) (own : Method) (mode : Mode) → words ≡ hash_words name salt password → Gives words values
+      → HasMode values own mode → own ≡ method
+  one_method words values own mode are gives has =
+      let named_own : method_named name ≡ Some own = rw (values_are words values are gives) at has.salt.names.named in
+      let named_here = named in
+      cc
+
+  prints_job : (words : List Text) (values : Values) (own : Method) (mode : Mode) (job : Job) (bytes : Text) (stream : Stream)
+      → words ≡ hash_words name salt password → Gives words values → HasMode values own mode → IsJob values own job → bytes ≡ password
+      → (password_answer job bytes stream).text ≡ as_line (crypt password (made_setting method 0 salt))
+  prints_job words values own mode job bytes stream are gives has is_job bytes_is =
+      let values_is = values_are words values are gives in
+      text_by method salt password job bytes stream
+      (rw (values_is, one_method words values own mode are gives has) at is_job.maker) (rw values_is at is_job.work) bytes_is
+
+  pub prints_hash : (words : List Text) (old new : Hands I O E) → words ≡ hash_words name salt password
+      → IsWhole told words old new → PrintsHash told method salt password old new
+  prints_hash words old new are (inr (error, refuses, by, text, leaves)) =
+      absurd (rw (are, given_fault name salt password name_is salt_is password_is) at refuses.called_for)
+  prints_hash words old new are (inl (Methods, bytes, answer, (values, gives, asks), yields, well, leaves)) =
+      absurd (not_help name method named (rw (values_are words values are gives) at asks))
+  prints_hash words old new are (inl (One job (Word typed), bytes, answer, (values, gives, (own, word own_word, has, is_job, from)), yields, well, leaves)) =
+      let same : word own_word ≡ word password = one_mode words values own (word own_word) are gives has in
+      let typed_is : typed.items ≡ password = from ∙ ap text_of same in
+      rw (yields.1, prints_job words values own (word own_word) job typed.items old.stream are gives has is_job typed_is) at leaves.out
+  prints_hash words old new are (inl (One job (Word typed), bytes, answer, (values, gives, (own, input, has, is_job, from)), yields, well, leaves)) = absurd from
+  prints_hash words old new are (inl (One job (Word typed), bytes, answer, (values, gives, (own, lines kind, has, is_job, from)), yields, well, leaves)) = absurd from
+  prints_hash words old new are (inl (One job Input, bytes, answer, (values, gives, (own, word own_word, has, is_job, from)), yields, well, leaves)) = absurd from
+  prints_hash words old new are (inl (One job Input, bytes, answer, (values, gives, (own, input, has, is_job, from)), yields, well, leaves)) =
+      let same : input ≡ word password = one_mode words values own input are gives has in
+      cc
+  prints_hash words old new are (inl (One job Input, bytes, answer, (values, gives, (own, lines kind, has, is_job, from)), yields, well, leaves)) = absurd from
+  prints_hash words old new are (inl (Batch job, bytes, answer, (values, gives, (own, has, is_job)), yields, well, leaves)) =
+      let same : lines kinds.Batch ≡ word password = one_mode words values own (lines kinds.Batch) are gives has in
+      cc
+  prints_hash words old new are (inl (Check job, bytes, answer, (values, gives, (own, has, is_job)), yields, well, leaves)) =
+      let same : lines kinds.Check ≡ word password = one_mode words values own (lines kinds.Check) are gives has in
+      cc

@@ -1,0 +1,8 @@
+use Rattle.std.proofs.Common.{refl}
+use Rattle.mkpasswd.proofs.Serving.{refusal_shown}
+use Rattle.mkpasswd.proofs.command.show_refusal.Goals as goal
+
+pub returns-in-Method : goal.returns-in-Method
+returns-in-Method g c =
+    refusal_shown g.O.Write.contents g.E.Write.contents c.args.fault c.args.turns c.args.out.now c.args.faults.now c.args.out.now c.tell.new.faults c.tell.result
+    c.in-Method.is (c.tell.ensures.told, refl, c.tell.ensures.status)

@@ -1,0 +1,184 @@
+-- The whole command: from the words and the devices to the exit status.
+use Rattle.std.specs.Prelude.{◌≡◌, ℕ, ◌⊎◌, ◌&&◌, zero, suc, Bool, true, false, not, List, [], ◌∷◌, ◌++◌, length, codes, Option, Some, None, Result, Ok, Err, IfOk}
+use Rattle.std.specs.Io.KnownBytes.{Appends, Consumes}
+use Rattle.clap.specs.Words.{Text, kind_of}
+use Rattle.clap.specs.declared.error.Error.{Error}
+use Rattle.rand_core.specs.Stream.{Stream}
+use Rattle.crypt_core.specs.Crypt.{crypt}
+use Rattle.crypt_core.specs.MadeSettings.{made_setting}
+use Rattle.crypt_core.specs.Settings.{BeginsWith}
+use Rattle.crypt_core.specs.declared.method.Method.{Method}
+use Rattle.mkpasswd.specs.Answers.{Answer, no_answer, password_answer}
+use Rattle.mkpasswd.specs.Devices.{Device}
+use Rattle.mkpasswd.specs.Faults.{fault_status, fault_text, parse_status}
+use Rattle.mkpasswd.specs.Input.{IsDecided, first_line}
+use Rattle.mkpasswd.specs.LineRuns.{AreAnswers, EndsLines, IsReadOut, lines_of}
+use Rattle.mkpasswd.specs.Methods.{methods_text}
+use Rattle.mkpasswd.specs.One.{EndsOne}
+use Rattle.mkpasswd.specs.Options.{Plans}
+use Rattle.mkpasswd.specs.Output.{Shows}
+use Rattle.mkpasswd.specs.Runs.{Hands, IsWithinTurns, Tells}
+use Rattle.mkpasswd.specs.Tallies.{no_line, tally_status}
+use Rattle.mkpasswd.specs.Texts.{as_line}
+use Rattle.mkpasswd.specs.declared.fault.Fault.{Fault}
+use Rattle.mkpasswd.specs.declared.fault.Fault.TheVariants.{Start, Usage, Run}
+use Rattle.mkpasswd.specs.declared.fault.RunFault.{RunFault}
+use Rattle.mkpasswd.specs.declared.fault.UsageFault.{UsageFault}
+use Rattle.mkpasswd.specs.declared.fault.UsageFault.TheVariants.{Parse}
+use Rattle.mkpasswd.specs.declared.job.PasswordFrom.TheVariants.{Word, Input}
+use Rattle.mkpasswd.specs.declared.job.Plan.{Plan}
+use Rattle.mkpasswd.specs.declared.job.Plan.TheVariants.{Methods, One, Batch, Check}
+use Rattle.mkpasswd.specs.declared.line.Kind.TheVariants as kinds
+use Rattle.mkpasswd.specs.declared.tally.Tally.{Tally}
+
+-- ---- the generator
+
+-- any plan but the list of the methods wants a generator
+abbrev pub wants_generator : Plan → Bool
+wants_generator Methods = false
+wants_generator (One job from) = true
+wants_generator (Batch job) = true
+wants_generator (Check job) = true
+
+-- and it may lack one
+abbrev pub lacks_generator : Bool → Plan → Bool
+lacks_generator generates plan = wants_generator plan && not generates
+
+-- where there is no generator, a stream from which nothing is drawn
+abbrev pub no_stream : Stream
+no_stream = record { u32_after = λ calls. 0; u64_after = λ calls. 0; bytes_after = λ calls count. [] }
+
+abbrev pub stream_in : {R : Type 0} → (R → Stream) → Option R → Stream
+stream_in stream None = no_stream
+stream_in stream (Some rng) = stream rng
+
+-- ---- texts on the outputs
+
+-- a fault's line
+abbrev pub fault_line : Fault → List ℕ
+fault_line fault = as_line (codes "mkpasswd: " ++ fault_text fault)
+
+-- It goes to the fault output, in no more calls than it has bytes; of a fault output that fails there is a first part of it.
+abbrev pub IsTold : {E : Type 0} → (E → Option (List ℕ)) → Fault → Device E → Device E → Type 0
+IsTold fault_contents fault old new =
+    (result : Result Tally RunFault) × Shows fault_contents (length (fault_line fault)) old new (fault_line fault) result
+
+module _ {O E : Type 0} (contents : O → Option (List ℕ)) (fault_contents : E → Option (List ℕ)) where
+  -- that is all that is done, and the fault's status is the answer
+  abbrev pub TellsFault : Fault → Device O → Device E → Device O → Device E → ℕ → Type 0
+  TellsFault fault out faults new_out new_faults status =
+      IsTold fault_contents fault faults new_faults × (new_out ≡ out) × (status ≡ fault_status fault)
+
+  -- behind a run nothing more is done, and its tally has the status; or its fault is told
+  abbrev pub Concludes : Result Tally RunFault → Device O → Device E → Device O → Device E → ℕ → Type 0
+  Concludes (Ok tally) out faults new_out new_faults status =
+      (new_out ≡ out) × (new_faults ≡ faults) × (status ≡ tally_status tally)
+  Concludes (Err fault) out faults new_out new_faults status = TellsFault (Run fault) out faults new_out new_faults status
+
+  -- help and the version are some text for the output, where one that can't be given is a fault
+  abbrev pub ShowsHelp : ℕ → Device O → Device E → Device O → Device E → ℕ → Type 0
+  ShowsHelp turns out faults new_out new_faults status =
+      (text : List ℕ) × (mid : Device O) × (result : Result Tally RunFault) × Shows contents turns out mid text result
+      × IfOk result (λ tally. tally ≡ no_line) × Concludes result mid faults new_out new_faults status
+
+  -- what is wrong with the words is some text for the fault output, as well as that takes it
+  abbrev pub ShowsMistake : ℕ → Device O → Device E → Device O → Device E → ℕ → Type 0
+  ShowsMistake turns out faults new_out new_faults status =
+      (text : List ℕ) × (result : Result Tally RunFault) × Shows fault_contents turns faults new_faults text result
+      × (new_out ≡ out) × (status ≡ 2)
+
+  -- by the status of `clap`'s error
+  abbrev pub ShowsError : ℕ → ℕ → Device O → Device E → Device O → Device E → ℕ → Type 0
+  ShowsError zero = ShowsHelp
+  ShowsError (suc n) = ShowsMistake
+
+module _ {I O E : Type 0} where
+  -- only the outputs have changed, as is said here
+  abbrev pub InOutputs : (Device O → Device E → Device O → Device E → ℕ → Type 0) → Hands I O E → Hands I O E → ℕ → Type 0
+  InOutputs Does old new status =
+      (new ≡ record old { out = new.out; faults = new.faults }) × Does old.out old.faults new.out new.faults status
+
+  -- ---- a plan is run
+
+  -- each plan has its run, within the turns
+  abbrev pub Ends : Tells I O E → ℕ → Plan → Hands I O E → Hands I O E → Result Tally RunFault → Type 0
+  Ends tells turns Methods old new result =
+      Shows tells.contents turns old.out new.out methods_text result × (new ≡ record old { out = new.out })
+      × IfOk result (λ tally. tally ≡ no_line)
+  Ends tells turns (One job from) old new result = EndsOne tells turns job from old new result × IsWithinTurns turns old new
+  Ends tells turns (Batch job) old new result =
+      EndsLines tells turns kinds.Batch job old new result × IsWithinTurns turns old new
+  Ends tells turns (Check job) old new result =
+      EndsLines tells turns kinds.Check job old new result × IsWithinTurns turns old new
+
+  -- There is a state in between, in which the run has ended. A plan that lacks its generator is not run.
+  abbrev pub RunsPlan : Bool → Tells I O E → ℕ → Plan → Hands I O E → Hands I O E → ℕ → Type 0
+  RunsPlan true tells turns plan = InOutputs (TellsFault tells.contents tells.fault_contents Start)
+  RunsPlan false tells turns plan = λ old new status.
+      (mid : Hands I O E) × (result : Result Tally RunFault) × Ends tells turns plan old mid result
+      × InOutputs (Concludes tells.contents tells.fault_contents result) mid new status
+
+  -- ---- the command
+
+  -- what is done where the words mean this; `generates` says whether there is a generator
+  abbrev pub Follows : Tells I O E → ℕ → Bool → Result Plan UsageFault → Hands I O E → Hands I O E → ℕ → Type 0
+  Follows tells turns generates (Ok plan) = RunsPlan (lacks_generator generates plan) tells turns plan
+  Follows tells turns generates (Err (Parse error)) =
+      InOutputs (ShowsError tells.contents tells.fault_contents (parse_status (kind_of error)) turns)
+  Follows tells turns generates (Err fault) = InOutputs (TellsFault tells.contents tells.fault_contents (Usage fault))
+
+  -- The words are planned, and what follows from that is done. That memory ran out may be told of any words.
+  abbrev pub Serves : Tells I O E → ℕ → Bool → List Text → Hands I O E → Hands I O E → ℕ → Type 0
+  Serves tells turns generates words old new status =
+      (planned : Result Plan UsageFault) × Plans words planned × Follows tells turns generates planned old new status
+
+  -- ---- status 0
+
+  -- these bytes were read, and the outputs have taken these texts and nothing else, where the devices tell theirs
+  pub record Leaves (tells : Tells I O E) (read text told : List ℕ) (old new : Hands I O E) : Type 0 where
+    pub input : Consumes (tells.remaining old.input.inner) (tells.remaining new.input.inner) read
+    pub out : Appends (tells.contents old.out.inner) (tells.contents new.out.inner) text
+    pub faults : Appends (tells.fault_contents old.faults.inner) (tells.fault_contents new.faults.inner) told
+
+  -- the answer of a plan to an input of which these bytes were read: the list and a password's word read nothing, a
+  -- password of the input is decided by them, and a run over lines leaves nothing to read
+  abbrev pub Yields : Tells I O E → Plan → List ℕ → Hands I O E → Hands I O E → Answer → Type 0
+  Yields tells Methods bytes old new answer = (bytes ≡ []) × (answer ≡ record (no_answer old.stream) { text = methods_text })
+  Yields tells (One job (Word password)) bytes old new answer =
+      (bytes ≡ []) × (answer ≡ password_answer job password.items old.stream)
+  Yields tells (One job Input) bytes old new answer =
+      IsDecided tells.remaining new.input bytes × (answer ≡ password_answer job (first_line bytes) old.stream)
+  Yields tells (Batch job) bytes old new answer =
+      IsReadOut tells new × AreAnswers kinds.Batch job 1 (lines_of bytes) old.stream answer
+  Yields tells (Check job) bytes old new answer =
+      IsReadOut tells new × AreAnswers kinds.Check job 1 (lines_of bytes) old.stream answer
+
+  -- the words ask for help or the version: some text is given, and nothing is read
+  abbrev pub IsHelped : Tells I O E → List Text → Hands I O E → Hands I O E → Type 0
+  IsHelped tells words old new =
+      (error : Error) × Plans words (Err (Parse error)) × (parse_status (kind_of error) ≡ 0)
+      × (text : List ℕ) × Leaves tells [] text [] old new
+
+  -- they have a plan: its whole answer is given, in which no line is refused or answered `no`
+  abbrev pub IsAnswered : Tells I O E → List Text → Hands I O E → Hands I O E → Type 0
+  IsAnswered tells words old new =
+      (plan : Plan) × (bytes : List ℕ) × (answer : Answer) × Plans words (Ok plan) × Yields tells plan bytes old new answer
+      × (tally_status answer.tally ≡ 0) × Leaves tells bytes answer.text answer.fault_text old new
+
+  abbrev pub IsWhole : Tells I O E → List Text → Hands I O E → Hands I O E → Type 0
+  IsWhole tells words old new = IsAnswered tells words old new ⊎ IsHelped tells words old new
+
+-- ---- one hash in a line
+
+-- -m TYPE -S SALT PASSWORD
+abbrev pub hash_words : Text → Text → Text → List Text
+hash_words method salt password = codes "-m" ∷ method ∷ codes "-S" ∷ salt ∷ password ∷ []
+
+-- the command takes such a word for a value: it does not begin with a hyphen, or is no more than one
+abbrev pub IsNoOption : Text → Type 0
+IsNoOption word = (word ≡ codes "-") ⊎ ¬ BeginsWith word (codes "-")
+
+-- the output has taken the hash of the password by the setting of the method and the salt, and a line feed
+abbrev pub PrintsHash : {I O E : Type 0} → Tells I O E → Method → Text → Text → Hands I O E → Hands I O E → Type 0
+PrintsHash tells method salt password old new =
+    Appends (tells.contents old.out.inner) (tells.contents new.out.inner) (as_line (crypt password (made_setting method 0 salt)))
