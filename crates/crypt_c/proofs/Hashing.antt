@@ -12,9 +12,9 @@ use Rattle.crypt_c.specs.declared.refusal.Refusal.TheVariants.{TooFewBytes}
 -- there was room for it
 pub hashes : (password setting text old new : List ℕ) (kept : Kept) (done : Work) (result : Result ℕ Refusal)
     → IsPassword password → Spells setting kept → text ≡ crypt password kept → length text < length old → done ≡ work password kept
-    → IfOk result (λ count. (count ≡ length text) × HasRoomFor text old × IsPut text old new)
+    → IfOk result (λ count. (count ≡ length text) × IsPut text old new)
     → IfErr result (λ refusal. (refusal ≡ TooFewBytes) × (¬ HasRoomFor text old) × (new ≡ old))
     → Hashes password setting old new done result
 hashes password setting text old new kept done (Ok count) is spells text_is room done_is put few =
-    (is, (kept, spells, rw text_is at put.0, rw text_is at put.2, done_is))
+    (is, (kept, spells, rw text_is at put.0, rw text_is at put.1, done_is))
 hashes password setting text old new kept done (Err refusal) is spells text_is room done_is put few = absurd (few.1 room)

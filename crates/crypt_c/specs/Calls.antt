@@ -37,13 +37,13 @@ pub record IsSmall (counts : Counts) : Type 0 where
   pub table : counts.table < 2 ^ 64
   pub scratch : counts.scratch < 2 ^ 64
 
--- the caller's bytes begin with a text and a byte 0, and are as they were behind that
-abbrev pub IsPut : List ℕ → List ℕ → List ℕ → Type 0
-IsPut text old new = new ≡ (text ++ 0 ∷ drop (length text + 1) old)
-
--- they have room for that
+-- the caller's bytes have room for a text and a byte 0
 abbrev pub HasRoomFor : List ℕ → List ℕ → Type 0
 HasRoomFor text old = length text < length old
+
+-- they have, begin with these, and are as they were behind that
+abbrev pub IsPut : List ℕ → List ℕ → List ℕ → Type 0
+IsPut text old new = HasRoomFor text old × (new ≡ (text ++ 0 ∷ drop (length text + 1) old))
 
 -- ---- a password against a stored text
 
@@ -71,7 +71,8 @@ Hashes password setting old new done (Err (Setting fault)) =
 Hashes password setting old new done (Err TooFewBytes) =
     IsPassword password × ((kept : Kept) × Spells setting kept × ¬ HasRoomFor (crypt password kept) old × (new ≡ old) × (done ≡ no_work))
 Hashes password setting old new done (Err OutOfMemory) =
-    IsPassword password × ((kept : Kept) × Spells setting kept × IsRefusedBy no_counts kept.scheme (counts_of done) × (new ≡ old))
+    IsPassword password × ((kept : Kept) × Spells setting kept × HasRoomFor (crypt password kept) old
+    × IsRefusedBy no_counts kept.scheme (counts_of done) × (new ≡ old))
 Hashes password setting old new done (Err refusal) = ⊥
 
 -- ---- what a hash will take
@@ -133,6 +134,21 @@ Explains number old new (Err UnknownNumber) = ((refusal : Refusal) → number �
 Explains number old new (Err TooFewBytes) =
     (refusal : Refusal) × (number ≡ refused refusal) × (¬ HasRoomFor (refusal_text refusal) old) × (new ≡ old)
 Explains number old new (Err refusal) = ⊥
+
+-- ---- from the facts to the number
+
+-- each answer of which these facts hold is the one that the number tells
+abbrev pub TellsEach : {A : Type 0} → (Result A Refusal → ℤ) → (Result A Refusal → Type 0) → ℤ → Type 0
+TellsEach {A = A} told holds number = (answer : Result A Refusal) → holds answer → number ≡ told answer
+
+-- such a number where memory may be refused: in the place of a value it can tell that, and in the place of no other refusal
+abbrev pub IsToldOrLacks : {A : Type 0} → (Result A Refusal → ℤ) → ℤ → Result A Refusal → Type 0
+IsToldOrLacks told number (Ok value) = (number ≡ told (Ok value)) ⊎ (number ≡ refused OutOfMemory)
+IsToldOrLacks told number (Err OutOfMemory) = Unit {0}
+IsToldOrLacks told number (Err refusal) = number ≡ refused refusal
+
+abbrev pub TellsOrLacks : {A : Type 0} → (Result A Refusal → ℤ) → (Result A Refusal → Type 0) → ℤ → Type 0
+TellsOrLacks {A = A} told holds number = (answer : Result A Refusal) → holds answer → IsToldOrLacks told number answer
 
 -- ---- steps
 

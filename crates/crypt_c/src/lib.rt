@@ -5,9 +5,10 @@
 //! that many threads may call at once.
 #![tactic(auto)]
 
-ghost use Rattle.std.specs.Prelude.{◌≡◌, ◌^◌, ◌<◌, ◌≤◌, ◌∷◌, [], Bool, Result, ℕ, IfOk};
+ghost use Rattle.std.specs.Prelude.{◌≡◌, ◌^◌, ◌<◌, ◌≤◌, ◌∷◌, [], Bool, List, Result, ℕ, IfOk};
 ghost use Rattle.crypt_core.specs.Work.{cost, work_bound};
-ghost use Rattle.crypt_c.specs.Calls.{Compares, Explains, Hashes, IsSmall, Makes, Replaces, Tells, counts_of};
+ghost use Rattle.prims_core.specs.declared.work.Work.{Work as Done};
+ghost use Rattle.crypt_c.specs.Calls.{Compares, Explains, Hashes, IsSmall, Makes, Replaces, Tells, TellsEach, TellsOrLacks, counts_of};
 ghost use Rattle.crypt_c.specs.Numbers.{length_told, verdict_told};
 ghost use Rattle.crypt_c.specs.declared.refusal.Refusal.{Refusal as Refused};
 
@@ -32,7 +33,8 @@ pub extern "C" fn mkpasswd_fits(
     stored: &[u8],
     work: &mut Work,
 ) -> i32
-    ensures { (answer : Result Bool Refused) × Compares password.now stored.now work.new answer × (result ≡ verdict_told answer) }
+    ensures compares { (answer : Result Bool Refused) × Compares password.now stored.now work.new answer × (result ≡ verdict_told answer) }
+    ensures each { (done : Done) → TellsOrLacks verdict_told (Compares password.now stored.now done) result }
 {
     let mut meter = Meter::new();
     let answer = compared(alloc, password, stored, &mut meter);
@@ -53,7 +55,8 @@ pub extern "C" fn mkpasswd_hash(
     out: &mut [u8],
     work: &mut Work,
 ) -> i32
-    ensures { (answer : Result ℕ Refused) × Hashes password.now setting.now out.old out.new work.new answer × (result ≡ length_told answer) }
+    ensures hashes { (answer : Result ℕ Refused) × Hashes password.now setting.now out.old out.new work.new answer × (result ≡ length_told answer) }
+    ensures each { (new : List ℕ) → (done : Done) → TellsOrLacks length_told (Hashes password.now setting.now out.old new done) result }
 {
     let mut meter = Meter::new();
     let answer = hashed(alloc, password, setting, out, &mut meter);
@@ -67,7 +70,8 @@ pub extern "C" fn mkpasswd_hash(
 /// The refusals: too many bytes for a password, and those of the text as a setting. After one `most` is as it was.
 #[unsafe(no_mangle)]
 pub extern "C" fn mkpasswd_bound(stored: &[u8], password_len: usize, most: &mut Work) -> i32
-    ensures { (answer : Result ℕ Refused) × Tells work_bound stored.now password_len most.old most.new answer × (result ≡ length_told answer) }
+    ensures tells { (answer : Result ℕ Refused) × Tells work_bound stored.now password_len most.old most.new answer × (result ≡ length_told answer) }
+    ensures each { (new : Done) → TellsEach length_told (Tells work_bound stored.now password_len most.old new) result }
 {
     told(bounded(stored, password_len, most))
 }
@@ -76,7 +80,8 @@ pub extern "C" fn mkpasswd_bound(stored: &[u8], password_len: usize, most: &mut 
 /// Otherwise as [`mkpasswd_bound`].
 #[unsafe(no_mangle)]
 pub extern "C" fn mkpasswd_cost(stored: &[u8], password_len: usize, number: &mut u64) -> i32
-    ensures { (answer : Result ℕ Refused) × Tells cost stored.now password_len number.old number.new answer × (result ≡ length_told answer) }
+    ensures tells { (answer : Result ℕ Refused) × Tells cost stored.now password_len number.old number.new answer × (result ≡ length_told answer) }
+    ensures each { (new : ℕ) → TellsEach length_told (Tells cost stored.now password_len number.old new) result }
 {
     told(priced(stored, password_len, number))
 }
@@ -87,7 +92,8 @@ pub extern "C" fn mkpasswd_cost(stored: &[u8], password_len: usize, number: &mut
 /// The refusals: those of the stored text as a setting, and then those of the other one.
 #[unsafe(no_mangle)]
 pub extern "C" fn mkpasswd_replaced(stored: &[u8], new: &[u8]) -> i32
-    ensures { (answer : Result Bool Refused) × Replaces stored.now new.now answer × (result ≡ verdict_told answer) }
+    ensures replaces { (answer : Result Bool Refused) × Replaces stored.now new.now answer × (result ≡ verdict_told answer) }
+    ensures each { TellsEach verdict_told (Replaces stored.now new.now) result }
 {
     verdict(replaced(stored, new))
 }
@@ -107,7 +113,8 @@ pub extern "C" fn mkpasswd_setting(
     third: u64,
     out: &mut [u8],
 ) -> i32
-    ensures { (answer : Result ℕ Refused) × Makes method cost (first ∷ second ∷ third ∷ []) out.old out.new answer × (result ≡ length_told answer) }
+    ensures makes { (answer : Result ℕ Refused) × Makes method cost (first ∷ second ∷ third ∷ []) out.old out.new answer × (result ≡ length_told answer) }
+    ensures each { (new : List ℕ) → TellsEach length_told (Makes method cost (first ∷ second ∷ third ∷ []) out.old new) result }
 {
     told(made(method, cost, [first, second, third], out))
 }
@@ -118,7 +125,8 @@ pub extern "C" fn mkpasswd_setting(
 /// The refusals: a number that stands for none, and too few bytes in `out`. After one `out` is as it was.
 #[unsafe(no_mangle)]
 pub extern "C" fn mkpasswd_refusal(number: i32, out: &mut [u8]) -> i32
-    ensures { (answer : Result ℕ Refused) × Explains number out.old out.new answer × (result ≡ length_told answer) }
+    ensures explains { (answer : Result ℕ Refused) × Explains number out.old out.new answer × (result ≡ length_told answer) }
+    ensures each { (new : List ℕ) → TellsEach length_told (Explains number out.old new) result }
 {
     told(explained(number, out))
 }

@@ -1,5 +1,14 @@
-use Rattle.std.proofs.Common.{rules}
+use Rattle.std.proofs.Common.{rules, subst, sym}
+use Rattle.crypt_c.specs.Calls.{IsToldOrLacks}
+use Rattle.crypt_c.specs.Numbers.{verdict_told}
+use Rattle.crypt_c.proofs.OneAnswer.{compared_once}
 use Rattle.crypt_c.proofs.mkpasswd_fits.Goals as goal
 
-pub returns : goal.returns
-returns c = (c.compared-answer.result, c.compared-answer.ensures.compares c.counted.result c.counted.ensures, search rules)
+pub returns-clause-compares : goal.returns-clause-compares
+returns-clause-compares c = (c.compared-answer.result, c.compared-answer.ensures.compares c.counted.result c.counted.ensures, search rules)
+
+pub returns-clause-each : goal.returns-clause-each
+returns-clause-each c done answer holds =
+    let told = returns-clause-compares c in
+    subst (λ number. IsToldOrLacks verdict_told number answer) (sym told.2)
+    (compared_once c.args.password.now c.args.stored.now c.counted.result done told.0 answer told.1 holds)

@@ -1,5 +1,14 @@
-use Rattle.std.proofs.Common.{rules}
+use Rattle.std.proofs.Common.{rules, subst, sym}
+use Rattle.crypt_c.specs.Calls.{IsToldOrLacks}
+use Rattle.crypt_c.specs.Numbers.{length_told}
+use Rattle.crypt_c.proofs.OneAnswer.{hashed_once}
 use Rattle.crypt_c.proofs.mkpasswd_hash.Goals as goal
 
-pub returns : goal.returns
-returns c = (c.hashed-answer.result, c.hashed-answer.ensures.hashes c.counted.result c.counted.ensures, search rules)
+pub returns-clause-hashes : goal.returns-clause-hashes
+returns-clause-hashes c = (c.hashed-answer.result, c.hashed-answer.ensures.hashes c.counted.result c.counted.ensures, search rules)
+
+pub returns-clause-each : goal.returns-clause-each
+returns-clause-each c new done answer holds =
+    let told = returns-clause-hashes c in
+    subst (λ number. IsToldOrLacks length_told number answer) (sym told.2)
+    (hashed_once c.args.password.now c.args.setting.now c.args.out.now c.hashed-answer.new.out new c.counted.result done told.0 answer told.1 holds)
