@@ -1,6 +1,6 @@
 # make            builds ./mkpasswd, a copy of the proved program
 # make run        builds what is missing and hashes a first password
-# make check      every test there is, and the gate
+# make check      every test there is, and the gate; with STRICT=1 a tool that is missing is a failure
 # make bench      measures against libxcrypt, in some two minutes
 # make lib        builds the C libraries, libmkpasswd.a and libmkpasswd.so.1
 # make install    puts the program, the C libraries and their header under PREFIX (default /usr/local)
@@ -37,7 +37,7 @@ libmkpasswd.a: build/mkpasswd.o
 	ar rcsD $@ build/mkpasswd.o
 
 libmkpasswd.so.1: build/mkpasswd.o
-	$(CC) -shared -Wl,-soname,$@ -Wl,-z,relro -Wl,-z,now -o $@ build/mkpasswd.o
+	$(CC) -shared -Wl,-soname,$@ -Wl,-z,relro -Wl,-z,now -Wl,-z,defs $(LDFLAGS) -o $@ build/mkpasswd.o
 
 check: mkpasswd
 	tools/check-layers --selftest
@@ -49,7 +49,7 @@ check: mkpasswd
 	tools/compare-lines --selftest ./mkpasswd
 	tools/compare-lines ./mkpasswd
 	installed=$$(mktemp -d) && trap 'rm -rf "$$installed"' EXIT && \
-	$(MAKE) --no-print-directory install DESTDIR= PREFIX="$$installed" LIBDIR="$$installed/lib" && \
+	$(MAKE) --no-print-directory install DESTDIR="$$installed" PREFIX=/usr LIBDIR=/usr/lib/x86_64-linux-gnu && \
 	tools/check-c --selftest "$$installed" && \
 	tools/check-c "$$installed"
 	$(RT) ci
@@ -61,7 +61,7 @@ install: mkpasswd lib
 	install -D -m 755 mkpasswd $(DESTDIR)$(PREFIX)/bin/mkpasswd
 	install -D -m 644 include/mkpasswd.h $(DESTDIR)$(PREFIX)/include/mkpasswd.h
 	install -D -m 644 libmkpasswd.a $(DESTDIR)$(LIBDIR)/libmkpasswd.a
-	install -D -m 755 libmkpasswd.so.1 $(DESTDIR)$(LIBDIR)/libmkpasswd.so.1
+	install -D -m 644 libmkpasswd.so.1 $(DESTDIR)$(LIBDIR)/libmkpasswd.so.1
 	ln -sf libmkpasswd.so.1 $(DESTDIR)$(LIBDIR)/libmkpasswd.so
 	mkdir -p $(DESTDIR)$(LIBDIR)/pkgconfig
 	sed -e 's|@PREFIX@|$(PREFIX)|' -e 's|@LIBDIR@|$(LIBDIR)|' mkpasswd.pc.in > $(DESTDIR)$(LIBDIR)/pkgconfig/mkpasswd.pc

@@ -1,4 +1,4 @@
-/* mkpasswd for C: hashes of passwords in the schemes of crypt(5), and what they cost before they are made.
+/* mkpasswd for C99 and C++: hashes of passwords in the schemes of crypt(5), and what they cost before they are made.
  *
  * md5crypt ($1$), sha256crypt ($5$), sha512crypt ($6$) and scrypt ($7$). Link with -lmkpasswd.
  *
@@ -11,8 +11,13 @@
  * a pointer, writes anything elsewhere, or has any state: any number of threads may call at once, also with the same
  * bytes to read.
  *
+ * Nothing is wiped: a call may leave copies of the password, and of what it computed from it, on the stack that it used
+ * and in heap memory that it has freed.
+ *
  * What the caller has to hold:
- * - each pointer is valid for its number of bytes, and not null, also where that number is 0;
+ * - each pointer is valid for its number of bytes, and not null, also where that number is 0. C++ meets this where an
+ *   empty std::vector, std::span or std::string_view answers null for data(): hand in the address of any byte then, as
+ *   in v.empty() ? reinterpret_cast<const uint8_t *>("") : v.data();
  * - what a call writes to overlaps nothing else that is handed to it;
  * - malloc, realloc and free are the C library's, or as good, and no call is made from a signal handler;
  * - a call has 64 KiB of stack; it takes some 20 KiB. */
@@ -25,6 +30,13 @@
 
 #ifdef __cplusplus
 extern "C" {
+#endif
+
+/* With this a compiler tells of a null that it sees, and its sanitizers of one that they meet. */
+#if defined __GNUC__ || defined __clang__
+#define MKPASSWD_NONNULL __attribute__((nonnull))
+#else
+#define MKPASSWD_NONNULL
 #endif
 
 /* The version: 10000 times its first number, 100 times its second, and its third. */
@@ -43,7 +55,7 @@ extern "C" {
 #define MKPASSWD_REFUSED_BAD_CHARACTER (-4)       /* bad character: one that no setting has */
 #define MKPASSWD_REFUSED_UNKNOWN_SCHEME (-5)      /* unknown scheme: none of $1$, $5$, $6$ and $7$ */
 #define MKPASSWD_REFUSED_BAD_ROUNDS (-6)          /* bad rounds: `rounds=` without a proper number */
-#define MKPASSWD_REFUSED_BAD_COST (-7)            /* bad cost: too short for scrypt's cost */
+#define MKPASSWD_REFUSED_BAD_COST (-7)            /* bad cost: no eleven of ./0-9A-Za-z for scrypt's cost */
 #define MKPASSWD_REFUSED_SCRYPT_RANGE (-8)        /* scrypt range: N, r and p are none of scrypt's */
 #define MKPASSWD_REFUSED_ABOVE_CEILING (-9)       /* above ceiling: N * r * p is above 8388608 */
 #define MKPASSWD_REFUSED_BAD_SALT (-10)           /* bad salt: none that scrypt takes */
@@ -72,7 +84,7 @@ struct mkpasswd_work {
  *
  * Refusals: those of a password, those of a setting (-3 to -10) for the stored text, and out of memory. */
 int32_t mkpasswd_fits(const uint8_t *password, size_t password_len, const uint8_t *stored, size_t stored_len,
-    struct mkpasswd_work *work);
+    struct mkpasswd_work *work) MKPASSWD_NONNULL;
 
 /* Hashes a password by the setting at the front of a text, which may be a stored text. The hash and a byte 0 are put into
  * `out`, what stands behind them in its `out_len` bytes is left alone, and the length of the hash is answered. `work` gets
@@ -81,23 +93,25 @@ int32_t mkpasswd_fits(const uint8_t *password, size_t password_len, const uint8_
  * Refusals: those of a password, those of a setting, too few bytes (told before anything is hashed), and out of
  * memory. */
 int32_t mkpasswd_hash(const uint8_t *password, size_t password_len, const uint8_t *setting, size_t setting_len,
-    uint8_t *out, size_t out_len, struct mkpasswd_work *work);
+    uint8_t *out, size_t out_len, struct mkpasswd_work *work) MKPASSWD_NONNULL;
 
 /* What a hash by the setting of a text takes at most, for any password of so many bytes: `most` gets it, and 0 is
  * answered. Nothing is hashed for it and no memory is taken.
  *
  * Refusals: password too long, and those of a setting. */
-int32_t mkpasswd_bound(const uint8_t *stored, size_t stored_len, size_t password_len, struct mkpasswd_work *most);
+int32_t mkpasswd_bound(const uint8_t *stored, size_t stored_len, size_t password_len, struct mkpasswd_work *most)
+    MKPASSWD_NONNULL;
 
 /* What such a hash costs at most, as one number: the bytes that it digests, and for scrypt those that it mixes too. It is
  * below 2^42. Refusals as of mkpasswd_bound(). */
-int32_t mkpasswd_cost(const uint8_t *stored, size_t stored_len, size_t password_len, uint64_t *cost);
+int32_t mkpasswd_cost(const uint8_t *stored, size_t stored_len, size_t password_len, uint64_t *cost) MKPASSWD_NONNULL;
 
 /* Whether the setting of a stored text is out of date where new hashes are made by the setting of another text: 1 where
  * that is of another method, or of the same one with more rounds, or for scrypt with a greater N * r * p; else 0.
  *
  * Refusals: those of a setting for the stored text, and then for the other. */
-int32_t mkpasswd_replaced(const uint8_t *stored, size_t stored_len, const uint8_t *other, size_t other_len);
+int32_t mkpasswd_replaced(const uint8_t *stored, size_t stored_len, const uint8_t *other, size_t other_len)
+    MKPASSWD_NONNULL;
 
 /* Puts the text of a new setting and a byte 0 into `out`, and answers the text's length. The cost is the number of rounds
  * of SHA-crypt, which is held between 1000 and 999999999, 6 to 11 for scrypt, or 0 for the method's own; md5crypt has but
@@ -105,13 +119,13 @@ int32_t mkpasswd_replaced(const uint8_t *stored, size_t stored_len, const uint8_
  *
  * Refusals: unknown method, cost, and too few bytes. */
 int32_t mkpasswd_setting(uint32_t method, uint32_t cost, uint64_t first, uint64_t second, uint64_t third, uint8_t *out,
-    size_t out_len);
+    size_t out_len) MKPASSWD_NONNULL;
 
 /* Puts the words for a refusal and a byte 0 into `out`, and answers how many bytes the words have. The number is the one
  * that a call answered.
  *
  * Refusals: unknown refusal, and too few bytes. */
-int32_t mkpasswd_refusal(int32_t number, uint8_t *out, size_t out_len);
+int32_t mkpasswd_refusal(int32_t number, uint8_t *out, size_t out_len) MKPASSWD_NONNULL;
 
 /* MKPASSWD_VERSION of the library that is linked. */
 uint32_t mkpasswd_version(void);
@@ -154,6 +168,8 @@ static inline int32_t mkpasswd_refusal_str(int32_t number, char *out, size_t out
 {
     return mkpasswd_refusal(number, (uint8_t *)out, out_len);
 }
+
+#undef MKPASSWD_NONNULL
 
 #ifdef __cplusplus
 }

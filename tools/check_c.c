@@ -11,11 +11,8 @@
  * -Wl,--wrap=malloc,--wrap=realloc,--wrap=free: it refuses scrypt's growths one by one, and counts those of the other
  * methods, which ask for none.
  *
- * -DSTACK makes a third one, which reads nothing, and prints how many bytes of stack the calls use. It is built and run
- * by hand:
- *
- *     cc -O1 -DSTACK -Iinclude tools/check_c.c libmkpasswd.a -pthread -o stack
- *     LD_BIND_NOW=1 ./stack */
+ * -DSTACK makes a third one, which reads nothing, and prints how many bytes of stack each call uses, and at the end the
+ * most of these. It is run with LD_BIND_NOW=1, so that the dynamic linker's own are not among them. */
 #ifndef _DEFAULT_SOURCE
 #define _DEFAULT_SOURCE /* for MAP_ANONYMOUS */
 #endif
@@ -781,7 +778,6 @@ static void check_limits(void)
     char first[MKPASSWD_TEXT_SIZE];
 
     about = "limits";
-    want_number("MKPASSWD_TEXT_SIZE", 145, MKPASSWD_TEXT_SIZE);
     want_number("MKPASSWD_PASSWORD_LIMIT", 1024, MKPASSWD_PASSWORD_LIMIT);
     want_number("the bytes of a work", 40, sizeof(struct mkpasswd_work));
     want_number("mkpasswd_version", MKPASSWD_VERSION, mkpasswd_version());
@@ -844,6 +840,33 @@ static void check_costs(void)
     want_work("mkpasswd_bound by scrypt", &scrypt_work, work);
     want_number("mkpasswd_bound_str by md5crypt", 0, mkpasswd_bound_str(md5crypt_text, 8, &most));
     want_work("mkpasswd_bound_str by md5crypt", &md5crypt_work, &most);
+}
+
+/* What the examples say of their limit: what is below it, for passwords of up to so many bytes. */
+#define EXAMPLES_LIMIT 150000000
+
+static void check_examples_limit(void)
+{
+    static const struct {
+        const char *text;
+        size_t most;
+    } below[] = {
+        {"$1$xxxxxxxx", 1024},
+        {"$5$rounds=75000$saltstringsaltst", 1024},
+        {"$6$rounds=75000$saltstringsaltst", 1024},
+        {"$7$CU..../...." BYTES_86, 1024},
+        {"$5$rounds=1000000$saltstringsaltst", 40},
+        {"$6$rounds=1000000$saltstringsaltst", 40},
+    };
+    size_t place, len;
+
+    for (place = 0; place < COUNT(below); place++) {
+        about = below[place].text;
+        for (len = 0; len <= below[place].most; len++) {
+            want_number("mkpasswd_cost", 0, cost_of(about, len));
+            want_at_most("what a hash costs, for the examples", EXAMPLES_LIMIT, *cost);
+        }
+    }
 }
 
 /* ---- settings that replace others */
@@ -962,9 +985,21 @@ static const struct row *cheapest(const char *prefix)
     return found;
 }
 
+/* The row with the longest password: SHA-crypt takes the most stack for it. */
+static const struct row *longest(void)
+{
+    const struct row *found = rows;
+    size_t place;
+
+    for (place = 0; place < row_count; place++)
+        if (rows[place].password_len > found->password_len)
+            found = &rows[place];
+    return found;
+}
+
 #ifndef SANITIZED
 struct task {
-    const struct row *rows[3];
+    const struct row *rows[3], *longest;
     long wrong;
 };
 
@@ -986,6 +1021,7 @@ static void *hash_often(void *argument)
     struct task *task = (struct task *)argument;
     size_t round;
 
+    task->wrong += !is_as_wanted(task->longest);
     for (round = 0; round < THREAD_ROUNDS * COUNT(task->rows); round++)
         task->wrong += !is_as_wanted(task->rows[round % COUNT(task->rows)]);
     return NULL;
@@ -994,12 +1030,13 @@ static void *hash_often(void *argument)
 
 static void check_threads(void)
 {
-    const struct row *shared[3];
+    const struct row *shared[3], *most = longest();
 
     about = "threads";
     shared[0] = cheapest("$1$");
     shared[1] = cheapest("$6$");
     shared[2] = cheapest("$7$");
+    want_number("bytes of the longest password", MKPASSWD_PASSWORD_LIMIT, (int64_t)most->password_len);
 #ifdef SANITIZED
     (void)shared;
 #else
@@ -1019,6 +1056,7 @@ static void check_threads(void)
         }
         for (place = 0; place < THREADS; place++) {
             memcpy(tasks[place].rows, shared, sizeof shared);
+            tasks[place].longest = most;
             if (pthread_create(&threads[place], &attributes, hash_often, &tasks[place]) != 0) {
                 complain("wanted %d threads", THREADS);
                 exit(2);
@@ -1044,6 +1082,7 @@ int main(void)
     check_refusals();
     check_limits();
     check_costs();
+    check_examples_limit();
     check_replaced();
     check_settings();
     check_threads();
