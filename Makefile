@@ -3,7 +3,7 @@
 # make check      every test there is, and the gate; with STRICT=1 a tool that is missing is a failure
 # make bench      measures against libxcrypt, in some two minutes
 # make lib        builds the C libraries, libmkpasswd.a and libmkpasswd.so.1
-# make install    puts the program, the C libraries and their header under PREFIX (default /usr/local)
+# make install    puts the program, its manual and completions, and the C libraries under PREFIX (default /usr/local)
 # make clean      removes what was built
 PREFIX ?= /usr/local
 LIBDIR ?= $(PREFIX)/lib
@@ -48,6 +48,10 @@ check: mkpasswd
 	tools/compare ./mkpasswd
 	tools/compare-lines --selftest ./mkpasswd
 	tools/compare-lines ./mkpasswd
+	tools/check-completion --selftest ./mkpasswd
+	tools/check-manual --selftest ./mkpasswd
+	tools/check-manual ./mkpasswd
+	tools/check-parallel ./mkpasswd
 	installed=$$(mktemp -d) && trap 'rm -rf "$$installed"' EXIT && \
 	$(MAKE) --no-print-directory install DESTDIR="$$installed" PREFIX=/usr LIBDIR=/usr/lib/x86_64-linux-gnu && \
 	tools/check-c --selftest "$$installed" && \
@@ -59,6 +63,11 @@ bench: mkpasswd
 
 install: mkpasswd lib
 	install -D -m 755 mkpasswd $(DESTDIR)$(PREFIX)/bin/mkpasswd
+	install -D -m 755 tools/mkpasswd-parallel $(DESTDIR)$(PREFIX)/bin/mkpasswd-parallel
+	install -D -m 644 man/mkpasswd.1 $(DESTDIR)$(PREFIX)/share/man/man1/mkpasswd.1
+	install -D -m 644 completions/mkpasswd.bash $(DESTDIR)$(PREFIX)/share/bash-completion/completions/mkpasswd
+	install -D -m 644 completions/_mkpasswd $(DESTDIR)$(PREFIX)/share/zsh/site-functions/_mkpasswd
+	install -D -m 644 completions/mkpasswd.fish $(DESTDIR)$(PREFIX)/share/fish/vendor_completions.d/mkpasswd.fish
 	install -D -m 644 include/mkpasswd.h $(DESTDIR)$(PREFIX)/include/mkpasswd.h
 	install -D -m 644 libmkpasswd.a $(DESTDIR)$(LIBDIR)/libmkpasswd.a
 	install -D -m 644 libmkpasswd.so.1 $(DESTDIR)$(LIBDIR)/libmkpasswd.so.1
