@@ -4,8 +4,8 @@
  *
  * A call answers a number: from 0 on what it was asked for, and below 0 one of MKPASSWD_REFUSED_.., whose words
  * mkpasswd_refusal() gives. Of several refusals the first that holds is answered, in the order in which a call lists
- * them. After a refusal the caller's bytes and numbers are as they were, but for the counts of work, which are those of
- * this call: all 0, or where memory ran out the memory that was got before.
+ * them. After a refusal the caller's bytes and numbers are as they were, but for the `work` of mkpasswd_fits() and
+ * mkpasswd_hash(), which is that of this call: all 0, or where memory ran out the memory that was got before.
  *
  * A list of bytes is a pointer and a number of bytes; it may hold any bytes and needs no byte 0 behind it. No call keeps
  * a pointer, writes anything elsewhere, or has any state: any number of threads may call at once, also with the same
@@ -19,7 +19,9 @@
  *   empty std::vector, std::span or std::string_view answers null for data(): hand in the address of any byte then, as
  *   in v.empty() ? reinterpret_cast<const uint8_t *>("") : v.data();
  * - what a call writes to overlaps nothing else that is handed to it;
- * - malloc, realloc and free are the C library's, or as good, and no call is made from a signal handler;
+ * - malloc, realloc and free are the C library's, or all three of another allocator that is as good;
+ * - no call is made from a signal handler, nor in the child that a process with threads has forked, before it runs
+ *   another program;
  * - a call has 64 KiB of stack; it takes some 20 KiB. */
 #ifndef MKPASSWD_H
 #define MKPASSWD_H
