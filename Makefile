@@ -2,6 +2,7 @@
 # make run        builds what is missing and hashes a first password
 # make check      every test there is, and the gate; with STRICT=1 a tool that is missing is a failure
 # make bench      measures against libxcrypt, in some two minutes
+# make soak       has LINES random lines of each kind answered (default 10000), by the SEED that it prints or is given
 # make lib        builds the C libraries, libmkpasswd.a and libmkpasswd.so.1
 # make install    puts the program, the C libraries, the manual and the rest under PREFIX (default /usr/local)
 # make dist       packs the same into an archive that needs no toolchain
@@ -15,13 +16,15 @@ RT ?= rt
 CPU =
 
 SOURCES := $(shell find crates -path '*/out' -prune -o \( -name '*.rt' -o -name '*.antt' \) -print) crates.txt
-# The version has one place, the program's options. The header has it as a number, which tools/check-c compares.
-VERSION := $(shell sed -n 's/^ *\.version("\([0-9.]*\)")$$/\1/p' crates/mkpasswd/src/options.rt)
+# The version has one place. The header has it as a number, which tools/check-c compares.
+VERSION := $(shell tools/version)
 # For x86-64-v4 there is only the toolchain's own compiler, whose code is slower than the portable one.
 FOR_CPU := $(if $(CPU),--cpu $(CPU)) $(if $(filter x86-64-v4,$(CPU)),--backend rattle)
-ARCHIVE = mkpasswd-$(VERSION)-$(subst -,_,$(or $(CPU),x86-64))-linux.tar.gz
+ARCHIVE ?= mkpasswd-$(VERSION)-$(if $(filter x86-64,$(CPU)),x86_64_v1,$(subst -,_,$(or $(CPU),x86-64)))-linux.tar.gz
+# The scripts take these from the environment, whatever characters they have.
+export DESTDIR PREFIX LIBDIR ARCHIVE
 
-.PHONY: all run lib check bench install dist clean FORCE
+.PHONY: all run lib check bench soak install dist clean FORCE
 .DELETE_ON_ERROR:
 # rt takes all cores for itself.
 .NOTPARALLEL:
@@ -57,7 +60,7 @@ libmkpasswd.a: build/mkpasswd.o
 libmkpasswd.so.1: build/mkpasswd.o
 	$(CC) -shared -Wl,-soname,$@ -Wl,-z,relro -Wl,-z,now -Wl,-z,defs $(LDFLAGS) -o $@ build/mkpasswd.o
 
-check: mkpasswd
+check: mkpasswd lib
 	tools/check-layers --selftest
 	tools/check-layers
 	tools/check-program ./mkpasswd
@@ -70,40 +73,21 @@ check: mkpasswd
 	tools/check-manual --selftest ./mkpasswd
 	tools/check-manual ./mkpasswd
 	tools/check-parallel ./mkpasswd
-	installed=$$(mktemp -d) && trap 'rm -rf "$$installed"' EXIT && \
-	$(MAKE) --no-print-directory install DESTDIR="$$installed" PREFIX=/usr LIBDIR=/usr/lib/x86_64-linux-gnu && \
-	tools/check-c --selftest "$$installed" && \
-	tools/check-c "$$installed"
-	packed=$$(mktemp -d) && trap 'rm -rf "$$packed"' EXIT && \
-	$(MAKE) --no-print-directory dist ARCHIVE="$$packed/$(ARCHIVE)" && \
-	$(MAKE) --no-print-directory dist ARCHIVE="$$packed/again/$(ARCHIVE)" && \
-	tools/check-dist --selftest "$$packed/$(ARCHIVE)" && \
-	tools/check-dist "$$packed/$(ARCHIVE)" "$$packed/again/$(ARCHIVE)"
+	tools/check-installed $(or $(CPU),x86-64-v2)
 	$(RT) ci
 
 bench: mkpasswd
 	tools/bench ./mkpasswd
 
+soak: mkpasswd
+	tools/soak --selftest ./mkpasswd
+	tools/soak $(if $(LINES),--lines $(LINES)) $(if $(SEED),--seed $(SEED)) ./mkpasswd
+
 install: mkpasswd lib
-	install -D -m 755 mkpasswd $(DESTDIR)$(PREFIX)/bin/mkpasswd
-	install -D -m 755 tools/mkpasswd-parallel $(DESTDIR)$(PREFIX)/bin/mkpasswd-parallel
-	install -D -m 644 include/mkpasswd.h $(DESTDIR)$(PREFIX)/include/mkpasswd.h
-	install -D -m 644 libmkpasswd.a $(DESTDIR)$(LIBDIR)/libmkpasswd.a
-	install -D -m 644 libmkpasswd.so.1 $(DESTDIR)$(LIBDIR)/libmkpasswd.so.1
-	ln -sf libmkpasswd.so.1 $(DESTDIR)$(LIBDIR)/libmkpasswd.so
-	mkdir -p $(DESTDIR)$(LIBDIR)/pkgconfig
-	sed -e 's|@PREFIX@|$(PREFIX)|' -e 's|@LIBDIR@|$(LIBDIR)|' -e 's|@VERSION@|$(VERSION)|' \
-		mkpasswd.pc.in > $(DESTDIR)$(LIBDIR)/pkgconfig/mkpasswd.pc
-	install -D -m 644 man/mkpasswd.1 $(DESTDIR)$(PREFIX)/share/man/man1/mkpasswd.1
-	install -D -m 644 completions/mkpasswd.bash $(DESTDIR)$(PREFIX)/share/bash-completion/completions/mkpasswd
-	install -D -m 644 completions/_mkpasswd $(DESTDIR)$(PREFIX)/share/zsh/site-functions/_mkpasswd
-	install -D -m 644 completions/mkpasswd.fish $(DESTDIR)$(PREFIX)/share/fish/vendor_completions.d/mkpasswd.fish
-	install -D -m 644 -t $(DESTDIR)$(PREFIX)/share/doc/mkpasswd/examples examples/login.c examples/login.py
+	tools/install
 
 dist: mkpasswd lib
-	staged=$$(mktemp -d) && trap 'rm -rf "$$staged"' EXIT && \
-	$(MAKE) --no-print-directory --silent install DESTDIR="$$staged" PREFIX= LIBDIR=/lib && \
-	tools/pack "$$staged" "$(ARCHIVE)" $(VERSION) $(or $(CPU),x86-64-v2)
+	tools/pack $(or $(CPU),x86-64-v2)
 
 clean:
 	rm -rf mkpasswd libmkpasswd.a libmkpasswd.so.1 build crates/*/out mkpasswd-*-linux.tar.gz

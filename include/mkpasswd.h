@@ -42,7 +42,7 @@ extern "C" {
 #endif
 
 /* The version: 10000 times its first number, 100 times its second, and its third. */
-#define MKPASSWD_VERSION 100
+#define MKPASSWD_VERSION 10000
 
 /* The bytes of a buffer for any hash, setting or words for a refusal, with the byte 0 behind it. */
 #define MKPASSWD_TEXT_SIZE 145

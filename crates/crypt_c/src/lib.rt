@@ -17,6 +17,7 @@ mod put;
 mod refusal;
 
 use calls::{bounded, compared, explained, hashed, made, priced, replaced};
+use crypt_core::version::VERSION_NUMBER;
 use prims_core::meter::Meter;
 use prims_core::work::Work;
 use refusal::Refusal;
@@ -134,9 +135,9 @@ pub extern "C" fn mkpasswd_refusal(number: i32, out: &mut [u8]) -> i32
 /// The version: 10000 times its first number, 100 times its second, and its third.
 #[unsafe(no_mangle)]
 pub extern "C" fn mkpasswd_version() -> u32
-    ensures { result ≡ 100 }
+    ensures { result ≡ VERSION_NUMBER }
 {
-    100
+    VERSION_NUMBER
 }
 
 // A verdict as a number.

@@ -12,6 +12,18 @@ const WORK: Work = Work {
     scratch: 0,
 };
 
+// libxcrypt's text for the empty password by N = 16, r = 1, p = 1 and no salt, and what its hash takes: PBKDF2 digests
+// 10 messages of 948 bytes, and each of 16 rows is made and read once.
+const SCRYPT: &[u8] = b"$7$2/..../....$rNxJWVHNv/mCNcgE/f6/L4zO6Fos5c2uTzhyzoisI62";
+
+const SCRYPT_WORK: Work = Work {
+    digests: 10,
+    bytes: 948,
+    mixes: 32,
+    table: 2048,
+    scratch: 384,
+};
+
 const NO_WORK: Work = Work {
     digests: 0,
     bytes: 0,
@@ -32,10 +44,11 @@ const OTHER: Work = Work {
 #[test]
 fn compares_passwords(rt: HostRuntime) {
     let long = [b'a'; 1025];
-    let rows: [(&[u8], &[u8], i32, Work); 8] = [
+    let rows: [(&[u8], &[u8], i32, Work); 9] = [
         (b"password", STORED, 1, WORK),
         (b"Password", STORED, 0, WORK),
         (b"password", b"$1$xxxxxxxx", 0, WORK),
+        (b"", SCRYPT, 1, SCRYPT_WORK),
         (&long, b"abc", -1, NO_WORK),
         (b"a\0b", b"abc", -2, NO_WORK),
         (b"x", b"abc", -5, NO_WORK),
@@ -66,21 +79,22 @@ fn puts_hashes(rt: HostRuntime) {
         "what stands behind it"
     );
     assert_eq!(rt; work, WORK);
-    let rows: [(usize, &[u8], &[u8], i32, Work); 4] = [
+    let rows: [(usize, &[u8], &[u8], i32, Work); 5] = [
         (35, b"password", STORED, 34, WORK),
+        (59, b"", b"$7$2/..../....", 58, SCRYPT_WORK),
         (34, b"password", STORED, -12, NO_WORK),
         (0, b"password", b"abc", -5, NO_WORK),
         (0, b"a\0b", STORED, -2, NO_WORK),
     ];
     for (len, password, setting, answer, counts) in rows {
-        assert!(rt; len <= 40);
-        let mut out = [b'.'; 40];
+        assert!(rt; len <= 64);
+        let mut out = [b'.'; 64];
         let mut work = OTHER;
         let answered = mkpasswd_hash(rt.alloc(), password, setting, &mut out[..len], &mut work);
         assert_eq!(rt; answered, answer, "{len} bytes");
         assert_eq!(rt; work, counts, "{len} bytes");
         if answer < 0 {
-            assert_eq!(rt; out, [b'.'; 40], "{len} bytes");
+            assert_eq!(rt; out, [b'.'; 64], "{len} bytes");
         }
     }
 }
@@ -184,5 +198,5 @@ fn explains_refusals(rt: HostRuntime) {
         assert_eq!(rt; mkpasswd_refusal(number, &mut out), answer, "{number}");
         assert_eq!(rt; out, [b'.'; 4], "{number}");
     }
-    assert_eq!(rt; mkpasswd_version(), 100);
+    assert_eq!(rt; mkpasswd_version(), 10000);
 }

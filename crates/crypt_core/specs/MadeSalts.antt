@@ -15,7 +15,7 @@ made_character words i = character_of (slice_index words (i / 10) / 2 ^ (6 * (i 
 abbrev pub made_salt_limit : ℕ
 made_salt_limit = 22
 
--- the characters of a made salt: as many as the method takes, but for scrypt, where three words give no more
+-- the characters of a made salt: as many as the method keeps, but for scrypt, where 22 have 132 bits
 abbrev pub made_salt_length : Method → ℕ
 made_salt_length Md5crypt = md5crypt_salt_limit
 made_salt_length Sha256crypt = shacrypt_salt_limit

@@ -23,7 +23,7 @@ method_of (Scrypt cost) = methods.Scrypt
 
 -- Bytes and fields
 
--- printable ASCII but for `:`, `;`, `*`, `!` and the backslash
+-- graphic ASCII, 0x21 to 0x7e, but for `:`, `;`, `*`, `!` and the backslash
 pub record IsSettingByte (b : ℕ) : Type 0 where
   pub from : 33 ≤ b
   pub to : b ≤ 126

@@ -83,7 +83,7 @@ impl From<AllocError> for HashFault {
     }
 }
 
-/// Hashes a password by a setting. The meter counts all its work: each message that is digested, and
+/// Hashes a password by a setting, as crypt(3) does. The meter counts all its work: each message that is digested, and
 /// for scrypt each mixing and each byte of memory. Each count rises by less than 2^41.
 ///
 /// `OutOfMemory` comes only by a setting of scrypt, where one of its three growths was refused. The

@@ -13,4 +13,5 @@ mod round;
 mod scheme;
 pub mod setting;
 pub mod shacrypt;
+pub mod version;
 pub mod work;

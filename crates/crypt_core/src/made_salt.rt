@@ -35,7 +35,8 @@ pub fn salt_of(words: [u64; 3], len: usize) -> ArrayVec<u8, MADE_SALT_LIMIT>
     salt
 }
 
-/// How many characters a made salt has: as many as the method keeps, but for scrypt, where three words give no more.
+/// How many characters a made salt has: as many as the method keeps, but for scrypt, where
+/// 22 have 132 bits.
 pub fn made_salt_length(method: Method) -> usize
     ensures length { result ≡ made_salt_length method }
     ensures enough { result ≤ made_salt_limit }

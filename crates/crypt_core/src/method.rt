@@ -27,7 +27,8 @@ pub enum Method {
 }
 
 impl Method {
-    /// The method of a name or an alias, or `None` for any other word.
+    /// The method of a name (`md5crypt`, `sha256crypt`, `sha512crypt`, `scrypt`) or of an alias (`md5`, `sha-256`,
+    /// `sha-512`), or `None` for any other word.
     pub fn named(word: &[u8]) -> Option<Method>
         ensures { result ≡ method_named word.now }
     {

@@ -14,7 +14,8 @@ cost_of log_n r p = record { log_n = log_n; r = r; p = p }
 abbrev pub rows : ScryptCost → ℕ
 rows cost = 2 ^ cost.log_n
 
--- log2 N is at least 1 and stays below 16 r, and neither r nor p is 0
+-- log2 N is at least 1 and stays below 16 r, and neither r nor p is 0 (RFC 7914, section 2; its bound on p follows from
+-- the ceiling)
 pub record IsInRange (cost : ScryptCost) : Type 0 where
   pub above_one : 0 < cost.log_n
   pub below : cost.log_n < 16 * cost.r

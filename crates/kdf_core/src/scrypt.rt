@@ -34,14 +34,12 @@ const BLOCK_WORDS: usize = UNIT_WORDS / 2;
 ///
 /// `out` has at most `32 * (2^32 - 1)` bytes, and each count of the meter is at most 2^120. Three
 /// growths come before all work, in this order: the table of `128 * N * r` bytes, the parts of
-/// `128 * r * p` bytes, and the halves of `256 * r` bytes. Where one is refused `out` is left as it
+/// `128 * r * p` bytes, and the halves of `256 * r` bytes. Where one is refused the answer is `AllocError`, `out` is as it
 /// was, and the meter has the growths before that one and nothing else.
 ///
 /// Otherwise the meter rises by these three, by `2 * N * p` mixings, and with q blocks of 32 bytes in
 /// `out`, a password of L bytes and a salt of s bytes by `8rp + 2q` digests of
 /// `4rp(164 + s) + q(164 + 128rp)` bytes; where L is above 64, by one more of L bytes.
-///
-/// It also says what the parameters are at most, since they are accepted.
 pub fn scrypt(
     alloc: Global,
     password: &[u8],

@@ -1,4 +1,4 @@
-//! The work of scrypt, known before it is run: the closed form of what its meter counts.
+//! The work of scrypt, known before it is run: the closed form of what its meter counts, and the bytes that it mixes.
 
 ghost use Rattle.std.specs.Prelude.{◌≡◌, ◌+◌, ◌^◌, ◌≤◌};
 ghost use Rattle.kdf_core.specs.Hmac.{tag_bytes};
@@ -10,7 +10,7 @@ use crate::params::Params;
 use crate::scrypt::UNIT_BYTES;
 use prims_core::work::Work;
 
-/// What a meter counts of scrypt, for a password, a salt and a result of so many bytes.
+/// What a meter counts of scrypt (RFC 7914, section 6), for a password, a salt and a result of so many bytes.
 ///
 /// Each of the three is at most 2^32. Nothing is derived for it and no memory is taken.
 pub fn scrypt_work(params: &Params, password_len: u64, salt_len: u64, out_len: u64) -> Work

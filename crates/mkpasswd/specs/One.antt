@@ -46,7 +46,7 @@ module _ {I O E : Type 0} where
       IsPasswordRefused password fault × IsCutShort tells turns none none old new (Password fault)
   EndsBy tells turns job password old new (Err Read) = ⊥
 
-  -- nothing is answered or drawn, since the input or the turns ended before the password was known
+  -- nothing is answered or drawn, since a read failed or no turn was left before the password was known
   abbrev pub EndsUndecided : Tells I O E → ℕ → List ℕ → Hands I O E → Hands I O E → RunFault → Type 0
   EndsUndecided tells turns bytes old new fault =
       let none = no_answer old.stream in

@@ -126,8 +126,8 @@ module _ {I O E : Type 0} where
   Finishes tells answers old new (Err fault) = ⊥
 
   -- A run was cut short before that, and flushed nothing. A fault comes with its cause: one call of the input or
-  -- of an output failed, `turns` calls were made, or memory for the next hash was refused. No byte of the next
-  -- answer is written before its hash is there.
+  -- of an output failed, `turns` calls were made, memory for the next hash was refused, or the one password is
+  -- none. No byte of the next answer is written before its hash is there.
   abbrev pub IsCutShort : Tells I O E → ℕ → Answer → Answer → Hands I O E → Hands I O E → RunFault → Type 0
   IsCutShort tells turns done next old new Read =
       Fails 1 0 0 old new × TakesAnswer tells done old new × IsAfter done old new

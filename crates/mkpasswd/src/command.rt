@@ -41,6 +41,8 @@ const FAULT_LINE_ROOM: usize = 80;
 ///   is a fault of its own, status 3.
 /// - At most `turns` calls to move bytes are made in a run, or to give `clap`'s text. The line of a fault is not among
 ///   them: it takes no more calls than it has bytes.
+///
+/// It wants at most 2^40 turns, counts of the meter of at most 2^100, and numbers of the devices of at most 2^62.
 pub fn run_command<I: Read, O: Write, E: Write, R: Rng>(
     alloc: Global,
     words: &[String],

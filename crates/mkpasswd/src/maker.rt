@@ -46,7 +46,7 @@ impl Maker {
     /// What makes settings of a method with a cost, and with the salt, or where there is none with a
     /// new one for each; or the first fault.
     ///
-    /// The cost and a given salt are tested as [`Setting::make`] tests them, with the same faults.
+    /// Cost 0 is the method's own; else it is a number of rounds, or for scrypt 6 to 11. It and a given salt are tested as [`Setting::make`] tests them, with the same faults.
     /// Without a salt only `Cost` can come.
     pub fn new(method: Method, cost: u32, salt: Option<&[u8]>) -> Result<Maker, MakeFault>
         ensures made { IfOk result (λ maker.

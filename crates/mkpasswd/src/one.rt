@@ -33,10 +33,11 @@ use std::io::{Read, Write};
 /// - `Password`: the password is refused; from the input it is too long once [`PASSWORD_LIMIT`] and one bytes
 ///   without a line feed were read. Nothing was written, drawn or hashed.
 /// - `Read`: a read failed before the password was known. Likewise.
-/// - `OutOfMemory`: the memory of scrypt was refused, and nothing was written.
+/// - `OutOfMemory`: the memory of scrypt was refused, and nothing was written; the words for a salt were drawn.
 /// - `Write`: a write or a flush failed. The output has taken the first bytes of the answer, or all of it where a
 ///   flush failed.
-/// - `Turns`: one more fetch or give than `turns` is needed. Likewise.
+/// - `Turns`: one more fetch or give than `turns` is needed. The output has taken a first part of the answer, or nothing
+///   where the password was not known.
 pub fn run_one<I: Read, O: Write, E: Write, R: Rng>(
     alloc: Global,
     job: &Job,

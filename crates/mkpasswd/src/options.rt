@@ -17,6 +17,7 @@ use crate::maker::Maker;
 use clap::error::ErrorKind;
 use clap::{Arg, ArgAction, ArgMatches, Command, value_parser};
 use crypt_core::method::Method;
+use crypt_core::version::VERSION;
 use std::alloc::{AllocError, Global};
 
 // The TYPE of words without `-m`.
@@ -176,7 +177,7 @@ fn command<'a>(alloc: Global) -> Result<Command<'a>, AllocError>
     );
     let salt_word = word(alloc, "salt-word", "SALT").help("The salt, in place of --salt");
     let bare = Command::new(alloc, "mkpasswd")
-        .version("0.1.0")
+        .version(VERSION)
         .about("Prints the crypt(5) hash of a password, and hashes or checks the lines of a file")
         .after_help(AFTER_HELP)
         .no_binary_name(true);

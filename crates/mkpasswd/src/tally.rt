@@ -4,8 +4,11 @@ ghost use Rattle.std.specs.Prelude.{◌≡◌};
 /// Lines seen, lines refused, and answers `no`. A single password is one line.
 #[derive(Clone, Copy, Debug, PartialEq, Eq)]
 pub struct Tally {
+    /// The lines that were seen, refused ones among them.
     pub lines: u64,
+    /// The lines that were refused.
     pub refused: u64,
+    /// The lines that were answered `no`.
     pub misfits: u64,
 }
 

@@ -39,7 +39,7 @@ pub fn value_of(character: u8) -> Option<u8>
 
 /// Appends the lowest `6 * chars` bits of `value`, as that many characters, lowest six bits first.
 ///
-/// The value has no more bits than that, and `out` has room.
+/// They are 1 to 5, the value has no more bits than that, and `out` has room for them among its 160 bytes.
 pub fn put_group(out: &mut ArrayVec<u8, 160>, value: u32, chars: usize)
     requires some { 1 ≤ chars }
     requires few { chars ≤ 5 }

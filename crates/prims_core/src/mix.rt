@@ -24,7 +24,7 @@ const BLOCK_WORDS: usize = 16;
 // memory comes in meanwhile.
 const AHEAD: usize = 8;
 
-/// Mixes the 2r blocks of `src` into `dst`, and counts one mixing.
+/// Mixes the 2r blocks of `src` into `dst`, as scryptBlockMix does (RFC 7914, section 4), and counts one mixing.
 ///
 /// Both have the 32r words of 2r blocks, for one r of at least 1, and the meter has room.
 pub fn block_mix(src: &[u32], dst: &mut [u32], meter: &mut Meter)

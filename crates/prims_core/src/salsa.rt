@@ -15,7 +15,7 @@ use std::simd::u32x4;
 #[cfg(test)]
 mod tests;
 
-/// Salsa20/8 of the sixteen words of a block, in place: each word is added to its word after eight
+/// Salsa20/8 (RFC 7914, section 3) of the sixteen words of a block, in place: each word is added to its word after eight
 /// rounds.
 pub fn salsa8(block: &mut [u32; 16])
     ensures { block.new ≡ salsa20_8 block.old }

@@ -31,8 +31,8 @@ impl Model for ByteScratch {
 impl ByteScratch {
     /// So many zeros, which the meter counts as scratch.
     ///
-    /// They are at most 2^30 bytes, and the meter has room for them. Where memory is refused,
-    /// nothing is counted.
+    /// They are at most 2^30 bytes, and the meter has room for them. `AllocError` is answered where memory is
+    /// refused, and nothing is counted then.
     pub fn new(alloc: Global, len: usize, meter: &mut Meter) -> Result<ByteScratch, AllocError>
         requires fits { len ≤ 2 ^ 30 }
         requires room { meter.old.scratch + len < 2 ^ 128 }
@@ -78,8 +78,8 @@ impl Model for WordScratch {
 impl WordScratch {
     /// So many zeros, whose bytes, four a word, the meter counts as scratch.
     ///
-    /// They are at most 2^30 bytes, and the meter has room for them. Where memory is refused,
-    /// nothing is counted.
+    /// They are at most 2^30 bytes, and the meter has room for them. `AllocError` is answered where memory is
+    /// refused, and nothing is counted then.
     pub fn new(alloc: Global, words: usize, meter: &mut Meter) -> Result<WordScratch, AllocError>
         requires fits { 4 * words ≤ 2 ^ 30 }
         requires room { meter.old.scratch + 4 * words < 2 ^ 128 }

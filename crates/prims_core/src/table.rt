@@ -34,8 +34,8 @@ impl Model for Table {
 impl Table {
     /// So many rows of so many zeros, whose bytes, four a word, the meter counts as table.
     ///
-    /// They are at most 2^30 bytes, and the meter has room for them. Where memory is refused,
-    /// nothing is counted.
+    /// They are at most 2^30 bytes, and the meter has room for them. `AllocError` is answered where memory is
+    /// refused, and nothing is counted then.
     pub fn new(
         alloc: Global,
         rows: usize,
@@ -58,7 +58,7 @@ impl Table {
         })
     }
 
-    /// Row `i`.
+    /// Row `i`, which is below the number of rows.
     #[tactic(auto, using(crate::proofs::RowFacts::row_end))]
     pub fn row(&self, i: usize) -> &[u32]
         requires { i < length self.now }
@@ -68,7 +68,7 @@ impl Table {
         &self.words[start..start + self.row_words]
     }
 
-    /// Makes row `i` a copy of `row`, which has the same length. The other rows stay.
+    /// Makes row `i`, which is below the number of rows, a copy of `row`, which has the same length. The other rows stay.
     #[tactic(auto, using(crate::proofs::RowFacts::row_end))]
     pub fn set_row(&mut self, i: usize, row: &[u32])
         requires inside { i < length self.old }

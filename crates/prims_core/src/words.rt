@@ -19,7 +19,7 @@ pub fn number_be(number: u32) -> [u8; 4]
 }
 
 /// Fills `words` with the words of `bytes`, each of four bytes, the lowest first, as RFC 7914,
-/// section 3, reads a block.
+/// section 3, reads a block. There are four bytes for each word.
 pub fn load_words(bytes: &[u8], words: &mut [u32])
     requires { length bytes.now ≡ 4 * length words.old }
     ensures { words.new ≡ words_of bytes.now }
@@ -28,7 +28,7 @@ pub fn load_words(bytes: &[u8], words: &mut [u32])
 }
 
 /// Fills `bytes` with the bytes of `words`, four of each, the lowest first: the way back from
-/// [`load_words`].
+/// [`load_words`]. There are four bytes for each word.
 pub fn store_words(words: &[u32], bytes: &mut [u8])
     requires { length bytes.old ≡ 4 * length words.now }
     ensures { bytes.new ≡ bytes_of_words words.now }

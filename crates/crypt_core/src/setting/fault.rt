@@ -12,7 +12,7 @@ pub enum SettingFault {
     /// More than [`SETTING_LIMIT`](super::SETTING_LIMIT) bytes.
     #[error("{}", self.text())]
     TooLong,
-    /// A byte that is not printable ASCII, or one of `:`, `;`, `*`, `!` and the backslash.
+    /// A byte that is not graphic ASCII (0x21 to 0x7e), or one of `:`, `;`, `*`, `!` and the backslash.
     #[error("{}", self.text())]
     BadCharacter,
     /// None of `$1$`, `$5$`, `$6$` and `$7$` stands at the front.
@@ -24,7 +24,7 @@ pub enum SettingFault {
     /// Fewer characters of crypt's alphabet follow scrypt's prefix than its cost part has: 11.
     #[error("{}", self.text())]
     BadCost,
-    /// N, r and p are outside scrypt's range.
+    /// N, r and p are outside scrypt's range (RFC 7914, section 2): one is 0, or log2 N is not below 16r.
     #[error("{}", self.text())]
     ScryptRange,
     /// The product of N, r and p is above 8388608.

@@ -35,10 +35,14 @@ const PARTS: u32 = 1;
 impl Setting {
     /// The setting of a method with a cost and a salt of crypt's alphabet, or the first fault.
     ///
-    /// Cost 0 is the method's default. SHA-crypt takes any other as a number of rounds, brought into
-    /// range, that the text will show. scrypt takes a cost `c` from 6 to 11, for `N = 2^(c + 7)`,
+    /// Cost 0 is the method's default. SHA-crypt takes any other as a number of rounds, held
+    /// between 1000 and 999999999, that the text will show. scrypt takes a cost `c` from 6 to 11, for `N = 2^(c + 7)`,
     /// r = 32 and p = 1. md5crypt has but one cost. A salt has at least one character, and at most
     /// as many as the method keeps.
+    ///
+    /// - `SaltLength`: the salt is empty, or has more characters than the method keeps;
+    /// - `SaltCharacter`: one of them is not of crypt's alphabet;
+    /// - `Cost`: scrypt has no such cost.
     pub fn make(method: Method, cost: u32, salt: &[u8]) -> Result<Setting, MakeFault>
         ensures made { IfOk result (λ setting. setting ≡ made_setting method cost salt.now) }
         ensures accepted { IsOk result ↔ IsMakeable method cost salt.now }

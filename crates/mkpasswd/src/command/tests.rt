@@ -276,7 +276,7 @@ fn serves_without_a_generator(rt: HostRuntime) -> Result<(), Fail> {
             true,
             "Prints the crypt(5) hash of a password",
         ),
-        (&["-V"], 0, true, "mkpasswd 0.1.0\n"),
+        (&["-V"], 0, true, "mkpasswd 1.0.0\n"),
         (&["-Q"], 2, false, "error: unexpected argument '-Q' found"),
         (
             &["--budget=x"],

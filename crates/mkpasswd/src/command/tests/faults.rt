@@ -125,7 +125,7 @@ fn wants_help_given(rt: HostRuntime) -> Result<(), Fail> {
         (
             version,
             given().writing(writer().failing_flush(FAILURE)),
-            ("mkpasswd 0.1.0\n", fault),
+            ("mkpasswd 1.0.0\n", fault),
         ),
         (
             version,
