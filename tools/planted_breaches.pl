@@ -214,6 +214,9 @@ return {
         ['a macro that makes a meter', $hash => 'macro_rules! fresh { ($t:ident) => { $t::new() } }'],
         ['memory that is read as a meter', $hash => 'fn f(meter: &mut Meter) { unsafe { read(meter) }; }'],
         ['a meter in another file', $meter => undef],
+        ['a block that is mixed aside', 'crates/kdf_core/src/scrypt.rt' => 'fn f(block: &mut [u32; 16]) { prims_core::salsa::salsa8(block); }'],
+        ['a mixing that calls it', 'crates/prims_core/src/mix.rt' => 'use crate::salsa::salsa8;'],
+        ['a second caller in its file', 'crates/prims_core/src/salsa.rt' => 'pub fn twice(block: &mut [u32; 16]) { salsa8(block); salsa8(block); }'],
         ['a string without an end', $hash => 'fn f() { g(" }'],
     ],
 
