@@ -4,7 +4,7 @@
 # make bench      measures against libxcrypt, in some two minutes
 # make soak       has LINES random lines of each kind answered (default 10000), by the SEED that it prints or is given
 # make lib        builds the C libraries, libmkpasswd.a and libmkpasswd.so.1
-# make install    puts the program, the C libraries, the manual and the rest under PREFIX (default /usr/local)
+# make install    puts the program, the C libraries, the manuals and the rest under PREFIX (default /usr/local)
 # make dist       packs the same into an archive that needs no toolchain
 # make clean      removes what was built
 #

@@ -1,11 +1,12 @@
 -- The facts of an answer allow no other one.
-use Rattle.std.proofs.Common.{◌≡◌, ◌==◌, if◌then◌else◌, ◌↔◌, ◌∙◌, ℕ, zero, suc, ℤ, pos, neg_ℤ, Bool, true, false, IsTrue, List, length, Option, Some, None, Result, Ok, Err, refl, sym, subst, ap, inl, inr, arith, rules}
+use Rattle.std.proofs.Common.{◌≡◌, ◌==◌, if◌then◌else◌, ◌↔◌, ◌∙◌, ◌≤◌, ℕ, zero, suc, ℤ, pos, neg_ℤ, Bool, true, false, IsTrue, List, length, Option, Some, None, Result, Ok, Err, refl, sym, subst, ap, inl, inr, arith, rules}
 use Rattle.std.proofs.Math.IntN.{nat_abs}
 use Rattle.std.proofs.lemmas.Option.{none-some, same_Some}
 use Rattle.prims_core.specs.declared.work.Work.{Work}
 use Rattle.crypt_core.specs.Crypt.{crypt}
-use Rattle.crypt_core.specs.MadeSettings.{TakesCost}
-use Rattle.crypt_core.specs.Passwords.{IsPassword, IsPasswordRefused}
+use Rattle.crypt_core.specs.MadeSettings.{TakesCost, with_made_salt}
+use Rattle.crypt_core.specs.Passwords.{IsPassword, IsPasswordRefused, password_limit}
+use Rattle.crypt_core.specs.Readings.{HasOneReading}
 use Rattle.crypt_core.specs.Refusals.{IsRefused}
 use Rattle.crypt_core.specs.Replacements.{is_replaced_by}
 use Rattle.crypt_core.specs.Settings.{Kept, Spells, canonical_text}
@@ -14,9 +15,7 @@ use Rattle.crypt_core.specs.declared.password.PasswordFault.{PasswordFault}
 use Rattle.crypt_core.specs.declared.password.PasswordFault.TheVariants.{TooLong, HasNul}
 use Rattle.crypt_core.specs.declared.setting.fault.SettingFault.{SettingFault}
 use Rattle.crypt_core.specs.declared.setting.fault.SettingFault.TheVariants as setting
-use Rattle.crypt_core.proofs.Readings.{setting_unique}
-use Rattle.crypt_core.proofs.Refusals.{refusal_unique, spelled_breaks_none}
-use Rattle.crypt_c.specs.Calls.{Compares, Explains, HasRoomFor, Hashes, IsToldOrLacks, Makes, Replaces, Tells, method_numbered, setting_of}
+use Rattle.crypt_c.specs.Calls.{Compares, Explains, HasRoomFor, Hashes, IsToldOrLacks, Makes, Replaces, Tells, method_numbered}
 use Rattle.crypt_c.specs.Numbers.{length_told, refusal_number, refusal_text, refused, verdict_told}
 use Rattle.crypt_c.specs.declared.refusal.Refusal.{Refusal}
 use Rattle.crypt_c.specs.declared.refusal.Refusal.TheVariants.{Password, Setting, OutOfMemory, TooFewBytes, UnknownMethod, Cost, UnknownNumber}
@@ -33,8 +32,17 @@ password_once bytes HasNul HasNul x y = refl
 password_once bytes TooLong HasNul x y = absurd (omega (arith, y.0))
 password_once bytes HasNul TooLong x y = absurd (omega (arith, x.0))
 
-text_apart : (text : List ℕ) (kept : Kept) (fault : SettingFault) → Spells text kept → IsRefused text fault → ⊥
-text_apart text kept fault spells is = spelled_breaks_none text kept spells fault is.breaks
+setting_once : (text : List ℕ) → HasOneReading text → (a b : Kept) → Spells text a → Spells text b → a ≡ b
+unfolding HasOneReading
+setting_once text one a b x y = cc (one (Ok a) (Ok b) x y)
+
+refusal_once : (text : List ℕ) → HasOneReading text → (a b : SettingFault) → IsRefused text a → IsRefused text b → a ≡ b
+unfolding HasOneReading
+refusal_once text one a b x y = cc (one (Err a) (Err b) x y)
+
+text_apart : (text : List ℕ) → HasOneReading text → (kept : Kept) (fault : SettingFault) → Spells text kept → IsRefused text fault → ⊥
+unfolding HasOneReading
+text_apart text one kept fault x y = absurd (cc (one (Ok kept) (Err fault) x y))
 
 verdict_once : {T : Type 0} (a b : Bool) → (IsTrue a ↔ T) → (IsTrue b ↔ T) → a ≡ b
 verdict_once true true x y = refl
@@ -44,108 +52,108 @@ verdict_once false true x y = absurd (search (rules, x, y))
 
 -- ---- the calls
 
-pub compared_once : (password stored : List ℕ) (a b : Work) (told holds : Result Bool Refusal) → Compares password stored a told → Compares password stored b holds → IsToldOrLacks verdict_told (verdict_told told) holds
-compared_once p s a b told (Err TooFewBytes) x y = absurd y
-compared_once p s a b told (Err UnknownMethod) x y = absurd y
-compared_once p s a b told (Err Cost) x y = absurd y
-compared_once p s a b told (Err UnknownNumber) x y = absurd y
-compared_once p s a b (Err TooFewBytes) holds x y = absurd x
-compared_once p s a b (Err UnknownMethod) holds x y = absurd x
-compared_once p s a b (Err Cost) holds x y = absurd x
-compared_once p s a b (Err UnknownNumber) holds x y = absurd x
-compared_once p s a b told (Err OutOfMemory) x y = search rules
-compared_once p s a b (Ok v) (Ok w) x y = inl (ap (λ (t : Bool). verdict_told (Ok t)) (verdict_once v w x.1.2 (subst (λ (k : Kept). IsTrue w ↔ (crypt p k ≡ s)) (setting_unique s y.1.0 x.1.0 y.1.1 x.1.1) y.1.2)))
-compared_once p s a b (Ok v) (Err (Password f)) x y = absurd (password_apart p f x.0 y.0)
-compared_once p s a b (Ok v) (Err (Setting f)) x y = absurd (text_apart s x.1.0 f x.1.1 y.1)
-compared_once p s a b (Err (Password f)) (Ok w) x y = absurd (password_apart p f y.0 x.0)
-compared_once p s a b (Err (Setting f)) (Ok w) x y = absurd (text_apart s y.1.0 f y.1.1 x.1)
-compared_once p s a b (Err OutOfMemory) (Ok w) x y = inr refl
-compared_once p s a b (Err (Password f)) (Err (Password g)) x y = ap (λ (h : PasswordFault). refused (Password h)) (password_once p f g x.0 y.0)
-compared_once p s a b (Err (Password f)) (Err (Setting g)) x y = absurd (password_apart p f y.0 x.0)
-compared_once p s a b (Err (Setting f)) (Err (Password g)) x y = absurd (password_apart p g x.0 y.0)
-compared_once p s a b (Err (Setting f)) (Err (Setting g)) x y = ap (λ (h : SettingFault). refused (Setting h)) (refusal_unique s f g x.1 y.1)
-compared_once p s a b (Err OutOfMemory) (Err (Password g)) x y = absurd (password_apart p g x.0 y.0)
-compared_once p s a b (Err OutOfMemory) (Err (Setting g)) x y = absurd (text_apart s x.1.0 g x.1.1 y.1)
+pub compared_once : (password stored : List ℕ) → (IsPassword password → HasOneReading stored) → (a b : Work) (told holds : Result Bool Refusal) → Compares password stored a told → Compares password stored b holds → IsToldOrLacks verdict_told (verdict_told told) holds
+compared_once p s one a b told (Err TooFewBytes) x y = absurd y
+compared_once p s one a b told (Err UnknownMethod) x y = absurd y
+compared_once p s one a b told (Err Cost) x y = absurd y
+compared_once p s one a b told (Err UnknownNumber) x y = absurd y
+compared_once p s one a b (Err TooFewBytes) holds x y = absurd x
+compared_once p s one a b (Err UnknownMethod) holds x y = absurd x
+compared_once p s one a b (Err Cost) holds x y = absurd x
+compared_once p s one a b (Err UnknownNumber) holds x y = absurd x
+compared_once p s one a b told (Err OutOfMemory) x y = search rules
+compared_once p s one a b (Ok v) (Ok w) x y = inl (ap (λ (t : Bool). verdict_told (Ok t)) (verdict_once v w x.1.2 (subst (λ (k : Kept). IsTrue w ↔ (crypt p k ≡ s)) (setting_once s (one x.0) y.1.0 x.1.0 y.1.1 x.1.1) y.1.2)))
+compared_once p s one a b (Ok v) (Err (Password f)) x y = absurd (password_apart p f x.0 y.0)
+compared_once p s one a b (Ok v) (Err (Setting f)) x y = absurd (text_apart s (one x.0) x.1.0 f x.1.1 y.1.0)
+compared_once p s one a b (Err (Password f)) (Ok w) x y = absurd (password_apart p f y.0 x.0)
+compared_once p s one a b (Err (Setting f)) (Ok w) x y = absurd (text_apart s (one x.0) y.1.0 f y.1.1 x.1.0)
+compared_once p s one a b (Err OutOfMemory) (Ok w) x y = inr refl
+compared_once p s one a b (Err (Password f)) (Err (Password g)) x y = ap (λ (h : PasswordFault). refused (Password h)) (password_once p f g x.0 y.0)
+compared_once p s one a b (Err (Password f)) (Err (Setting g)) x y = absurd (password_apart p f y.0 x.0)
+compared_once p s one a b (Err (Setting f)) (Err (Password g)) x y = absurd (password_apart p g x.0 y.0)
+compared_once p s one a b (Err (Setting f)) (Err (Setting g)) x y = ap (λ (h : SettingFault). refused (Setting h)) (refusal_once s (one x.0) f g x.1.0 y.1.0)
+compared_once p s one a b (Err OutOfMemory) (Err (Password g)) x y = absurd (password_apart p g x.0 y.0)
+compared_once p s one a b (Err OutOfMemory) (Err (Setting g)) x y = absurd (text_apart s (one x.0) x.1.0 g x.1.1 y.1.0)
 
-pub hashed_once : (password setting old new other : List ℕ) (a b : Work) (told holds : Result ℕ Refusal) → Hashes password setting old new a told → Hashes password setting old other b holds → IsToldOrLacks length_told (length_told told) holds
-hashed_once p s old m n a b told (Err UnknownMethod) x y = absurd y
-hashed_once p s old m n a b told (Err Cost) x y = absurd y
-hashed_once p s old m n a b told (Err UnknownNumber) x y = absurd y
-hashed_once p s old m n a b (Err UnknownMethod) holds x y = absurd x
-hashed_once p s old m n a b (Err Cost) holds x y = absurd x
-hashed_once p s old m n a b (Err UnknownNumber) holds x y = absurd x
-hashed_once p s old m n a b told (Err OutOfMemory) x y = search rules
-hashed_once p s old m n a b (Ok v) (Ok w) x y = inl (ap (λ (t : ℕ). length_told (Ok t)) (x.1.2 ∙ ap (λ (k : Kept). length (crypt p k)) (setting_unique s x.1.0 y.1.0 x.1.1 y.1.1) ∙ sym y.1.2))
-hashed_once p s old m n a b (Ok v) (Err (Password f)) x y = absurd (password_apart p f x.0 y.0)
-hashed_once p s old m n a b (Ok v) (Err (Setting f)) x y = absurd (text_apart s x.1.0 f x.1.1 y.1)
-hashed_once p s old m n a b (Ok v) (Err TooFewBytes) x y = absurd (subst (λ (k : Kept). ¬ HasRoomFor (crypt p k) old) (setting_unique s y.1.0 x.1.0 y.1.1 x.1.1) y.1.2 x.1.3.0)
-hashed_once p s old m n a b (Err (Password f)) (Ok w) x y = absurd (password_apart p f y.0 x.0)
-hashed_once p s old m n a b (Err (Setting f)) (Ok w) x y = absurd (text_apart s y.1.0 f y.1.1 x.1)
-hashed_once p s old m n a b (Err TooFewBytes) (Ok w) x y = absurd (subst (λ (k : Kept). ¬ HasRoomFor (crypt p k) old) (setting_unique s x.1.0 y.1.0 x.1.1 y.1.1) x.1.2 y.1.3.0)
-hashed_once p s old m n a b (Err OutOfMemory) (Ok w) x y = inr refl
-hashed_once p s old m n a b (Err (Password f)) (Err (Password g)) x y = ap (λ (h : PasswordFault). refused (Password h)) (password_once p f g x.0 y.0)
-hashed_once p s old m n a b (Err (Password f)) (Err (Setting g)) x y = absurd (password_apart p f y.0 x.0)
-hashed_once p s old m n a b (Err (Password f)) (Err TooFewBytes) x y = absurd (password_apart p f y.0 x.0)
-hashed_once p s old m n a b (Err (Setting f)) (Err (Setting g)) x y = ap (λ (h : SettingFault). refused (Setting h)) (refusal_unique s f g x.1 y.1)
-hashed_once p s old m n a b (Err (Setting f)) (Err (Password g)) x y = absurd (password_apart p g x.0 y.0)
-hashed_once p s old m n a b (Err (Setting f)) (Err TooFewBytes) x y = absurd (text_apart s y.1.0 f y.1.1 x.1)
-hashed_once p s old m n a b (Err TooFewBytes) (Err TooFewBytes) x y = refl
-hashed_once p s old m n a b (Err TooFewBytes) (Err (Password g)) x y = absurd (password_apart p g x.0 y.0)
-hashed_once p s old m n a b (Err TooFewBytes) (Err (Setting g)) x y = absurd (text_apart s x.1.0 g x.1.1 y.1)
-hashed_once p s old m n a b (Err OutOfMemory) (Err TooFewBytes) x y =
-    absurd (subst (λ (k : Kept). ¬ HasRoomFor (crypt p k) old) (setting_unique s y.1.0 x.1.0 y.1.1 x.1.1) y.1.2 x.1.2)
-hashed_once p s old m n a b (Err OutOfMemory) (Err (Password g)) x y = absurd (password_apart p g x.0 y.0)
-hashed_once p s old m n a b (Err OutOfMemory) (Err (Setting g)) x y = absurd (text_apart s x.1.0 g x.1.1 y.1)
+pub hashed_once : (password setting : List ℕ) → (IsPassword password → HasOneReading setting) → (old new other : List ℕ) (a b : Work) (told holds : Result ℕ Refusal) → Hashes password setting old new a told → Hashes password setting old other b holds → IsToldOrLacks length_told (length_told told) holds
+hashed_once p s one old m n a b told (Err UnknownMethod) x y = absurd y
+hashed_once p s one old m n a b told (Err Cost) x y = absurd y
+hashed_once p s one old m n a b told (Err UnknownNumber) x y = absurd y
+hashed_once p s one old m n a b (Err UnknownMethod) holds x y = absurd x
+hashed_once p s one old m n a b (Err Cost) holds x y = absurd x
+hashed_once p s one old m n a b (Err UnknownNumber) holds x y = absurd x
+hashed_once p s one old m n a b told (Err OutOfMemory) x y = search rules
+hashed_once p s one old m n a b (Ok v) (Ok w) x y = inl (ap (λ (t : ℕ). length_told (Ok t)) (x.1.2 ∙ ap (λ (k : Kept). length (crypt p k)) (setting_once s (one x.0) x.1.0 y.1.0 x.1.1 y.1.1) ∙ sym y.1.2))
+hashed_once p s one old m n a b (Ok v) (Err (Password f)) x y = absurd (password_apart p f x.0 y.0)
+hashed_once p s one old m n a b (Ok v) (Err (Setting f)) x y = absurd (text_apart s (one x.0) x.1.0 f x.1.1 y.1)
+hashed_once p s one old m n a b (Ok v) (Err TooFewBytes) x y = absurd (subst (λ (k : Kept). ¬ HasRoomFor (crypt p k) old) (setting_once s (one x.0) y.1.0 x.1.0 y.1.1 x.1.1) y.1.2 x.1.3.0)
+hashed_once p s one old m n a b (Err (Password f)) (Ok w) x y = absurd (password_apart p f y.0 x.0)
+hashed_once p s one old m n a b (Err (Setting f)) (Ok w) x y = absurd (text_apart s (one x.0) y.1.0 f y.1.1 x.1)
+hashed_once p s one old m n a b (Err TooFewBytes) (Ok w) x y = absurd (subst (λ (k : Kept). ¬ HasRoomFor (crypt p k) old) (setting_once s (one x.0) x.1.0 y.1.0 x.1.1 y.1.1) x.1.2 y.1.3.0)
+hashed_once p s one old m n a b (Err OutOfMemory) (Ok w) x y = inr refl
+hashed_once p s one old m n a b (Err (Password f)) (Err (Password g)) x y = ap (λ (h : PasswordFault). refused (Password h)) (password_once p f g x.0 y.0)
+hashed_once p s one old m n a b (Err (Password f)) (Err (Setting g)) x y = absurd (password_apart p f y.0 x.0)
+hashed_once p s one old m n a b (Err (Password f)) (Err TooFewBytes) x y = absurd (password_apart p f y.0 x.0)
+hashed_once p s one old m n a b (Err (Setting f)) (Err (Setting g)) x y = ap (λ (h : SettingFault). refused (Setting h)) (refusal_once s (one x.0) f g x.1 y.1)
+hashed_once p s one old m n a b (Err (Setting f)) (Err (Password g)) x y = absurd (password_apart p g x.0 y.0)
+hashed_once p s one old m n a b (Err (Setting f)) (Err TooFewBytes) x y = absurd (text_apart s (one x.0) y.1.0 f y.1.1 x.1)
+hashed_once p s one old m n a b (Err TooFewBytes) (Err TooFewBytes) x y = refl
+hashed_once p s one old m n a b (Err TooFewBytes) (Err (Password g)) x y = absurd (password_apart p g x.0 y.0)
+hashed_once p s one old m n a b (Err TooFewBytes) (Err (Setting g)) x y = absurd (text_apart s (one x.0) x.1.0 g x.1.1 y.1)
+hashed_once p s one old m n a b (Err OutOfMemory) (Err TooFewBytes) x y =
+    absurd (subst (λ (k : Kept). ¬ HasRoomFor (crypt p k) old) (setting_once s (one x.0) y.1.0 x.1.0 y.1.1 x.1.1) y.1.2 x.1.2)
+hashed_once p s one old m n a b (Err OutOfMemory) (Err (Password g)) x y = absurd (password_apart p g x.0 y.0)
+hashed_once p s one old m n a b (Err OutOfMemory) (Err (Setting g)) x y = absurd (text_apart s (one x.0) x.1.0 g x.1.1 y.1)
 
-pub told_once : {A : Type 0} (number : Kept → ℕ → A) (stored : List ℕ) (len : ℕ) (old a b : A) (told holds : Result ℕ Refusal) → Tells number stored len old a told → Tells number stored len old b holds → told ≡ holds
-told_once number s len old a b told (Err (Password HasNul)) x y = absurd y
-told_once number s len old a b told (Err OutOfMemory) x y = absurd y
-told_once number s len old a b told (Err TooFewBytes) x y = absurd y
-told_once number s len old a b told (Err UnknownMethod) x y = absurd y
-told_once number s len old a b told (Err Cost) x y = absurd y
-told_once number s len old a b told (Err UnknownNumber) x y = absurd y
-told_once number s len old a b (Err (Password HasNul)) holds x y = absurd x
-told_once number s len old a b (Err OutOfMemory) holds x y = absurd x
-told_once number s len old a b (Err TooFewBytes) holds x y = absurd x
-told_once number s len old a b (Err UnknownMethod) holds x y = absurd x
-told_once number s len old a b (Err Cost) holds x y = absurd x
-told_once number s len old a b (Err UnknownNumber) holds x y = absurd x
-told_once number s len old a b (Ok v) (Ok w) x y = ap (λ (t : ℕ). Ok t) (x.1 ∙ sym y.1)
-told_once number s len old a b (Ok v) (Err (Password TooLong)) x y = absurd (omega (arith, x.0, y.0))
-told_once number s len old a b (Ok v) (Err (Setting f)) x y = absurd (text_apart s x.2.0 f x.2.1 y.1)
-told_once number s len old a b (Err (Password TooLong)) (Ok w) x y = absurd (omega (arith, x.0, y.0))
-told_once number s len old a b (Err (Setting f)) (Ok w) x y = absurd (text_apart s y.2.0 f y.2.1 x.1)
-told_once number s len old a b (Err (Password TooLong)) (Err (Password TooLong)) x y = refl
-told_once number s len old a b (Err (Password TooLong)) (Err (Setting g)) x y = absurd (omega (arith, x.0, y.0))
-told_once number s len old a b (Err (Setting f)) (Err (Password TooLong)) x y = absurd (omega (arith, x.0, y.0))
-told_once number s len old a b (Err (Setting f)) (Err (Setting g)) x y = ap (λ (h : SettingFault). Err (Setting h)) (refusal_unique s f g x.1 y.1)
+pub told_once : {A : Type 0} (number : Kept → ℕ → A) (stored : List ℕ) (len : ℕ) → (len ≤ password_limit → HasOneReading stored) → (old a b : A) (told holds : Result ℕ Refusal) → Tells number stored len old a told → Tells number stored len old b holds → told ≡ holds
+told_once number s len one old a b told (Err (Password HasNul)) x y = absurd y
+told_once number s len one old a b told (Err OutOfMemory) x y = absurd y
+told_once number s len one old a b told (Err TooFewBytes) x y = absurd y
+told_once number s len one old a b told (Err UnknownMethod) x y = absurd y
+told_once number s len one old a b told (Err Cost) x y = absurd y
+told_once number s len one old a b told (Err UnknownNumber) x y = absurd y
+told_once number s len one old a b (Err (Password HasNul)) holds x y = absurd x
+told_once number s len one old a b (Err OutOfMemory) holds x y = absurd x
+told_once number s len one old a b (Err TooFewBytes) holds x y = absurd x
+told_once number s len one old a b (Err UnknownMethod) holds x y = absurd x
+told_once number s len one old a b (Err Cost) holds x y = absurd x
+told_once number s len one old a b (Err UnknownNumber) holds x y = absurd x
+told_once number s len one old a b (Ok v) (Ok w) x y = ap (λ (t : ℕ). Ok t) (x.1 ∙ sym y.1)
+told_once number s len one old a b (Ok v) (Err (Password TooLong)) x y = absurd (omega (arith, x.0, y.0))
+told_once number s len one old a b (Ok v) (Err (Setting f)) x y = absurd (text_apart s (one x.0) x.2.0 f x.2.1 y.1)
+told_once number s len one old a b (Err (Password TooLong)) (Ok w) x y = absurd (omega (arith, x.0, y.0))
+told_once number s len one old a b (Err (Setting f)) (Ok w) x y = absurd (text_apart s (one x.0) y.2.0 f y.2.1 x.1)
+told_once number s len one old a b (Err (Password TooLong)) (Err (Password TooLong)) x y = refl
+told_once number s len one old a b (Err (Password TooLong)) (Err (Setting g)) x y = absurd (omega (arith, x.0, y.0))
+told_once number s len one old a b (Err (Setting f)) (Err (Password TooLong)) x y = absurd (omega (arith, x.0, y.0))
+told_once number s len one old a b (Err (Setting f)) (Err (Setting g)) x y = ap (λ (h : SettingFault). Err (Setting h)) (refusal_once s (one x.0) f g x.1 y.1)
 
-pub replaced_once : (stored new : List ℕ) (told holds : Result Bool Refusal) → Replaces stored new told → Replaces stored new holds → told ≡ holds
-replaced_once s t told (Err (Password f)) x y = absurd y
-replaced_once s t told (Err OutOfMemory) x y = absurd y
-replaced_once s t told (Err TooFewBytes) x y = absurd y
-replaced_once s t told (Err UnknownMethod) x y = absurd y
-replaced_once s t told (Err Cost) x y = absurd y
-replaced_once s t told (Err UnknownNumber) x y = absurd y
-replaced_once s t (Err (Password f)) holds x y = absurd x
-replaced_once s t (Err OutOfMemory) holds x y = absurd x
-replaced_once s t (Err TooFewBytes) holds x y = absurd x
-replaced_once s t (Err UnknownMethod) holds x y = absurd x
-replaced_once s t (Err Cost) holds x y = absurd x
-replaced_once s t (Err UnknownNumber) holds x y = absurd x
-replaced_once s t (Ok v) (Ok w) x y = ap (λ (b : Bool). Ok b) (x.4 ∙ ap (λ (k : Kept). is_replaced_by k.scheme x.1.scheme) (setting_unique s x.0 y.0 x.2 y.2) ∙ ap (λ (k : Kept). is_replaced_by y.0.scheme k.scheme) (setting_unique t x.1 y.1 x.3 y.3) ∙ sym y.4)
-replaced_once s t (Ok v) (Err (Setting f)) x y = elim y [
-  | inl first ↦ absurd (text_apart s x.0 f x.2 first)
-  | inr second ↦ absurd (text_apart t x.1 f x.3 second.2)
+pub replaced_once : (stored new : List ℕ) → HasOneReading stored → ((kept : Kept) → Spells stored kept → HasOneReading new) → (told holds : Result Bool Refusal) → Replaces stored new told → Replaces stored new holds → told ≡ holds
+replaced_once s t one later told (Err (Password f)) x y = absurd y
+replaced_once s t one later told (Err OutOfMemory) x y = absurd y
+replaced_once s t one later told (Err TooFewBytes) x y = absurd y
+replaced_once s t one later told (Err UnknownMethod) x y = absurd y
+replaced_once s t one later told (Err Cost) x y = absurd y
+replaced_once s t one later told (Err UnknownNumber) x y = absurd y
+replaced_once s t one later (Err (Password f)) holds x y = absurd x
+replaced_once s t one later (Err OutOfMemory) holds x y = absurd x
+replaced_once s t one later (Err TooFewBytes) holds x y = absurd x
+replaced_once s t one later (Err UnknownMethod) holds x y = absurd x
+replaced_once s t one later (Err Cost) holds x y = absurd x
+replaced_once s t one later (Err UnknownNumber) holds x y = absurd x
+replaced_once s t one later (Ok v) (Ok w) x y = ap (λ (b : Bool). Ok b) (x.4 ∙ ap (λ (k : Kept). is_replaced_by k.scheme x.1.scheme) (setting_once s one x.0 y.0 x.2 y.2) ∙ ap (λ (k : Kept). is_replaced_by y.0.scheme k.scheme) (setting_once t (later x.0 x.2) x.1 y.1 x.3 y.3) ∙ sym y.4)
+replaced_once s t one later (Ok v) (Err (Setting f)) x y = elim y [
+  | inl first ↦ absurd (text_apart s one x.0 f x.2 first)
+  | inr second ↦ absurd (text_apart t (later x.0 x.2) x.1 f x.3 second.2)
 ]
-replaced_once s t (Err (Setting f)) (Ok w) x y = elim x [
-  | inl first ↦ absurd (text_apart s y.0 f y.2 first)
-  | inr second ↦ absurd (text_apart t y.1 f y.3 second.2)
+replaced_once s t one later (Err (Setting f)) (Ok w) x y = elim x [
+  | inl first ↦ absurd (text_apart s one y.0 f y.2 first)
+  | inr second ↦ absurd (text_apart t (later y.0 y.2) y.1 f y.3 second.2)
 ]
-replaced_once s t (Err (Setting f)) (Err (Setting g)) (inl a) (inl b) = ap (λ (h : SettingFault). Err (Setting h)) (refusal_unique s f g a b)
-replaced_once s t (Err (Setting f)) (Err (Setting g)) (inl a) (inr b) = absurd (text_apart s b.0 f b.1 a)
-replaced_once s t (Err (Setting f)) (Err (Setting g)) (inr a) (inl b) = absurd (text_apart s a.0 g a.1 b)
-replaced_once s t (Err (Setting f)) (Err (Setting g)) (inr a) (inr b) = ap (λ (h : SettingFault). Err (Setting h)) (refusal_unique t f g a.2 b.2)
+replaced_once s t one later (Err (Setting f)) (Err (Setting g)) (inl a) (inl b) = ap (λ (h : SettingFault). Err (Setting h)) (refusal_once s one f g a b)
+replaced_once s t one later (Err (Setting f)) (Err (Setting g)) (inl a) (inr b) = absurd (text_apart s one b.0 f b.1 a)
+replaced_once s t one later (Err (Setting f)) (Err (Setting g)) (inr a) (inl b) = absurd (text_apart s one a.0 g a.1 b)
+replaced_once s t one later (Err (Setting f)) (Err (Setting g)) (inr a) (inr b) = ap (λ (h : SettingFault). Err (Setting h)) (refusal_once t (later a.0 a.1) f g a.2 b.2)
 
 some_once : {A : Type 0} (a b : A) (c : Option A) → c ≡ Some a → c ≡ Some b → a ≡ b
 some_once a b c x y = same_Some a b (sym x ∙ y)
@@ -162,10 +170,10 @@ made_once number cost words old a b (Err (Password f)) holds x y = absurd x
 made_once number cost words old a b (Err (Setting f)) holds x y = absurd x
 made_once number cost words old a b (Err OutOfMemory) holds x y = absurd x
 made_once number cost words old a b (Err UnknownNumber) holds x y = absurd x
-made_once number cost words old a b (Ok v) (Ok w) x y = ap (λ (t : ℕ). Ok t) (x.3 ∙ ap (λ (k : Method). length (canonical_text (setting_of k cost words))) (some_once x.0 y.0 (method_numbered number) x.1 y.1) ∙ sym y.3)
+made_once number cost words old a b (Ok v) (Ok w) x y = ap (λ (t : ℕ). Ok t) (x.3 ∙ ap (λ (k : Method). length (canonical_text (with_made_salt k cost words))) (some_once x.0 y.0 (method_numbered number) x.1 y.1) ∙ sym y.3)
 made_once number cost words old a b (Ok v) (Err UnknownMethod) x y = absurd (none_apart x.0 (method_numbered number) x.1 y.0)
 made_once number cost words old a b (Ok v) (Err Cost) x y = absurd (y.2 (subst (λ (k : Method). TakesCost k cost) (some_once x.0 y.0 (method_numbered number) x.1 y.1) x.2))
-made_once number cost words old a b (Ok v) (Err TooFewBytes) x y = absurd (subst (λ (k : Method). ¬ HasRoomFor (canonical_text (setting_of k cost words)) old) (some_once y.0 x.0 (method_numbered number) y.1 x.1) y.3 x.4.0)
+made_once number cost words old a b (Ok v) (Err TooFewBytes) x y = absurd (subst (λ (k : Method). ¬ HasRoomFor (canonical_text (with_made_salt k cost words)) old) (some_once y.0 x.0 (method_numbered number) y.1 x.1) y.3 x.4.0)
 made_once number cost words old a b (Err UnknownMethod) (Ok w) x y = absurd (none_apart y.0 (method_numbered number) y.1 x.0)
 made_once number cost words old a b (Err UnknownMethod) (Err UnknownMethod) x y = refl
 made_once number cost words old a b (Err UnknownMethod) (Err Cost) x y = absurd (none_apart y.0 (method_numbered number) y.1 x.0)
@@ -174,7 +182,7 @@ made_once number cost words old a b (Err Cost) (Ok w) x y = absurd (x.2 (subst (
 made_once number cost words old a b (Err Cost) (Err UnknownMethod) x y = absurd (none_apart x.0 (method_numbered number) x.1 y.0)
 made_once number cost words old a b (Err Cost) (Err Cost) x y = refl
 made_once number cost words old a b (Err Cost) (Err TooFewBytes) x y = absurd (x.2 (subst (λ (k : Method). TakesCost k cost) (some_once y.0 x.0 (method_numbered number) y.1 x.1) y.2))
-made_once number cost words old a b (Err TooFewBytes) (Ok w) x y = absurd (subst (λ (k : Method). ¬ HasRoomFor (canonical_text (setting_of k cost words)) old) (some_once x.0 y.0 (method_numbered number) x.1 y.1) x.3 y.4.0)
+made_once number cost words old a b (Err TooFewBytes) (Ok w) x y = absurd (subst (λ (k : Method). ¬ HasRoomFor (canonical_text (with_made_salt k cost words)) old) (some_once x.0 y.0 (method_numbered number) x.1 y.1) x.3 y.4.0)
 made_once number cost words old a b (Err TooFewBytes) (Err UnknownMethod) x y = absurd (none_apart x.0 (method_numbered number) x.1 y.0)
 made_once number cost words old a b (Err TooFewBytes) (Err Cost) x y = absurd (y.2 (subst (λ (k : Method). TakesCost k cost) (some_once x.0 y.0 (method_numbered number) x.1 y.1) x.2))
 made_once number cost words old a b (Err TooFewBytes) (Err TooFewBytes) x y = refl

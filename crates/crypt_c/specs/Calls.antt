@@ -1,16 +1,15 @@
 -- What each call answers, and what it leaves in the caller's bytes and counts.
-use Rattle.std.specs.Prelude.{◌≡◌, ◌≢◌, ◌↔◌, ◌⊎◌, ◌+◌, ◌^◌, ◌<◌, ◌≤◌, ◌==◌, ℕ, ℤ, Bool, if◌then◌else◌, List, ◌∷◌, ◌++◌, length, drop, IsTrue, Option, Some, None, Result, Ok, Err}
-use Rattle.prims_core.specs.Meter.{Counts, no_counts}
+use Rattle.std.specs.Prelude.{◌≡◌, ◌≢◌, ◌⊎◌, ◌+◌, ◌<◌, ◌≤◌, ◌==◌, ℕ, ℤ, Bool, if◌then◌else◌, List, ◌∷◌, ◌++◌, length, drop, Option, Some, None, Result, Ok, Err}
+use Rattle.prims_core.specs.Work.{no_work}
 use Rattle.prims_core.specs.declared.work.Work.{Work}
-use Rattle.crypt_core.specs.Crypt.{IsRefusedBy, crypt}
-use Rattle.crypt_core.specs.MadeSalts.{made_salt, made_salt_length}
-use Rattle.crypt_core.specs.MadeSettings.{TakesCost, made_setting}
+use Rattle.crypt_core.specs.Crypt.{IsAfterRefusedGrowth, crypt}
+use Rattle.crypt_core.specs.Fits as fits
+use Rattle.crypt_core.specs.MadeSettings.{TakesCost, with_made_salt}
 use Rattle.crypt_core.specs.Passwords.{IsPassword, IsPasswordRefused, password_limit}
 use Rattle.crypt_core.specs.Refusals.{IsRefused}
 use Rattle.crypt_core.specs.Replacements.{is_replaced_by}
 use Rattle.crypt_core.specs.Settings.{Kept, Spells, canonical_text}
 use Rattle.crypt_core.specs.Work.{cost, work}
-use Rattle.crypt_core.specs.declared.fits.FitFault.{FitFault}
 use Rattle.crypt_core.specs.declared.fits.FitFault.TheVariants as fit
 use Rattle.crypt_core.specs.declared.method.Method.{Method}
 use Rattle.crypt_core.specs.declared.method.Method.TheVariants.{Md5crypt, Sha256crypt, Sha512crypt, Scrypt}
@@ -20,22 +19,6 @@ use Rattle.crypt_c.specs.declared.refusal.Refusal.{Refusal}
 use Rattle.crypt_c.specs.declared.refusal.Refusal.TheVariants.{Password, Setting, OutOfMemory, TooFewBytes, UnknownMethod, Cost, UnknownNumber}
 
 -- ---- what crosses
-
--- the work of a call that did none
-abbrev pub no_work : Work
-no_work = record { digests = 0; bytes = 0; mixes = 0; table = 0; scratch = 0 }
-
--- a meter's counts that are such a work's
-abbrev pub counts_of : Work → Counts
-counts_of work = record { digests = work.digests; bytes = work.bytes; mixes = work.mixes; table = work.table; scratch = work.scratch }
-
--- counts for which a work has room
-pub record IsSmall (counts : Counts) : Type 0 where
-  pub digests : counts.digests < 2 ^ 64
-  pub bytes : counts.bytes < 2 ^ 64
-  pub mixes : counts.mixes < 2 ^ 64
-  pub table : counts.table < 2 ^ 64
-  pub scratch : counts.scratch < 2 ^ 64
 
 -- the caller's bytes have room for a text and a byte 0
 abbrev pub HasRoomFor : List ℕ → List ℕ → Type 0
@@ -47,14 +30,15 @@ IsPut text old new = HasRoomFor text old × (new ≡ (text ++ 0 ∷ drop (length
 
 -- ---- a password against a stored text
 
--- it was hashed by the setting that the text spells, and compared; or the first refusal that holds
+-- it was compared on a meter that had counted nothing; or the first refusal that holds
 abbrev pub Compares : List ℕ → List ℕ → Work → Result Bool Refusal → Type 0
 Compares password stored done (Ok verdict) =
-    IsPassword password × ((kept : Kept) × Spells stored kept × (IsTrue verdict ↔ (crypt password kept ≡ stored)) × (done ≡ work password kept))
+    IsPassword password × fits.Compares password stored no_work done (Ok verdict)
 Compares password stored done (Err (Password fault)) = IsPasswordRefused password fault × (done ≡ no_work)
-Compares password stored done (Err (Setting fault)) = IsPassword password × IsRefused stored fault × (done ≡ no_work)
+Compares password stored done (Err (Setting fault)) =
+    IsPassword password × fits.Compares password stored no_work done (Err (fit.Setting fault))
 Compares password stored done (Err OutOfMemory) =
-    IsPassword password × ((kept : Kept) × Spells stored kept × IsRefusedBy no_counts kept.scheme (counts_of done))
+    IsPassword password × fits.Compares password stored no_work done (Err fit.OutOfMemory)
 Compares password stored done (Err refusal) = ⊥
 
 -- ---- the hash of a password
@@ -72,7 +56,7 @@ Hashes password setting old new done (Err TooFewBytes) =
     IsPassword password × ((kept : Kept) × Spells setting kept × ¬ HasRoomFor (crypt password kept) old × (new ≡ old) × (done ≡ no_work))
 Hashes password setting old new done (Err OutOfMemory) =
     IsPassword password × ((kept : Kept) × Spells setting kept × HasRoomFor (crypt password kept) old
-    × IsRefusedBy no_counts kept.scheme (counts_of done) × (new ≡ old))
+    × IsAfterRefusedGrowth no_work kept.scheme done × (new ≡ old))
 Hashes password setting old new done (Err refusal) = ⊥
 
 -- ---- what a hash will take
@@ -84,12 +68,6 @@ Tells number stored len old new (Ok count) =
 Tells number stored len old new (Err (Password TooLong)) = (password_limit < len) × (new ≡ old)
 Tells number stored len old new (Err (Setting fault)) = (len ≤ password_limit) × IsRefused stored fault × (new ≡ old)
 Tells number stored len old new (Err refusal) = ⊥
-
--- why there is no such number
-abbrev pub IsPriceRefused : List ℕ → ℕ → Refusal → Type 0
-IsPriceRefused stored len (Password TooLong) = password_limit < len
-IsPriceRefused stored len (Setting fault) = (len ≤ password_limit) × IsRefused stored fault
-IsPriceRefused stored len refusal = ⊥
 
 -- ---- settings
 
@@ -107,21 +85,17 @@ method_numbered number =
     if number == 1 then Some Md5crypt else if number == 5 then Some Sha256crypt else if number == 6 then Some Sha512crypt
     else if number == 7 then Some Scrypt else None
 
--- the setting of a method and a cost, with a salt that three words make
-abbrev pub setting_of : Method → ℕ → List ℕ → Kept
-setting_of method cost words = made_setting method cost (made_salt words (made_salt_length method))
-
 -- its text and a byte 0 are put; or the first refusal that holds, and the caller's bytes are as they were
 abbrev pub Makes : ℕ → ℕ → List ℕ → List ℕ → List ℕ → Result ℕ Refusal → Type 0
 Makes number cost words old new (Ok count) =
     (method : Method) × (method_numbered number ≡ Some method) × TakesCost method cost
-    × (count ≡ length (canonical_text (setting_of method cost words))) × IsPut (canonical_text (setting_of method cost words)) old new
+    × (count ≡ length (canonical_text (with_made_salt method cost words))) × IsPut (canonical_text (with_made_salt method cost words)) old new
 Makes number cost words old new (Err UnknownMethod) = (method_numbered number ≡ None) × (new ≡ old)
 Makes number cost words old new (Err Cost) =
     (method : Method) × (method_numbered number ≡ Some method) × (¬ TakesCost method cost) × (new ≡ old)
 Makes number cost words old new (Err TooFewBytes) =
     (method : Method) × (method_numbered number ≡ Some method) × TakesCost method cost
-    × (¬ HasRoomFor (canonical_text (setting_of method cost words)) old) × (new ≡ old)
+    × (¬ HasRoomFor (canonical_text (with_made_salt method cost words)) old) × (new ≡ old)
 Makes number cost words old new (Err refusal) = ⊥
 
 -- ---- refusals
@@ -149,10 +123,3 @@ IsToldOrLacks told number (Err refusal) = number ≡ refused refusal
 
 abbrev pub TellsOrLacks : {A : Type 0} → (Result A Refusal → ℤ) → (Result A Refusal → Type 0) → ℤ → Type 0
 TellsOrLacks {A = A} told holds number = (answer : Result A Refusal) → holds answer → IsToldOrLacks told number answer
-
--- ---- steps
-
--- what `fits` refuses
-abbrev pub IsFitRefusal : FitFault → Refusal → Type 0
-IsFitRefusal (fit.Setting fault) refusal = refusal ≡ Setting fault
-IsFitRefusal fit.OutOfMemory refusal = refusal ≡ OutOfMemory

@@ -1,7 +1,7 @@
 -- What the numbers say that calls answer, and the texts of refusals.
 use Rattle.std.specs.Prelude.{ℕ, ℤ, pos, neg_ℤ, Bool, true, false, List, codes, Result, Ok, Err}
 use Rattle.crypt_core.specs.HashFaults.{hash_fault_text}
-use Rattle.crypt_core.specs.PasswordFaults.{password_text}
+use Rattle.crypt_core.specs.PasswordFaults.{password_fault_text}
 use Rattle.crypt_core.specs.SettingFaults.{make_fault_text, setting_fault_text}
 use Rattle.crypt_core.specs.declared.hash.HashFault.TheVariants as hash
 use Rattle.crypt_core.specs.declared.password.PasswordFault.TheVariants as password
@@ -31,7 +31,7 @@ refusal_number Cost = 14
 refusal_number UnknownNumber = 15
 
 abbrev pub refusal_text : Refusal → List ℕ
-refusal_text (Password fault) = password_text fault
+refusal_text (Password fault) = password_fault_text fault
 refusal_text (Setting fault) = setting_fault_text fault
 refusal_text OutOfMemory = hash_fault_text hash.OutOfMemory
 refusal_text TooFewBytes = codes "too few bytes"

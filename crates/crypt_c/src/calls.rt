@@ -1,11 +1,12 @@
 //! What the calls do, with refusals that are not yet numbers.
 ghost use Rattle.std.specs.Prelude.{◌≡◌, ◌<◌, ◌≤◌, ◌^◌, length, IfOk, IfErr};
-ghost use Rattle.prims_core.specs.Meter.{no_counts};
+ghost use Rattle.prims_core.specs.Work.{no_work};
 ghost use Rattle.crypt_core.specs.Work.{cost, work_bound};
-ghost use Rattle.crypt_core.specs.Passwords.{password_limit};
-ghost use Rattle.crypt_core.specs.Settings.{Spells};
-ghost use Rattle.prims_core.specs.declared.work.Work.{Work as Done};
-ghost use Rattle.crypt_c.specs.Calls.{Compares, Explains, Hashes, IsPriceRefused, IsSmall, Makes, Replaces, Tells, counts_of, method_numbered};
+ghost use Rattle.crypt_core.specs.Passwords.{IsPassword, password_limit};
+ghost use Rattle.crypt_core.specs.Readings.{HasOneReading};
+ghost use Rattle.crypt_core.specs.Settings.{Kept, Spells};
+ghost use Rattle.crypt_c.specs.Calls.{Compares, Explains, Hashes, Makes, Replaces, Tells, method_numbered};
+ghost use Rattle.crypt_c.specs.Private.Steps.{IsPriceRefused, IsSmall};
 
 use crate::put::put;
 use crate::refusal::Refusal;
@@ -26,8 +27,9 @@ pub(crate) fn compared(
     stored: &[u8],
     meter: &mut Meter,
 ) -> Result<bool, Refusal>
-    requires { meter.old ≡ no_counts }
-    ensures compares { (done : Done) → counts_of done ≡ meter.new → Compares password.now stored.now done result }
+    requires { meter.old ≡ no_work }
+    ensures compares { Compares password.now stored.now meter.new result }
+    ensures one_reading { IsPassword password.now → HasOneReading stored.now }
     ensures small { IsSmall meter.new }
 {
     let password = Password::new(password)?;
@@ -42,8 +44,9 @@ pub(crate) fn hashed(
     out: &mut [u8],
     meter: &mut Meter,
 ) -> Result<usize, Refusal>
-    requires { meter.old ≡ no_counts }
-    ensures hashes { (done : Done) → counts_of done ≡ meter.new → Hashes password.now setting.now out.old out.new done result }
+    requires { meter.old ≡ no_work }
+    ensures hashes { Hashes password.now setting.now out.old out.new meter.new result }
+    ensures one_reading { IsPassword password.now → HasOneReading setting.now }
     ensures short { IfOk result (λ count. count < 2 ^ 31) }
     ensures small { IsSmall meter.new }
 {
@@ -59,6 +62,7 @@ pub(crate) fn hashed(
 /// What a hash by a setting counts at most, for a password of so many bytes.
 pub(crate) fn bounded(stored: &[u8], password_len: usize, most: &mut Work) -> Result<usize, Refusal>
     ensures tells { Tells work_bound stored.now password_len most.old most.new result }
+    ensures one_reading { password_len ≤ password_limit → HasOneReading stored.now }
     ensures nothing { IfOk result (λ count. count ≡ 0) }
 {
     *most = bound(&priced_setting(stored, password_len)?, password_len);
@@ -68,6 +72,7 @@ pub(crate) fn bounded(stored: &[u8], password_len: usize, most: &mut Work) -> Re
 /// What it costs at most.
 pub(crate) fn priced(stored: &[u8], password_len: usize, number: &mut u64) -> Result<usize, Refusal>
     ensures tells { Tells cost stored.now password_len number.old number.new result }
+    ensures one_reading { password_len ≤ password_limit → HasOneReading stored.now }
     ensures nothing { IfOk result (λ count. count ≡ 0) }
 {
     *number = cost(&priced_setting(stored, password_len)?, password_len);
@@ -78,6 +83,7 @@ pub(crate) fn priced(stored: &[u8], password_len: usize, number: &mut u64) -> Re
 fn priced_setting(stored: &[u8], password_len: usize) -> Result<Setting, Refusal>
     ensures read { IfOk result (λ setting. (password_len ≤ password_limit) × Spells stored.now setting) }
     ensures refused { IfErr result (IsPriceRefused stored.now password_len) }
+    ensures one_reading { password_len ≤ password_limit → HasOneReading stored.now }
 {
     if password_len > PASSWORD_LIMIT {
         return Err(Refusal::Password(PasswordFault::TooLong));
@@ -87,7 +93,9 @@ fn priced_setting(stored: &[u8], password_len: usize) -> Result<Setting, Refusal
 
 /// Whether the one setting is replaced by the other.
 pub(crate) fn replaced(stored: &[u8], new: &[u8]) -> Result<bool, Refusal>
-    ensures { Replaces stored.now new.now result }
+    ensures replaces { Replaces stored.now new.now result }
+    ensures one_reading { HasOneReading stored.now }
+    ensures then_one { (kept : Kept) → Spells stored.now kept → HasOneReading new.now }
 {
     let stored = Setting::read(stored)?;
     let new = Setting::read(new)?;

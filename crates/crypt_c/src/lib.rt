@@ -8,8 +8,9 @@
 ghost use Rattle.std.specs.Prelude.{◌≡◌, ◌^◌, ◌<◌, ◌≤◌, ◌∷◌, [], Bool, List, Result, ℕ, IfOk};
 ghost use Rattle.crypt_core.specs.Work.{cost, work_bound};
 ghost use Rattle.prims_core.specs.declared.work.Work.{Work as Done};
-ghost use Rattle.crypt_c.specs.Calls.{Compares, Explains, Hashes, IsSmall, Makes, Replaces, Tells, TellsEach, TellsOrLacks, counts_of};
+ghost use Rattle.crypt_c.specs.Calls.{Compares, Explains, Hashes, Makes, Replaces, Tells, TellsEach, TellsOrLacks};
 ghost use Rattle.crypt_c.specs.Numbers.{length_told, verdict_told};
+ghost use Rattle.crypt_c.specs.Private.Steps.{IsSmall};
 ghost use Rattle.crypt_c.specs.declared.refusal.Refusal.{Refusal as Refused};
 
 mod calls;
@@ -165,7 +166,7 @@ fn told(answer: Result<usize, Refusal>) -> i32
 // The counts of a meter that one call has raised.
 fn counted(meter: &Meter) -> Work
     requires { IsSmall meter.now }
-    ensures { counts_of result ≡ meter.now }
+    ensures { result ≡ meter.now }
 {
     Work {
         digests: meter.digests() as u64,

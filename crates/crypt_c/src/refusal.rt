@@ -129,7 +129,7 @@ impl From<FitFault> for Refusal {
     ghost use Rattle.crypt_core.specs.declared.fits.FitFault.TheVariants as fit;
     ghost use Rattle.crypt_c.specs.declared.refusal.Refusal.{Refusal as Answer};
     ghost use Rattle.crypt_c.specs.declared.refusal.Refusal.TheVariants.{Setting, OutOfMemory};
-    ghost use Rattle.crypt_c.specs.Calls.{IsFitRefusal};
+    ghost use Rattle.crypt_c.specs.Private.Steps.{IsFitRefusal};
 
     ghost from_gives = { IsFitRefusal };
 

@@ -11,8 +11,7 @@ use Rattle.std.proofs.lemmas.Bool.Decides.{nat_tests}
 use Rattle.std.proofs.Math.Nat.{mul-le-mul_right}
 use Rattle.std.proofs.Math.Path.{fun_ext}
 use Rattle.std.proofs.Math.Seq.{take-suc}
-use Rattle.crypt_core.specs.Cycle.{cycle, binary_digits, digit_pieces, digits_up_to}
-use Rattle.crypt_core.specs.Work.{digit_bytes, piece_bytes}
+use Rattle.crypt_core.specs.Cycle.{by_digit, cycle, binary_digits, digit_bytes, digit_pieces, digits_up_to}
 
 -- a byte more
 pub cycle-more : (d : List ℕ) (n : ℕ) → cycle d (n + 1) ≡ cycle d n ++ get_or d (n % length d) 0 ∷ []
@@ -83,8 +82,8 @@ no_pieces one other = refl
 
 -- the piece of the lowest digit, and those of the half
 pub digit_pieces-step : (one other : List ℕ) (n : ℕ) → 0 < n
-    → digit_pieces one other n ≡ cond (nat_eq (n % 2) 1) one other ++ digit_pieces one other (n / 2)
-digit_pieces-step one other n h = ap (flat_map (λ digit. cond (nat_eq digit 1) one other)) (binary_digits-step n h)
+    → digit_pieces one other n ≡ by_digit one other (n % 2) ++ digit_pieces one other (n / 2)
+digit_pieces-step one other n h = ap (flat_map (by_digit one other)) (binary_digits-step n h)
 
 length-digits_up_to : (k n : ℕ) → length (digits_up_to k n) ≤ k
 length-digits_up_to zero n = omega arith
@@ -94,7 +93,7 @@ length-digits_up_to (suc k) n = go (nat_eq n 0) (digits_up_to k (n / 2)) k (leng
   go false rest m h = omega arith
 
 -- a number has at most as many digits as its value
-pub length-binary_digits : (n : ℕ) → length (binary_digits n) ≤ n
+length-binary_digits : (n : ℕ) → length (binary_digits n) ≤ n
 unfolding binary_digits
 length-binary_digits n = length-digits_up_to n n
 
@@ -116,26 +115,15 @@ digit_bytes-none one other = refl
 
 -- the piece of the lowest digit, and those of the half
 pub digit_bytes-step : (one other n : ℕ) → 0 < n
-    → digit_bytes one other n ≡ piece_bytes one other (n % 2) + digit_bytes one other (n / 2)
+    → digit_bytes one other n ≡ by_digit one other (n % 2) + digit_bytes one other (n / 2)
 digit_bytes-step one other n some =
-    ap (sum_by (piece_bytes one other)) (binary_digits-step n some)
-    ∙ sum_by-cons (piece_bytes one other) (n % 2) (binary_digits (n / 2))
-
--- pieces of a byte each: as many bytes as there are digits
-pub digit_bytes-ones : (n : ℕ) → digit_bytes 1 1 n ≡ length (binary_digits n)
-digit_bytes-ones n = go (binary_digits n) where
-  same : (b : Bool) → ◌≡◌ {A = ℕ} (cond b 1 1) 1
-  same true = refl
-  same false = refl
-
-  go : (digits : List ℕ) → sum_by (piece_bytes 1 1) digits ≡ length digits
-  go [] = refl
-  go (digit ∷ digits) = omega (arith, sum_by-cons (piece_bytes 1 1) digit digits, same (nat_eq digit 1), go digits)
+    ap (sum_by (by_digit one other)) (binary_digits-step n some)
+    ∙ sum_by-cons (by_digit one other) (n % 2) (binary_digits (n / 2))
 
 -- pieces of at most m bytes each
 pub digit_bytes-few : (one other m n : ℕ) → one ≤ m → other ≤ m → digit_bytes one other n ≤ n * m
 digit_bytes-few one other m n a b =
-    let all = sum_by-le (piece_bytes one other) m (binary_digits n) (λ k d inside. small (nat_eq (get_or (binary_digits n) k d) 1)) in
+    let all = sum_by-le (by_digit one other) m (binary_digits n) (λ k d inside. small (nat_eq (get_or (binary_digits n) k d) 1)) in
     omega (arith, all, mul-le-mul_right m (length-binary_digits n)) where
       small : (b : Bool) → cond b one other ≤ m
       small true = a

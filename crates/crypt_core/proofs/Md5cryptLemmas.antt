@@ -1,19 +1,21 @@
 -- Lemmas on the messages of md5crypt.
 use Rattle.crypt_core.specs.Passwords.{password_limit}
-use Rattle.std.proofs.Common.{◌≡◌, ℕ, suc, ◌+◌, ◌*◌, List, [], ◌∷◌, ◌++◌, length, take, codes, arith, refl, ap, ◌∙◌}
+use Rattle.std.proofs.Common.{◌≡◌, ℕ, suc, ◌+◌, ◌*◌, List, [], ◌∷◌, ◌++◌, length, take, arith, refl, ap, ◌∙◌}
 use Rattle.std.specs.Prelude.{sum_by}
 use Rattle.std.proofs.lemmas.List.{length-append}
 use Rattle.prims_core.specs.Digests.{length-md5, md5}
-use Rattle.prims_core.specs.Meter.{AreInAll}
-use Rattle.crypt_core.specs.Cycle.{binary_digits, cycle, digit_pieces}
+use Rattle.prims_core.specs.Meter.{HaveCountAndSum}
+use Rattle.crypt_core.specs.Cycle.{binary_digits, cycle, digit_bytes, digit_pieces}
 use Rattle.crypt_core.specs.Md5crypt.{md5crypt_message, md5crypt_messages, opening_message, md5crypt_rounds}
-use Rattle.crypt_core.specs.RoundMessage.{round_message, salted_twice}
+use Rattle.crypt_core.specs.Methods.{prefix}
+use Rattle.crypt_core.specs.RoundMessage.{round_message, alternate_message}
 use Rattle.crypt_core.specs.Work.{md5crypt_bytes}
-use Rattle.crypt_core.proofs.CycleLemmas.{digit_bytes-ones, length-cycle, length-digit_pieces}
-use Rattle.crypt_core.proofs.MessageLists.{length-messages_to, length-round_message, length-salted_twice, messages_to, round_length}
+use Rattle.crypt_core.specs.declared.method.Method.TheVariants.{Md5crypt}
+use Rattle.crypt_core.proofs.CycleLemmas.{length-cycle, length-digit_pieces}
+use Rattle.crypt_core.proofs.MessageLists.{length-messages_to, length-round_message, length-alternate, messages_to, round_length}
 use Rattle.crypt_core.proofs.WorkSums.{rounds_sum}
 
-pub messages-two : (p s : List ℕ) → messages_to (md5crypt_message p s) 2 ≡ salted_twice p s ∷ opening_message p s ∷ []
+pub messages-two : (p s : List ℕ) → messages_to (md5crypt_message p s) 2 ≡ alternate_message p s ∷ opening_message p s ∷ []
 unfolding messages_to md5crypt_message
 messages-two p s = refl
 
@@ -39,22 +41,22 @@ length-message_round p s i =
     ∙ ap (λ x. round_length i x (length p) (length s)) (length-md5 (md5crypt_message p s (i + 1))))
 
 -- a byte for each digit of the password's length; an empty password has none, and no first byte
-pub length-digits : (p : List ℕ) → length (digit_pieces (0 ∷ []) (take 1 p) (length p)) ≡ length (binary_digits (length p))
+pub length-digits : (p : List ℕ) → length (digit_pieces (0 ∷ []) (take 1 p) (length p)) ≡ digit_bytes 1 1 (length p)
 unfolding binary_digits
 length-digits [] = refl
-length-digits (x ∷ p) = length-digit_pieces (0 ∷ []) (x ∷ []) (suc (length p)) ∙ digit_bytes-ones (suc (length p))
+length-digits (x ∷ p) = length-digit_pieces (0 ∷ []) (x ∷ []) (suc (length p))
 
-pub length-opening : (p s : List ℕ) → length (opening_message p s) ≡ 2 * length p + length s + 3 + length (binary_digits (length p))
+pub length-opening : (p s : List ℕ) → length (opening_message p s) ≡ 2 * length p + length s + 3 + digit_bytes 1 1 (length p)
 length-opening p s =
-    let around = cycle (md5 (salted_twice p s)) (length p) in
+    let around = cycle (md5 (alternate_message p s)) (length p) in
     let digits = digit_pieces (0 ∷ []) (take 1 p) (length p) in
     omega (
       arith,
-      length-append (p ++ codes "$1$" ++ s ++ around) digits,
-      length-append (p ++ codes "$1$" ++ s) around,
-      length-append (p ++ codes "$1$") s,
-      length-append p (codes "$1$"),
-      length-cycle (md5 (salted_twice p s)) (length p),
+      length-append (p ++ prefix Md5crypt ++ s ++ around) digits,
+      length-append (p ++ prefix Md5crypt ++ s) around,
+      length-append (p ++ prefix Md5crypt) s,
+      length-append p (prefix Md5crypt),
+      length-cycle (md5 (alternate_message p s)) (length p),
       length-digits p,
     )
 
@@ -63,14 +65,14 @@ abbrev pub message_limit : ℕ
 message_limit = 4 * password_limit
 
 -- all messages: how many, and how many bytes
-pub messages-in_all : (p s : List ℕ) → AreInAll (md5crypt_messages p s) (md5crypt_rounds + 2) (md5crypt_bytes (length p) (length s))
+pub messages-in_all : (p s : List ℕ) → HaveCountAndSum (md5crypt_messages p s) (md5crypt_rounds + 2) (md5crypt_bytes (length p) (length s))
 messages-in_all p s = rw (← messages-all p s) (record {
-  number = length-messages_to (md5crypt_message p s) (md5crypt_rounds + 2);
+  count = length-messages_to (md5crypt_message p s) (md5crypt_rounds + 2);
   sum = omega (
     arith,
     rounds_sum (md5crypt_message p s) 2 16 (length p) (length s) (length-message_round p s) md5crypt_rounds,
     ap (sum_by length) (messages-two p s),
-    length-salted_twice p s,
+    length-alternate p s,
     length-opening p s,
   );
 })

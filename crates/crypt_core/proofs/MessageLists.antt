@@ -6,7 +6,7 @@ use Rattle.std.specs.List.{range_with_len}
 use Rattle.std.proofs.lemmas.List.{length-append}
 use Rattle.std.proofs.lemmas.List.FromFn.{length-map-range_with_len, map-range_with_len_more}
 use Rattle.crypt_core.proofs.CycleLemmas.{length-cond}
-use Rattle.crypt_core.specs.RoundMessage.{round_message, salted_twice}
+use Rattle.crypt_core.specs.RoundMessage.{round_message, alternate_message}
 
 -- the first n messages
 unfoldable pub messages_to : (ℕ → List ℕ) → ℕ → List (List ℕ)
@@ -20,8 +20,8 @@ pub length-messages_to : (message : ℕ → List ℕ) (n : ℕ) → length (mess
 unfolding messages_to
 length-messages_to message n = length-map-range_with_len message 0 n
 
-pub length-salted_twice : (p s : List ℕ) → length (salted_twice p s) ≡ 2 * length p + length s
-length-salted_twice p s = omega (arith, length-append (p ++ s) p, length-append p s)
+pub length-alternate : (p s : List ℕ) → length (alternate_message p s) ≡ 2 * length p + length s
+length-alternate p s = omega (arith, length-append (p ++ s) p, length-append p s)
 
 -- the length of round i's message, by those of what it is made of
 abbrev pub round_length : ℕ → ℕ → ℕ → ℕ → ℕ

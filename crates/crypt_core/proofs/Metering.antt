@@ -3,62 +3,63 @@ use Rattle.std.proofs.Common.{◌≡◌, ℕ, ◌+◌, List, [], ◌∷◌, ◌+
 use Rattle.std.specs.Prelude.{sum_by}
 use Rattle.std.proofs.lemmas.List.{length-append}
 use Rattle.std.proofs.lemmas.List.Sums.{sum_by-append}
-use Rattle.prims_core.specs.Meter.{Counts, with_work, AreInAll}
+use Rattle.prims_core.specs.Meter.{with_work, HaveCountAndSum}
+use Rattle.prims_core.specs.declared.work.Work.{Work}
 use Rattle.crypt_core.specs.Private.Counting.{with_digest}
 
 -- the meter after the digest of each message
-abbrev pub with_digests : Counts → List (List ℕ) → Counts
+abbrev pub with_digests : Work → List (List ℕ) → Work
 with_digests counts messages = with_work counts (length messages) (sum_by length messages)
 
 -- no bytes change nothing
-pub bytes_none : (m : Counts) → m ≡ record m { bytes = m.bytes + 0 }
+pub bytes_none : (m : Work) → m ≡ record m { bytes = m.bytes + 0 }
 bytes_none m = ap (λ n. record m { bytes = n }) (sym (add-zero m.bytes))
 
 -- some bytes, and then some more
-pub bytes_more : (a b c : Counts) (x y z : ℕ) → b ≡ record a { bytes = a.bytes + x } → c ≡ record b { bytes = b.bytes + y } → x + y ≡ z
+pub bytes_more : (a b c : Work) (x y z : ℕ) → b ≡ record a { bytes = a.bytes + x } → c ≡ record b { bytes = b.bytes + y } → x + y ≡ z
     → c ≡ record a { bytes = a.bytes + z }
 bytes_more a b c x y z p q e =
     let total : a.bytes + x + y ≡ a.bytes + z = omega arith in
-    q ∙ (ap (λ (m : Counts). record m { bytes = m.bytes + y }) p ∙ ap (λ n. record a { bytes = n }) total)
+    q ∙ (ap (λ (m : Work). record m { bytes = m.bytes + y }) p ∙ ap (λ n. record a { bytes = n }) total)
 
 -- the bytes of a message, and then its digest
-pub digest_after : (a b c : Counts) (message : List ℕ) (x : ℕ) → b ≡ record a { bytes = a.bytes + x } → c ≡ record b { digests = b.digests + 1 }
+pub digest_after : (a b c : Work) (message : List ℕ) (x : ℕ) → b ≡ record a { bytes = a.bytes + x } → c ≡ record b { digests = b.digests + 1 }
     → x ≡ length message → c ≡ with_digest a message
 digest_after a b c message x p q e =
-    q ∙ (ap (λ (m : Counts). record m { digests = m.digests + 1 }) p ∙ ap (λ n. record a { digests = a.digests + 1; bytes = a.bytes + n }) e)
+    q ∙ (ap (λ (m : Work). record m { digests = m.digests + 1 }) p ∙ ap (λ n. record a { digests = a.digests + 1; bytes = a.bytes + n }) e)
 
 -- the digests of some messages, and of one more
-pub digests_more : (a b c : Counts) (messages : List (List ℕ)) (message : List ℕ) → b ≡ with_digests a messages → c ≡ with_digest b message
+pub digests_more : (a b c : Work) (messages : List (List ℕ)) (message : List ℕ) → b ≡ with_digests a messages → c ≡ with_digest b message
     → c ≡ with_digests a (messages ++ message ∷ [])
 digests_more a b c messages message p q =
     let digests : a.digests + length messages + 1 ≡ a.digests + length (messages ++ message ∷ []) =
     omega (arith, length-append messages (message ∷ [])) in
     let bytes : a.bytes + sum_by length messages + length message ≡ a.bytes + sum_by length (messages ++ message ∷ []) =
     omega (arith, sum_by-append length messages (message ∷ [])) in
-    q ∙ (ap (λ (m : Counts). with_digest m message) p
+    q ∙ (ap (λ (m : Work). with_digest m message) p
     ∙ (ap (λ n. record a { digests = n; bytes = a.bytes + sum_by length messages + length message }) digests
     ∙ ap (λ n. record a { digests = a.digests + length (messages ++ message ∷ []); bytes = n }) bytes))
 
-no_digests : (m : Counts) → m ≡ with_digests m []
+no_digests : (m : Work) → m ≡ with_digests m []
 no_digests m =
     ap (λ n. record m { digests = n }) (sym (add-zero m.digests))
     ∙ ap (λ n. record m { digests = m.digests + 0; bytes = n }) (sym (add-zero m.bytes))
 
 -- two digests, in one sum
-pub two_digests : (a b c : Counts) (first second : List ℕ) → b ≡ with_digest a first → c ≡ with_digest b second
+pub two_digests : (a b c : Work) (first second : List ℕ) → b ≡ with_digest a first → c ≡ with_digest b second
     → c ≡ with_digests a (first ∷ second ∷ [])
 two_digests a b c first second p q =
     digests_more a b c (first ∷ []) second (digests_more a a b [] first (no_digests a) p) q
 
 -- four digests, in one sum
-pub four_digests : (a b c d e : Counts) (first second third fourth : List ℕ) → b ≡ with_digest a first → c ≡ with_digest b second
+pub four_digests : (a b c d e : Work) (first second third fourth : List ℕ) → b ≡ with_digest a first → c ≡ with_digest b second
     → d ≡ with_digest c third → e ≡ with_digest d fourth → e ≡ with_digests a (first ∷ second ∷ third ∷ fourth ∷ [])
 four_digests a b c d e first second third fourth p q r t =
     digests_more a d e (first ∷ second ∷ third ∷ []) fourth
     (digests_more a c d (first ∷ second ∷ []) third (two_digests a b c first second p q) r) t
 
 -- the digests of messages that are so many and have so many bytes in all
-pub digests_in_all : (m : Counts) (messages : List (List ℕ)) (digests bytes : ℕ) → AreInAll messages digests bytes
+pub digests_in_all : (m : Work) (messages : List (List ℕ)) (digests bytes : ℕ) → HaveCountAndSum messages digests bytes
     → with_digests m messages ≡ with_work m digests bytes
 digests_in_all m messages digests bytes all =
-    ap (λ n. with_work m n (sum_by length messages)) all.number ∙ ap (with_work m digests) all.sum
+    ap (λ n. with_work m n (sum_by length messages)) all.count ∙ ap (with_work m digests) all.sum

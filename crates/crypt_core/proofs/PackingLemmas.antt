@@ -11,7 +11,8 @@ use Rattle.std.specs.Prelude.{sum_by}
 use Rattle.crypt_core.specs.declared.method.Method.{Method}
 use Rattle.crypt_core.specs.declared.method.Method.TheVariants.{Md5crypt, Sha256crypt, Sha512crypt, Scrypt}
 use Rattle.prims_core.specs.Alphabet.{alphabet}
-use Rattle.crypt_core.specs.Packing.{packed, packed_by, packed_group, group_number, digest_len, groups_of, md5crypt_groups, sha256crypt_groups, sha512crypt_groups, scrypt_groups, packed_len}
+use Rattle.crypt_core.specs.Methods.{digest_len}
+use Rattle.crypt_core.specs.Packing.{packed, packed_by, packed_group, group_number, groups_of, md5crypt_groups, sha256crypt_groups, sha512crypt_groups, scrypt_groups, packed_len}
 use Rattle.crypt_core.proofs.Numerals.{all_numerals, length-numerals}
 use Rattle.crypt_core.specs.Private.Tables.{groups_in, is_group, AreGroups, IsGroup}
 

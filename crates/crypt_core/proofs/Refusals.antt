@@ -2,6 +2,7 @@
 use Rattle.std.proofs.Common.{◌≡◌, ℕ, ◌≤◌, ◌<◌, Bool, true, false, inl, inr, List, ◌++◌, refl, sym, ap, subst, ◌∙◌, arith}
 use Rattle.std.specs.Prelude.{Result, Ok, Err, IfOk, IfErr}
 use Rattle.std.proofs.lemmas.Bool.{cases_order}
+use Rattle.std.proofs.lemmas.List.{append_cancel_left}
 use Rattle.kdf_core.specs.Params.{ScryptCost, IsAccepted}
 use Rattle.crypt_core.specs.declared.method.Method.TheVariants as methods
 use Rattle.crypt_core.specs.declared.scheme.Rounds.{Rounds}
@@ -10,11 +11,13 @@ use Rattle.crypt_core.specs.declared.scheme.Scheme.TheVariants.{Md5crypt, Sha256
 use Rattle.crypt_core.specs.declared.setting.fault.SettingFault.{SettingFault}
 use Rattle.crypt_core.specs.declared.setting.fault.SettingFault.TheVariants.{TooLong, BadCharacter, UnknownScheme, BadRounds, BadCost, ScryptRange, AboveCeiling, BadSalt}
 use Rattle.crypt_core.specs.Methods.{prefix}
+use Rattle.crypt_core.specs.Readings.{HasOneReading, IsReading}
 use Rattle.crypt_core.specs.Refusals.{IsShaText, LacksRounds, IsScryptText, Breaks, IsRefused, rule_number}
-use Rattle.crypt_core.specs.Settings.{Kept, method_of, SpellsRounds, scrypt_part, HasNumerals, IsScryptSalt, KeepsSalt, SpellsScheme, Spells}
+use Rattle.crypt_core.specs.Settings.{Kept, method_of, rounds_word, SpellsRounds, scrypt_part, HasNumerals, IsScryptSalt, KeepsSalt, SpellsScheme, Spells}
 use Rattle.crypt_core.proofs.Fields.{field_unique}
 use Rattle.crypt_core.proofs.Numerals.{scrypt_part_unique, length-scrypt_part, all_scrypt_part}
 use Rattle.crypt_core.proofs.Readings.{prefix_unique, setting_unique}
+use Rattle.crypt_core.proofs.Rounds.{field_parts}
 
 -- what the front of a text with scrypt's prefix is
 record ScryptFront (scheme : Scheme) (after z : List ℕ) : Type 0 where
@@ -44,8 +47,9 @@ spelled_rounds : (r : Rounds) (part after : List ℕ) → SpellsRounds r part af
 spelled_rounds r part after s lacks = by r.is_written s
   where
     by : (f : Bool) → SpellsRounds (record { count = r.count; is_written = f }) part after → ⊥
-    by true w = lacks.no_field w.0 after w.1 (ap (λ (x : List ℕ). x ++ after) w.2)
-    by false w = w.2 (lacks.begins.0, sym (ap (λ (x : List ℕ). x ++ after) w.0) ∙ lacks.begins.1)
+    by true w =
+        lacks.2 w.0 after w.1 (append_cancel_left rounds_word _ _ (sym lacks.1 ∙ ap (λ (x : List ℕ). x ++ after) w.2 ∙ field_parts w.0 after))
+    by false w = w.2 (lacks.0, sym (ap (λ (x : List ℕ). x ++ after) w.0) ∙ lacks.1)
 
 sha_front : (text : List ℕ) (scheme : Scheme) (after z : List ℕ) → SpellsScheme text scheme after → IsShaText text z → LacksRounds z → ⊥
 sha_front text (Sha256crypt r) after z s (inl e) lacks =
@@ -116,11 +120,15 @@ refusal_unique text f g rf rg = elim (cases_order (rule_number f) (rule_number g
   ]
 ]
 
--- so an answer that is right is the only right one
-pub only_setting : (text : List ℕ) (r : Result Kept SettingFault) → IfOk r (Spells text) → IfErr r (IsRefused text) → (kept : Kept) → Spells text kept → r ≡ Ok kept
-only_setting text (Ok k) spelled refused kept s = ap (λ (x : Kept). Ok x) (setting_unique text k kept spelled s)
-only_setting text (Err f) spelled refused kept s = absurd (spelled_breaks_none text kept s f refused.breaks)
+-- so it is read as one of these at most
+pub one_reading : (text : List ℕ) → HasOneReading text
+unfolding HasOneReading
+one_reading text (Ok kept) (Ok other) spelled s = ap (λ (k : Kept). Ok k) (setting_unique text kept other spelled s)
+one_reading text (Ok kept) (Err fault) spelled refused = absurd (spelled_breaks_none text kept spelled fault refused.breaks)
+one_reading text (Err fault) (Ok kept) refused spelled = absurd (spelled_breaks_none text kept spelled fault refused.breaks)
+one_reading text (Err fault) (Err other) refused r = ap (λ (f : SettingFault). Err f) (refusal_unique text fault other refused r)
 
-pub only_refusal : (text : List ℕ) (r : Result Kept SettingFault) → IfOk r (Spells text) → IfErr r (IsRefused text) → (fault : SettingFault) → IsRefused text fault → r ≡ Err fault
-only_refusal text (Ok k) spelled refused fault s = absurd (spelled_breaks_none text k spelled fault s.breaks)
-only_refusal text (Err f) spelled refused fault s = ap (λ (x : SettingFault). Err x) (refusal_unique text f fault refused s)
+-- an answer that is right
+pub reading_is : (text : List ℕ) (r : Result Kept SettingFault) → IfOk r (Spells text) → IfErr r (IsRefused text) → IsReading text r
+reading_is text (Ok kept) spelled refused = spelled
+reading_is text (Err fault) spelled refused = refused

@@ -5,8 +5,6 @@ use Rattle.std.specs.Str.Parse.{digits_value}
 use Rattle.std.proofs.lemmas.List.{append_cancel_left}
 use Rattle.std.proofs.lemmas.List.Elements.{All-cons, All-weaker}
 use Rattle.crypt_core.specs.declared.scheme.Rounds.{Rounds}
-use Rattle.crypt_core.specs.Private.Parts.{LacksNumber}
-use Rattle.crypt_core.specs.Refusals.{LacksRounds}
 use Rattle.crypt_core.specs.Settings.{dollar, IsField, rounds_word, rounds_field, IsRoundsNumber, held, SpellsRounds, max_rounds}
 use Rattle.crypt_core.proofs.Fields.{field_unique}
 
@@ -63,10 +61,3 @@ written_rounds after field digits rest number r begins is_number parts is made =
   begins ∙ ap (λ (x : List ℕ). rounds_word ++ x) parts ∙ sym (field_parts digits rest),
   subst (λ (s : Rounds). SpellsRounds s (rounds_field digits) rest) (sym made) (digits, is_number, refl, ap held is ∙ held_min (digits_value 10 digits)),
 )
-
--- `rounds=` stands there, and no number with a `$` behind it
-pub lacks_rounds : (after field : List ℕ) → after ≡ rounds_word ++ field → LacksNumber field → LacksRounds after
-lacks_rounds after field begins lacks = record {
-  begins = (field, begins);
-  no_field = λ digits rest number parts. lacks digits rest number (append_cancel_left rounds_word _ _ (sym begins ∙ parts ∙ field_parts digits rest));
-}

@@ -5,13 +5,13 @@ use Rattle.std.proofs.Common.{◌≡◌, ℕ, zero, suc, ◌+◌, ◌*◌, ◌�
 use Rattle.std.specs.Prelude.{sum_by, All}
 use Rattle.std.proofs.lemmas.List.{length-append}
 use Rattle.std.proofs.Math.Nat.{mul-le-mul_right}
-use Rattle.prims_core.specs.Meter.{AreInAll}
-use Rattle.crypt_core.specs.Cycle.{cycle, digit_pieces}
-use Rattle.crypt_core.specs.RoundMessage.{round_message, salted_twice}
-use Rattle.crypt_core.specs.ShaCrypt.{password_repeated, password_string, salt_repeated, salt_string, sha_opening_digest, sha_digest_before, sha_opening_message, sha_round_message, shacrypt_message, shacrypt_messages}
-use Rattle.crypt_core.specs.Work.{digit_bytes, first_byte, shacrypt_bytes, greatest_byte}
+use Rattle.prims_core.specs.Meter.{HaveCountAndSum}
+use Rattle.crypt_core.specs.Cycle.{cycle, digit_bytes, digit_pieces}
+use Rattle.crypt_core.specs.RoundMessage.{round_message, alternate_message}
+use Rattle.crypt_core.specs.ShaCrypt.{first_byte, password_repeated, password_string, salt_repeated, salt_string, sha_opening_digest, sha_digest_before, sha_opening_message, sha_round_message, shacrypt_message, shacrypt_messages}
+use Rattle.crypt_core.specs.Work.{greatest_byte, shacrypt_bytes}
 use Rattle.crypt_core.proofs.CycleLemmas.{digit_bytes-few, length-cycle, length-digit_pieces, length-repeat}
-use Rattle.crypt_core.proofs.MessageLists.{length-messages_to, length-round_message, length-salted_twice, messages_to, round_length}
+use Rattle.crypt_core.proofs.MessageLists.{length-messages_to, length-round_message, length-alternate, messages_to, round_length}
 use Rattle.crypt_core.proofs.WorkSums.{rounds_sum}
 
 pub digest_before-zero : (h : List ℕ → List ℕ) (p s : List ℕ) → sha_digest_before h p s 0 ≡ sha_opening_digest h p s
@@ -29,8 +29,17 @@ pub message-number : (h : List ℕ → List ℕ) (p s : List ℕ) (i : ℕ)
 unfolding shacrypt_message
 message-number h p s i = let number : i + 4 ≡ suc (suc (suc (suc i))) = omega arith in rw number refl
 
+-- what would stand before one more round is the digest of the last message
+pub digest_last : (h : List ℕ → List ℕ) (p s : List ℕ) (rounds : ℕ) → 1 ≤ rounds
+    → sha_digest_before h p s rounds ≡ h (shacrypt_message h p s (rounds + 3))
+unfolding sha_digest_before
+digest_last h p s zero some = absurd (omega arith)
+digest_last h p s (suc i) some =
+    let number : suc i + 3 ≡ i + 4 = omega arith in
+    rw (number, message-number h p s i) refl
+
 pub messages-four : (h : List ℕ → List ℕ) (p s : List ℕ)
-    → messages_to (shacrypt_message h p s) 4 ≡ salted_twice p s ∷ sha_opening_message h p s ∷ password_repeated p ∷ salt_repeated h p s ∷ []
+    → messages_to (shacrypt_message h p s) 4 ≡ alternate_message p s ∷ sha_opening_message h p s ∷ password_repeated p ∷ salt_repeated h p s ∷ []
 unfolding messages_to shacrypt_message
 messages-four h p s = refl
 
@@ -48,9 +57,9 @@ round_is h p s i x q r digest password salt =
     ∙ ap (λ y. round_message i (sha_digest_before h p s i) (password_string h p) y) salt)
 
 pub length-sha_opening : (h : List ℕ → List ℕ) (p s : List ℕ)
-    → length (sha_opening_message h p s) ≡ 2 * length p + length s + digit_bytes (length (h (salted_twice p s))) (length p) (length p)
+    → length (sha_opening_message h p s) ≡ 2 * length p + length s + digit_bytes (length (h (alternate_message p s))) (length p) (length p)
 length-sha_opening h p s =
-    let b = h (salted_twice p s) in
+    let b = h (alternate_message p s) in
     let around = cycle b (length p) in
     let digits = digit_pieces b p (length p) in
     omega (
@@ -70,14 +79,14 @@ start_limit = 4 * (password_limit * password_limit)
 module _ (h : List ℕ → List ℕ) (digest : ℕ) (length-digest : (m : List ℕ) → length (h m) ≡ digest) (p s : List ℕ) where
   -- the four messages before the rounds stay within the limit
   pub start_bytes : (times : ℕ) → digest ≤ 64 → length p ≤ password_limit → length s ≤ shacrypt_salt_limit → times ≤ 16 + greatest_byte
-      → length (salted_twice p s) + length (sha_opening_message h p s) + length p * length p + times * length s ≤ start_limit
+      → length (alternate_message p s) + length (sha_opening_message h p s) + length p * length p + times * length s ≤ start_limit
   start_bytes times small short salt_short few =
-      let below : length (h (salted_twice p s)) ≤ password_limit = omega (arith, length-digest (salted_twice p s), small) in
+      let below : length (h (alternate_message p s)) ≤ password_limit = omega (arith, length-digest (alternate_message p s), small) in
       omega (
         arith,
-        length-salted_twice p s,
+        length-alternate p s,
         length-sha_opening h p s,
-        digit_bytes-few (length (h (salted_twice p s))) (length p) password_limit (length p) below short,
+        digit_bytes-few (length (h (alternate_message p s))) (length p) password_limit (length p) below short,
         mul-le-mul_right (length p) short,
         mul-le-mul_right (length s) few,
       )
@@ -101,16 +110,16 @@ module _ (h : List ℕ → List ℕ) (digest : ℕ) (length-digest : (m : List �
 
   -- all messages: how many, and how many bytes
   pub messages-in_all : (rounds : ℕ)
-      → AreInAll (shacrypt_messages h p s rounds) (rounds + 4) (shacrypt_bytes digest (first_byte h p s) rounds (length p) (length s))
+      → HaveCountAndSum (shacrypt_messages h p s rounds) (rounds + 4) (shacrypt_bytes digest (first_byte h p s) rounds (length p) (length s))
   messages-in_all rounds = rw (← messages-all h p s rounds) (record {
-    number = length-messages_to (shacrypt_message h p s) (rounds + 4);
+    count = length-messages_to (shacrypt_message h p s) (rounds + 4);
     sum = omega (
       arith,
       rounds_sum (shacrypt_message h p s) 4 digest (length p) (length s) length-message_round rounds,
       ap (sum_by length) (messages-four h p s),
-      length-salted_twice p s,
+      length-alternate p s,
       length-sha_opening h p s,
-      ap (λ w. digit_bytes w (length p) (length p)) (length-digest (salted_twice p s)),
+      ap (λ w. digit_bytes w (length p) (length p)) (length-digest (alternate_message p s)),
       length-repeat (length p) p,
       length-repeat (16 + first_byte h p s) s,
     );

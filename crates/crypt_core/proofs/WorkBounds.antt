@@ -6,15 +6,15 @@ use Rattle.std.proofs.lemmas.Bool.Decides.{nat_tests}
 use Rattle.std.proofs.Math.Nat.{mul-le-mul, mul-le-mul_right}
 use Rattle.kdf_core.specs.Hmac.{key_bytes, key_digests}
 use Rattle.kdf_core.specs.Params.{ScryptCost, IsBounded}
-use Rattle.kdf_core.specs.Scrypt.{scrypt_bytes, scrypt_digests}
-use Rattle.crypt_core.specs.Work.{digests_alone, greatest_byte, shacrypt_bytes, work_by, work_limit, IsBelow, IsWithin}
+use Rattle.kdf_core.specs.ScryptWork.{scrypt_bytes, scrypt_digests}
+use Rattle.crypt_core.specs.Work.{greatest_byte, shacrypt_work, work_by, work_limit, IsBelow, IsWithin}
 use Rattle.crypt_core.specs.declared.scheme.Scheme.TheVariants.{Scrypt}
 
--- Counts
+-- Work
 
 -- any first byte repeats the salt at most as often as the greatest byte does
 pub shacrypt-within : (digest a rounds password salt : ℕ) → a < 256
-    → IsWithin (digests_alone (rounds + 4) (shacrypt_bytes digest a rounds password salt)) (digests_alone (rounds + 4) (shacrypt_bytes digest greatest_byte rounds password salt))
+    → IsWithin (shacrypt_work digest a rounds password salt) (shacrypt_work digest greatest_byte rounds password salt)
 shacrypt-within digest a rounds password salt byte =
     let times : (16 + a) * salt ≤ (16 + greatest_byte) * salt = mul-le-mul_right salt (omega arith) in
     record { digests = omega arith; bytes = omega arith; mixes = omega arith; table = omega arith; scratch = omega arith }

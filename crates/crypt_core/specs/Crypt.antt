@@ -1,11 +1,13 @@
 -- The text that crypt(3) gives for a password and a setting.
-use Rattle.std.specs.Prelude.{ℕ, ◌+◌, List, ◌++◌, codes}
+use Rattle.std.specs.Prelude.{ℕ, ◌+◌, List, ◌∷◌, ◌++◌}
 use Rattle.prims_core.specs.Digests.{sha256, sha512}
-use Rattle.prims_core.specs.Meter.{Counts}
-use Rattle.kdf_core.specs.Scrypt.{scrypt, IsAfterRefusal}
+use Rattle.prims_core.specs.declared.work.Work.{Work}
+use Rattle.kdf_core.specs.Scrypt.{scrypt}
+use Rattle.kdf_core.specs.ScryptWork.{IsAfterRefusal}
 use Rattle.crypt_core.specs.Md5crypt.{md5crypt_digest}
-use Rattle.crypt_core.specs.Packing.{digest_len, packed, packed_len}
-use Rattle.crypt_core.specs.Settings.{Kept, canonical_limit, canonical_text, method_of}
+use Rattle.crypt_core.specs.Methods.{digest_len}
+use Rattle.crypt_core.specs.Packing.{packed, packed_len}
+use Rattle.crypt_core.specs.Settings.{Kept, canonical_limit, canonical_text, dollar, method_of}
 use Rattle.crypt_core.specs.ShaCrypt.{shacrypt_digest}
 use Rattle.crypt_core.specs.declared.method.Method.TheVariants as methods
 use Rattle.crypt_core.specs.declared.scheme.Scheme.{Scheme}
@@ -21,13 +23,13 @@ digest_by (Scrypt cost) password salt = scrypt password salt cost (digest_len me
 -- the setting's own text, and the packed digest behind a `$`
 unfoldable pub crypt : List ℕ → Kept → List ℕ
 crypt password kept =
-    canonical_text kept ++ codes "$" ++ packed (method_of kept.scheme) (digest_by kept.scheme password kept.salt)
+    canonical_text kept ++ dollar ∷ packed (method_of kept.scheme) (digest_by kept.scheme password kept.salt)
 
 -- the most bytes of such a text: scrypt's are the longest
 abbrev pub hash_limit : ℕ
 hash_limit = canonical_limit + 1 + packed_len methods.Scrypt
 
 -- the counts where a growth of scrypt was refused; no other scheme asks for one
-abbrev pub IsRefusedBy : Counts → Scheme → Counts → Type 0
-IsRefusedBy before (Scrypt cost) after = IsAfterRefusal before cost after
-IsRefusedBy before scheme after = ⊥
+abbrev pub IsAfterRefusedGrowth : Work → Scheme → Work → Type 0
+IsAfterRefusedGrowth before (Scrypt cost) after = IsAfterRefusal before cost after
+IsAfterRefusedGrowth before scheme after = ⊥

@@ -1,6 +1,6 @@
 -- What the schemes make of a length: so many bytes of a digest, and a piece for each of the length's
 -- binary digits.
-use Rattle.std.specs.Prelude.{ℕ, zero, suc, ◌/◌, ◌%◌, ◌==◌, List, [], ◌∷◌, length, map, flat_map, slice_index, if◌then◌else◌}
+use Rattle.std.specs.Prelude.{ℕ, zero, suc, ◌/◌, ◌%◌, ◌==◌, List, [], ◌∷◌, length, map, flat_map, slice_index, sum_by, if◌then◌else◌}
 use Rattle.std.specs.List.{range_with_len}
 
 -- n bytes, of which byte i is byte (i mod length d) of d
@@ -16,6 +16,14 @@ digits_up_to (suc k) n = if n == 0 then [] else n % 2 ∷ digits_up_to k (n / 2)
 unfoldable pub binary_digits : ℕ → List ℕ
 binary_digits n = digits_up_to n n
 
--- for each binary digit of n, lowest first, one piece for a 1 and another for a 0
+-- what stands for a binary digit: the one for a 1, and the other for a 0
+abbrev pub by_digit : {A : Type 0} → A → A → ℕ → A
+by_digit one other digit = if digit == 1 then one else other
+
+-- such a piece for each binary digit of n, lowest first
 abbrev pub digit_pieces : List ℕ → List ℕ → ℕ → List ℕ
-digit_pieces one other n = flat_map (λ digit. if digit == 1 then one else other) (binary_digits n)
+digit_pieces one other n = flat_map (by_digit one other) (binary_digits n)
+
+-- the bytes of these pieces, where the one has so many and the other so many
+abbrev pub digit_bytes : ℕ → ℕ → ℕ → ℕ
+digit_bytes one other n = sum_by (by_digit one other) (binary_digits n)

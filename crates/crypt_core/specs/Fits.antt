@@ -1,7 +1,7 @@
 -- Whether a password fits a stored text (crypt(3)).
 use Rattle.std.specs.Prelude.{◌≡◌, ℕ, ◌↔◌, Bool, List, IsTrue, Result, Ok, Err}
-use Rattle.prims_core.specs.Meter.{Counts}
-use Rattle.crypt_core.specs.Crypt.{crypt, IsRefusedBy}
+use Rattle.prims_core.specs.declared.work.Work.{Work}
+use Rattle.crypt_core.specs.Crypt.{crypt, IsAfterRefusedGrowth}
 use Rattle.crypt_core.specs.Refusals.{IsRefused}
 use Rattle.crypt_core.specs.Settings.{Kept, Spells}
 use Rattle.crypt_core.specs.Work.{raised_by, work}
@@ -14,10 +14,10 @@ Fits password stored = (kept : Kept) × Spells stored kept × (crypt password ke
 
 -- The password was hashed by the setting that the text spells, and compared; or the text was refused, and
 -- nothing was counted; or memory for that hash was refused.
-abbrev pub Compares : List ℕ → List ℕ → Counts → Counts → Result Bool FitFault → Type 0
+abbrev pub Compares : List ℕ → List ℕ → Work → Work → Result Bool FitFault → Type 0
 Compares password stored before after (Ok verdict) =
     (kept : Kept) × Spells stored kept × (IsTrue verdict ↔ (crypt password kept ≡ stored))
     × (after ≡ raised_by before (work password kept))
 Compares password stored before after (Err (Setting fault)) = IsRefused stored fault × (after ≡ before)
 Compares password stored before after (Err OutOfMemory) =
-    (kept : Kept) × Spells stored kept × IsRefusedBy before kept.scheme after
+    (kept : Kept) × Spells stored kept × IsAfterRefusedGrowth before kept.scheme after

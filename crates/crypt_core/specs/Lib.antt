@@ -11,6 +11,7 @@ pub mod Packing
 pub mod PasswordFaults
 pub mod Passwords
 pub mod Private
+pub mod Readings
 pub mod Refusals
 pub mod Replacements
 pub mod RoundMessage

@@ -1,7 +1,8 @@
--- Settings that are made of a method, a cost and a salt, and which refusal these get instead.
+-- Settings that are made of a method, a cost and a salt, and which refusal these get instead. The cost is one
+-- number, which the command takes as `-R`.
 use Rattle.std.specs.Prelude.{◌≡◌, ℕ, ◌+◌, ◌<◌, ◌≤◌, ◌⊎◌, ◌==◌, if◌then◌else◌, true, false, List, length, All, Contains}
 use Rattle.prims_core.specs.Alphabet.{alphabet}
-use Rattle.kdf_core.specs.Params.{ScryptCost}
+use Rattle.kdf_core.specs.Params.{ScryptCost, cost_of}
 use Rattle.crypt_core.specs.declared.method.Method.{Method}
 use Rattle.crypt_core.specs.declared.method.Method.TheVariants as methods
 use Rattle.crypt_core.specs.declared.scheme.Rounds.{Rounds}
@@ -9,6 +10,7 @@ use Rattle.crypt_core.specs.declared.scheme.Scheme.{Scheme}
 use Rattle.crypt_core.specs.declared.scheme.Scheme.TheVariants.{Md5crypt, Sha256crypt, Sha512crypt, Scrypt}
 use Rattle.crypt_core.specs.declared.setting.fault.MakeFault.{MakeFault}
 use Rattle.crypt_core.specs.declared.setting.fault.MakeFault.TheVariants.{SaltLength, SaltCharacter, Cost}
+use Rattle.crypt_core.specs.MadeSalts.{made_salt, made_salt_length}
 use Rattle.crypt_core.specs.Methods.{salt_limit}
 use Rattle.crypt_core.specs.Settings.{Kept, default_rounds, held}
 
@@ -28,11 +30,13 @@ default_cost = 7
 
 -- N = 2 ^ (c + 7), r = 32 and p = 1 for cost c
 abbrev pub scrypt_cost : ℕ → ScryptCost
-scrypt_cost c = record { log_n = c + 7; r = 32; p = 1 }
+scrypt_cost c = cost_of (c + 7) 32 1
 
+-- N, r and p for a cost, or for the default one where it is 0
 abbrev pub made_cost : ℕ → ScryptCost
 made_cost cost = scrypt_cost (if cost == 0 then default_cost else cost)
 
+-- md5crypt has no cost, SHA-crypt a number of rounds, scrypt N, r and p
 abbrev pub made_scheme : Method → ℕ → Scheme
 made_scheme methods.Md5crypt cost = Md5crypt
 made_scheme methods.Sha256crypt cost = Sha256crypt (made_rounds cost)
@@ -42,6 +46,10 @@ made_scheme methods.Scrypt cost = Scrypt (made_cost cost)
 -- the setting of a method with a cost and a salt
 abbrev pub made_setting : Method → ℕ → List ℕ → Kept
 made_setting method cost salt = record { scheme = made_scheme method cost; salt = salt }
+
+-- the same with a new salt, which three words make
+abbrev pub with_made_salt : Method → ℕ → List ℕ → Kept
+with_made_salt method cost words = made_setting method cost (made_salt words (made_salt_length method))
 
 -- scrypt takes the costs 0 and from the least to the greatest, and the other methods take any
 abbrev pub TakesCost : Method → ℕ → Type 0

@@ -1,10 +1,12 @@
 -- The scheme md5crypt of FreeBSD, whose texts begin with `$1$`: 1,002 messages, each but the first
 -- made with the digest of the one before.
-use Rattle.std.specs.Prelude.{ℕ, zero, suc, ◌+◌, List, [], ◌∷◌, ◌++◌, length, take, map, codes}
+use Rattle.std.specs.Prelude.{ℕ, zero, suc, ◌+◌, List, [], ◌∷◌, ◌++◌, length, take, map}
 use Rattle.std.specs.List.{range_with_len}
 use Rattle.prims_core.specs.Digests.{md5}
 use Rattle.crypt_core.specs.Cycle.{cycle, digit_pieces}
-use Rattle.crypt_core.specs.RoundMessage.{round_message, salted_twice}
+use Rattle.crypt_core.specs.Methods.{prefix}
+use Rattle.crypt_core.specs.RoundMessage.{alternate_message, round_message}
+use Rattle.crypt_core.specs.declared.method.Method.TheVariants as methods
 
 -- how many rounds follow the first two messages
 abbrev pub md5crypt_rounds : ℕ
@@ -14,13 +16,13 @@ md5crypt_rounds = 1000
 -- password's first byte
 abbrev pub opening_message : List ℕ → List ℕ → List ℕ
 opening_message password salt =
-    password ++ codes "$1$" ++ salt
-    ++ cycle (md5 (salted_twice password salt)) (length password)
+    password ++ prefix methods.Md5crypt ++ salt
+    ++ cycle (md5 (alternate_message password salt)) (length password)
     ++ digit_pieces (0 ∷ []) (take 1 password) (length password)
 
 -- message k
 unfoldable pub md5crypt_message : List ℕ → List ℕ → ℕ → List ℕ
-md5crypt_message password salt zero = salted_twice password salt
+md5crypt_message password salt zero = alternate_message password salt
 md5crypt_message password salt (suc zero) = opening_message password salt
 md5crypt_message password salt (suc (suc i)) =
     round_message i (md5 (md5crypt_message password salt (suc i))) password salt

@@ -1,5 +1,5 @@
--- The methods of crypt(5): the words that name them, the prefixes of their texts, and the salt that
--- they keep.
+-- The methods of crypt(5): the words that name them, the prefixes of their texts, the salt that they
+-- keep, and the length of their digests.
 use Rattle.std.specs.Prelude.{ℕ, List, [], ◌∷◌, Option, codes}
 use Rattle.std.specs.Map.{lookup}
 use Rattle.std.specs.Str.{bytes_eq}
@@ -47,3 +47,10 @@ salt_limit Md5crypt = md5crypt_salt_limit
 salt_limit Sha256crypt = shacrypt_salt_limit
 salt_limit Sha512crypt = shacrypt_salt_limit
 salt_limit Scrypt = scrypt_salt_limit
+
+-- how many bytes the method's digest has
+abbrev pub digest_len : Method → ℕ
+digest_len Md5crypt = 16
+digest_len Sha256crypt = 32
+digest_len Sha512crypt = 64
+digest_len Scrypt = 32

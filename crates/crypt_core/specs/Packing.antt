@@ -56,14 +56,7 @@ groups_of Scrypt = scrypt_groups
 unfoldable pub packed : Method → List ℕ → List ℕ
 packed method digest = packed_by (groups_of method) digest
 
--- how many bytes the method's digest has
-abbrev pub digest_len : Method → ℕ
-digest_len Md5crypt = 16
-digest_len Sha256crypt = 32
-digest_len Sha512crypt = 64
-digest_len Scrypt = 32
-
--- how many characters its text has
+-- how many characters the text of the method's digest has
 abbrev pub packed_len : Method → ℕ
 packed_len Md5crypt = 22
 packed_len Sha256crypt = 43

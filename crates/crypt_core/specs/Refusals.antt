@@ -1,5 +1,5 @@
 -- Which refusal a text gets that is no setting: the first rule that it breaks.
-use Rattle.std.specs.Prelude.{◌≡◌, ℕ, ◌<◌, ◌⊎◌, List, ◌++◌, length, All, Contains}
+use Rattle.std.specs.Prelude.{◌≡◌, ℕ, ◌<◌, ◌⊎◌, List, ◌∷◌, ◌++◌, length, All, Contains}
 use Rattle.prims_core.specs.Alphabet.{alphabet}
 use Rattle.kdf_core.specs.Params.{ScryptCost, IsInRange, IsWithinCeiling}
 use Rattle.crypt_core.specs.declared.method.Method.{Method}
@@ -7,7 +7,7 @@ use Rattle.crypt_core.specs.declared.method.Method.TheVariants as methods
 use Rattle.crypt_core.specs.declared.setting.fault.SettingFault.{SettingFault}
 use Rattle.crypt_core.specs.declared.setting.fault.SettingFault.TheVariants.{TooLong, BadCharacter, UnknownScheme, BadRounds, BadCost, ScryptRange, AboveCeiling, BadSalt}
 use Rattle.crypt_core.specs.Methods.{prefix}
-use Rattle.crypt_core.specs.Settings.{setting_limit, IsSettingByte, IsField, BeginsWith, rounds_word, IsRoundsNumber, rounds_field, scrypt_part, scrypt_part_len, HasNumerals, IsScryptSalt}
+use Rattle.crypt_core.specs.Settings.{setting_limit, IsSettingByte, dollar, IsField, BeginsWith, rounds_word, IsRoundsNumber, scrypt_part, scrypt_part_len, HasNumerals, IsScryptSalt}
 
 abbrev pub rule_number : SettingFault → ℕ
 rule_number TooLong = 1
@@ -23,10 +23,13 @@ rule_number BadSalt = 8
 abbrev pub IsShaText : List ℕ → List ℕ → Type 0
 IsShaText text after = (text ≡ prefix methods.Sha256crypt ++ after) ⊎ (text ≡ prefix methods.Sha512crypt ++ after)
 
+-- no digits of a number stand there with a `$` behind them
+abbrev pub LacksNumber : List ℕ → Type 0
+LacksNumber field = (digits rest : List ℕ) → IsRoundsNumber digits → field ≡ digits ++ dollar ∷ rest → ⊥
+
 -- `rounds=` stands there, but no proper field
-pub record LacksRounds (after : List ℕ) : Type 0 where
-  pub begins : BeginsWith after rounds_word
-  pub no_field : (digits rest : List ℕ) → IsRoundsNumber digits → after ≡ rounds_field digits ++ rest → ⊥
+abbrev pub LacksRounds : List ℕ → Type 0
+LacksRounds after = (field : List ℕ) × (after ≡ rounds_word ++ field) × LacksNumber field
 
 -- fewer characters of crypt's alphabet than scrypt's cost part has stand there
 abbrev pub LacksCost : List ℕ → Type 0

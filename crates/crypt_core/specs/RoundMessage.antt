@@ -2,9 +2,9 @@
 -- crypt using SHA-256 and SHA-512", steps 4 to 8 and 21; FreeBSD's md5crypt has the same two).
 use Rattle.std.specs.Prelude.{ℕ, ◌%◌, ◌==◌, List, [], ◌++◌, if◌then◌else◌}
 
--- the salt between two passwords
-abbrev pub salted_twice : List ℕ → List ℕ → List ℕ
-salted_twice password salt = password ++ salt ++ password
+-- the salt between two passwords, for what Drepper calls the alternate sum, B
+abbrev pub alternate_message : List ℕ → List ℕ → List ℕ
+alternate_message password salt = password ++ salt ++ password
 
 -- x is the digest of the round before, p stands for the password and q for the salt
 abbrev pub round_message : ℕ → List ℕ → List ℕ → List ℕ → List ℕ

@@ -38,6 +38,7 @@ pub record IsSettingText (text : List ℕ) : Type 0 where
   pub short : length text ≤ setting_limit
   pub bytes : All IsSettingByte text
 
+-- `$`, which stands between the parts of a text
 abbrev pub dollar : ℕ
 dollar = 36
 
@@ -79,7 +80,7 @@ abbrev pub held : ℕ → ℕ
 held n = max min_rounds (min n max_rounds)
 
 abbrev pub rounds_field : List ℕ → List ℕ
-rounds_field digits = rounds_word ++ (digits ++ codes "$")
+rounds_field digits = rounds_word ++ (digits ++ dollar ∷ [])
 
 -- a field, and then the rounds are its number, held; or no field, and then they are the default
 abbrev pub SpellsRounds : Rounds → List ℕ → List ℕ → Type 0

@@ -3,15 +3,15 @@
 use Rattle.std.specs.Prelude.{ℕ, zero, suc, ◌+◌, List, ◌++◌, length, map, slice_index}
 use Rattle.std.specs.List.{range_with_len, repeat}
 use Rattle.crypt_core.specs.Cycle.{cycle, digit_pieces}
-use Rattle.crypt_core.specs.RoundMessage.{round_message, salted_twice}
+use Rattle.crypt_core.specs.RoundMessage.{alternate_message, round_message}
 
 -- steps 1 to 12, with B the first message's digest: a digit 1 of the password's length stands for B,
 -- and a 0 for the password
 abbrev pub sha_opening_message : (List ℕ → List ℕ) → List ℕ → List ℕ → List ℕ
 sha_opening_message h password salt =
     password ++ salt
-    ++ cycle (h (salted_twice password salt)) (length password)
-    ++ digit_pieces (h (salted_twice password salt)) password (length password)
+    ++ cycle (h (alternate_message password salt)) (length password)
+    ++ digit_pieces (h (alternate_message password salt)) password (length password)
 
 -- the digest of that message, which Drepper calls A
 abbrev pub sha_opening_digest : (List ℕ → List ℕ) → List ℕ → List ℕ → List ℕ
@@ -21,9 +21,13 @@ sha_opening_digest h password salt = h (sha_opening_message h password salt)
 abbrev pub password_repeated : List ℕ → List ℕ
 password_repeated password = repeat (length password) password
 
--- steps 17 to 19: the salt 16 times, and once more for each unit of A's first byte
+-- A's first byte
+abbrev pub first_byte : (List ℕ → List ℕ) → List ℕ → List ℕ → ℕ
+first_byte h password salt = slice_index (sha_opening_digest h password salt) 0
+
+-- steps 17 to 19: the salt 16 times, and once more for each unit of that byte
 abbrev pub salt_repeated : (List ℕ → List ℕ) → List ℕ → List ℕ → List ℕ
-salt_repeated h password salt = repeat (16 + slice_index (sha_opening_digest h password salt) 0) salt
+salt_repeated h password salt = repeat (16 + first_byte h password salt) salt
 
 -- step 16: what stands for the password in the rounds
 abbrev pub password_string : (List ℕ → List ℕ) → List ℕ → List ℕ
@@ -44,7 +48,7 @@ sha_digest_before h password salt (suc i) = h (sha_round_message h password salt
 
 -- message k
 unfoldable pub shacrypt_message : (List ℕ → List ℕ) → List ℕ → List ℕ → ℕ → List ℕ
-shacrypt_message h password salt zero = salted_twice password salt
+shacrypt_message h password salt zero = alternate_message password salt
 shacrypt_message h password salt (suc zero) = sha_opening_message h password salt
 shacrypt_message h password salt (suc (suc zero)) = password_repeated password
 shacrypt_message h password salt (suc (suc (suc zero))) = salt_repeated h password salt
@@ -55,6 +59,6 @@ shacrypt_message h password salt (suc (suc (suc (suc i)))) =
 unfoldable pub shacrypt_messages : (List ℕ → List ℕ) → List ℕ → List ℕ → ℕ → List (List ℕ)
 shacrypt_messages h password salt rounds = map (shacrypt_message h password salt) (range_with_len 0 (rounds + 4))
 
--- the digest of the last message, which would stand before one more round
+-- the digest of the last message
 unfoldable pub shacrypt_digest : (List ℕ → List ℕ) → List ℕ → List ℕ → ℕ → List ℕ
-shacrypt_digest h password salt rounds = sha_digest_before h password salt rounds
+shacrypt_digest h password salt rounds = h (shacrypt_message h password salt (rounds + 3))

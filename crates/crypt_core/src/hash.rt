@@ -1,12 +1,14 @@
 //! The text of crypt(3): a password, hashed by a setting.
-ghost use Rattle.std.specs.Prelude.{◌≡◌, ℕ, ◌^◌, ◌≤◌, ◌++◌, List, length, codes, IfOk, OnOk, OnErr};
+ghost use Rattle.std.specs.Prelude.{◌≡◌, ℕ, ◌^◌, ◌≤◌, ◌∷◌, ◌++◌, List, length, IfOk, OnOk, OnErr};
 ghost use Rattle.prims_core.specs.Meter.{HasRoom};
 ghost use Rattle.kdf_core.specs.Params.{IsBounded};
-ghost use Rattle.kdf_core.specs.Scrypt.{scrypt, with_scrypt, IsAfterRefusal};
+ghost use Rattle.kdf_core.specs.Scrypt.{scrypt};
+ghost use Rattle.kdf_core.specs.ScryptWork.{with_scrypt, IsAfterRefusal};
 ghost use Rattle.crypt_core.specs.declared.method.Method.TheVariants.{Scrypt};
-ghost use Rattle.crypt_core.specs.Crypt.{crypt, digest_by, hash_limit, IsRefusedBy};
-ghost use Rattle.crypt_core.specs.Packing.{digest_len, packed};
-ghost use Rattle.crypt_core.specs.Settings.{Spells, canonical_text, method_of};
+ghost use Rattle.crypt_core.specs.Crypt.{crypt, digest_by, hash_limit, IsAfterRefusedGrowth};
+ghost use Rattle.crypt_core.specs.Methods.{digest_len};
+ghost use Rattle.crypt_core.specs.Packing.{packed};
+ghost use Rattle.crypt_core.specs.Settings.{Spells, canonical_text, dollar, method_of};
 ghost use Rattle.crypt_core.specs.Work.{raised_by, work, work_limit, IsBelow};
 
 use crate::md5crypt::md5crypt;
@@ -102,7 +104,7 @@ pub fn hash(
     ensures below { IsBelow (work password.now setting.now) work_limit }
 
     // So an error comes only by a setting of scrypt.
-    ensures refused { OnErr result (IsRefusedBy meter.old setting.now.scheme meter.new) }
+    ensures refused { OnErr result (IsAfterRefusedGrowth meter.old setting.now.scheme meter.new) }
 {
     let digest = digest_of(alloc, password, setting, meter)?;
     Ok(hash_text(setting, digest.as_slice()))
@@ -129,7 +131,7 @@ fn digest_of(
     ensures length { IfOk result (λ digest. length digest.items ≡ digest_len (method_of setting.now.scheme)) }
     ensures count { OnOk result (meter.new ≡ raised_by meter.old (work password.now setting.now)) }
     ensures below { IsBelow (work password.now setting.now) work_limit }
-    ensures refused { OnErr result (IsRefusedBy meter.old setting.now.scheme meter.new) }
+    ensures refused { OnErr result (IsAfterRefusedGrowth meter.old setting.now.scheme meter.new) }
 {
     let salt = setting.salt();
     match setting.scheme() {
@@ -175,7 +177,7 @@ fn scrypt_digest(
 fn hash_text(setting: &Setting, digest: &[u8]) -> Hashed
     requires { length digest.now ≡ digest_len (method_of setting.now.scheme) }
     ensures text { result
-        ≡ canonical_text setting.now ++ codes "$" ++ packed (method_of setting.now.scheme) digest.now }
+        ≡ canonical_text setting.now ++ dollar ∷ packed (method_of setting.now.scheme) digest.now }
     ensures spells { Spells result setting.now }
 {
     let packed = pack(setting.method(), digest);

@@ -3,17 +3,17 @@
 //! stands beside the digests in the rounds is joined once, in a buffer of fixed capacity.
 ghost use Rattle.std.specs.Prelude.{◌≡◌, ◌+◌, ◌*◌, ◌^◌, ◌<◌, ◌≤◌, length};
 ghost use Rattle.prims_core.specs.Digests.{md5};
-ghost use Rattle.prims_core.specs.Meter.{with_work, AreInAll, HasDigestRoom};
+ghost use Rattle.prims_core.specs.Meter.{with_work, HaveCountAndSum, HasDigestRoom};
 ghost use Rattle.crypt_core.specs.declared.method.Method.TheVariants.{Md5crypt};
 ghost use Rattle.crypt_core.specs.Md5crypt.{md5crypt_digest, md5crypt_message, md5crypt_messages, md5crypt_rounds, opening_message};
-ghost use Rattle.crypt_core.specs.Methods.{md5crypt_salt_limit};
-ghost use Rattle.crypt_core.specs.Packing.{digest_len};
+ghost use Rattle.crypt_core.specs.Methods.{digest_len, md5crypt_salt_limit};
 ghost use Rattle.crypt_core.specs.Passwords.{password_limit};
-ghost use Rattle.crypt_core.specs.RoundMessage.{salted_twice};
+ghost use Rattle.crypt_core.specs.RoundMessage.{alternate_message};
 ghost use Rattle.crypt_core.specs.Private.Counting.{with_digest};
 ghost use Rattle.crypt_core.specs.Work.{md5crypt_bytes, work_limit};
 
-use crate::messages::{feed_cycle, feed_digits, salted};
+use crate::messages::{alternate_digest, feed_cycle, feed_digits};
+use crate::method::Method;
 use crate::password::Password;
 use crate::round::{RoundStrings, round};
 use arrayvec::ArrayVec;
@@ -35,7 +35,7 @@ pub fn md5crypt(password: &Password, salt: &[u8], meter: &mut Meter) -> [u8; 16]
     ensures digest { result ≡ md5crypt_digest password.now salt.now }
     ensures count { meter.new ≡ with_work meter.old (md5crypt_rounds + 2) (md5crypt_bytes (length password.now) (length salt.now)) }
     ensures below { md5crypt_bytes (length password.now) (length salt.now) < work_limit }
-    ensures specified { AreInAll (md5crypt_messages password.now salt.now) (md5crypt_rounds + 2)
+    ensures specified { HaveCountAndSum (md5crypt_messages password.now salt.now) (md5crypt_rounds + 2)
         (md5crypt_bytes (length password.now) (length salt.now)) }
 {
     let password = password.bytes();
@@ -56,15 +56,15 @@ fn opening(password: &[u8], salt: &[u8], meter: &mut Meter) -> ArrayVec<u8, 64>
     requires room { HasDigestRoom meter.old }
     ensures digest { result.items ≡ md5 (opening_message password.now salt.now) }
     ensures length { length result.items ≡ digest_len Md5crypt }
-    ensures count { meter.new ≡ with_digest (with_digest meter.old (salted_twice password.now salt.now))
+    ensures count { meter.new ≡ with_digest (with_digest meter.old (alternate_message password.now salt.now))
         (opening_message password.now salt.now) }
 {
-    let salted = salted::<CountedMd5>(password, salt, meter);
+    let alternate = alternate_digest::<CountedMd5>(password, salt, meter);
     let mut running = CountedMd5::begin();
     running.feed(meter, password);
-    running.feed(meter, b"$1$");
+    running.feed(meter, Method::Md5crypt.prefix());
     running.feed(meter, salt);
-    feed_cycle(&mut running, meter, salted.as_slice(), password.len());
+    feed_cycle(&mut running, meter, alternate.as_slice(), password.len());
     let first = &password[..password.len().min(1)];
     feed_digits(&mut running, meter, password.len(), &[0], first);
     running.finish(meter)
@@ -73,7 +73,7 @@ fn opening(password: &[u8], salt: &[u8], meter: &mut Meter) -> ArrayVec<u8, 64>
 #[cfg(test)]
 mod tests {
     use super::*;
-    use crate::method::Method;
+    use crate::hash::tests::counts;
     use crate::pack::pack;
     use std::test::Fail;
 
@@ -84,16 +84,7 @@ mod tests {
             let password = Password::new(password.as_slice()).expect(&rt, "a password");
             let mut meter = Meter::new();
             let _ = md5crypt(&password, b"xxxxxxxx", &mut meter);
-            assert_eq!(rt;
-                (meter.digests(), meter.bytes()),
-                (1002, bytes),
-                "{len} bytes"
-            );
-            assert_eq!(rt;
-                (meter.mixes(), meter.table(), meter.scratch()),
-                (0, 0, 0),
-                "{len} bytes"
-            );
+            assert_eq!(rt; counts(&meter), [1002, bytes, 0, 0, 0], "{len} bytes");
         }
         Ok(())
     }
@@ -105,6 +96,6 @@ mod tests {
         let digest = md5crypt(&password, b"xxxxxxxx", &mut meter);
         let text = pack(Method::Md5crypt, &digest);
         assert_eq!(rt; text.as_slice(), b"UYCIxa628.9qXjpQCjM4a.".as_slice());
-        assert_eq!(rt; (meter.digests(), meter.bytes()), (1002, 36239));
+        assert_eq!(rt; counts(&meter), [1002, 36239, 0, 0, 0]);
     }
 }

@@ -1,12 +1,12 @@
 //! The messages, and parts of messages, that md5crypt and SHA-crypt share before their rounds, fed to a
 //! running digest: the first message, a digest repeated, a piece for each binary digit of a length.
-ghost use Rattle.std.specs.Prelude.{◌≡◌, ℕ, ◌+◌, ◌*◌, ◌^◌, ◌<◌, ◌≤◌, List, ◌++◌, length, ◌==◌, if◌then◌else◌};
+ghost use Rattle.std.specs.Prelude.{◌≡◌, ℕ, ◌+◌, ◌*◌, ◌^◌, ◌<◌, ◌≤◌, List, ◌++◌, length};
 ghost use Rattle.std.specs.List.{repeat};
 ghost use Rattle.prims_core.specs.Meter.{HasDigestRoom};
-ghost use Rattle.crypt_core.specs.Cycle.{cycle, digit_pieces};
+ghost use Rattle.crypt_core.specs.Cycle.{by_digit, cycle, digit_pieces};
 ghost use Rattle.crypt_core.specs.Methods.{shacrypt_salt_limit};
 ghost use Rattle.crypt_core.specs.Passwords.{password_limit};
-ghost use Rattle.crypt_core.specs.RoundMessage.{salted_twice};
+ghost use Rattle.crypt_core.specs.RoundMessage.{alternate_message};
 ghost use Rattle.crypt_core.specs.Private.Counting.{with_digest};
 
 use crate::password::PASSWORD_LIMIT;
@@ -14,8 +14,8 @@ use arrayvec::ArrayVec;
 use prims_core::counted::Counted;
 use prims_core::meter::Meter;
 
-/// The digest of the salt between two passwords.
-pub(crate) fn salted<C: Counted>(
+/// The digest of the first message, the salt between two passwords.
+pub(crate) fn alternate_digest<C: Counted>(
     password: &[u8],
     salt: &[u8],
     meter: &mut Meter,
@@ -23,9 +23,9 @@ pub(crate) fn salted<C: Counted>(
     requires password { length password.now ≤ password_limit }
     requires salt { length salt.now ≤ shacrypt_salt_limit }
     requires room { HasDigestRoom meter.old }
-    ensures digest { result.items ≡ C.digest (salted_twice password.now salt.now) }
+    ensures digest { result.items ≡ C.digest (alternate_message password.now salt.now) }
     ensures length { length result.items ≡ C.LEN }
-    ensures count { meter.new ≡ with_digest meter.old (salted_twice password.now salt.now) }
+    ensures count { meter.new ≡ with_digest meter.old (alternate_message password.now salt.now) }
 {
     let mut running = C::begin();
     running.feed(meter, password);
@@ -97,7 +97,7 @@ pub(crate) fn feed_digits<C: Counted>(
 
 // The piece for a binary digit.
 fn digit_piece<'a>(digit: usize, one: &'a [u8], other: &'a [u8]) -> &'a [u8]
-    ensures { result.now ≡ (if digit == 1 then one.now else other.now) }
+    ensures { result.now ≡ by_digit one.now other.now digit }
 {
     if digit == 1 { one } else { other }
 }

@@ -21,11 +21,11 @@ pub enum PasswordFault {
 }
 
 impl PasswordFault {
-    ghost use Rattle.crypt_core.specs.PasswordFaults.{password_text};
+    ghost use Rattle.crypt_core.specs.PasswordFaults.{password_fault_text};
 
     /// What is wrong, in words for the user.
     pub fn text(&self) -> &'static str
-        ensures { result.now ≡ password_text self.now }
+        ensures { result.now ≡ password_fault_text self.now }
     {
         match self {
             PasswordFault::TooLong => "password too long",

@@ -26,6 +26,9 @@ use std::marker::Model;
 /// The most bytes of a setting's text.
 pub const SETTING_LIMIT: usize = 384;
 
+/// What a field for the rounds of SHA-crypt begins with.
+const ROUNDS_WORD: &[u8] = b"rounds=";
+
 /// The characters of scrypt's cost part: one of log2 N, five of r and five of p.
 pub(crate) const COST_CHARACTERS: usize = 1 + 5 + 5;
 

@@ -3,17 +3,17 @@
 //! password and the salt in the rounds is made once, in buffers of fixed capacity.
 ghost use Rattle.std.specs.Prelude.{◌≡◌, ◌+◌, ◌*◌, ◌^◌, ◌<◌, ◌≤◌, length};
 ghost use Rattle.std.specs.List.{repeat};
-ghost use Rattle.prims_core.specs.Meter.{with_work, AreInAll, HasDigestRoom};
+ghost use Rattle.prims_core.specs.Meter.{with_work, HaveCountAndSum, HasDigestRoom};
 ghost use Rattle.crypt_core.specs.Cycle.{cycle};
 ghost use Rattle.crypt_core.specs.Methods.{shacrypt_salt_limit};
 ghost use Rattle.crypt_core.specs.Passwords.{password_limit};
-ghost use Rattle.crypt_core.specs.RoundMessage.{salted_twice};
+ghost use Rattle.crypt_core.specs.RoundMessage.{alternate_message};
 ghost use Rattle.crypt_core.specs.Settings.{max_rounds, min_rounds};
-ghost use Rattle.crypt_core.specs.ShaCrypt.{sha_opening_digest, sha_opening_message, shacrypt_digest, shacrypt_messages};
+ghost use Rattle.crypt_core.specs.ShaCrypt.{first_byte, sha_opening_digest, sha_opening_message, shacrypt_digest, shacrypt_messages};
 ghost use Rattle.crypt_core.specs.Private.Counting.{with_digest};
-ghost use Rattle.crypt_core.specs.Work.{first_byte, shacrypt_bytes, work_limit};
+ghost use Rattle.crypt_core.specs.Work.{shacrypt_bytes, work_limit};
 
-use crate::messages::{cycle_of, feed_cycle, feed_digits, feed_repeated, salted};
+use crate::messages::{alternate_digest, cycle_of, feed_cycle, feed_digits, feed_repeated};
 use crate::password::{PASSWORD_LIMIT, Password};
 use crate::round::{RoundStrings, round};
 use arrayvec::ArrayVec;
@@ -43,7 +43,7 @@ pub fn shacrypt<H: Counted>(
         (first_byte H.digest password.now salt.now) rounds (length password.now) (length salt.now)) }
     ensures below { shacrypt_bytes H.LEN (first_byte H.digest password.now salt.now) rounds (length password.now)
         (length salt.now) < work_limit }
-    ensures specified { AreInAll (shacrypt_messages H.digest password.now salt.now rounds) (rounds + 4)
+    ensures specified { HaveCountAndSum (shacrypt_messages H.digest password.now salt.now rounds) (rounds + 4)
         (shacrypt_bytes H.LEN (first_byte H.digest password.now salt.now) rounds (length password.now) (length salt.now)) }
 {
     let password = password.bytes();
@@ -65,19 +65,19 @@ fn opening<H: Counted>(password: &[u8], salt: &[u8], meter: &mut Meter) -> Array
     requires room { HasDigestRoom meter.old }
     ensures digest { result.items ≡ sha_opening_digest H.digest password.now salt.now }
     ensures length { length result.items ≡ H.LEN }
-    ensures count { meter.new ≡ with_digest (with_digest meter.old (salted_twice password.now salt.now))
+    ensures count { meter.new ≡ with_digest (with_digest meter.old (alternate_message password.now salt.now))
         (sha_opening_message H.digest password.now salt.now) }
 {
-    let salted = salted::<H>(password, salt, meter);
+    let alternate = alternate_digest::<H>(password, salt, meter);
     let mut running = H::begin();
     running.feed(meter, password);
     running.feed(meter, salt);
-    feed_cycle(&mut running, meter, salted.as_slice(), password.len());
+    feed_cycle(&mut running, meter, alternate.as_slice(), password.len());
     feed_digits(
         &mut running,
         meter,
         password.len(),
-        salted.as_slice(),
+        alternate.as_slice(),
         password,
     );
     running.finish(meter)

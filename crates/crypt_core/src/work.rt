@@ -1,11 +1,12 @@
 //! The work of a hash, known before hashing, so that a service can refuse a setting that would cost it
 //! too much. It is the closed form of what the meter counts, step by step of each scheme.
 ghost use Rattle.std.specs.Prelude.{◌≡◌, ℕ, ◌+◌, ◌*◌, ◌^◌, ◌<◌, ◌≤◌, List, length};
+ghost use Rattle.crypt_core.specs.Cycle.{by_digit, digit_bytes};
 ghost use Rattle.crypt_core.specs.Methods.{md5crypt_salt_limit, scrypt_salt_limit, shacrypt_salt_limit};
-ghost use Rattle.crypt_core.specs.Md5crypt.{md5crypt_rounds};
 ghost use Rattle.crypt_core.specs.Passwords.{password_limit, IsPassword};
 ghost use Rattle.crypt_core.specs.Settings.{max_rounds};
-ghost use Rattle.crypt_core.specs.Work.{cost, digests_alone, digit_bytes, first_byte, greatest_byte, md5crypt_bytes, piece_bytes, rounds_bytes, shacrypt_bytes, work, work_bound, work_by, work_limit, IsBelow, IsWithin};
+ghost use Rattle.crypt_core.specs.ShaCrypt.{first_byte};
+ghost use Rattle.crypt_core.specs.Work.{cost, digests_alone, greatest_byte, md5crypt_work, rounds_bytes, shacrypt_work, work, work_bound, work_by, work_limit, IsBelow, IsWithin};
 
 use crate::md5crypt::ROUNDS;
 use crate::scheme::Scheme;
@@ -67,16 +68,16 @@ pub fn cost(setting: &Setting, password_len: usize) -> u64
 fn md5crypt_bound(password: u64, salt: u64) -> Work
     requires password { password ≤ password_limit }
     requires salt { salt ≤ md5crypt_salt_limit }
-    ensures bound { result ≡ digests_alone (md5crypt_rounds + 2) (md5crypt_bytes password salt) }
+    ensures bound { result ≡ md5crypt_work password salt }
     ensures below { IsBelow result work_limit }
 {
-    let salted = 2 * password + salt;
-    let opening = salted + 3 + digit_bytes(password, 1, 1);
+    let alternate = 2 * password + salt;
+    let opening = alternate + 3 + digit_bytes(password, 1, 1);
     let rounds = u64::from(ROUNDS);
     let digest = CountedMd5::LEN as u64;
     digests_alone(
         rounds + 2,
-        salted + opening + rounds_bytes(rounds, digest, password, salt),
+        alternate + opening + rounds_bytes(rounds, digest, password, salt),
     )
 }
 
@@ -85,20 +86,19 @@ fn shacrypt_bound<H: Counted>(rounds: u32, password: u64, salt: u64) -> Work
     requires rounds { rounds ≤ max_rounds }
     requires password { password ≤ password_limit }
     requires salt { salt ≤ shacrypt_salt_limit }
-    ensures bound { result ≡ digests_alone (rounds + 4) (shacrypt_bytes H.LEN greatest_byte rounds password salt) }
+    ensures bound { result ≡ shacrypt_work H.LEN greatest_byte rounds password salt }
     ensures never_passed { (p s : List ℕ) → length p ≡ password → length s ≡ salt
-        → let a = first_byte H.digest p s in
-        IsWithin (digests_alone (rounds + 4) (shacrypt_bytes H.LEN a rounds password salt)) result }
+        → IsWithin (shacrypt_work H.LEN (first_byte H.digest p s) rounds password salt) result }
     ensures below { IsBelow result work_limit }
 {
     let rounds = u64::from(rounds);
     let digest = H::LEN as u64;
-    let salted = 2 * password + salt;
-    let opening = salted + digit_bytes(password, digest, password);
+    let alternate = 2 * password + salt;
+    let opening = alternate + digit_bytes(password, digest, password);
     let repeated = password * password + (16 + GREATEST_BYTE) * salt;
     digests_alone(
         rounds + 4,
-        salted + opening + repeated + rounds_bytes(rounds, digest, password, salt),
+        alternate + opening + repeated + rounds_bytes(rounds, digest, password, salt),
     )
 }
 
@@ -144,7 +144,7 @@ fn digit_bytes(number: u64, one: u64, other: u64) -> u64
 
 // The bytes of the piece for a binary digit.
 fn piece_bytes(digit: u64, one: u64, other: u64) -> u64
-    ensures { result ≡ piece_bytes one other digit }
+    ensures { result ≡ by_digit one other digit }
 {
     if digit == 1 { one } else { other }
 }

@@ -9,33 +9,34 @@ use Rattle.std.proofs.lemmas.List.FromFn.{length-range_with_len}
 use Rattle.std.proofs.lemmas.List.Sums.{sum_by-append}
 use Rattle.std.proofs.lemmas.Simd.{length-zip2}
 use Rattle.prims_core.specs.Digests.{sha256}
-use Rattle.prims_core.specs.Meter.{AreInAll}
+use Rattle.prims_core.specs.Meter.{HaveCountAndSum}
 use Rattle.prims_core.specs.Words.{big_bytes, xor_lists}
 use Rattle.prims_core.specs.contracts.counted.counted_sha256.CountedSha256Counted.TheImpl.Laws as sha256_laws
 use Rattle.kdf_core.specs.Hmac.{hmac, hmac_sha256, ipad, opad, key_block, padded_key, key_messages, tag_messages, key_digests, key_bytes, tag_bytes}
-use Rattle.kdf_core.specs.Params.{ScryptCost, rows}
+use Rattle.kdf_core.specs.Params.{ScryptCost, row_count}
 use Rattle.kdf_core.specs.Pbkdf2.{chain, block, pbkdf2, pbkdf2_sha256, block_messages, pbkdf2_messages, block_bytes, pbkdf2_digests, pbkdf2_bytes}
-use Rattle.kdf_core.specs.Scrypt.{part_bytes, parts_bytes, mixed_parts, scrypt_messages, scrypt_digests, scrypt_bytes}
+use Rattle.kdf_core.specs.Scrypt.{part_bytes, parts_bytes, mixed_parts}
+use Rattle.kdf_core.specs.ScryptWork.{scrypt_messages, scrypt_digests, scrypt_bytes}
 use Rattle.kdf_core.proofs.MixedLengths.{length-flat_map_same, length-mixed_parts}
 use Rattle.kdf_core.proofs.Pbkdf2Lemmas.{block-one}
 use Rattle.kdf_core.proofs.ScryptValue.{digests-are, bytes-are}
 
 -- the messages of one list, and then those of another
-both-in_all : (xs ys : List (List ℕ)) (d b e c : ℕ) → AreInAll xs d b → AreInAll ys e c → AreInAll (xs ++ ys) (d + e) (b + c)
+both-in_all : (xs ys : List (List ℕ)) (d b e c : ℕ) → HaveCountAndSum xs d b → HaveCountAndSum ys e c → HaveCountAndSum (xs ++ ys) (d + e) (b + c)
 both-in_all xs ys d b e c front rest = record {
-  number = length-append xs ys ∙ omega (arith, front.number, rest.number);
+  count = length-append xs ys ∙ omega (arith, front.count, rest.count);
   sum = sum_by-append length xs ys ∙ omega (arith, front.sum, rest.sum);
 }
 
 -- the same number of messages, and of bytes, at each of some numbers
-each-in_all : (messages : ℕ → List (List ℕ)) (d b from count : ℕ) → ((k : ℕ) → from ≤ k → AreInAll (messages k) d b)
-    → AreInAll (flat_map messages (range_with_len from count)) (count * d) (count * b)
-each-in_all messages d b from zero each = record { number = omega arith; sum = omega arith }
+each-in_all : (messages : ℕ → List (List ℕ)) (d b from count : ℕ) → ((k : ℕ) → from ≤ k → HaveCountAndSum (messages k) d b)
+    → HaveCountAndSum (flat_map messages (range_with_len from count)) (count * d) (count * b)
+each-in_all messages d b from zero each = record { count = omega arith; sum = omega arith }
 each-in_all messages d b from (suc count) each =
     let rest = each-in_all messages d b (from + 1) count (λ k above. each k (omega arith)) in
     let all = both-in_all (messages from) (flat_map messages (range_with_len (from + 1) count)) d b (count * d) (count * b)
     (each from (omega arith)) rest in
-    record { number = all.number ∙ omega arith; sum = all.sum ∙ omega arith }
+    record { count = all.count ∙ omega arith; sum = all.sum ∙ omega arith }
 
 -- a digest has 32 bytes
 length-sha256 : (message : List ℕ) → length (sha256 message) ≡ 32
@@ -58,20 +59,20 @@ length-padded_key key pad =
     length-zip2 _ (kept ++ replicate (64 - length kept) 0) (replicate 64 pad) whole ∙ whole
 
 -- a key's message, if it has one
-key-in_all : (key : List ℕ) → AreInAll (key_messages key) (key_digests (length key)) (key_bytes (length key))
+key-in_all : (key : List ℕ) → HaveCountAndSum (key_messages key) (key_digests (length key)) (key_bytes (length key))
 key-in_all key =
     elim (nat_lt 64 (length key))
-    as (λ long. AreInAll (if long then key ∷ [] else []) (if long then 1 else 0) ((if long then 1 else 0) * length key)) [
-      | true ↦ record { number = refl; sum = omega arith }
-      | false ↦ record { number = refl; sum = omega arith }
+    as (λ long. HaveCountAndSum (if long then key ∷ [] else []) (if long then 1 else 0) ((if long then 1 else 0) * length key)) [
+      | true ↦ record { count = refl; sum = omega arith }
+      | false ↦ record { count = refl; sum = omega arith }
     ]
 
 -- a tag's two messages
-tag-in_all : (key text : List ℕ) → AreInAll (tag_messages key text) 2 (tag_bytes (length text))
+tag-in_all : (key text : List ℕ) → HaveCountAndSum (tag_messages key text) 2 (tag_bytes (length text))
 tag-in_all key text =
     let inner = padded_key sha256 64 key ipad ++ text in
     record {
-      number = refl;
+      count = refl;
       sum = omega (
         arith,
         length-append (padded_key sha256 64 key ipad) text,
@@ -95,34 +96,34 @@ length-chain password salt i (suc j) some = length-sha256 _
 
 -- the tags of a block: the first, and the others
 block-in_all : (password salt : List ℕ) (rounds i : ℕ) → 1 ≤ rounds
-    → AreInAll (block_messages password salt rounds i) (2 * rounds) (block_bytes (length salt) rounds)
+    → HaveCountAndSum (block_messages password salt rounds i) (2 * rounds) (block_bytes (length salt) rounds)
 unfolding block_messages
 block-in_all password salt zero i some = absurd (omega arith)
 block-in_all password salt (suc more) i some =
     let u = chain hmac_sha256 password salt i in
     let messages = λ (j : ℕ). tag_messages password (u j) in
-    let tags : (j : ℕ) → 1 ≤ j → AreInAll (messages j) 2 (tag_bytes 32) =
+    let tags : (j : ℕ) → 1 ≤ j → HaveCountAndSum (messages j) 2 (tag_bytes 32) =
     λ j above. record {
-      number = (tag-in_all password (u j)).number;
+      count = (tag-in_all password (u j)).count;
       sum = (tag-in_all password (u j)).sum ∙ ap tag_bytes (length-chain password salt i j above);
     } in
     let rest = each-in_all messages 2 (tag_bytes 32) 1 more tags in
     let all = both-in_all (messages 0) (flat_map messages (range_with_len 1 more)) 2 (tag_bytes (length (u 0))) (more * 2) (more * tag_bytes 32)
     (tag-in_all password (u 0)) rest in
     record {
-      number = all.number ∙ omega arith;
+      count = all.count ∙ omega arith;
       sum = all.sum ∙ omega (arith, length-chain_none password salt i);
     }
 
 -- as many for each block
 pbkdf2-in_all : (password salt : List ℕ) (rounds count : ℕ) → 1 ≤ rounds
-    → AreInAll (pbkdf2_messages password salt rounds count) (pbkdf2_digests rounds count) (pbkdf2_bytes (length salt) rounds count)
+    → HaveCountAndSum (pbkdf2_messages password salt rounds count) (pbkdf2_digests rounds count) (pbkdf2_bytes (length salt) rounds count)
 unfolding pbkdf2_messages
 pbkdf2-in_all password salt rounds count some =
     let blocks = div_ceil count 32 in
     let all = each-in_all (block_messages password salt rounds) (2 * rounds) (block_bytes (length salt) rounds) 1 blocks
     (λ i above. block-in_all password salt rounds i some) in
-    record { number = all.number ∙ omega arith; sum = all.sum }
+    record { count = all.count ∙ omega arith; sum = all.sum }
 
 -- derived bytes are as many as are wanted
 length-pbkdf2_sha256 : (password salt : List ℕ) (count : ℕ) → length (pbkdf2_sha256 password salt 1 count) ≡ count
@@ -138,22 +139,22 @@ length-pbkdf2_sha256 password salt count =
 
 -- the password's message, and those of the two derivations, the second of which has all parts for its salt
 pub scrypt-in_all : (password salt : List ℕ) (cost : ScryptCost) (count : ℕ)
-    → AreInAll (scrypt_messages password salt cost count) (scrypt_digests cost (length password) count)
+    → HaveCountAndSum (scrypt_messages password salt cost count) (scrypt_digests cost (length password) count)
     (scrypt_bytes cost (length password) (length salt) count)
 unfolding scrypt_messages
 scrypt-in_all password salt cost count =
     let first = parts_bytes cost in
     let derived = pbkdf2_sha256 password salt 1 first in
-    let last = mixed_parts (rows cost) (part_bytes cost) derived in
+    let last = mixed_parts (row_count cost) (part_bytes cost) derived in
     let derived_length : length derived ≡ first = length-pbkdf2_sha256 password salt first in
     let last_length : length last ≡ first =
-    length-mixed_parts (rows cost) (part_bytes cost) cost.r cost.p derived (omega arith) derived_length ∙ derived_length in
+    length-mixed_parts (row_count cost) (part_bytes cost) cost.r cost.p derived (omega arith) derived_length ∙ derived_length in
     let key = key-in_all password in
     let firsts = pbkdf2-in_all password salt 1 first (omega arith) in
     let lasts = pbkdf2-in_all password last 1 count (omega arith) in
     let all = both-in_all (key_messages password ++ pbkdf2_messages password salt 1 first) (pbkdf2_messages password last 1 count) _ _ _ _
     (both-in_all (key_messages password) (pbkdf2_messages password salt 1 first) _ _ _ _ key firsts) lasts in
     record {
-      number = all.number ∙ digests-are cost (length password) count first refl;
+      count = all.count ∙ digests-are cost (length password) count first refl;
       sum = all.sum ∙ bytes-are cost (length password) (length salt) count first (length last) refl last_length;
     }

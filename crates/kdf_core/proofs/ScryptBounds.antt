@@ -2,16 +2,17 @@
 use Rattle.std.proofs.Common.{◌≡◌, ℕ, ◌+◌, ◌-◌, ◌*◌, ◌^◌, ◌<◌, ◌≤◌, ap, ◌∙◌, true, false, nat_lt, if◌then◌else◌, arith}
 use Rattle.std.proofs.Math.Nat.{le-mul_of_pos_right, mul-le-mul_left, mul-le-mul_right, lt_of_not-le}
 use Rattle.std.proofs.Math.Pow.{pow_mono}
-use Rattle.kdf_core.specs.Params.{ScryptCost, rows, IsAccepted, IsBounded}
+use Rattle.kdf_core.specs.Params.{ScryptCost, row_count, IsAccepted, IsBounded}
 use Rattle.kdf_core.specs.Private.Mixing.{IsPower}
 use Rattle.kdf_core.specs.Hmac.{key_bytes}
 use Rattle.kdf_core.specs.Pbkdf2.{block_bytes, pbkdf2_bytes}
-use Rattle.kdf_core.specs.Scrypt.{parts_bytes, table_bytes}
+use Rattle.kdf_core.specs.Scrypt.{parts_bytes}
+use Rattle.kdf_core.specs.ScryptWork.{table_bytes}
 use Rattle.std.specs.Int.{div_ceil}
 
 pub bounded : (cost : ScryptCost) → IsAccepted cost → IsBounded cost
 bounded cost accepted =
-    let n = rows cost in
+    let n = row_count cost in
     let r = cost.r in
     let p = cost.p in
     let some_r : 0 < r = accepted.in_range.some_block in
@@ -28,18 +29,17 @@ bounded cost accepted =
     let twice : n * 2 ≤ n * r = mul-le-mul_left n two_r in
     omega arith) in
     record {
+      accepted = accepted;
       log = omega (arith, low);
       two_rows = two;
       table = omega arith;
       parts = omega arith;
       blocks = omega arith;
-      some_block = omega arith;
-      some_part = omega arith;
       mixes = omega arith;
     }
 
 -- N as a power
-pub rows_power : (cost : ScryptCost) (n : ℕ) → IsAccepted cost → n ≡ rows cost → IsPower n cost.log_n
+pub rows_power : (cost : ScryptCost) (n : ℕ) → IsAccepted cost → n ≡ row_count cost → IsPower n cost.log_n
 rows_power cost n accepted is =
     let log = (bounded cost accepted).log in
     record { power = is; above_one = accepted.in_range.above_one; most = omega arith }
@@ -69,9 +69,9 @@ bytes-fit before key blocks each more last a b c d e f =
     let answer : more * last ≤ 2 ^ 33 * last = mul-le-mul_right last e in
     omega arith
 
-pub table-product : (cost : ScryptCost) (n r : ℕ) → n ≡ rows cost → r ≡ cost.r → 4 * (n * (32 * r)) ≡ table_bytes cost
+pub table-product : (cost : ScryptCost) (n r : ℕ) → n ≡ row_count cost → r ≡ cost.r → 4 * (n * (32 * r)) ≡ table_bytes cost
 table-product cost n r n_is r_is =
-    ap (λ k. 4 * (k * (32 * r))) n_is ∙ (ap (λ k. 4 * (rows cost * (32 * k))) r_is ∙ omega arith)
+    ap (λ k. 4 * (k * (32 * r))) n_is ∙ (ap (λ k. 4 * (row_count cost * (32 * k))) r_is ∙ omega arith)
 
 -- so there is room for all bytes
 pub all_bytes-fit : (before password_length salt_length count first last : ℕ) (cost : ScryptCost) → IsAccepted cost → before ≤ 2 ^ 120

@@ -11,7 +11,7 @@ use Rattle.std.proofs.lemmas.Nat.{pow-add, pow_pos}
 use Rattle.std.proofs.Math.Nat.{add-mul-mod_self_left, mul-div_cancel, mul_assoc}
 use Rattle.std.proofs.Math.Seq.{drop-cons}
 use Rattle.prims_core.specs.BlockMix.{block_mix}
-use Rattle.prims_core.specs.Meter.{Counts}
+use Rattle.prims_core.specs.declared.work.Work.{Work}
 use Rattle.prims_core.specs.Words.{chunks_exact}
 use Rattle.kdf_core.proofs.Pbkdf2Lemmas.{range-more}
 use Rattle.kdf_core.specs.Private.Mixing.{HasShape, HoldsMixings, IsPower}
@@ -85,15 +85,15 @@ filled-more old new rows count start row before same inside is mixed =
     subst (λ (t : List (List ℕ)). IsFilled t rows (count + 1) start) (sym is) after
 
 -- no mixing at first
-pub mixes-none : (m : Counts) (n : ℕ) → m ≡ record m { mixes = m.mixes + n * 0 }
+pub mixes-none : (m : Work) (n : ℕ) → m ≡ record m { mixes = m.mixes + n * 0 }
 mixes-none m n = let none : m.mixes ≡ m.mixes + n * 0 = omega arith in ap (λ k. record m { mixes = k }) none
 
 -- the mixings of two calls
-pub mixes-more : (a b c : Counts) (m n all : ℕ) → b ≡ record a { mixes = a.mixes + m } → c ≡ record b { mixes = b.mixes + n } → m + n ≡ all
+pub mixes-more : (a b c : Work) (m n all : ℕ) → b ≡ record a { mixes = a.mixes + m } → c ≡ record b { mixes = b.mixes + n } → m + n ≡ all
     → c ≡ record a { mixes = a.mixes + all }
 mixes-more a b c m n all first then sum =
     let whole : a.mixes + m + n ≡ a.mixes + all = omega arith in
-    then ∙ (ap (λ (x : Counts). record x { mixes = x.mixes + n }) first ∙ ap (λ k. record a { mixes = k }) whole)
+    then ∙ (ap (λ (x : Work). record x { mixes = x.mixes + n }) first ∙ ap (λ k. record a { mixes = k }) whole)
 
 -- the first parts, each of `size` bytes, under ROMix
 unfoldable pub first_parts : ℕ → ℕ → List ℕ → ℕ → List ℕ

@@ -3,11 +3,13 @@ use Rattle.std.proofs.Common.{◌≡◌, ℕ, ◌+◌, ◌*◌, List, ◌++◌, 
 use Rattle.std.specs.Int.{div_ceil}
 use Rattle.std.proofs.lemmas.List.{take_at}
 use Rattle.prims_core.specs.Memory.{written_over}
-use Rattle.prims_core.specs.Meter.{Counts, with_work}
+use Rattle.prims_core.specs.Meter.{with_work}
+use Rattle.prims_core.specs.declared.work.Work.{Work}
 use Rattle.kdf_core.specs.Hmac.{key_digests, key_bytes, tag_bytes}
-use Rattle.kdf_core.specs.Params.{ScryptCost, rows}
+use Rattle.kdf_core.specs.Params.{ScryptCost, row_count}
 use Rattle.kdf_core.specs.Pbkdf2.{pbkdf2_sha256, block_bytes, pbkdf2_digests, pbkdf2_bytes}
-use Rattle.kdf_core.specs.Scrypt.{part_bytes, parts_bytes, mixed_parts, scrypt, scrypt_digests, scrypt_bytes}
+use Rattle.kdf_core.specs.Scrypt.{part_bytes, parts_bytes, mixed_parts, scrypt}
+use Rattle.kdf_core.specs.ScryptWork.{scrypt_digests, scrypt_bytes}
 use Rattle.kdf_core.proofs.ScryptBounds.{parts-blocks}
 
 -- what is written over a list of its length stands there as it is
@@ -25,7 +27,7 @@ same_length zeros derived parts mixed last same parts_are same_mixed lasting =
 
 -- the two derivations, and the mixing of the parts between them
 pub value-is : (password salt : List ℕ) (cost : ScryptCost) (count n : ℕ) (zeros derived parts halves mixed last out : List ℕ)
-    → n ≡ rows cost → length zeros ≡ parts_bytes cost → length halves ≡ 64 * cost.r
+    → n ≡ row_count cost → length zeros ≡ parts_bytes cost → length halves ≡ 64 * cost.r
     → derived ≡ pbkdf2_sha256 password salt 1 (length zeros) → length derived ≡ length zeros → parts ≡ written_over zeros derived
     → mixed ≡ mixed_parts n (2 * length halves) parts → length mixed ≡ length parts → last ≡ written_over (written_over zeros derived) mixed
     → out ≡ pbkdf2_sha256 password last 1 count → out ≡ scrypt password salt cost count
@@ -34,15 +36,15 @@ value-is password salt cost count n zeros derived parts halves mixed last out n_
     let size : 2 * length halves ≡ part_bytes cost = omega arith in
     let parts_derived : parts ≡ derived = parts_are ∙ written_over-same zeros derived same in
     let derived_is : derived ≡ pbkdf2_sha256 password salt 1 (parts_bytes cost) = first ∙ ap (pbkdf2_sha256 password salt 1) whole in
-    let mixed_is : mixed ≡ mixed_parts (rows cost) (part_bytes cost) (pbkdf2_sha256 password salt 1 (parts_bytes cost)) =
+    let mixed_is : mixed ≡ mixed_parts (row_count cost) (part_bytes cost) (pbkdf2_sha256 password salt 1 (parts_bytes cost)) =
     mixing ∙ (ap (λ k. mixed_parts k (2 * length halves) parts) n_is
-    ∙ (ap (λ k. mixed_parts (rows cost) k parts) size ∙ ap (mixed_parts (rows cost) (part_bytes cost)) (parts_derived ∙ derived_is))) in
+    ∙ (ap (λ k. mixed_parts (row_count cost) k parts) size ∙ ap (mixed_parts (row_count cost) (part_bytes cost)) (parts_derived ∙ derived_is))) in
     let same_length : length mixed ≡ length (written_over zeros derived) = same_mixed ∙ ap length parts_are in
     let last_is : last ≡ mixed = lasting ∙ written_over-same (written_over zeros derived) mixed same_length in
     second ∙ ap (λ (s : List ℕ). pbkdf2_sha256 password s 1 count) (last_is ∙ mixed_is)
 
 -- the counts after the growths, the key, the two derivations and the mixings
-pub counts-are : (m0 m1 m2 m3 m4 m5 m6 m7 : Counts) (table parts halves key_d key_b first_d first_b mixes last_d last_b : ℕ)
+pub counts-are : (m0 m1 m2 m3 m4 m5 m6 m7 : Work) (table parts halves key_d key_b first_d first_b mixes last_d last_b : ℕ)
     → m1 ≡ record m0 { table = m0.table + table } → m2 ≡ record m1 { scratch = m1.scratch + parts }
     → m3 ≡ record m2 { scratch = m2.scratch + halves } → m4 ≡ with_work m3 key_d key_b → m5 ≡ with_work m4 first_d first_b
     → m6 ≡ record m5 { mixes = m5.mixes + mixes } → m7 ≡ with_work m6 last_d last_b
@@ -54,15 +56,15 @@ pub counts-are : (m0 m1 m2 m3 m4 m5 m6 m7 : Counts) (table parts halves key_d ke
       scratch = m0.scratch + parts + halves;
     }
 counts-are m0 m1 m2 m3 m4 m5 m6 m7 table parts halves key_d key_b first_d first_b mixes last_d last_b e1 e2 e3 e4 e5 e6 e7 =
-    e7 ∙ ap (λ (m : Counts). with_work m last_d last_b) (e6
-    ∙ ap (λ (m : Counts). record m { mixes = m.mixes + mixes }) (e5
-    ∙ ap (λ (m : Counts). with_work m first_d first_b) (e4
-    ∙ ap (λ (m : Counts). with_work m key_d key_b) (e3
-    ∙ ap (λ (m : Counts). record m { scratch = m.scratch + halves }) (e2
-    ∙ ap (λ (m : Counts). record m { scratch = m.scratch + parts }) e1)))))
+    e7 ∙ ap (λ (m : Work). with_work m last_d last_b) (e6
+    ∙ ap (λ (m : Work). record m { mixes = m.mixes + mixes }) (e5
+    ∙ ap (λ (m : Work). with_work m first_d first_b) (e4
+    ∙ ap (λ (m : Work). with_work m key_d key_b) (e3
+    ∙ ap (λ (m : Work). record m { scratch = m.scratch + halves }) (e2
+    ∙ ap (λ (m : Work). record m { scratch = m.scratch + parts }) e1)))))
 
 -- counts that agree, number by number
-pub same_counts : (a b : Counts) → a.digests ≡ b.digests → a.bytes ≡ b.bytes → a.mixes ≡ b.mixes → a.table ≡ b.table
+pub same_counts : (a b : Work) → a.digests ≡ b.digests → a.bytes ≡ b.bytes → a.mixes ≡ b.mixes → a.table ≡ b.table
     → a.scratch ≡ b.scratch → a ≡ b
 same_counts a b d y m t s =
     ap (λ n. record a { digests = n }) d
@@ -94,10 +96,10 @@ bytes-are cost password_length salt_length count first last is last_is =
     ∙ ap (λ n. key_bytes password_length + 4 * (cost.r * cost.p) * tag_bytes (salt_length + 4) + n) answer
 
 -- the counts where the third growth is refused
-pub after_two_growths : (m0 m1 m2 m3 : Counts) (t s table parts : ℕ) → m1 ≡ record m0 { table = m0.table + t }
+pub after_two_growths : (m0 m1 m2 m3 : Work) (t s table parts : ℕ) → m1 ≡ record m0 { table = m0.table + t }
     → m2 ≡ record m1 { scratch = m1.scratch + s } → m3 ≡ m2 → t ≡ table → s ≡ parts
     → m3 ≡ record m0 { table = m0.table + table; scratch = m0.scratch + parts }
 after_two_growths m0 m1 m2 m3 t s table parts first second third t_is s_is =
-    third ∙ (second ∙ (ap (λ (m : Counts). record m { scratch = m.scratch + s }) first
+    third ∙ (second ∙ (ap (λ (m : Work). record m { scratch = m.scratch + s }) first
     ∙ (ap (λ n. record m0 { table = m0.table + n; scratch = m0.scratch + s }) t_is
     ∙ ap (λ n. record m0 { table = m0.table + table; scratch = m0.scratch + n }) s_is)))

@@ -4,3 +4,4 @@ pub mod Params
 pub mod Pbkdf2
 pub mod Private
 pub mod Scrypt
+pub mod ScryptWork

@@ -11,8 +11,8 @@ abbrev pub cost_of : ℕ → ℕ → ℕ → ScryptCost
 cost_of log_n r p = record { log_n = log_n; r = r; p = p }
 
 -- N, the number of rows of a table
-abbrev pub rows : ScryptCost → ℕ
-rows cost = 2 ^ cost.log_n
+abbrev pub row_count : ScryptCost → ℕ
+row_count cost = 2 ^ cost.log_n
 
 -- log2 N is at least 1 and stays below 16 r, and neither r nor p is 0 (RFC 7914, section 2; its bound on p follows from
 -- the ceiling)
@@ -28,7 +28,7 @@ ceiling = 8388608
 
 -- N * r * p, by which memory and time grow
 abbrev pub product : ScryptCost → ℕ
-product cost = rows cost * cost.r * cost.p
+product cost = row_count cost * cost.r * cost.p
 
 abbrev pub IsWithinCeiling : ScryptCost → Type 0
 IsWithinCeiling cost = product cost ≤ ceiling
@@ -38,14 +38,13 @@ pub record IsAccepted (cost : ScryptCost) : Type 0 where
   pub in_range : IsInRange cost
   pub within : IsWithinCeiling cost
 
--- what the accepted numbers are at least, and what they and products of two of them are at most: N is at
--- most 2 ^ 22
+-- numbers that are accepted, and what follows: N is at least 2 and at most 2 ^ 22, and r and the products of two are
+-- at most so much
 pub record IsBounded (cost : ScryptCost) : Type 0 where
+  pub accepted : IsAccepted cost
   pub log : cost.log_n ≤ 22
-  pub two_rows : 2 ≤ rows cost
-  pub table : rows cost * cost.r ≤ 2 ^ 23
+  pub two_rows : 2 ≤ row_count cost
+  pub table : row_count cost * cost.r ≤ 2 ^ 23
   pub parts : cost.r * cost.p ≤ 2 ^ 22
   pub blocks : cost.r ≤ 2 ^ 22
-  pub some_block : 1 ≤ cost.r
-  pub some_part : 1 ≤ cost.p
-  pub mixes : rows cost * cost.p ≤ 2 ^ 23
+  pub mixes : row_count cost * cost.p ≤ 2 ^ 23

@@ -3,8 +3,8 @@
 //! A `Params` is in range and within the ceiling by its invariant, so whoever holds one may ask for
 //! the memory that it stands for.
 
-ghost use Rattle.std.specs.Prelude.{◌≡◌, ◌↔◌, IfOk, IsOk, IsTrue};
-ghost use Rattle.kdf_core.specs.Params.{cost_of, product, rows, IsInRange, IsWithinCeiling, IsAccepted, IsBounded};
+ghost use Rattle.std.specs.Prelude.{◌≡◌, ◌↔◌, ◌≤◌, IfOk, IsOk, IsTrue};
+ghost use Rattle.kdf_core.specs.Params.{ceiling, cost_of, product, row_count, IsInRange, IsWithinCeiling, IsAccepted, IsBounded};
 
 use std::marker::Model;
 use thiserror::Error;
@@ -47,13 +47,13 @@ pub struct Params {
 }
 
 impl Model for Params {
-    ghost use Rattle.kdf_core.specs.Params.{ScryptCost, IsAccepted};
+    ghost use Rattle.kdf_core.specs.Params.{ScryptCost, cost_of, IsAccepted};
 
     ghost Value = { ScryptCost };
 
-    ghost view = { λ a. record { log_n = a.log_n; r = a.r; p = a.p } };
+    ghost view = { λ a. cost_of a.log_n a.r a.p };
 
-    ghost invariant = { λ a. IsAccepted (record { log_n = a.log_n; r = a.r; p = a.p }) };
+    ghost invariant = { λ a. IsAccepted (cost_of a.log_n a.r a.p) };
 
     ghost inverse = { λ c. record { log_n = c.log_n; r = c.r; p = c.p } };
 }
@@ -87,7 +87,7 @@ impl Params {
 
     /// N, the number of rows of the table: a power of two of at most 2^22.
     pub fn row_count(&self) -> u32
-        ensures number { result ≡ rows self.now }
+        ensures number { result ≡ row_count self.now }
         ensures bounded { IsBounded self.now }
     {
         1 << self.log_n()
@@ -111,7 +111,8 @@ impl Params {
 
     /// The product `N * r * p`, by which scrypt's time grows: at most 2^23.
     pub fn product(&self) -> u32
-        ensures { result ≡ product self.now }
+        ensures product { result ≡ product self.now }
+        ensures within { result ≤ ceiling }
     {
         self.row_count() * self.r() * self.p()
     }

@@ -6,10 +6,11 @@
 ghost use Rattle.std.specs.Prelude.{◌≡◌, ℕ, ◌+◌, ◌-◌, ◌*◌, ◌/◌, ◌^◌, ◌%◌, ◌<◌, ◌≤◌, List, length, OnOk, OnErr};
 ghost use Rattle.std.specs.Fn.{iterate};
 ghost use Rattle.prims_core.specs.BlockMix.{block_mix as mixed};
-ghost use Rattle.prims_core.specs.Meter.{AreInAll, HasRoom};
+ghost use Rattle.prims_core.specs.Meter.{HaveCountAndSum, HasRoom};
 ghost use Rattle.kdf_core.specs.Params.{IsBounded};
 ghost use Rattle.kdf_core.specs.Private.Mixing.{HasShape, HoldsMixings, AreHalves, IsPower, part_words};
-ghost use Rattle.kdf_core.specs.Scrypt.{scrypt, integerify, mixed_back, romix, mixed_part, mixed_parts, scrypt_bytes, scrypt_digests, scrypt_messages, with_scrypt, IsAfterRefusal};
+ghost use Rattle.kdf_core.specs.Scrypt.{scrypt, integerify, mixed_back, romix, mixed_part, mixed_parts};
+ghost use Rattle.kdf_core.specs.ScryptWork.{scrypt_bytes, scrypt_digests, scrypt_messages, with_scrypt, IsAfterRefusal};
 
 use crate::hmac::HmacKey;
 use crate::params::Params;
@@ -53,7 +54,7 @@ pub fn scrypt(
     ensures bytes { OnOk result (out.new ≡ scrypt password.now salt.now params.now (length out.old)) }
     ensures count { OnOk result (meter.new
         ≡ with_scrypt meter.old params.now (length password.now) (length salt.now) (length out.old)) }
-    ensures specified { AreInAll (scrypt_messages password.now salt.now params.now (length out.old))
+    ensures specified { HaveCountAndSum (scrypt_messages password.now salt.now params.now (length out.old))
         (scrypt_digests params.now (length password.now) (length out.old))
         (scrypt_bytes params.now (length password.now) (length salt.now) (length out.old)) }
     ensures unchanged { OnErr result (out.new ≡ out.old) }
@@ -172,12 +173,13 @@ fn mix_back(table: &Table, rows: usize, x: &mut [u32], y: &mut [u32], meter: &mu
     ensures mixed { (start : List ℕ) → HoldsMixings table.now rows start → y.new ≡ mixed_back rows start x.old }
     ensures count { meter.new ≡ record meter.old { mixes = meter.old.mixes + 1 } }
 {
-    let row = table.row(integerify(x, rows));
+    let row = table.row(row_number(x, rows));
     block_mix_xor(x, row, y, meter);
 }
 
-// Integerify (X) mod N. As N is a power of two of at most 2^32, the block's first word decides.
-fn integerify(words: &[u32], rows: usize) -> usize
+// The number of the row that F takes for X: Integerify (X) mod N. As N is a power of two of at most 2^32, the first
+// word of the last block decides.
+fn row_number(words: &[u32], rows: usize) -> usize
     requires power { (k : ℕ) × IsPower rows k }
     requires some_block { BLOCK_WORDS ≤ length words.now }
     ensures { result ≡ integerify words.now % rows }

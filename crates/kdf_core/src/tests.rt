@@ -2,7 +2,8 @@
 //! contracts alone.
 
 ghost use Rattle.std.specs.Prelude.{◌≡◌, ◌+◌, ◌≤◌, ◌<◌, ◌++◌, length};
-ghost use Rattle.prims_core.specs.Meter.{no_counts, with_work};
+ghost use Rattle.prims_core.specs.Meter.{with_work};
+ghost use Rattle.prims_core.specs.Work.{no_work};
 ghost use Rattle.kdf_core.specs.Hmac.{hmac_sha256, key_digests, key_bytes, tag_bytes};
 ghost use Rattle.kdf_core.specs.Pbkdf2.{pbkdf2_sha256};
 
@@ -23,10 +24,10 @@ pub(crate) fn hexadecimal(alloc: Global, bytes: &[u8]) -> Result<String, AllocEr
 
 // The tag of two pieces under a key, and the work of both.
 fn tag_of(key: &[u8], a: &[u8], b: &[u8], meter: &mut Meter) -> [u8; 32]
-    requires fresh { meter.old ≡ no_counts }
+    requires fresh { meter.old ≡ no_work }
     requires short { length key.now + length a.now + length b.now ≤ 1000 }
     ensures tag { result ≡ hmac_sha256 key.now (a.now ++ b.now) }
-    ensures count { meter.new ≡ with_work (with_work no_counts (key_digests (length key.now)) (key_bytes (length key.now)))
+    ensures count { meter.new ≡ with_work (with_work no_work (key_digests (length key.now)) (key_bytes (length key.now)))
         2 (tag_bytes (length a.now + length b.now)) }
 {
     HmacKey::new(key, meter).tag(a, b, meter)
@@ -34,11 +35,11 @@ fn tag_of(key: &[u8], a: &[u8], b: &[u8], meter: &mut Meter) -> [u8; 32]
 
 // The first 32 bytes that a password, a salt and two rounds give, and the work of a short password.
 fn two_rounds(password: &[u8], salt: &[u8], meter: &mut Meter) -> [u8; 32]
-    requires fresh { meter.old ≡ no_counts }
+    requires fresh { meter.old ≡ no_work }
     requires password { length password.now ≤ 64 }
     requires salt { length salt.now ≤ 1000 }
     ensures bytes { result ≡ pbkdf2_sha256 password.now salt.now 2 32 }
-    ensures count { meter.new ≡ with_work no_counts 4 (356 + length salt.now) }
+    ensures count { meter.new ≡ with_work no_work 4 (356 + length salt.now) }
 {
     let key = HmacKey::new(password, meter);
     let mut out = [0; 32];

@@ -3,7 +3,7 @@
 ghost use Rattle.std.specs.Prelude.{◌≡◌, ◌+◌, ◌^◌, ◌≤◌};
 ghost use Rattle.kdf_core.specs.Hmac.{tag_bytes};
 ghost use Rattle.kdf_core.specs.Params.{IsBounded};
-ghost use Rattle.kdf_core.specs.Scrypt.{mixed_bytes, scrypt_work};
+ghost use Rattle.kdf_core.specs.ScryptWork.{mixed_bytes, scrypt_work};
 
 use crate::hmac::{SHA256_BLOCK, SHA256_LENGTH};
 use crate::params::Params;
@@ -12,7 +12,8 @@ use prims_core::work::Work;
 
 /// What a meter counts of scrypt (RFC 7914, section 6), for a password, a salt and a result of so many bytes.
 ///
-/// Each of the three is at most 2^32. Nothing is derived for it and no memory is taken.
+/// Each of the three is at most 2^32, since the bytes that scrypt digests for longer ones may not fit the 64 bits of
+/// a count. Nothing is derived for it and no memory is taken.
 pub fn scrypt_work(params: &Params, password_len: u64, salt_len: u64, out_len: u64) -> Work
     requires password { password_len ≤ 2 ^ 32 }
     requires salt { salt_len ≤ 2 ^ 32 }
@@ -24,27 +25,27 @@ pub fn scrypt_work(params: &Params, password_len: u64, salt_len: u64, out_len: u
     let r = u64::from(params.r());
     let p = u64::from(params.p());
     let part = UNIT_BYTES as u64 * r;
+    let parts = part * p;
     let blocks = out_len.div_ceil(SHA256_LENGTH as u64);
     let key_digests = u64::from(password_len > SHA256_BLOCK as u64);
     Work {
         digests: 8 * (r * p) + 2 * blocks + key_digests,
         bytes: key_digests * password_len
             + 4 * (r * p) * salted_tag_bytes(salt_len)
-            + blocks * salted_tag_bytes(part * p),
+            + blocks * salted_tag_bytes(parts),
         mixes: 2 * rows * p,
         table: rows * part,
-        scratch: part * p + 2 * part,
+        scratch: parts + 2 * part,
     }
 }
 
-/// The bytes that scrypt's mixings mix: a part of 128r bytes in each of the 2Np. They are at most 2^31.
+/// The bytes that scrypt's mixings mix: a part of 128r bytes in each of the 2Np, so 256 for each unit of the product
+/// of N, r and p. They are at most 2^31.
 pub fn mixed_bytes(params: &Params) -> u64
     ensures bytes { result ≡ mixed_bytes params.now }
     ensures below { result ≤ 2 ^ 31 }
 {
-    let rows = u64::from(params.row_count());
-    let part = UNIT_BYTES as u64 * u64::from(params.r());
-    2 * rows * u64::from(params.p()) * part
+    2 * UNIT_BYTES as u64 * u64::from(params.product())
 }
 
 // The bytes that a tag of a salt and the number of a block digests: both padded keys, the inner digest, and

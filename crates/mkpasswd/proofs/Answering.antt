@@ -1,7 +1,7 @@
 -- The answer to a line that is too long, how far an answer raises the counts, and the room that it leaves.
 use Rattle.std.proofs.Common.{◌≡◌, ℕ, ◌+◌, ◌<◌, ◌≤◌, List, [], length, Option, Result, Ok, Err, refl, arith}
 use Rattle.rand_core.specs.Stream.{Stream}
-use Rattle.prims_core.specs.Meter.{Counts}
+use Rattle.prims_core.specs.declared.work.Work.{Work}
 use Rattle.mkpasswd.specs.Answers.{Answer, after_work}
 use Rattle.mkpasswd.specs.Devices.{Device, IsUnfailed, IsUnflushed, calls_limit}
 use Rattle.mkpasswd.specs.LineAnswers.{IsAnswer, refused_answer}
@@ -43,7 +43,7 @@ too_long-refused kind line long = record {
 }
 
 -- so its refusal is the answer, whatever its bytes are
-pub too_long-answered : (kind : Kind) (job : Job) (number : ℕ) (line : List ℕ) (stream : Stream) (made : LineAnswer) (counts : Counts)
+pub too_long-answered : (kind : Kind) (job : Job) (number : ℕ) (line : List ℕ) (stream : Stream) (made : LineAnswer) (counts : Work)
     → line_limit < length line → ((stream : Stream) → Says made.outcome made.text.items (refused_answer number LineTooLong stream))
     → (answer : Answer) × IsAnswer kind job number line stream answer
     × (Says made.outcome made.text.items answer × (counts ≡ after_work counts answer.hashings) × (stream ≡ answer.stream))
@@ -84,7 +84,7 @@ one_more-device lines old new room unfailed unflushed calls bytes =
     let flushes = room.flushes in
     record { failures = omega arith; calls = calls; bytes = omega arith; flushes = rw (unflushed.flushes) flushes }
 
-one_more-counts : (lines : ℕ) (old new : Counts) → HasCountsFor lines old → IsRaisedBelow line_work_limit old new → HasCountsFor (lines + 1) new
+one_more-counts : (lines : ℕ) (old new : Work) → HasCountsFor lines old → IsRaisedBelow line_work_limit old new → HasCountsFor (lines + 1) new
 one_more-counts lines old new room small = record {
   digests = (let before = room.digests in let more = small.digests in omega arith);
   bytes = (let before = room.bytes in let more = small.bytes in omega arith);
@@ -112,8 +112,8 @@ module _ {O E : Type 0} where
       let misfits_now = one.misfits in
       record {
         tallied = record { refused = omega arith; misfits = omega arith };
-        out = rw line (one_more-device tally.lines old.out new.out room.out sent.0 sent.2.unflushed (omega (arith, calls, turns)) bytes);
-        faults = rw line (one_more-device tally.lines old.faults new.faults room.faults sent.1 sent.3.unflushed (omega (arith, calls, turns)) fault_bytes);
+        out = rw line (one_more-device tally.lines old.out new.out room.out sent.0 sent.2.flush (omega (arith, calls, turns)) bytes);
+        faults = rw line (one_more-device tally.lines old.faults new.faults room.faults sent.1 sent.3.flush (omega (arith, calls, turns)) fault_bytes);
         counts = rw line (one_more-counts tally.lines old.counts new.counts room.counts small);
       }
 

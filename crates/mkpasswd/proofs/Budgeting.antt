@@ -8,8 +8,9 @@ use Rattle.crypt_core.specs.declared.method.Method.{Method}
 use Rattle.crypt_core.specs.declared.method.Method.TheVariants.{Md5crypt, Sha256crypt, Sha512crypt, Scrypt}
 use Rattle.mkpasswd.specs.Answers.{Answer}
 use Rattle.mkpasswd.specs.Budgets.{without_budget}
-use Rattle.mkpasswd.specs.LineAnswers.{IsAnswer, IsCostly, OnlyRefuses, refused_answer}
+use Rattle.mkpasswd.specs.LineAnswers.{IsAnswer, IsCostly, refused_answer}
 use Rattle.mkpasswd.specs.LineAnswers.IsAnswer.{refused, over, hashed, none, locked, ok, rehashed, no}
+use Rattle.mkpasswd.specs.LineOptions.{OnlyRefuses}
 use Rattle.mkpasswd.specs.Lines.{HasParts, IsStored, Parts}
 use Rattle.mkpasswd.specs.One.{EndsBy, EndsByInput, EndsOne}
 use Rattle.mkpasswd.specs.Rehashes.{without_rehash}

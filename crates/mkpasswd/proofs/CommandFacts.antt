@@ -9,7 +9,7 @@ use Rattle.clap.specs.Words.{Rule, Text, fault_of, is_simple, is_simple_and_free
 use Rattle.clap.specs.declared.error.kind.ErrorKind.TheVariants as kind
 use Rattle.clap.proofs.OnLiterals.{clap_on_literals}
 use Rattle.clap.proofs.WalkLemmas.{both}
-use Rattle.mkpasswd.specs.Options.{budget_rule, command, rounds_rule, values_in}
+use Rattle.mkpasswd.specs.Options.{Values, budget_rule, command, rounds_rule, values_in}
 use Rattle.mkpasswd.proofs.PassedValues.{IsOnlyRule, all_free}
 
 -- ---- a simple command, without exclusions
@@ -88,6 +88,22 @@ is_budget = record {
 
 -- ---- what it makes of some words
 
+-- nothing was given
+abbrev pub no_values : Values
+no_values = record {
+  method = None;
+  salt = None;
+  salt_word = None;
+  cost = 0;
+  stdin = false;
+  batch = false;
+  check = false;
+  rehash = false;
+  work = false;
+  budget = None;
+  password = None;
+}
+
 abbrev words : List Text
 words =
     codes "-m" ∷ codes "md5" ∷ codes "-R" ∷ codes "+07" ∷ codes "--work" ∷ codes "--budget" ∷ codes "+036" ∷ codes "--check" ∷ codes "--rehash" ∷ codes "x" ∷ codes "ab" ∷ []
@@ -100,13 +116,10 @@ no_fault : fault_of command words ≡ []
 unfolding command clap_on_literals
 no_fault = refl
 
-values_of_words : values_in (matches_of command words) ≡ record {
+values_of_words : values_in (matches_of command words) ≡ record no_values {
   method = Some (codes "md5");
-  salt = None;
   salt_word = Some (codes "ab");
   cost = 7;
-  stdin = false;
-  batch = false;
   check = true;
   rehash = true;
   work = true;
@@ -120,19 +133,7 @@ no_words_taken : fault_of command [] ≡ []
 unfolding command clap_on_literals
 no_words_taken = refl
 
-values_of_no_words : values_in (matches_of command []) ≡ record {
-  method = None;
-  salt = None;
-  salt_word = None;
-  cost = 0;
-  stdin = false;
-  batch = false;
-  check = false;
-  rehash = false;
-  work = false;
-  budget = None;
-  password = None;
-}
+values_of_no_words : values_in (matches_of command []) ≡ no_values
 unfolding command clap_on_literals
 values_of_no_words = refl
 

@@ -1,5 +1,5 @@
 -- The words that a setting takes from a stream, and what it costs whatever they are.
-use Rattle.std.proofs.Common.{◌≡◌, ℕ, ◌+◌, Bool, true, false, not, List, [], length, Option, Some, None, is_some, unwrap_or, refl, sym, ap, ◌∙◌}
+use Rattle.std.proofs.Common.{◌≡◌, ℕ, ◌+◌, Bool, true, false, not, List, [], length, Option, Some, None, is_some, refl, sym, ap, ◌∙◌}
 use Rattle.std.proofs.lemmas.List.FromFn.{length-map-range_with_len}
 use Rattle.rand_core.specs.Stream.{Stream}
 use Rattle.crypt_core.specs.MadeSalts.{made_character, made_salt, three_words, made_salt_length}
@@ -64,14 +64,14 @@ made_salt-length : (words : List ℕ) (n : ℕ) → length (made_salt words n) �
 unfolding made_salt
 made_salt-length words n = length-map-range_with_len (made_character words) 0 n
 
-salt-length : (salt : Option (List ℕ)) (words others : List ℕ) (n : ℕ)
-    → length (unwrap_or salt (made_salt words n)) ≡ length (unwrap_or salt (made_salt others n))
-salt-length None words others n = made_salt-length words n ∙ sym (made_salt-length others n)
-salt-length (Some salt) words others n = refl
-
 -- it is the same for all words, since they make salts of one length
 pub same_cost : (recipe : Recipe) (words others : List ℕ) (password : ℕ) → cost (setting_by recipe words) password ≡ cost (setting_by recipe others) password
-same_cost recipe words others password =
-    let scheme = made_scheme recipe.method recipe.cost in
-    ap (λ (salt : ℕ). (work_by scheme greatest_byte password salt).bytes + mixed_bytes_by scheme)
-    (salt-length recipe.salt words others (made_salt_length recipe.method))
+same_cost recipe words others password = go recipe.salt where
+  go : (salt : Option (List ℕ))
+      → cost (setting_by (record recipe { salt = salt }) words) password ≡ cost (setting_by (record recipe { salt = salt }) others) password
+  go None =
+      let scheme = made_scheme recipe.method recipe.cost in
+      let len = made_salt_length recipe.method in
+      ap (λ (salt : ℕ). (work_by scheme greatest_byte password salt).bytes + mixed_bytes_by scheme)
+      (made_salt-length words len ∙ sym (made_salt-length others len))
+  go (Some salt) = refl

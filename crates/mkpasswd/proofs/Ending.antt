@@ -1,8 +1,8 @@
 -- How the run for one password ends, from what its steps leave.
 use Rattle.std.proofs.Common.{◌≡◌, ℕ, ◌+◌, List, [], Result, Ok, Err, refl, sym, ap, subst, ◌∙◌, add-zero, arith, inl, inr}
 use Rattle.rand_core.specs.Stream.{Stream}
-use Rattle.prims_core.specs.Meter.{Counts}
-use Rattle.crypt_core.specs.Crypt.{IsRefusedBy}
+use Rattle.prims_core.specs.declared.work.Work.{Work}
+use Rattle.crypt_core.specs.Crypt.{IsAfterRefusedGrowth}
 use Rattle.crypt_core.specs.Passwords.{IsPassword}
 use Rattle.crypt_core.specs.Settings.{Kept}
 use Rattle.crypt_core.specs.Work.{raised_by, work}
@@ -27,16 +27,16 @@ use Rattle.mkpasswd.proofs.Sending.{takes-nothing}
 
 module _ {I O E : Type 0} (told : Tells I O E) (turns : ℕ) (job : Job) where
   -- the hands after a step that left the outputs alone
-  abbrev before_giving : Hands I O E → Device I → Stream → Counts → Hands I O E
+  abbrev before_giving : Hands I O E → Device I → Stream → Work → Hands I O E
   before_giving old input stream counts = hands input old.out old.faults stream counts
 
   -- nothing was given
-  fails-in_input : (old : Hands I O E) (input : Device I) (stream : Stream) (counts : Counts) (failed : ℕ)
+  fails-in_input : (old : Hands I O E) (input : Device I) (stream : Stream) (counts : Work) (failed : ℕ)
       → input.failures ≡ old.input.failures + failed → Fails failed 0 0 old (before_giving old input stream counts)
   fails-in_input old input stream counts failed failures =
       record { of_input = failures; of_out = sym (add-zero _); of_faults = sym (add-zero _) }
 
-  takes-none : (old : Hands I O E) (input : Device I) (stream : Stream) (counts : Counts)
+  takes-none : (old : Hands I O E) (input : Device I) (stream : Stream) (counts : Work)
       → TakesAnswer told (no_answer old.stream) old (before_giving old input stream counts)
   takes-none old input stream counts = record {
     text = takes-nothing told.contents old.out;
@@ -142,9 +142,9 @@ module _ {I O E : Type 0} (told : Tells I O E) (turns : ℕ) (job : Job) where
   -- ---- the hash
 
   -- memory for it was refused
-  pub ends-out_of_memory : (from : PasswordFrom) (password : List ℕ) (old : Hands I O E) (input : Device I) (stream : Stream) (counts : Counts) (left : ℕ) (kept : Kept)
+  pub ends-out_of_memory : (from : PasswordFrom) (password : List ℕ) (old : Hands I O E) (input : Device I) (stream : Stream) (counts : Work) (left : ℕ) (kept : Kept)
       → ObtainsFrom told.remaining from old.input input left (Ok password) → IsDrawn job.maker old.stream stream kept
-      → IsRefusedBy old.counts kept.scheme counts
+      → IsAfterRefusedGrowth old.counts kept.scheme counts
       → EndsOne told turns job from old (before_giving old input stream counts) (Err OutOfMemory)
   ends-out_of_memory from password old input stream counts left kept obtains drawn refused =
       let is = is_password from old.input input left password obtains in
@@ -153,19 +153,19 @@ module _ {I O E : Type 0} (told : Tells I O E) (turns : ℕ) (job : Job) where
         (
           fails-in_input old input stream counts 0 (is.1 ∙ sym (add-zero _)),
           takes-none old input stream counts,
-          inl (subst (λ (k : Kept). IsRefusedBy old.counts k.scheme counts) drawn.kept_is refused, drawn.stream_is),
+          inl (subst (λ (k : Kept). IsAfterRefusedGrowth old.counts k.scheme counts) drawn.kept_is refused, drawn.stream_is),
         ),
       )
 
   -- it is made: the words are drawn, and its work is counted
-  pub record HasHash (from : PasswordFrom) (password line : List ℕ) (old : Hands I O E) (input : Device I) (stream : Stream) (counts : Counts) (left : ℕ) : Type 0 where
+  pub record HasHash (from : PasswordFrom) (password line : List ℕ) (old : Hands I O E) (input : Device I) (stream : Stream) (counts : Work) (left : ℕ) : Type 0 where
     pub obtains : ObtainsFrom told.remaining from old.input input left (Ok password)
     pub calls : input.calls + left ≡ old.input.calls + turns
     pub line_is : line ≡ (password_answer job password old.stream).text
     pub stream_is : stream ≡ (password_answer job password old.stream).stream
     pub counts_are : counts ≡ after_work old.counts (password_answer job password old.stream).hashings
 
-  pub has_hash : (from : PasswordFrom) (password line : List ℕ) (old : Hands I O E) (input : Device I) (stream : Stream) (counts : Counts) (left : ℕ) (kept : Kept)
+  pub has_hash : (from : PasswordFrom) (password line : List ℕ) (old : Hands I O E) (input : Device I) (stream : Stream) (counts : Work) (left : ℕ) (kept : Kept)
       → ObtainsFrom told.remaining from old.input input left (Ok password) → input.calls + left ≡ old.input.calls + turns
       → IsDrawn job.maker old.stream stream kept → counts ≡ raised_by old.counts (work password kept)
       → line ≡ as_line (hash_text job password kept)
@@ -178,7 +178,7 @@ module _ {I O E : Type 0} (told : Tells I O E) (turns : ℕ) (job : Job) where
     counts_are = counted ∙ ap (λ (k : Kept). raised_by old.counts (work password k)) drawn.kept_is;
   }
 
-  after_answer : (from : PasswordFrom) (password line : List ℕ) (old : Hands I O E) (input : Device I) (out : Device O) (stream : Stream) (counts : Counts) (left : ℕ)
+  after_answer : (from : PasswordFrom) (password line : List ℕ) (old : Hands I O E) (input : Device I) (out : Device O) (stream : Stream) (counts : Work) (left : ℕ)
       → HasHash from password line old input stream counts left
       → IsAfterBoth (no_answer old.stream) (password_answer job password old.stream) old (hands input out old.faults stream counts)
   after_answer from password line old input out stream counts left has = record { stream = has.stream_is; counts = has.counts_are }
@@ -186,7 +186,7 @@ module _ {I O E : Type 0} (told : Tells I O E) (turns : ℕ) (job : Job) where
   -- ---- the giving
 
   -- it was cut short
-  pub ends-sending : (from : PasswordFrom) (password line : List ℕ) (old : Hands I O E) (input : Device I) (out : Device O) (stream : Stream) (counts : Counts) (left : ℕ) (fault : RunFault)
+  pub ends-sending : (from : PasswordFrom) (password line : List ℕ) (old : Hands I O E) (input : Device I) (out : Device O) (stream : Stream) (counts : Work) (left : ℕ) (fault : RunFault)
       → HasHash from password line old input stream counts left
       → Delivers told.contents old.out out line {A = Unit {0}} (Err fault) → ShowsOutcome {A = Unit {0}} left old.out out (Err fault)
       → EndsOne told turns job from old (hands input out old.faults stream counts) (Err fault)
@@ -219,7 +219,7 @@ module _ {I O E : Type 0} (told : Tells I O E) (turns : ℕ) (job : Job) where
   ends-sending from password line old input out stream counts left (Password fault) has delivers outcome = absurd delivers
 
   -- it is given
-  answered : (from : PasswordFrom) (password line : List ℕ) (old : Hands I O E) (input : Device I) (out : Device O) (stream : Stream) (counts : Counts) (left : ℕ)
+  answered : (from : PasswordFrom) (password line : List ℕ) (old : Hands I O E) (input : Device I) (out : Device O) (stream : Stream) (counts : Work) (left : ℕ)
       → HasHash from password line old input stream counts left → Takes told.contents old.out out line → out.failures ≡ old.out.failures
       → HasAnswered told (password_answer job password old.stream) old (hands input out old.faults stream counts)
   answered from password line old input out stream counts left has takes unfailed =
@@ -234,7 +234,7 @@ module _ {I O E : Type 0} (told : Tells I O E) (turns : ℕ) (job : Job) where
       }
 
   -- and both outputs are flushed
-  pub ends-finished : (from : PasswordFrom) (password line : List ℕ) (old : Hands I O E) (input : Device I) (out new_out : Device O) (faults : Device E) (stream : Stream) (counts : Counts) (left : ℕ) {A : Type 0} (done : A)
+  pub ends-finished : (from : PasswordFrom) (password line : List ℕ) (old : Hands I O E) (input : Device I) (out new_out : Device O) (faults : Device E) (stream : Stream) (counts : Work) (left : ℕ) {A : Type 0} (done : A)
       → HasHash from password line old input stream counts left → Takes told.contents old.out out line → out.failures ≡ old.out.failures
       → FinishesBoth told.contents told.fault_contents out old.faults new_out faults (Ok done)
       → EndsOne told turns job from old (hands input new_out faults stream counts) (Ok one_line)
@@ -246,7 +246,7 @@ module _ {I O E : Type 0} (told : Tells I O E) (turns : ℕ) (job : Job) where
       )
 
   -- or a flush failed
-  pub ends-unfinished : (from : PasswordFrom) (password line : List ℕ) (old : Hands I O E) (input : Device I) (out new_out : Device O) (faults : Device E) (stream : Stream) (counts : Counts) (left : ℕ) (A : Type 0) (fault : RunFault)
+  pub ends-unfinished : (from : PasswordFrom) (password line : List ℕ) (old : Hands I O E) (input : Device I) (out new_out : Device O) (faults : Device E) (stream : Stream) (counts : Work) (left : ℕ) (A : Type 0) (fault : RunFault)
       → HasHash from password line old input stream counts left → Takes told.contents old.out out line → out.failures ≡ old.out.failures
       → FinishesBoth told.contents told.fault_contents out old.faults new_out faults {A = A} (Err fault)
       → EndsOne told turns job from old (hands input new_out faults stream counts) (Err fault)

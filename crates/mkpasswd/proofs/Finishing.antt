@@ -24,8 +24,8 @@ module _ {T : Type 0} (contents : T → Option (List ℕ)) where
   takes-flushed old mid new bytes takes finished = record {
     shown = keeps-appended _ (contents mid.inner) _ bytes takes.shown finished.kept.shown;
     counted = finished.kept.bytes ∙ takes.counted;
-    flushed = record {
-      flushes = finished.flushed.flushes ∙ ap (λ n. n + 1) takes.unflushed.flushes;
+    flush = record {
+      flushes = finished.flushed.flushes ∙ ap (λ n. n + 1) takes.flush.flushes;
       flushed = finished.flushed.flushed;
     };
   }
@@ -35,9 +35,9 @@ module _ {T : Type 0} (contents : T → Option (List ℕ)) where
   takes-unflushed old mid new bytes takes unfinished = record {
     shown = keeps-appended _ (contents mid.inner) _ bytes takes.shown unfinished.kept.shown;
     counted = unfinished.kept.bytes ∙ takes.counted;
-    failed = record {
-      flushes = unfinished.flush_failed.flushes ∙ ap (λ n. n + 1) takes.unflushed.flushes;
-      flushed = unfinished.flush_failed.flushed ∙ takes.unflushed.flushed;
+    flush = record {
+      flushes = unfinished.flush_failed.flushes ∙ ap (λ n. n + 1) takes.flush.flushes;
+      flushed = unfinished.flush_failed.flushed ∙ takes.flush.flushed;
     };
   }
 

@@ -10,7 +10,8 @@ use Rattle.clap.specs.Walk.{Row, Walk, Waiting, idle, nothing_held, option, used
 use Rattle.clap.specs.Words.{Shape, Text, fault_of, matches_of}
 use Rattle.clap.proofs.OnLiterals.{clap_on_literals}
 use Rattle.mkpasswd.specs.Commands.{IsNoOption, hash_words}
-use Rattle.mkpasswd.specs.Options.{command, method_rule, salt_rule, values_in}
+use Rattle.mkpasswd.specs.Options.{Values, command, method_rule, salt_rule, values_in}
+use Rattle.mkpasswd.proofs.CommandFacts.{no_values}
 
 -- ---- a word that is no option
 
@@ -125,6 +126,9 @@ all_words name salt password n s p =
 
 -- ---- what the command makes of them
 
+abbrev pub given : Text → Text → Text → Values
+given name salt password = record no_values { method = Some name; salt = Some salt; password = Some password }
+
 pub given_fault : (name salt password : Text) → IsNoOption name → IsNoOption salt → IsNoOption password
     → fault_of command (hash_words name salt password) ≡ []
 unfolding shape command defaults_fault
@@ -133,18 +137,6 @@ given_fault name salt password n s p =
     rw (goes-faultless _ _ _ on, goes-fold _ _ _ on)
 
 pub given_values : (name salt password : Text) → IsNoOption name → IsNoOption salt → IsNoOption password
-    → values_in (matches_of command (hash_words name salt password)) ≡ record {
-      method = Some name;
-      salt = Some salt;
-      salt_word = None;
-      cost = 0;
-      stdin = false;
-      batch = false;
-      check = false;
-      rehash = false;
-      work = false;
-      budget = None;
-      password = Some password;
-    }
+    → values_in (matches_of command (hash_words name salt password)) ≡ given name salt password
 unfolding shape command
 given_values name salt password n s p = rw (goes-fold _ _ _ (all_words name salt password n s p))

@@ -1,7 +1,7 @@
 -- The answers to the lines of an input, one after another.
 use Rattle.std.proofs.Common.{◌≡◌, ℕ, suc, ◌+◌, List, [], ◌∷◌, ◌++◌, length, refl, sym, ap, ◌∙◌, append_assoc, append-nil, add_assoc, add-zero, zero-add, arith}
 use Rattle.rand_core.specs.Stream.{Stream}
-use Rattle.prims_core.specs.Meter.{Counts}
+use Rattle.prims_core.specs.declared.work.Work.{Work}
 use Rattle.crypt_core.specs.Work.{raised_by, work}
 use Rattle.mkpasswd.specs.Answers.{Answer, Hashing, after_work, no_answer}
 use Rattle.mkpasswd.specs.LineAnswers.{IsAnswer, refused, over, hashed, none, locked, ok, rehashed, no}
@@ -20,7 +20,7 @@ both-nothing a = simp (append-nil, add-zero)
 pub nothing-both : (stream : Stream) (a : Answer) → both (no_answer stream) a ≡ a
 nothing-both stream a = simp zero-add
 
-pub after_work-append : (counts : Counts) (hashings others : List Hashing) → after_work counts (hashings ++ others) ≡ after_work (after_work counts hashings) others
+pub after_work-append : (counts : Work) (hashings others : List Hashing) → after_work counts (hashings ++ others) ≡ after_work (after_work counts hashings) others
 after_work-append counts [] others = refl
 after_work-append counts (hashing ∷ hashings) others = after_work-append (raised_by counts (work hashing.password hashing.setting)) hashings others
 

@@ -141,7 +141,7 @@ module _ {I O E : Type 0} (told : Tells I O E) (kind : Kind) (job : Job) where
     ),
     record { stream = stream; counts = counts },
   )
-  cut-ends turns start new left done next Turns unfailed calls (stream, counts, kept, faults_kept, none, text, fault_text, owed) = (
+  cut-ends turns start new left done next Turns unfailed calls (stream, counts, (kept, faults_kept, none, text, fault_text, owed)) = (
     record { of_input = unfailed ∙ sym (add-zero _); of_out = kept ∙ sym (add-zero _); of_faults = faults_kept ∙ sym (add-zero _) },
     omega (arith, calls, none),
     record { text = text; fault_text = fault_text },
@@ -152,16 +152,16 @@ module _ {I O E : Type 0} (told : Tells I O E) (kind : Kind) (job : Job) where
     record { text = text; fault_text = fault_text },
     refused,
   )
-  cut-ends turns start new left done next Read unfailed calls cut = absurd cut
-  cut-ends turns start new left done next (Password fault) unfailed calls cut = absurd cut
+  cut-ends turns start new left done next Read unfailed calls cut = absurd cut.2
+  cut-ends turns start new left done next (Password fault) unfailed calls cut = absurd cut.2
 
   cut-owed : (left : ℕ) (start new : Hands I O E) (done next : Answer) (fault : RunFault)
       → IsInterrupted told.contents told.fault_contents left done next (outs_of start) (outs_of new) fault → IsOwed done next start new fault
-  cut-owed left start new done next Turns (stream, counts, kept, faults_kept, none, text, fault_text, owed) = owed
+  cut-owed left start new done next Turns (stream, counts, (kept, faults_kept, none, text, fault_text, owed)) = owed
   cut-owed left start new done next Write cut = tt
   cut-owed left start new done next OutOfMemory cut = tt
-  cut-owed left start new done next Read cut = absurd cut
-  cut-owed left start new done next (Password fault) cut = absurd cut
+  cut-owed left start new done next Read cut = absurd cut.2
+  cut-owed left start new done next (Password fault) cut = absurd cut.2
 
   ends-line : (turns : ℕ) (start new : Hands I O E) (bytes line rest : List ℕ) (left : ℕ) (fault : RunFault)
       → IsUnfailed start.input new.input → calls_of new + left ≡ calls_of start + turns → IsNext told new line rest
@@ -193,8 +193,8 @@ module _ {I O E : Type 0} (told : Tells I O E) (kind : Kind) (job : Job) where
       (bytes, reads, inr (ends-line turns start new bytes line rest left Turns unfailed calls is_line at))
   ends-answering turns start new bytes line rest left OutOfMemory reads unfailed calls is_line at =
       (bytes, reads, ends-line turns start new bytes line rest left OutOfMemory unfailed calls is_line at)
-  ends-answering turns start new bytes line rest left Read reads unfailed calls is_line at = absurd at.cut
-  ends-answering turns start new bytes line rest left (Password fault) reads unfailed calls is_line at = absurd at.cut
+  ends-answering turns start new bytes line rest left Read reads unfailed calls is_line at = absurd at.cut.2
+  ends-answering turns start new bytes line rest left (Password fault) reads unfailed calls is_line at = absurd at.cut.2
 
   -- ---- a piece that was fetched
 

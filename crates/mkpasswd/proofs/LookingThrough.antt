@@ -113,13 +113,15 @@ module _ {O E : Type 0} (contents : O → Option (List ℕ)) (fault_contents : E
       let cut = given.2 in (
         given.0,
         counts-after start old new bytes front progress line next before given.1,
-        cut.0 ∙ at.given.out_unfailed,
-        cut.1 ∙ at.given.faults_unfailed,
-        cut.2,
-        TakesFront-behind contents start.out old.out new.out done.text next.text at.given.text cut.3,
-        TakesFront-behind fault_contents start.faults old.faults new.faults done.fault_text next.fault_text at.given.fault_text cut.4,
-        (let taken = at.given.text.counted in let told = at.given.fault_text.counted in
-            omega (arith, cut.5, taken, told, length-append done.text next.text, length-append done.fault_text next.fault_text)),
+        (
+          cut.0 ∙ at.given.out_unfailed,
+          cut.1 ∙ at.given.faults_unfailed,
+          cut.2,
+          TakesFront-behind contents start.out old.out new.out done.text next.text at.given.text cut.3,
+          TakesFront-behind fault_contents start.faults old.faults new.faults done.fault_text next.fault_text at.given.fault_text cut.4,
+          (let taken = at.given.text.counted in let told = at.given.fault_text.counted in
+              omega (arith, cut.5, taken, told, length-append done.text next.text, length-append done.fault_text next.fault_text)),
+        ),
       )
   cut-answering start old new bytes front progress left line next A OutOfMemory before given =
       let at = before.at in (

@@ -1,5 +1,5 @@
 -- One hash by words that are written out.
-use Rattle.std.proofs.Common.{◌≡◌, List, [], Some, None, false, codes, ap, subst, ◌∙◌, inl, inr, append-nil}
+use Rattle.std.proofs.Common.{◌≡◌, List, [], Some, false, codes, ap, subst, ◌∙◌, inl, inr, append-nil}
 use Rattle.std.proofs.lemmas.Option.{none-some}
 use Rattle.clap.specs.Words.{Text, matches_of}
 use Rattle.rand_core.specs.Stream.{Stream}
@@ -17,7 +17,7 @@ use Rattle.mkpasswd.specs.declared.job.Job.{Job}
 use Rattle.mkpasswd.specs.declared.job.PasswordFrom.TheVariants.{Word, Input}
 use Rattle.mkpasswd.specs.declared.job.Plan.TheVariants.{Methods, One, Batch, Check}
 use Rattle.mkpasswd.specs.declared.line.Kind.TheVariants as kinds
-use Rattle.mkpasswd.proofs.GivenWords.{given_fault, given_values}
+use Rattle.mkpasswd.proofs.GivenWords.{given, given_fault, given_values}
 
 -- ---- a name is no option
 
@@ -35,21 +35,6 @@ abbrev text_of : Mode → Text
 text_of (word text) = text
 text_of input = []
 text_of (lines kind) = []
-
-abbrev given : Text → Text → Text → Values
-given name salt password = record {
-  method = Some name;
-  salt = Some salt;
-  salt_word = None;
-  cost = 0;
-  stdin = false;
-  batch = false;
-  check = false;
-  rehash = false;
-  work = false;
-  budget = None;
-  password = Some password;
-}
 
 -- the answer of their job is the hash alone
 text_by : (method : Method) (salt password : Text) (job : Job) (bytes : Text) (stream : Stream)
@@ -89,24 +74,24 @@ module _ {I O E : Type 0} (told : Tells I O E) (name salt password : Text) (meth
 
   pub prints_hash : (words : List Text) (old new : Hands I O E) → words ≡ hash_words name salt password
       → IsWhole told words old new → PrintsHash told method salt password old new
-  prints_hash words old new are (inr (error, refuses, by, text, leaves)) =
+  prints_hash words old new are (inr (error, refuses, by, text, gives)) =
       absurd (rw (are, given_fault name salt password name_is salt_is password_is) at refuses.called_for)
-  prints_hash words old new are (inl (Methods, bytes, answer, (values, gives, asks), yields, well, leaves)) =
+  prints_hash words old new are (inl (Methods, (values, gives, asks), done)) =
       absurd (not_help name method named (rw (values_are words values are gives) at asks))
-  prints_hash words old new are (inl (One job (Word typed), bytes, answer, (values, gives, (own, word own_word, has, is_job, from)), yields, well, leaves)) =
+  prints_hash words old new are (inl (One job (Word typed), (values, gives, (own, word own_word, has, is_job, from)), done)) =
       let same : word own_word ≡ word password = one_mode words values own (word own_word) are gives has in
       let typed_is : typed.items ≡ password = from ∙ ap text_of same in
-      rw (yields.1, prints_job words values own (word own_word) job typed.items old.stream are gives has is_job typed_is) at leaves.out
-  prints_hash words old new are (inl (One job (Word typed), bytes, answer, (values, gives, (own, input, has, is_job, from)), yields, well, leaves)) = absurd from
-  prints_hash words old new are (inl (One job (Word typed), bytes, answer, (values, gives, (own, lines kind, has, is_job, from)), yields, well, leaves)) = absurd from
-  prints_hash words old new are (inl (One job Input, bytes, answer, (values, gives, (own, word own_word, has, is_job, from)), yields, well, leaves)) = absurd from
-  prints_hash words old new are (inl (One job Input, bytes, answer, (values, gives, (own, input, has, is_job, from)), yields, well, leaves)) =
+      rw (prints_job words values own (word own_word) job typed.items old.stream are gives has is_job typed_is) at done.run.2.text.shown
+  prints_hash words old new are (inl (One job (Word typed), (values, gives, (own, input, has, is_job, from)), done)) = absurd from
+  prints_hash words old new are (inl (One job (Word typed), (values, gives, (own, lines kind, has, is_job, from)), done)) = absurd from
+  prints_hash words old new are (inl (One job Input, (values, gives, (own, word own_word, has, is_job, from)), done)) = absurd from
+  prints_hash words old new are (inl (One job Input, (values, gives, (own, input, has, is_job, from)), done)) =
       let same : input ≡ word password = one_mode words values own input are gives has in
       cc
-  prints_hash words old new are (inl (One job Input, bytes, answer, (values, gives, (own, lines kind, has, is_job, from)), yields, well, leaves)) = absurd from
-  prints_hash words old new are (inl (Batch job, bytes, answer, (values, gives, (own, has, is_job)), yields, well, leaves)) =
+  prints_hash words old new are (inl (One job Input, (values, gives, (own, lines kind, has, is_job, from)), done)) = absurd from
+  prints_hash words old new are (inl (Batch job, (values, gives, (own, has, is_job)), done)) =
       let same : lines kinds.Batch ≡ word password = one_mode words values own (lines kinds.Batch) are gives has in
       cc
-  prints_hash words old new are (inl (Check job, bytes, answer, (values, gives, (own, has, is_job)), yields, well, leaves)) =
+  prints_hash words old new are (inl (Check job, (values, gives, (own, has, is_job)), done)) =
       let same : lines kinds.Check ≡ word password = one_mode words values own (lines kinds.Check) are gives has in
       cc

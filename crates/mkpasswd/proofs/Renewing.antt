@@ -1,89 +1,104 @@
 -- What new hashes change of the answers to lines.
-use Rattle.std.proofs.Common.{◌≡◌, ℕ, Bool, true, false, List, Some, inl, inr, refl, sym, ◌∙◌}
+use Rattle.std.proofs.Common.{◌≡◌, ℕ, ◌≤◌, ◌⊎◌, Bool, true, false, true≢false, List, length, Option, Some, None, inl, inr, refl, sym, ◌∙◌, arith}
 use Rattle.std.proofs.lemmas.Option.{none-some}
 use Rattle.rand_core.specs.Stream.{Stream}
+use Rattle.crypt_core.specs.Crypt.{crypt}
 use Rattle.crypt_core.specs.Settings.{Kept, Spells}
 use Rattle.mkpasswd.specs.Answers.{Answer}
-use Rattle.mkpasswd.specs.LineAnswers.{IsAnswer, IsCostly, IsRenewable, OnlyRenews, RenewsNone}
+use Rattle.mkpasswd.specs.Budgets.{IsAbove}
+use Rattle.mkpasswd.specs.LineAnswers.{IsAnswer, IsCostly}
 use Rattle.mkpasswd.specs.LineAnswers.IsAnswer.{refused, over, hashed, none, locked, ok, rehashed, no}
+use Rattle.mkpasswd.specs.LineOptions.{IsRenewable, OnlyRenews, RenewsNone}
 use Rattle.mkpasswd.specs.Lines.{HasParts, Parts}
 use Rattle.mkpasswd.specs.Rehashes.{check_cost, is_outdated, without_rehash}
 use Rattle.mkpasswd.specs.declared.job.Job.{Job}
 use Rattle.mkpasswd.specs.declared.line.Kind.{Kind}
 use Rattle.mkpasswd.specs.declared.line.Kind.TheVariants.{Batch}
 
-module _ (kind : Kind) (job : Job) (line : List ℕ) (still : ¬ IsRenewable kind job line) where
-  -- no setting of its field is out of date
-  recent : (parts : Parts) (field : List ℕ) (kept : Kept) → HasParts kind line parts → parts.field ≡ Some field → Spells field kept → is_outdated job kept ≡ false
-  recent parts field kept cut has spells = go (is_outdated job kept) refl
-    where
-      go : (outdated : Bool) → is_outdated job kept ≡ outdated → is_outdated job kept ≡ false
-      go true is = absurd (still (record { parts = parts; field = field; kept = kept; cut = cut; has = has; spells = spells; outdated = is }))
-      go false is = is
+-- a check costs no less with new hashes
+same_or_more : (job : Job) (kept : Kept) (stream : Stream) (password : ℕ)
+    → check_cost (without_rehash job) kept stream password ≤ check_cost job kept stream password
+same_or_more job kept stream password = omega arith
 
-  -- so it costs the same
-  same_check_cost : (kept : Kept) (stream : Stream) (password : ℕ) → is_outdated job kept ≡ false
-      → check_cost job kept stream password ≡ check_cost (without_rehash job) kept stream password
-  same_check_cost kept stream password is = rw is refl
+-- what is above a budget is above it with more
+still_above : (budget : Option ℕ) (number more : ℕ) → number ≤ more → IsAbove budget number → IsAbove budget more
+still_above None number more at_most above = above
+still_above (Some budget) number more at_most above = omega (arith, at_most, above)
 
-  costly-without : (stream : Stream) → IsCostly kind job line stream → IsCostly kind (without_rehash job) line stream
-  costly-without stream costly = record {
-    parts = costly.parts;
-    taken = costly.taken;
-    number = costly.number;
-    cost = elim costly.cost [
-      | inl made ↦ inl made
-      | inr (field, kept, has, spells, is) ↦
-          inr (field, kept, has, spells, is ∙ same_check_cost kept stream _ (recent costly.parts field kept costly.taken.cut has spells))
-    ];
-    above = costly.above;
-  }
+module _ (kind : Kind) (job : Job) (line : List ℕ) (stream : Stream) where
+  -- so what is too much without them is too much with them
+  costly-with : IsCostly kind (without_rehash job) line stream → IsCostly kind job line stream
+  costly-with costly = elim costly.cost [
+    | inl made ↦ record { parts = costly.parts; taken = costly.taken; number = costly.number; cost = inl made; above = costly.above }
+    | inr (field, kept, has, spells, is) ↦ record {
+      parts = costly.parts;
+      taken = costly.taken;
+      number = check_cost job kept stream (length costly.parts.password);
+      cost = inr (field, kept, has, spells, refl);
+      above = still_above job.budget costly.number _ (rw is (same_or_more job kept stream (length costly.parts.password))) costly.above;
+    }
+  ]
 
-  costly-with : (stream : Stream) → IsCostly kind (without_rehash job) line stream → IsCostly kind job line stream
-  costly-with stream costly = record {
-    parts = costly.parts;
-    taken = costly.taken;
-    number = costly.number;
-    cost = elim costly.cost [
-      | inl made ↦ inl made
-      | inr (field, kept, has, spells, is) ↦
-          inr (field, kept, has, spells, is ∙ sym (same_check_cost kept stream _ (recent costly.parts field kept costly.taken.cut has spells)))
-    ];
-    above = costly.above;
-  }
+  module _ (still : ¬ IsRenewable kind job line stream) where
+    -- where the password fits, or the line is costly, no setting of the field is out of date
+    recent : (parts : Parts) (field : List ℕ) (kept : Kept) → HasParts kind line parts → parts.field ≡ Some field → Spells field kept
+        → (crypt parts.password kept ≡ field) ⊎ IsCostly kind job line stream → is_outdated job kept ≡ false
+    recent parts field kept cut has spells why = go (is_outdated job kept) refl
+      where
+        go : (outdated : Bool) → is_outdated job kept ≡ outdated → is_outdated job kept ≡ false
+        go true is = absurd (still (record { parts = parts; field = field; kept = kept; cut = cut; has = has; spells = spells; outdated = is; fits_or_costly = why }))
+        go false is = is
 
-  answer-without : (number : ℕ) (stream : Stream) (answer : Answer) → IsAnswer kind job number line stream answer → IsAnswer kind (without_rehash job) number line stream answer
-  answer-without number stream answer (refused fault breaks is) = refused fault breaks is
-  answer-without number stream answer (over costly is) = over (costly-without stream costly) is
-  answer-without number stream answer (hashed parts taken lacks cheap is) = hashed parts taken lacks (λ costly. cheap (costly-with stream costly)) is
-  answer-without number stream answer (none parts taken empty is) = none parts taken empty is
-  answer-without number stream answer (locked parts field taken has is_locked is) = locked parts field taken has is_locked is
-  answer-without number stream answer (ok parts field kept taken has spells cheap same new is) =
-      ok parts field kept taken has spells (λ costly. cheap (costly-with stream costly)) same refl is
-  answer-without number stream answer (rehashed parts field kept taken has spells cheap same outdated is) =
-      absurd (still (record { parts = parts; field = field; kept = kept; cut = taken.cut; has = has; spells = spells; outdated = outdated }))
-  answer-without number stream answer (no parts field kept taken has spells cheap differs is) =
-      no parts field kept taken has spells (λ costly. cheap (costly-with stream costly)) differs is
+    -- so it costs the same
+    same_check_cost : (kept : Kept) (password : ℕ) → is_outdated job kept ≡ false
+        → check_cost job kept stream password ≡ check_cost (without_rehash job) kept stream password
+    same_check_cost kept password is = rw is refl
 
-  answer-with : (number : ℕ) (stream : Stream) (answer : Answer) → IsAnswer kind (without_rehash job) number line stream answer → IsAnswer kind job number line stream answer
-  answer-with number stream answer (refused fault breaks is) = refused fault breaks is
-  answer-with number stream answer (over costly is) = over (costly-with stream costly) is
-  answer-with number stream answer (hashed parts taken lacks cheap is) = hashed parts taken lacks (λ costly. cheap (costly-without stream costly)) is
-  answer-with number stream answer (none parts taken empty is) = none parts taken empty is
-  answer-with number stream answer (locked parts field taken has is_locked is) = locked parts field taken has is_locked is
-  answer-with number stream answer (ok parts field kept taken has spells cheap same new is) =
-      ok parts field kept taken has spells (λ costly. cheap (costly-without stream costly)) same (recent parts field kept taken.cut has spells) is
-  answer-with number stream answer (rehashed parts field kept taken has spells cheap same outdated is) = cc
-  answer-with number stream answer (no parts field kept taken has spells cheap differs is) =
-      no parts field kept taken has spells (λ costly. cheap (costly-without stream costly)) differs is
+    costly-without : IsCostly kind job line stream → IsCostly kind (without_rehash job) line stream
+    costly-without costly = record {
+      parts = costly.parts;
+      taken = costly.taken;
+      number = costly.number;
+      cost = elim costly.cost [
+        | inl made ↦ inl made
+        | inr (field, kept, has, spells, is) ↦
+            inr (field, kept, has, spells, is ∙ same_check_cost kept _ (recent costly.parts field kept costly.taken.cut has spells (inr costly)))
+      ];
+      above = costly.above;
+    }
+
+    answer-without : (number : ℕ) (answer : Answer) → IsAnswer kind job number line stream answer → IsAnswer kind (without_rehash job) number line stream answer
+    answer-without number answer (refused fault breaks is) = refused fault breaks is
+    answer-without number answer (over costly is) = over (costly-without costly) is
+    answer-without number answer (hashed parts taken lacks cheap is) = hashed parts taken lacks (λ costly. cheap (costly-with costly)) is
+    answer-without number answer (none parts taken empty is) = none parts taken empty is
+    answer-without number answer (locked parts field taken has is_locked is) = locked parts field taken has is_locked is
+    answer-without number answer (ok parts field kept taken has spells cheap same new is) =
+        ok parts field kept taken has spells (λ costly. cheap (costly-with costly)) same refl is
+    answer-without number answer (rehashed parts field kept taken has spells cheap same outdated is) =
+        absurd (true≢false (sym outdated ∙ recent parts field kept taken.cut has spells (inl same)))
+    answer-without number answer (no parts field kept taken has spells cheap differs is) =
+        no parts field kept taken has spells (λ costly. cheap (costly-with costly)) differs is
+
+    answer-with : (number : ℕ) (answer : Answer) → IsAnswer kind (without_rehash job) number line stream answer → IsAnswer kind job number line stream answer
+    answer-with number answer (refused fault breaks is) = refused fault breaks is
+    answer-with number answer (over costly is) = over (costly-with costly) is
+    answer-with number answer (hashed parts taken lacks cheap is) = hashed parts taken lacks (λ costly. cheap (costly-without costly)) is
+    answer-with number answer (none parts taken empty is) = none parts taken empty is
+    answer-with number answer (locked parts field taken has is_locked is) = locked parts field taken has is_locked is
+    answer-with number answer (ok parts field kept taken has spells cheap same new is) =
+        ok parts field kept taken has spells (λ costly. cheap (costly-without costly)) same (recent parts field kept taken.cut has spells (inl same)) is
+    answer-with number answer (rehashed parts field kept taken has spells cheap same outdated is) = cc
+    answer-with number answer (no parts field kept taken has spells cheap differs is) =
+        no parts field kept taken has spells (λ costly. cheap (costly-without costly)) differs is
 
 pub only_renews : (kind : Kind) (job : Job) → OnlyRenews kind job
 only_renews kind job number line stream answer still =
-    (answer-without kind job line still number stream answer, answer-with kind job line still number stream answer)
+    (answer-without kind job line stream still number answer, answer-with kind job line stream still number answer)
 
 -- a line of a batch has no field
-batch-still : (job : Job) (line : List ℕ) → ¬ IsRenewable Batch job line
-batch-still job line renewable = none-some renewable.field (sym renewable.cut.1 ∙ renewable.has)
+batch-still : (job : Job) (line : List ℕ) (stream : Stream) → ¬ IsRenewable Batch job line stream
+batch-still job line stream renewable = none-some renewable.field (sym renewable.cut.1 ∙ renewable.has)
 
 pub batch_renews_none : (job : Job) → RenewsNone Batch job
-batch_renews_none job number line stream answer = only_renews Batch job number line stream answer (batch-still job line)
+batch_renews_none job number line stream answer = only_renews Batch job number line stream answer (batch-still job line stream)

@@ -15,7 +15,7 @@ module _ {T : Type 0} where
 
 module _ {T : Type 0} (contents : T → Option (List ℕ)) where
   pub takes-nothing : (d : Device T) → Takes contents d d []
-  takes-nothing d = record { shown = Appends-nil _; counted = omega arith; unflushed = record { flushes = refl; flushed = refl } }
+  takes-nothing d = record { shown = Appends-nil _; counted = omega arith; flush = record { flushes = refl; flushed = refl } }
 
   pub Takes-trans : (old mid new : Device T) (bytes others : List ℕ) → Takes contents old mid bytes → Takes contents mid new others
       → Takes contents old new (bytes ++ others)
@@ -25,7 +25,7 @@ module _ {T : Type 0} (contents : T → Option (List ℕ)) where
       record {
         shown = Appends-trans _ (contents mid.inner) _ bytes others before.shown more.shown;
         counted = omega (arith, length-append bytes others, counted, more_counted);
-        unflushed = unflushed-trans old mid new before.unflushed more.unflushed;
+        flush = unflushed-trans old mid new before.flush more.flush;
       }
 
   -- the first bytes of a text, behind what was taken before
@@ -77,7 +77,7 @@ module _ {T : Type 0} where
         takes = record {
           shown = Appends-trans _ (contents mid.inner) _ sent took before.takes.shown appends;
           counted = omega (arith, length-append sent took, size, counted, bytes);
-          unflushed = unflushed-trans old mid new before.takes.unflushed unflushed;
+          flush = unflushed-trans old mid new before.takes.flush unflushed;
         };
         unfailed = no_failure ∙ before.unfailed;
         calls = omega (arith, before.calls, calls);

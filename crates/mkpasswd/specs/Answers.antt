@@ -1,14 +1,13 @@
 -- What is answered to one item: a password or a line.
-use Rattle.std.specs.Prelude.{ℕ, ◌+◌, List, [], ◌∷◌, ◌++◌, ◌⊎◌, ◌≡◌, codes, decimal, if◌then◌else◌}
+use Rattle.std.specs.Prelude.{ℕ, List, [], ◌∷◌, ◌++◌, ◌⊎◌, ◌≡◌, decimal, if◌then◌else◌}
 use Rattle.rand_core.specs.Stream.{Stream}
-use Rattle.prims_core.specs.Meter.{Counts}
-use Rattle.crypt_core.specs.Crypt.{crypt, IsRefusedBy}
+use Rattle.prims_core.specs.declared.work.Work.{Work}
+use Rattle.crypt_core.specs.Crypt.{crypt, IsAfterRefusedGrowth}
 use Rattle.crypt_core.specs.Settings.{Kept}
 use Rattle.crypt_core.specs.Work.{raised_by, work}
-use Rattle.prims_core.specs.declared.work.Work.{Work}
 use Rattle.mkpasswd.specs.Makers.{next_setting, words_for}
 use Rattle.mkpasswd.specs.Tallies.{no_line, one_line}
-use Rattle.mkpasswd.specs.Texts.{as_line}
+use Rattle.mkpasswd.specs.Texts.{as_line, colon}
 use Rattle.mkpasswd.specs.declared.job.Job.{Job}
 use Rattle.mkpasswd.specs.declared.tally.Tally.{Tally}
 
@@ -20,16 +19,19 @@ pub record Hashing : Type 0 where
   pub setting : Kept
   pub stream : Stream
 
+abbrev pub hashing : List ℕ → Kept → Stream → Hashing
+hashing password kept stream = record { password = password; setting = kept; stream = stream }
+
 -- the counts after the work of these hashes
-abbrev pub after_work : Counts → List Hashing → Counts
+abbrev pub after_work : Work → List Hashing → Work
 after_work counts [] = counts
 after_work counts (hashing ∷ hashings) = after_work (raised_by counts (work hashing.password hashing.setting)) hashings
 
 -- the counts and the stream where memory was refused for one of them, and the ones before it were made
-abbrev pub IsRefusedAmong : Counts → List Hashing → Counts → Stream → Type 0
+abbrev pub IsRefusedAmong : Work → List Hashing → Work → Stream → Type 0
 IsRefusedAmong before [] after stream = ⊥
 IsRefusedAmong before (hashing ∷ hashings) after stream =
-    (IsRefusedBy before hashing.setting.scheme after × (stream ≡ hashing.stream))
+    (IsAfterRefusedGrowth before hashing.setting.scheme after × (stream ≡ hashing.stream))
     ⊎ IsRefusedAmong (raised_by before (work hashing.password hashing.setting)) hashings after stream
 
 -- ---- answers
@@ -43,33 +45,20 @@ pub record Answer : Type 0 where
   pub hashings : List Hashing
   pub stream : Stream
 
+-- one that goes to the output alone
+abbrev pub printed : List ℕ → Tally → List Hashing → Stream → Answer
+printed text tally hashings stream =
+    record { text = text; fault_text = []; tally = tally; hashings = hashings; stream = stream }
+
 -- nothing is answered
 abbrev pub no_answer : Stream → Answer
-no_answer stream = record {
-  text = [];
-  fault_text = [];
-  tally = no_line;
-  hashings = [];
-  stream = stream;
-}
+no_answer = printed [] no_line []
 
 -- ---- the counts behind an answer
 
-abbrev pub no_work : Work
-no_work = record { digests = 0; bytes = 0; mixes = 0; table = 0; scratch = 0 }
-
-abbrev pub both_works : Work → Work → Work
-both_works first second = record {
-  digests = first.digests + second.digests;
-  bytes = first.bytes + second.bytes;
-  mixes = first.mixes + second.mixes;
-  table = first.table + second.table;
-  scratch = first.scratch + second.scratch;
-}
-
 -- a colon and a number in decimal
 abbrev pub count_text : ℕ → List ℕ
-count_text count = codes ":" ++ decimal count
+count_text count = colon ∷ decimal count
 
 -- four counts, as they are written behind an answer
 abbrev pub counts_text : ℕ → ℕ → ℕ → ℕ → List ℕ
@@ -94,13 +83,7 @@ abbrev pub hashed_answer : Job → List ℕ → List ℕ → Stream → Answer
 hashed_answer job front password stream =
     let kept = next_setting job.maker stream in
     let left = (words_for job.maker stream).1 in
-    record {
-      text = as_line (front ++ hash_text job password kept);
-      fault_text = [];
-      tally = one_line;
-      hashings = record { password = password; setting = kept; stream = left } ∷ [];
-      stream = left;
-    }
+    printed (as_line (front ++ hash_text job password kept)) one_line (hashing password kept left ∷ []) left
 
 -- a single password has no front
 abbrev pub password_answer : Job → List ℕ → Stream → Answer

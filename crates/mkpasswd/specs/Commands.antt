@@ -1,6 +1,6 @@
 -- The whole command: from the words and the devices to the exit status.
 use Rattle.std.specs.Prelude.{◌≡◌, ℕ, ◌⊎◌, ◌&&◌, zero, suc, Bool, true, false, not, List, [], ◌∷◌, ◌++◌, length, codes, Option, Some, None, Result, Ok, Err, IfOk}
-use Rattle.std.specs.Io.KnownBytes.{Appends, Consumes}
+use Rattle.std.specs.Io.KnownBytes.{Appends}
 use Rattle.clap.specs.Words.{Text, kind_of}
 use Rattle.clap.specs.declared.error.Error.{Error}
 use Rattle.rand_core.specs.Stream.{Stream}
@@ -8,26 +8,28 @@ use Rattle.crypt_core.specs.Crypt.{crypt}
 use Rattle.crypt_core.specs.MadeSettings.{made_setting}
 use Rattle.crypt_core.specs.Settings.{BeginsWith}
 use Rattle.crypt_core.specs.declared.method.Method.{Method}
-use Rattle.mkpasswd.specs.Answers.{Answer, no_answer, password_answer}
-use Rattle.mkpasswd.specs.Devices.{Device}
+use Rattle.mkpasswd.specs.Answers.{Answer, password_answer}
+use Rattle.mkpasswd.specs.Devices.{Device, IsUnfailed}
 use Rattle.mkpasswd.specs.Faults.{fault_status, fault_text, parse_status}
-use Rattle.mkpasswd.specs.Input.{IsDecided, first_line}
+use Rattle.mkpasswd.specs.Input.{IsDecided, Reads, first_line}
 use Rattle.mkpasswd.specs.LineRuns.{AreAnswers, EndsLines, IsReadOut, lines_of}
 use Rattle.mkpasswd.specs.Methods.{methods_text}
 use Rattle.mkpasswd.specs.One.{EndsOne}
 use Rattle.mkpasswd.specs.Options.{Plans}
-use Rattle.mkpasswd.specs.Output.{Shows}
-use Rattle.mkpasswd.specs.Runs.{Hands, IsWithinTurns, Tells}
+use Rattle.mkpasswd.specs.Output.{Shows, TakesAndFlushes}
+use Rattle.mkpasswd.specs.Runs.{Finishes, Hands, IsWithinTurns, Tells}
 use Rattle.mkpasswd.specs.Tallies.{no_line, tally_status}
-use Rattle.mkpasswd.specs.Texts.{as_line}
+use Rattle.mkpasswd.specs.Texts.{as_line, program_front}
 use Rattle.mkpasswd.specs.declared.fault.Fault.{Fault}
 use Rattle.mkpasswd.specs.declared.fault.Fault.TheVariants.{Start, Usage, Run}
 use Rattle.mkpasswd.specs.declared.fault.RunFault.{RunFault}
 use Rattle.mkpasswd.specs.declared.fault.UsageFault.{UsageFault}
 use Rattle.mkpasswd.specs.declared.fault.UsageFault.TheVariants.{Parse}
+use Rattle.mkpasswd.specs.declared.job.Job.{Job}
 use Rattle.mkpasswd.specs.declared.job.PasswordFrom.TheVariants.{Word, Input}
 use Rattle.mkpasswd.specs.declared.job.Plan.{Plan}
 use Rattle.mkpasswd.specs.declared.job.Plan.TheVariants.{Methods, One, Batch, Check}
+use Rattle.mkpasswd.specs.declared.line.Kind.{Kind}
 use Rattle.mkpasswd.specs.declared.line.Kind.TheVariants as kinds
 use Rattle.mkpasswd.specs.declared.tally.Tally.{Tally}
 
@@ -56,7 +58,7 @@ stream_in stream (Some rng) = stream rng
 
 -- a fault's line
 abbrev pub fault_line : Fault → List ℕ
-fault_line fault = as_line (codes "mkpasswd: " ++ fault_text fault)
+fault_line fault = as_line (program_front ++ fault_text fault)
 
 -- It goes to the fault output, in no more calls than it has bytes; of a fault output that fails there is a first part of it.
 abbrev pub IsTold : {E : Type 0} → (E → Option (List ℕ)) → Fault → Device E → Device E → Type 0
@@ -134,36 +136,44 @@ module _ {I O E : Type 0} where
 
   -- ---- status 0
 
-  -- these bytes were read, and the outputs have taken these texts and nothing else, where the devices tell theirs
-  pub record Leaves (tells : Tells I O E) (read text told : List ℕ) (old new : Hands I O E) : Type 0 where
-    pub input : Consumes (tells.remaining old.input.inner) (tells.remaining new.input.inner) read
-    pub out : Appends (tells.contents old.out.inner) (tells.contents new.out.inner) text
-    pub faults : Appends (tells.fault_contents old.faults.inner) (tells.fault_contents new.faults.inner) told
+  -- a text was given to the output, which was flushed; no call failed, and nothing else was done
+  pub record GivesOnly (tells : Tells I O E) (text : List ℕ) (old new : Hands I O E) : Type 0 where
+    pub others : new ≡ record old { out = new.out }
+    pub gives : TakesAndFlushes tells.contents old.out new.out text
+    pub unfailed : IsUnfailed old.out new.out
 
-  -- the answer of a plan to an input of which these bytes were read: the list and a password's word read nothing, a
-  -- password of the input is decided by them, and a run over lines leaves nothing to read
-  abbrev pub Yields : Tells I O E → Plan → List ℕ → Hands I O E → Hands I O E → Answer → Type 0
-  Yields tells Methods bytes old new answer = (bytes ≡ []) × (answer ≡ record (no_answer old.stream) { text = methods_text })
-  Yields tells (One job (Word password)) bytes old new answer =
-      (bytes ≡ []) × (answer ≡ password_answer job password.items old.stream)
-  Yields tells (One job Input) bytes old new answer =
-      IsDecided tells.remaining new.input bytes × (answer ≡ password_answer job (first_line bytes) old.stream)
-  Yields tells (Batch job) bytes old new answer =
-      IsReadOut tells new × AreAnswers kinds.Batch job 1 (lines_of bytes) old.stream answer
-  Yields tells (Check job) bytes old new answer =
-      IsReadOut tells new × AreAnswers kinds.Check job 1 (lines_of bytes) old.stream answer
+  -- these bytes were read, and a run has given this answer, in which no line is refused or answered `no`
+  pub record Succeeds (tells : Tells I O E) (read : List ℕ) (answer : Answer) (old new : Hands I O E) : Type 0 where
+    pub input : Reads tells.remaining old.input new.input read
+    pub run : Finishes tells answer old new (Ok answer.tally)
+    pub status : tally_status answer.tally ≡ 0
 
-  -- the words ask for help or the version: some text is given, and nothing is read
+  -- the input was read to its end, and each of its lines answered
+  abbrev pub SucceedsByLines : Tells I O E → Kind → Job → Hands I O E → Hands I O E → Type 0
+  SucceedsByLines tells kind job old new =
+      (bytes : List ℕ) × (answers : Answer) × IsReadOut tells new × AreAnswers kind job 1 (lines_of bytes) old.stream answers
+      × Succeeds tells bytes answers old new
+
+  -- all that a plan asks for was done; nothing is read for a word, and for a password of the input what decides it
+  abbrev pub IsDone : Tells I O E → Plan → Hands I O E → Hands I O E → Type 0
+  IsDone tells Methods old new = GivesOnly tells methods_text old new
+  IsDone tells (One job (Word password)) old new =
+      Succeeds tells [] (password_answer job password.items old.stream) old new
+  IsDone tells (One job Input) old new =
+      (bytes : List ℕ) × IsDecided tells.remaining new.input bytes
+      × Succeeds tells bytes (password_answer job (first_line bytes) old.stream) old new
+  IsDone tells (Batch job) old new = SucceedsByLines tells kinds.Batch job old new
+  IsDone tells (Check job) old new = SucceedsByLines tells kinds.Check job old new
+
+  -- the words ask for help or the version, and some text is given
   abbrev pub IsHelped : Tells I O E → List Text → Hands I O E → Hands I O E → Type 0
   IsHelped tells words old new =
       (error : Error) × Plans words (Err (Parse error)) × (parse_status (kind_of error) ≡ 0)
-      × (text : List ℕ) × Leaves tells [] text [] old new
+      × (text : List ℕ) × GivesOnly tells text old new
 
-  -- they have a plan: its whole answer is given, in which no line is refused or answered `no`
+  -- they have a plan, which is done
   abbrev pub IsAnswered : Tells I O E → List Text → Hands I O E → Hands I O E → Type 0
-  IsAnswered tells words old new =
-      (plan : Plan) × (bytes : List ℕ) × (answer : Answer) × Plans words (Ok plan) × Yields tells plan bytes old new answer
-      × (tally_status answer.tally ≡ 0) × Leaves tells bytes answer.text answer.fault_text old new
+  IsAnswered tells words old new = (plan : Plan) × Plans words (Ok plan) × IsDone tells plan old new
 
   abbrev pub IsWhole : Tells I O E → List Text → Hands I O E → Hands I O E → Type 0
   IsWhole tells words old new = IsAnswered tells words old new ⊎ IsHelped tells words old new

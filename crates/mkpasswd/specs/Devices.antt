@@ -47,6 +47,10 @@ turns_limit = 2 ^ 40
 abbrev pub HasRoomForRun : {T : Type 0} → Device T → Type 0
 HasRoomForRun d = (d.failures ≤ 2 ^ 62) × (d.calls ≤ 2 ^ 62) × (d.bytes ≤ 2 ^ 62) × (d.flushes ≤ 2 ^ 62)
 
+-- and so do those of all three
+abbrev pub HaveRoomForRun : {I O E : Type 0} → Device I → Device O → Device E → Type 0
+HaveRoomForRun input out faults = HasRoomForRun input × HasRoomForRun out × HasRoomForRun faults
+
 -- the most calls that two outputs can count in a run: those that both had before, and the turns
 abbrev pub calls_limit : ℕ
 calls_limit = 2 ^ 63 + turns_limit

@@ -3,7 +3,7 @@ use Rattle.std.specs.Prelude.{ℕ, List, [], codes}
 use Rattle.clap.specs.Words.{kind_of}
 use Rattle.crypt_core.specs.HashFaults.{hash_fault_text}
 use Rattle.crypt_core.specs.declared.hash.HashFault.TheVariants.{OutOfMemory as HashOutOfMemory}
-use Rattle.crypt_core.specs.PasswordFaults.{password_text}
+use Rattle.crypt_core.specs.PasswordFaults.{password_fault_text}
 use Rattle.crypt_core.specs.SettingFaults.{make_fault_text}
 use Rattle.clap.specs.declared.error.kind.ErrorKind.{ErrorKind}
 use Rattle.clap.specs.declared.error.kind.ErrorKind.TheVariants.{DisplayHelp, DisplayVersion}
@@ -53,7 +53,7 @@ run_text Read = codes "read fault"
 run_text Write = codes "write fault"
 run_text NoMemory = hash_fault_text HashOutOfMemory
 run_text Turns = codes "too many turns"
-run_text (Password fault) = password_text fault
+run_text (Password fault) = password_fault_text fault
 
 -- the exit status after any fault: 2 where the words or the password are wrong, 3 where the machine
 -- refused

@@ -17,6 +17,12 @@ pub record IsUndecided (bytes : List ℕ) : Type 0 where
   pub no_line_feed : ¬ Contains bytes line_feed
   pub short : length bytes ≤ password_limit
 
+-- a fetch failed, or no turn was left where each fetch had given a byte, before the password was known
+abbrev pub IsStopped : {I : Type 0} → Device I → Device I → List ℕ → ℕ → RunFault → Type 0
+IsStopped old new bytes left Read = FailsOnce old new × IsUndecided bytes
+IsStopped old new bytes left Turns = IsUnfailed old new × IsUndecided bytes × (left ≡ 0) × MovesBytes 0 old new
+IsStopped old new bytes left fault = ⊥
+
 module _ {I : Type 0} (remaining : I → Option (List ℕ)) where
   -- the fetches gave these bytes: the input's next ones, where it tells them
   pub record Reads (old new : Device I) (bytes : List ℕ) : Type 0 where
@@ -28,13 +34,11 @@ module _ {I : Type 0} (remaining : I → Option (List ℕ)) where
   IsDecided input bytes =
       Contains bytes line_feed ⊎ (IsAtEnd (remaining input.inner) ⊎ (password_limit < length (first_line bytes)))
 
-  -- the fetches gave these bytes, and their first line is the password, or is refused as one; or a fetch
-  -- failed, or no turn was left where each fetch had given a byte, before that was known
+  -- the fetches gave these bytes, and their first line is the password, or is refused as one; or they were stopped
+  -- before that was known
   abbrev pub Obtains : Device I → Device I → List ℕ → ℕ → Result (List ℕ) RunFault → Type 0
   Obtains old new bytes left (Ok password) =
       IsUnfailed old new × IsDecided new bytes × (password ≡ first_line bytes) × IsPassword password
   Obtains old new bytes left (Err (Password fault)) =
       IsUnfailed old new × IsDecided new bytes × IsPasswordRefused (first_line bytes) fault
-  Obtains old new bytes left (Err Read) = FailsOnce old new × IsUndecided bytes
-  Obtains old new bytes left (Err Turns) = IsUnfailed old new × IsUndecided bytes × (left ≡ 0) × MovesBytes 0 old new
-  Obtains old new bytes left (Err fault) = ⊥
+  Obtains old new bytes left (Err fault) = IsStopped old new bytes left fault

@@ -6,6 +6,7 @@ pub mod Faults
 pub mod Input
 pub mod LineAnswers
 pub mod LineFaults
+pub mod LineOptions
 pub mod LineRuns
 pub mod Lines
 pub mod Makers

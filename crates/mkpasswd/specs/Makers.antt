@@ -1,9 +1,10 @@
 -- How a run gets the setting of each hash: a method, a cost, and a salt that was given once or is made anew.
-use Rattle.std.specs.Prelude.{◌≡◌, ℕ, List, [], Option, Some, None, is_some, option_map, unwrap_or, if◌then◌else◌}
+use Rattle.std.specs.Prelude.{◌≡◌, ℕ, List, [], Option, Some, None, is_some, option_map, if◌then◌else◌}
 use Rattle.std.specs.Borrow.{Bor}
+use Rattle.std.specs.Option.{option_map_or}
 use Rattle.rand_core.specs.Stream.{Stream}
-use Rattle.crypt_core.specs.MadeSalts.{made_salt, made_salt_length, three_words}
-use Rattle.crypt_core.specs.MadeSettings.{IsMakeable, IsMakeRefused, TakesCost, made_setting}
+use Rattle.crypt_core.specs.MadeSalts.{three_words}
+use Rattle.crypt_core.specs.MadeSettings.{IsMakeable, IsMakeRefused, TakesCost, made_setting, with_made_salt}
 use Rattle.crypt_core.specs.Settings.{Kept}
 use Rattle.crypt_core.specs.declared.method.Method.{Method}
 use Rattle.crypt_core.specs.declared.setting.fault.MakeFault.{MakeFault}
@@ -32,8 +33,7 @@ IsRefused method cost (Some salt) fault = IsMakeRefused method cost salt fault
 -- the setting: by the salt that was given, or by one made of the words
 abbrev pub setting_by : Recipe → List ℕ → Kept
 setting_by recipe words =
-    let made = made_salt words (made_salt_length recipe.method) in
-    made_setting recipe.method recipe.cost (unwrap_or recipe.salt made)
+    option_map_or (made_setting recipe.method recipe.cost) recipe.salt (with_made_salt recipe.method recipe.cost words)
 
 -- the words that a hash takes from a stream, and what is left of it: three where the salt is made, and
 -- none otherwise

@@ -7,23 +7,23 @@ use Rattle.mkpasswd.specs.declared.fault.RunFault.TheVariants.{Write, Turns}
 
 module _ {T : Type 0} (contents : T → Option (List ℕ)) where
   -- the output has taken these bytes and no others: the device shows them at its end, where it shows
-  -- what it holds, and so many were counted. No flush was tried
-  pub record Takes (old new : Device T) (bytes : List ℕ) : Type 0 where
+  -- what it holds, and so many were counted. Of its flushes there is this to say
+  pub record TakesThen (Flush : Device T → Device T → Type 0) (old new : Device T) (bytes : List ℕ) : Type 0 where
     pub shown : Appends (contents old.inner) (contents new.inner) bytes
     pub counted : new.bytes ≡ old.bytes + length bytes
-    pub unflushed : IsUnflushed old new
+    pub flush : Flush old new
 
-  -- it has taken these bytes and no others, and was flushed then
-  pub record TakesAndFlushes (old new : Device T) (bytes : List ℕ) : Type 0 where
-    pub shown : Appends (contents old.inner) (contents new.inner) bytes
-    pub counted : new.bytes ≡ old.bytes + length bytes
-    pub flushed : IsFlushed old new
+  -- that none was tried
+  abbrev pub Takes : Device T → Device T → List ℕ → Type 0
+  Takes = TakesThen IsUnflushed
 
-  -- it has taken these bytes and no others, and a flush failed then
-  pub record TakesAndFailsToFlush (old new : Device T) (bytes : List ℕ) : Type 0 where
-    pub shown : Appends (contents old.inner) (contents new.inner) bytes
-    pub counted : new.bytes ≡ old.bytes + length bytes
-    pub failed : FailsToFlush old new
+  -- that there was one behind these bytes
+  abbrev pub TakesAndFlushes : Device T → Device T → List ℕ → Type 0
+  TakesAndFlushes = TakesThen IsFlushed
+
+  -- that one was tried behind them, and failed
+  abbrev pub TakesAndFailsToFlush : Device T → Device T → List ℕ → Type 0
+  TakesAndFailsToFlush = TakesThen FailsToFlush
 
   -- it has taken `whole` and then the first bytes of `text`, and nothing else
   abbrev pub TakesFront : Device T → Device T → List ℕ → List ℕ → Type 0

@@ -2,10 +2,11 @@
 -- those that it gave whole, and the one that it was at where it was cut short.
 use Rattle.std.specs.Prelude.{◌≡◌, ℕ, ◌+◌, ◌^◌, ◌≤◌, ◌⊎◌, List, ◌++◌, Option, Result, Ok, Err}
 use Rattle.rand_core.specs.Stream.{Stream}
-use Rattle.prims_core.specs.Meter.{Counts}
+use Rattle.prims_core.specs.Work.{IsAtMost}
+use Rattle.prims_core.specs.declared.work.Work.{Work}
 use Rattle.mkpasswd.specs.Answers.{Answer, IsRefusedAmong, after_work}
-use Rattle.mkpasswd.specs.Devices.{Device, MovesBytes}
-use Rattle.mkpasswd.specs.Output.{Takes, TakesAndFlushes, TakesFront, TakesAndFailsToFlush}
+use Rattle.mkpasswd.specs.Devices.{Device, FailsToFlush, IsFlushed, IsUnflushed, MovesBytes}
+use Rattle.mkpasswd.specs.Output.{Takes, TakesFront, TakesThen}
 use Rattle.mkpasswd.specs.declared.fault.RunFault.{RunFault}
 use Rattle.mkpasswd.specs.declared.fault.RunFault.TheVariants.{Read, Write, OutOfMemory, Turns, Password}
 use Rattle.mkpasswd.specs.declared.tally.Tally.{Tally}
@@ -16,7 +17,7 @@ pub record Hands (I O E : Type 0) : Type 0 where
   pub out : Device O
   pub faults : Device E
   pub stream : Stream
-  pub counts : Counts
+  pub counts : Work
 
 -- what the three devices tell of their bytes
 pub record Tells (I O E : Type 0) : Type 0 where
@@ -25,7 +26,7 @@ pub record Tells (I O E : Type 0) : Type 0 where
   pub fault_contents : E → Option (List ℕ)
 
 -- the same two from what clauses name
-abbrev pub hands : {I O E : Type 0} → Device I → Device O → Device E → Stream → Counts → Hands I O E
+abbrev pub hands : {I O E : Type 0} → Device I → Device O → Device E → Stream → Work → Hands I O E
 hands input out faults stream counts =
     record { input = input; out = out; faults = faults; stream = stream; counts = counts }
 
@@ -34,12 +35,8 @@ tells remaining contents fault_contents =
     record { remaining = remaining; contents = contents; fault_contents = fault_contents }
 
 -- the counts leave room for any run
-pub record HasCountsForRun (counts : Counts) : Type 0 where
-  pub digests : counts.digests ≤ 2 ^ 100
-  pub bytes : counts.bytes ≤ 2 ^ 100
-  pub mixes : counts.mixes ≤ 2 ^ 100
-  pub table : counts.table ≤ 2 ^ 100
-  pub scratch : counts.scratch ≤ 2 ^ 100
+abbrev pub HasCountsForRun : Work → Type 0
+HasCountsForRun counts = IsAtMost counts (2 ^ 100)
 
 module _ {I O E : Type 0} where
   -- ---- the calls of the devices
@@ -68,10 +65,15 @@ module _ {I O E : Type 0} where
 
   -- ---- what the answers leave
 
-  -- the outputs have taken an answer whole, and nothing else, and no flush was tried
-  pub record TakesAnswer (tells : Tells I O E) (answer : Answer) (old new : Hands I O E) : Type 0 where
-    pub text : Takes tells.contents old.out new.out answer.text
-    pub fault_text : Takes tells.fault_contents old.faults new.faults answer.fault_text
+  -- the outputs have taken an answer whole, and nothing else; of their flushes there is this to say
+  pub record TakesAnswerThen (Flush : Device O → Device O → Type 0) (FaultFlush : Device E → Device E → Type 0)
+      (tells : Tells I O E) (answer : Answer) (old new : Hands I O E) : Type 0 where
+    pub text : TakesThen tells.contents Flush old.out new.out answer.text
+    pub fault_text : TakesThen tells.fault_contents FaultFlush old.faults new.faults answer.fault_text
+
+  -- that none was tried
+  abbrev pub TakesAnswer : Tells I O E → Answer → Hands I O E → Hands I O E → Type 0
+  TakesAnswer = TakesAnswerThen IsUnflushed IsUnflushed
 
   -- they have taken one answer whole, and of the next one the first bytes of its text and all of its fault text
   pub record TakesTextFront (tells : Tells I O E) (done next : Answer) (old new : Hands I O E) : Type 0 where
@@ -101,19 +103,16 @@ module _ {I O E : Type 0} where
   -- ---- the end of a run
 
   -- both outputs were flushed when they had taken all answers
-  pub record FlushesBoth (tells : Tells I O E) (answers : Answer) (old new : Hands I O E) : Type 0 where
-    pub text : TakesAndFlushes tells.contents old.out new.out answers.text
-    pub fault_text : TakesAndFlushes tells.fault_contents old.faults new.faults answers.fault_text
+  abbrev pub FlushesBoth : Tells I O E → Answer → Hands I O E → Hands I O E → Type 0
+  FlushesBoth = TakesAnswerThen IsFlushed IsFlushed
 
   -- or the flush of the output failed, and the fault output was left
-  pub record FirstFlushFails (tells : Tells I O E) (answers : Answer) (old new : Hands I O E) : Type 0 where
-    pub text : TakesAndFailsToFlush tells.contents old.out new.out answers.text
-    pub fault_text : Takes tells.fault_contents old.faults new.faults answers.fault_text
+  abbrev pub FirstFlushFails : Tells I O E → Answer → Hands I O E → Hands I O E → Type 0
+  FirstFlushFails = TakesAnswerThen FailsToFlush IsUnflushed
 
   -- or only the flush of the fault output failed, which is the second
-  pub record SecondFlushFails (tells : Tells I O E) (answers : Answer) (old new : Hands I O E) : Type 0 where
-    pub text : TakesAndFlushes tells.contents old.out new.out answers.text
-    pub fault_text : TakesAndFailsToFlush tells.fault_contents old.faults new.faults answers.fault_text
+  abbrev pub SecondFlushFails : Tells I O E → Answer → Hands I O E → Hands I O E → Type 0
+  SecondFlushFails = TakesAnswerThen IsFlushed FailsToFlush
 
   -- A run has given all its answers. A tally comes where no call failed, and both outputs are flushed; `Write`
   -- where one of these two flushes failed.

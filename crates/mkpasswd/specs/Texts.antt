@@ -1,11 +1,15 @@
 -- Bytes that stand between texts.
-use Rattle.std.specs.Prelude.{ℕ, List, [], ◌∷◌, ◌++◌}
+use Rattle.std.specs.Prelude.{ℕ, List, [], ◌∷◌, ◌++◌, codes}
 
 abbrev pub line_feed : ℕ
 line_feed = 10
 
 abbrev pub colon : ℕ
 colon = 58
+
+-- what each line on the fault output begins with, but for those that `clap` has
+abbrev pub program_front : List ℕ
+program_front = codes "mkpasswd: "
 
 -- a text and a line feed
 abbrev pub as_line : List ℕ → List ℕ

@@ -1,7 +1,7 @@
 //! Answers: the hash of a password, or what is told of a line. Each is made whole before anything is written.
 ghost use Rattle.std.specs.Prelude.{◌≡◌, ◌+◌, ◌-◌, ◌*◌, ◌<◌, ◌≤◌, ◌∷◌, ◌++◌, length, IfOk, OnOk, OnErr};
 ghost use Rattle.arrayvec.specs.ArrayVec.{array_vec_len};
-ghost use Rattle.crypt_core.specs.Crypt.{IsRefusedBy, crypt};
+ghost use Rattle.crypt_core.specs.Crypt.{IsAfterRefusedGrowth, crypt};
 ghost use Rattle.crypt_core.specs.Work.{raised_by, work};
 ghost use Rattle.prims_core.specs.Meter.{HasRoom};
 ghost use Rattle.rand_core.specs.Stream.{Stream};
@@ -70,7 +70,7 @@ pub(crate) fn answer_password(
     requires { HasRoom meter.old }
     ensures line { IfOk result (λ line. line.items ≡ as_line (hash_text job.now password.now setting.now)) }
     ensures count { OnOk result (meter.new ≡ raised_by meter.old (work password.now setting.now)) }
-    ensures refused { OnErr result (IsRefusedBy meter.old setting.now.scheme meter.new) }
+    ensures refused { OnErr result (IsAfterRefusedGrowth meter.old setting.now.scheme meter.new) }
 {
     let mut line = Text::new();
     append_hash(&mut line, alloc, job, password, setting, meter)?;
@@ -203,7 +203,7 @@ fn append_new_hash(
     ensures text { OnOk result (text.new.items ≡ text.old.items ++ colon ∷ crypt password.now setting.now) }
     ensures fits { OnOk result (array_vec_len text.new + 4 * count_limit < answer_limit) }
     ensures count { OnOk result (meter.new ≡ raised_by meter.old (work password.now setting.now)) }
-    ensures refused { OnErr result (IsRefusedBy meter.old setting.now.scheme meter.new) }
+    ensures refused { OnErr result (IsAfterRefusedGrowth meter.old setting.now.scheme meter.new) }
     ensures small { IsRaisedBelow work_limit meter.old meter.new }
 {
     let new = hash(alloc, password, setting, meter)?;
@@ -238,7 +238,7 @@ fn append_hash(
     ensures text { OnOk result (text.new.items ≡ text.old.items ++ hash_text job.now password.now setting.now) }
     ensures fits { OnOk result (array_vec_len text.new < answer_limit) }
     ensures count { OnOk result (meter.new ≡ raised_by meter.old (work password.now setting.now)) }
-    ensures refused { OnErr result (IsRefusedBy meter.old setting.now.scheme meter.new) }
+    ensures refused { OnErr result (IsAfterRefusedGrowth meter.old setting.now.scheme meter.new) }
     ensures small { IsRaisedBelow work_limit meter.old meter.new }
 {
     let before = Shown::by(meter);

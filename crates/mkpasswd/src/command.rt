@@ -4,7 +4,7 @@ ghost use Rattle.clap.specs.Words.{kind_of};
 ghost use Rattle.crypt_core.specs.Methods.{method_named};
 ghost use Rattle.crypt_core.specs.declared.method.Method.{Method};
 ghost use Rattle.mkpasswd.specs.Commands.{IsNoOption, IsTold, IsWhole, PrintsHash, Serves, fault_line, hash_words, stream_in};
-ghost use Rattle.mkpasswd.specs.Devices.{HasRoomForRun, HasRoomInRun, turns_limit};
+ghost use Rattle.mkpasswd.specs.Devices.{HasRoomInRun, HaveRoomForRun, turns_limit};
 ghost use Rattle.mkpasswd.specs.Faults.{fault_status};
 ghost use Rattle.mkpasswd.specs.Private.Telling.{ErrorShown, RefusalShown, RunsOrLacks};
 ghost use Rattle.mkpasswd.specs.Runs.{HasCountsForRun, hands, tells};
@@ -54,7 +54,7 @@ pub fn run_command<I: Read, O: Write, E: Write, R: Rng>(
     turns: u64,
 ) -> u8
     requires turns { turns ≤ turns_limit }
-    requires devices { HasRoomForRun input.old × HasRoomForRun out.old × HasRoomForRun faults.old }
+    requires devices { HaveRoomForRun input.old out.old faults.old }
     requires counts { HasCountsForRun meter.old }
     ensures serves { Serves (tells I.remaining O.contents E.contents) turns (is_some generator.old) (map string_bytes words.now)
         (hands input.old out.old faults.old (stream_in R.stream generator.old) meter.old)
@@ -92,7 +92,7 @@ fn run_plan<I: Read, O: Write, E: Write, R: Rng>(
     turns: u64,
 ) -> Result<Tally, Fault>
     requires turns { turns ≤ turns_limit }
-    requires devices { HasRoomForRun input.old × HasRoomForRun out.old × HasRoomForRun faults.old }
+    requires devices { HaveRoomForRun input.old out.old faults.old }
     requires counts { HasCountsForRun meter.old }
     ensures runs { RunsOrLacks (tells I.remaining O.contents E.contents) turns (is_some generator.old) plan.now
         (hands input.old out.old faults.old (stream_in R.stream generator.old) meter.old)

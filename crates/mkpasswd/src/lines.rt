@@ -1,8 +1,8 @@
 //! The runs over the lines of an input. Each line is answered once its end was read, before more is read, so
 //! that a run holds one line and one piece of its input, whatever that is.
 ghost use Rattle.std.specs.Prelude.{◌≡◌, ℕ, ◌^◌, ◌<◌, ◌≤◌, [], List, OnOk};
-ghost use Rattle.mkpasswd.specs.Devices.{HasRoomForRun, HasRoomInRun, MovesBytes, turns_limit};
-ghost use Rattle.mkpasswd.specs.LineAnswers.{OnlyRefuses, OnlyRenews, RenewsNone};
+ghost use Rattle.mkpasswd.specs.Devices.{HasRoomInRun, HaveRoomForRun, MovesBytes, turns_limit};
+ghost use Rattle.mkpasswd.specs.LineOptions.{OnlyRefuses, OnlyRenews, RenewsNone};
 ghost use Rattle.mkpasswd.specs.LineRuns.{EndsLines};
 ghost use Rattle.mkpasswd.specs.Private.Desks.{IsSameDesk, seen, with_input};
 ghost use Rattle.mkpasswd.specs.Private.LineEnds.{GoesOn, GoesToEnd, HasRoomToRead, IsAtInput, TakesTurnsOf, spare_fetch};
@@ -70,7 +70,7 @@ pub fn run_batch<I: Read, O: Write, E: Write, R: Rng>(
     turns: u64,
 ) -> Result<Tally, RunFault>
     requires turns { turns ≤ turns_limit }
-    requires devices { HasRoomForRun input.old × HasRoomForRun out.old × HasRoomForRun faults.old }
+    requires devices { HaveRoomForRun input.old out.old faults.old }
     requires counts { HasCountsForRun meter.old }
     ensures ends { EndsLines (tells I.remaining O.contents E.contents) turns Batch job.now
         (hands input.old out.old faults.old (R.stream rng.old) meter.old)
@@ -113,7 +113,7 @@ pub fn run_check<I: Read, O: Write, E: Write, R: Rng>(
     turns: u64,
 ) -> Result<Tally, RunFault>
     requires turns { turns ≤ turns_limit }
-    requires devices { HasRoomForRun input.old × HasRoomForRun out.old × HasRoomForRun faults.old }
+    requires devices { HaveRoomForRun input.old out.old faults.old }
     requires counts { HasCountsForRun meter.old }
     ensures ends { EndsLines (tells I.remaining O.contents E.contents) turns Check job.now
         (hands input.old out.old faults.old (R.stream rng.old) meter.old)
@@ -138,7 +138,7 @@ fn run_lines<I: Read, O: Write, E: Write, R: Rng>(
     turns: u64,
 ) -> Result<Tally, RunFault>
     requires turns { turns ≤ turns_limit }
-    requires devices { HasRoomForRun input.old × HasRoomForRun desk.old.out.now × HasRoomForRun desk.old.faults.now }
+    requires devices { HaveRoomForRun input.old desk.old.out.now desk.old.faults.now }
     requires counts { HasCountsForRun desk.old.meter.now }
     ensures ends { EndsLines (tells I.remaining O.contents E.contents) turns task.entry.kind task.entry.job.now
         (with_input input.old (seen R.stream desk.old)) (with_input input.new (seen R.stream desk.new)) result }

@@ -2,7 +2,7 @@
 //! the output.
 ghost use Rattle.std.specs.Prelude.{◌≡◌, ◌+◌, ◌^◌, ◌≤◌};
 ghost use Rattle.mkpasswd.specs.Budgets.{without_budget};
-ghost use Rattle.mkpasswd.specs.Devices.{HasRoomForRun, HasRoomInRun, MovesBytes, turns_limit};
+ghost use Rattle.mkpasswd.specs.Devices.{HasRoomForRun, HasRoomInRun, HaveRoomForRun, MovesBytes, turns_limit};
 ghost use Rattle.mkpasswd.specs.One.{EndsOne, ObtainsFrom};
 ghost use Rattle.mkpasswd.specs.Rehashes.{without_rehash};
 ghost use Rattle.mkpasswd.specs.Runs.{hands, tells, HasCountsForRun, IsWithinTurns};
@@ -50,7 +50,7 @@ pub fn run_one<I: Read, O: Write, E: Write, R: Rng>(
     turns: u64,
 ) -> Result<Tally, RunFault>
     requires turns { turns ≤ turns_limit }
-    requires devices { HasRoomForRun input.old × HasRoomForRun out.old × HasRoomForRun faults.old }
+    requires devices { HaveRoomForRun input.old out.old faults.old }
     requires counts { HasCountsForRun meter.old }
     ensures ends { EndsOne (tells I.remaining O.contents E.contents) turns job.now from.now
         (hands input.old out.old faults.old (R.stream rng.old) meter.old)

@@ -72,6 +72,20 @@ impl<'a> Left<'a> {
             meter,
         }
     }
+
+    /// Wants this outcome, and these bytes in the output and in the fault output.
+    pub fn want(
+        &self,
+        rt: &impl Abort,
+        what: &str,
+        outcome: Result<Tally, RunFault>,
+        out: &[u8],
+        faults: &[u8],
+    ) {
+        assert_eq!(rt; self.outcome, outcome, "{what}");
+        assert_eq!(rt; self.out.taken(), out, "{what}: the output");
+        assert_eq!(rt; self.faults.taken(), faults, "{what}: the fault output");
+    }
 }
 
 /// The outcome of a run, and its devices: the output, the fault output and the input.

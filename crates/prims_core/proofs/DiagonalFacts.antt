@@ -3,7 +3,7 @@ use Rattle.std.proofs.Common.{◌≡◌, ℕ, ◌<◌, List, [], ◌∷◌, ◌+
 use Rattle.std.specs.List.{concat}
 use Rattle.std.specs.Simd.Lanes.{zip2, pick_l}
 use Rattle.std.proofs.lemmas.Simd.{get_or-zip2, length-zip2}
-use Rattle.prims_core.specs.Private.Diagonals.{words_on}
+use Rattle.prims_core.specs.Private.Diagonals.{HaveFourWords, words_on}
 use Rattle.prims_core.proofs.ChunkFacts.{concat-chunks_exact}
 use Rattle.prims_core.proofs.MatrixFacts.{rows_of_sixteen}
 
@@ -52,33 +52,36 @@ in_rows a b c d four_a four_c =
     ∷ slice_index (c ++ d) 4 ∷ slice_index (c ++ d) 1 ∷ slice_index b 2 ∷ slice_index a 3 ∷ [])
     ≡ words_on a b c d) c four_c refl)
 
-pub length-of_lanes : (f : ℕ → ℕ → ℕ) (xs ys : List ℕ) → length xs ≡ 4 → length ys ≡ 4 → length (zip2 f xs ys) ≡ 4
-length-of_lanes f xs ys four_xs four_ys = length-zip2 f xs ys (four_xs ∙ sym four_ys) ∙ four_xs
+-- an operator on the lanes leaves four in each vector
+pub four_words-zip2 : (f : ℕ → ℕ → ℕ) (a b c d a' b' c' d' : List ℕ) → HaveFourWords a b c d → HaveFourWords a' b' c' d'
+    → HaveFourWords (zip2 f a a') (zip2 f b b') (zip2 f c c') (zip2 f d d')
+four_words-zip2 f a b c d a' b' c' d' fours fours' =
+    let lanes : (xs ys : List ℕ) → length xs ≡ 4 → length ys ≡ 4 → length (zip2 f xs ys) ≡ 4 =
+    λ xs ys four_xs four_ys. length-zip2 f xs ys (four_xs ∙ sym four_ys) ∙ four_xs in
+    (lanes a a' fours.0 fours'.0, lanes b b' fours.1 fours'.1, lanes c c' fours.2 fours'.2, lanes d d' fours.3 fours'.3)
 
--- an operator on the lanes is that operator on the words
-pub words_on-zip2 : (f : ℕ → ℕ → ℕ) (a b c d a' b' c' d' : List ℕ)
-    → length a ≡ 4 → length b ≡ 4 → length c ≡ 4 → length d ≡ 4
-    → length a' ≡ 4 → length b' ≡ 4 → length c' ≡ 4 → length d' ≡ 4
+-- and is that operator on the words
+pub words_on-zip2 : (f : ℕ → ℕ → ℕ) (a b c d a' b' c' d' : List ℕ) → HaveFourWords a b c d → HaveFourWords a' b' c' d'
     → words_on (zip2 f a a') (zip2 f b b') (zip2 f c c') (zip2 f d d') ≡ zip2 f (words_on a b c d) (words_on a' b' c' d')
-words_on-zip2 f a b c d a' b' c' d' ha hb hc hd ha' hb' hc' hd' =
+words_on-zip2 f a b c d a' b' c' d' fours fours' =
     let lane : (xs ys : List ℕ) → length xs ≡ 4 → length ys ≡ 4 → (i : ℕ) → i < 4
     → slice_index (zip2 f xs ys) i ≡ f (slice_index xs i) (slice_index ys i) =
     λ xs ys four_xs four_ys i inside. get_or-zip2 f xs ys i 0 0 0 (omega arith) (omega arith) in
     rw (
-      lane a a' ha ha' 0 (omega arith),
-      lane a a' ha ha' 1 (omega arith),
-      lane a a' ha ha' 2 (omega arith),
-      lane a a' ha ha' 3 (omega arith),
-      lane b b' hb hb' 0 (omega arith),
-      lane b b' hb hb' 1 (omega arith),
-      lane b b' hb hb' 2 (omega arith),
-      lane b b' hb hb' 3 (omega arith),
-      lane c c' hc hc' 0 (omega arith),
-      lane c c' hc hc' 1 (omega arith),
-      lane c c' hc hc' 2 (omega arith),
-      lane c c' hc hc' 3 (omega arith),
-      lane d d' hd hd' 0 (omega arith),
-      lane d d' hd hd' 1 (omega arith),
-      lane d d' hd hd' 2 (omega arith),
-      lane d d' hd hd' 3 (omega arith),
+      lane a a' fours.0 fours'.0 0 (omega arith),
+      lane a a' fours.0 fours'.0 1 (omega arith),
+      lane a a' fours.0 fours'.0 2 (omega arith),
+      lane a a' fours.0 fours'.0 3 (omega arith),
+      lane b b' fours.1 fours'.1 0 (omega arith),
+      lane b b' fours.1 fours'.1 1 (omega arith),
+      lane b b' fours.1 fours'.1 2 (omega arith),
+      lane b b' fours.1 fours'.1 3 (omega arith),
+      lane c c' fours.2 fours'.2 0 (omega arith),
+      lane c c' fours.2 fours'.2 1 (omega arith),
+      lane c c' fours.2 fours'.2 2 (omega arith),
+      lane c c' fours.2 fours'.2 3 (omega arith),
+      lane d d' fours.3 fours'.3 0 (omega arith),
+      lane d d' fours.3 fours'.3 1 (omega arith),
+      lane d d' fours.3 fours'.3 2 (omega arith),
+      lane d d' fours.3 fours'.3 3 (omega arith),
     ) refl

@@ -1,10 +1,13 @@
--- Some work, in the five counts of a meter.
+-- Some work, in five counts: what a hash takes, and also all that a meter has counted.
 use Rattle.std.specs.Prelude.{ℕ, ◌+◌, ◌≤◌, ◌<◌}
-use Rattle.prims_core.specs.Meter.{Counts}
 use Rattle.prims_core.specs.declared.work.Work.{Work}
 
--- the meter, raised by some work in all five counts
-abbrev pub raised_by : Counts → Work → Counts
+-- none at all, as of a meter that is new
+abbrev pub no_work : Work
+no_work = record { digests = 0; bytes = 0; mixes = 0; table = 0; scratch = 0 }
+
+-- some work, and then some more: each count is the sum of both
+abbrev pub raised_by : Work → Work → Work
 raised_by counts work = record {
   digests = counts.digests + work.digests;
   bytes = counts.bytes + work.bytes;
@@ -20,6 +23,14 @@ pub record IsWithin (work most : Work) : Type 0 where
   pub mixes : work.mixes ≤ most.mixes
   pub table : work.table ≤ most.table
   pub scratch : work.scratch ≤ most.scratch
+
+-- no count is above a number
+pub record IsAtMost (work : Work) (limit : ℕ) : Type 0 where
+  pub digests : work.digests ≤ limit
+  pub bytes : work.bytes ≤ limit
+  pub mixes : work.mixes ≤ limit
+  pub table : work.table ≤ limit
+  pub scratch : work.scratch ≤ limit
 
 -- each count is below a number
 pub record IsBelow (work : Work) (limit : ℕ) : Type 0 where

@@ -26,15 +26,14 @@ pub(crate) struct Diagonals {
 }
 
 impl Model for Diagonals {
-    ghost use Rattle.std.specs.Prelude.{◌≡◌, ℕ, List, length};
-    ghost use Rattle.prims_core.specs.Private.Diagonals.{words_on};
+    ghost use Rattle.std.specs.Prelude.{ℕ, List};
+    ghost use Rattle.prims_core.specs.Private.Diagonals.{HaveFourWords, words_on};
 
     ghost Value = { List ℕ };
 
     ghost view = { λ d. words_on d.first d.second d.third d.fourth };
 
-    ghost invariant = { λ d. (length d.first ≡ 4) × (length d.second ≡ 4) × (length d.third ≡ 4)
-        × (length d.fourth ≡ 4) };
+    ghost invariant = { λ d. HaveFourWords d.first d.second d.third d.fourth };
 }
 
 impl Diagonals {

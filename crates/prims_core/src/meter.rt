@@ -4,12 +4,12 @@
 //! after a run is what the run has done through it.
 
 ghost use Rattle.std.specs.Prelude.{◌≡◌, ◌+◌, ◌^◌, ◌<◌};
-ghost use Rattle.prims_core.specs.Meter.{no_counts};
+ghost use Rattle.prims_core.specs.Work.{no_work};
 
 use std::marker::Model;
 
 /// Counts of the work done: digests, bytes fed to them, mixings of 2r blocks by scrypt, and bytes of
-/// scrypt's tables and scratch memory.
+/// scrypt's tables and scratch memory. Clauses see it as that work.
 #[derive(Debug, Drop)]
 pub struct Meter {
     digests: u128,
@@ -20,9 +20,9 @@ pub struct Meter {
 }
 
 impl Model for Meter {
-    ghost use Rattle.prims_core.specs.Meter.{Counts};
+    ghost use Rattle.prims_core.specs.declared.work.Work.{Work};
 
-    ghost Value = { Counts };
+    ghost Value = { Work };
 
     ghost view = { λ m. record { digests = m.digests; bytes = m.bytes; mixes = m.mixes; table = m.table; scratch = m.scratch } };
 }
@@ -30,7 +30,7 @@ impl Model for Meter {
 impl Meter {
     /// A meter that has counted nothing.
     pub fn new() -> Self
-        ensures { result ≡ no_counts }
+        ensures { result ≡ no_work }
     {
         Meter {
             digests: 0,

@@ -10,4 +10,4 @@ returns-clause-tells c = (c.bounded.result, c.bounded.ensures.tells, search rule
 pub returns-clause-each : goal.returns-clause-each
 returns-clause-each c new answer holds =
     let is_told = returns-clause-tells c in
-    is_told.2 ∙ ap length_told (told_once work_bound c.args.stored.now c.args.password_len c.args.most.now c.bounded.new.most new is_told.0 answer is_told.1 holds)
+    is_told.2 ∙ ap length_told (told_once work_bound c.args.stored.now c.args.password_len c.bounded.ensures.one_reading c.args.most.now c.bounded.new.most new is_told.0 answer is_told.1 holds)

@@ -10,4 +10,4 @@ returns-clause-tells c = (c.priced.result, c.priced.ensures.tells, search rules)
 pub returns-clause-each : goal.returns-clause-each
 returns-clause-each c new answer holds =
     let is_told = returns-clause-tells c in
-    is_told.2 ∙ ap length_told (told_once cost c.args.stored.now c.args.password_len c.args.number.now c.priced.new.number new is_told.0 answer is_told.1 holds)
+    is_told.2 ∙ ap length_told (told_once cost c.args.stored.now c.args.password_len c.priced.ensures.one_reading c.args.number.now c.priced.new.number new is_told.0 answer is_told.1 holds)

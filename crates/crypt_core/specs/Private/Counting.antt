@@ -1,7 +1,8 @@
 -- How single digests raise a meter.
 use Rattle.std.specs.Prelude.{ℕ, List, length}
-use Rattle.prims_core.specs.Meter.{Counts, with_work}
+use Rattle.prims_core.specs.Meter.{with_work}
+use Rattle.prims_core.specs.declared.work.Work.{Work}
 
 -- the meter after the digest of a message
-abbrev pub with_digest : Counts → List ℕ → Counts
+abbrev pub with_digest : Work → List ℕ → Work
 with_digest counts message = with_work counts 1 (length message)

@@ -18,10 +18,6 @@ abbrev pub HasNumber : List ℕ → ℕ → List ℕ → Type 0
 HasNumber field number rest = (digits : List ℕ) × IsRoundsNumber digits × (field ≡ digits ++ (dollar ∷ rest))
     × (number ≡ min (digits_value 10 digits) max_rounds)
 
--- no digits of a number stand there with a `$` behind them
-abbrev pub LacksNumber : List ℕ → Type 0
-LacksNumber field = (digits rest : List ℕ) → IsRoundsNumber digits → field ≡ digits ++ (dollar ∷ rest) → ⊥
-
 -- these rounds are spelled in front of the rest
 abbrev pub HasRounds : List ℕ → Rounds → List ℕ → Type 0
 HasRounds after rounds rest = (part : List ℕ) × (after ≡ part ++ rest) × SpellsRounds rounds part rest
@@ -36,10 +32,8 @@ HasField after field = (rest : List ℕ) × (after ≡ field ++ rest) × IsField
 
 -- this is kept of the field of the salt
 abbrev pub HasSalt : Method → List ℕ → List ℕ → Type 0
-HasSalt method after salt =
-    (field rest : List ℕ) × (after ≡ field ++ rest) × IsField field rest × KeepsSalt method field salt
+HasSalt method after salt = (field : List ℕ) × HasField after field × KeepsSalt method field salt
 
 -- the field is no salt of scrypt, which is the method
 abbrev pub LacksSalt : Method → List ℕ → Type 0
-LacksSalt method after = (method ≡ methods.Scrypt)
-    × (field rest : List ℕ) × (after ≡ field ++ rest) × IsField field rest × (¬ IsScryptSalt field)
+LacksSalt method after = (method ≡ methods.Scrypt) × (field : List ℕ) × HasField after field × (¬ IsScryptSalt field)

@@ -21,7 +21,8 @@ fn patterned(rt: &impl Abort, alloc: Global, len: usize) -> Result<Password, Fai
     Ok(Password::new(bytes.as_slice()).expect(rt, "a password"))
 }
 
-fn setting_of(rt: &impl Abort, text: &str) -> Setting {
+/// What a text spells.
+pub fn setting_of(rt: &impl Abort, text: &str) -> Setting {
     Setting::read(text.as_bytes()).expect(rt, "a setting")
 }
 

@@ -2,8 +2,7 @@
 
 ghost use Rattle.std.specs.Prelude.{◌≡◌, ◌+◌, ◌≤◌, ◌↔◌, IsTrue, IsOk, IfOk, IfErr, OnOk};
 ghost use Rattle.crypt_core.specs.declared.setting.fault.MakeFault.{MakeFault as Fault};
-ghost use Rattle.crypt_core.specs.MadeSalts.{made_salt, made_salt_length};
-ghost use Rattle.crypt_core.specs.MadeSettings.{max_cost, min_cost, scrypt_cost, TakesCost, IsMakeable, IsMakeRefused, made_scheme, made_setting, made_rounds};
+ghost use Rattle.crypt_core.specs.MadeSettings.{max_cost, min_cost, scrypt_cost, TakesCost, IsMakeable, IsMakeRefused, made_scheme, made_setting, made_rounds, with_made_salt};
 
 use super::Setting;
 use super::fault::MakeFault;
@@ -59,7 +58,7 @@ impl Setting {
 
     /// The setting of a method with a cost and a new salt, which three random words make. Only `Cost` can come.
     pub fn with_made_salt(method: Method, cost: u32, words: [u64; 3]) -> Result<Setting, MakeFault>
-        ensures made { IfOk result (λ setting. setting ≡ made_setting method cost (made_salt words (made_salt_length method))) }
+        ensures made { IfOk result (λ setting. setting ≡ with_made_salt method cost words) }
         ensures accepted { IsOk result ↔ TakesCost method cost }
         ensures refused { IfErr result (λ fault. fault ≡ MakeFault.Cost) }
     {

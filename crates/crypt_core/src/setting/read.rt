@@ -5,16 +5,17 @@
 
 ghost use Rattle.std.specs.Prelude.{◌≡◌, ◌≤◌, ◌↔◌, length, ◌++◌, ◌==◌, min, drop, position, IsTrue, All, IfOk, IfErr, OnOk, OnSome, IfSome, IfNone, MatchOption};
 ghost use Rattle.std.specs.Str.Parse.{digits_value};
-ghost use Rattle.kdf_core.specs.Params.{ScryptCost, IsAccepted};
+ghost use Rattle.kdf_core.specs.Params.{cost_of, IsAccepted};
 ghost use Rattle.crypt_core.specs.declared.setting.fault.SettingFault.{SettingFault as Fault};
 ghost use Rattle.crypt_core.specs.Methods.{prefix};
-ghost use Rattle.crypt_core.specs.Private.Parts.{AllRefused, HasField, HasNumber, HasNumbers, HasRounds, HasSalt, LacksNumber, LacksSalt};
-ghost use Rattle.crypt_core.specs.Refusals.{IsRefused, IsShaText, LacksCost};
+ghost use Rattle.crypt_core.specs.Private.Parts.{AllRefused, HasField, HasNumber, HasNumbers, HasRounds, HasSalt, LacksSalt};
+ghost use Rattle.crypt_core.specs.Readings.{HasOneReading};
+ghost use Rattle.crypt_core.specs.Refusals.{IsRefused, IsShaText, LacksCost, LacksNumber};
 ghost use Rattle.crypt_core.specs.Settings.{Kept, IsSettingByte, IsSettingText, dollar, max_rounds, BeginsWith, IsRoundsNumber, scrypt_part_len, IsScryptSalt, SpellsScheme, Spells};
 
 use super::fault::SettingFault;
 use super::salt::in_alphabet;
-use super::{COST_CHARACTERS, SETTING_LIMIT, Setting};
+use super::{COST_CHARACTERS, ROUNDS_WORD, SETTING_LIMIT, Setting};
 use crate::method::{Method, SCRYPT_SALT_LIMIT};
 use crate::scheme::{MAX_ROUNDS, Rounds, Scheme};
 use arrayvec::ArrayVec;
@@ -32,6 +33,8 @@ impl Setting {
 
         ensures refused { IfErr result (IsRefused text.now) }
         ensures each_refusal { (fault : Fault) → IsRefused text.now fault → result ≡ Err fault }
+
+        ensures one_reading { HasOneReading text.now }
     {
         parse(text)
     }
@@ -107,7 +110,7 @@ fn rounds_at(after: &[u8]) -> Result<(Rounds, &[u8]), SettingFault>
     ensures ok { IfOk result (λ x. HasRounds after.now x.0 x.1.now) }
     ensures err { IfErr result (AllRefused (λ text. IsShaText text after.now)) }
 {
-    let Some(field) = after_front(after, b"rounds=") else {
+    let Some(field) = after_front(after, ROUNDS_WORD) else {
         return Ok((Rounds::unwritten(), after));
     };
     let Some((number, rest)) = number_at(field) else {
@@ -174,8 +177,7 @@ fn params_at(after: &[u8]) -> Result<Params, SettingFault>
 fn numbers_at(after: &[u8]) -> Option<(u8, u32, u32)>
     ensures none { IfNone result (LacksCost after.now) }
     ensures long { OnSome result (scrypt_part_len ≤ length after.now) }
-    ensures some { IfSome result (λ x. let cost : ScryptCost = record { log_n = x.0; r = x.1; p = x.2 } in
-        HasNumbers after.now cost) }
+    ensures some { IfSome result (λ x. HasNumbers after.now (cost_of x.0 x.1 x.2)) }
 {
     if after.len() < COST_CHARACTERS {
         return None;

@@ -7,7 +7,7 @@ ghost use Rattle.crypt_core.specs.Private.Costs.{HasCost};
 ghost use Rattle.crypt_core.specs.Packing.{packed_len};
 ghost use Rattle.crypt_core.specs.Settings.{canonical_limit, cost_part, canonical_text, method_of, Spells};
 
-use super::{Setting, TEXT_CAPACITY};
+use super::{ROUNDS_WORD, Setting, TEXT_CAPACITY};
 use crate::scheme::Scheme;
 use arrayvec::ArrayVec;
 use prims_core::alphabet::put_group;
@@ -42,7 +42,7 @@ fn append_cost(text: &mut ArrayVec<u8, TEXT_CAPACITY>, scheme: &Scheme)
         Scheme::Md5crypt => {}
         Scheme::Sha256crypt(rounds) | Scheme::Sha512crypt(rounds) => {
             if rounds.is_written {
-                append(text, b"rounds=");
+                append(text, ROUNDS_WORD);
                 append_decimal(text, rounds.count);
                 append(text, b"$");
             }

@@ -2,10 +2,10 @@
 
 use super::*;
 use crate::hash::hash;
+use crate::hash::tests::setting_of;
 use crate::method::Method;
 use crate::password::Password;
 use prims_core::meter::Meter;
-use std::process::Abort;
 use std::test::Fail;
 
 // A setting, the length of a password, and its bound: digests, bytes, mixings, table and scratch.
@@ -117,10 +117,6 @@ const HASHED: [(&str, usize); 33] = [
     ("$7$2/..../....", 1023),
     ("$7$20..../....NaCl", 1024),
 ];
-
-fn setting_of(rt: &impl Abort, text: &str) -> Setting {
-    Setting::read(text.as_bytes()).expect(rt, "a setting")
-}
 
 #[test]
 fn bounds(rt: HostRuntime) {

@@ -1,7 +1,7 @@
 -- How the giving of a text to one output, or the flush of both, can end.
-use Rattle.std.specs.Prelude.{◌≡◌, ◌<◌, ◌+◌, ℕ, ◌⊎◌, List, [], length, Option, Result, Ok, Err}
+use Rattle.std.specs.Prelude.{◌≡◌, ◌<◌, ◌+◌, ℕ, ◌⊎◌, List, [], ◌++◌, length, Option, Result, Ok, Err}
 use Rattle.std.specs.Io.KnownBytes.{Keeps}
-use Rattle.mkpasswd.specs.Answers.{Answer}
+use Rattle.mkpasswd.specs.Answers.{Answer, no_answer}
 use Rattle.mkpasswd.specs.Devices.{Device, FailsOnce, FailsToFlush, IsFlushed, IsUnfailed}
 use Rattle.mkpasswd.specs.Output.{Takes, TakesFront}
 use Rattle.mkpasswd.specs.declared.fault.RunFault.{RunFault}
@@ -47,18 +47,28 @@ module _ {O E : Type 0} (contents : O → Option (List ℕ)) (fault_contents : E
       ⊎ (IsFinished contents out new_out × IsUnfinished fault_contents faults new_faults)
   FinishesBoth out faults new_out new_faults (Err fault) = ⊥
 
-  -- an answer is given whole; or a call failed, or the turns were over, and its first bytes are
+  -- Behind an answer that was given, the first bytes of the next one were: a call failed; or the turns were over, with
+  -- some still to come.
+  abbrev pub IsSentInPart : ℕ → Answer → Answer → Device O → Device E → Device O → Device E → RunFault → Type 0
+  IsSentInPart left done next out faults new_out new_faults Write =
+      (FailsOnce out new_out × IsUnfailed faults new_faults
+      × TakesFront contents out new_out done.text next.text
+      × Takes fault_contents faults new_faults (done.fault_text ++ next.fault_text))
+      ⊎ (IsUnfailed out new_out × FailsOnce faults new_faults
+      × Takes contents out new_out (done.text ++ next.text)
+      × TakesFront fault_contents faults new_faults done.fault_text next.fault_text)
+  IsSentInPart left done next out faults new_out new_faults Turns =
+      IsUnfailed out new_out × IsUnfailed faults new_faults × (left ≡ 0)
+      × TakesFront contents out new_out done.text next.text
+      × TakesFront fault_contents faults new_faults done.fault_text next.fault_text
+      × (new_out.bytes + new_faults.bytes
+      < out.bytes + faults.bytes + length (done.text ++ next.text) + length (done.fault_text ++ next.fault_text))
+  IsSentInPart left done next out faults new_out new_faults fault = ⊥
+
+  -- an answer is given whole, or in part
   abbrev pub Sends : ℕ → Answer → Device O → Device E → Device O → Device E → {A : Type 0} → Result A RunFault → Type 0
   Sends left answer out faults new_out new_faults (Ok done) =
       IsUnfailed out new_out × IsUnfailed faults new_faults
       × Takes contents out new_out answer.text × Takes fault_contents faults new_faults answer.fault_text
-  Sends left answer out faults new_out new_faults (Err Write) =
-      (FailsOnce out new_out × IsUnfailed faults new_faults
-      × TakesFront contents out new_out [] answer.text × Takes fault_contents faults new_faults answer.fault_text)
-      ⊎ (IsUnfailed out new_out × FailsOnce faults new_faults
-      × Takes contents out new_out answer.text × TakesFront fault_contents faults new_faults [] answer.fault_text)
-  Sends left answer out faults new_out new_faults (Err Turns) =
-      IsUnfailed out new_out × IsUnfailed faults new_faults × (left ≡ 0)
-      × TakesFront contents out new_out [] answer.text × TakesFront fault_contents faults new_faults [] answer.fault_text
-      × (new_out.bytes + new_faults.bytes < out.bytes + faults.bytes + length answer.text + length answer.fault_text)
-  Sends left answer out faults new_out new_faults (Err fault) = ⊥
+  Sends left answer out faults new_out new_faults (Err fault) =
+      IsSentInPart left (no_answer answer.stream) answer out faults new_out new_faults fault

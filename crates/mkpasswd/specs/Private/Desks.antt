@@ -1,7 +1,7 @@
 -- What a run works on beside its input: two outputs, a generator and a meter, behind references.
 use Rattle.std.specs.Prelude.{◌≡◌, ℕ, ◌+◌, ◌≤◌}
 use Rattle.rand_core.specs.Stream.{Stream}
-use Rattle.prims_core.specs.Meter.{Counts}
+use Rattle.prims_core.specs.declared.work.Work.{Work}
 use Rattle.mkpasswd.specs.Devices.{Device, MovesBytes}
 use Rattle.mkpasswd.specs.Runs.{Hands, hands}
 use Rattle.mkpasswd.specs.declared.desk.Desk.{Desk}
@@ -11,7 +11,7 @@ pub record Outs (O E : Type 0) : Type 0 where
   pub out : Device O
   pub faults : Device E
   pub stream : Stream
-  pub counts : Counts
+  pub counts : Work
 
 module _ {O E R : Type 0} where
   abbrev pub seen : (R → Stream) → Desk O E R → Outs O E

@@ -2,8 +2,8 @@
 use Rattle.std.specs.Prelude.{◌≡◌, ℕ, ◌+◌, ◌≤◌, List, [], length, take, Option, Result, Ok, Err}
 use Rattle.std.specs.Io.KnownBytes.{IsAtEnd}
 use Rattle.crypt_core.specs.Passwords.{password_limit}
-use Rattle.mkpasswd.specs.Devices.{Device, MovesBytes, FailsOnce, IsUnfailed}
-use Rattle.mkpasswd.specs.Input.{first_line, IsDecided, IsUndecided, Reads}
+use Rattle.mkpasswd.specs.Devices.{Device, FailsOnce, IsUnfailed}
+use Rattle.mkpasswd.specs.Input.{first_line, IsDecided, IsStopped, Reads}
 use Rattle.mkpasswd.specs.declared.fault.RunFault.{RunFault}
 use Rattle.mkpasswd.specs.declared.fault.RunFault.TheVariants.{Read, Turns}
 
@@ -22,11 +22,9 @@ module _ {I : Type 0} (remaining : I → Option (List ℕ)) where
   Fetches left old new buffer (Err Turns) = IsUnfailed old new × Reads remaining old new [] × (left ≡ 0)
   Fetches left old new buffer (Err fault) = ⊥
 
-  -- the fetches gave these bytes, and their first line is so many first bytes of the buffer; or a fetch
-  -- failed, or no turn was left, before it was known
+  -- the fetches gave these bytes, and their first line is so many first bytes of the buffer; or they were stopped before
+  -- it was known
   abbrev pub FindsLine : Device I → Device I → List ℕ → ℕ → List ℕ → Result ℕ RunFault → Type 0
   FindsLine old new bytes left buffer (Ok count) =
       IsUnfailed old new × IsDecided remaining new bytes × (count ≤ length buffer) × (take count buffer ≡ first_line bytes)
-  FindsLine old new bytes left buffer (Err Read) = FailsOnce old new × IsUndecided bytes
-  FindsLine old new bytes left buffer (Err Turns) = IsUnfailed old new × IsUndecided bytes × (left ≡ 0) × MovesBytes 0 old new
-  FindsLine old new bytes left buffer (Err fault) = ⊥
+  FindsLine old new bytes left buffer (Err fault) = IsStopped old new bytes left fault

@@ -1,8 +1,7 @@
 -- How an answer to a line is made, before it is given to one of the outputs.
 use Rattle.std.specs.Prelude.{◌≡◌, ◌≢◌, ℕ, ◌+◌, ◌-◌, ◌<◌, ◌⊎◌, Bool, true, false, List, [], ◌++◌, length, codes, if◌then◌else◌, MatchBool, Result, Ok, Err}
-use Rattle.prims_core.specs.Meter.{Counts}
 use Rattle.rand_core.specs.Stream.{Stream}
-use Rattle.crypt_core.specs.Crypt.{crypt, IsRefusedBy}
+use Rattle.crypt_core.specs.Crypt.{crypt, IsAfterRefusedGrowth}
 use Rattle.crypt_core.specs.Settings.{Kept, Spells}
 use Rattle.crypt_core.specs.Work.{raised_by, work}
 use Rattle.crypt_core.specs.declared.fits.FitFault.{FitFault}
@@ -54,13 +53,13 @@ pub record Says (outcome : Outcome) (said : List ℕ) (answer : Answer) : Type 0
   pub tally : answer.tally ≡ tally_of outcome
 
 -- the answer is there, after the words and the work of its hashes; or memory for one of them was refused
-abbrev pub Makes : Answer → Counts → Counts → Stream → Result LineAnswer HashFault → Type 0
+abbrev pub Makes : Answer → Work → Work → Stream → Result LineAnswer HashFault → Type 0
 Makes answer before after left (Ok made) =
     Says made.outcome made.text.items answer × (after ≡ after_work before answer.hashings) × (left ≡ answer.stream)
 Makes answer before after left (Err fault) = IsRefusedAmong before answer.hashings after left
 
 -- each count has risen by less than a number
-pub record IsRaisedBelow (limit : ℕ) (before after : Counts) : Type 0 where
+pub record IsRaisedBelow (limit : ℕ) (before after : Work) : Type 0 where
   pub digests : after.digests < before.digests + limit
   pub bytes : after.bytes < before.bytes + limit
   pub mixes : after.mixes < before.mixes + limit
@@ -93,14 +92,14 @@ IsWithinBudget job field password =
     (kept : Kept) → Spells field kept → (stream : Stream) → ¬ IsAbove job.budget (check_cost job kept stream (length password))
 
 -- the hash of the password by a setting that the field spells was made, and the setting is out of date or isn't
-pub record IsCompared (job : Job) (field password : List ℕ) (before after : Counts) (kept : Kept) (outdated : Bool) : Type 0 where
+pub record IsCompared (job : Job) (field password : List ℕ) (before after : Work) (kept : Kept) (outdated : Bool) : Type 0 where
   pub spells : Spells field kept
   pub within : IsWithinBudget job field password
   pub counts : after ≡ raised_by before (work password kept)
   pub outdated_is : is_outdated job kept ≡ outdated
 
 -- what a verdict says of a field and a password
-abbrev pub IsVerdict : Job → List ℕ → List ℕ → Counts → Counts → Verdict → Type 0
+abbrev pub IsVerdict : Job → List ℕ → List ℕ → Work → Work → Verdict → Type 0
 IsVerdict job field password before after NoneStored = (field ≡ []) × (after ≡ before)
 IsVerdict job field password before after Locked = IsLocked field × (after ≡ before)
 IsVerdict job field password before after Fits =
@@ -123,14 +122,14 @@ IsRefusedField job field password OverBudget = IsGoodField field × (kept : Kept
 IsRefusedField job field password fault = ⊥
 
 -- a verdict, or why there is none; or memory for the hash was refused
-abbrev pub Judges : Job → List ℕ → List ℕ → Counts → Counts → Result Verdict NoVerdict → Type 0
+abbrev pub Judges : Job → List ℕ → List ℕ → Work → Work → Result Verdict NoVerdict → Type 0
 Judges job field password before after (Ok verdict) = IsGoodField field × IsVerdict job field password before after verdict
 Judges job field password before after (Err (RefusedBy fault)) = IsRefusedField job field password fault × (after ≡ before)
 Judges job field password before after (Err OutOfMemory) =
-    IsGoodField field × (kept : Kept) × Spells field kept × IsWithinBudget job field password × IsRefusedBy before kept.scheme after
+    IsGoodField field × (kept : Kept) × Spells field kept × IsWithinBudget job field password × IsAfterRefusedGrowth before kept.scheme after
 
 -- by how much the counts have risen
-abbrev pub rise : Counts → Counts → Work
+abbrev pub rise : Work → Work → Work
 rise before after = record {
   digests = after.digests - before.digests;
   bytes = after.bytes - before.bytes;
@@ -142,7 +141,7 @@ rise before after = record {
 -- ---- checks
 
 -- a verdict that is out of date is followed by a new hash, with its words and its work, and any other by nothing
-abbrev pub IsFollowed : Job → List ℕ → Counts → Counts → Stream → Stream → Verdict → Type 0
+abbrev pub IsFollowed : Job → List ℕ → Work → Work → Stream → Stream → Verdict → Type 0
 IsFollowed job password middle after stream left verdict = MatchBool (is_outdated_verdict verdict)
     ((after ≡ raised_by middle (work password (next_setting job.maker stream))) × (left ≡ (words_for job.maker stream).1))
     ((after ≡ middle) × (left ≡ stream))
@@ -153,19 +152,19 @@ told_word job password stream verdict =
     verdict_word verdict ++ (if is_outdated_verdict verdict then new_hash_text job password stream else [])
 
 -- the verdict is told of the name, with the counts that have risen where they are wanted
-abbrev pub TellsVerdict : Job → List ℕ → List ℕ → Counts → Counts → Stream → Verdict → LineAnswer → Type 0
+abbrev pub TellsVerdict : Job → List ℕ → List ℕ → Work → Work → Stream → Verdict → LineAnswer → Type 0
 TellsVerdict job name password before after stream verdict made =
     (made.outcome ≡ verdict_outcome verdict)
     × (made.text.items ≡ verdict_text job name (told_word job password stream verdict) (rise before after))
 
 -- a check of a password: its verdict and what follows that; or memory was refused for the one hash or the other
-abbrev pub Checks : Job → List ℕ → List ℕ → List ℕ → Counts → Counts → Stream → Stream → Result LineAnswer NoVerdict → Type 0
+abbrev pub Checks : Job → List ℕ → List ℕ → List ℕ → Work → Work → Stream → Stream → Result LineAnswer NoVerdict → Type 0
 Checks job name field password before after stream left (Ok made) =
-    (verdict : Verdict) × (middle : Counts) × Judges job field password before middle (Ok verdict)
+    (verdict : Verdict) × (middle : Work) × Judges job field password before middle (Ok verdict)
     × IsFollowed job password middle after stream left verdict × TellsVerdict job name password before after stream verdict made
 Checks job name field password before after stream left (Err (RefusedBy fault)) =
     Judges job field password before after (Err (RefusedBy fault)) × (left ≡ stream)
 Checks job name field password before after stream left (Err OutOfMemory) =
     (Judges job field password before after (Err OutOfMemory) × (left ≡ stream))
-    ⊎ ((middle : Counts) × Judges job field password before middle (Ok Outdated)
-    × IsRefusedBy middle (next_setting job.maker stream).scheme after × (left ≡ (words_for job.maker stream).1))
+    ⊎ ((middle : Work) × Judges job field password before middle (Ok Outdated)
+    × IsAfterRefusedGrowth middle (next_setting job.maker stream).scheme after × (left ≡ (words_for job.maker stream).1))

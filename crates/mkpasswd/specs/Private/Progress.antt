@@ -1,18 +1,18 @@
 -- Where a run over lines is between two of its steps, and how a step can end.
-use Rattle.std.specs.Prelude.{◌≡◌, ℕ, ◌+◌, ◌<◌, ◌≤◌, ◌⊎◌, List, ◌∷◌, ◌++◌, length, Option, Result, Ok, Err}
+use Rattle.std.specs.Prelude.{◌≡◌, ℕ, ◌+◌, ◌<◌, ◌≤◌, List, ◌∷◌, ◌++◌, length, Option, Result, Ok, Err}
 use Rattle.std.specs.List.{AllByRecursion}
 use Rattle.mkpasswd.specs.Answers.{Answer, IsRefusedAmong, after_work}
-use Rattle.mkpasswd.specs.Devices.{FailsOnce, IsUnfailed, calls_limit, turns_limit}
+use Rattle.mkpasswd.specs.Devices.{IsUnfailed, calls_limit, turns_limit}
 use Rattle.mkpasswd.specs.LineAnswers.{IsAnswer}
 use Rattle.mkpasswd.specs.LineRuns.{AreAnswers, HasNoLineFeed, piece_size, with_line_feeds}
 use Rattle.mkpasswd.specs.Lines.{line_limit}
-use Rattle.mkpasswd.specs.Output.{Takes, TakesFront}
-use Rattle.mkpasswd.specs.Private.Deliveries.{Sends}
+use Rattle.mkpasswd.specs.Output.{Takes}
+use Rattle.mkpasswd.specs.Private.Deliveries.{IsSentInPart, Sends}
 use Rattle.mkpasswd.specs.Private.Desks.{Outs}
 use Rattle.mkpasswd.specs.Private.Rooms.{HasCountsFor, HasRoomFor, IsTallied, lines_limit}
 use Rattle.mkpasswd.specs.Texts.{line_feed}
 use Rattle.mkpasswd.specs.declared.fault.RunFault.{RunFault}
-use Rattle.mkpasswd.specs.declared.fault.RunFault.TheVariants.{Read, Write, OutOfMemory, Turns, Password}
+use Rattle.mkpasswd.specs.declared.fault.RunFault.TheVariants.{OutOfMemory}
 use Rattle.mkpasswd.specs.declared.job.Job.{Job}
 use Rattle.mkpasswd.specs.declared.line.Kind.{Kind}
 use Rattle.mkpasswd.specs.declared.lines.held.Held.{Held}
@@ -80,27 +80,13 @@ module _ {O E : Type 0} where
 
   -- how the outputs, the stream and the counts are left by a fault: after these answers, in the next one
   abbrev pub IsInterrupted : (O → Option (List ℕ)) → (E → Option (List ℕ)) → ℕ → Answer → Answer → Outs O E → Outs O E → RunFault → Type 0
-  IsInterrupted contents fault_contents left done next start new Write =
-      (new.stream ≡ next.stream) × (new.counts ≡ after_work (after_work start.counts done.hashings) next.hashings)
-      × ((FailsOnce start.out new.out × IsUnfailed start.faults new.faults
-      × TakesFront contents start.out new.out done.text next.text
-      × Takes fault_contents start.faults new.faults (done.fault_text ++ next.fault_text))
-      ⊎ (IsUnfailed start.out new.out × FailsOnce start.faults new.faults
-      × Takes contents start.out new.out (done.text ++ next.text)
-      × TakesFront fault_contents start.faults new.faults done.fault_text next.fault_text))
-  IsInterrupted contents fault_contents left done next start new Turns =
-      (new.stream ≡ next.stream) × (new.counts ≡ after_work (after_work start.counts done.hashings) next.hashings)
-      × IsUnfailed start.out new.out × IsUnfailed start.faults new.faults × (left ≡ 0)
-      × TakesFront contents start.out new.out done.text next.text
-      × TakesFront fault_contents start.faults new.faults done.fault_text next.fault_text
-      × (new.out.bytes + new.faults.bytes
-      < start.out.bytes + start.faults.bytes + length (done.text ++ next.text) + length (done.fault_text ++ next.fault_text))
   IsInterrupted contents fault_contents left done next start new OutOfMemory =
       IsRefusedAmong (after_work start.counts done.hashings) next.hashings new.counts new.stream
       × IsUnfailed start.out new.out × IsUnfailed start.faults new.faults
       × Takes contents start.out new.out done.text × Takes fault_contents start.faults new.faults done.fault_text
-  IsInterrupted contents fault_contents left done next start new Read = ⊥
-  IsInterrupted contents fault_contents left done next start new (Password fault) = ⊥
+  IsInterrupted contents fault_contents left done next start new fault =
+      (new.stream ≡ next.stream) × (new.counts ≡ after_work (after_work start.counts done.hashings) next.hashings)
+      × IsSentInPart contents fault_contents left done next start.out start.faults new.out new.faults fault
 
   -- some of the lines in these bytes are answered, and the next one, which begins the rest, was being answered
   pub record IsCutAt (contents : O → Option (List ℕ)) (fault_contents : E → Option (List ℕ)) (kind : Kind) (job : Job)

@@ -1,6 +1,7 @@
 -- Room for what a run does: a number for each count, and what is left of it.
 use Rattle.std.specs.Prelude.{ℕ, ◌^◌, ◌+◌, ◌*◌, ◌≤◌}
-use Rattle.prims_core.specs.Meter.{Counts}
+use Rattle.prims_core.specs.Work.{IsAtMost}
+use Rattle.prims_core.specs.declared.work.Work.{Work}
 use Rattle.crypt_core.specs.Crypt.{hash_limit}
 use Rattle.crypt_core.specs.Work.{work_limit}
 use Rattle.mkpasswd.specs.Devices.{Device, calls_limit}
@@ -37,19 +38,12 @@ pub record HasRoomFor {T : Type 0} (lines : ℕ) (device : Device T) : Type 0 wh
   pub flushes : device.flushes ≤ 2 ^ 62
 
 -- the counts leave room for the hashes of one more line
-pub record HasRoomForLine (counts : Counts) : Type 0 where
-  pub digests : counts.digests ≤ 2 ^ 110
-  pub bytes : counts.bytes ≤ 2 ^ 110
-  pub mixes : counts.mixes ≤ 2 ^ 110
-  pub table : counts.table ≤ 2 ^ 110
-  pub scratch : counts.scratch ≤ 2 ^ 110
+abbrev pub HasRoomForLine : Work → Type 0
+HasRoomForLine counts = IsAtMost counts (2 ^ 110)
 
-pub record HasCountsFor (lines : ℕ) (counts : Counts) : Type 0 where
-  pub digests : counts.digests ≤ 2 ^ 100 + line_work_limit * lines
-  pub bytes : counts.bytes ≤ 2 ^ 100 + line_work_limit * lines
-  pub mixes : counts.mixes ≤ 2 ^ 100 + line_work_limit * lines
-  pub table : counts.table ≤ 2 ^ 100 + line_work_limit * lines
-  pub scratch : counts.scratch ≤ 2 ^ 100 + line_work_limit * lines
+-- and, once a run has answered so many lines, for those that it can still read
+abbrev pub HasCountsFor : ℕ → Work → Type 0
+HasCountsFor lines counts = IsAtMost counts (2 ^ 100 + line_work_limit * lines)
 
 -- no count of the tally is above that of its lines
 pub record IsTallied (tally : Tally) : Type 0 where

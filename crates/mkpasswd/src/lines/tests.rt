@@ -117,13 +117,7 @@ fn want(
     told: (&str, &str),
 ) -> Result<(), Fail> {
     let left = run_words(rt, alloc, words, given)?;
-    assert_eq!(rt; left.outcome, outcome, "{what}");
-    assert_eq!(rt; left.out.taken(), told.0.as_bytes(), "{what}: the output");
-    assert_eq!(rt;
-        left.faults.taken(),
-        told.1.as_bytes(),
-        "{what}: the fault output"
-    );
+    left.want(rt, what, outcome, told.0.as_bytes(), told.1.as_bytes());
     Ok(())
 }
 

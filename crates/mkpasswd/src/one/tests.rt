@@ -111,8 +111,7 @@ fn want(
     taken: &[u8],
 ) -> Result<(), Fail> {
     let left = run_words(rt, alloc, words, given)?;
-    assert_eq!(rt; left.outcome, outcome, "{what}");
-    assert_eq!(rt; left.out.taken(), taken, "{what}: the output");
+    left.want(rt, what, outcome, taken, b"");
     Ok(())
 }
 

@@ -24,6 +24,14 @@ pub enum Device {
 /// A call of a run, and of which device.
 pub type Step = (Device, Call);
 
+/// The flushes behind a run.
+pub const FLUSH: Step = (Device::Output, Call::Flush(Ok(())));
+
+pub const FLUSH_FAULTS: Step = (Device::Faults, Call::Flush(Ok(())));
+
+/// More bytes than any call is asked for or handed.
+pub const ALL: usize = usize::MAX;
+
 /// The error of a call that is made to fail.
 pub const FAILURE: ErrorKind = ErrorKind::PermissionDenied;
 

@@ -3,6 +3,7 @@ use Rattle.std.proofs.lemmas.Slice.Eq.{bytes_eq-Decides}
 use Rattle.crypt_core.specs.Crypt.{crypt}
 use Rattle.crypt_core.specs.Fits.{Fits}
 use Rattle.crypt_core.proofs.Readings.{setting_unique}
+use Rattle.crypt_core.proofs.Refusals.{one_reading}
 use Rattle.crypt_core.proofs.fits.fits.Goals as goal
 
 -- A text spells one setting at most, so the hash that was compared is the only one that could be the text.
@@ -29,3 +30,12 @@ pub returns-clause-below : goal.returns-clause-below
 returns-clause-below c = λ kept spelled.
     let one : c.in_ok-setting.setting ≡ kept = setting_unique c.args.stored.now _ _ c.in_ok-setting.ensures.spelled spelled in
     rw (← one) c.hash.ensures.below
+
+pub returns-in_err-setting-clause-one_reading : goal.returns-in_err-setting-clause-one_reading
+returns-in_err-setting-clause-one_reading c = one_reading c.args.stored.now
+
+pub returns-in_err-hashed-clause-one_reading : goal.returns-in_err-hashed-clause-one_reading
+returns-in_err-hashed-clause-one_reading c = one_reading c.args.stored.now
+
+pub returns-clause-one_reading : goal.returns-clause-one_reading
+returns-clause-one_reading c = one_reading c.args.stored.now

@@ -1,13 +1,13 @@
-use Rattle.std.proofs.Common.{◌≡◌, ◌++◌, List, ℕ, codes, refl, sym, subst, ◌∙◌}
+use Rattle.std.proofs.Common.{◌≡◌, ◌∷◌, ◌++◌, List, [], ℕ, append_assoc, sym, subst, ◌∙◌}
 use Rattle.crypt_core.specs.Packing.{packed}
-use Rattle.crypt_core.specs.Settings.{Spells, canonical_text, method_of}
+use Rattle.crypt_core.specs.Settings.{Spells, canonical_text, dollar, method_of}
 use Rattle.crypt_core.proofs.HashedTexts.{hashed_spells}
 use Rattle.crypt_core.proofs.hash.hash_text.Goals as goal
 
 pub returns-clause-spells : goal.returns-clause-spells
 returns-clause-spells c =
     let kept = c.args.setting.now in
-    let text_is : c.try_extend_from_slice.new.self.items ≡ canonical_text c.args.setting.now ++ codes "$" ++ packed (method_of c.args.setting.now.scheme) c.args.digest.now =
+    let text_is : c.try_extend_from_slice.new.self.items ≡ canonical_text kept ++ dollar ∷ packed (method_of kept.scheme) c.args.digest.now =
     (rw c.unwrap.ensures at c.try_extend_from_slice.ensures.ok)
-    ∙ rw (c.as_slice.ensures.value, c.pack-packed.ensures.text, c.push.ensures.items, c.text-text.ensures.canonical, c.method.ensures) refl in
+    ∙ rw (c.as_slice.ensures.value, c.pack-packed.ensures.text, c.push.ensures.items, c.text-text.ensures.canonical, c.method.ensures) (append_assoc (canonical_text kept) (dollar ∷ []) (packed (method_of kept.scheme) c.args.digest.now)) in
     subst (λ (t : List ℕ). Spells t kept) (sym text_is) (hashed_spells kept c.args.digest.now c.text-text.ensures.spelled)

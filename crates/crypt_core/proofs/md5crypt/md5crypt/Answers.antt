@@ -1,12 +1,12 @@
 use Rattle.std.proofs.Common.{◌≡◌, ◌+◌, length, arith, refl, sym, ◌∙◌, ap}
 use Rattle.prims_core.specs.Digests.{md5}
 use Rattle.crypt_core.specs.Md5crypt.{md5crypt_digest, md5crypt_message, md5crypt_messages, opening_message, md5crypt_rounds}
-use Rattle.crypt_core.specs.RoundMessage.{round_message, salted_twice}
+use Rattle.crypt_core.specs.RoundMessage.{round_message, alternate_message}
 use Rattle.crypt_core.specs.Private.Counting.{with_digest}
 use Rattle.crypt_core.specs.Private.RoundStrings.{Strings}
-use Rattle.crypt_core.proofs.CycleLemmas.{length-binary_digits}
+use Rattle.crypt_core.proofs.CycleLemmas.{digit_bytes-few}
 use Rattle.crypt_core.proofs.Md5cryptLemmas.{length-message_round, length-opening, message-round, messages-all, messages-in_all, messages-two}
-use Rattle.crypt_core.proofs.MessageLists.{length-messages_to, length-salted_twice, messages-more, round_length-small}
+use Rattle.crypt_core.proofs.MessageLists.{length-messages_to, length-alternate, messages-more, round_length-small}
 use Rattle.crypt_core.proofs.Metering.{digests_in_all, digests_more, two_digests}
 use Rattle.crypt_core.proofs.md5crypt.md5crypt.Goals as goal
 
@@ -16,7 +16,7 @@ rounds-init c =
     let p = c.args.password.now in
     let s = c.args.salt.now in
     let a = c.args.meter.now in
-    let first = salted_twice p s in
+    let first = alternate_message p s in
     let second = opening_message p s in
     let is = c.bytes-password.ensures.value in
     let opened = rw is at c.opening-digest.ensures.count in
@@ -25,7 +25,7 @@ rounds-init c =
       rw is at c.opening-digest.ensures.digest,
       c.opening-digest.ensures.length,
       rw (messages-two p s) (two_digests a (with_digest a first) c.opening-digest.new.meter first second refl opened),
-      omega (arith, bytes, length-salted_twice p s, length-opening p s, length-binary_digits (length p), short, c.requires.salt),
+      omega (arith, bytes, length-alternate p s, length-opening p s, digit_bytes-few 1 1 1 (length p) (omega arith) (omega arith), short, c.requires.salt),
     )
 
 pub round-digest-requires-clause-digests_room : goal.round-digest-requires-clause-digests_room

@@ -5,9 +5,9 @@ use Rattle.std.specs.Prelude.{min}
 use Rattle.crypt_core.specs.Cycle.{digit_pieces}
 use Rattle.crypt_core.specs.Md5crypt.{opening_message}
 use Rattle.crypt_core.specs.Private.Counting.{with_digest}
-use Rattle.crypt_core.proofs.CycleLemmas.{length-binary_digits}
+use Rattle.crypt_core.proofs.CycleLemmas.{digit_bytes-few}
 use Rattle.crypt_core.proofs.Md5cryptLemmas.{length-digits, length-opening}
-use Rattle.crypt_core.proofs.MessageLists.{length-salted_twice}
+use Rattle.crypt_core.proofs.MessageLists.{length-alternate}
 use Rattle.crypt_core.proofs.Metering.{bytes_more, digest_after}
 use Rattle.crypt_core.proofs.md5crypt.opening.Goals as goal
 
@@ -21,7 +21,7 @@ feed_digits-requires c =
     let first = first_taken p c.min.result c.min.ensures in
     omega (
       arith,
-      ap (λ m. m.bytes) c.salted-salted.ensures.count,
+      ap (λ m. m.bytes) c.alternate_digest-alternate.ensures.count,
       ap (λ m. m.bytes) c.feed.ensures.count,
       ap (λ m. m.bytes) c.feed-2.ensures.count,
       ap (λ m. m.bytes) c.feed-3.ensures.count,
@@ -29,22 +29,23 @@ feed_digits-requires c =
       c.requires.room.1,
       c.requires.password,
       c.requires.salt,
-      length-salted_twice p c.args.salt.now,
+      length-alternate p c.args.salt.now,
       ap (λ other. length (digit_pieces (0 ∷ []) other (length p))) first,
       length-digits p,
-      length-binary_digits (length p),
+      digit_bytes-few 1 1 1 (length p) (omega arith) (omega arith),
+      ap length c.prefix.ensures,
     )
 
 pub returns-clause-count : goal.returns-clause-count
 returns-clause-count c =
     let p = c.args.password.now in
     let s = c.args.salt.now in
-    let before = c.salted-salted.new.meter in
+    let before = c.alternate_digest-alternate.new.meter in
     let last = rw (first_taken p c.min.result c.min.ensures) at c.feed_digits.ensures.count in
     let two = bytes_more before _ c.feed-2.new.meter _ _ _ c.feed.ensures.count c.feed-2.ensures.count refl in
     let three = bytes_more before _ c.feed-3.new.meter _ _ _ two c.feed-3.ensures.count refl in
     let four = bytes_more before _ c.feed_cycle.new.meter _ _ _ three c.feed_cycle.ensures.count refl in
     let five = bytes_more before _ c.feed_digits.new.meter _ _ _ four last refl in
     digest_after before c.feed_digits.new.meter c.finish.new.meter (opening_message p s) _ five c.finish.ensures.count
-    (omega (arith, length-opening p s, length-digits p))
-    ∙ ap (λ m. with_digest m (opening_message p s)) c.salted-salted.ensures.count
+    (omega (arith, length-opening p s, length-digits p, ap length c.prefix.ensures))
+    ∙ ap (λ m. with_digest m (opening_message p s)) c.alternate_digest-alternate.ensures.count

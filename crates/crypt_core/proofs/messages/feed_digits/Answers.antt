@@ -1,6 +1,6 @@
-use Rattle.std.proofs.Common.{◌≡◌, ℕ, ◌/◌, ◌%◌, List, [], ◌++◌, length, arith, refl, sym, ◌∙◌, ap, append_assoc, cond, nat_eq}
+use Rattle.std.proofs.Common.{◌≡◌, ℕ, ◌/◌, ◌%◌, List, [], ◌++◌, length, arith, refl, sym, ◌∙◌, ap, append_assoc}
 use Rattle.std.proofs.lemmas.List.{append-nil, length-append}
-use Rattle.crypt_core.specs.Cycle.{digit_pieces}
+use Rattle.crypt_core.specs.Cycle.{by_digit, digit_pieces}
 use Rattle.crypt_core.proofs.CycleLemmas.{digit_pieces-step, no_pieces}
 use Rattle.crypt_core.proofs.Metering.{bytes_more, bytes_none}
 use Rattle.crypt_core.proofs.messages.feed_digits.Goals as goal
@@ -13,7 +13,7 @@ feed-requires g c =
     let one = c.args.one.now in
     let other = c.args.other.now in
     let n = c.digits.rest in
-    let piece = cond (nat_eq (n % 2) 1) one other in
+    let piece = by_digit one other (n % 2) in
     let half = digit_pieces one other (n / 2) in
     let fed = c.digits.invariant.0 in
     let bytes = ap (λ m. m.bytes) c.digits.invariant.3 in

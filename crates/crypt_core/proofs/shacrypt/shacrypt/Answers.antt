@@ -2,14 +2,14 @@ use Rattle.crypt_core.specs.Work.{greatest_byte}
 use Rattle.crypt_core.specs.Passwords.{password_limit}
 use Rattle.std.proofs.Common.{◌≡◌, ◌+◌, ◌≤◌, length, get_or, arith, refl, sym, ◌∙◌, ap}
 use Rattle.std.specs.List.{repeat}
-use Rattle.crypt_core.specs.RoundMessage.{salted_twice}
+use Rattle.crypt_core.specs.RoundMessage.{alternate_message}
 use Rattle.crypt_core.specs.ShaCrypt.{password_repeated, salt_repeated, sha_opening_digest, sha_opening_message, shacrypt_digest, shacrypt_message, shacrypt_messages}
 use Rattle.crypt_core.specs.Private.Counting.{with_digest}
 use Rattle.crypt_core.specs.Private.RoundStrings.{Strings}
 use Rattle.crypt_core.proofs.CycleLemmas.{length-cycle, length-repeat}
 use Rattle.crypt_core.proofs.MessageLists.{length-messages_to, messages-more, round_length-small}
 use Rattle.crypt_core.proofs.Metering.{digests_in_all, digests_more, four_digests}
-use Rattle.crypt_core.proofs.ShaCryptLemmas.{digest_before-more, digest_before-zero, first_byte-below, length-message_round, message-number, messages-all, messages-four, messages-in_all, round_is, start_bytes}
+use Rattle.crypt_core.proofs.ShaCryptLemmas.{digest_before-more, digest_before-zero, digest_last, first_byte-below, length-message_round, message-number, messages-all, messages-four, messages-in_all, round_is, start_bytes}
 use Rattle.crypt_core.proofs.shacrypt.shacrypt.Goals as goal
 
 pub string_of-password_string-requires-clause-bytes_room : goal.string_of-password_string-requires-clause-bytes_room
@@ -74,8 +74,8 @@ rounds-init g c =
       digest ∙ sym (digest_before-zero h p s),
       c.opening-digest.ensures.length,
       rw (messages-four h p s)
-          (four_digests a (with_digest a (salted_twice p s)) c.opening-digest.new.meter c.string_of-password_string.new.meter c.string_of-salt_string.new.meter
-          (salted_twice p s) (sha_opening_message h p s) (password_repeated p) (salt_repeated h p s) refl opened repeated salted),
+          (four_digests a (with_digest a (alternate_message p s)) c.opening-digest.new.meter c.string_of-password_string.new.meter c.string_of-salt_string.new.meter
+          (alternate_message p s) (sha_opening_message h p s) (password_repeated p) (salt_repeated h p s) refl opened repeated salted),
       omega (
         arith,
         ap (λ m. m.bytes) opened,
@@ -105,7 +105,7 @@ returns-clause-digest g c =
     let p = c.args.password.now in
     let s = c.args.salt.now in
     let last : c.rounds.i ≡ c.args.rounds = omega arith in
-    rw last at c.rounds.invariant.0
+    rw last at c.rounds.invariant.0 ∙ digest_last h p s c.args.rounds (omega (arith, c.requires.least_rounds))
 
 pub returns-clause-count : goal.returns-clause-count
 returns-clause-count g c =

@@ -1,6 +1,6 @@
 use Rattle.std.proofs.Common.{◌≡◌, ℕ, arith, ap, ◌∙◌}
 use Rattle.crypt_core.specs.Passwords.{password_limit}
-use Rattle.crypt_core.specs.Work.{digit_bytes}
+use Rattle.crypt_core.specs.Cycle.{digit_bytes}
 use Rattle.crypt_core.proofs.CycleLemmas.{digit_bytes-few, digit_bytes-none, digit_bytes-step}
 use Rattle.crypt_core.proofs.work.digit_bytes.Goals as goal
 

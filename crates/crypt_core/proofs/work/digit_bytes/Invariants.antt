@@ -1,5 +1,5 @@
 use Rattle.std.proofs.Common.{◌≡◌, ◌+◌}
-use Rattle.crypt_core.specs.Work.{digit_bytes}
+use Rattle.crypt_core.specs.Cycle.{digit_bytes}
 use Rattle.crypt_core.proofs.work.digit_bytes.Given as goal
 
 abbrev pub decreases-digits : goal.decreases-digits

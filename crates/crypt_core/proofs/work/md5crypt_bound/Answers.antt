@@ -1,14 +1,12 @@
 use Rattle.crypt_core.specs.Md5crypt.{md5crypt_rounds}
 use Rattle.std.proofs.Common.{◌≡◌, ◌+◌, ap₂, ◌∙◌, arith}
 use Rattle.crypt_core.specs.Work.{digests_alone}
-use Rattle.crypt_core.proofs.CycleLemmas.{digit_bytes-ones}
 use Rattle.crypt_core.proofs.work.md5crypt_bound.Goals as goal
 
 pub returns-clause-bound : goal.returns-clause-bound
 returns-clause-bound c =
-    let digits = c.digit_bytes.ensures.bytes ∙ digit_bytes-ones c.args.password in
     let rounds = c.from-rounds.ensures in
     let all : c.from-rounds.result + 2 ≡ md5crypt_rounds + 2 = omega (arith, rounds) in
     let in_rounds = rw rounds at c.rounds_bytes.ensures.bytes in
     c.digests_alone.ensures
-    ∙ ap₂ digests_alone all (omega (arith, digits, in_rounds))
+    ∙ ap₂ digests_alone all (omega (arith, c.digit_bytes.ensures.bytes, in_rounds))

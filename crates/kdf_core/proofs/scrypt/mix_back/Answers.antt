@@ -9,6 +9,6 @@ use Rattle.kdf_core.proofs.scrypt.mix_back.Goals as goal
 pub returns-clause-mixed : goal.returns-clause-mixed
 unfolding mixed_back
 returns-clause-mixed c start holds =
-    let inside : c.integerify.result < c.args.rows = omega (arith, some_row c.args.rows c.requires.power.0 c.requires.power.1) in
+    let inside : c.row_number.result < c.args.rows = omega (arith, some_row c.args.rows c.requires.power.0 c.requires.power.1) in
     c.block_mix_xor.ensures.mixed
-    ∙ ap (λ v. block_mix (xor_lists c.args.x.now v)) (c.row-row.ensures ∙ (holds c.integerify.result inside ∙ ap (λ j. iterate block_mix j start) c.integerify.ensures))
+    ∙ ap (λ v. block_mix (xor_lists c.args.x.now v)) (c.row-row.ensures ∙ (holds c.row_number.result inside ∙ ap (λ j. iterate block_mix j start) c.row_number.ensures))

@@ -1,7 +1,8 @@
 use Rattle.std.proofs.Common.{◌≡◌, ℕ, ◌+◌, ◌*◌, ◌∙◌, List, length, ap, refl, replicate, inr, arith, rules}
 use Rattle.std.proofs.lemmas.List.{length-replicate}
-use Rattle.kdf_core.specs.Params.{rows}
-use Rattle.kdf_core.specs.Scrypt.{parts_bytes, table_bytes, halves_bytes, scrypt_mixes, with_scrypt, IsAfterRefusal}
+use Rattle.kdf_core.specs.Params.{row_count}
+use Rattle.kdf_core.specs.Scrypt.{parts_bytes}
+use Rattle.kdf_core.specs.ScryptWork.{table_bytes, halves_bytes, scrypt_mixes, with_scrypt, IsAfterRefusal}
 use Rattle.kdf_core.specs.Pbkdf2.{pbkdf2_sha256, pbkdf2_digests, pbkdf2_bytes}
 use Rattle.kdf_core.specs.Hmac.{key_digests, key_bytes}
 use Rattle.kdf_core.proofs.MessageCounts.{scrypt-in_all}
@@ -112,7 +113,7 @@ returns-clause-count c =
     let bytes = bytes-are cost password_length salt_length count (length c.bytes_mut.result.now) (length c.bytes.result.now)
     (ap length held ∙ whole) (last ∙ whole) in
     let mixes : 2 * n * c.p-p.result ≡ scrypt_mixes cost =
-    ap (λ k. 2 * k * c.p-p.result) c.row_count-rows.ensures.number ∙ ap (λ k. 2 * rows cost * k) c.p-p.ensures.number in
+    ap (λ k. 2 * k * c.p-p.result) c.row_count-rows.ensures.number ∙ ap (λ k. 2 * row_count cost * k) c.p-p.ensures.number in
     let halves : 4 * (64 * r) ≡ halves_bytes cost = omega (arith, c.r-r.ensures.number) in
     counts-are before c.new.new.meter c.new-2.new.meter c.new-3.new.meter c.new-key.new.meter c.pbkdf2.new.meter c.mix_parts.new.meter
     c.pbkdf2-2.new.meter (4 * (n * (32 * r))) (128 * r * c.p-p.result) (4 * (64 * r)) (key_digests password_length) (key_bytes password_length)

@@ -1,7 +1,7 @@
 use Rattle.std.proofs.Common.{◌≡◌, ℕ, ◌*◌, ◌^◌, ◌≤◌, ◌∙◌, refl, arith, rules}
 use Rattle.std.proofs.Math.Nat.{mul-le-mul}
 use Rattle.kdf_core.specs.Hmac.{key_digests}
-use Rattle.kdf_core.specs.Scrypt.{scrypt_bytes, scrypt_digests}
+use Rattle.kdf_core.specs.ScryptWork.{scrypt_bytes, scrypt_digests}
 use Rattle.kdf_core.proofs.ScryptBounds.{known_bytes-fit}
 use Rattle.kdf_core.proofs.work.scrypt_work.Goals as goal
 

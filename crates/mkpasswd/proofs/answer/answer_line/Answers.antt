@@ -4,14 +4,14 @@ use Rattle.std.specs.Str.{bytes_eq}
 use Rattle.std.proofs.lemmas.Option.{none-some}
 use Rattle.std.proofs.lemmas.Slice.Eq.{bytes_eq-Decides}
 use Rattle.rand_core.specs.Stream.{Stream}
-use Rattle.prims_core.specs.Meter.{Counts}
-use Rattle.crypt_core.specs.Crypt.{crypt, IsRefusedBy}
+use Rattle.prims_core.specs.declared.work.Work.{Work}
+use Rattle.crypt_core.specs.Crypt.{crypt, IsAfterRefusedGrowth}
 use Rattle.crypt_core.specs.Settings.{Kept, Spells}
-use Rattle.crypt_core.specs.Work.{cost, raised_by, work}
+use Rattle.crypt_core.specs.Work.{cost, work}
 use Rattle.crypt_core.specs.declared.hash.HashFault.{HashFault}
 use Rattle.crypt_core.specs.declared.hash.HashFault.TheVariants.{OutOfMemory}
-use Rattle.prims_core.specs.declared.work.Work.{Work}
-use Rattle.mkpasswd.specs.Answers.{Answer, both_works, hashed_answer, no_work}
+use Rattle.prims_core.specs.Work.{no_work, raised_by}
+use Rattle.mkpasswd.specs.Answers.{Answer, hashed_answer}
 use Rattle.mkpasswd.specs.Budgets.{IsAbove}
 use Rattle.mkpasswd.specs.LineAnswers.{IsAnswer, IsCostly, HasSoundParts, compared_answer, front_of, refused_answer, rehashed_answer, unhashed_answer, verdict_text}
 use Rattle.mkpasswd.specs.LineAnswers.IsAnswer.{refused, over, hashed, none, locked, ok, rehashed, no}
@@ -34,7 +34,7 @@ use Rattle.mkpasswd.proofs.LineRules.{refused_field, sound_with_field, sound_wit
 use Rattle.mkpasswd.proofs.answer.answer_line.Goals as goal
 
 -- the line's answer is made
-abbrev IsAnswered : Kind → Job → ℕ → List ℕ → Stream → Stream → Counts → Counts → Result LineAnswer HashFault → Type 0
+abbrev IsAnswered : Kind → Job → ℕ → List ℕ → Stream → Stream → Work → Work → Result LineAnswer HashFault → Type 0
 IsAnswered kind job number line stream left before after result =
     (answer : Answer) × IsAnswer kind job number line stream answer × Makes answer before after left result
 
@@ -78,18 +78,18 @@ cheap_field kind job line stream parts field taken is within costly =
 -- ---- what is answered
 
 -- the counts that are told are those of the work behind the verdict
-told : (job : Job) (name password : List ℕ) (before after : Counts) (stream : Stream) (verdict : Verdict) (made : LineAnswer) (work : Work)
+told : (job : Job) (name password : List ℕ) (before after : Work) (stream : Stream) (verdict : Verdict) (made : LineAnswer) (work : Work)
     → TellsVerdict job name password before after stream verdict made → rise before after ≡ work
     → verdict_text job name (told_word job password stream verdict) work ≡ made.text.items
 told job name password before after stream verdict made work tells risen =
     sym (tells.1 ∙ ap (λ (counts : Work). verdict_text job name (told_word job password stream verdict) counts) risen)
 
 -- one hash after another raises the counts by both
-raised_twice : (before middle after : Counts) (first second : Work) → middle ≡ raised_by before first → after ≡ raised_by middle second
-    → after ≡ raised_by before (both_works first second)
-raised_twice before middle after first second one two = two ∙ (ap (λ (c : Counts). raised_by c second) one ∙ simp add_assoc)
+raised_twice : (before middle after : Work) (first second : Work) → middle ≡ raised_by before first → after ≡ raised_by middle second
+    → after ≡ raised_by before (raised_by first second)
+raised_twice before middle after first second one two = two ∙ (ap (λ (c : Work). raised_by c second) one ∙ simp add_assoc)
 
-verdict_is_answered : (kind : Kind) (job : Job) (number : ℕ) (line : List ℕ) (stream left : Stream) (parts : Parts) (field : List ℕ) (before middle after : Counts)
+verdict_is_answered : (kind : Kind) (job : Job) (number : ℕ) (line : List ℕ) (stream left : Stream) (parts : Parts) (field : List ℕ) (before middle after : Work)
     (verdict : Verdict) (made : LineAnswer) → HasSoundParts kind line parts → parts.field ≡ Some field
     → IsVerdict job field parts.password before middle verdict → IsFollowed job parts.password middle after stream left verdict
     → TellsVerdict job parts.name parts.password before after stream verdict made
@@ -120,13 +120,13 @@ verdict_is_answered kind job number line stream left parts field before middle a
     let kept = judged.0 in
     let old = work parts.password kept in
     let new = work parts.password (next_setting job.maker stream) in
-    let risen = rise-raised before after (both_works old new) (raised_twice before middle after old new judged.1.counts then.0) in
-    let text = told job parts.name parts.password before after stream Outdated made (both_works old new) tells risen in (
+    let risen = rise-raised before after (raised_by old new) (raised_twice before middle after old new judged.1.counts then.0) in
+    let text = told job parts.name parts.password before after stream Outdated made (raised_by old new) tells risen in (
       rehashed_answer job parts.name parts.password kept stream,
       rehashed parts field kept taken is judged.1.spells (cheap_field kind job line stream parts field taken is judged.1.within) judged.2 judged.1.outdated_is refl,
       (
         rw tells.0 (record { text = text; fault_text = refl; tally = refl }),
-        then.0 ∙ ap (λ (c : Counts). raised_by c new) judged.1.counts,
+        then.0 ∙ ap (λ (c : Work). raised_by c new) judged.1.counts,
         then.1,
       ),
     )
@@ -140,9 +140,9 @@ verdict_is_answered kind job number line stream left parts field before middle a
     )
 
 -- where memory is refused for the stored setting, the answer is what its hash would have said
-refused_is_answered : (kind : Kind) (job : Job) (number : ℕ) (line : List ℕ) (stream left : Stream) (parts : Parts) (field : List ℕ) (before after : Counts)
+refused_is_answered : (kind : Kind) (job : Job) (number : ℕ) (line : List ℕ) (stream left : Stream) (parts : Parts) (field : List ℕ) (before after : Work)
     (kept : Kept) → HasSoundParts kind line parts → parts.field ≡ Some field → Spells field kept → IsWithinBudget job field parts.password
-    → IsRefusedBy before kept.scheme after → left ≡ stream
+    → IsAfterRefusedGrowth before kept.scheme after → left ≡ stream
     → IsAnswered kind job number line stream left before after (Err OutOfMemory)
 refused_is_answered kind job number line stream left parts field before after kept taken is spelled within without left_is =
     go (bytes_eq (crypt parts.password kept) field) (bytes_eq-Decides (crypt parts.password kept) field) (is_outdated job kept) refl
@@ -169,14 +169,14 @@ refused_is_answered kind job number line stream left parts field before after ke
     )
 
 -- and for the new one, the answer is the verdict with its hash
-unrenewed_is_answered : (kind : Kind) (job : Job) (number : ℕ) (line : List ℕ) (stream left : Stream) (parts : Parts) (field : List ℕ) (before middle after : Counts)
+unrenewed_is_answered : (kind : Kind) (job : Job) (number : ℕ) (line : List ℕ) (stream left : Stream) (parts : Parts) (field : List ℕ) (before middle after : Work)
     → HasSoundParts kind line parts → parts.field ≡ Some field → IsVerdict job field parts.password before middle Outdated
-    → IsRefusedBy middle (next_setting job.maker stream).scheme after → left ≡ (words_for job.maker stream).1
+    → IsAfterRefusedGrowth middle (next_setting job.maker stream).scheme after → left ≡ (words_for job.maker stream).1
     → IsAnswered kind job number line stream left before after (Err OutOfMemory)
 unrenewed_is_answered kind job number line stream left parts field before middle after taken is judged without left_is = (
   rehashed_answer job parts.name parts.password judged.0 stream,
   rehashed parts field judged.0 taken is judged.1.spells (cheap_field kind job line stream parts field taken is judged.1.within) judged.2 judged.1.outdated_is refl,
-  inr (inl (subst (λ (c : Counts). IsRefusedBy c (next_setting job.maker stream).scheme after) judged.1.counts without, left_is)),
+  inr (inl (subst (λ (c : Work). IsAfterRefusedGrowth c (next_setting job.maker stream).scheme after) judged.1.counts without, left_is)),
 )
 
 pub returns-in-Err-clause-answer : goal.returns-in-Err-clause-answer

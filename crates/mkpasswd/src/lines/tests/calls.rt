@@ -1,11 +1,9 @@
 //! Each call that a run makes of its devices, and that none follows one that failed.
 
 use super::*;
-use crate::test_devices::calls::Call::{Flush, Read, Write};
-use crate::test_devices::calls::{Device, Step};
+use crate::test_devices::calls::Call::{Read, Write};
+use crate::test_devices::calls::{ALL, Device, FLUSH, FLUSH_FAULTS, Step};
 use crate::test_given::Listed;
-
-const ALL: usize = usize::MAX;
 
 const CHECK: [&str; 1] = ["--check"];
 
@@ -15,10 +13,6 @@ fn long_line() -> [u8; 2055] {
     bytes[2054] = b'\n';
     bytes
 }
-
-const FLUSH: Step = (Device::Output, Flush(Ok(())));
-
-const FLUSH_FAULTS: Step = (Device::Faults, Flush(Ok(())));
 
 fn read(given: usize) -> Step {
     (Device::Input, Read(512, Ok(given)))

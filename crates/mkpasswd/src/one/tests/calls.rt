@@ -1,17 +1,11 @@
 //! Each call that a run makes of its devices, and that none follows one that failed.
 
 use super::*;
-use crate::test_devices::calls::Call::{Flush, Read, Write};
-use crate::test_devices::calls::{Device, Step};
+use crate::test_devices::calls::Call::{Read, Write};
+use crate::test_devices::calls::{ALL, Device, FLUSH, FLUSH_FAULTS, Step};
 use crate::test_given::Listed;
 
-const ALL: usize = usize::MAX;
-
 const LONG: [u8; 1025] = [b'a'; 1025];
-
-const FLUSH: Step = (Device::Output, Flush(Ok(())));
-
-const FLUSH_FAULTS: Step = (Device::Faults, Flush(Ok(())));
 
 fn from_word<'a>(takes: usize, steps: &'a [Step]) -> Listed<'a> {
     Listed {

@@ -1,5 +1,5 @@
 use Rattle.std.proofs.Common.{ℕ, List, ◌++◌, ap, ◌∙◌}
-use Rattle.kdf_core.specs.Params.{ScryptCost}
+use Rattle.kdf_core.specs.Params.{cost_of}
 use Rattle.crypt_core.specs.declared.method.Method.TheVariants as methods
 use Rattle.crypt_core.specs.Methods.{prefix}
 use Rattle.crypt_core.proofs.First.{refused_cost, refused_range, refused_ceiling}
@@ -10,14 +10,14 @@ returns-in_default-clause-err c = λ text t e. refused_cost text c.args.after.no
 
 pub returns-in-Err-Range-clause-err : goal.returns-in-Err-Range-clause-err
 returns-in-Err-Range-clause-err c = λ text t e.
-    let n : ScryptCost = record { log_n = c.in-Some.log_n; r = c.in-Some.r; p = c.in-Some.p } in
+    let n = cost_of c.in-Some.log_n c.in-Some.r c.in-Some.p in
     let found = c.in-Some.ensures.some in
     refused_range text n found.0 t (record { parts = e ∙ ap (λ (x : List ℕ). prefix methods.Scrypt ++ x) found.1; numbers = found.2 })
     (c.in-Err-Range.ensures.range.0 (cc c.in-Err-Range.field-0-is))
 
 pub returns-in-Err-AboveCeiling-clause-err : goal.returns-in-Err-AboveCeiling-clause-err
 returns-in-Err-AboveCeiling-clause-err c = λ text t e.
-    let n : ScryptCost = record { log_n = c.in-Some.log_n; r = c.in-Some.r; p = c.in-Some.p } in
+    let n = cost_of c.in-Some.log_n c.in-Some.r c.in-Some.p in
     let found = c.in-Some.ensures.some in
     let above = c.in-Err-AboveCeiling.ensures.ceiling.0 (cc c.in-Err-AboveCeiling.field-0-is) in
     refused_ceiling text n found.0 t (record { parts = e ∙ ap (λ (x : List ℕ). prefix methods.Scrypt ++ x) found.1; numbers = found.2 }) above.0 above.1

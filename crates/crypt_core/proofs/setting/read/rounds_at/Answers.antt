@@ -1,11 +1,11 @@
 use Rattle.crypt_core.proofs.First.{refused_rounds}
-use Rattle.crypt_core.proofs.Rounds.{lacks_rounds, written_rounds}
+use Rattle.crypt_core.proofs.Rounds.{written_rounds}
 use Rattle.crypt_core.proofs.setting.read.rounds_at.Goals as goal
 
 pub returns-in_default-number_at-clause-err : goal.returns-in_default-number_at-clause-err
 returns-in_default-number_at-clause-err c = λ text is_text is_sha.
     refused_rounds text c.args.after.now is_text is_sha
-    (lacks_rounds c.args.after.now c.in-Some.field.now c.in-Some.ensures c.in_default-number_at.ensures.none)
+    (c.in-Some.field.now, c.in-Some.ensures, c.in_default-number_at.ensures.none)
 
 pub returns-clause-ok : goal.returns-clause-ok
 returns-clause-ok c =

@@ -1,18 +1,11 @@
 use Rattle.std.proofs.Common.{◌∙◌, ap₂}
 use Rattle.std.specs.Simd.Lanes.{zip2}
-use Rattle.prims_core.proofs.DiagonalFacts.{words_on-zip2, length-of_lanes}
+use Rattle.prims_core.proofs.DiagonalFacts.{words_on-zip2, four_words-zip2}
 use Rattle.prims_core.proofs.diagonals.Diagonals.sum.Goals as goal
 
 pub invariant_of-result : goal.invariant_of-result
-invariant_of-result c = (
-  length-of_lanes _ _ _ c.self.invariant.0 c.other.invariant.0,
-  length-of_lanes _ _ _ c.self.invariant.1 c.other.invariant.1,
-  length-of_lanes _ _ _ c.self.invariant.2 c.other.invariant.2,
-  length-of_lanes _ _ _ c.self.invariant.3 c.other.invariant.3,
-)
+invariant_of-result c = four_words-zip2 _ _ _ _ _ _ _ _ _ c.self.invariant c.other.invariant
 
 pub returns : goal.returns
 returns c =
-    words_on-zip2 _ _ _ _ _ _ _ _ _ c.self.invariant.0 c.self.invariant.1 c.self.invariant.2 c.self.invariant.3
-    c.other.invariant.0 c.other.invariant.1 c.other.invariant.2 c.other.invariant.3
-    ∙ ap₂ (zip2 _) c.self.view_is c.other.view_is
+    words_on-zip2 _ _ _ _ _ _ _ _ _ c.self.invariant c.other.invariant ∙ ap₂ (zip2 _) c.self.view_is c.other.view_is

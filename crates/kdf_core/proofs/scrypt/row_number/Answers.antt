@@ -1,7 +1,7 @@
 use Rattle.std.proofs.Common.{◌%◌, ◌-◌, sym, ap, ◌∙◌, length, get_or}
 use Rattle.kdf_core.specs.Scrypt.{integerify}
 use Rattle.kdf_core.proofs.ScryptLemmas.{integerify-mod}
-use Rattle.kdf_core.proofs.scrypt.integerify.Goals as goal
+use Rattle.kdf_core.proofs.scrypt.row_number.Goals as goal
 
 pub returns : goal.returns
 returns c =
