@@ -9,9 +9,10 @@ use Rattle.crypt_core.specs.Work.{raised_by, work}
 use Rattle.mkpasswd.specs.Answers.{after_work, hash_text, no_answer, password_answer}
 use Rattle.mkpasswd.specs.Devices.{Device}
 use Rattle.mkpasswd.specs.Input.{first_line}
-use Rattle.mkpasswd.specs.One.{EndsBy, EndsOne, EndsByInput, ObtainsFrom}
+use Rattle.mkpasswd.specs.One.{EndsBy, EndsOne, EndsByInput}
 use Rattle.mkpasswd.specs.Output.{ShowsOutcome, Takes}
 use Rattle.mkpasswd.specs.Private.Deliveries.{Delivers, FinishesBoth}
+use Rattle.mkpasswd.specs.Private.Fetching.{ObtainsFrom}
 use Rattle.mkpasswd.specs.Runs.{Fails, Hands, IsAfter, IsAfterBoth, TakesAnswer, Tells, hands}
 use Rattle.mkpasswd.specs.Tallies.{one_line}
 use Rattle.mkpasswd.specs.Texts.{as_line}

@@ -6,7 +6,8 @@ use Rattle.crypt_core.specs.Passwords.{IsPasswordRefused, password_limit}
 use Rattle.crypt_core.specs.declared.password.PasswordFault.{PasswordFault}
 use Rattle.crypt_core.specs.declared.password.PasswordFault.TheVariants.{TooLong, HasNul}
 use Rattle.mkpasswd.specs.Devices.{Device}
-use Rattle.mkpasswd.specs.Input.{first_line, Obtains, Reads}
+use Rattle.mkpasswd.specs.Input.{first_line, Reads}
+use Rattle.mkpasswd.specs.Private.Fetching.{Obtains}
 use Rattle.mkpasswd.specs.Texts.{line_feed}
 use Rattle.mkpasswd.specs.declared.fault.RunFault.{RunFault}
 use Rattle.mkpasswd.specs.declared.fault.RunFault.TheVariants.{Password}

@@ -8,8 +8,8 @@ use Rattle.std.proofs.lemmas.List.Concat.{flat_map-append}
 use Rattle.std.proofs.lemmas.List.Elements.{Contains-append_cases}
 use Rattle.std.proofs.lemmas.List.Splits.{length-slice_split, slice_split_at, slice_split_none}
 use Rattle.std.proofs.lemmas.List.Sums.{fails_before_first, passes_at_first}
-use Rattle.mkpasswd.specs.LineRuns.{HasNoLineFeed, lines_of, with_line_feeds, without_empty_end}
-use Rattle.mkpasswd.specs.Texts.{line_feed}
+use Rattle.mkpasswd.specs.LineRuns.{lines_of, with_line_feeds, without_empty_end}
+use Rattle.mkpasswd.specs.Texts.{HasNoLineFeed, line_feed}
 use Rattle.mkpasswd.proofs.LineFeeds.{feed_at, lacks_feed, position-feed, position-none}
 
 -- ---- lines with their line feeds

@@ -3,12 +3,12 @@ use Rattle.std.proofs.Common.{◌≡◌, ℕ, ◌+◌, ◌<◌, ◌≤◌, List,
 use Rattle.std.proofs.lemmas.List.{length-append, length-drop}
 use Rattle.mkpasswd.specs.Answers.{Answer, IsRefusedAmong, after_work}
 use Rattle.mkpasswd.specs.LineAnswers.{IsAnswer}
-use Rattle.mkpasswd.specs.LineRuns.{AreAnswers, HasNoLineFeed, both, piece_size, with_line_feeds}
+use Rattle.mkpasswd.specs.LineRuns.{AreAnswers, both, piece_size, with_line_feeds}
 use Rattle.mkpasswd.specs.Output.{Takes}
 use Rattle.mkpasswd.specs.Private.Desks.{IsSameDesk, Outs, TakesTurns}
 use Rattle.mkpasswd.specs.Private.Progress.{AnswersOne, AreGiven, HasRoomIn, IsAt, IsInterrupted, LooksThrough, StandsFor}
 use Rattle.mkpasswd.specs.Tallies.{both_tallies}
-use Rattle.mkpasswd.specs.Texts.{line_feed}
+use Rattle.mkpasswd.specs.Texts.{HasNoLineFeed, line_feed}
 use Rattle.mkpasswd.specs.declared.desk.Desk.{Desk}
 use Rattle.mkpasswd.specs.declared.fault.RunFault.{RunFault}
 use Rattle.mkpasswd.specs.declared.fault.RunFault.TheVariants.{Read, Write, OutOfMemory, Turns, Password}

@@ -62,9 +62,9 @@ module _ {I O E : Type 0} (told : Tells I O E) where
   is_done turns Methods old new tally well (shows, same, is) =
       record { others = same; gives = shows.gives; unfailed = shows.outcome }
   is_done turns (One job (Word password)) old new tally well ((same, (is_password, finishes)), within) =
-      succeeds _ [] old new tally well (rw same (reads_nothing told.remaining old.input)) finishes
+      (is_password, same, succeeds _ [] old new tally well (rw same (reads_nothing told.remaining old.input)) finishes)
   is_done turns (One job Input) old new tally well ((bytes, reads, (decided, (is_password, finishes))), within) =
-      (bytes, decided, succeeds _ bytes old new tally well reads finishes)
+      (bytes, decided, is_password, succeeds _ bytes old new tally well reads finishes)
   is_done turns (Batch job) old new tally well ((bytes, reads, ends), within) = by_lines kinds.Batch job bytes old new tally well reads ends
   is_done turns (Check job) old new tally well ((bytes, reads, ends), within) = by_lines kinds.Check job bytes old new tally well reads ends
 

@@ -13,7 +13,7 @@ use Rattle.mkpasswd.specs.declared.tally.Tally.{Tally}
 
 -- ---- the hashes behind answers
 
--- a hash that is made: of which password, by which setting, and what was left of the stream when that was known
+-- a hash that is made: of which password, by which setting, and what is left of the stream when it begins
 pub record Hashing : Type 0 where
   pub password : List ℕ
   pub setting : Kept
@@ -25,14 +25,14 @@ hashing password kept stream = record { password = password; setting = kept; str
 -- the counts after the work of these hashes
 abbrev pub after_work : Work → List Hashing → Work
 after_work counts [] = counts
-after_work counts (hashing ∷ hashings) = after_work (raised_by counts (work hashing.password hashing.setting)) hashings
+after_work counts (next ∷ others) = after_work (raised_by counts (work next.password next.setting)) others
 
 -- the counts and the stream where memory was refused for one of them, and the ones before it were made
 abbrev pub IsRefusedAmong : Work → List Hashing → Work → Stream → Type 0
 IsRefusedAmong before [] after stream = ⊥
-IsRefusedAmong before (hashing ∷ hashings) after stream =
-    (IsAfterRefusedGrowth before hashing.setting.scheme after × (stream ≡ hashing.stream))
-    ⊎ IsRefusedAmong (raised_by before (work hashing.password hashing.setting)) hashings after stream
+IsRefusedAmong before (next ∷ others) after stream =
+    (IsAfterRefusedGrowth before next.setting.scheme after × (stream ≡ next.stream))
+    ⊎ IsRefusedAmong (raised_by before (work next.password next.setting)) others after stream
 
 -- ---- answers
 

@@ -6,6 +6,7 @@ use Rattle.clap.specs.declared.error.Error.{Error}
 use Rattle.rand_core.specs.Stream.{Stream}
 use Rattle.crypt_core.specs.Crypt.{crypt}
 use Rattle.crypt_core.specs.MadeSettings.{made_setting}
+use Rattle.crypt_core.specs.Passwords.{IsPassword}
 use Rattle.crypt_core.specs.Settings.{BeginsWith}
 use Rattle.crypt_core.specs.declared.method.Method.{Method}
 use Rattle.mkpasswd.specs.Answers.{Answer, password_answer}
@@ -154,13 +155,15 @@ module _ {I O E : Type 0} where
       (bytes : List ℕ) × (answers : Answer) × IsReadOut tells new × AreAnswers kind job 1 (lines_of bytes) old.stream answers
       × Succeeds tells bytes answers old new
 
-  -- all that a plan asks for was done; nothing is read for a word, and for a password of the input what decides it
+  -- all that a plan asks for was done; for a word the input is left alone, and for a password of the input what decides
+  -- it is read
   abbrev pub IsDone : Tells I O E → Plan → Hands I O E → Hands I O E → Type 0
   IsDone tells Methods old new = GivesOnly tells methods_text old new
   IsDone tells (One job (Word password)) old new =
-      Succeeds tells [] (password_answer job password.items old.stream) old new
+      IsPassword password.items × (new.input ≡ old.input)
+      × Succeeds tells [] (password_answer job password.items old.stream) old new
   IsDone tells (One job Input) old new =
-      (bytes : List ℕ) × IsDecided tells.remaining new.input bytes
+      (bytes : List ℕ) × IsDecided tells.remaining new.input bytes × IsPassword (first_line bytes)
       × Succeeds tells bytes (password_answer job (first_line bytes) old.stream) old new
   IsDone tells (Batch job) old new = SucceedsByLines tells kinds.Batch job old new
   IsDone tells (Check job) old new = SucceedsByLines tells kinds.Check job old new
@@ -171,12 +174,10 @@ module _ {I O E : Type 0} where
       (error : Error) × Plans words (Err (Parse error)) × (parse_status (kind_of error) ≡ 0)
       × (text : List ℕ) × GivesOnly tells text old new
 
-  -- they have a plan, which is done
-  abbrev pub IsAnswered : Tells I O E → List Text → Hands I O E → Hands I O E → Type 0
-  IsAnswered tells words old new = (plan : Plan) × Plans words (Ok plan) × IsDone tells plan old new
-
+  -- the words have a plan, which is done; or they ask for help or the version, which is given
   abbrev pub IsWhole : Tells I O E → List Text → Hands I O E → Hands I O E → Type 0
-  IsWhole tells words old new = IsAnswered tells words old new ⊎ IsHelped tells words old new
+  IsWhole tells words old new =
+      ((plan : Plan) × Plans words (Ok plan) × IsDone tells plan old new) ⊎ IsHelped tells words old new
 
 -- ---- one hash in a line
 

@@ -55,8 +55,8 @@ run_text NoMemory = hash_fault_text HashOutOfMemory
 run_text Turns = codes "too many turns"
 run_text (Password fault) = password_fault_text fault
 
--- the exit status after any fault: 2 where the words or the password are wrong, 3 where the machine
--- refused
+-- the exit status after any fault: 0 where the words ask for help or the version, 2 where they or the password are
+-- wrong, 3 where the machine refused
 abbrev pub fault_status : Fault → ℕ
 fault_status Start = 3
 fault_status (Usage fault) = usage_status fault

@@ -1,11 +1,11 @@
--- What a budget and new hashes change of the answers to lines: no others than these.
+-- What a budget and new hashes change of the answers to lines, and that they change no others.
 use Rattle.std.specs.Prelude.{◌≡◌, ℕ, ◌⊎◌, ◌↔◌, List, true, Some}
 use Rattle.rand_core.specs.Stream.{Stream}
 use Rattle.crypt_core.specs.Crypt.{crypt}
 use Rattle.crypt_core.specs.Settings.{Kept, Spells}
 use Rattle.mkpasswd.specs.Answers.{Answer}
 use Rattle.mkpasswd.specs.Budgets.{without_budget}
-use Rattle.mkpasswd.specs.LineAnswers.{IsAnswer, IsCostly, refused_answer}
+use Rattle.mkpasswd.specs.LineAnswers.{HasSoundParts, IsAnswer, IsCostly, refused_answer}
 use Rattle.mkpasswd.specs.Lines.{HasParts, IsStored, Parts}
 use Rattle.mkpasswd.specs.Rehashes.{is_outdated, without_rehash}
 use Rattle.mkpasswd.specs.declared.job.Job.{Job}
@@ -26,12 +26,13 @@ pub record OnlyRefuses (kind : Kind) (job : Job) : Type 0 where
 
 -- ---- new hashes
 
--- a line to check whose field spells a setting that is out of date, and whose password fits, or that is costly
+-- A line to check that breaks no rule, and whose field spells a setting that is out of date. Its password fits, or it
+-- costs too much together with the new hash.
 pub record IsRenewable (kind : Kind) (job : Job) (line : List ℕ) (stream : Stream) : Type 0 where
   pub parts : Parts
   pub field : List ℕ
   pub kept : Kept
-  pub cut : HasParts kind line parts
+  pub taken : HasSoundParts kind line parts
   pub has : parts.field ≡ Some field
   pub spells : Spells field kept
   pub outdated : is_outdated job kept ≡ true

@@ -1,5 +1,5 @@
 -- A run over the lines of an input: what it answers to all of them, and how it ends.
-use Rattle.std.specs.Prelude.{◌≡◌, ◌≢◌, ℕ, ◌+◌, ◌<◌, ◌==◌, ◌⊎◌, ⊤, List, [], ◌∷◌, ◌++◌, length, flat_map, Contains, Result, Ok, Err}
+use Rattle.std.specs.Prelude.{◌≡◌, ◌≢◌, ℕ, ◌+◌, ◌<◌, ◌==◌, ◌⊎◌, ⊤, List, [], ◌∷◌, ◌++◌, length, flat_map, Result, Ok, Err}
 use Rattle.std.specs.List.{slice_split, AllByRecursion}
 use Rattle.std.specs.Io.KnownBytes.{IsAtEnd}
 use Rattle.rand_core.specs.Stream.{Stream}
@@ -7,7 +7,7 @@ use Rattle.mkpasswd.specs.Answers.{Answer, no_answer}
 use Rattle.mkpasswd.specs.Devices.{MovesBytes}
 use Rattle.mkpasswd.specs.Input.{Reads}
 use Rattle.mkpasswd.specs.LineAnswers.{IsAnswer}
-use Rattle.mkpasswd.specs.Texts.{line_feed}
+use Rattle.mkpasswd.specs.Texts.{HasNoLineFeed, line_feed}
 use Rattle.mkpasswd.specs.Runs.{Finishes, Hands, IsCutShort, Tells}
 use Rattle.mkpasswd.specs.Tallies.{both_tallies}
 use Rattle.mkpasswd.specs.declared.fault.RunFault.{RunFault}
@@ -28,10 +28,6 @@ without_empty_end (part ∷ next ∷ parts) = part ∷ without_empty_end (next �
 -- the input, cut at its line feeds; what follows the last of them is a line only if it isn't empty
 unfoldable pub lines_of : List ℕ → List (List ℕ)
 lines_of input = without_empty_end (slice_split (λ b. b == line_feed) input)
-
--- a line, or what is read of it, has no line feed of its own
-abbrev pub HasNoLineFeed : List ℕ → Type 0
-HasNoLineFeed line = ¬ Contains line line_feed
 
 -- lines as they stand in an input, each with its line feed
 abbrev pub with_line_feeds : List (List ℕ) → List ℕ

@@ -1,9 +1,9 @@
 -- The run for one password, by where the password comes from.
-use Rattle.std.specs.Prelude.{◌≡◌, ℕ, ◌+◌, ◌<◌, ◌⊎◌, List, length, Option, Result, Ok, Err}
+use Rattle.std.specs.Prelude.{◌≡◌, ℕ, ◌+◌, ◌<◌, ◌⊎◌, List, length, Result, Ok, Err}
 use Rattle.crypt_core.specs.Passwords.{IsPassword, IsPasswordRefused}
 use Rattle.mkpasswd.specs.Answers.{no_answer, password_answer}
-use Rattle.mkpasswd.specs.Devices.{Device, MovesBytes}
-use Rattle.mkpasswd.specs.Input.{first_line, IsDecided, IsUndecided, Obtains, Reads}
+use Rattle.mkpasswd.specs.Devices.{MovesBytes}
+use Rattle.mkpasswd.specs.Input.{first_line, IsDecided, IsUndecided, Reads}
 use Rattle.mkpasswd.specs.Runs.{Finishes, Hands, IsCutShort, Tells}
 use Rattle.mkpasswd.specs.declared.fault.RunFault.{RunFault}
 use Rattle.mkpasswd.specs.declared.fault.RunFault.TheVariants.{Read, Write, OutOfMemory, Turns, Password}
@@ -11,19 +11,6 @@ use Rattle.mkpasswd.specs.declared.job.Job.{Job}
 use Rattle.mkpasswd.specs.declared.job.PasswordFrom.{PasswordFrom}
 use Rattle.mkpasswd.specs.declared.job.PasswordFrom.TheVariants.{Word, Input}
 use Rattle.mkpasswd.specs.declared.tally.Tally.{Tally}
-
--- bytes are a password, or are refused as one
-abbrev pub TakesAsPassword : List ℕ → Result (List ℕ) RunFault → Type 0
-TakesAsPassword bytes (Ok password) = (password ≡ bytes) × IsPassword bytes
-TakesAsPassword bytes (Err (Password fault)) = IsPasswordRefused bytes fault
-TakesAsPassword bytes (Err fault) = ⊥
-
--- the bytes of a word are the password, or are refused as one; the input is left alone. Or the password is
--- the first line of the input.
-abbrev pub ObtainsFrom : {I : Type 0} → (I → Option (List ℕ)) → PasswordFrom → Device I → Device I → ℕ → Result (List ℕ) RunFault → Type 0
-ObtainsFrom remaining (Word bytes) old new left result = (new ≡ old) × TakesAsPassword bytes.items result
-ObtainsFrom remaining Input old new left result =
-    (bytes : List ℕ) × Reads remaining old new bytes × Obtains remaining old new bytes left result
 
 module _ {I O E : Type 0} where
   -- the password is these bytes, if they are one: they are tested before a word is drawn, and only then

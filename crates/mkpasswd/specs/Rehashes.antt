@@ -15,8 +15,9 @@ is_outdated job kept = job.rehash && is_replaced_by kept.scheme (made_scheme job
 -- what the check of a password of so many bytes costs at most: its hash by the stored setting, and where that is out of
 -- date the new one too, whether or not the password fits
 abbrev pub check_cost : Job → Kept → Stream → ℕ → ℕ
-check_cost job kept stream password =
-    cost kept password + (if is_outdated job kept then cost (next_setting job.maker stream) password else 0)
+check_cost job kept stream password_length =
+    cost kept password_length
+    + (if is_outdated job kept then cost (next_setting job.maker stream) password_length else 0)
 
 -- the same job without new hashes
 abbrev pub without_rehash : Job → Job

@@ -1,8 +1,12 @@
 -- Bytes that stand between texts.
-use Rattle.std.specs.Prelude.{ℕ, List, [], ◌∷◌, ◌++◌, codes}
+use Rattle.std.specs.Prelude.{ℕ, List, [], ◌∷◌, ◌++◌, Contains, codes}
 
 abbrev pub line_feed : ℕ
 line_feed = 10
+
+-- as a line has none of its own, nor what is read of it
+abbrev pub HasNoLineFeed : List ℕ → Type 0
+HasNoLineFeed bytes = ¬ Contains bytes line_feed
 
 abbrev pub colon : ℕ
 colon = 58

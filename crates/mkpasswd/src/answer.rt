@@ -10,7 +10,7 @@ ghost use Rattle.mkpasswd.specs.LineAnswers.{IsAnswer, front_of, refused_answer}
 ghost use Rattle.mkpasswd.specs.Lines.{name_limit};
 ghost use Rattle.mkpasswd.specs.Private.Made.{Checks, IsRaisedBelow, Makes, Says};
 ghost use Rattle.crypt_core.specs.Work.{work_limit};
-ghost use Rattle.mkpasswd.specs.Private.Rooms.{HasRoomForLine, answer_limit, count_limit, front_limit, line_work_limit, verdict_front_limit};
+ghost use Rattle.mkpasswd.specs.Private.Rooms.{HasCountsForLine, answer_limit, count_limit, front_limit, line_work_limit, verdict_front_limit};
 ghost use Rattle.mkpasswd.specs.Texts.{as_line, colon};
 
 mod verdict;
@@ -91,7 +91,7 @@ pub(crate) fn answer_line<R: Rng>(
     rng: &mut R,
     meter: &mut Meter,
 ) -> Result<LineAnswer, HashFault>
-    requires { HasRoomForLine meter.old }
+    requires { HasCountsForLine meter.old }
     ensures answer { (answer : Answer) × IsAnswer task.entry.kind task.entry.job.now number line.now (R.stream rng.old) answer
         × Makes answer meter.old meter.new (R.stream rng.new) result }
     ensures small { IsRaisedBelow line_work_limit meter.old meter.new }
@@ -141,7 +141,7 @@ fn hashed<R: Rng>(
     rng: &mut R,
     meter: &mut Meter,
 ) -> Result<LineAnswer, HashFault>
-    requires room { HasRoomForLine meter.old }
+    requires room { HasCountsForLine meter.old }
     requires short { length name.now ≤ name_limit }
     ensures answer { Makes (hashed_answer job.now (front_of name.now) password.now (R.stream rng.old)) meter.old meter.new
         (R.stream rng.new) result }
@@ -167,7 +167,7 @@ fn checked<R: Rng>(
     rng: &mut R,
     meter: &mut Meter,
 ) -> Result<LineAnswer, NoVerdict>
-    requires room { HasRoomForLine meter.old }
+    requires room { HasCountsForLine meter.old }
     requires short { length name.now ≤ name_limit }
     ensures checks { Checks job.now name.now field.now password.now meter.old meter.new (R.stream rng.old) (R.stream rng.new) result }
     ensures small { IsRaisedBelow line_work_limit meter.old meter.new }

@@ -15,7 +15,7 @@ use thiserror::Error;
 /// Why the words after the program's name give no plan.
 #[derive(Debug, Drop, Error)]
 pub enum UsageFault {
-    /// `clap` did not take the words, or shows help or the version. Its text is the user's.
+    /// `clap` did not take the words, or shows help or the version. The user is shown its own text.
     #[error("{0}")]
     Parse(clap::Error),
     /// TYPE names no method.

@@ -3,7 +3,8 @@
 ghost use Rattle.std.specs.Prelude.{◌≡◌, ◌+◌, ◌^◌, ◌≤◌};
 ghost use Rattle.mkpasswd.specs.Budgets.{without_budget};
 ghost use Rattle.mkpasswd.specs.Devices.{HasRoomForRun, HasRoomInRun, HaveRoomForRun, MovesBytes, turns_limit};
-ghost use Rattle.mkpasswd.specs.One.{EndsOne, ObtainsFrom};
+ghost use Rattle.mkpasswd.specs.One.{EndsOne};
+ghost use Rattle.mkpasswd.specs.Private.Fetching.{ObtainsFrom};
 ghost use Rattle.mkpasswd.specs.Rehashes.{without_rehash};
 ghost use Rattle.mkpasswd.specs.Runs.{hands, tells, HasCountsForRun, IsWithinTurns};
 
@@ -38,6 +39,8 @@ use std::io::{Read, Write};
 ///   flush failed.
 /// - `Turns`: one more fetch or give than `turns` is needed. The output has taken a first part of the answer, or nothing
 ///   where the password was not known.
+///
+/// [`PASSWORD_LIMIT`]: crypt_core::password::PASSWORD_LIMIT
 pub fn run_one<I: Read, O: Write, E: Write, R: Rng>(
     alloc: Global,
     job: &Job,

@@ -4,13 +4,13 @@ use Rattle.std.specs.List.{AllByRecursion}
 use Rattle.mkpasswd.specs.Answers.{Answer, IsRefusedAmong, after_work}
 use Rattle.mkpasswd.specs.Devices.{IsUnfailed, calls_limit, turns_limit}
 use Rattle.mkpasswd.specs.LineAnswers.{IsAnswer}
-use Rattle.mkpasswd.specs.LineRuns.{AreAnswers, HasNoLineFeed, piece_size, with_line_feeds}
+use Rattle.mkpasswd.specs.LineRuns.{AreAnswers, piece_size, with_line_feeds}
 use Rattle.mkpasswd.specs.Lines.{line_limit}
 use Rattle.mkpasswd.specs.Output.{Takes}
 use Rattle.mkpasswd.specs.Private.Deliveries.{IsSentInPart, Sends}
 use Rattle.mkpasswd.specs.Private.Desks.{Outs}
 use Rattle.mkpasswd.specs.Private.Rooms.{HasCountsFor, HasRoomFor, IsTallied, lines_limit}
-use Rattle.mkpasswd.specs.Texts.{line_feed}
+use Rattle.mkpasswd.specs.Texts.{HasNoLineFeed, line_feed}
 use Rattle.mkpasswd.specs.declared.fault.RunFault.{RunFault}
 use Rattle.mkpasswd.specs.declared.fault.RunFault.TheVariants.{OutOfMemory}
 use Rattle.mkpasswd.specs.declared.job.Job.{Job}

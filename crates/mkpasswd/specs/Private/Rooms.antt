@@ -38,8 +38,8 @@ pub record HasRoomFor {T : Type 0} (lines : ℕ) (device : Device T) : Type 0 wh
   pub flushes : device.flushes ≤ 2 ^ 62
 
 -- the counts leave room for the hashes of one more line
-abbrev pub HasRoomForLine : Work → Type 0
-HasRoomForLine counts = IsAtMost counts (2 ^ 110)
+abbrev pub HasCountsForLine : Work → Type 0
+HasCountsForLine counts = IsAtMost counts (2 ^ 110)
 
 -- and, once a run has answered so many lines, for those that it can still read
 abbrev pub HasCountsFor : ℕ → Work → Type 0

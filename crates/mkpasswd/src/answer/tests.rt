@@ -1,6 +1,6 @@
 //! Which text answers a line, what it counts as, and how many words are drawn for it.
 ghost use Rattle.std.specs.Prelude.{IsTrue};
-ghost use Rattle.mkpasswd.specs.Private.Rooms.{HasRoomForLine};
+ghost use Rattle.mkpasswd.specs.Private.Rooms.{HasCountsForLine};
 
 use super::*;
 use crate::line::Kind;
@@ -177,7 +177,7 @@ fn want(rt: &impl Abort, alloc: Global, kind: Kind, job: &Job, rows: &[Row<'_>],
 
 // Whether each count is at most 2^110, so that there is room for another line.
 fn has_room(meter: &Meter) -> bool
-    ensures { IsTrue result → HasRoomForLine meter.now }
+    ensures { IsTrue result → HasCountsForLine meter.now }
 {
     let most = 1 << 110;
     meter.digests() <= most

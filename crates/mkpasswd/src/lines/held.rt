@@ -4,7 +4,7 @@ ghost use Rattle.mkpasswd.specs.Answers.{Answer};
 ghost use Rattle.mkpasswd.specs.LineAnswers.{IsAnswer};
 ghost use Rattle.mkpasswd.specs.Private.Made.{IsRaisedBelow, Makes};
 ghost use Rattle.mkpasswd.specs.Private.Progress.{StandsFor};
-ghost use Rattle.mkpasswd.specs.Private.Rooms.{HasRoomForLine, line_work_limit};
+ghost use Rattle.mkpasswd.specs.Private.Rooms.{HasCountsForLine, line_work_limit};
 
 use crate::answer::{LineAnswer, answer_line, refusal};
 use crate::desk::Task;
@@ -57,7 +57,7 @@ impl Held {
         rng: &mut R,
         meter: &mut Meter,
     ) -> Result<LineAnswer, HashFault>
-        requires { HasRoomForLine meter.old }
+        requires { HasCountsForLine meter.old }
         ensures answer { (line : List ℕ) → StandsFor self.now line
             → (answer : Answer) × IsAnswer task.entry.kind task.entry.job.now number line (R.stream rng.old) answer
             × Makes answer meter.old meter.new (R.stream rng.new) result }

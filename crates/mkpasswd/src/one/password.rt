@@ -1,10 +1,9 @@
 //! The password that stands in an input: its first line, without the line feed. It is read into a buffer of
 //! fixed size, and takes no memory.
 ghost use Rattle.std.specs.Prelude.{◌≡◌, ℕ, ◌+◌, ◌-◌, ◌^◌, ◌<◌, ◌≤◌, List, drop, length, take};
-ghost use Rattle.mkpasswd.specs.Devices.{HasRoomForRun, MovesBytes};
-ghost use Rattle.mkpasswd.specs.Input.{Obtains, Reads};
-ghost use Rattle.mkpasswd.specs.Private.Fetching.{Fetches, FindsLine, buffer_size};
-ghost use Rattle.mkpasswd.specs.Devices.{turns_limit};
+ghost use Rattle.mkpasswd.specs.Devices.{HasRoomForRun, MovesBytes, turns_limit};
+ghost use Rattle.mkpasswd.specs.Input.{Reads};
+ghost use Rattle.mkpasswd.specs.Private.Fetching.{buffer_size, Fetches, FindsLine, Obtains};
 
 use crate::device::Input;
 use crate::fault::RunFault;
