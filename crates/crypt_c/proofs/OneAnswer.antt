@@ -16,7 +16,7 @@ use Rattle.crypt_core.specs.declared.password.PasswordFault.TheVariants.{TooLong
 use Rattle.crypt_core.specs.declared.setting.fault.SettingFault.{SettingFault}
 use Rattle.crypt_core.specs.declared.setting.fault.SettingFault.TheVariants as setting
 use Rattle.crypt_c.specs.Calls.{Compares, Explains, HasRoomFor, Hashes, IsToldOrLacks, Makes, Replaces, Tells, method_numbered}
-use Rattle.crypt_c.specs.Numbers.{length_told, refusal_number, refusal_text, refused, verdict_told}
+use Rattle.crypt_c.specs.Numbers.{length_told, refusal_number, refusal_text, refusal_told, verdict_told}
 use Rattle.crypt_c.specs.declared.refusal.Refusal.{Refusal}
 use Rattle.crypt_c.specs.declared.refusal.Refusal.TheVariants.{Password, Setting, OutOfMemory, TooFewBytes, UnknownMethod, Cost, UnknownNumber}
 
@@ -68,10 +68,10 @@ compared_once p s one a b (Ok v) (Err (Setting f)) x y = absurd (text_apart s (o
 compared_once p s one a b (Err (Password f)) (Ok w) x y = absurd (password_apart p f y.0 x.0)
 compared_once p s one a b (Err (Setting f)) (Ok w) x y = absurd (text_apart s (one x.0) y.1.0 f y.1.1 x.1.0)
 compared_once p s one a b (Err OutOfMemory) (Ok w) x y = inr refl
-compared_once p s one a b (Err (Password f)) (Err (Password g)) x y = ap (λ (h : PasswordFault). refused (Password h)) (password_once p f g x.0 y.0)
+compared_once p s one a b (Err (Password f)) (Err (Password g)) x y = ap (λ (h : PasswordFault). refusal_told (Password h)) (password_once p f g x.0 y.0)
 compared_once p s one a b (Err (Password f)) (Err (Setting g)) x y = absurd (password_apart p f y.0 x.0)
 compared_once p s one a b (Err (Setting f)) (Err (Password g)) x y = absurd (password_apart p g x.0 y.0)
-compared_once p s one a b (Err (Setting f)) (Err (Setting g)) x y = ap (λ (h : SettingFault). refused (Setting h)) (refusal_once s (one x.0) f g x.1.0 y.1.0)
+compared_once p s one a b (Err (Setting f)) (Err (Setting g)) x y = ap (λ (h : SettingFault). refusal_told (Setting h)) (refusal_once s (one x.0) f g x.1.0 y.1.0)
 compared_once p s one a b (Err OutOfMemory) (Err (Password g)) x y = absurd (password_apart p g x.0 y.0)
 compared_once p s one a b (Err OutOfMemory) (Err (Setting g)) x y = absurd (text_apart s (one x.0) x.1.0 g x.1.1 y.1.0)
 
@@ -91,10 +91,10 @@ hashed_once p s one old m n a b (Err (Password f)) (Ok w) x y = absurd (password
 hashed_once p s one old m n a b (Err (Setting f)) (Ok w) x y = absurd (text_apart s (one x.0) y.1.0 f y.1.1 x.1)
 hashed_once p s one old m n a b (Err TooFewBytes) (Ok w) x y = absurd (subst (λ (k : Kept). ¬ HasRoomFor (crypt p k) old) (setting_once s (one x.0) x.1.0 y.1.0 x.1.1 y.1.1) x.1.2 y.1.3.0)
 hashed_once p s one old m n a b (Err OutOfMemory) (Ok w) x y = inr refl
-hashed_once p s one old m n a b (Err (Password f)) (Err (Password g)) x y = ap (λ (h : PasswordFault). refused (Password h)) (password_once p f g x.0 y.0)
+hashed_once p s one old m n a b (Err (Password f)) (Err (Password g)) x y = ap (λ (h : PasswordFault). refusal_told (Password h)) (password_once p f g x.0 y.0)
 hashed_once p s one old m n a b (Err (Password f)) (Err (Setting g)) x y = absurd (password_apart p f y.0 x.0)
 hashed_once p s one old m n a b (Err (Password f)) (Err TooFewBytes) x y = absurd (password_apart p f y.0 x.0)
-hashed_once p s one old m n a b (Err (Setting f)) (Err (Setting g)) x y = ap (λ (h : SettingFault). refused (Setting h)) (refusal_once s (one x.0) f g x.1 y.1)
+hashed_once p s one old m n a b (Err (Setting f)) (Err (Setting g)) x y = ap (λ (h : SettingFault). refusal_told (Setting h)) (refusal_once s (one x.0) f g x.1 y.1)
 hashed_once p s one old m n a b (Err (Setting f)) (Err (Password g)) x y = absurd (password_apart p g x.0 y.0)
 hashed_once p s one old m n a b (Err (Setting f)) (Err TooFewBytes) x y = absurd (text_apart s (one x.0) y.1.0 f y.1.1 x.1)
 hashed_once p s one old m n a b (Err TooFewBytes) (Err TooFewBytes) x y = refl
@@ -220,7 +220,7 @@ nat_abs_negated : (n : ℕ) → nat_abs (neg_ℤ (pos n)) ≡ n
 nat_abs_negated zero = refl
 nat_abs_negated (suc n) = refl
 
-refused_once : (a b : Refusal) → refused a ≡ refused b → a ≡ b
+refused_once : (a b : Refusal) → refusal_told a ≡ refusal_told b → a ≡ b
 refused_once a b e =
     let numbers : refusal_number a ≡ refusal_number b = sym (nat_abs_negated (refusal_number a)) ∙ ap nat_abs e ∙ nat_abs_negated (refusal_number b) in
     sym (of_number a) ∙ ap refusal_of numbers ∙ of_number b

@@ -14,7 +14,7 @@ use Rattle.crypt_core.specs.declared.fits.FitFault.TheVariants as fit
 use Rattle.crypt_core.specs.declared.method.Method.{Method}
 use Rattle.crypt_core.specs.declared.method.Method.TheVariants.{Md5crypt, Sha256crypt, Sha512crypt, Scrypt}
 use Rattle.crypt_core.specs.declared.password.PasswordFault.TheVariants.{TooLong}
-use Rattle.crypt_c.specs.Numbers.{refusal_text, refused}
+use Rattle.crypt_c.specs.Numbers.{refusal_text, refusal_told}
 use Rattle.crypt_c.specs.declared.refusal.Refusal.{Refusal}
 use Rattle.crypt_c.specs.declared.refusal.Refusal.TheVariants.{Password, Setting, OutOfMemory, TooFewBytes, UnknownMethod, Cost, UnknownNumber}
 
@@ -103,10 +103,10 @@ Makes number cost words old new (Err refusal) = ⊥
 -- the text of a refusal is put, for the number that a call answers by it
 abbrev pub Explains : ℤ → List ℕ → List ℕ → Result ℕ Refusal → Type 0
 Explains number old new (Ok count) =
-    (refusal : Refusal) × (number ≡ refused refusal) × (count ≡ length (refusal_text refusal)) × IsPut (refusal_text refusal) old new
-Explains number old new (Err UnknownNumber) = ((refusal : Refusal) → number ≢ refused refusal) × (new ≡ old)
+    (refusal : Refusal) × (number ≡ refusal_told refusal) × (count ≡ length (refusal_text refusal)) × IsPut (refusal_text refusal) old new
+Explains number old new (Err UnknownNumber) = ((refusal : Refusal) → number ≢ refusal_told refusal) × (new ≡ old)
 Explains number old new (Err TooFewBytes) =
-    (refusal : Refusal) × (number ≡ refused refusal) × (¬ HasRoomFor (refusal_text refusal) old) × (new ≡ old)
+    (refusal : Refusal) × (number ≡ refusal_told refusal) × (¬ HasRoomFor (refusal_text refusal) old) × (new ≡ old)
 Explains number old new (Err refusal) = ⊥
 
 -- ---- from the facts to the number
@@ -117,9 +117,9 @@ TellsEach {A = A} told holds number = (answer : Result A Refusal) → holds answ
 
 -- such a number where memory may be refused: in the place of a value it can tell that, and in the place of no other refusal
 abbrev pub IsToldOrLacks : {A : Type 0} → (Result A Refusal → ℤ) → ℤ → Result A Refusal → Type 0
-IsToldOrLacks told number (Ok value) = (number ≡ told (Ok value)) ⊎ (number ≡ refused OutOfMemory)
+IsToldOrLacks told number (Ok value) = (number ≡ told (Ok value)) ⊎ (number ≡ refusal_told OutOfMemory)
 IsToldOrLacks told number (Err OutOfMemory) = Unit {0}
-IsToldOrLacks told number (Err refusal) = number ≡ refused refusal
+IsToldOrLacks told number (Err refusal) = number ≡ refusal_told refusal
 
 abbrev pub TellsOrLacks : {A : Type 0} → (Result A Refusal → ℤ) → (Result A Refusal → Type 0) → ℤ → Type 0
 TellsOrLacks {A = A} told holds number = (answer : Result A Refusal) → holds answer → IsToldOrLacks told number answer

@@ -41,16 +41,16 @@ refusal_text UnknownNumber = codes "unknown refusal"
 
 -- ---- answers
 
-abbrev pub refused : Refusal → ℤ
-refused refusal = neg_ℤ (pos (refusal_number refusal))
+abbrev pub refusal_told : Refusal → ℤ
+refusal_told refusal = neg_ℤ (pos (refusal_number refusal))
 
 -- 1 for yes, 0 for no
 abbrev pub verdict_told : Result Bool Refusal → ℤ
 verdict_told (Ok true) = pos 1
 verdict_told (Ok false) = pos 0
-verdict_told (Err refusal) = refused refusal
+verdict_told (Err refusal) = refusal_told refusal
 
 -- a length, or 0 where nothing is told but that the call did what it should
 abbrev pub length_told : Result ℕ Refusal → ℤ
 length_told (Ok count) = pos count
-length_told (Err refusal) = refused refusal
+length_told (Err refusal) = refusal_told refusal

@@ -6,7 +6,7 @@ ghost use Rattle.crypt_core.specs.Passwords.{IsPassword, password_limit};
 ghost use Rattle.crypt_core.specs.Readings.{HasOneReading};
 ghost use Rattle.crypt_core.specs.Settings.{Kept, Spells};
 ghost use Rattle.crypt_c.specs.Calls.{Compares, Explains, Hashes, Makes, Replaces, Tells, method_numbered};
-ghost use Rattle.crypt_c.specs.Private.Steps.{IsPriceRefused, IsSmall};
+ghost use Rattle.crypt_c.specs.Private.Steps.{IsUntold, IsSmall};
 
 use crate::put::put;
 use crate::refusal::Refusal;
@@ -82,7 +82,7 @@ pub(crate) fn priced(stored: &[u8], password_len: usize, number: &mut u64) -> Re
 // The setting of a text, where a password may have so many bytes.
 fn priced_setting(stored: &[u8], password_len: usize) -> Result<Setting, Refusal>
     ensures read { IfOk result (λ setting. (password_len ≤ password_limit) × Spells stored.now setting) }
-    ensures refused { IfErr result (IsPriceRefused stored.now password_len) }
+    ensures refused { IfErr result (IsUntold stored.now password_len) }
     ensures one_reading { password_len ≤ password_limit → HasOneReading stored.now }
 {
     if password_len > PASSWORD_LIMIT {

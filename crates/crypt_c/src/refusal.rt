@@ -1,7 +1,7 @@
 //! Why a call has no answer, as a number and in words.
 ghost use Rattle.std.specs.Prelude.{◌≡◌, ◌≢◌, IfSome, IfNone};
-ghost use Rattle.crypt_c.specs.declared.refusal.Refusal.{Refusal as Numbered};
-ghost use Rattle.crypt_c.specs.Numbers.{refusal_text, refused};
+ghost use Rattle.crypt_c.specs.declared.refusal.Refusal.{Refusal as Refused};
+ghost use Rattle.crypt_c.specs.Numbers.{refusal_text, refusal_told};
 
 use crypt_core::fits::FitFault;
 use crypt_core::hash::HashFault;
@@ -30,7 +30,7 @@ pub(crate) enum Refusal {
 impl Refusal {
     /// What a call answers.
     pub(crate) fn number(self) -> i32
-        ensures { result ≡ refused self }
+        ensures { result ≡ refusal_told self }
     {
         match self {
             Refusal::Password(PasswordFault::TooLong) => -1,
@@ -53,8 +53,8 @@ impl Refusal {
 
     /// The refusal that a call answers by this number.
     pub(crate) fn numbered(number: i32) -> Option<Refusal>
-        ensures known { IfSome result (λ refusal. refused refusal ≡ number) }
-        ensures unknown { IfNone result ((refusal : Numbered) → number ≢ refused refusal) }
+        ensures known { IfSome result (λ refusal. refusal_told refusal ≡ number) }
+        ensures unknown { IfNone result ((refusal : Refused) → number ≢ refusal_told refusal) }
     {
         Some(match number {
             -1 => Refusal::Password(PasswordFault::TooLong),
@@ -125,10 +125,6 @@ impl From<HashFault> for Refusal {
 }
 
 impl From<FitFault> for Refusal {
-    ghost use Rattle.crypt_core.specs.declared.fits.FitFault.{FitFault as Fault};
-    ghost use Rattle.crypt_core.specs.declared.fits.FitFault.TheVariants as fit;
-    ghost use Rattle.crypt_c.specs.declared.refusal.Refusal.{Refusal as Answer};
-    ghost use Rattle.crypt_c.specs.declared.refusal.Refusal.TheVariants.{Setting, OutOfMemory};
     ghost use Rattle.crypt_c.specs.Private.Steps.{IsFitRefusal};
 
     ghost from_gives = { IsFitRefusal };

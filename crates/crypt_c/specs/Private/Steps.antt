@@ -14,11 +14,11 @@ use Rattle.crypt_c.specs.declared.refusal.Refusal.TheVariants.{Password, Setting
 abbrev pub IsSmall : Work → Type 0
 IsSmall counts = IsBelow counts (2 ^ 64)
 
--- why a hash has no price: too long a length is told first
-abbrev pub IsPriceRefused : List ℕ → ℕ → Refusal → Type 0
-IsPriceRefused stored len (Password TooLong) = password_limit < len
-IsPriceRefused stored len (Setting fault) = (len ≤ password_limit) × IsRefused stored fault
-IsPriceRefused stored len refusal = ⊥
+-- why no bound and no cost is told: too long a length is told first
+abbrev pub IsUntold : List ℕ → ℕ → Refusal → Type 0
+IsUntold stored len (Password TooLong) = password_limit < len
+IsUntold stored len (Setting fault) = (len ≤ password_limit) × IsRefused stored fault
+IsUntold stored len refusal = ⊥
 
 -- what `fits` refuses
 abbrev pub IsFitRefusal : FitFault → Refusal → Type 0
