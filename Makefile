@@ -1,6 +1,6 @@
 # make            builds ./mkpasswd, a copy of the proved program
 # make run        builds what is missing and hashes a first password
-# make check      every test there is, and the gate; with STRICT=1 a tool that is missing is a failure
+# make check      every check but the soak, and the gate; with STRICT=1 a tool that is missing is a failure
 # make bench      measures against libxcrypt, in some two minutes
 # make soak       has LINES random lines of each kind answered (default 10000), by the SEED that it prints or is given
 # make lib        builds the C libraries, libmkpasswd.a and libmkpasswd.so.1

@@ -6,7 +6,7 @@ use Rattle.prims_core.specs.declared.work.Work.{Work}
 use Rattle.crypt_core.specs.Crypt.{crypt}
 use Rattle.crypt_core.specs.MadeSettings.{TakesCost, with_made_salt}
 use Rattle.crypt_core.specs.Passwords.{IsPassword, IsPasswordRefused, password_limit}
-use Rattle.crypt_core.specs.Readings.{HasOneReading}
+use Rattle.crypt_core.specs.Readings.{IsReadOneWay}
 use Rattle.crypt_core.specs.Refusals.{IsRefused}
 use Rattle.crypt_core.specs.Replacements.{is_replaced_by}
 use Rattle.crypt_core.specs.Settings.{Kept, Spells, canonical_text}
@@ -32,16 +32,16 @@ password_once bytes HasNul HasNul x y = refl
 password_once bytes TooLong HasNul x y = absurd (omega (arith, y.0))
 password_once bytes HasNul TooLong x y = absurd (omega (arith, x.0))
 
-setting_once : (text : List ℕ) → HasOneReading text → (a b : Kept) → Spells text a → Spells text b → a ≡ b
-unfolding HasOneReading
+setting_once : (text : List ℕ) → IsReadOneWay text → (a b : Kept) → Spells text a → Spells text b → a ≡ b
+unfolding IsReadOneWay
 setting_once text one a b x y = cc (one (Ok a) (Ok b) x y)
 
-refusal_once : (text : List ℕ) → HasOneReading text → (a b : SettingFault) → IsRefused text a → IsRefused text b → a ≡ b
-unfolding HasOneReading
+refusal_once : (text : List ℕ) → IsReadOneWay text → (a b : SettingFault) → IsRefused text a → IsRefused text b → a ≡ b
+unfolding IsReadOneWay
 refusal_once text one a b x y = cc (one (Err a) (Err b) x y)
 
-text_apart : (text : List ℕ) → HasOneReading text → (kept : Kept) (fault : SettingFault) → Spells text kept → IsRefused text fault → ⊥
-unfolding HasOneReading
+text_apart : (text : List ℕ) → IsReadOneWay text → (kept : Kept) (fault : SettingFault) → Spells text kept → IsRefused text fault → ⊥
+unfolding IsReadOneWay
 text_apart text one kept fault x y = absurd (cc (one (Ok kept) (Err fault) x y))
 
 verdict_once : {T : Type 0} (a b : Bool) → (IsTrue a ↔ T) → (IsTrue b ↔ T) → a ≡ b
@@ -52,7 +52,7 @@ verdict_once false true x y = absurd (search (rules, x, y))
 
 -- ---- the calls
 
-pub compared_once : (password stored : List ℕ) → (IsPassword password → HasOneReading stored) → (a b : Work) (told holds : Result Bool Refusal) → Compares password stored a told → Compares password stored b holds → IsToldOrLacks verdict_told (verdict_told told) holds
+pub compared_once : (password stored : List ℕ) → (IsPassword password → IsReadOneWay stored) → (a b : Work) (told holds : Result Bool Refusal) → Compares password stored a told → Compares password stored b holds → IsToldOrLacks verdict_told (verdict_told told) holds
 compared_once p s one a b told (Err TooFewBytes) x y = absurd y
 compared_once p s one a b told (Err UnknownMethod) x y = absurd y
 compared_once p s one a b told (Err Cost) x y = absurd y
@@ -75,7 +75,7 @@ compared_once p s one a b (Err (Setting f)) (Err (Setting g)) x y = ap (λ (h : 
 compared_once p s one a b (Err OutOfMemory) (Err (Password g)) x y = absurd (password_apart p g x.0 y.0)
 compared_once p s one a b (Err OutOfMemory) (Err (Setting g)) x y = absurd (text_apart s (one x.0) x.1.0 g x.1.1 y.1.0)
 
-pub hashed_once : (password setting : List ℕ) → (IsPassword password → HasOneReading setting) → (old new other : List ℕ) (a b : Work) (told holds : Result ℕ Refusal) → Hashes password setting old new a told → Hashes password setting old other b holds → IsToldOrLacks length_told (length_told told) holds
+pub hashed_once : (password setting : List ℕ) → (IsPassword password → IsReadOneWay setting) → (old new other : List ℕ) (a b : Work) (told holds : Result ℕ Refusal) → Hashes password setting old new a told → Hashes password setting old other b holds → IsToldOrLacks length_told (length_told told) holds
 hashed_once p s one old m n a b told (Err UnknownMethod) x y = absurd y
 hashed_once p s one old m n a b told (Err Cost) x y = absurd y
 hashed_once p s one old m n a b told (Err UnknownNumber) x y = absurd y
@@ -105,7 +105,7 @@ hashed_once p s one old m n a b (Err OutOfMemory) (Err TooFewBytes) x y =
 hashed_once p s one old m n a b (Err OutOfMemory) (Err (Password g)) x y = absurd (password_apart p g x.0 y.0)
 hashed_once p s one old m n a b (Err OutOfMemory) (Err (Setting g)) x y = absurd (text_apart s (one x.0) x.1.0 g x.1.1 y.1)
 
-pub told_once : {A : Type 0} (number : Kept → ℕ → A) (stored : List ℕ) (len : ℕ) → (len ≤ password_limit → HasOneReading stored) → (old a b : A) (told holds : Result ℕ Refusal) → Tells number stored len old a told → Tells number stored len old b holds → told ≡ holds
+pub told_once : {A : Type 0} (number : Kept → ℕ → A) (stored : List ℕ) (len : ℕ) → (len ≤ password_limit → IsReadOneWay stored) → (old a b : A) (told holds : Result ℕ Refusal) → Tells number stored len old a told → Tells number stored len old b holds → told ≡ holds
 told_once number s len one old a b told (Err (Password HasNul)) x y = absurd y
 told_once number s len one old a b told (Err OutOfMemory) x y = absurd y
 told_once number s len one old a b told (Err TooFewBytes) x y = absurd y
@@ -128,7 +128,7 @@ told_once number s len one old a b (Err (Password TooLong)) (Err (Setting g)) x 
 told_once number s len one old a b (Err (Setting f)) (Err (Password TooLong)) x y = absurd (omega (arith, x.0, y.0))
 told_once number s len one old a b (Err (Setting f)) (Err (Setting g)) x y = ap (λ (h : SettingFault). Err (Setting h)) (refusal_once s (one x.0) f g x.1 y.1)
 
-pub replaced_once : (stored new : List ℕ) → HasOneReading stored → ((kept : Kept) → Spells stored kept → HasOneReading new) → (told holds : Result Bool Refusal) → Replaces stored new told → Replaces stored new holds → told ≡ holds
+pub replaced_once : (stored new : List ℕ) → IsReadOneWay stored → ((kept : Kept) → Spells stored kept → IsReadOneWay new) → (told holds : Result Bool Refusal) → Replaces stored new told → Replaces stored new holds → told ≡ holds
 replaced_once s t one later told (Err (Password f)) x y = absurd y
 replaced_once s t one later told (Err OutOfMemory) x y = absurd y
 replaced_once s t one later told (Err TooFewBytes) x y = absurd y

@@ -3,7 +3,7 @@ ghost use Rattle.std.specs.Prelude.{◌≡◌, ◌<◌, ◌≤◌, ◌^◌, leng
 ghost use Rattle.prims_core.specs.Work.{no_work};
 ghost use Rattle.crypt_core.specs.Work.{cost, work_bound};
 ghost use Rattle.crypt_core.specs.Passwords.{IsPassword, password_limit};
-ghost use Rattle.crypt_core.specs.Readings.{HasOneReading};
+ghost use Rattle.crypt_core.specs.Readings.{IsReadOneWay};
 ghost use Rattle.crypt_core.specs.Settings.{Kept, Spells};
 ghost use Rattle.crypt_c.specs.Calls.{Compares, Explains, Hashes, Makes, Replaces, Tells, method_numbered};
 ghost use Rattle.crypt_c.specs.Private.Steps.{IsUntold, IsSmall};
@@ -29,7 +29,7 @@ pub(crate) fn compared(
 ) -> Result<bool, Refusal>
     requires { meter.old ≡ no_work }
     ensures compares { Compares password.now stored.now meter.new result }
-    ensures one_reading { IsPassword password.now → HasOneReading stored.now }
+    ensures one_reading { IsPassword password.now → IsReadOneWay stored.now }
     ensures small { IsSmall meter.new }
 {
     let password = Password::new(password)?;
@@ -46,7 +46,7 @@ pub(crate) fn hashed(
 ) -> Result<usize, Refusal>
     requires { meter.old ≡ no_work }
     ensures hashes { Hashes password.now setting.now out.old out.new meter.new result }
-    ensures one_reading { IsPassword password.now → HasOneReading setting.now }
+    ensures one_reading { IsPassword password.now → IsReadOneWay setting.now }
     ensures short { IfOk result (λ count. count < 2 ^ 31) }
     ensures small { IsSmall meter.new }
 {
@@ -62,7 +62,7 @@ pub(crate) fn hashed(
 /// What a hash by a setting counts at most, for a password of so many bytes.
 pub(crate) fn bounded(stored: &[u8], password_len: usize, most: &mut Work) -> Result<usize, Refusal>
     ensures tells { Tells work_bound stored.now password_len most.old most.new result }
-    ensures one_reading { password_len ≤ password_limit → HasOneReading stored.now }
+    ensures one_reading { password_len ≤ password_limit → IsReadOneWay stored.now }
     ensures nothing { IfOk result (λ count. count ≡ 0) }
 {
     *most = bound(&priced_setting(stored, password_len)?, password_len);
@@ -72,7 +72,7 @@ pub(crate) fn bounded(stored: &[u8], password_len: usize, most: &mut Work) -> Re
 /// What it costs at most.
 pub(crate) fn priced(stored: &[u8], password_len: usize, number: &mut u64) -> Result<usize, Refusal>
     ensures tells { Tells cost stored.now password_len number.old number.new result }
-    ensures one_reading { password_len ≤ password_limit → HasOneReading stored.now }
+    ensures one_reading { password_len ≤ password_limit → IsReadOneWay stored.now }
     ensures nothing { IfOk result (λ count. count ≡ 0) }
 {
     *number = cost(&priced_setting(stored, password_len)?, password_len);
@@ -83,7 +83,7 @@ pub(crate) fn priced(stored: &[u8], password_len: usize, number: &mut u64) -> Re
 fn priced_setting(stored: &[u8], password_len: usize) -> Result<Setting, Refusal>
     ensures read { IfOk result (λ setting. (password_len ≤ password_limit) × Spells stored.now setting) }
     ensures refused { IfErr result (IsUntold stored.now password_len) }
-    ensures one_reading { password_len ≤ password_limit → HasOneReading stored.now }
+    ensures one_reading { password_len ≤ password_limit → IsReadOneWay stored.now }
 {
     if password_len > PASSWORD_LIMIT {
         return Err(Refusal::Password(PasswordFault::TooLong));
@@ -94,8 +94,8 @@ fn priced_setting(stored: &[u8], password_len: usize) -> Result<Setting, Refusal
 /// Whether the one setting is replaced by the other.
 pub(crate) fn replaced(stored: &[u8], new: &[u8]) -> Result<bool, Refusal>
     ensures replaces { Replaces stored.now new.now result }
-    ensures one_reading { HasOneReading stored.now }
-    ensures then_one { (kept : Kept) → Spells stored.now kept → HasOneReading new.now }
+    ensures one_reading { IsReadOneWay stored.now }
+    ensures then_one { (kept : Kept) → Spells stored.now kept → IsReadOneWay new.now }
 {
     let stored = Setting::read(stored)?;
     let new = Setting::read(new)?;

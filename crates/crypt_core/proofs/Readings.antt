@@ -1,4 +1,4 @@
--- A text spells one setting at most, and what it spells breaks no rule.
+-- A text spells one setting at most.
 use Rattle.std.proofs.Common.{◌≡◌, ℕ, List, ◌++◌, drop, get_or, refl, sym, ap, ◌∙◌, arith}
 use Rattle.kdf_core.specs.Params.{ScryptCost}
 use Rattle.crypt_core.specs.declared.method.Method.{Method}

@@ -11,7 +11,7 @@ use Rattle.crypt_core.specs.declared.scheme.Scheme.TheVariants.{Md5crypt, Sha256
 use Rattle.crypt_core.specs.declared.setting.fault.SettingFault.{SettingFault}
 use Rattle.crypt_core.specs.declared.setting.fault.SettingFault.TheVariants.{TooLong, BadCharacter, UnknownScheme, BadRounds, BadCost, ScryptRange, AboveCeiling, BadSalt}
 use Rattle.crypt_core.specs.Methods.{prefix}
-use Rattle.crypt_core.specs.Readings.{HasOneReading, IsReading}
+use Rattle.crypt_core.specs.Readings.{IsReadOneWay, IsReading}
 use Rattle.crypt_core.specs.Refusals.{IsShaText, LacksRounds, IsScryptText, Breaks, IsRefused, rule_number}
 use Rattle.crypt_core.specs.Settings.{Kept, method_of, rounds_word, SpellsRounds, scrypt_part, HasNumerals, IsScryptSalt, KeepsSalt, SpellsScheme, Spells}
 use Rattle.crypt_core.proofs.Fields.{field_unique}
@@ -121,8 +121,8 @@ refusal_unique text f g rf rg = elim (cases_order (rule_number f) (rule_number g
 ]
 
 -- so it is read as one of these at most
-pub one_reading : (text : List ℕ) → HasOneReading text
-unfolding HasOneReading
+pub one_reading : (text : List ℕ) → IsReadOneWay text
+unfolding IsReadOneWay
 one_reading text (Ok kept) (Ok other) spelled s = ap (λ (k : Kept). Ok k) (setting_unique text kept other spelled s)
 one_reading text (Ok kept) (Err fault) spelled refused = absurd (spelled_breaks_none text kept spelled fault refused.breaks)
 one_reading text (Err fault) (Ok kept) refused spelled = absurd (spelled_breaks_none text kept spelled fault refused.breaks)

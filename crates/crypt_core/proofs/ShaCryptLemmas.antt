@@ -8,7 +8,7 @@ use Rattle.std.proofs.Math.Nat.{mul-le-mul_right}
 use Rattle.prims_core.specs.Meter.{HaveCountAndSum}
 use Rattle.crypt_core.specs.Cycle.{cycle, digit_bytes, digit_pieces}
 use Rattle.crypt_core.specs.RoundMessage.{round_message, alternate_message}
-use Rattle.crypt_core.specs.ShaCrypt.{first_byte, password_repeated, password_string, salt_repeated, salt_string, sha_opening_digest, sha_digest_before, sha_opening_message, sha_round_message, shacrypt_message, shacrypt_messages}
+use Rattle.crypt_core.specs.ShaCrypt.{sha_opening_byte, password_repeated, password_string, salt_repeated, salt_string, sha_opening_digest, sha_digest_before, sha_opening_message, sha_round_message, shacrypt_message, shacrypt_messages}
 use Rattle.crypt_core.specs.Work.{greatest_byte, shacrypt_bytes}
 use Rattle.crypt_core.proofs.CycleLemmas.{digit_bytes-few, length-cycle, length-digit_pieces, length-repeat}
 use Rattle.crypt_core.proofs.MessageLists.{length-messages_to, length-round_message, length-alternate, messages_to, round_length}
@@ -92,8 +92,8 @@ module _ (h : List ℕ → List ℕ) (digest : ℕ) (length-digest : (m : List �
       )
 
   -- A has a first byte
-  pub first_byte-below : 1 ≤ digest → ((m : List ℕ) → All (λ b. b < 256) (h m)) → first_byte h p s < 256
-  first_byte-below some bytes =
+  pub sha_opening_byte-below : 1 ≤ digest → ((m : List ℕ) → All (λ b. b < 256) (h m)) → sha_opening_byte h p s < 256
+  sha_opening_byte-below some bytes =
       bytes (sha_opening_message h p s) 0 0 (omega (arith, length-digest (sha_opening_message h p s), some))
 
   length-digest_before : (i : ℕ) → length (sha_digest_before h p s i) ≡ digest
@@ -110,7 +110,7 @@ module _ (h : List ℕ → List ℕ) (digest : ℕ) (length-digest : (m : List �
 
   -- all messages: how many, and how many bytes
   pub messages-in_all : (rounds : ℕ)
-      → HaveCountAndSum (shacrypt_messages h p s rounds) (rounds + 4) (shacrypt_bytes digest (first_byte h p s) rounds (length p) (length s))
+      → HaveCountAndSum (shacrypt_messages h p s rounds) (rounds + 4) (shacrypt_bytes digest (sha_opening_byte h p s) rounds (length p) (length s))
   messages-in_all rounds = rw (← messages-all h p s rounds) (record {
     count = length-messages_to (shacrypt_message h p s) (rounds + 4);
     sum = omega (
@@ -121,6 +121,6 @@ module _ (h : List ℕ → List ℕ) (digest : ℕ) (length-digest : (m : List �
       length-sha_opening h p s,
       ap (λ w. digit_bytes w (length p) (length p)) (length-digest (alternate_message p s)),
       length-repeat (length p) p,
-      length-repeat (16 + first_byte h p s) s,
+      length-repeat (16 + sha_opening_byte h p s) s,
     );
   })

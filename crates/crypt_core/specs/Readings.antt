@@ -9,6 +9,6 @@ abbrev pub IsReading : List ℕ → Result Kept SettingFault → Type 0
 IsReading text (Ok kept) = Spells text kept
 IsReading text (Err fault) = IsRefused text fault
 
--- no two of them: a text spells one setting at most, gets one refusal at most, and never both
-unfoldable pub HasOneReading : List ℕ → Type 0
-HasOneReading text = (one other : Result Kept SettingFault) → IsReading text one → IsReading text other → one ≡ other
+-- at most one of them: a text spells one setting at most, gets one refusal at most, and never both
+unfoldable pub IsReadOneWay : List ℕ → Type 0
+IsReadOneWay text = (one other : Result Kept SettingFault) → IsReading text one → IsReading text other → one ≡ other

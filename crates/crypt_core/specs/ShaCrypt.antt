@@ -17,21 +17,21 @@ sha_opening_message h password salt =
 abbrev pub sha_opening_digest : (List ℕ → List ℕ) → List ℕ → List ℕ → List ℕ
 sha_opening_digest h password salt = h (sha_opening_message h password salt)
 
+-- its first byte
+abbrev pub sha_opening_byte : (List ℕ → List ℕ) → List ℕ → List ℕ → ℕ
+sha_opening_byte h password salt = slice_index (sha_opening_digest h password salt) 0
+
 -- steps 13 to 15: the password as often as it has bytes
 abbrev pub password_repeated : List ℕ → List ℕ
 password_repeated password = repeat (length password) password
 
--- A's first byte
-abbrev pub first_byte : (List ℕ → List ℕ) → List ℕ → List ℕ → ℕ
-first_byte h password salt = slice_index (sha_opening_digest h password salt) 0
-
--- steps 17 to 19: the salt 16 times, and once more for each unit of that byte
-abbrev pub salt_repeated : (List ℕ → List ℕ) → List ℕ → List ℕ → List ℕ
-salt_repeated h password salt = repeat (16 + first_byte h password salt) salt
-
 -- step 16: what stands for the password in the rounds
 abbrev pub password_string : (List ℕ → List ℕ) → List ℕ → List ℕ
 password_string h password = cycle (h (password_repeated password)) (length password)
+
+-- steps 17 to 19: the salt 16 times, and once more for each unit of the first byte of A
+abbrev pub salt_repeated : (List ℕ → List ℕ) → List ℕ → List ℕ → List ℕ
+salt_repeated h password salt = repeat (16 + sha_opening_byte h password salt) salt
 
 -- step 20: what stands for the salt in the rounds
 abbrev pub salt_string : (List ℕ → List ℕ) → List ℕ → List ℕ → List ℕ

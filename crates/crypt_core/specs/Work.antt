@@ -1,5 +1,6 @@
 -- The work of a hash, as a meter counts it: the messages that are digested, and for scrypt the mixings
--- and the memory, in closed form by the lengths of the password and the salt.
+-- and the memory, in closed form by the lengths of the password and the salt, and for SHA-crypt by one byte
+-- of a digest.
 use Rattle.std.specs.Prelude.{ℕ, ◌+◌, ◌-◌, ◌*◌, ◌^◌, List, length}
 use Rattle.std.specs.Int.{div_ceil}
 use Rattle.prims_core.specs.Digests.{sha256, sha512}
@@ -11,7 +12,7 @@ use Rattle.crypt_core.specs.Cycle.{digit_bytes}
 use Rattle.crypt_core.specs.Md5crypt.{md5crypt_rounds}
 use Rattle.crypt_core.specs.Methods.{digest_len}
 use Rattle.crypt_core.specs.Settings.{Kept}
-use Rattle.crypt_core.specs.ShaCrypt.{first_byte}
+use Rattle.crypt_core.specs.ShaCrypt.{sha_opening_byte}
 use Rattle.crypt_core.specs.declared.method.Method.TheVariants as methods
 use Rattle.crypt_core.specs.declared.scheme.Scheme.{Scheme}
 use Rattle.crypt_core.specs.declared.scheme.Scheme.TheVariants.{Md5crypt, Sha256crypt, Sha512crypt, Scrypt}
@@ -32,7 +33,8 @@ md5crypt_bytes password_length salt_length =
     + rounds_bytes md5crypt_rounds (digest_len methods.Md5crypt) password_length salt_length
 
 -- SHA-crypt: two passwords and a salt; the same, with a digest for each binary digit 1 of the password's
--- length and the password for each 0; the password as often as it has bytes; the salt 16 times and once more for each unit of a; the rounds
+-- length and the password for each 0; the password as often as it has bytes; the salt 16 times and once more for
+-- each unit of a; the rounds
 abbrev pub shacrypt_bytes : ℕ → ℕ → ℕ → ℕ → ℕ → ℕ
 shacrypt_bytes digest_length a rounds password_length salt_length =
     2 * password_length + salt_length
@@ -66,10 +68,10 @@ work_by (Sha512crypt rounds) a password_length salt_length =
     shacrypt_work (digest_len methods.Sha512crypt) a rounds.count password_length salt_length
 work_by (Scrypt cost) a password_length salt_length = scrypt_work cost password_length salt_length (digest_len methods.Scrypt)
 
--- A's first byte for a scheme, where it stands for nothing but in SHA-crypt
+-- A's first byte in SHA-crypt, and 0 elsewhere, where the work has none
 abbrev pub first_byte_by : Scheme → List ℕ → List ℕ → ℕ
-first_byte_by (Sha256crypt rounds) password salt = first_byte sha256 password salt
-first_byte_by (Sha512crypt rounds) password salt = first_byte sha512 password salt
+first_byte_by (Sha256crypt rounds) password salt = sha_opening_byte sha256 password salt
+first_byte_by (Sha512crypt rounds) password salt = sha_opening_byte sha512 password salt
 first_byte_by scheme password salt = 0
 
 -- the work of the hash of a password by a setting
@@ -91,7 +93,7 @@ abbrev pub work_limit : ℕ
 work_limit = 2 ^ 41
 
 -- The cost of a hash: the bound as one number, which a budget is compared with. It is neither the cost of a
--- setting (scrypt's N, r and p) nor the one that a setting is made of (`made_scheme`).
+-- setting (its rounds, or scrypt's N, r and p) nor the one that a setting is made of (`made_scheme`).
 
 -- the bytes that are mixed, in scrypt alone
 abbrev pub mixed_bytes_by : Scheme → ℕ

@@ -4,7 +4,7 @@ ghost use Rattle.std.specs.Prelude.{◌≡◌, ◌^◌, ◌↔◌, Err, IsTrue, 
 ghost use Rattle.prims_core.specs.Meter.{HasRoom};
 ghost use Rattle.crypt_core.specs.declared.setting.fault.SettingFault.{SettingFault as Refusal};
 ghost use Rattle.crypt_core.specs.Fits.{Compares, Fits};
-ghost use Rattle.crypt_core.specs.Readings.{HasOneReading};
+ghost use Rattle.crypt_core.specs.Readings.{IsReadOneWay};
 ghost use Rattle.crypt_core.specs.Refusals.{IsRefused};
 ghost use Rattle.crypt_core.specs.Settings.{Kept, Spells};
 ghost use Rattle.crypt_core.specs.Work.{work, work_limit, IsBelow};
@@ -82,7 +82,7 @@ pub fn fits(
     ensures verdict { IfOk result (λ verdict. IsTrue verdict ↔ Fits password.now stored.now) }
     ensures compared { Compares password.now stored.now meter.old meter.new result }
     ensures below { (kept : Kept) → Spells stored.now kept → IsBelow (work password.now kept) work_limit }
-    ensures one_reading { HasOneReading stored.now }
+    ensures one_reading { IsReadOneWay stored.now }
     ensures each_refusal { (fault : Refusal) → IsRefused stored.now fault → result ≡ Err (FitFault.Setting fault) }
 {
     let setting = Setting::read(stored)?;

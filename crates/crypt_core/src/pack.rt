@@ -85,8 +85,8 @@ const SCRYPT_GROUPS: [&[usize]; 11] = [
     &[31, 30],
 ];
 
-/// The text of a method's digest: 22, 43, 86 or 43 characters, in the order of `Method` (of SHA-crypt's
-/// specification step 22). The digest has the method's length, which is 16, 32, 64 or 32 bytes.
+/// The text of a method's digest, of 16, 32, 64 or 32 bytes in the order of `Method`: 22, 43, 86 or 43 characters.
+/// SHA-crypt's groups of bytes are those of its specification's step 22.
 pub fn pack(method: Method, digest: &[u8]) -> ArrayVec<u8, SHA512CRYPT_PACKED_LEN>
     requires { length digest.now ≡ digest_len method }
     ensures text { result.items ≡ packed method digest.now }

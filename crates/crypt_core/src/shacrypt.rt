@@ -9,7 +9,7 @@ ghost use Rattle.crypt_core.specs.Methods.{shacrypt_salt_limit};
 ghost use Rattle.crypt_core.specs.Passwords.{password_limit};
 ghost use Rattle.crypt_core.specs.RoundMessage.{alternate_message};
 ghost use Rattle.crypt_core.specs.Settings.{max_rounds, min_rounds};
-ghost use Rattle.crypt_core.specs.ShaCrypt.{first_byte, sha_opening_digest, sha_opening_message, shacrypt_digest, shacrypt_messages};
+ghost use Rattle.crypt_core.specs.ShaCrypt.{sha_opening_byte, sha_opening_digest, sha_opening_message, shacrypt_digest, shacrypt_messages};
 ghost use Rattle.crypt_core.specs.Private.Counting.{with_digest};
 ghost use Rattle.crypt_core.specs.Work.{shacrypt_bytes, work_limit};
 
@@ -40,11 +40,11 @@ pub fn shacrypt<H: Counted>(
     ensures digest { result.items ≡ shacrypt_digest H.digest password.now salt.now rounds }
     ensures length { length result.items ≡ H.LEN }
     ensures count { meter.new ≡ with_work meter.old (rounds + 4) (shacrypt_bytes H.LEN
-        (first_byte H.digest password.now salt.now) rounds (length password.now) (length salt.now)) }
-    ensures below { shacrypt_bytes H.LEN (first_byte H.digest password.now salt.now) rounds (length password.now)
+        (sha_opening_byte H.digest password.now salt.now) rounds (length password.now) (length salt.now)) }
+    ensures below { shacrypt_bytes H.LEN (sha_opening_byte H.digest password.now salt.now) rounds (length password.now)
         (length salt.now) < work_limit }
     ensures specified { HaveCountAndSum (shacrypt_messages H.digest password.now salt.now rounds) (rounds + 4)
-        (shacrypt_bytes H.LEN (first_byte H.digest password.now salt.now) rounds (length password.now) (length salt.now)) }
+        (shacrypt_bytes H.LEN (sha_opening_byte H.digest password.now salt.now) rounds (length password.now) (length salt.now)) }
 {
     let password = password.bytes();
     let mut digest = opening::<H>(password, salt, meter);

@@ -5,7 +5,7 @@ ghost use Rattle.crypt_core.specs.Cycle.{by_digit, digit_bytes};
 ghost use Rattle.crypt_core.specs.Methods.{md5crypt_salt_limit, scrypt_salt_limit, shacrypt_salt_limit};
 ghost use Rattle.crypt_core.specs.Passwords.{password_limit, IsPassword};
 ghost use Rattle.crypt_core.specs.Settings.{max_rounds};
-ghost use Rattle.crypt_core.specs.ShaCrypt.{first_byte};
+ghost use Rattle.crypt_core.specs.ShaCrypt.{sha_opening_byte};
 ghost use Rattle.crypt_core.specs.Work.{cost, digests_alone, greatest_byte, md5crypt_work, rounds_bytes, shacrypt_work, work, work_bound, work_by, work_limit, IsBelow, IsWithin};
 
 use crate::md5crypt::ROUNDS;
@@ -88,7 +88,7 @@ fn shacrypt_bound<H: Counted>(rounds: u32, password: u64, salt: u64) -> Work
     requires salt { salt ≤ shacrypt_salt_limit }
     ensures bound { result ≡ shacrypt_work H.LEN greatest_byte rounds password salt }
     ensures never_passed { (p s : List ℕ) → length p ≡ password → length s ≡ salt
-        → IsWithin (shacrypt_work H.LEN (first_byte H.digest p s) rounds password salt) result }
+        → IsWithin (shacrypt_work H.LEN (sha_opening_byte H.digest p s) rounds password salt) result }
     ensures below { IsBelow result work_limit }
 {
     let rounds = u64::from(rounds);

@@ -26,7 +26,7 @@ pub record IsInRange (cost : ScryptCost) : Type 0 where
 abbrev pub ceiling : ℕ
 ceiling = 8388608
 
--- N * r * p, by which memory and time grow
+-- N * r * p, by which the time grows, and which bounds the memory
 abbrev pub product : ScryptCost → ℕ
 product cost = row_count cost * cost.r * cost.p
 

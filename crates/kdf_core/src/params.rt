@@ -109,7 +109,7 @@ impl Params {
         self.p
     }
 
-    /// The product `N * r * p`, by which scrypt's time grows: at most 2^23.
+    /// The product `N * r * p`, by which scrypt's time grows, and which bounds its memory: at most 2^23.
     pub fn product(&self) -> u32
         ensures product { result ≡ product self.now }
         ensures within { result ≤ ceiling }

@@ -83,7 +83,7 @@ impl Table {
     /// Makes row `i + 1` what scryptBlockMix (RFC 7914, section 4) makes of row `i`, and counts that
     /// mixing. The other rows stay.
     ///
-    /// A row has the 32r words of 2r blocks, for one r of at least 1, and the meter has room.
+    /// There is a row `i + 1`. A row has the 32r words of 2r blocks, for one r of at least 1, and the meter has room.
     #[tactic(auto, using(crate::proofs::RowFacts::next_row_end))]
     pub fn mix_row(&mut self, i: usize, meter: &mut Meter)
         requires inside { i + 1 < length self.old }

@@ -1,6 +1,9 @@
 //! The work of a hash, as the five counts by which it raises a meter.
 
-/// What a meter counts of a hash. Its form is that of a struct of C.
+/// What a meter counts of a hash. Its form is that of a struct of C. Clauses see a [`Meter`] as this record too, with
+/// counts of up to 128 bits.
+///
+/// [`Meter`]: crate::meter::Meter
 #[repr(C)]
 #[derive(Clone, Copy, Debug, PartialEq, Eq)]
 pub struct Work {

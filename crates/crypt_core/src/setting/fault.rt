@@ -24,7 +24,7 @@ pub enum SettingFault {
     /// Fewer characters of crypt's alphabet follow scrypt's prefix than its cost part has: 11.
     #[error("{}", self.text())]
     BadCost,
-    /// N, r and p are outside scrypt's range (RFC 7914, section 2): one is 0, or log2 N is not below 16r.
+    /// N, r or p is outside scrypt's range (RFC 7914, section 2): log2 N, r or p is 0, or log2 N is 16r or more.
     #[error("{}", self.text())]
     ScryptRange,
     /// The product of N, r and p is above 8388608.

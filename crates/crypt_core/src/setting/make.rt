@@ -36,7 +36,7 @@ impl Setting {
     ///
     /// Cost 0 is the method's default. SHA-crypt takes any other as a number of rounds, held
     /// between 1000 and 999999999, that the text will show. scrypt takes a cost `c` from 6 to 11, for `N = 2^(c + 7)`,
-    /// r = 32 and p = 1. md5crypt has but one cost. A salt has at least one character, and at most
+    /// r = 32 and p = 1. md5crypt has no cost, and takes any number. A salt has at least one character, and at most
     /// as many as the method keeps.
     ///
     /// - `SaltLength`: the salt is empty, or has more characters than the method keeps;

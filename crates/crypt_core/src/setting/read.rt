@@ -9,7 +9,7 @@ ghost use Rattle.kdf_core.specs.Params.{cost_of, IsAccepted};
 ghost use Rattle.crypt_core.specs.declared.setting.fault.SettingFault.{SettingFault as Fault};
 ghost use Rattle.crypt_core.specs.Methods.{prefix};
 ghost use Rattle.crypt_core.specs.Private.Parts.{AllRefused, HasField, HasNumber, HasNumbers, HasRounds, HasSalt, LacksSalt};
-ghost use Rattle.crypt_core.specs.Readings.{HasOneReading};
+ghost use Rattle.crypt_core.specs.Readings.{IsReadOneWay};
 ghost use Rattle.crypt_core.specs.Refusals.{IsRefused, IsShaText, LacksCost, LacksNumber};
 ghost use Rattle.crypt_core.specs.Settings.{Kept, IsSettingByte, IsSettingText, dollar, max_rounds, BeginsWith, IsRoundsNumber, scrypt_part_len, IsScryptSalt, SpellsScheme, Spells};
 
@@ -34,7 +34,7 @@ impl Setting {
         ensures refused { IfErr result (IsRefused text.now) }
         ensures each_refusal { (fault : Fault) → IsRefused text.now fault → result ≡ Err fault }
 
-        ensures one_reading { HasOneReading text.now }
+        ensures one_reading { IsReadOneWay text.now }
     {
         parse(text)
     }

@@ -150,7 +150,7 @@ fn vector_with_a_row(rt: HostRuntime) {
     assert_eq!(rt; (meter.mixes(), others), (1, (0, 0, 0, 0)), "one mixing");
 }
 
-// More blocks than are added ahead; the digest is of what the Python program gives.
+// More blocks than the exclusive or goes ahead; the digest is of what the Python program gives.
 #[test]
 fn twelve_blocks_with_a_row(rt: HostRuntime) -> Result<(), Fail> {
     let mut bytes = [0; 768];

@@ -9,7 +9,7 @@ use Rattle.crypt_core.specs.Private.RoundStrings.{Strings}
 use Rattle.crypt_core.proofs.CycleLemmas.{length-cycle, length-repeat}
 use Rattle.crypt_core.proofs.MessageLists.{length-messages_to, messages-more, round_length-small}
 use Rattle.crypt_core.proofs.Metering.{digests_in_all, digests_more, four_digests}
-use Rattle.crypt_core.proofs.ShaCryptLemmas.{digest_before-more, digest_before-zero, digest_last, first_byte-below, length-message_round, message-number, messages-all, messages-four, messages-in_all, round_is, start_bytes}
+use Rattle.crypt_core.proofs.ShaCryptLemmas.{digest_before-more, digest_before-zero, digest_last, sha_opening_byte-below, length-message_round, message-number, messages-all, messages-four, messages-in_all, round_is, start_bytes}
 use Rattle.crypt_core.proofs.shacrypt.shacrypt.Goals as goal
 
 pub string_of-password_string-requires-clause-bytes_room : goal.string_of-password_string-requires-clause-bytes_room
@@ -27,7 +27,7 @@ string_of-salt_string-requires-clause-bytes_room g c =
     let s = c.args.salt.now in
     let short : length p ≤ password_limit = omega (arith, ap length c.bytes-password.ensures.value, c.bytes-password.ensures.password.length_fits) in
     let first = c.from-salt_times.ensures ∙ ap (λ xs. get_or xs 0 0) (c.as_slice.ensures.value ∙ c.opening-digest.ensures.digest) in
-    let byte = first_byte-below h g.H.Counted.LEN g.met.H.Counted.length_digest p s g.met.H.Counted.at_least_1 g.met.H.Counted.digest_bytes in
+    let byte = sha_opening_byte-below h g.H.Counted.LEN g.met.H.Counted.length_digest p s g.met.H.Counted.at_least_1 g.met.H.Counted.digest_bytes in
     let times : 16 + c.from-salt_times.result ≤ 16 + greatest_byte = omega (arith, first, byte) in
     omega (
       arith,
@@ -69,7 +69,7 @@ rounds-init g c =
     let first = c.from-salt_times.ensures ∙ ap (λ xs. get_or xs 0 0) (c.as_slice.ensures.value ∙ digest) in
     let salted = rw first at c.string_of-salt_string.ensures.count in
     let short : length p ≤ password_limit = c.bytes-password.ensures.password.length_fits in
-    let byte = first_byte-below h g.H.Counted.LEN g.met.H.Counted.length_digest p s g.met.H.Counted.at_least_1 g.met.H.Counted.digest_bytes in
+    let byte = sha_opening_byte-below h g.H.Counted.LEN g.met.H.Counted.length_digest p s g.met.H.Counted.at_least_1 g.met.H.Counted.digest_bytes in
     let times : 16 + get_or (sha_opening_digest h p s) 0 0 ≤ 16 + greatest_byte = omega (arith, byte) in (
       digest ∙ sym (digest_before-zero h p s),
       c.opening-digest.ensures.length,
