@@ -1,5 +1,5 @@
 //! What the calls do, with refusals that are not yet numbers.
-ghost use Rattle.std.specs.Prelude.{◌≡◌, ◌<◌, ◌≤◌, ◌^◌, length, IfOk, IfErr};
+ghost use Rattle.std.specs.Prelude.{◌≡◌, ◌<◌, ◌≤◌, ◌^◌, IfOk, IfErr};
 ghost use Rattle.prims_core.specs.Work.{no_work};
 ghost use Rattle.crypt_core.specs.Work.{cost, work_bound};
 ghost use Rattle.crypt_core.specs.Passwords.{IsPassword, password_limit};

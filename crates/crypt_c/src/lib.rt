@@ -5,7 +5,7 @@
 //! that many threads may call at once.
 #![tactic(auto)]
 
-ghost use Rattle.std.specs.Prelude.{◌≡◌, ◌^◌, ◌<◌, ◌≤◌, ◌∷◌, [], Bool, List, Result, ℕ, IfOk};
+ghost use Rattle.std.specs.Prelude.{◌≡◌, ◌^◌, ◌<◌, ◌∷◌, [], Bool, List, Result, ℕ, IfOk};
 ghost use Rattle.crypt_core.specs.Work.{cost, work_bound};
 ghost use Rattle.prims_core.specs.declared.work.Work.{Work as Done};
 ghost use Rattle.crypt_c.specs.Calls.{Compares, Explains, Hashes, Makes, Replaces, Tells, TellsEach, TellsOrLacks};

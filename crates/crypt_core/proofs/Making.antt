@@ -1,7 +1,6 @@
 -- What a method, a cost and a salt make is a setting.
-use Rattle.std.specs.Prelude.{Contains}
 use Rattle.std.proofs.Common.{◌≡◌, ◌≢◌, ℕ, ◌+◌, ◌≤◌, ◌<◌, ◌^◌, Bool, true, false, not, cond, eqb, inl, inr, ◌&&◌, List, [], ◌++◌, length, get_or, All, length-append, append-nil, refl, sym, ap, subst, ◌∙◌, arith}
-use Rattle.std.specs.Prelude.{decimal, codes, nat_le, Result, Ok, Err, OnOk, IfErr, IsOk}
+use Rattle.std.specs.Prelude.{Contains, decimal, codes, nat_le, Result, Ok, Err, OnOk, IfErr, IsOk}
 use Rattle.std.specs.List.{list_all}
 use Rattle.std.proofs.Math.Pow.{pow_mono}
 use Rattle.std.proofs.lemmas.Bool.{and_parts, not-true, eqb-false, leb-true, ne_eqb, cases_order}

@@ -1,6 +1,6 @@
 //! Checking a stored text, as crypt(3) is used for it: a password fits where its hash by the setting that the
 //! text spells is the text.
-ghost use Rattle.std.specs.Prelude.{◌≡◌, ◌^◌, ◌↔◌, Err, IsTrue, IfOk};
+ghost use Rattle.std.specs.Prelude.{◌≡◌, ◌↔◌, Err, IsTrue, IfOk};
 ghost use Rattle.prims_core.specs.Meter.{HasRoom};
 ghost use Rattle.crypt_core.specs.declared.setting.fault.SettingFault.{SettingFault as Refusal};
 ghost use Rattle.crypt_core.specs.Fits.{Compares, Fits};

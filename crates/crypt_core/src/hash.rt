@@ -1,5 +1,5 @@
 //! The text of crypt(3): a password, hashed by a setting.
-ghost use Rattle.std.specs.Prelude.{◌≡◌, ℕ, ◌^◌, ◌≤◌, ◌∷◌, ◌++◌, List, length, IfOk, OnOk, OnErr};
+ghost use Rattle.std.specs.Prelude.{◌≡◌, ℕ, ◌≤◌, ◌∷◌, ◌++◌, List, length, IfOk, OnOk, OnErr};
 ghost use Rattle.prims_core.specs.Meter.{HasRoom};
 ghost use Rattle.kdf_core.specs.Params.{IsBounded};
 ghost use Rattle.kdf_core.specs.Scrypt.{scrypt};

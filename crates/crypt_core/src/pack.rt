@@ -1,5 +1,5 @@
 //! The text of a digest: its bytes in the method's own groups, each as base-64 numerals.
-ghost use Rattle.std.specs.Prelude.{◌≡◌, ℕ, ◌+◌, ◌^◌, ◌<◌, ◌≤◌, ◌++◌, length};
+ghost use Rattle.std.specs.Prelude.{◌≡◌, ◌+◌, ◌^◌, ◌<◌, ◌≤◌, ◌++◌, length};
 ghost use Rattle.arrayvec.specs.ArrayVec.{array_vec_len};
 ghost use Rattle.crypt_core.specs.Methods.{digest_len};
 ghost use Rattle.crypt_core.specs.Packing.{group_number, groups_of, packed, packed_by, packed_len};

@@ -4,14 +4,13 @@ use Rattle.std.specs.Prelude.{fold}
 use Rattle.std.specs.List.{flat_map, range_with_len}
 use Rattle.std.proofs.lemmas.List.FromFn.{map-range_with_len_more}
 use Rattle.std.proofs.Math.Seq.{take-append-add}
-use Rattle.std.proofs.lemmas.Grind.{flat_map-append}
+use Rattle.std.proofs.lemmas.Grind.{div_ceil_times, flat_map-append}
 use Rattle.std.proofs.lemmas.List.{append-nil, length-take, take_all}
 use Rattle.std.proofs.lemmas.List.Sums.{fold-append}
 use Rattle.prims_core.specs.Words.{big_bytes, xor_lists}
 use Rattle.kdf_core.specs.Hmac.{hmac_sha256}
 use Rattle.kdf_core.specs.Pbkdf2.{chain, block, pbkdf2, pbkdf2_sha256}
 use Rattle.std.specs.Int.{div_ceil}
-use Rattle.std.proofs.lemmas.Grind.{div_ceil_times}
 
 -- U_1 is of the salt and the block's number
 pub chain-one : (password salt : List ℕ) (i : ℕ) → chain hmac_sha256 password salt i 1 ≡ hmac_sha256 password (salt ++ big_bytes 4 i)

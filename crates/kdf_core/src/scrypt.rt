@@ -9,7 +9,7 @@ ghost use Rattle.prims_core.specs.BlockMix.{block_mix as mixed};
 ghost use Rattle.prims_core.specs.Meter.{HaveCountAndSum, HasRoom};
 ghost use Rattle.kdf_core.specs.Params.{IsBounded};
 ghost use Rattle.kdf_core.specs.Private.Mixing.{HasShape, HoldsMixings, AreHalves, IsPower, part_words};
-ghost use Rattle.kdf_core.specs.Scrypt.{scrypt, integerify, mixed_back, romix, mixed_part, mixed_parts};
+ghost use Rattle.kdf_core.specs.Scrypt.{scrypt, integerify, mixed_back, mixed_part, mixed_parts};
 ghost use Rattle.kdf_core.specs.ScryptWork.{scrypt_bytes, scrypt_digests, scrypt_messages, with_scrypt, IsAfterRefusal};
 
 use crate::hmac::HmacKey;

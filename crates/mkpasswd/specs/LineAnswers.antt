@@ -3,8 +3,8 @@ use Rattle.std.specs.Prelude.{◌≡◌, ◌≢◌, ℕ, ◌⊎◌, List, [], �
 use Rattle.rand_core.specs.Stream.{Stream}
 use Rattle.crypt_core.specs.Crypt.{crypt}
 use Rattle.crypt_core.specs.Settings.{Kept, Spells}
-use Rattle.crypt_core.specs.Work.{cost, work}
-use Rattle.prims_core.specs.Work.{no_work, raised_by}
+use Rattle.crypt_core.specs.Work.{cost, raised_by, work}
+use Rattle.prims_core.specs.Work.{no_work}
 use Rattle.prims_core.specs.declared.work.Work.{Work}
 use Rattle.mkpasswd.specs.Answers.{Answer, hashed_answer, hashing, no_answer, printed, wanted_text}
 use Rattle.mkpasswd.specs.Budgets.{IsAbove}

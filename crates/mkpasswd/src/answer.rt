@@ -2,14 +2,13 @@
 ghost use Rattle.std.specs.Prelude.{◌≡◌, ◌+◌, ◌-◌, ◌*◌, ◌<◌, ◌≤◌, ◌∷◌, ◌++◌, length, IfOk, OnOk, OnErr};
 ghost use Rattle.arrayvec.specs.ArrayVec.{array_vec_len};
 ghost use Rattle.crypt_core.specs.Crypt.{IsAfterRefusedGrowth, crypt};
-ghost use Rattle.crypt_core.specs.Work.{raised_by, work};
+ghost use Rattle.crypt_core.specs.Work.{raised_by, work, work_limit};
 ghost use Rattle.prims_core.specs.Meter.{HasRoom};
 ghost use Rattle.rand_core.specs.Stream.{Stream};
 ghost use Rattle.mkpasswd.specs.Answers.{Answer, count_text, counts_text, hash_text, hashed_answer};
 ghost use Rattle.mkpasswd.specs.LineAnswers.{IsAnswer, front_of, refused_answer};
 ghost use Rattle.mkpasswd.specs.Lines.{name_limit};
 ghost use Rattle.mkpasswd.specs.Private.Made.{Checks, IsRaisedBelow, Makes, Says};
-ghost use Rattle.crypt_core.specs.Work.{work_limit};
 ghost use Rattle.mkpasswd.specs.Private.Rooms.{HasCountsForLine, answer_limit, count_limit, front_limit, line_work_limit, verdict_front_limit};
 ghost use Rattle.mkpasswd.specs.Texts.{as_line, colon};
 

@@ -1,6 +1,5 @@
 //! The whole command: the words are planned, the plan is run, and what went wrong is told.
-ghost use Rattle.std.specs.Prelude.{◌≡◌, ℕ, ◌^◌, ◌<◌, ◌≤◌, List, Some, is_some, length, map, string_bytes};
-ghost use Rattle.clap.specs.Words.{kind_of};
+ghost use Rattle.std.specs.Prelude.{◌≡◌, ℕ, ◌<◌, ◌≤◌, List, Some, is_some, map, string_bytes};
 ghost use Rattle.crypt_core.specs.Methods.{method_named};
 ghost use Rattle.crypt_core.specs.declared.method.Method.{Method};
 ghost use Rattle.mkpasswd.specs.Commands.{IsNoOption, IsTold, IsWhole, PrintsHash, Serves, fault_line, hash_words, stream_in};

@@ -1,6 +1,6 @@
 //! The runs over the lines of an input. Each line is answered once its end was read, before more is read, so
 //! that a run holds one line and one piece of its input, whatever that is.
-ghost use Rattle.std.specs.Prelude.{◌≡◌, ℕ, ◌^◌, ◌<◌, ◌≤◌, [], List, OnOk};
+ghost use Rattle.std.specs.Prelude.{◌≡◌, ℕ, ◌<◌, ◌≤◌, [], List, OnOk};
 ghost use Rattle.mkpasswd.specs.Devices.{HasRoomInRun, HaveRoomForRun, MovesBytes, turns_limit};
 ghost use Rattle.mkpasswd.specs.LineOptions.{OnlyRefuses, OnlyRenews, RenewsNone};
 ghost use Rattle.mkpasswd.specs.LineRuns.{EndsLines};

@@ -3,7 +3,7 @@
 
 ghost use Rattle.std.specs.Prelude.{◌≡◌, ◌↔◌, ℕ, Err, IsOk, IfOk, IfErr, is_some, not};
 ghost use Rattle.crypt_core.specs.declared.setting.fault.MakeFault.{MakeFault as Fault};
-ghost use Rattle.crypt_core.specs.MadeSettings.{IsMakeable, made_scheme, made_setting};
+ghost use Rattle.crypt_core.specs.MadeSettings.{made_scheme};
 ghost use Rattle.crypt_core.specs.Work.{cost};
 ghost use Rattle.rand_core.specs.Stream.{Stream};
 ghost use Rattle.mkpasswd.specs.Makers.{IsAccepted, IsRefused, bytes_of, next_setting, setting_by, words_for};

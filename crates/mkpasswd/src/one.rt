@@ -1,6 +1,6 @@
 //! The run for a single password: its hash, with its counts where they are wanted, and a line feed go to
 //! the output.
-ghost use Rattle.std.specs.Prelude.{◌≡◌, ◌+◌, ◌^◌, ◌≤◌};
+ghost use Rattle.std.specs.Prelude.{◌≡◌, ◌+◌, ◌≤◌};
 ghost use Rattle.mkpasswd.specs.Budgets.{without_budget};
 ghost use Rattle.mkpasswd.specs.Devices.{HasRoomForRun, HasRoomInRun, HaveRoomForRun, MovesBytes, turns_limit};
 ghost use Rattle.mkpasswd.specs.One.{EndsOne};

@@ -3,7 +3,7 @@
 //! The prefix, the cost part and the salt are taken off the front, one after another. It takes no
 //! memory and no meter, and a number of any length is held while it is read.
 
-ghost use Rattle.std.specs.Prelude.{◌≡◌, ◌≤◌, ◌↔◌, length, ◌++◌, ◌==◌, min, drop, position, IsTrue, All, IfOk, IfErr, OnOk, OnSome, IfSome, IfNone, MatchOption};
+ghost use Rattle.std.specs.Prelude.{◌≡◌, ◌≤◌, ◌↔◌, length, ◌++◌, ◌==◌, min, position, IsTrue, IfOk, IfErr, OnOk, OnSome, IfSome, IfNone, MatchOption};
 ghost use Rattle.std.specs.Str.Parse.{digits_value};
 ghost use Rattle.kdf_core.specs.Params.{cost_of, IsAccepted};
 ghost use Rattle.crypt_core.specs.declared.setting.fault.SettingFault.{SettingFault as Fault};
