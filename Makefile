@@ -1,6 +1,7 @@
 # make            builds ./mkpasswd, a copy of the proved program
 # make run        builds what is missing and hashes a first password
-# make check      every check but the soak, and the gate; with STRICT=1 a tool that is missing is a failure
+# make check      every check but the soak, and the gate; with STRICT=1 a tool that is missing is a failure, and with
+#                 ANEW=1 the gate proves all, also what an earlier one on this machine has passed
 # make bench      measures against libxcrypt, in some two minutes
 # make soak       has LINES random lines of each kind answered (default 10000), by the SEED that it prints or is given
 # make lib        builds the C libraries, libmkpasswd.a and libmkpasswd.so.1
@@ -22,7 +23,7 @@ VERSION := $(shell tools/version)
 FOR_CPU := $(if $(CPU),--cpu $(CPU)) $(if $(filter x86-64-v4,$(CPU)),--backend rattle)
 ARCHIVE ?= mkpasswd-$(VERSION)-$(if $(filter x86-64,$(CPU)),x86_64_v1,$(subst -,_,$(or $(CPU),x86-64)))-linux.tar.gz
 # The scripts take these from the environment, whatever characters they have.
-export DESTDIR PREFIX LIBDIR ARCHIVE
+export DESTDIR PREFIX LIBDIR ARCHIVE RT
 
 .PHONY: all run lib check bench soak install dist clean FORCE
 .DELETE_ON_ERROR:
@@ -74,7 +75,8 @@ check: mkpasswd lib
 	tools/check-manual ./mkpasswd
 	tools/check-parallel ./mkpasswd
 	tools/check-installed $(or $(CPU),x86-64-v2)
-	$(RT) ci
+	tools/gate --selftest
+	tools/gate $(if $(ANEW),--anew)
 
 bench: mkpasswd
 	tools/bench ./mkpasswd
