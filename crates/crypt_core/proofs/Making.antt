@@ -16,7 +16,7 @@ use Rattle.crypt_core.specs.declared.scheme.Scheme.TheVariants.{Md5crypt, Sha256
 use Rattle.crypt_core.specs.declared.setting.fault.MakeFault.{MakeFault}
 use Rattle.crypt_core.specs.declared.setting.fault.MakeFault.TheVariants.{SaltLength, SaltCharacter, Cost}
 use Rattle.crypt_core.specs.Methods.{prefix, salt_limit, md5crypt_salt_limit, shacrypt_salt_limit, scrypt_salt_limit}
-use Rattle.crypt_core.specs.MadeSettings.{made_cost, made_scheme, made_setting, TakesCost, IsMakeable, BreaksMake, IsMakeRefused, make_rule_number, max_cost, default_cost, scrypt_cost}
+use Rattle.crypt_core.specs.MadeSettings.{made_cost, made_scheme, made_setting, TakesCost, IsMakeable, BreaksMake, IsMakeRefused, make_rule_number, max_cost, default_cost, cost_at}
 use Rattle.crypt_core.specs.Private.Costs.{HasCost}
 use Rattle.crypt_core.specs.Settings.{Kept, method_of, IsSettingByte, dollar, BeginsWith, rounds_word, rounds_field, IsRoundsNumber, held, SpellsRounds, scrypt_part, SpellsCost, KeepsSalt, IsSetting, cost_part, canonical_text, min_rounds, max_rounds, default_rounds}
 use Rattle.crypt_core.proofs.Numerals.{all_scrypt_part}
@@ -153,7 +153,7 @@ spelled scheme salt c m short all =
 
 -- What is made
 
-pub accepted_at : (cost : ℕ) → cost ≤ max_cost → HasCost (Scrypt (scrypt_cost cost))
+pub accepted_at : (cost : ℕ) → cost ≤ max_cost → HasCost (Scrypt (cost_at cost))
 accepted_at cost high =
     let log_high : cost + 7 ≤ max_cost + 7 = omega arith in
     let power : 2 ^ (cost + 7) ≤ 2 ^ (max_cost + 7) = pow_mono log_high in (
@@ -169,7 +169,7 @@ pub made_cost_accepted : (cost : ℕ) → TakesCost methods.Scrypt cost → HasC
 made_cost_accepted cost (inl none) = subst (λ (c : ℕ). HasCost (Scrypt (made_cost c))) (sym none) (accepted_at default_cost (omega arith))
 made_cost_accepted cost (inr range) =
     let some : eqb cost 0 ≡ false = ne_eqb cost 0 (λ e. omega arith) in
-    subst (λ (b : Bool). HasCost (Scrypt (scrypt_cost (cond b default_cost cost)))) (sym some) (accepted_at cost (omega arith))
+    subst (λ (b : Bool). HasCost (Scrypt (cost_at (cond b default_cost cost)))) (sym some) (accepted_at cost (omega arith))
 
 rounds_made : (b : Bool) (cost : ℕ) → HasCost (Sha256crypt (cond b (record { count = default_rounds; is_written = false }) (record { count = held cost; is_written = true }))) × IsMade (Sha256crypt (cond b (record { count = default_rounds; is_written = false }) (record { count = held cost; is_written = true })))
 rounds_made true cost = ((omega arith, omega arith), λ e. refl)

@@ -29,12 +29,12 @@ abbrev pub default_cost : ℕ
 default_cost = 7
 
 -- N = 2 ^ (c + 7), r = 32 and p = 1 for cost c
-abbrev pub scrypt_cost : ℕ → ScryptCost
-scrypt_cost c = cost_of (c + 7) 32 1
+abbrev pub cost_at : ℕ → ScryptCost
+cost_at c = cost_of (c + 7) 32 1
 
 -- N, r and p for a cost, or for the default one where it is 0
 abbrev pub made_cost : ℕ → ScryptCost
-made_cost cost = scrypt_cost (if cost == 0 then default_cost else cost)
+made_cost cost = cost_at (if cost == 0 then default_cost else cost)
 
 -- md5crypt has no cost, SHA-crypt a number of rounds, scrypt N, r and p
 abbrev pub made_scheme : Method → ℕ → Scheme
@@ -65,6 +65,7 @@ pub record IsMakeable (method : Method) (cost : ℕ) (salt : List ℕ) : Type 0 
 
 -- Refusals
 
+-- the place of a refusal's rule in their order
 abbrev pub make_rule_number : MakeFault → ℕ
 make_rule_number SaltLength = 1
 make_rule_number SaltCharacter = 2

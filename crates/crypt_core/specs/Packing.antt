@@ -46,6 +46,7 @@ scrypt_groups =
     ∷ (14 ∷ 13 ∷ 12 ∷ []) ∷ (17 ∷ 16 ∷ 15 ∷ []) ∷ (20 ∷ 19 ∷ 18 ∷ []) ∷ (23 ∷ 22 ∷ 21 ∷ [])
     ∷ (26 ∷ 25 ∷ 24 ∷ []) ∷ (29 ∷ 28 ∷ 27 ∷ []) ∷ (31 ∷ 30 ∷ []) ∷ []
 
+-- the groups of a method's digest
 abbrev pub groups_of : Method → List (List ℕ)
 groups_of Md5crypt = md5crypt_groups
 groups_of Sha256crypt = sha256crypt_groups

@@ -9,6 +9,7 @@ use Rattle.crypt_core.specs.declared.setting.fault.SettingFault.TheVariants.{Too
 use Rattle.crypt_core.specs.Methods.{prefix}
 use Rattle.crypt_core.specs.Settings.{setting_limit, IsSettingByte, dollar, IsField, BeginsWith, rounds_word, IsRoundsNumber, scrypt_part, scrypt_part_len, HasNumerals, IsScryptSalt}
 
+-- the place of a refusal's rule in their order
 abbrev pub rule_number : SettingFault → ℕ
 rule_number TooLong = 1
 rule_number BadCharacter = 2

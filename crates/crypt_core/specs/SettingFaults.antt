@@ -7,6 +7,7 @@ use Rattle.crypt_core.specs.declared.setting.fault.SettingFault.TheVariants.{Too
 use Rattle.crypt_core.specs.declared.setting.fault.MakeFault.{MakeFault}
 use Rattle.crypt_core.specs.declared.setting.fault.MakeFault.TheVariants.{SaltLength, SaltCharacter, Cost}
 
+-- why a text is no setting
 abbrev pub setting_fault_text : SettingFault → List ℕ
 setting_fault_text TooLong = codes "setting too long"
 setting_fault_text BadCharacter = codes "bad character"
@@ -17,6 +18,7 @@ setting_fault_text ScryptRange = param_fault_text params.Range
 setting_fault_text AboveCeiling = param_fault_text params.AboveCeiling
 setting_fault_text BadSalt = codes "bad salt"
 
+-- why a setting can't be made
 abbrev pub make_fault_text : MakeFault → List ℕ
 make_fault_text SaltLength = codes "salt length"
 make_fault_text SaltCharacter = codes "salt character"

@@ -15,6 +15,7 @@ pub record Kept : Type 0 where
   pub scheme : Scheme
   pub salt : List ℕ
 
+-- the method that a scheme belongs to
 abbrev pub method_of : Scheme → Method
 method_of Md5crypt = methods.Md5crypt
 method_of (Sha256crypt rounds) = methods.Sha256crypt
@@ -52,11 +53,13 @@ pub record IsField (field rest : List ℕ) : Type 0 where
   pub no_dollar : All (λ b. b ≢ dollar) field
   pub ended : IsEndOfField rest
 
+-- the front, and whatever comes behind it
 abbrev pub BeginsWith : List ℕ → List ℕ → Type 0
 BeginsWith text front = (rest : List ℕ) × (text ≡ front ++ rest)
 
 -- The cost part of SHA-crypt's texts (Drepper, "Unix crypt using SHA-256 and SHA-512")
 
+-- what SHA-crypt's field begins with
 abbrev pub rounds_word : List ℕ
 rounds_word = codes "rounds="
 
@@ -79,6 +82,7 @@ default_rounds = 5000
 abbrev pub held : ℕ → ℕ
 held n = max min_rounds (min n max_rounds)
 
+-- the word, the digits of the number, and a `$`
 abbrev pub rounds_field : List ℕ → List ℕ
 rounds_field digits = rounds_word ++ (digits ++ dollar ∷ [])
 
@@ -104,7 +108,7 @@ pub record HasNumerals (cost : ScryptCost) : Type 0 where
   pub r : cost.r < 2 ^ 30
   pub p : cost.p < 2 ^ 30
 
--- The texts, row by row: a prefix, a cost part, the field of the salt, and a rest that isn't read
+-- The texts, row by row: a prefix, a cost part, the field of the salt, and a rest that means nothing
 
 -- the cost part, in front of what comes after it
 abbrev pub SpellsCost : Scheme → List ℕ → List ℕ → Type 0
@@ -144,6 +148,7 @@ IsSetting kept = (text : List ℕ) × Spells text kept
 
 -- The canonical text
 
+-- the cost as it is held; rounds that the text didn't have are left out
 abbrev pub cost_part : Scheme → List ℕ
 cost_part Md5crypt = []
 cost_part (Sha256crypt rounds) = if rounds.is_written then rounds_field (decimal rounds.count) else []

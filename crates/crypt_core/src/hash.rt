@@ -39,13 +39,13 @@ pub struct Hashed {
 
 impl Model for Hashed {
     ghost use Rattle.std.specs.Prelude.{ℕ, List, length, ◌≤◌};
-    ghost use Rattle.crypt_core.specs.declared.hash.TheConstants.{HASH_LIMIT};
+    ghost use Rattle.crypt_core.specs.Crypt.{hash_limit};
 
     ghost Value = { List ℕ };
 
     ghost view = { λ h. h.text.items };
 
-    ghost invariant = { λ h. length h.text.items ≤ HASH_LIMIT };
+    ghost invariant = { λ h. length h.text.items ≤ hash_limit };
 }
 
 impl Hashed {

@@ -1,7 +1,7 @@
 //! The scheme md5crypt of FreeBSD. Its definition speaks of 1,002 whole messages; here they go into
 //! running digests piece by piece, so that no message is built whole and nothing is allocated. What
 //! stands beside the digests in the rounds is joined once, in a buffer of fixed capacity.
-ghost use Rattle.std.specs.Prelude.{◌≡◌, ◌+◌, ◌*◌, ◌<◌, ◌≤◌, length};
+ghost use Rattle.std.specs.Prelude.{◌≡◌, ◌+◌, ◌<◌, ◌≤◌, length};
 ghost use Rattle.prims_core.specs.Digests.{md5};
 ghost use Rattle.prims_core.specs.Meter.{with_work, HaveCountAndSum, HasDigestRoom};
 ghost use Rattle.crypt_core.specs.declared.method.Method.TheVariants.{Md5crypt};

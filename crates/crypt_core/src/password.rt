@@ -10,7 +10,7 @@ use thiserror::Error;
 pub const PASSWORD_LIMIT: usize = 1024;
 
 /// Why bytes are no password.
-#[derive(Clone, Copy, Debug, PartialEq, Eq, Error)]
+#[derive(Clone, Copy, Debug, PartialEq, Eq, Drop, Error)]
 pub enum PasswordFault {
     /// More than [`PASSWORD_LIMIT`] bytes.
     #[error("{}", self.text())]

@@ -15,10 +15,12 @@ const MIN_ROUNDS: u64 = 1000;
 /// The rounds of SHA-crypt that a text without a field for them has.
 const DEFAULT_ROUNDS: u32 = 5000;
 
-/// The rounds of SHA-crypt, and whether the text has a field for them.
+/// The rounds of SHA-crypt.
 #[derive(Clone, Copy, Debug, PartialEq, Eq)]
 pub struct Rounds {
+    /// How many they are, from 1000 to 999999999.
     pub count: u32,
+    /// Whether a text has its field `rounds=`.
     pub is_written: bool,
 }
 
@@ -47,9 +49,13 @@ impl Rounds {
 /// A method with its cost.
 #[derive(Clone, Copy, Debug, PartialEq, Eq)]
 pub enum Scheme {
+    /// It has but one cost.
     Md5crypt,
+    /// Its rounds.
     Sha256crypt(Rounds),
+    /// Its rounds.
     Sha512crypt(Rounds),
+    /// scrypt's N, r and p.
     Scrypt(Params),
 }
 

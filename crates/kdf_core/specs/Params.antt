@@ -7,6 +7,7 @@ pub record ScryptCost : Type 0 where
   pub r : ℕ
   pub p : ℕ
 
+-- the three numbers as one cost
 abbrev pub cost_of : ℕ → ℕ → ℕ → ScryptCost
 cost_of log_n r p = record { log_n = log_n; r = r; p = p }
 
@@ -30,6 +31,7 @@ ceiling = 8388608
 abbrev pub product : ScryptCost → ℕ
 product cost = row_count cost * cost.r * cost.p
 
+-- the product doesn't pass the ceiling
 abbrev pub IsWithinCeiling : ScryptCost → Type 0
 IsWithinCeiling cost = product cost ≤ ceiling
 

@@ -44,5 +44,6 @@ block_bytes salt_length rounds = tag_bytes (salt_length + 4) + tag_bytes sha256_
 abbrev pub pbkdf2_digests : ℕ → ℕ → ℕ
 pbkdf2_digests rounds count = 2 * rounds * div_ceil count sha256_length
 
+-- the bytes that these digest: each block's
 abbrev pub pbkdf2_bytes : ℕ → ℕ → ℕ → ℕ
 pbkdf2_bytes salt_length rounds count = div_ceil count sha256_length * block_bytes salt_length rounds

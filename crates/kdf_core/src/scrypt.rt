@@ -5,7 +5,7 @@
 
 ghost use Rattle.std.specs.Prelude.{◌≡◌, ℕ, ◌+◌, ◌-◌, ◌*◌, ◌/◌, ◌^◌, ◌%◌, ◌<◌, ◌≤◌, List, length, OnOk, OnErr};
 ghost use Rattle.std.specs.Fn.{iterate};
-ghost use Rattle.prims_core.specs.BlockMix.{block_mix as mixed};
+ghost use Rattle.prims_core.specs.BlockMix.{block_mix};
 ghost use Rattle.prims_core.specs.Meter.{HaveCountAndSum, HasRoom};
 ghost use Rattle.kdf_core.specs.Params.{IsBounded};
 ghost use Rattle.kdf_core.specs.Private.Mixing.{HasShape, HoldsMixings, AreHalves, IsPower, part_words};
@@ -138,7 +138,7 @@ fn fill_table(table: &mut Table, rows: usize, x: &mut [u32], meter: &mut Meter)
     requires room { meter.old.mixes + rows < 2 ^ 128 }
     ensures shape { HasShape table.new rows (length x.old) }
     ensures rows { HoldsMixings table.new rows x.old }
-    ensures mixed { x.new ≡ iterate mixed rows x.old }
+    ensures mixed { x.new ≡ iterate block_mix rows x.old }
     ensures count { meter.new ≡ record meter.old { mixes = meter.old.mixes + rows } }
 {
     table.set_row(0, x);

@@ -12,8 +12,8 @@ use prims_core::work::Work;
 
 /// What a meter counts of scrypt (RFC 7914, section 6), for a password, a salt and a result of so many bytes.
 ///
-/// Each of the three is at most 2^32, since the bytes that scrypt digests for longer ones may not fit the 64 bits of
-/// a count. Nothing is derived for it and no memory is taken.
+/// Each of the three is at most 2^32, for which the bytes that scrypt digests stay far below the 64 bits of a count.
+/// Nothing is derived for it and no memory is taken.
 pub fn scrypt_work(params: &Params, password_len: u64, salt_len: u64, out_len: u64) -> Work
     requires password { password_len ≤ 2 ^ 32 }
     requires salt { salt_len ≤ 2 ^ 32 }

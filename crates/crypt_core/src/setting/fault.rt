@@ -18,7 +18,8 @@ pub enum SettingFault {
     /// None of `$1$`, `$5$`, `$6$` and `$7$` stands at the front.
     #[error("{}", self.text())]
     UnknownScheme,
-    /// `rounds=` stands after SHA-crypt's prefix, but no proper field.
+    /// `rounds=` stands after SHA-crypt's prefix, but not followed by a number, which begins with one of 1 to 9, and a
+    /// `$`.
     #[error("{}", self.text())]
     BadRounds,
     /// Fewer characters of crypt's alphabet follow scrypt's prefix than its cost part has: 11.
@@ -30,7 +31,8 @@ pub enum SettingFault {
     /// The product of N, r and p is above 8388608.
     #[error("{}", self.text())]
     AboveCeiling,
-    /// scrypt's salt has more bytes than it keeps, or one outside crypt's alphabet.
+    /// scrypt's salt has more than [`SCRYPT_SALT_LIMIT`](crate::method::SCRYPT_SALT_LIMIT) bytes, or one outside
+    /// crypt's alphabet.
     #[error("{}", self.text())]
     BadSalt,
 }

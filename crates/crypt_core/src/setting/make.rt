@@ -1,8 +1,8 @@
 //! Making a setting of a method, a cost and a salt.
 
-ghost use Rattle.std.specs.Prelude.{◌≡◌, ◌+◌, ◌≤◌, ◌↔◌, IsTrue, IsOk, IfOk, IfErr, OnOk};
+ghost use Rattle.std.specs.Prelude.{◌≡◌, ◌≤◌, ◌↔◌, IsTrue, IsOk, IfOk, IfErr, OnOk};
 ghost use Rattle.crypt_core.specs.declared.setting.fault.MakeFault.{MakeFault as Fault};
-ghost use Rattle.crypt_core.specs.MadeSettings.{max_cost, min_cost, scrypt_cost, TakesCost, IsMakeable, IsMakeRefused, made_scheme, made_setting, made_rounds, with_made_salt};
+ghost use Rattle.crypt_core.specs.MadeSettings.{cost_at, max_cost, min_cost, TakesCost, IsMakeable, IsMakeRefused, made_scheme, made_setting, made_rounds, with_made_salt};
 
 use super::Setting;
 use super::fault::MakeFault;
@@ -56,7 +56,8 @@ impl Setting {
         })
     }
 
-    /// The setting of a method with a cost and a new salt, which three random words make. Only `Cost` can come.
+    /// The setting of a method with a cost and a new salt, which three random words make, as long as
+    /// [`made_salt_length`] says. Only `Cost` can come.
     pub fn with_made_salt(method: Method, cost: u32, words: [u64; 3]) -> Result<Setting, MakeFault>
         ensures made { IfOk result (λ setting. setting ≡ with_made_salt method cost words) }
         ensures accepted { IsOk result ↔ TakesCost method cost }
@@ -112,7 +113,7 @@ fn scheme_of(method: Method, cost: u32) -> Scheme
 fn params_of(cost: u32) -> Params
     requires from { min_cost ≤ cost }
     requires to { cost ≤ max_cost }
-    ensures { result ≡ scrypt_cost cost }
+    ensures { result ≡ cost_at cost }
 {
     Params::new((cost + LOG_ABOVE_COST) as u8, BLOCK_SIZE, PARTS).unwrap()
 }

@@ -6,7 +6,7 @@
 ghost use Rattle.std.specs.Prelude.{◌≡◌, ◌≤◌, ◌↔◌, length, ◌++◌, ◌==◌, min, position, IsTrue, IfOk, IfErr, OnOk, OnSome, IfSome, IfNone, MatchOption};
 ghost use Rattle.std.specs.Str.Parse.{digits_value};
 ghost use Rattle.kdf_core.specs.Params.{cost_of, IsAccepted};
-ghost use Rattle.crypt_core.specs.declared.setting.fault.SettingFault.{SettingFault as Fault};
+ghost use Rattle.crypt_core.specs.declared.setting.fault.SettingFault.{SettingFault as Refusal};
 ghost use Rattle.crypt_core.specs.Methods.{prefix};
 ghost use Rattle.crypt_core.specs.Private.Parts.{AllRefused, HasField, HasNumber, HasNumbers, HasRounds, HasSalt, LacksSalt};
 ghost use Rattle.crypt_core.specs.Readings.{IsReadOneWay};
@@ -26,13 +26,14 @@ use prims_core::buffer::buffer_of;
 impl Setting {
     /// Reads what a text asks for, or answers the first fault, in the order of `SettingFault`.
     ///
-    /// What stands after the salt's `$` is not read, so a stored text is the setting of its hash.
+    /// What stands after the salt's `$` has to keep the rules on length and bytes and means nothing else, so a stored
+    /// text is the setting of its hash.
     pub fn read(text: &[u8]) -> Result<Setting, SettingFault>
         ensures spelled { IfOk result (Spells text.now) }
         ensures each_setting { (kept : Kept) → Spells text.now kept → result ≡ Ok kept }
 
         ensures refused { IfErr result (IsRefused text.now) }
-        ensures each_refusal { (fault : Fault) → IsRefused text.now fault → result ≡ Err fault }
+        ensures each_refusal { (fault : Refusal) → IsRefused text.now fault → result ≡ Err fault }
 
         ensures one_reading { IsReadOneWay text.now }
     {
