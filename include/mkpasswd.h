@@ -12,14 +12,17 @@
  * bytes to read.
  *
  * Nothing is wiped: a call may leave copies of the password, and of what it computed from it, on the stack that it used
- * and in heap memory that it has freed.
+ * and in heap memory that it has freed. Nor is anything hidden from a clock: a hash and a comparison take the time that
+ * they take, and scrypt reads its table at places that depend on the password.
  *
  * What the caller has to hold:
  * - each pointer is valid for its number of bytes, and not null, also where that number is 0. C++ meets this where an
  *   empty std::vector, std::span or std::string_view answers null for data(): hand in the address of any byte then, as
- *   in v.empty() ? reinterpret_cast<const uint8_t *>("") : v.data();
+ *   in reinterpret_cast<const uint8_t *>(v.empty() ? "" : reinterpret_cast<const char *>(v.data()));
  * - what a call writes to overlaps nothing else that is handed to it;
- * - malloc, realloc and free are the C library's, or all three of another allocator that is as good;
+ * - while a call runs nothing else writes to what it reads, and nothing else reads or writes what it writes to;
+ * - malloc, realloc and free come from one allocator, which aligns a block to each power of two up to 16 that divides its
+ *   size, as the C library's does;
  * - no call is made from a signal handler, nor in the child that a process with threads has forked, before it runs
  *   another program;
  * - a call has 64 KiB of stack; it takes some 20 KiB. */
