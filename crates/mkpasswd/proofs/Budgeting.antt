@@ -39,12 +39,12 @@ answer-without kind job number line stream answer cheap (over costly is) = absur
 answer-without kind job number line stream answer cheap (hashed parts taken lacks within is) = hashed parts taken lacks (free kind job line stream) is
 answer-without kind job number line stream answer cheap (none parts taken empty is) = none parts taken empty is
 answer-without kind job number line stream answer cheap (locked parts field taken has is_locked is) = locked parts field taken has is_locked is
-answer-without kind job number line stream answer cheap (ok parts field kept taken has spells within same recent is) =
-    ok parts field kept taken has spells (free kind job line stream) same recent is
-answer-without kind job number line stream answer cheap (rehashed parts field kept taken has spells within same outdated is) =
-    rehashed parts field kept taken has spells (free kind job line stream) same outdated is
-answer-without kind job number line stream answer cheap (no parts field kept taken has spells within differs is) =
-    no parts field kept taken has spells (free kind job line stream) differs is
+answer-without kind job number line stream answer cheap (ok parts field kept stored within same recent is) =
+    ok parts field kept stored (free kind job line stream) same recent is
+answer-without kind job number line stream answer cheap (rehashed parts field kept stored within same outdated is) =
+    rehashed parts field kept stored (free kind job line stream) same outdated is
+answer-without kind job number line stream answer cheap (no parts field kept stored within differs is) =
+    no parts field kept stored (free kind job line stream) differs is
 
 -- and the other way round
 answer-within : (kind : Kind) (job : Job) (number : ℕ) (line : List ℕ) (stream : Stream) (answer : Answer) → ¬ IsCostly kind job line stream
@@ -54,11 +54,11 @@ answer-within kind job number line stream answer cheap (over costly is) = absurd
 answer-within kind job number line stream answer cheap (hashed parts taken lacks within is) = hashed parts taken lacks cheap is
 answer-within kind job number line stream answer cheap (none parts taken empty is) = none parts taken empty is
 answer-within kind job number line stream answer cheap (locked parts field taken has is_locked is) = locked parts field taken has is_locked is
-answer-within kind job number line stream answer cheap (ok parts field kept taken has spells within same recent is) =
-    ok parts field kept taken has spells cheap same recent is
-answer-within kind job number line stream answer cheap (rehashed parts field kept taken has spells within same outdated is) =
-    rehashed parts field kept taken has spells cheap same outdated is
-answer-within kind job number line stream answer cheap (no parts field kept taken has spells within differs is) = no parts field kept taken has spells cheap differs is
+answer-within kind job number line stream answer cheap (ok parts field kept stored within same recent is) =
+    ok parts field kept stored cheap same recent is
+answer-within kind job number line stream answer cheap (rehashed parts field kept stored within same outdated is) =
+    rehashed parts field kept stored cheap same outdated is
+answer-within kind job number line stream answer cheap (no parts field kept stored within differs is) = no parts field kept stored cheap differs is
 
 -- a text that spells a setting begins with a `$`
 first_of_prefix : (method : Method) (rest : List ℕ) → slice_index (prefix method ++ rest) 0 ≡ 36
@@ -107,9 +107,9 @@ costly-refused kind job number line stream answer costly (none parts taken empty
     absurd (unstored-cheap kind job line stream parts [] taken.cut empty (λ stored. stored.some refl) costly)
 costly-refused kind job number line stream answer costly (locked parts field taken has is_locked is) =
     absurd (unstored-cheap kind job line stream parts field taken.cut has (λ stored. stored.unlocked is_locked) costly)
-costly-refused kind job number line stream answer costly (ok parts field kept taken has spells cheap same recent is) = absurd (cheap costly)
-costly-refused kind job number line stream answer costly (rehashed parts field kept taken has spells cheap same outdated is) = absurd (cheap costly)
-costly-refused kind job number line stream answer costly (no parts field kept taken has spells cheap differs is) = absurd (cheap costly)
+costly-refused kind job number line stream answer costly (ok parts field kept stored cheap same recent is) = absurd (cheap costly)
+costly-refused kind job number line stream answer costly (rehashed parts field kept stored cheap same outdated is) = absurd (cheap costly)
+costly-refused kind job number line stream answer costly (no parts field kept stored cheap differs is) = absurd (cheap costly)
 
 pub only_refuses : (kind : Kind) (job : Job) → OnlyRefuses kind job
 only_refuses kind job = record {

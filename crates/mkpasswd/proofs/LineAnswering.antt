@@ -33,9 +33,9 @@ lines-of_answer kind job number line stream answer (over costly is) = ap (λ a. 
 lines-of_answer kind job number line stream answer (hashed parts taken no_field within is) = ap (λ a. a.tally.lines) is
 lines-of_answer kind job number line stream answer (none parts taken empty is) = ap (λ a. a.tally.lines) is
 lines-of_answer kind job number line stream answer (locked parts field taken has is_locked is) = ap (λ a. a.tally.lines) is
-lines-of_answer kind job number line stream answer (ok parts field kept taken has spells within same recent is) = ap (λ a. a.tally.lines) is
-lines-of_answer kind job number line stream answer (rehashed parts field kept taken has spells within same outdated is) = ap (λ a. a.tally.lines) is
-lines-of_answer kind job number line stream answer (no parts field kept taken has spells within differs is) = ap (λ a. a.tally.lines) is
+lines-of_answer kind job number line stream answer (ok parts field kept stored within same recent is) = ap (λ a. a.tally.lines) is
+lines-of_answer kind job number line stream answer (rehashed parts field kept stored within same outdated is) = ap (λ a. a.tally.lines) is
+lines-of_answer kind job number line stream answer (no parts field kept stored within differs is) = ap (λ a. a.tally.lines) is
 
 -- the tally counts each line
 pub lines-of_answers : (kind : Kind) (job : Job) (number : ℕ) (lines : List (List ℕ)) (stream : Stream) (answers : Answer)

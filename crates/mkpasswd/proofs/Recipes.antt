@@ -8,7 +8,7 @@ use Rattle.crypt_core.specs.declared.method.Method.{Method}
 use Rattle.crypt_core.specs.declared.method.Method.TheVariants.{Md5crypt, Sha256crypt, Sha512crypt, Scrypt}
 use Rattle.crypt_core.specs.declared.setting.fault.MakeFault.{MakeFault}
 use Rattle.crypt_core.specs.declared.setting.fault.MakeFault.TheVariants.{SaltLength, SaltCharacter, Cost}
-use Rattle.mkpasswd.specs.Makers.{IsAccepted, IsRefused, bytes_of}
+use Rattle.mkpasswd.specs.Makers.{IsRecipe, IsRecipeRefused, bytes_of}
 
 -- ---- the salt `.`
 
@@ -43,17 +43,17 @@ pub tried_bytes : (salt : Option (Bor (List ℕ))) (other : Bor (List ℕ)) → 
 tried_bytes None other is = is
 tried_bytes (Some salt) other is = refl
 
-pub accepted_is_makeable : (m : Method) (cost : ℕ) (salt : Option (List ℕ)) → IsAccepted m cost salt → IsMakeable m cost (tried salt)
+pub accepted_is_makeable : (m : Method) (cost : ℕ) (salt : Option (List ℕ)) → IsRecipe m cost salt → IsMakeable m cost (tried salt)
 accepted_is_makeable m cost None taken = dot_is_makeable m cost taken
 accepted_is_makeable m cost (Some salt) makeable = makeable
 
-pub refused_is_refused : (m : Method) (cost : ℕ) (salt : Option (List ℕ)) (f : MakeFault) → IsMakeRefused m cost (tried salt) f → IsRefused m cost salt f
+pub refused_is_refused : (m : Method) (cost : ℕ) (salt : Option (List ℕ)) (f : MakeFault) → IsMakeRefused m cost (tried salt) f → IsRecipeRefused m cost salt f
 refused_is_refused m cost None f refused =
     let is = dot_breaks_only_cost m cost f refused.breaks in
     (is, subst (λ (g : MakeFault). BreaksMake g m cost dot) is refused.breaks)
 refused_is_refused m cost (Some salt) f refused = refused
 
-pub refused_in_make : (m : Method) (cost : ℕ) (salt : Option (List ℕ)) (f : MakeFault) → IsRefused m cost salt f → IsMakeRefused m cost (tried salt) f
+pub refused_in_make : (m : Method) (cost : ℕ) (salt : Option (List ℕ)) (f : MakeFault) → IsRecipeRefused m cost salt f → IsMakeRefused m cost (tried salt) f
 refused_in_make m cost None f refused = subst (λ (g : MakeFault). IsMakeRefused m cost dot g) (sym refused.0) (record {
   breaks = refused.1;
   first = λ earlier below bad. let is = ap make_rule_number (dot_breaks_only_cost m cost earlier bad) in absurd (omega arith);

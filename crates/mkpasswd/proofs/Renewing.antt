@@ -6,7 +6,7 @@ use Rattle.crypt_core.specs.Crypt.{crypt}
 use Rattle.crypt_core.specs.Settings.{Kept, Spells}
 use Rattle.mkpasswd.specs.Answers.{Answer}
 use Rattle.mkpasswd.specs.Budgets.{IsAbove}
-use Rattle.mkpasswd.specs.LineAnswers.{HasSoundParts, IsAnswer, IsCostly}
+use Rattle.mkpasswd.specs.LineAnswers.{HasSetting, IsAnswer, IsCostly}
 use Rattle.mkpasswd.specs.LineAnswers.IsAnswer.{refused, over, hashed, none, locked, ok, rehashed, no}
 use Rattle.mkpasswd.specs.LineOptions.{IsRenewable, OnlyRenews, RenewsNone}
 use Rattle.mkpasswd.specs.Lines.{Parts}
@@ -41,12 +41,12 @@ module _ (kind : Kind) (job : Job) (line : List ℕ) (stream : Stream) where
 
   module _ (still : ¬ IsRenewable kind job line stream) where
     -- where the password fits, or the line is costly, no setting of the field is out of date
-    recent : (parts : Parts) (field : List ℕ) (kept : Kept) → HasSoundParts kind line parts → parts.field ≡ Some field → Spells field kept
+    recent : (parts : Parts) (field : List ℕ) (kept : Kept) → HasSetting kind line parts field kept
         → (crypt parts.password kept ≡ field) ⊎ IsCostly kind job line stream → is_outdated job kept ≡ false
-    recent parts field kept taken has spells why = go (is_outdated job kept) refl
+    recent parts field kept stored why = go (is_outdated job kept) refl
       where
         go : (outdated : Bool) → is_outdated job kept ≡ outdated → is_outdated job kept ≡ false
-        go true is = absurd (still (record { parts = parts; field = field; kept = kept; taken = taken; has = has; spells = spells; outdated = is; fits_or_costly = why }))
+        go true is = absurd (still (record { parts = parts; field = field; kept = kept; stored = stored; outdated = is; fits_or_costly = why }))
         go false is = is
 
     -- so it costs the same
@@ -62,7 +62,7 @@ module _ (kind : Kind) (job : Job) (line : List ℕ) (stream : Stream) where
       cost = elim costly.cost [
         | inl made ↦ inl made
         | inr (field, kept, has, spells, is) ↦
-            inr (field, kept, has, spells, is ∙ same_check_cost kept _ (recent costly.parts field kept costly.taken has spells (inr costly)))
+            inr (field, kept, has, spells, is ∙ same_check_cost kept _ (recent costly.parts field kept (record { taken = costly.taken; has = has; spells = spells }) (inr costly)))
       ];
       above = costly.above;
     }
@@ -73,12 +73,12 @@ module _ (kind : Kind) (job : Job) (line : List ℕ) (stream : Stream) where
     answer-without number answer (hashed parts taken lacks cheap is) = hashed parts taken lacks (λ costly. cheap (costly-with costly)) is
     answer-without number answer (none parts taken empty is) = none parts taken empty is
     answer-without number answer (locked parts field taken has is_locked is) = locked parts field taken has is_locked is
-    answer-without number answer (ok parts field kept taken has spells cheap same new is) =
-        ok parts field kept taken has spells (λ costly. cheap (costly-with costly)) same refl is
-    answer-without number answer (rehashed parts field kept taken has spells cheap same outdated is) =
-        absurd (true≢false (sym outdated ∙ recent parts field kept taken has spells (inl same)))
-    answer-without number answer (no parts field kept taken has spells cheap differs is) =
-        no parts field kept taken has spells (λ costly. cheap (costly-with costly)) differs is
+    answer-without number answer (ok parts field kept stored cheap same new is) =
+        ok parts field kept stored (λ costly. cheap (costly-with costly)) same refl is
+    answer-without number answer (rehashed parts field kept stored cheap same outdated is) =
+        absurd (true≢false (sym outdated ∙ recent parts field kept stored (inl same)))
+    answer-without number answer (no parts field kept stored cheap differs is) =
+        no parts field kept stored (λ costly. cheap (costly-with costly)) differs is
 
     answer-with : (number : ℕ) (answer : Answer) → IsAnswer kind (without_rehash job) number line stream answer → IsAnswer kind job number line stream answer
     answer-with number answer (refused fault breaks is) = refused fault breaks is
@@ -86,11 +86,11 @@ module _ (kind : Kind) (job : Job) (line : List ℕ) (stream : Stream) where
     answer-with number answer (hashed parts taken lacks cheap is) = hashed parts taken lacks (λ costly. cheap (costly-without costly)) is
     answer-with number answer (none parts taken empty is) = none parts taken empty is
     answer-with number answer (locked parts field taken has is_locked is) = locked parts field taken has is_locked is
-    answer-with number answer (ok parts field kept taken has spells cheap same new is) =
-        ok parts field kept taken has spells (λ costly. cheap (costly-without costly)) same (recent parts field kept taken has spells (inl same)) is
-    answer-with number answer (rehashed parts field kept taken has spells cheap same outdated is) = cc
-    answer-with number answer (no parts field kept taken has spells cheap differs is) =
-        no parts field kept taken has spells (λ costly. cheap (costly-without costly)) differs is
+    answer-with number answer (ok parts field kept stored cheap same new is) =
+        ok parts field kept stored (λ costly. cheap (costly-without costly)) same (recent parts field kept stored (inl same)) is
+    answer-with number answer (rehashed parts field kept stored cheap same outdated is) = cc
+    answer-with number answer (no parts field kept stored cheap differs is) =
+        no parts field kept stored (λ costly. cheap (costly-without costly)) differs is
 
 pub only_renews : (kind : Kind) (job : Job) → OnlyRenews kind job
 only_renews kind job number line stream answer still =
@@ -98,7 +98,7 @@ only_renews kind job number line stream answer still =
 
 -- a line of a batch has no field
 batch-still : (job : Job) (line : List ℕ) (stream : Stream) → ¬ IsRenewable Batch job line stream
-batch-still job line stream renewable = none-some renewable.field (sym renewable.taken.cut.1 ∙ renewable.has)
+batch-still job line stream renewable = none-some renewable.field (sym renewable.stored.taken.cut.1 ∙ renewable.stored.has)
 
 pub batch_renews_none : (job : Job) → RenewsNone Batch job
 batch_renews_none job number line stream answer = only_renews Batch job number line stream answer (batch-still job line stream)

@@ -90,7 +90,7 @@ module _ {O E : Type 0} (contents : O → Option (List ℕ)) (fault_contents : E
       (text : List ℕ) × (result : Result Tally RunFault) × Shows fault_contents turns faults new_faults text result
       × (new_out ≡ out) × (status ≡ 2)
 
-  -- by the status of `clap`'s error
+  -- by the status of `clap`'s error, which is 0 for help and the version alone
   abbrev pub ShowsError : ℕ → ℕ → Device O → Device E → Device O → Device E → ℕ → Type 0
   ShowsError zero = ShowsHelp
   ShowsError (suc n) = ShowsMistake
@@ -114,7 +114,8 @@ module _ {I O E : Type 0} where
   Ends tells turns (Check job) old new result =
       EndsLines tells turns kinds.Check job old new result × IsWithinTurns turns old new
 
-  -- There is a state in between, in which the run has ended. A plan that lacks its generator is not run.
+  -- There is a state in between, in which the run has ended. A plan that lacks its generator, which the first argument
+  -- says, is not run.
   abbrev pub RunsPlan : Bool → Tells I O E → ℕ → Plan → Hands I O E → Hands I O E → ℕ → Type 0
   RunsPlan true tells turns plan = InOutputs (TellsFault tells.contents tells.fault_contents Start)
   RunsPlan false tells turns plan = λ old new status.

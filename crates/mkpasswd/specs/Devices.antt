@@ -44,19 +44,19 @@ abbrev pub turns_limit : ℕ
 turns_limit = 2 ^ 40
 
 -- the numbers of a device leave room for any run
-abbrev pub HasRoomForRun : {T : Type 0} → Device T → Type 0
-HasRoomForRun d = (d.failures ≤ 2 ^ 62) × (d.calls ≤ 2 ^ 62) × (d.bytes ≤ 2 ^ 62) × (d.flushes ≤ 2 ^ 62)
+abbrev pub HasRoomBeforeRun : {T : Type 0} → Device T → Type 0
+HasRoomBeforeRun d = (d.failures ≤ 2 ^ 62) × (d.calls ≤ 2 ^ 62) × (d.bytes ≤ 2 ^ 62) × (d.flushes ≤ 2 ^ 62)
 
 -- and so do those of all three
-abbrev pub HaveRoomForRun : {I O E : Type 0} → Device I → Device O → Device E → Type 0
-HaveRoomForRun input out faults = HasRoomForRun input × HasRoomForRun out × HasRoomForRun faults
+abbrev pub HaveRoomBeforeRun : {I O E : Type 0} → Device I → Device O → Device E → Type 0
+HaveRoomBeforeRun input out faults = HasRoomBeforeRun input × HasRoomBeforeRun out × HasRoomBeforeRun faults
 
 -- the most calls that two outputs can count in a run: those that both had before, and the turns
 abbrev pub calls_limit : ℕ
 calls_limit = 2 ^ 63 + turns_limit
 
 -- the numbers of a device leave room for the rest of a run, and for one more text behind it
-pub record HasRoomInRun {T : Type 0} (device : Device T) : Type 0 where
+pub record HasRoomWithinRun {T : Type 0} (device : Device T) : Type 0 where
   pub failures : device.failures ≤ 2 ^ 63
   pub calls : device.calls ≤ calls_limit
   pub bytes : device.bytes ≤ 2 ^ 63

@@ -38,8 +38,8 @@ usage_text TwoModes = codes "two modes"
 usage_text (Make fault) = make_fault_text fault
 usage_text OutOfMemory = hash_fault_text HashOutOfMemory
 
--- the exit status after a run that was cut short: 2 where the password is refused, 3 where the machine
--- refused
+-- the exit status after a run that ended with a fault: 2 where the password is refused, 3 where the machine refused or
+-- the turns ran out
 abbrev pub run_status : RunFault → ℕ
 run_status Read = 3
 run_status Write = 3
@@ -47,7 +47,7 @@ run_status NoMemory = 3
 run_status Turns = 3
 run_status (Password fault) = 2
 
--- what cut a run short
+-- what a run ended with
 abbrev pub run_text : RunFault → List ℕ
 run_text Read = codes "read fault"
 run_text Write = codes "write fault"
@@ -56,7 +56,7 @@ run_text Turns = codes "too many turns"
 run_text (Password fault) = password_fault_text fault
 
 -- the exit status after any fault: 0 where the words ask for help or the version, 2 where they or the password are
--- wrong, 3 where the machine refused
+-- wrong, 3 where the machine refused or the turns ran out
 abbrev pub fault_status : Fault → ℕ
 fault_status Start = 3
 fault_status (Usage fault) = usage_status fault

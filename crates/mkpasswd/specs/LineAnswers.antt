@@ -67,6 +67,12 @@ pub record HasSoundParts (kind : Kind) (line : List ℕ) (parts : Parts) : Type 
   pub sound : IsSound kind line
   pub cut : HasParts kind line parts
 
+-- the same, with a field that spells a setting
+pub record HasSetting (kind : Kind) (line : List ℕ) (parts : Parts) (field : List ℕ) (kept : Kept) : Type 0 where
+  pub taken : HasSoundParts kind line parts
+  pub has : parts.field ≡ Some field
+  pub spells : Spells field kept
+
 -- what these parts cost at most: the hash of the password by the setting that the job makes, where there is no
 -- field, or the check by the setting that the field spells
 abbrev pub HasCost : Job → Parts → Stream → ℕ → Type 0
@@ -104,17 +110,17 @@ pub data IsAnswer (kind : Kind) (job : Job) (number : ℕ) (line : List ℕ) (st
   locked : (parts : Parts) → (field : List ℕ) → HasSoundParts kind line parts → parts.field ≡ Some field → IsLocked field
       → answer ≡ unhashed_answer job parts.name (codes "locked") stream
       → IsAnswer kind job number line stream answer
-  ok : (parts : Parts) → (field : List ℕ) → (kept : Kept) → HasSoundParts kind line parts → parts.field ≡ Some field → Spells field kept
+  ok : (parts : Parts) → (field : List ℕ) → (kept : Kept) → HasSetting kind line parts field kept
       → ¬ IsCostly kind job line stream
       → crypt parts.password kept ≡ field → is_outdated job kept ≡ false
       → answer ≡ compared_answer job parts.name (codes "ok") parts.password kept one_line stream
       → IsAnswer kind job number line stream answer
-  rehashed : (parts : Parts) → (field : List ℕ) → (kept : Kept) → HasSoundParts kind line parts → parts.field ≡ Some field → Spells field kept
+  rehashed : (parts : Parts) → (field : List ℕ) → (kept : Kept) → HasSetting kind line parts field kept
       → ¬ IsCostly kind job line stream
       → crypt parts.password kept ≡ field → is_outdated job kept ≡ true
       → answer ≡ rehashed_answer job parts.name parts.password kept stream
       → IsAnswer kind job number line stream answer
-  no : (parts : Parts) → (field : List ℕ) → (kept : Kept) → HasSoundParts kind line parts → parts.field ≡ Some field → Spells field kept
+  no : (parts : Parts) → (field : List ℕ) → (kept : Kept) → HasSetting kind line parts field kept
       → ¬ IsCostly kind job line stream
       → crypt parts.password kept ≢ field
       → answer ≡ compared_answer job parts.name (codes "no") parts.password kept misfit_line stream

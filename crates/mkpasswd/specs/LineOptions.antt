@@ -2,10 +2,10 @@
 use Rattle.std.specs.Prelude.{◌≡◌, ℕ, ◌⊎◌, ◌↔◌, List, true, Some}
 use Rattle.rand_core.specs.Stream.{Stream}
 use Rattle.crypt_core.specs.Crypt.{crypt}
-use Rattle.crypt_core.specs.Settings.{Kept, Spells}
+use Rattle.crypt_core.specs.Settings.{Kept}
 use Rattle.mkpasswd.specs.Answers.{Answer}
 use Rattle.mkpasswd.specs.Budgets.{without_budget}
-use Rattle.mkpasswd.specs.LineAnswers.{HasSoundParts, IsAnswer, IsCostly, refused_answer}
+use Rattle.mkpasswd.specs.LineAnswers.{HasSetting, IsAnswer, IsCostly, refused_answer}
 use Rattle.mkpasswd.specs.Lines.{HasParts, IsStored, Parts}
 use Rattle.mkpasswd.specs.Rehashes.{is_outdated, without_rehash}
 use Rattle.mkpasswd.specs.declared.job.Job.{Job}
@@ -32,9 +32,7 @@ pub record IsRenewable (kind : Kind) (job : Job) (line : List ℕ) (stream : Str
   pub parts : Parts
   pub field : List ℕ
   pub kept : Kept
-  pub taken : HasSoundParts kind line parts
-  pub has : parts.field ≡ Some field
-  pub spells : Spells field kept
+  pub stored : HasSetting kind line parts field kept
   pub outdated : is_outdated job kept ≡ true
   pub fits_or_costly : (crypt parts.password kept ≡ field) ⊎ IsCostly kind job line stream
 

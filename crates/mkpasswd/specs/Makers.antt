@@ -20,15 +20,15 @@ pub record Recipe : Type 0 where
 abbrev pub bytes_of : Option (Bor (List ℕ)) → Option (List ℕ)
 bytes_of = option_map (λ bytes. bytes.now)
 
--- the method takes the cost, and the salt where one was given
-abbrev pub IsAccepted : Method → ℕ → Option (List ℕ) → Type 0
-IsAccepted method cost None = TakesCost method cost
-IsAccepted method cost (Some salt) = IsMakeable method cost salt
+-- what a recipe is made of: the method takes the cost, and the salt where one was given
+abbrev pub IsRecipe : Method → ℕ → Option (List ℕ) → Type 0
+IsRecipe method cost None = TakesCost method cost
+IsRecipe method cost (Some salt) = IsMakeable method cost salt
 
--- the first rule that is broken; without a salt only the cost can break one
-abbrev pub IsRefused : Method → ℕ → Option (List ℕ) → MakeFault → Type 0
-IsRefused method cost None fault = (fault ≡ Cost) × ¬ TakesCost method cost
-IsRefused method cost (Some salt) fault = IsMakeRefused method cost salt fault
+-- the first rule that is broken where it is none; without a salt only the cost can break one
+abbrev pub IsRecipeRefused : Method → ℕ → Option (List ℕ) → MakeFault → Type 0
+IsRecipeRefused method cost None fault = (fault ≡ Cost) × ¬ TakesCost method cost
+IsRecipeRefused method cost (Some salt) fault = IsMakeRefused method cost salt fault
 
 -- the setting: by the salt that was given, or by one made of the words
 abbrev pub setting_by : Recipe → List ℕ → Kept

@@ -13,7 +13,7 @@ use Rattle.clap.specs.declared.error.Error.{Error}
 use Rattle.clap.specs.declared.error.kind.ErrorKind.TheVariants as kind
 use Rattle.crypt_core.specs.Methods.{method_named}
 use Rattle.crypt_core.specs.declared.method.Method.{Method}
-use Rattle.mkpasswd.specs.Makers.{IsAccepted, IsRefused}
+use Rattle.mkpasswd.specs.Makers.{IsRecipe, IsRecipeRefused}
 use Rattle.mkpasswd.specs.declared.fault.UsageFault.{UsageFault}
 use Rattle.mkpasswd.specs.declared.fault.UsageFault.TheVariants.{Parse, Method as UnknownMethod, TwoSalts, TwoModes, Make, OutOfMemory}
 use Rattle.mkpasswd.specs.declared.job.Job.{Job}
@@ -219,7 +219,7 @@ IsFrom mode from = ⊥
 -- settings are made of the method, the cost and the salt; new hashes are wanted where `--rehash` was given, the counts
 -- where `--work` was, and the budget is that of `--budget`
 pub record IsJob (values : Values) (method : Method) (job : Job) : Type 0 where
-  pub accepted : IsAccepted method values.cost (given_salt values)
+  pub accepted : IsRecipe method values.cost (given_salt values)
   pub maker : job.maker ≡ record { method = method; cost = values.cost; salt = given_salt values }
   pub rehash : job.rehash ≡ values.rehash
   pub work : job.work ≡ values.work
@@ -238,7 +238,7 @@ Means values (Err TwoSalts) = (method : Method) × Names values method × HasTwo
 Means values (Err TwoModes) = (method : Method) × HasSalt values method × (1 < length (modes_of values))
 Means values (Err (Make fault)) =
     (method : Method) × (mode : Mode) × HasMode values method mode
-    × IsRefused method values.cost (given_salt values) fault
+    × IsRecipeRefused method values.cost (given_salt values) fault
 Means values (Err (Parse error)) = ⊥
 Means values (Err OutOfMemory) = ⊥
 

@@ -49,7 +49,7 @@ module _ {I O E : Type 0} where
   moved_of hands = hands.input.bytes + hands.out.bytes + hands.faults.bytes
 
   -- at most `turns` such calls were made, and at most two more than bytes were moved. Each moved a byte or
-  -- failed, but for one that found the end of the input
+  -- failed, but for one of the input, which a run needs to find the end
   pub record IsWithinTurns (turns : ℕ) (old new : Hands I O E) : Type 0 where
     pub at_most_turns : calls_of new ≤ calls_of old + turns
     pub at_most_bytes : calls_of new + moved_of old ≤ calls_of old + moved_of new + 2
@@ -57,7 +57,7 @@ module _ {I O E : Type 0} where
     pub of_out : MovesBytes 0 old.out new.out
     pub of_faults : MovesBytes 0 old.faults new.faults
 
-  -- so many calls of each device failed
+  -- so many calls failed: of the input, of the output, and of the fault output
   pub record Fails (input out faults : ℕ) (old new : Hands I O E) : Type 0 where
     pub of_input : new.input.failures ≡ old.input.failures + input
     pub of_out : new.out.failures ≡ old.out.failures + out

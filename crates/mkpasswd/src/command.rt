@@ -3,7 +3,7 @@ ghost use Rattle.std.specs.Prelude.{◌≡◌, ℕ, ◌<◌, ◌≤◌, List, So
 ghost use Rattle.crypt_core.specs.Methods.{method_named};
 ghost use Rattle.crypt_core.specs.declared.method.Method.{Method};
 ghost use Rattle.mkpasswd.specs.Commands.{IsNoOption, IsTold, IsWhole, PrintsHash, Serves, fault_line, hash_words, stream_in};
-ghost use Rattle.mkpasswd.specs.Devices.{HasRoomInRun, HaveRoomForRun, turns_limit};
+ghost use Rattle.mkpasswd.specs.Devices.{HasRoomWithinRun, HaveRoomBeforeRun, turns_limit};
 ghost use Rattle.mkpasswd.specs.Faults.{fault_status};
 ghost use Rattle.mkpasswd.specs.Private.Telling.{ErrorShown, RefusalShown, RunsOrLacks};
 ghost use Rattle.mkpasswd.specs.Runs.{HasCountsForRun, hands, tells};
@@ -27,10 +27,11 @@ use std::io::{Read, Write};
 const FAULT_LINE_ROOM: usize = 80;
 
 /// Does what the words after the program's name ask for, and answers the exit status: 0 where all was done, 1 where a
-/// line was refused or answered `no`, 2 where the words or the password are wrong, and 3 where the machine refused.
+/// line was refused or answered `no`, 2 where the words or the password are wrong, and 3 where the machine refused or the
+/// turns ran out.
 ///
 /// The words are planned by [`plan`], and a plan is run by [`run_methods`], [`run_one`], [`run_batch`] or
-/// [`run_check`], each with its own conditions. Its fault goes to the fault output, as `mkpasswd: TEXT` and a line
+/// [`run_check`]. Its fault goes to the fault output, as `mkpasswd: TEXT` and a line
 /// feed. For words that `clap` refuses `clap`'s own text goes to the output that `clap` names for it: help and the
 /// version to the output, and any other to the fault output.
 ///
@@ -53,7 +54,7 @@ pub fn run_command<I: Read, O: Write, E: Write, R: Rng>(
     turns: u64,
 ) -> u8
     requires turns { turns ≤ turns_limit }
-    requires devices { HaveRoomForRun input.old out.old faults.old }
+    requires devices { HaveRoomBeforeRun input.old out.old faults.old }
     requires counts { HasCountsForRun meter.old }
     ensures serves { Serves (tells I.remaining O.contents E.contents) turns (is_some generator.old) (map string_bytes words.now)
         (hands input.old out.old faults.old (stream_in R.stream generator.old) meter.old)
@@ -91,12 +92,12 @@ fn run_plan<I: Read, O: Write, E: Write, R: Rng>(
     turns: u64,
 ) -> Result<Tally, Fault>
     requires turns { turns ≤ turns_limit }
-    requires devices { HaveRoomForRun input.old out.old faults.old }
+    requires devices { HaveRoomBeforeRun input.old out.old faults.old }
     requires counts { HasCountsForRun meter.old }
     ensures runs { RunsOrLacks (tells I.remaining O.contents E.contents) turns (is_some generator.old) plan.now
         (hands input.old out.old faults.old (stream_in R.stream generator.old) meter.old)
         (hands input.new out.new faults.new (stream_in R.stream generator.new) meter.new) result }
-    ensures fault_room { HasRoomInRun faults.new }
+    ensures fault_room { HasRoomWithinRun faults.new }
     ensures generator { is_some generator.new ≡ is_some generator.old }
 {
     match (plan, generator) {
@@ -123,8 +124,8 @@ fn show_refusal<O: Write, E: Write>(
     turns: u64,
 ) -> u8
     requires turns { turns ≤ turns_limit }
-    requires out_room { HasRoomInRun out.old }
-    requires fault_room { HasRoomInRun faults.old }
+    requires out_room { HasRoomWithinRun out.old }
+    requires fault_room { HasRoomWithinRun faults.old }
     ensures { RefusalShown O.contents E.contents fault turns out.old faults.old out.new faults.new result }
 {
     match fault {
@@ -146,8 +147,8 @@ fn show_error<O: Write, E: Write>(
     turns: u64,
 ) -> u8
     requires turns { turns ≤ turns_limit }
-    requires out_room { HasRoomInRun out.old }
-    requires fault_room { HasRoomInRun faults.old }
+    requires out_room { HasRoomWithinRun out.old }
+    requires fault_room { HasRoomWithinRun faults.old }
     ensures { ErrorShown O.contents E.contents error.now turns out.old faults.old out.new faults.new result }
 {
     let Ok(text) = format!(in alloc; "{error}") else {
@@ -163,11 +164,13 @@ fn show_error<O: Write, E: Write>(
     }
 }
 
-/// Tells a fault on the fault output, as `mkpasswd: TEXT` and a line feed, and answers its status. That is as well as
-/// the output takes it: where it fails, the status is all that is left. After `Parse` TEXT is empty, since `clap` has
-/// the text.
+/// Tells a fault on the fault output, as `mkpasswd: TEXT` and a line feed, which is flushed, and answers its status. That
+/// is as well as the output takes it, in at most as many calls as the line has bytes: where it fails, the status is all
+/// that is left. After `Parse` TEXT is empty, since `clap` has the text.
+///
+/// The output's numbers have to leave room for these calls, as they do behind a run.
 pub fn tell<E: Write>(fault: &Fault, faults: &mut Output<E>) -> u8
-    requires room { HasRoomInRun faults.old }
+    requires room { HasRoomWithinRun faults.old }
     ensures told { IsTold E.contents fault.now faults.old faults.new }
     ensures status { result ≡ fault_status fault.now }
 {

@@ -103,7 +103,7 @@ impl From<AllocError> for UsageFault {
     }
 }
 
-/// What ends a run before its answers are all given.
+/// What a run ends with in place of a tally.
 #[derive(Clone, Copy, Debug, PartialEq, Eq, Error)]
 pub enum RunFault {
     /// A read of the input failed.
@@ -126,7 +126,7 @@ pub enum RunFault {
 impl RunFault {
     ghost use Rattle.mkpasswd.specs.Faults.{run_status, run_text};
 
-    /// The exit status: 2 where the password is refused, and 3 where the machine refused.
+    /// The exit status: 2 where the password is refused, and 3 where the machine refused, or the turns ran out.
     pub fn status(&self) -> u8
         ensures { result ≡ run_status self.now }
     {
@@ -179,15 +179,15 @@ pub enum Fault {
     Start,
     /// The words give no plan, or memory ran out.
     Usage(UsageFault),
-    /// The run was cut short.
+    /// The run ended with a fault.
     Run(RunFault),
 }
 
 impl Fault {
     ghost use Rattle.mkpasswd.specs.Faults.{fault_status, fault_text};
 
-    /// The exit status: 2 after a mistake in the words or the password, 3 where the machine refused,
-    /// and 0 after help or the version.
+    /// The exit status: 2 after a mistake in the words or the password, 3 where the machine refused or the turns ran
+    /// out, and 0 after help or the version.
     pub fn status(&self) -> u8
         ensures { result ≡ fault_status self.now }
     {

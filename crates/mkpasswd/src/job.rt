@@ -28,7 +28,8 @@ pub struct Job {
     pub rehash: bool,
     /// Whether each answer shows the counts of its work.
     pub work: bool,
-    /// What a line may cost: bytes that are digested and mixed, as [`cost`](crypt_core::work::cost) tells them. A single password has no budget.
+    /// What a line may cost: bytes that are digested and mixed, as [`cost`](crypt_core::work::cost) tells them. A single
+    /// password has no budget.
     pub budget: Option<u64>,
 }
 

@@ -1,7 +1,7 @@
 //! The runs over the lines of an input. Each line is answered once its end was read, before more is read, so
 //! that a run holds one line and one piece of its input, whatever that is.
 ghost use Rattle.std.specs.Prelude.{◌≡◌, ℕ, ◌<◌, ◌≤◌, [], List, OnOk};
-ghost use Rattle.mkpasswd.specs.Devices.{HasRoomInRun, HaveRoomForRun, MovesBytes, turns_limit};
+ghost use Rattle.mkpasswd.specs.Devices.{HasRoomWithinRun, HaveRoomBeforeRun, MovesBytes, turns_limit};
 ghost use Rattle.mkpasswd.specs.LineOptions.{OnlyRefuses, OnlyRenews, RenewsNone};
 ghost use Rattle.mkpasswd.specs.LineRuns.{EndsLines};
 ghost use Rattle.mkpasswd.specs.Private.Desks.{IsSameDesk, seen, with_input};
@@ -70,7 +70,7 @@ pub fn run_batch<I: Read, O: Write, E: Write, R: Rng>(
     turns: u64,
 ) -> Result<Tally, RunFault>
     requires turns { turns ≤ turns_limit }
-    requires devices { HaveRoomForRun input.old out.old faults.old }
+    requires devices { HaveRoomBeforeRun input.old out.old faults.old }
     requires counts { HasCountsForRun meter.old }
     ensures ends { EndsLines (tells I.remaining O.contents E.contents) turns Batch job.now
         (hands input.old out.old faults.old (R.stream rng.old) meter.old)
@@ -78,7 +78,7 @@ pub fn run_batch<I: Read, O: Write, E: Write, R: Rng>(
     ensures within_turns { IsWithinTurns turns
         (hands input.old out.old faults.old (R.stream rng.old) meter.old)
         (hands input.new out.new faults.new (R.stream rng.new) meter.new) }
-    ensures fault_room { HasRoomInRun faults.new }
+    ensures fault_room { HasRoomWithinRun faults.new }
     ensures budget { OnlyRefuses Batch job.now }
     ensures rehash { RenewsNone Batch job.now }
 {
@@ -113,7 +113,7 @@ pub fn run_check<I: Read, O: Write, E: Write, R: Rng>(
     turns: u64,
 ) -> Result<Tally, RunFault>
     requires turns { turns ≤ turns_limit }
-    requires devices { HaveRoomForRun input.old out.old faults.old }
+    requires devices { HaveRoomBeforeRun input.old out.old faults.old }
     requires counts { HasCountsForRun meter.old }
     ensures ends { EndsLines (tells I.remaining O.contents E.contents) turns Check job.now
         (hands input.old out.old faults.old (R.stream rng.old) meter.old)
@@ -121,7 +121,7 @@ pub fn run_check<I: Read, O: Write, E: Write, R: Rng>(
     ensures within_turns { IsWithinTurns turns
         (hands input.old out.old faults.old (R.stream rng.old) meter.old)
         (hands input.new out.new faults.new (R.stream rng.new) meter.new) }
-    ensures fault_room { HasRoomInRun faults.new }
+    ensures fault_room { HasRoomWithinRun faults.new }
     ensures budget { OnlyRefuses Check job.now }
     ensures rehash { OnlyRenews Check job.now }
 {
@@ -138,13 +138,13 @@ fn run_lines<I: Read, O: Write, E: Write, R: Rng>(
     turns: u64,
 ) -> Result<Tally, RunFault>
     requires turns { turns ≤ turns_limit }
-    requires devices { HaveRoomForRun input.old desk.old.out.now desk.old.faults.now }
+    requires devices { HaveRoomBeforeRun input.old desk.old.out.now desk.old.faults.now }
     requires counts { HasCountsForRun desk.old.meter.now }
     ensures ends { EndsLines (tells I.remaining O.contents E.contents) turns task.entry.kind task.entry.job.now
         (with_input input.old (seen R.stream desk.old)) (with_input input.new (seen R.stream desk.new)) result }
     ensures within_turns { IsWithinTurns turns
         (with_input input.old (seen R.stream desk.old)) (with_input input.new (seen R.stream desk.new)) }
-    ensures fault_room { HasRoomInRun desk.new.faults.now }
+    ensures fault_room { HasRoomWithinRun desk.new.faults.now }
     ensures same { IsSameDesk desk.old desk.new }
 {
     let mut progress = Progress::new(turns);
@@ -169,7 +169,7 @@ fn read_all<I: Read, O: Write, E: Write, R: Rng>(
     ensures room { OnOk result (HasRoomToRead progress.new (with_input input.new (seen R.stream desk.new))) }
     ensures turns { TakesTurnsOf 1 progress.old.left progress.new.left
         (with_input input.old (seen R.stream desk.old)) (with_input input.new (seen R.stream desk.new)) }
-    ensures fault_room { HasRoomInRun desk.new.faults.now }
+    ensures fault_room { HasRoomWithinRun desk.new.faults.now }
     ensures same { IsSameDesk desk.old desk.new }
 {
     let mut has_more = true;
@@ -197,7 +197,7 @@ fn read_piece<I: Read, O: Write, E: Write, R: Rng>(
     ensures fewer { OnOk result (progress.new.left < progress.old.left) }
     ensures turns { TakesTurnsOf (spare_fetch result) progress.old.left progress.new.left
         (with_input input.old (seen R.stream desk.old)) (with_input input.new (seen R.stream desk.new)) }
-    ensures fault_room { HasRoomInRun desk.new.faults.now }
+    ensures fault_room { HasRoomWithinRun desk.new.faults.now }
     ensures same { IsSameDesk desk.old desk.new }
 {
     let mut piece = [0; PIECE_SIZE];

@@ -6,7 +6,7 @@ ghost use Rattle.crypt_core.specs.declared.setting.fault.MakeFault.{MakeFault as
 ghost use Rattle.crypt_core.specs.MadeSettings.{made_scheme};
 ghost use Rattle.crypt_core.specs.Work.{cost};
 ghost use Rattle.rand_core.specs.Stream.{Stream};
-ghost use Rattle.mkpasswd.specs.Makers.{IsAccepted, IsRefused, bytes_of, next_setting, setting_by, words_for};
+ghost use Rattle.mkpasswd.specs.Makers.{IsRecipe, IsRecipeRefused, bytes_of, next_setting, setting_by, words_for};
 
 use arrayvec::ArrayVec;
 use crypt_core::made_salt::draw;
@@ -29,7 +29,7 @@ pub struct Maker {
 
 impl Model for Maker {
     ghost use Rattle.std.specs.Prelude.{option_map};
-    ghost use Rattle.mkpasswd.specs.Makers.{IsAccepted, Recipe};
+    ghost use Rattle.mkpasswd.specs.Makers.{IsRecipe, Recipe};
 
     ghost Value = { Recipe };
 
@@ -39,21 +39,21 @@ impl Model for Maker {
       salt = option_map (λ salt. salt.items) a.salt;
     } };
 
-    ghost invariant = { λ a. IsAccepted a.method a.cost (option_map (λ salt. salt.items) a.salt) };
+    ghost invariant = { λ a. IsRecipe a.method a.cost (option_map (λ salt. salt.items) a.salt) };
 }
 
 impl Maker {
     /// What makes settings of a method with a cost, and with the salt, or where there is none with a
     /// new one for each; or the first fault.
     ///
-    /// Cost 0 is the method's own; else it is a number of rounds, or for scrypt 6 to 11. It and a given salt are tested as [`Setting::make`] tests them, with the same faults.
-    /// Without a salt only `Cost` can come.
+    /// Cost 0 is the method's own; else it is a number of rounds, or for scrypt 6 to 11. It and a given salt are tested
+    /// as [`Setting::make`] tests them, with the same faults. Without a salt only `Cost` can come.
     pub fn new(method: Method, cost: u32, salt: Option<&[u8]>) -> Result<Maker, MakeFault>
         ensures made { IfOk result (λ maker.
             maker ≡ record { method = method; cost = cost; salt = bytes_of salt.entry }) }
-        ensures accepted { IsOk result ↔ IsAccepted method cost (bytes_of salt.entry) }
-        ensures refused { IfErr result (IsRefused method cost (bytes_of salt.entry)) }
-        ensures each_refusal { (fault : Fault) → IsRefused method cost (bytes_of salt.entry) fault
+        ensures accepted { IsOk result ↔ IsRecipe method cost (bytes_of salt.entry) }
+        ensures refused { IfErr result (IsRecipeRefused method cost (bytes_of salt.entry)) }
+        ensures each_refusal { (fault : Fault) → IsRecipeRefused method cost (bytes_of salt.entry) fault
             → result ≡ Err fault }
     {
         Setting::make(method, cost, salt.unwrap_or(ANY_SALT))?;

@@ -1,6 +1,6 @@
 //! The list of the methods, which TYPE `help` asks for.
 ghost use Rattle.std.specs.Prelude.{◌≡◌, ◌≤◌, IfOk};
-ghost use Rattle.mkpasswd.specs.Devices.{HasRoomForRun, turns_limit};
+ghost use Rattle.mkpasswd.specs.Devices.{HasRoomBeforeRun, turns_limit};
 ghost use Rattle.mkpasswd.specs.Methods.{methods_text};
 ghost use Rattle.mkpasswd.specs.Output.{Shows};
 ghost use Rattle.mkpasswd.specs.Tallies.{no_line};
@@ -18,10 +18,10 @@ const METHODS: &str = "Available methods:\nmd5crypt\nsha256crypt\nsha512crypt\ns
 ///
 /// `Write` is answered after the first call of the output that fails, and `Turns` where one more `give`
 /// than `turns` is needed; the output has then taken the first bytes of the list, or all of it where the
-/// flush is what failed.
+/// flush is what failed. `turns` is at most 2^40, and the numbers of the output at most 2^62.
 pub fn run_methods<O: Write>(out: &mut Output<O>, turns: u64) -> Result<Tally, RunFault>
     requires turns { turns ≤ turns_limit }
-    requires room { HasRoomForRun out.old }
+    requires room { HasRoomBeforeRun out.old }
     ensures shows { Shows O.contents turns out.old out.new methods_text result }
     ensures tally { IfOk result (λ tally. tally ≡ no_line) }
 {

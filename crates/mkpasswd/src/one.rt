@@ -2,7 +2,7 @@
 //! the output.
 ghost use Rattle.std.specs.Prelude.{◌≡◌, ◌+◌, ◌≤◌};
 ghost use Rattle.mkpasswd.specs.Budgets.{without_budget};
-ghost use Rattle.mkpasswd.specs.Devices.{HasRoomForRun, HasRoomInRun, HaveRoomForRun, MovesBytes, turns_limit};
+ghost use Rattle.mkpasswd.specs.Devices.{HasRoomBeforeRun, HasRoomWithinRun, HaveRoomBeforeRun, MovesBytes, turns_limit};
 ghost use Rattle.mkpasswd.specs.One.{EndsOne};
 ghost use Rattle.mkpasswd.specs.Private.Fetching.{ObtainsFrom};
 ghost use Rattle.mkpasswd.specs.Rehashes.{without_rehash};
@@ -40,6 +40,9 @@ use std::io::{Read, Write};
 /// - `Turns`: one more fetch or give than `turns` is needed. The output has taken a first part of the answer, or nothing
 ///   where the password was not known.
 ///
+/// Conditions: `turns` is at most 2^40, each count of the meter at most 2^100, and the numbers of the devices at
+/// most 2^62.
+///
 /// [`PASSWORD_LIMIT`]: crypt_core::password::PASSWORD_LIMIT
 pub fn run_one<I: Read, O: Write, E: Write, R: Rng>(
     alloc: Global,
@@ -53,7 +56,7 @@ pub fn run_one<I: Read, O: Write, E: Write, R: Rng>(
     turns: u64,
 ) -> Result<Tally, RunFault>
     requires turns { turns ≤ turns_limit }
-    requires devices { HaveRoomForRun input.old out.old faults.old }
+    requires devices { HaveRoomBeforeRun input.old out.old faults.old }
     requires counts { HasCountsForRun meter.old }
     ensures ends { EndsOne (tells I.remaining O.contents E.contents) turns job.now from.now
         (hands input.old out.old faults.old (R.stream rng.old) meter.old)
@@ -64,7 +67,7 @@ pub fn run_one<I: Read, O: Write, E: Write, R: Rng>(
     ensures within_turns { IsWithinTurns turns
         (hands input.old out.old faults.old (R.stream rng.old) meter.old)
         (hands input.new out.new faults.new (R.stream rng.new) meter.new) }
-    ensures fault_room { HasRoomInRun faults.new }
+    ensures fault_room { HasRoomWithinRun faults.new }
 {
     let mut left = turns;
     let password = obtain(from, input, &mut left)?;
@@ -86,7 +89,7 @@ fn obtain<I: Read>(
     left: &mut u64,
 ) -> Result<Password, RunFault>
     requires turns { left.old ≤ turns_limit }
-    requires room { HasRoomForRun input.old }
+    requires room { HasRoomBeforeRun input.old }
     ensures password { ObtainsFrom I.remaining from.now input.old input.new left.new result }
     ensures turns { input.new.calls + left.new ≡ input.old.calls + left.old }
     ensures fewer { left.new ≤ left.old }

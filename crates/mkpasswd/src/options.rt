@@ -194,7 +194,7 @@ fn with_hash_options<'a>(alloc: Global, command: Command<'a>) -> Result<Command<
         "The method: md5crypt, sha256crypt, sha512crypt (the default) or scrypt; help lists them",
     );
     let salt = option(alloc, "salt", "SALT").short('S').help(
-        "The salt: up to 8, 16, 16 or 86 letters, digits, '.' and '/', in that order; else a new one",
+        "The salt: up to 8 (md5crypt), 16 or 86 (scrypt) letters, digits, '.' and '/'; else a new one",
     );
     let rounds = option(alloc, "rounds", "NUMBER")
         .short('R')

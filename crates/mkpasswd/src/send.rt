@@ -1,6 +1,6 @@
 //! What every run does with its outputs: it gives whole texts, by turns, and flushes them at the end.
 ghost use Rattle.std.specs.Prelude.{◌≡◌, ◌+◌, ◌-◌, ◌^◌, ◌<◌, ◌≤◌, length};
-ghost use Rattle.mkpasswd.specs.Devices.{HasRoomInRun, MovesBytes, turns_limit};
+ghost use Rattle.mkpasswd.specs.Devices.{HasRoomWithinRun, MovesBytes, turns_limit};
 ghost use Rattle.mkpasswd.specs.Output.{Shows, ShowsOutcome};
 ghost use Rattle.mkpasswd.specs.Private.Deliveries.{Delivers, FinishesBoth, FinishesOutput};
 
@@ -19,7 +19,7 @@ pub(crate) fn send<O: Write>(
     left: &mut u64,
 ) -> Result<(), RunFault>
     requires turns { left.old ≤ turns_limit }
-    requires room { HasRoomInRun out.old }
+    requires room { HasRoomWithinRun out.old }
     requires short { length text.now < 2 ^ 63 }
     ensures delivers { Delivers O.contents out.old out.new text.now result }
     ensures outcome { ShowsOutcome left.old out.old out.new result }
@@ -48,7 +48,7 @@ pub(crate) fn send<O: Write>(
 /// [`send`], and `Write` also where the flush fails.
 pub(crate) fn show<O: Write>(out: &mut Output<O>, text: &[u8], turns: u64) -> Result<(), RunFault>
     requires turns { turns ≤ turns_limit }
-    requires room { HasRoomInRun out.old }
+    requires room { HasRoomWithinRun out.old }
     requires short { length text.now < 2 ^ 63 }
     ensures { Shows O.contents turns out.old out.new text.now result }
 {

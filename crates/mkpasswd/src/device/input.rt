@@ -58,7 +58,8 @@ impl<I: Read> Input<I> {
     }
 
     /// Passes one `read` into the buffer on, and answers what it answered: how many bytes were given,
-    /// which stand first in the buffer. None are given at the end, or into an empty buffer.
+    /// which stand first in the buffer. None are given at the end, or into an empty buffer. The wrapper's numbers
+    /// have room, within 64 bits, for one more call and as many bytes as the buffer has.
     pub fn fetch(&mut self, buffer: &mut [u8]) -> io::Result<usize>
         requires failures_room { self.old.failures < 2 ^ 64 - 1 }
         requires calls_room { self.old.calls < 2 ^ 64 - 1 }

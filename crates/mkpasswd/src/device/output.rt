@@ -63,7 +63,8 @@ impl<O: Write> Output<O> {
     }
 
     /// Passes one `write` of the piece on, and answers what it answered: how many of the piece's
-    /// first bytes were taken.
+    /// first bytes were taken. The wrapper's numbers have room, within 64 bits, for one more call and as many bytes
+    /// as the piece has.
     pub fn give(&mut self, piece: &[u8]) -> io::Result<usize>
         requires failures_room { self.old.failures < 2 ^ 64 - 1 }
         requires calls_room { self.old.calls < 2 ^ 64 - 1 }
@@ -89,7 +90,8 @@ impl<O: Write> Output<O> {
         answer
     }
 
-    /// Passes one `flush` on, and answers what it answered. It takes no byte.
+    /// Passes one `flush` on, and answers what it answered. It takes no byte. The wrapper's numbers have room, within
+    /// 64 bits, for one more flush.
     pub fn flush(&mut self) -> io::Result<()>
         requires failures_room { self.old.failures < 2 ^ 64 - 1 }
         requires flushes_room { self.old.flushes < 2 ^ 64 - 1 }

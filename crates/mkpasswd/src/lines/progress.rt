@@ -2,7 +2,7 @@
 //! ends in it.
 ghost use Rattle.std.specs.Prelude.{◌≡◌, ℕ, ◌+◌, ◌<◌, ◌≤◌, ◌++◌, [], List, length, OnOk};
 ghost use Rattle.mkpasswd.specs.Answers.{Answer};
-ghost use Rattle.mkpasswd.specs.Devices.{HasRoomInRun, MovesBytes, turns_limit};
+ghost use Rattle.mkpasswd.specs.Devices.{HasRoomWithinRun, MovesBytes, turns_limit};
 ghost use Rattle.mkpasswd.specs.LineAnswers.{IsAnswer};
 ghost use Rattle.mkpasswd.specs.LineRuns.{piece_size};
 ghost use Rattle.mkpasswd.specs.Private.Deliveries.{Sends};
@@ -63,7 +63,7 @@ impl Progress {
         ensures room { OnOk result (HasRoomIn self.new.tally (seen R.stream desk.new)) }
         ensures lines { self.new.tally.lines ≤ self.old.tally.lines + length piece.now }
         ensures turns { TakesTurns self.old.left self.new.left (seen R.stream desk.old) (seen R.stream desk.new) }
-        ensures fault_room { HasRoomInRun desk.new.faults.now }
+        ensures fault_room { HasRoomWithinRun desk.new.faults.now }
         ensures same { IsSameDesk desk.old desk.new }
     {
         let mut rest = piece;
@@ -88,7 +88,7 @@ impl Progress {
             → AnswersLast O.contents E.contents task.entry.kind task.entry.job.now start (seen R.stream desk.new) bytes self.new result }
         ensures room { OnOk result (HasRoomIn self.new.tally (seen R.stream desk.new)) }
         ensures turns { TakesTurns self.old.left self.new.left (seen R.stream desk.old) (seen R.stream desk.new) }
-        ensures fault_room { HasRoomInRun desk.new.faults.now }
+        ensures fault_room { HasRoomWithinRun desk.new.faults.now }
         ensures same { IsSameDesk desk.old desk.new }
     {
         if self.held.is_empty() {
@@ -112,7 +112,7 @@ impl Progress {
         ensures room { OnOk result (HasRoomIn self.new.tally (seen R.stream desk.new)) }
         ensures lines { self.new.tally.lines ≤ self.old.tally.lines + 1 }
         ensures turns { TakesTurns self.old.left self.new.left (seen R.stream desk.old) (seen R.stream desk.new) }
-        ensures fault_room { HasRoomInRun desk.new.faults.now }
+        ensures fault_room { HasRoomWithinRun desk.new.faults.now }
         ensures same { IsSameDesk desk.old desk.new }
     {
         let number = self.tally.lines + 1;
@@ -131,8 +131,8 @@ fn give<O: Write, E: Write, R>(
     left: &mut u64,
 ) -> Result<(), RunFault>
     requires turns { left.old ≤ turns_limit }
-    requires out_room { HasRoomInRun desk.old.out.now }
-    requires faults_room { HasRoomInRun desk.old.faults.now }
+    requires out_room { HasRoomWithinRun desk.old.out.now }
+    requires faults_room { HasRoomWithinRun desk.old.faults.now }
     ensures sends { (told : Answer) → Says answer.now.outcome answer.now.text.items told
         → Sends O.contents E.contents left.new told desk.old.out.now desk.old.faults.now desk.new.out.now desk.new.faults.now result }
     ensures calls { desk.new.out.now.calls + desk.new.faults.now.calls + left.new

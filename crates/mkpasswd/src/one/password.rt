@@ -1,7 +1,7 @@
 //! The password that stands in an input: its first line, without the line feed. It is read into a buffer of
 //! fixed size, and takes no memory.
 ghost use Rattle.std.specs.Prelude.{◌≡◌, ℕ, ◌+◌, ◌-◌, ◌^◌, ◌<◌, ◌≤◌, List, drop, length, take};
-ghost use Rattle.mkpasswd.specs.Devices.{HasRoomForRun, MovesBytes, turns_limit};
+ghost use Rattle.mkpasswd.specs.Devices.{HasRoomBeforeRun, MovesBytes, turns_limit};
 ghost use Rattle.mkpasswd.specs.Input.{Reads};
 ghost use Rattle.mkpasswd.specs.Private.Fetching.{buffer_size, Fetches, FindsLine, Obtains};
 
@@ -25,7 +25,7 @@ pub(crate) fn read_password<I: Read>(
     left: &mut u64,
 ) -> Result<Password, RunFault>
     requires turns { left.old ≤ turns_limit }
-    requires room { HasRoomForRun input.old }
+    requires room { HasRoomBeforeRun input.old }
     ensures read { (bytes : List ℕ) × Reads I.remaining input.old input.new bytes
         × Obtains I.remaining input.old input.new bytes left.new result }
     ensures turns { input.new.calls + left.new ≡ input.old.calls + left.old }
@@ -44,7 +44,7 @@ fn read_line<I: Read>(
     left: &mut u64,
 ) -> Result<usize, RunFault>
     requires turns { left.old ≤ turns_limit }
-    requires room { HasRoomForRun input.old }
+    requires room { HasRoomBeforeRun input.old }
     requires size { length buffer.old ≡ buffer_size }
     ensures read { (bytes : List ℕ) × Reads I.remaining input.old input.new bytes
         × FindsLine I.remaining input.old input.new bytes left.new buffer.new result }

@@ -113,7 +113,7 @@ verdict_is_answered kind job number line stream left parts field before middle a
     let counts = then.0 ∙ judged.1.counts in
     let text = told job parts.name parts.password before after stream Fits made (work parts.password kept) tells (rise-raised before after (work parts.password kept) counts) in (
       compared_answer job parts.name (codes "ok") parts.password kept one_line stream,
-      ok parts field kept taken is judged.1.spells (cheap_field kind job line stream parts field taken is judged.1.within) judged.2 judged.1.outdated_is refl,
+      ok parts field kept (record { taken = taken; has = is; spells = judged.1.spells }) (cheap_field kind job line stream parts field taken is judged.1.within) judged.2 judged.1.outdated_is refl,
       (rw tells.0 (record { text = text; fault_text = refl; tally = refl }), counts, then.1),
     )
 verdict_is_answered kind job number line stream left parts field before middle after Outdated made taken is judged then tells =
@@ -123,7 +123,7 @@ verdict_is_answered kind job number line stream left parts field before middle a
     let risen = rise-raised before after (raised_by old new) (raised_twice before middle after old new judged.1.counts then.0) in
     let text = told job parts.name parts.password before after stream Outdated made (raised_by old new) tells risen in (
       rehashed_answer job parts.name parts.password kept stream,
-      rehashed parts field kept taken is judged.1.spells (cheap_field kind job line stream parts field taken is judged.1.within) judged.2 judged.1.outdated_is refl,
+      rehashed parts field kept (record { taken = taken; has = is; spells = judged.1.spells }) (cheap_field kind job line stream parts field taken is judged.1.within) judged.2 judged.1.outdated_is refl,
       (
         rw tells.0 (record { text = text; fault_text = refl; tally = refl }),
         then.0 ∙ ap (λ (c : Work). raised_by c new) judged.1.counts,
@@ -135,7 +135,7 @@ verdict_is_answered kind job number line stream left parts field before middle a
     let counts = then.0 ∙ judged.2.counts in
     let text = told job parts.name parts.password before after stream Differs made (work parts.password kept) tells (rise-raised before after (work parts.password kept) counts) in (
       compared_answer job parts.name (codes "no") parts.password kept misfit_line stream,
-      no parts field kept taken is judged.2.spells (cheap_field kind job line stream parts field taken is judged.2.within) judged.3 refl,
+      no parts field kept (record { taken = taken; has = is; spells = judged.2.spells }) (cheap_field kind job line stream parts field taken is judged.2.within) judged.3 refl,
       (rw tells.0 (record { text = text; fault_text = refl; tally = refl }), counts, then.1),
     )
 
@@ -154,17 +154,17 @@ refused_is_answered kind job number line stream left parts field before after ke
         → IsAnswered kind job number line stream left before after (Err OutOfMemory)
     go true decides true old = (
       rehashed_answer job parts.name parts.password kept stream,
-      rehashed parts field kept taken is spelled cheap (decides.0 refl) old refl,
+      rehashed parts field kept (record { taken = taken; has = is; spells = spelled }) cheap (decides.0 refl) old refl,
       inl (without, left_is),
     )
     go true decides false recent = (
       compared_answer job parts.name (codes "ok") parts.password kept one_line stream,
-      ok parts field kept taken is spelled cheap (decides.0 refl) recent refl,
+      ok parts field kept (record { taken = taken; has = is; spells = spelled }) cheap (decides.0 refl) recent refl,
       inl (without, left_is),
     )
     go false decides outdated any = (
       compared_answer job parts.name (codes "no") parts.password kept misfit_line stream,
-      no parts field kept taken is spelled cheap (λ equal. true≢false (sym (decides.1 equal))) refl,
+      no parts field kept (record { taken = taken; has = is; spells = spelled }) cheap (λ equal. true≢false (sym (decides.1 equal))) refl,
       inl (without, left_is),
     )
 
@@ -175,7 +175,7 @@ unrenewed_is_answered : (kind : Kind) (job : Job) (number : ℕ) (line : List �
     → IsAnswered kind job number line stream left before after (Err OutOfMemory)
 unrenewed_is_answered kind job number line stream left parts field before middle after taken is judged without left_is = (
   rehashed_answer job parts.name parts.password judged.0 stream,
-  rehashed parts field judged.0 taken is judged.1.spells (cheap_field kind job line stream parts field taken is judged.1.within) judged.2 judged.1.outdated_is refl,
+  rehashed parts field judged.0 (record { taken = taken; has = is; spells = judged.1.spells }) (cheap_field kind job line stream parts field taken is judged.1.within) judged.2 judged.1.outdated_is refl,
   inr (inl (subst (λ (c : Work). IsAfterRefusedGrowth c (next_setting job.maker stream).scheme after) judged.1.counts without, left_is)),
 )
 
