@@ -145,14 +145,14 @@ return {
         ['a meter made in another room of the calls for C', 'crates/crypt_c/src/calls.rt' => 'fn f() { let mut meter = Meter::new(); }'],
         [
             'a hash that is not counted before one that is',
-            $exports => ['    let answer = compared(', "    let _ = compared(alloc, password, stored, &mut Meter::new());\n    let answer = compared("],
+            $exports => ['    let answer = compare(', "    let _ = compare(alloc, password, stored, &mut Meter::new());\n    let answer = compare("],
         ],
         [
             'a hash that is not counted behind one that is',
-            $exports => ["    verdict(answer)\n", "    let mut meter = Meter::new();\n    verdict(compared(alloc, password, stored, &mut meter))\n"],
+            $exports => ["    verdict_number(answer)\n", "    let mut meter = Meter::new();\n    verdict_number(compare(alloc, password, stored, &mut meter))\n"],
         ],
-        ['counts that are not handed out', $exports => ["    *work = counted(&meter);\n    verdict(answer)", '    verdict(answer)']],
-        ['a call for C that hashes and has no work', $exports => ['    verdict(replaced(stored, new))', "    let mut meter = Meter::new();\n    verdict(replaced(stored, new))"]],
+        ['counts that are not handed out', $exports => ["    *work = counts_of(&meter);\n    verdict_number(answer)", '    verdict_number(answer)']],
+        ['a call for C that hashes and has no work', $exports => ['    verdict_number(is_replaced(stored, new))', "    let mut meter = Meter::new();\n    verdict_number(is_replaced(stored, new))"]],
         ['a call for C under another name', $exports => '#[unsafe(no_mangle)] pub extern "C" fn other() {}'],
         ['a call for C in a library', $hash => '#[unsafe(no_mangle)] pub extern "C" fn mkpasswd_other() {}'],
         ['what is unsafe among the calls for C', $exports => 'fn f() { unsafe { g() }; }'],

@@ -105,28 +105,28 @@ hashed_once p s one old m n a b (Err OutOfMemory) (Err TooFewBytes) x y =
 hashed_once p s one old m n a b (Err OutOfMemory) (Err (Password g)) x y = absurd (password_apart p g x.0 y.0)
 hashed_once p s one old m n a b (Err OutOfMemory) (Err (Setting g)) x y = absurd (text_apart s (one x.0) x.1.0 g x.1.1 y.1)
 
-pub told_once : {A : Type 0} (number : Kept → ℕ → A) (stored : List ℕ) (len : ℕ) → (len ≤ password_limit → IsReadOneWay stored) → (old a b : A) (told holds : Result ℕ Refusal) → Tells number stored len old a told → Tells number stored len old b holds → told ≡ holds
-told_once number s len one old a b told (Err (Password HasNul)) x y = absurd y
-told_once number s len one old a b told (Err OutOfMemory) x y = absurd y
-told_once number s len one old a b told (Err TooFewBytes) x y = absurd y
-told_once number s len one old a b told (Err UnknownMethod) x y = absurd y
-told_once number s len one old a b told (Err Cost) x y = absurd y
-told_once number s len one old a b told (Err UnknownNumber) x y = absurd y
-told_once number s len one old a b (Err (Password HasNul)) holds x y = absurd x
-told_once number s len one old a b (Err OutOfMemory) holds x y = absurd x
-told_once number s len one old a b (Err TooFewBytes) holds x y = absurd x
-told_once number s len one old a b (Err UnknownMethod) holds x y = absurd x
-told_once number s len one old a b (Err Cost) holds x y = absurd x
-told_once number s len one old a b (Err UnknownNumber) holds x y = absurd x
-told_once number s len one old a b (Ok v) (Ok w) x y = ap (λ (t : ℕ). Ok t) (x.1 ∙ sym y.1)
-told_once number s len one old a b (Ok v) (Err (Password TooLong)) x y = absurd (omega (arith, x.0, y.0))
-told_once number s len one old a b (Ok v) (Err (Setting f)) x y = absurd (text_apart s (one x.0) x.2.0 f x.2.1 y.1)
-told_once number s len one old a b (Err (Password TooLong)) (Ok w) x y = absurd (omega (arith, x.0, y.0))
-told_once number s len one old a b (Err (Setting f)) (Ok w) x y = absurd (text_apart s (one x.0) y.2.0 f y.2.1 x.1)
-told_once number s len one old a b (Err (Password TooLong)) (Err (Password TooLong)) x y = refl
-told_once number s len one old a b (Err (Password TooLong)) (Err (Setting g)) x y = absurd (omega (arith, x.0, y.0))
-told_once number s len one old a b (Err (Setting f)) (Err (Password TooLong)) x y = absurd (omega (arith, x.0, y.0))
-told_once number s len one old a b (Err (Setting f)) (Err (Setting g)) x y = ap (λ (h : SettingFault). Err (Setting h)) (refusal_once s (one x.0) f g x.1 y.1)
+pub told_once : {A : Type 0} (measure : Kept → ℕ → A) (stored : List ℕ) (len : ℕ) → (len ≤ password_limit → IsReadOneWay stored) → (old a b : A) (told holds : Result ℕ Refusal) → Tells measure stored len old a told → Tells measure stored len old b holds → told ≡ holds
+told_once measure s len one old a b told (Err (Password HasNul)) x y = absurd y
+told_once measure s len one old a b told (Err OutOfMemory) x y = absurd y
+told_once measure s len one old a b told (Err TooFewBytes) x y = absurd y
+told_once measure s len one old a b told (Err UnknownMethod) x y = absurd y
+told_once measure s len one old a b told (Err Cost) x y = absurd y
+told_once measure s len one old a b told (Err UnknownNumber) x y = absurd y
+told_once measure s len one old a b (Err (Password HasNul)) holds x y = absurd x
+told_once measure s len one old a b (Err OutOfMemory) holds x y = absurd x
+told_once measure s len one old a b (Err TooFewBytes) holds x y = absurd x
+told_once measure s len one old a b (Err UnknownMethod) holds x y = absurd x
+told_once measure s len one old a b (Err Cost) holds x y = absurd x
+told_once measure s len one old a b (Err UnknownNumber) holds x y = absurd x
+told_once measure s len one old a b (Ok v) (Ok w) x y = ap (λ (t : ℕ). Ok t) (x.1 ∙ sym y.1)
+told_once measure s len one old a b (Ok v) (Err (Password TooLong)) x y = absurd (omega (arith, x.0, y.0))
+told_once measure s len one old a b (Ok v) (Err (Setting f)) x y = absurd (text_apart s (one x.0) x.2.0 f x.2.1 y.1)
+told_once measure s len one old a b (Err (Password TooLong)) (Ok w) x y = absurd (omega (arith, x.0, y.0))
+told_once measure s len one old a b (Err (Setting f)) (Ok w) x y = absurd (text_apart s (one x.0) y.2.0 f y.2.1 x.1)
+told_once measure s len one old a b (Err (Password TooLong)) (Err (Password TooLong)) x y = refl
+told_once measure s len one old a b (Err (Password TooLong)) (Err (Setting g)) x y = absurd (omega (arith, x.0, y.0))
+told_once measure s len one old a b (Err (Setting f)) (Err (Password TooLong)) x y = absurd (omega (arith, x.0, y.0))
+told_once measure s len one old a b (Err (Setting f)) (Err (Setting g)) x y = ap (λ (h : SettingFault). Err (Setting h)) (refusal_once s (one x.0) f g x.1 y.1)
 
 pub replaced_once : (stored new : List ℕ) → IsReadOneWay stored → ((kept : Kept) → Spells stored kept → IsReadOneWay new) → (told holds : Result Bool Refusal) → Replaces stored new told → Replaces stored new holds → told ≡ holds
 replaced_once s t one later told (Err (Password f)) x y = absurd y

@@ -53,7 +53,8 @@ Hashes password setting old new done (Err (Password fault)) =
 Hashes password setting old new done (Err (Setting fault)) =
     IsPassword password × IsRefused setting fault × (new ≡ old) × (done ≡ no_work)
 Hashes password setting old new done (Err TooFewBytes) =
-    IsPassword password × ((kept : Kept) × Spells setting kept × ¬ HasRoomFor (crypt password kept) old × (new ≡ old) × (done ≡ no_work))
+    IsPassword password × ((kept : Kept) × Spells setting kept × ¬ HasRoomFor (crypt password kept) old
+    × (new ≡ old) × (done ≡ no_work))
 Hashes password setting old new done (Err OutOfMemory) =
     IsPassword password × ((kept : Kept) × Spells setting kept × HasRoomFor (crypt password kept) old
     × IsAfterRefusedGrowth no_work kept.scheme done × (new ≡ old))
@@ -61,13 +62,13 @@ Hashes password setting old new done (Err refusal) = ⊥
 
 -- ---- what a hash will take
 
--- a number about the setting that a text spells, and a password's length; too long a length is told first
+-- a measure of the setting that a text spells, and of a password's length; too long a length is told first
 abbrev pub Tells : {A : Type 0} → (Kept → ℕ → A) → List ℕ → ℕ → A → A → Result ℕ Refusal → Type 0
-Tells number stored len old new (Ok count) =
-    (len ≤ password_limit) × (count ≡ 0) × ((kept : Kept) × Spells stored kept × (new ≡ number kept len))
-Tells number stored len old new (Err (Password TooLong)) = (password_limit < len) × (new ≡ old)
-Tells number stored len old new (Err (Setting fault)) = (len ≤ password_limit) × IsRefused stored fault × (new ≡ old)
-Tells number stored len old new (Err refusal) = ⊥
+Tells measure stored len old new (Ok count) =
+    (len ≤ password_limit) × (count ≡ 0) × ((kept : Kept) × Spells stored kept × (new ≡ measure kept len))
+Tells measure stored len old new (Err (Password TooLong)) = (password_limit < len) × (new ≡ old)
+Tells measure stored len old new (Err (Setting fault)) = (len ≤ password_limit) × IsRefused stored fault × (new ≡ old)
+Tells measure stored len old new (Err refusal) = ⊥
 
 -- ---- settings
 
@@ -89,7 +90,8 @@ method_numbered number =
 abbrev pub Makes : ℕ → ℕ → List ℕ → List ℕ → List ℕ → Result ℕ Refusal → Type 0
 Makes number cost words old new (Ok count) =
     (method : Method) × (method_numbered number ≡ Some method) × TakesCost method cost
-    × (count ≡ length (canonical_text (with_made_salt method cost words))) × IsPut (canonical_text (with_made_salt method cost words)) old new
+    × (count ≡ length (canonical_text (with_made_salt method cost words)))
+    × IsPut (canonical_text (with_made_salt method cost words)) old new
 Makes number cost words old new (Err UnknownMethod) = (method_numbered number ≡ None) × (new ≡ old)
 Makes number cost words old new (Err Cost) =
     (method : Method) × (method_numbered number ≡ Some method) × (¬ TakesCost method cost) × (new ≡ old)
@@ -103,7 +105,8 @@ Makes number cost words old new (Err refusal) = ⊥
 -- the text of a refusal is put, for the number that a call answers by it
 abbrev pub Explains : ℤ → List ℕ → List ℕ → Result ℕ Refusal → Type 0
 Explains number old new (Ok count) =
-    (refusal : Refusal) × (number ≡ refusal_told refusal) × (count ≡ length (refusal_text refusal)) × IsPut (refusal_text refusal) old new
+    (refusal : Refusal) × (number ≡ refusal_told refusal)
+    × (count ≡ length (refusal_text refusal)) × IsPut (refusal_text refusal) old new
 Explains number old new (Err UnknownNumber) = ((refusal : Refusal) → number ≢ refusal_told refusal) × (new ≡ old)
 Explains number old new (Err TooFewBytes) =
     (refusal : Refusal) × (number ≡ refusal_told refusal) × (¬ HasRoomFor (refusal_text refusal) old) × (new ≡ old)

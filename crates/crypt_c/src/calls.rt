@@ -21,7 +21,7 @@ use prims_core::work::Work;
 use std::alloc::Global;
 
 /// Whether a password fits a stored text.
-pub(crate) fn compared(
+pub(crate) fn compare(
     alloc: Global,
     password: &[u8],
     stored: &[u8],
@@ -37,7 +37,7 @@ pub(crate) fn compared(
 }
 
 /// Puts the hash of a password by a setting, and answers its length.
-pub(crate) fn hashed(
+pub(crate) fn put_hash(
     alloc: Global,
     password: &[u8],
     setting: &[u8],
@@ -60,27 +60,35 @@ pub(crate) fn hashed(
 }
 
 /// What a hash by a setting counts at most, for a password of so many bytes.
-pub(crate) fn bounded(stored: &[u8], password_len: usize, most: &mut Work) -> Result<usize, Refusal>
+pub(crate) fn tell_bound(
+    stored: &[u8],
+    password_len: usize,
+    most: &mut Work,
+) -> Result<usize, Refusal>
     ensures tells { Tells work_bound stored.now password_len most.old most.new result }
     ensures one_reading { password_len ≤ password_limit → IsReadOneWay stored.now }
     ensures nothing { IfOk result (λ count. count ≡ 0) }
 {
-    *most = bound(&priced_setting(stored, password_len)?, password_len);
+    *most = bound(&read_setting(stored, password_len)?, password_len);
     Ok(0)
 }
 
 /// What it costs at most.
-pub(crate) fn priced(stored: &[u8], password_len: usize, number: &mut u64) -> Result<usize, Refusal>
+pub(crate) fn tell_cost(
+    stored: &[u8],
+    password_len: usize,
+    number: &mut u64,
+) -> Result<usize, Refusal>
     ensures tells { Tells cost stored.now password_len number.old number.new result }
     ensures one_reading { password_len ≤ password_limit → IsReadOneWay stored.now }
     ensures nothing { IfOk result (λ count. count ≡ 0) }
 {
-    *number = cost(&priced_setting(stored, password_len)?, password_len);
+    *number = cost(&read_setting(stored, password_len)?, password_len);
     Ok(0)
 }
 
 // The setting of a text, where a password may have so many bytes.
-fn priced_setting(stored: &[u8], password_len: usize) -> Result<Setting, Refusal>
+fn read_setting(stored: &[u8], password_len: usize) -> Result<Setting, Refusal>
     ensures read { IfOk result (λ setting. (password_len ≤ password_limit) × Spells stored.now setting) }
     ensures refused { IfErr result (IsUntold stored.now password_len) }
     ensures one_reading { password_len ≤ password_limit → IsReadOneWay stored.now }
@@ -92,7 +100,7 @@ fn priced_setting(stored: &[u8], password_len: usize) -> Result<Setting, Refusal
 }
 
 /// Whether the one setting is replaced by the other.
-pub(crate) fn replaced(stored: &[u8], new: &[u8]) -> Result<bool, Refusal>
+pub(crate) fn is_replaced(stored: &[u8], new: &[u8]) -> Result<bool, Refusal>
     ensures replaces { Replaces stored.now new.now result }
     ensures one_reading { IsReadOneWay stored.now }
     ensures then_one { (kept : Kept) → Spells stored.now kept → IsReadOneWay new.now }
@@ -103,7 +111,7 @@ pub(crate) fn replaced(stored: &[u8], new: &[u8]) -> Result<bool, Refusal>
 }
 
 /// Puts the text of a setting that is made of a method, a cost and three words, and answers its length.
-pub(crate) fn made(
+pub(crate) fn put_setting(
     method: u32,
     cost: u32,
     words: [u64; 3],
@@ -135,7 +143,7 @@ fn method_numbered(number: u32) -> Option<Method>
 }
 
 /// Puts the words for a refusal, and answers their length.
-pub(crate) fn explained(number: i32, out: &mut [u8]) -> Result<usize, Refusal>
+pub(crate) fn put_refusal(number: i32, out: &mut [u8]) -> Result<usize, Refusal>
     ensures explains { Explains number out.old out.new result }
     ensures short { IfOk result (λ count. count < 2 ^ 31) }
 {

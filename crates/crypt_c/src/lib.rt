@@ -17,7 +17,7 @@ mod calls;
 mod put;
 mod refusal;
 
-use calls::{bounded, compared, explained, hashed, made, priced, replaced};
+use calls::{compare, is_replaced, put_hash, put_refusal, put_setting, tell_bound, tell_cost};
 use crypt_core::version::VERSION_NUMBER;
 use prims_core::meter::Meter;
 use prims_core::work::Work;
@@ -35,13 +35,14 @@ pub extern "C" fn mkpasswd_fits(
     stored: &[u8],
     work: &mut Work,
 ) -> i32
-    ensures compares { (answer : Result Bool Refused) × Compares password.now stored.now work.new answer × (result ≡ verdict_told answer) }
+    ensures compares { (answer : Result Bool Refused) × Compares password.now stored.now work.new answer
+        × (result ≡ verdict_told answer) }
     ensures each { (done : Done) → TellsOrLacks verdict_told (Compares password.now stored.now done) result }
 {
     let mut meter = Meter::new();
-    let answer = compared(alloc, password, stored, &mut meter);
-    *work = counted(&meter);
-    verdict(answer)
+    let answer = compare(alloc, password, stored, &mut meter);
+    *work = counts_of(&meter);
+    verdict_number(answer)
 }
 
 /// Hashes a password by the setting that a text spells. The hash and a byte 0 are put into `out`, and the length of the
@@ -57,35 +58,39 @@ pub extern "C" fn mkpasswd_hash(
     out: &mut [u8],
     work: &mut Work,
 ) -> i32
-    ensures hashes { (answer : Result ℕ Refused) × Hashes password.now setting.now out.old out.new work.new answer × (result ≡ length_told answer) }
-    ensures each { (new : List ℕ) → (done : Done) → TellsOrLacks length_told (Hashes password.now setting.now out.old new done) result }
+    ensures hashes { (answer : Result ℕ Refused) × Hashes password.now setting.now out.old out.new work.new answer
+        × (result ≡ length_told answer) }
+    ensures each { (new : List ℕ) → (done : Done)
+        → TellsOrLacks length_told (Hashes password.now setting.now out.old new done) result }
 {
     let mut meter = Meter::new();
-    let answer = hashed(alloc, password, setting, out, &mut meter);
-    *work = counted(&meter);
-    told(answer)
+    let answer = put_hash(alloc, password, setting, out, &mut meter);
+    *work = counts_of(&meter);
+    length_number(answer)
 }
 
-/// What a hash by the setting that a text spells counts at most, for any password of so many bytes: `most` gets it, and 0
-/// is answered. Nothing is hashed for it, and no memory is taken.
+/// What a hash by the setting that a text spells counts at most, for any password of so many bytes: `most` gets it, and
+/// 0 is answered. Nothing is hashed for it, and no memory is taken.
 ///
 /// The refusals: too many bytes for a password, and those of the text as a setting. After one `most` is as it was.
 #[unsafe(no_mangle)]
 pub extern "C" fn mkpasswd_bound(stored: &[u8], password_len: usize, most: &mut Work) -> i32
-    ensures tells { (answer : Result ℕ Refused) × Tells work_bound stored.now password_len most.old most.new answer × (result ≡ length_told answer) }
+    ensures tells { (answer : Result ℕ Refused) × Tells work_bound stored.now password_len most.old most.new answer
+        × (result ≡ length_told answer) }
     ensures each { (new : Done) → TellsEach length_told (Tells work_bound stored.now password_len most.old new) result }
 {
-    told(bounded(stored, password_len, most))
+    length_number(tell_bound(stored, password_len, most))
 }
 
 /// What such a hash costs at most, as one number: the bytes that it digests, and for scrypt those that it mixes too.
 /// Otherwise as [`mkpasswd_bound`].
 #[unsafe(no_mangle)]
 pub extern "C" fn mkpasswd_cost(stored: &[u8], password_len: usize, number: &mut u64) -> i32
-    ensures tells { (answer : Result ℕ Refused) × Tells cost stored.now password_len number.old number.new answer × (result ≡ length_told answer) }
+    ensures tells { (answer : Result ℕ Refused) × Tells cost stored.now password_len number.old number.new answer
+        × (result ≡ length_told answer) }
     ensures each { (new : ℕ) → TellsEach length_told (Tells cost stored.now password_len number.old new) result }
 {
-    told(priced(stored, password_len, number))
+    length_number(tell_cost(stored, password_len, number))
 }
 
 /// Whether the setting of a stored text is replaced by that of another text: 1 or 0. It is where new hashes are of
@@ -94,15 +99,16 @@ pub extern "C" fn mkpasswd_cost(stored: &[u8], password_len: usize, number: &mut
 /// The refusals: those of the stored text as a setting, and then those of the other one.
 #[unsafe(no_mangle)]
 pub extern "C" fn mkpasswd_replaced(stored: &[u8], new: &[u8]) -> i32
-    ensures replaces { (answer : Result Bool Refused) × Replaces stored.now new.now answer × (result ≡ verdict_told answer) }
+    ensures replaces { (answer : Result Bool Refused) × Replaces stored.now new.now answer
+        × (result ≡ verdict_told answer) }
     ensures each { TellsEach verdict_told (Replaces stored.now new.now) result }
 {
-    verdict(replaced(stored, new))
+    verdict_number(is_replaced(stored, new))
 }
 
-/// Puts the text of a new setting and a byte 0 into `out`, and answers the text's length. The method is 1 for md5crypt, 5
-/// for sha256crypt, 6 for sha512crypt or 7 for scrypt, as in its texts; the cost is that of `mkpasswd -R`; and the salt is
-/// made of three random words, which the caller draws.
+/// Puts the text of a new setting and a byte 0 into `out`, and answers the text's length. The method is 1 for md5crypt,
+/// 5 for sha256crypt, 6 for sha512crypt or 7 for scrypt, as in its texts; the cost is that of `mkpasswd -R`; and the
+/// salt is made of three random words, which the caller draws.
 ///
 /// The refusals, of which the first that holds is answered: a method that there isn't, a cost that the method doesn't
 /// take, and too few bytes in `out`. After one `out` is as it was.
@@ -115,22 +121,25 @@ pub extern "C" fn mkpasswd_setting(
     third: u64,
     out: &mut [u8],
 ) -> i32
-    ensures makes { (answer : Result ℕ Refused) × Makes method cost (first ∷ second ∷ third ∷ []) out.old out.new answer × (result ≡ length_told answer) }
-    ensures each { (new : List ℕ) → TellsEach length_told (Makes method cost (first ∷ second ∷ third ∷ []) out.old new) result }
+    ensures makes { (answer : Result ℕ Refused) × Makes method cost (first ∷ second ∷ third ∷ []) out.old out.new answer
+        × (result ≡ length_told answer) }
+    ensures each { (new : List ℕ)
+        → TellsEach length_told (Makes method cost (first ∷ second ∷ third ∷ []) out.old new) result }
 {
-    told(made(method, cost, [first, second, third], out))
+    length_number(put_setting(method, cost, [first, second, third], out))
 }
 
-/// Puts the words for a refusal and a byte 0 into `out`, and answers how many bytes the words have. The number is the one
-/// that a call answered.
+/// Puts the words for a refusal and a byte 0 into `out`, and answers how many bytes the words have. The number is the
+/// one that a call answered.
 ///
 /// The refusals: a number that stands for none, and too few bytes in `out`. After one `out` is as it was.
 #[unsafe(no_mangle)]
 pub extern "C" fn mkpasswd_refusal(number: i32, out: &mut [u8]) -> i32
-    ensures explains { (answer : Result ℕ Refused) × Explains number out.old out.new answer × (result ≡ length_told answer) }
+    ensures explains { (answer : Result ℕ Refused) × Explains number out.old out.new answer
+        × (result ≡ length_told answer) }
     ensures each { (new : List ℕ) → TellsEach length_told (Explains number out.old new) result }
 {
-    told(explained(number, out))
+    length_number(put_refusal(number, out))
 }
 
 /// The version: 10000 times its first number, 100 times its second, and its third.
@@ -142,7 +151,7 @@ pub extern "C" fn mkpasswd_version() -> u32
 }
 
 // A verdict as a number.
-fn verdict(answer: Result<bool, Refusal>) -> i32
+fn verdict_number(answer: Result<bool, Refusal>) -> i32
     ensures { result ≡ verdict_told answer }
 {
     match answer {
@@ -153,7 +162,7 @@ fn verdict(answer: Result<bool, Refusal>) -> i32
 }
 
 // A length as a number.
-fn told(answer: Result<usize, Refusal>) -> i32
+fn length_number(answer: Result<usize, Refusal>) -> i32
     requires { IfOk answer (λ count. count < 2 ^ 31) }
     ensures { result ≡ length_told answer }
 {
@@ -164,7 +173,7 @@ fn told(answer: Result<usize, Refusal>) -> i32
 }
 
 // The counts of a meter that one call has raised.
-fn counted(meter: &Meter) -> Work
+fn counts_of(meter: &Meter) -> Work
     requires { IsSmall meter.now }
     ensures { result ≡ meter.now }
 {

@@ -1,11 +1,11 @@
 //! How a service looks at a stored text before it hashes by it.
 #![tactic(auto)]
 
-ghost use Rattle.std.specs.Prelude.{◌≤◌, ◌↔◌, ◌^◌, IfErr, IfOk, IsTrue};
+ghost use Rattle.std.specs.Prelude.{◌≤◌, ◌↔◌, IfErr, IfOk, IsTrue};
 ghost use Rattle.crypt_core.specs.Passwords.{password_limit};
 ghost use Rattle.crypt_core.specs.Refusals.{IsRefused};
 ghost use Rattle.crypt_core.specs.Settings.{Kept, Spells};
-ghost use Rattle.crypt_core.specs.Work.{cost, work_bound};
+ghost use Rattle.service.specs.Limits.{IsAffordable};
 
 use crypt_core::setting::{Setting, SettingFault};
 use crypt_core::work::{bound, cost};
@@ -14,8 +14,8 @@ use crypt_core::work::{bound, cost};
 /// within 64 MiB of table and 16 KiB of scratch memory.
 pub fn is_affordable(stored: &[u8], password_len: usize) -> Result<bool, SettingFault>
     requires { password_len ≤ password_limit }
-    ensures told { IfOk result (λ is. (kept : Kept) × Spells stored.now kept × (IsTrue is
-        ↔ ((cost kept password_len ≤ 150000000) × ((work_bound kept password_len).table ≤ 2 ^ 26) × ((work_bound kept password_len).scratch ≤ 2 ^ 14)))) }
+    ensures told { IfOk result (λ answer. (kept : Kept) × Spells stored.now kept
+        × (IsTrue answer ↔ IsAffordable kept password_len)) }
     ensures refused { IfErr result (IsRefused stored.now) }
 {
     let setting = Setting::read(stored)?;

@@ -5,9 +5,9 @@ use Rattle.crypt_c.proofs.OneAnswer.{told_once}
 use Rattle.crypt_c.proofs.mkpasswd_cost.Goals as goal
 
 pub returns-clause-tells : goal.returns-clause-tells
-returns-clause-tells c = (c.priced.result, c.priced.ensures.tells, search rules)
+returns-clause-tells c = (c.tell_cost.result, c.tell_cost.ensures.tells, search rules)
 
 pub returns-clause-each : goal.returns-clause-each
 returns-clause-each c new answer holds =
     let is_told = returns-clause-tells c in
-    is_told.2 ∙ ap length_told (told_once cost c.args.stored.now c.args.password_len c.priced.ensures.one_reading c.args.number.now c.priced.new.number new is_told.0 answer is_told.1 holds)
+    is_told.2 ∙ ap length_told (told_once cost c.args.stored.now c.args.password_len c.tell_cost.ensures.one_reading c.args.number.now c.tell_cost.new.number new is_told.0 answer is_told.1 holds)

@@ -5,10 +5,10 @@ use Rattle.crypt_c.proofs.OneAnswer.{hashed_once}
 use Rattle.crypt_c.proofs.mkpasswd_hash.Goals as goal
 
 pub returns-clause-hashes : goal.returns-clause-hashes
-returns-clause-hashes c = (c.hashed-answer.result, rw c.counted.ensures c.hashed-answer.ensures.hashes, search rules)
+returns-clause-hashes c = (c.put_hash-answer.result, rw c.counts_of.ensures c.put_hash-answer.ensures.hashes, search rules)
 
 pub returns-clause-each : goal.returns-clause-each
 returns-clause-each c new done answer holds =
     let told = returns-clause-hashes c in
     subst (λ number. IsToldOrLacks length_told number answer) (sym told.2)
-    (hashed_once c.args.password.now c.args.setting.now c.hashed-answer.ensures.one_reading c.args.out.now c.hashed-answer.new.out new c.counted.result done told.0 answer told.1 holds)
+    (hashed_once c.args.password.now c.args.setting.now c.put_hash-answer.ensures.one_reading c.args.out.now c.put_hash-answer.new.out new c.counts_of.result done told.0 answer told.1 holds)

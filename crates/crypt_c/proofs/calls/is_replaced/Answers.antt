@@ -1,4 +1,4 @@
-use Rattle.crypt_c.proofs.calls.replaced.Goals as goal
+use Rattle.crypt_c.proofs.calls.is_replaced.Goals as goal
 
 -- a text that is refused spells nothing
 pub returns-in_err-stored-clause-then_one : goal.returns-in_err-stored-clause-then_one

@@ -2,7 +2,7 @@ use Rattle.std.proofs.Common.{◌≡◌, ◌<◌, ◌∙◌, length, rules, ap}
 use Rattle.crypt_core.specs.Crypt.{crypt}
 use Rattle.crypt_core.specs.Work.{work}
 use Rattle.crypt_c.proofs.Hashing.{hashes}
-use Rattle.crypt_c.proofs.calls.hashed.Goals as goal
+use Rattle.crypt_c.proofs.calls.put_hash.Goals as goal
 
 pub returns-clause-hashes : goal.returns-clause-hashes
 returns-clause-hashes c =
