@@ -2,6 +2,7 @@
 # make run        builds what is missing and hashes a first password
 # make check      every check but the soak, and the gate; with STRICT=1 a tool that is missing is a failure, and with
 #                 ANEW=1 the gate proves all, also what an earlier one on this machine has passed
+# make gate       proves all that no gate on this machine has passed, runs the tests, and tries the edits that must fail
 # make bench      measures against libxcrypt, in some two minutes
 # make soak       has LINES random lines of each kind answered (default 10000), by the SEED that it prints or is given
 # make lib        builds the C libraries, libmkpasswd.a and libmkpasswd.so.1
@@ -25,7 +26,7 @@ ARCHIVE ?= mkpasswd-$(VERSION)-$(if $(filter x86-64,$(CPU)),x86_64_v1,$(subst -,
 # The scripts take these from the environment, whatever characters they have.
 export DESTDIR PREFIX LIBDIR ARCHIVE RT
 
-.PHONY: all run lib check bench soak install dist clean FORCE
+.PHONY: all run lib check layers gate bench soak install dist clean FORCE
 .DELETE_ON_ERROR:
 # rt takes all cores for itself.
 .NOTPARALLEL:
@@ -61,9 +62,8 @@ libmkpasswd.a: build/mkpasswd.o
 libmkpasswd.so.1: build/mkpasswd.o
 	$(CC) -shared -Wl,-soname,$@ -Wl,-z,relro -Wl,-z,now -Wl,-z,defs $(LDFLAGS) -o $@ build/mkpasswd.o
 
-check: mkpasswd lib
-	tools/check-layers --selftest
-	tools/check-layers
+# The layers and the gate come first, since they need nothing built.
+check: layers gate mkpasswd lib
 	tools/check-program ./mkpasswd
 	tools/check-memory ./mkpasswd
 	tools/compare --selftest
@@ -75,8 +75,16 @@ check: mkpasswd lib
 	tools/check-manual ./mkpasswd
 	tools/check-parallel ./mkpasswd
 	tools/check-installed $(or $(CPU),x86-64-v2)
+
+layers:
+	tools/check-layers --selftest
+	tools/check-layers
+
+# The gate leaves the program that it proved, so there is none to prove again but for other processors.
+gate: build/cpu
 	tools/gate --selftest
 	tools/gate $(if $(ANEW),--anew)
+	$(if $(CPU),,cp crates/program/out/program mkpasswd)
 
 bench: mkpasswd
 	tools/bench ./mkpasswd

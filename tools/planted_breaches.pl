@@ -190,7 +190,7 @@ return {
         ],
         [
             'tests that are none, below',
-            "$lines/tests/cut_short.rt" => $makes, "$lines.rt" => ["#[cfg(test)]\npub(crate) mod tests;", 'pub(crate) mod tests;'],
+            "$lines/tests/cut_short.rt" => $makes, "$lines.rt" => ["#[cfg(test)]\nmod tests;", 'mod tests;'],
         ],
         [
             'a comment in place of the attribute',

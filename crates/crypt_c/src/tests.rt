@@ -1,3 +1,5 @@
+ghost use Rattle.std.specs.Prelude.{◌≤◌, length};
+
 use super::*;
 
 // The text of openssl-passwd(1) for "password".
@@ -41,6 +43,15 @@ const OTHER: Work = Work {
     scratch: 7,
 };
 
+// Bytes that begin with a text, and dots behind it.
+fn with_dots(text: &[u8]) -> [u8; 64]
+    requires { length text.now ≤ 64 }
+{
+    let mut bytes = [b'.'; 64];
+    bytes[..text.len()].copy_from_slice(text);
+    bytes
+}
+
 #[test]
 fn compares_passwords(rt: HostRuntime) {
     let long = [b'a'; 1025];
@@ -57,45 +68,52 @@ fn compares_passwords(rt: HostRuntime) {
     ];
     for (password, stored, answer, counts) in rows {
         let mut work = OTHER;
-        assert_eq!(rt;
-            mkpasswd_fits(rt.alloc(), password, stored, &mut work),
-            answer,
-            "{stored:?}"
-        );
-        assert_eq!(rt; work, counts, "{stored:?}");
+        let told = mkpasswd_fits(rt.alloc(), password, stored, &mut work);
+        assert_eq!(rt; (told, work), (answer, counts), "{stored:?}");
     }
 }
 
 #[test]
 fn puts_hashes(rt: HostRuntime) {
-    let mut out = [b'.'; 40];
-    let mut work = OTHER;
-    let answer = mkpasswd_hash(rt.alloc(), b"password", b"$1$xxxxxxxx", &mut out, &mut work);
-    assert_eq!(rt; answer, 34);
-    assert_eq!(rt; out.get(..34), Some(STORED), "the hash");
-    assert_eq!(rt;
-        out.get(34..),
-        Some(b"\0.....".as_slice()),
-        "what stands behind it"
-    );
-    assert_eq!(rt; work, WORK);
-    let rows: [(usize, &[u8], &[u8], i32, Work); 5] = [
-        (35, b"password", STORED, 34, WORK),
-        (59, b"", b"$7$2/..../....", 58, SCRYPT_WORK),
-        (34, b"password", STORED, -12, NO_WORK),
-        (0, b"password", b"abc", -5, NO_WORK),
-        (0, b"a\0b", STORED, -2, NO_WORK),
+    let rows: [(usize, &[u8], &[u8], i32, Work, &[u8]); 6] = [
+        (
+            40,
+            b"password",
+            b"$1$xxxxxxxx",
+            34,
+            WORK,
+            b"$1$xxxxxxxx$UYCIxa628.9qXjpQCjM4a.\0",
+        ),
+        (
+            35,
+            b"password",
+            STORED,
+            34,
+            WORK,
+            b"$1$xxxxxxxx$UYCIxa628.9qXjpQCjM4a.\0",
+        ),
+        (
+            59,
+            b"",
+            b"$7$2/..../....",
+            58,
+            SCRYPT_WORK,
+            b"$7$2/..../....$rNxJWVHNv/mCNcgE/f6/L4zO6Fos5c2uTzhyzoisI62\0",
+        ),
+        (34, b"password", STORED, -12, NO_WORK, b""),
+        (0, b"password", b"abc", -5, NO_WORK, b""),
+        (0, b"a\0b", STORED, -2, NO_WORK, b""),
     ];
-    for (len, password, setting, answer, counts) in rows {
-        assert!(rt; len <= 64);
+    for (len, password, setting, answer, counts, put) in rows {
+        assert!(rt; len <= 64 && put.len() <= 64);
         let mut out = [b'.'; 64];
         let mut work = OTHER;
-        let answered = mkpasswd_hash(rt.alloc(), password, setting, &mut out[..len], &mut work);
-        assert_eq!(rt; answered, answer, "{len} bytes");
-        assert_eq!(rt; work, counts, "{len} bytes");
-        if answer < 0 {
-            assert_eq!(rt; out, [b'.'; 64], "{len} bytes");
-        }
+        let told = mkpasswd_hash(rt.alloc(), password, setting, &mut out[..len], &mut work);
+        assert_eq!(rt;
+            (told, work, out),
+            (answer, counts, with_dots(put)),
+            "{len} bytes"
+        );
     }
 }
 
@@ -113,15 +131,23 @@ fn tells_costs(rt: HostRuntime) {
     ];
     for (stored, len, answer, number) in rows {
         let mut cost = 7;
-        assert_eq!(rt; mkpasswd_cost(stored, len, &mut cost), answer, "{stored:?}");
-        assert_eq!(rt; cost, number, "{stored:?}");
+        let told = mkpasswd_cost(stored, len, &mut cost);
+        assert_eq!(rt; (told, cost), (answer, number), "{stored:?}");
     }
-    let mut most = OTHER;
-    assert_eq!(rt; mkpasswd_bound(STORED, 8, &mut most), 0);
-    assert_eq!(rt; most, WORK);
-    assert_eq!(rt; mkpasswd_bound(b"abc", 8, &mut most), -5);
-    assert_eq!(rt; mkpasswd_bound(b"abc", 1025, &mut most), -1);
-    assert_eq!(rt; most, WORK, "as it was");
+}
+
+#[test]
+fn tells_bounds(rt: HostRuntime) {
+    let rows: [(&[u8], usize, i32, Work); 3] = [
+        (STORED, 8, 0, WORK),
+        (b"abc", 8, -5, OTHER),
+        (b"abc", 1025, -1, OTHER),
+    ];
+    for (stored, len, answer, work) in rows {
+        let mut most = OTHER;
+        let told = mkpasswd_bound(stored, len, &mut most);
+        assert_eq!(rt; (told, most), (answer, work), "{stored:?} {len}");
+    }
 }
 
 #[test]
@@ -142,61 +168,58 @@ fn tells_what_is_replaced(rt: HostRuntime) {
 #[test]
 fn makes_settings(rt: HostRuntime) {
     let rows: [(u32, u32, usize, i32, &[u8]); 10] = [
-        (1, 0, 40, 11, b"$1$/0......"),
-        (1, 77, 12, 11, b"$1$/0......"),
-        (5, 0, 40, 19, b"$5$/0.............."),
-        (6, 10, 40, 31, b"$6$rounds=1000$/0.............."),
-        (7, 0, 40, 36, b"$7$CU..../..../0...................."),
-        (7, 11, 40, 36, b"$7$GU..../..../0...................."),
+        (1, 0, 40, 11, b"$1$/0......\0"),
+        (1, 77, 12, 11, b"$1$/0......\0"),
+        (5, 0, 40, 19, b"$5$/0..............\0"),
+        (6, 10, 40, 31, b"$6$rounds=1000$/0..............\0"),
+        (7, 0, 40, 36, b"$7$CU..../..../0....................\0"),
+        (7, 11, 40, 36, b"$7$GU..../..../0....................\0"),
         (2, 0, 40, -13, b""),
         (7, 5, 40, -14, b""),
         (1, 0, 11, -12, b""),
         (7, 5, 0, -14, b""),
     ];
-    for (method, cost, len, answer, text) in rows {
-        assert!(rt; len <= 40);
-        let mut out = [b'.'; 40];
-        let answered = mkpasswd_setting(method, cost, 129, 0, 0, &mut out[..len]);
-        assert_eq!(rt; answered, answer, "{method} {cost}");
-        if answer < 0 {
-            assert_eq!(rt; out, [b'.'; 40], "{method} {cost}");
-        } else {
-            assert!(rt; out.starts_with(text), "{method} {cost}");
-            assert_eq!(rt; out.get(text.len()), Some(&0), "{method} {cost}");
-        }
+    for (method, cost, len, answer, put) in rows {
+        assert!(rt; len <= 64 && put.len() <= 64);
+        let mut out = [b'.'; 64];
+        let told = mkpasswd_setting(method, cost, 129, 0, 0, &mut out[..len]);
+        assert_eq!(rt; (told, out), (answer, with_dots(put)), "{method} {cost}");
     }
 }
 
 #[test]
 fn explains_refusals(rt: HostRuntime) {
-    let rows = [
-        (-1, "password too long"),
-        (-2, "password has a zero byte"),
-        (-3, "setting too long"),
-        (-4, "bad character"),
-        (-5, "unknown scheme"),
-        (-6, "bad rounds"),
-        (-7, "bad cost"),
-        (-8, "scrypt range"),
-        (-9, "above ceiling"),
-        (-10, "bad salt"),
-        (-11, "out of memory"),
-        (-12, "too few bytes"),
-        (-13, "unknown method"),
-        (-14, "cost"),
-        (-15, "unknown refusal"),
+    let rows: [(i32, usize, i32, &[u8]); 20] = [
+        (-1, 40, 17, b"password too long\0"),
+        (-2, 40, 24, b"password has a zero byte\0"),
+        (-3, 40, 16, b"setting too long\0"),
+        (-4, 40, 13, b"bad character\0"),
+        (-5, 40, 14, b"unknown scheme\0"),
+        (-6, 40, 10, b"bad rounds\0"),
+        (-7, 40, 8, b"bad cost\0"),
+        (-8, 40, 12, b"scrypt range\0"),
+        (-9, 40, 13, b"above ceiling\0"),
+        (-10, 40, 8, b"bad salt\0"),
+        (-11, 40, 13, b"out of memory\0"),
+        (-12, 40, 13, b"too few bytes\0"),
+        (-13, 40, 14, b"unknown method\0"),
+        (-14, 40, 4, b"cost\0"),
+        (-15, 40, 15, b"unknown refusal\0"),
+        (0, 4, -15, b""),
+        (1, 4, -15, b""),
+        (-16, 4, -15, b""),
+        (i32::MIN, 4, -15, b""),
+        (-14, 4, -12, b""),
     ];
-    for (number, words) in rows {
-        let mut out = [b'.'; 40];
-        let answer = mkpasswd_refusal(number, &mut out);
-        assert_eq!(rt; answer, words.len() as i32, "{number}");
-        assert!(rt; out.starts_with(words.as_bytes()), "{number}");
-        assert_eq!(rt; out.get(words.len()), Some(&0), "{number}");
+    for (number, len, answer, put) in rows {
+        assert!(rt; len <= 64 && put.len() <= 64);
+        let mut out = [b'.'; 64];
+        let told = mkpasswd_refusal(number, &mut out[..len]);
+        assert_eq!(rt; (told, out), (answer, with_dots(put)), "{number}");
     }
-    for (number, answer) in [(0, -15), (1, -15), (-16, -15), (i32::MIN, -15), (-14, -12)] {
-        let mut out = [b'.'; 4];
-        assert_eq!(rt; mkpasswd_refusal(number, &mut out), answer, "{number}");
-        assert_eq!(rt; out, [b'.'; 4], "{number}");
-    }
+}
+
+#[test]
+fn tells_the_version(rt: HostRuntime) {
     assert_eq!(rt; mkpasswd_version(), 10000);
 }

@@ -22,6 +22,17 @@ pub(crate) fn hexadecimal(alloc: Global, bytes: &[u8]) -> Result<String, AllocEr
     Ok(text)
 }
 
+// All counts of a meter: digests, bytes, mixings, bytes of the table and of the scratch.
+pub(crate) fn counts(meter: &Meter) -> (u128, u128, u128, u128, u128) {
+    (
+        meter.digests(),
+        meter.bytes(),
+        meter.mixes(),
+        meter.table(),
+        meter.scratch(),
+    )
+}
+
 // The tag of two pieces under a key, and the work of both.
 fn tag_of(key: &[u8], a: &[u8], b: &[u8], meter: &mut Meter) -> [u8; 32]
     requires fresh { meter.old ≡ no_work }
@@ -93,80 +104,68 @@ fn tags_of_the_standard(rt: HostRuntime) -> Result<(), Fail> {
             let (a, b) = text.split_at(cut);
             let mut meter = Meter::new();
             let tag = tag_of(key, a, b, &mut meter);
-            assert_eq!(rt;
-                hexadecimal(rt.alloc(), &tag)?.as_str(),
-                wanted,
-                "of {text:?} cut at {cut}"
-            );
             let (digests, bytes) = if key.len() > 64 {
-                (1, key.len())
+                (3, key.len())
             } else {
-                (0, 0)
+                (2, 0)
             };
+            let told = hexadecimal(rt.alloc(), &tag)?;
             assert_eq!(rt;
-                (meter.digests(), meter.bytes()),
-                (2 + digests, 160 + len as u128 + bytes as u128),
-                "work of {text:?}"
+                (told.as_str(), meter.digests(), meter.bytes()),
+                (wanted, digests, 160 + len as u128 + bytes as u128),
+                "of {text:?} cut at {cut}"
             );
         }
     }
     Ok(())
 }
 
-// The last two tags are from Python's `hmac`.
+// The last two tags are from Python's `hmac`. The key serves any number of them, each for two digests.
 #[test]
 fn keys_and_their_work(rt: HostRuntime) -> Result<(), Fail> {
-    let rows: [(&[u8], u128, u128, &str); 3] = [
+    let rows: [(&[u8], &[u8], u128, u128, &str); 3] = [
         (
             b"Jefe",
+            b"what do ya want for nothing?",
             0,
             0,
             "5bdcc146bf60754e6a042426089575c75a003f089d2739839dec58b964ec3843",
         ),
         (
             &[b'k'; 64],
+            b"text",
             0,
             0,
             "0414bb1d8c0c4556cdb2028727b16610ae377b1a194b6db1f853d4297f2329bc",
         ),
         (
             &[b'k'; 65],
+            b"text",
             1,
             65,
             "5b69580123e3d7e788b7e8352ac37a3247b911c5ec0837147b74109a6382d3f5",
         ),
     ];
-    for (bytes, digests, fed, wanted) in rows {
-        assert!(rt; bytes.len() <= 65);
+    for (bytes, text, digests, fed, wanted) in rows {
+        assert!(rt; bytes.len() <= 65 && text.len() <= 28);
         let mut meter = Meter::new();
         let key = HmacKey::new(bytes, &mut meter);
-        let len = bytes.len();
+        let of_key = (meter.digests(), meter.bytes());
+        let first = hexadecimal(rt.alloc(), &key.tag(b"", text, &mut meter))?;
+        let second = hexadecimal(rt.alloc(), &key.tag(b"", text, &mut meter))?;
+        let of_tags = 2 * (160 + text.len() as u128);
         assert_eq!(rt;
-            (meter.digests(), meter.bytes()),
-            (digests, fed),
-            "a key of {len} bytes"
+            (
+                of_key,
+                first.as_str(),
+                second.as_str(),
+                meter.digests(),
+                meter.bytes()
+            ),
+            ((digests, fed), wanted, wanted, digests + 4, fed + of_tags),
+            "a key of {} bytes",
+            bytes.len()
         );
-        let text: &[u8] = if len == 4 {
-            b"what do ya want for nothing?"
-        } else {
-            b"text"
-        };
-        // The key serves any number of tags.
-        for nth in [1, 2] {
-            let mut meter = Meter::new();
-            let tag = key.tag(b"", text, &mut meter);
-            assert_eq!(rt;
-                hexadecimal(rt.alloc(), &tag)?.as_str(),
-                wanted,
-                "tag {nth}, key of {len}"
-            );
-            let work = (meter.digests(), meter.bytes());
-            assert_eq!(rt;
-                work,
-                (2, 160 + text.len() as u128),
-                "tag {nth}, key of {len}"
-            );
-        }
     }
     Ok(())
 }
@@ -254,17 +253,12 @@ fn bytes_of_the_standards(rt: HostRuntime) -> Result<(), Fail> {
         let mut meter = Meter::new();
         let key = HmacKey::new(row.password, &mut meter);
         pbkdf2(&key, row.salt, rounds, &mut out, &mut meter);
+        let told = hexadecimal(rt.alloc(), &out)?;
         assert_eq!(rt;
-            hexadecimal(rt.alloc(), &out)?.as_str(),
-            row.wanted,
+            (told.as_str(), counts(&meter)),
+            (row.wanted, (row.digests, row.bytes, 0, 0, 0)),
             "{rounds} rounds, {count} bytes"
         );
-        assert_eq!(rt;
-            (meter.digests(), meter.bytes()),
-            (row.digests, row.bytes),
-            "work of {rounds} rounds, {count} bytes"
-        );
-        assert_eq!(rt; (meter.mixes(), meter.table(), meter.scratch()), (0, 0, 0));
     }
     Ok(())
 }
@@ -281,8 +275,14 @@ fn no_bytes_cost_nothing(rt: HostRuntime) {
 fn two_rounds_by_the_contract(rt: HostRuntime) -> Result<(), Fail> {
     let mut meter = Meter::new();
     let out = two_rounds(b"password", b"salt", &mut meter);
-    let wanted = "ae4d0c95af6b46d32d0adff928f06dd02a303f8ef3c251dfd6e2d85a95474c43";
-    assert_eq!(rt; hexadecimal(rt.alloc(), &out)?.as_str(), wanted);
-    assert_eq!(rt; (meter.digests(), meter.bytes()), (4, 360));
+    let told = hexadecimal(rt.alloc(), &out)?;
+    assert_eq!(rt;
+        (told.as_str(), meter.digests(), meter.bytes()),
+        (
+            "ae4d0c95af6b46d32d0adff928f06dd02a303f8ef3c251dfd6e2d85a95474c43",
+            4,
+            360
+        )
+    );
     Ok(())
 }

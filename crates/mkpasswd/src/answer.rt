@@ -307,6 +307,3 @@ fn append_count(line: &mut Text, count: u128)
     line.try_extend_from_slice(Buffer::new().format(count).as_bytes())
         .unwrap();
 }
-
-#[cfg(test)]
-mod tests;

@@ -304,8 +304,7 @@ mod tests {
             (Fault::from(RunFault::Turns), 3, "too many turns"),
         ];
         for (fault, status, text) in rows {
-            assert_eq!(rt; fault.status(), status, "the status of {fault:?}");
-            assert_eq!(rt; fault.text(), text, "the text of {fault:?}");
+            assert_eq!(rt; (fault.status(), fault.text()), (status, text));
         }
     }
 }

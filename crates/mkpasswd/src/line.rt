@@ -198,4 +198,4 @@ fn field_fault(field: &[u8]) -> Option<SettingFault>
 }
 
 #[cfg(test)]
-mod tests;
+pub(crate) mod tests;

@@ -210,4 +210,4 @@ fn read_piece<I: Read, O: Write, E: Write, R: Rng>(
 }
 
 #[cfg(test)]
-pub(crate) mod tests;
+mod tests;

@@ -35,6 +35,8 @@ mod tests {
     use crate::test_devices::MemoryWriter;
     use crate::test_devices::calls::Call::{Flush, Write};
     use crate::test_devices::calls::{Device, FAILURE, Step, bytes_taken, calls_of};
+    use std::alloc::Global;
+    use std::process::Abort;
     use std::test::Fail;
 
     const NO_LINE: Tally = Tally {
@@ -49,48 +51,52 @@ mod tests {
         (Device::Output, Write(len, Ok(taken)))
     }
 
+    // Wants this outcome of a run whose output takes so many bytes a call, in these calls, and of one in which the call
+    // behind the first `whole` fails, if there is one.
+    fn want(
+        rt: &impl Abort,
+        alloc: Global,
+        (most, turns): (usize, u64),
+        steps: &[Step],
+        whole: usize,
+        outcome: Result<Tally, RunFault>,
+    ) -> Result<(), Fail> {
+        assert!(rt; turns <= 1 << 40);
+        let writer = MemoryWriter::new(alloc).by(most);
+        let mut out = Output::new(writer.failing_at((whole as u64).saturating_add(1), FAILURE));
+        let ended = run_methods(&mut out, turns);
+        let writer = out.into_inner();
+        let calls = calls_of(alloc, steps, whole, Device::Output)?;
+        assert_eq!(rt;
+            (ended, writer.calls(), Some(writer.taken())),
+            (
+                outcome,
+                calls.as_slice(),
+                LIST.get(..bytes_taken(calls.as_slice()))
+            ),
+            "{most} a call, {turns} turns, {whole} steps"
+        );
+        Ok(())
+    }
+
     // The whole run, and with each of its calls failing in turn.
     #[test]
     fn lists_the_methods(rt: HostRuntime) -> Result<(), Fail> {
         let (alloc, flush) = (rt.alloc(), (Device::Output, Flush(Ok(()))));
         let turns = Err(RunFault::Turns);
-        let rows: [(&str, usize, u64, &[Step], Result<Tally, RunFault>); 5] = [
-            ("one turn", 99, 1, &[write(59, 59), flush], Ok(NO_LINE)),
-            ("no turn", 99, 0, &[], turns),
-            (
-                "in parts",
-                25,
-                3,
-                &[write(59, 25), write(34, 25), write(9, 9), flush],
-                Ok(NO_LINE),
-            ),
-            (
-                "two turns of three",
-                25,
-                2,
-                &[write(59, 25), write(34, 25)],
-                turns,
-            ),
-            ("no byte taken", 0, 9, &[write(59, 0)], Err(RunFault::Write)),
+        let write_fault = Err(RunFault::Write);
+        let in_parts: [Step; 4] = [write(59, 25), write(34, 25), write(9, 9), flush];
+        let rows: [((usize, u64), &[Step], Result<Tally, RunFault>); 5] = [
+            ((99, 1), &[write(59, 59), flush], Ok(NO_LINE)),
+            ((99, 0), &[], turns),
+            ((25, 3), &in_parts, Ok(NO_LINE)),
+            ((25, 2), &in_parts[..2], turns),
+            ((0, 9), &[write(59, 0)], write_fault),
         ];
-        for (what, most, turns, steps, outcome) in rows {
-            assert!(rt; turns <= 1 << 40);
-            for whole in 0..steps.len() + 1 {
-                let call = whole as u64 + 1;
-                let mut out = Output::new(
-                    MemoryWriter::new(alloc).by(most).failing_at(call, FAILURE),
-                );
-                let wanted = if whole < steps.len() {
-                    Err(RunFault::Write)
-                } else {
-                    outcome
-                };
-                assert_eq!(rt; run_methods(&mut out, turns), wanted, "{what}, {call}");
-                let writer = out.into_inner();
-                let calls = calls_of(alloc, steps, whole, Device::Output)?;
-                assert_eq!(rt; writer.calls(), calls.as_slice(), "{what}, {call}");
-                let taken = LIST.get(..bytes_taken(calls.as_slice()));
-                assert_eq!(rt; Some(writer.taken()), taken, "{what}, {call}");
+        for (limits, steps, outcome) in rows {
+            want(&rt, alloc, limits, steps, steps.len(), outcome)?;
+            for whole in 0..steps.len() {
+                want(&rt, alloc, limits, steps, whole, write_fault)?;
             }
         }
         assert_eq!(rt; NO_LINE.status(), 0);

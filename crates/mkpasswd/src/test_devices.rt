@@ -264,8 +264,8 @@ mod tests {
         let mut reader = MemoryReader::new(rt.alloc(), b"abc").by(2).repeated();
         let mut buffer = [b'.'; 3];
         for (count, gave) in [(2, *b"ab."), (1, *b"cb."), (2, *b"ab.")] {
-            assert_eq!(rt; reader.read(&mut buffer).ok(), Some(count));
-            assert_eq!(rt; buffer, gave);
+            let given = reader.read(&mut buffer).ok();
+            assert_eq!(rt; (given, buffer), (Some(count), gave));
         }
     }
 }

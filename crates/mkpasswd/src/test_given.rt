@@ -2,7 +2,7 @@
 
 use crate::fault::RunFault;
 use crate::tally::Tally;
-use crate::test_devices::calls::{Device, FAILURE, Step, bytes_taken, calls_of};
+use crate::test_devices::calls::{Call, Device, FAILURE, Step, bytes_taken, calls_of};
 use crate::test_devices::{MemoryReader, MemoryWriter};
 use prims_core::meter::Meter;
 use std::alloc::{AllocError, Global};
@@ -82,10 +82,23 @@ impl<'a> Left<'a> {
         out: &[u8],
         faults: &[u8],
     ) {
-        assert_eq!(rt; self.outcome, outcome, "{what}");
-        assert_eq!(rt; self.out.taken(), out, "{what}: the output");
-        assert_eq!(rt; self.faults.taken(), faults, "{what}: the fault output");
+        assert_eq!(rt;
+            (self.outcome, self.out.taken(), self.faults.taken()),
+            (outcome, out, faults),
+            "{what}"
+        );
     }
+}
+
+/// The five counts of a meter.
+pub fn counted(meter: &Meter) -> [u128; 5] {
+    [
+        meter.digests(),
+        meter.bytes(),
+        meter.mixes(),
+        meter.table(),
+        meter.scratch(),
+    ]
 }
 
 /// The outcome of a run, and its devices: the output, the fault output and the input.
@@ -108,6 +121,12 @@ pub struct Listed<'a> {
     pub outcome: Result<Tally, RunFault>,
     pub out: &'a str,
     pub faults: &'a str,
+}
+
+// As many bytes of the text as these calls took.
+fn taken_of<'a>(text: &'a str, calls: &[Call]) -> &'a [u8] {
+    let bytes = text.as_bytes();
+    bytes.get(..bytes_taken(calls)).unwrap_or(bytes)
 }
 
 impl<'a> Listed<'a> {
@@ -148,23 +167,22 @@ impl<'a> Listed<'a> {
             Some(_) => Err(RunFault::Write),
             None => self.outcome,
         };
-        let what = (self.words, whole);
-        assert_eq!(rt; left.outcome, outcome, "{what:?}");
-        let calls = calls_of(alloc, self.steps, whole, Device::Input)?;
+        let reads = calls_of(alloc, self.steps, whole, Device::Input)?;
+        let writes = calls_of(alloc, self.steps, whole, Device::Output)?;
+        let told = calls_of(alloc, self.steps, whole, Device::Faults)?;
         assert_eq!(rt;
-            left.reader.calls(),
-            calls.as_slice(),
-            "{what:?}: the input"
+            (left.reader.calls(), left.out.calls(), left.faults.calls()),
+            (reads.as_slice(), writes.as_slice(), told.as_slice()),
+            "the calls of {:?} before step {whole}",
+            self.words
         );
-        for (device, writer, text) in [
-            (Device::Output, &left.out, self.out),
-            (Device::Faults, &left.faults, self.faults),
-        ] {
-            let calls = calls_of(alloc, self.steps, whole, device)?;
-            assert_eq!(rt; writer.calls(), calls.as_slice(), "{what:?}: {device:?}");
-            let taken = text.as_bytes().get(..bytes_taken(calls.as_slice()));
-            assert_eq!(rt; Some(writer.taken()), taken, "{what:?}: {device:?}");
-        }
+        left.want(
+            rt,
+            self.out,
+            outcome,
+            taken_of(self.out, writes.as_slice()),
+            taken_of(self.faults, told.as_slice()),
+        );
         Ok(())
     }
 }

@@ -5,8 +5,8 @@ use super::*;
 #[test]
 fn ranges_and_ceilings(rt: HostRuntime) {
     let rows = [
-        (4, 1, 1, Ok(())),
-        (15, 1, 256, Ok(())),
+        (4, 1, 1, Ok(16)),
+        (15, 1, 256, Ok(32_768)),
         (0, 1, 1, Err(ParamFault::Range)),
         (4, 0, 1, Err(ParamFault::Range)),
         (4, 1, 0, Err(ParamFault::Range)),
@@ -27,22 +27,12 @@ fn ranges_and_ceilings(rt: HostRuntime) {
         ),
     ];
     for (log_n, r, p, wanted) in rows {
-        match Params::new(log_n, r, p) {
-            Ok(params) => {
-                assert_eq!(rt; Ok(()), wanted, "log2 N = {log_n}, r = {r}, p = {p}");
-                assert_eq!(rt; params.log_n(), log_n, "log2 N");
-                assert_eq!(rt;
-                    u64::from(params.row_count()),
-                    2_u64.pow(u32::from(log_n)),
-                    "N"
-                );
-                assert_eq!(rt; params.r(), r, "r");
-                assert_eq!(rt; params.p(), p, "p");
-            }
-            Err(fault) => {
-                assert_eq!(rt; Err(fault), wanted, "log2 N = {log_n}, r = {r}, p = {p}");
-            }
-        }
+        let told = Params::new(log_n, r, p).map(|it| (it.log_n(), it.row_count(), it.r(), it.p()));
+        assert_eq!(rt;
+            told,
+            wanted.map(|row_count| (log_n, row_count, r, p)),
+            "log2 N = {log_n}, r = {r}, p = {p}"
+        );
     }
 }
 

@@ -4,7 +4,7 @@ ghost use Rattle.std.specs.Prelude.{◌≡◌, ◌≤◌, length, IfOk};
 ghost use Rattle.kdf_core.specs.Scrypt.{scrypt};
 
 use super::*;
-use crate::tests::hexadecimal;
+use crate::tests::{counts, hexadecimal};
 use crate::work::scrypt_work;
 use prims_core::work::Work;
 use std::test::Fail;
@@ -119,17 +119,6 @@ fn counts_of(work: Work) -> (u128, u128, u128, u128, u128) {
     )
 }
 
-// All counts of a meter.
-fn counts(meter: &Meter) -> (u128, u128, u128, u128, u128) {
-    (
-        meter.digests(),
-        meter.bytes(),
-        meter.mixes(),
-        meter.table(),
-        meter.scratch(),
-    )
-}
-
 #[test]
 fn rows_of_the_standard(rt: HostRuntime) -> Result<(), Fail> {
     for row in ROWS {
@@ -146,27 +135,17 @@ fn rows_of_the_standard(rt: HostRuntime) -> Result<(), Fail> {
             &mut out,
             &mut meter,
         )?;
-        let text = hexadecimal(rt.alloc(), &out)?;
-        assert_eq!(rt;
-            text.as_str(),
-            row.wanted,
-            "of {log_n}, {r}, {p}, {count} bytes"
-        );
-        assert_eq!(rt;
-            counts(&meter),
-            row.work,
-            "work of {log_n}, {r}, {p}, {count} bytes"
-        );
         let known = scrypt_work(
             &params,
             row.password.len() as u64,
             row.salt.len() as u64,
             count as u64,
         );
+        let told = hexadecimal(rt.alloc(), &out)?;
         assert_eq!(rt;
-            counts_of(known),
-            row.work,
-            "known work of {log_n}, {r}, {p}, {count} bytes"
+            (told.as_str(), counts(&meter), counts_of(known)),
+            (row.wanted, row.work, row.work),
+            "of {log_n}, {r}, {p}, {count} bytes"
         );
     }
     Ok(())

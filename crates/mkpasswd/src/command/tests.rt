@@ -10,12 +10,11 @@ ghost use Rattle.mkpasswd.specs.Texts.{as_line};
 mod faults;
 
 use super::*;
-use crate::lines::tests::ANSWERED;
-use crate::options::tests::{REFUSED, words_of};
+use crate::options::tests::words_of;
 use crate::test_devices::calls::Call::{Flush, Write};
 use crate::test_devices::calls::FAILURE;
 use crate::test_devices::{ListedWords, MemoryReader, MemoryWriter};
-use crate::test_given::Given;
+use crate::test_given::{Given, counted};
 use std::process::Abort;
 use std::test::Fail;
 
@@ -103,125 +102,147 @@ fn serve<'a>(
 // Wants this status and these texts of a run.
 fn want(rt: &impl Abort, words: &[&str], served: &Served<'_>, status: u8, told: (&str, &str)) {
     let (answered, out, faults, _) = &served.ran;
-    assert_eq!(rt; *answered, status, "the status of {words:?}");
-    assert_eq!(rt; out.taken(), told.0.as_bytes(), "{words:?}: the output");
     assert_eq!(rt;
-        faults.taken(),
-        told.1.as_bytes(),
-        "{words:?}: the fault output"
+        (*answered, out.taken(), faults.taken()),
+        (status, told.0.as_bytes(), told.1.as_bytes()),
+        "{words:?}"
     );
 }
 
-// The words and the input; the status and both texts; and the counts of digests, bytes, mixings and table.
+// Wants this status, these texts and these counts of a run over the input, which draws no word.
+fn want_run(
+    rt: &impl Abort,
+    alloc: Global,
+    words: &[&str],
+    input: &str,
+    status: u8,
+    told: (&str, &str),
+    counts: [u128; 5],
+) -> Result<(), Fail> {
+    let given = Given::new(alloc).reading(MemoryReader::new(alloc, input.as_bytes()));
+    let served = serve(rt, alloc, words, given, true)?;
+    want(rt, words, &served, status, told);
+    assert_eq!(rt;
+        (served.next_word, counted(&served.meter)),
+        (Some(129), counts),
+        "{words:?}"
+    );
+    Ok(())
+}
+
+// What md5crypt counts for a password of eight bytes and a salt of as many.
+const COUNTS: [u128; 5] = [1002, 36239, 0, 0, 0];
+
 #[test]
 fn serves_one_password(rt: HostRuntime) -> Result<(), Fail> {
-    let alloc = rt.alloc();
-    let counts = [1002, 36239, 0, 0];
-    let rows: [(&[&str], &str, u8, (&str, &str), [u128; 4]); 8] = [
-        (&BY_WORD, "other\n", 0, (ANSWER, ""), counts),
+    let rows: [(&[&str], &str, u8, (&str, &str), [u128; 5]); 7] = [
+        (&BY_WORD, "other\n", 0, (ANSWER, ""), COUNTS),
         (
-            &["-m", "md5", "-S", "xxxxxxxx", "-s"],
+            &["-m", "md5", "-S", "xxxxxxxx"],
             "password\nmore",
             0,
             (ANSWER, ""),
-            counts,
-        ),
-        (
-            &["-m", "md5", "-S", "xxxxxxxx"],
-            "password",
-            0,
-            (ANSWER, ""),
-            counts,
+            COUNTS,
         ),
         (
             &["-m", "md5", "--work", "password", "xxxxxxxx"],
             "",
             0,
             ("$1$xxxxxxxx$UYCIxa628.9qXjpQCjM4a.:1002:36239:0:0\n", ""),
-            counts,
+            COUNTS,
         ),
-        (&["-m", "help"], "x\n", 0, (LIST, ""), [0; 4]),
+        (&["-m", "help"], "x\n", 0, (LIST, ""), [0; 5]),
         (
             &["-m", "help", "--check", "x", "ab"],
             "",
             0,
             (LIST, ""),
-            [0; 4],
+            [0; 5],
         ),
         (
             &["-m", "md5", "-s"],
             "a\0b\n",
             2,
             ("", "mkpasswd: password has a zero byte\n"),
-            [0; 4],
+            [0; 5],
         ),
         (
             &["-m", "md5", "-S", "-", "x"],
             "",
             2,
             ("", "mkpasswd: salt character\n"),
-            [0; 4],
+            [0; 5],
         ),
     ];
     for (words, input, status, told, counts) in rows {
-        let given = Given::new(alloc).reading(MemoryReader::new(alloc, input.as_bytes()));
-        let served = serve(&rt, alloc, words, given, true)?;
-        want(&rt, words, &served, status, told);
-        assert_eq!(rt; served.next_word, Some(129), "{words:?}: the next word");
-        assert_eq!(rt; counted(&served.meter), counts, "{words:?}: counts");
-        assert_eq!(rt; served.meter.scratch(), 0, "{words:?}: scratch memory");
+        want_run(&rt, rt.alloc(), words, input, status, told, counts)?;
     }
-    let given = Given::new(alloc);
-    let served = serve(&rt, alloc, &["-m", "md5crypt", "password"], given, true)?;
-    assert!(rt;
-        served.ran.1.taken().starts_with(b"$1$/0......$"),
-        "a made salt"
-    );
-    assert_eq!(rt; served.next_word, Some(7), "three words");
     Ok(())
 }
 
-fn counted(meter: &Meter) -> [u128; 4] {
-    [meter.digests(), meter.bytes(), meter.mixes(), meter.table()]
+#[test]
+fn draws_three_words_for_a_salt(rt: HostRuntime) -> Result<(), Fail> {
+    let alloc = rt.alloc();
+    let words = ["-m", "md5crypt", "password"];
+    let served = serve(&rt, alloc, &words, Given::new(alloc), true)?;
+    let told = ("$1$/0......$2QlZKnFqVuhWmzlYGl.px0\n", "");
+    want(&rt, &words, &served, 0, told);
+    assert_eq!(rt; served.next_word, Some(7));
+    Ok(())
 }
 
-// The batches and checks that the runs are tried with, a line over a budget, and one that is hashed anew.
+// A batch, a check, a line at its budget and one below, and a hash that is recent enough.
 #[test]
 fn serves_lines(rt: HostRuntime) -> Result<(), Fail> {
-    let alloc = rt.alloc();
-    for (words, input, (_, refused, misfits), out, faults) in ANSWERED {
-        let given = Given::new(alloc).reading(MemoryReader::new(alloc, input.as_bytes()));
-        let served = serve(&rt, alloc, words, given, true)?;
-        let status = u8::from(refused > 0 || misfits > 0);
-        want(&rt, words, &served, status, (out, faults));
-    }
     let line = "ann:$1$xxxxxxxx$UYCIxa628.9qXjpQCjM4a.:password\n";
-    let rows: [(&[&str], u8, (&str, &str), [u128; 4]); 3] = [
+    let hashes = "ann:$1$xxxxxxxx$UYCIxa628.9qXjpQCjM4a.\nbob:$1$xxxxxxxx$UYCIxa628.9qXjpQCjM4a.\n";
+    let rows: [(&[&str], &str, u8, (&str, &str), [u128; 5]); 5] = [
+        (
+            &["--batch", "-m", "md5", "-S", "xxxxxxxx"],
+            "ann:password\n:x\nbob:password",
+            1,
+            (hashes, "mkpasswd: line 2: no name\n"),
+            [2004, 72478, 0, 0, 0],
+        ),
+        (
+            &["--check"],
+            "b:!:x\nd:$1$xxxxxxxx$UYCIxa628.9qXjpQCjM4a.:Password\n",
+            1,
+            ("b:locked\nd:no\n", ""),
+            COUNTS,
+        ),
         (
             &["--check", "--budget", "36238"],
+            line,
             1,
             ("", "mkpasswd: line 1: over budget\n"),
-            [0; 4],
+            [0; 5],
         ),
         (
             &["--check", "--budget", "36239"],
+            line,
             0,
             ("ann:ok\n", ""),
-            [1002, 36239, 0, 0],
+            COUNTS,
         ),
         (
             &["--check", "--rehash", "-m", "md5", "-S", "yyyyyyyy"],
+            line,
             0,
             ("ann:ok\n", ""),
-            [1002, 36239, 0, 0],
+            COUNTS,
         ),
     ];
-    for (words, status, told, counts) in rows {
-        let given = Given::new(alloc).reading(MemoryReader::new(alloc, line.as_bytes()));
-        let served = serve(&rt, alloc, words, given, true)?;
-        want(&rt, words, &served, status, told);
-        assert_eq!(rt; counted(&served.meter), counts, "{words:?}: counts");
+    for (words, input, status, told, counts) in rows {
+        want_run(&rt, rt.alloc(), words, input, status, told, counts)?;
     }
+    Ok(())
+}
+
+#[test]
+fn serves_new_hashes(rt: HostRuntime) -> Result<(), Fail> {
+    let alloc = rt.alloc();
+    let line = b"ann:$1$xxxxxxxx$UYCIxa628.9qXjpQCjM4a.:password\n";
     let words = [
         "--check",
         "--rehash",
@@ -232,99 +253,137 @@ fn serves_lines(rt: HostRuntime) -> Result<(), Fail> {
         "-S",
         "ab",
     ];
-    let given = Given::new(alloc).reading(MemoryReader::new(alloc, line.as_bytes()));
+    let given = Given::new(alloc).reading(MemoryReader::new(alloc, line));
     let served = serve(&rt, alloc, &words, given, true)?;
     want(&rt, &words, &served, 0, (RENEWED, ""));
     Ok(())
 }
 
-// The words that a plan refuses read nothing, draw nothing and count nothing, and take one call.
-#[test]
-fn refuses_words(rt: HostRuntime) -> Result<(), Fail> {
-    let alloc = rt.alloc();
-    for (words, status, text) in REFUSED {
-        let given = Given::new(alloc).reading(MemoryReader::new(alloc, b"x\n"));
-        let served = serve(&rt, alloc, words, given, true)?;
-        let (answered, out, faults, input) = &served.ran;
-        assert_eq!(rt; *answered, status, "the status of {words:?}");
-        assert_eq!(rt; input.calls().len(), 0, "{words:?}: the input");
-        assert_eq!(rt; served.next_word, Some(129), "{words:?}: the next word");
-        assert_eq!(rt; counted(&served.meter), [0; 4], "{words:?}: counts");
-        let told = if status == 0 { out } else { faults };
-        assert_eq!(rt; told.calls().len(), 2, "{words:?}: a text and a flush");
-        assert_eq!(rt;
-            out.calls().len() + faults.calls().len(),
-            2,
-            "{words:?}: one output"
-        );
-        if !text.is_empty() {
-            let line = format!(in alloc; "mkpasswd: {text}\n")?;
-            assert_eq!(rt; faults.taken(), line.as_bytes(), "{words:?}: the fault");
-        }
+// Words that are refused, by their status and text, which is empty where `clap` has it.
+const REFUSED: [(&[&str], u8, &str); 24] = [
+    (&["--help"], 0, ""),
+    (&["-V"], 0, ""),
+    (&["-Q"], 2, ""),
+    (&["x", "ab", "cd"], 2, ""),
+    (&["-R", "4294967296"], 2, ""),
+    (&["--budget", "18446744073709551616"], 2, ""),
+    (&["--budget", "few"], 2, ""),
+    (&["-m", "sha1", "x"], 2, "unknown method"),
+    (&["-m", "sha1", "-s", "x"], 2, "unknown method"),
+    (&["-m", "sha1", "-S", "a-b", "x"], 2, "unknown method"),
+    (&["-S", "ab", "x", "cd"], 2, "two salts"),
+    (&["-S", "ab", "-s", "x", "cd"], 2, "two salts"),
+    (&["-s", "x"], 2, "two modes"),
+    (&["-s", "-S", "a-b", "x"], 2, "two modes"),
+    (&["--batch", "--check"], 2, "two modes"),
+    (&["--batch", "x"], 2, "two modes"),
+    (&["--batch", "--check", "-s", "x"], 2, "two modes"),
+    (&["-m", "md5", "x", "1234-6789"], 2, "salt length"),
+    (&["-S", "seventeen.letters", "x"], 2, "salt length"),
+    (&["-S", "", "x"], 2, "salt length"),
+    (&["-S", "a-b", "x"], 2, "salt character"),
+    (
+        &["-m", "scrypt", "-R", "5", "-S", "a-b", "x"],
+        2,
+        "salt character",
+    ),
+    (&["-m", "scrypt", "-R", "12", "x"], 2, "cost"),
+    (&["--check", "-m", "scrypt", "-R", "12"], 2, "cost"),
+];
+
+// What words that are refused leave: nothing is read, drawn or counted, and one output has one text and a flush.
+fn want_refused(
+    rt: &impl Abort,
+    alloc: Global,
+    words: &[&str],
+    status: u8,
+    text: &str,
+) -> Result<(), Fail> {
+    let given = Given::new(alloc).reading(MemoryReader::new(alloc, b"x\n"));
+    let served = serve(rt, alloc, words, given, true)?;
+    let (answered, out, faults, input) = &served.ran;
+    let (told, untold) = if status == 0 {
+        (out, faults)
+    } else {
+        (faults, out)
+    };
+    assert_eq!(rt;
+        (
+            *answered,
+            told.calls().len(),
+            untold.calls().len(),
+            input.calls().len()
+        ),
+        (status, 2, 0, 0),
+        "{words:?}"
+    );
+    assert_eq!(rt;
+        (served.next_word, counted(&served.meter)),
+        (Some(129), [0; 5]),
+        "{words:?}"
+    );
+    if !text.is_empty() {
+        let line = format!(in alloc; "mkpasswd: {text}\n")?;
+        assert_eq!(rt; faults.taken(), line.as_bytes(), "{words:?}");
     }
     Ok(())
 }
 
-// `clap`'s texts go where they belong, whether or not there is a generator.
+#[test]
+fn refuses_words(rt: HostRuntime) -> Result<(), Fail> {
+    for (words, status, text) in REFUSED {
+        want_refused(&rt, rt.alloc(), words, status, text)?;
+    }
+    Ok(())
+}
+
+#[test]
+fn helps_without_a_generator(rt: HostRuntime) -> Result<(), Fail> {
+    let alloc = rt.alloc();
+    let served = serve(&rt, alloc, &["--help"], Given::new(alloc), false)?;
+    let (status, out, faults, _) = &served.ran;
+    let front = b"Prints the crypt(5) hash of a password";
+    assert_eq!(rt;
+        (
+            *status,
+            out.taken().starts_with(front),
+            faults.calls().len()
+        ),
+        (0, true, 0)
+    );
+    Ok(())
+}
+
+// What draws nothing.
 #[test]
 fn serves_without_a_generator(rt: HostRuntime) -> Result<(), Fail> {
     let alloc = rt.alloc();
-    let texts: [(&[&str], u8, bool, &str); 4] = [
-        (
-            &["--help"],
-            0,
-            true,
-            "Prints the crypt(5) hash of a password",
-        ),
-        (&["-V"], 0, true, "mkpasswd 1.0.0\n"),
-        (&["-Q"], 2, false, "error: unexpected argument '-Q' found"),
-        (
-            &["--budget=x"],
-            2,
-            false,
-            "error: invalid value 'x' for '--budget <NUMBER>'",
-        ),
+    let rows: [(&[&str], u8, (&str, &str)); 3] = [
+        (&["-V"], 0, ("mkpasswd 1.0.0\n", "")),
+        (&["-mhelp"], 0, (LIST, "")),
+        (&["-msha1"], 2, ("", "mkpasswd: unknown method\n")),
     ];
-    for generates in [true, false] {
-        for (words, status, to_out, front) in texts {
-            let given = Given::new(alloc).reading(MemoryReader::new(alloc, b"x\n"));
-            let served = serve(&rt, alloc, words, given, generates)?;
-            let (answered, out, faults, input) = &served.ran;
-            let (told, untold) = if to_out { (out, faults) } else { (faults, out) };
-            assert_eq!(rt; *answered, status, "the status of {words:?}");
-            assert!(rt; told.taken().starts_with(front.as_bytes()), "{words:?}");
-            assert_eq!(rt; untold.calls().len(), 0, "{words:?}: the other output");
-            assert_eq!(rt; input.calls().len(), 0, "{words:?}: the input");
-            assert_eq!(rt; served.next_word.is_some(), generates, "{words:?}");
-        }
-        let rows: [(&[&str], u8, (&str, &str)); 2] = [
-            (&["-mhelp"], 0, (LIST, "")),
-            (&["-msha1"], 2, ("", "mkpasswd: unknown method\n")),
-        ];
-        for (words, status, told) in rows {
-            let served = serve(&rt, alloc, words, Given::new(alloc), generates)?;
-            want(&rt, words, &served, status, told);
-        }
+    for (words, status, told) in rows {
+        let served = serve(&rt, alloc, words, Given::new(alloc), false)?;
+        want(&rt, words, &served, status, told);
     }
+    Ok(())
+}
+
+#[test]
+fn wants_a_generator(rt: HostRuntime) -> Result<(), Fail> {
+    let alloc = rt.alloc();
     let needing: [&[&str]; 4] = [&BY_WORD, &["-s"], &["--batch"], &["--check"]];
     for words in needing {
         let given = Given::new(alloc).reading(MemoryReader::new(alloc, b"x\n"));
         let served = serve(&rt, alloc, words, given, false)?;
-        let (answered, out, faults, input) = &served.ran;
-        assert_eq!(rt; *answered, 3, "the status of {words:?}");
+        want(&rt, words, &served, 3, ("", "mkpasswd: start fault\n"));
+        let (_, _, faults, input) = &served.ran;
         assert_eq!(rt;
-            faults.taken(),
-            b"mkpasswd: start fault\n".as_slice(),
+            (input.calls().len(), faults.calls()),
+            (0, [Write(22, Ok(22)), Flush(Ok(()))].as_slice()),
             "{words:?}"
         );
-        assert_eq!(rt;
-            faults.calls(),
-            [Write(22, Ok(22)), Flush(Ok(()))].as_slice(),
-            "{words:?}: one line"
-        );
-        assert_eq!(rt; out.calls().len(), 0, "{words:?}: the output");
-        assert_eq!(rt; input.calls().len(), 0, "{words:?}: the input");
-        assert_eq!(rt; served.meter.digests(), 0, "{words:?}: digests");
     }
     Ok(())
 }

@@ -127,22 +127,23 @@ mod tests {
             .failing_at(2, ErrorKind::PermissionDenied)
             .failing_flush(ErrorKind::BrokenPipe);
         let mut out = Output::new(&mut writer);
-        assert_eq!(rt; out.failures(), 0);
-        assert_eq!(rt; out.give(b"abc").ok(), Some(2), "the first two bytes");
-        assert_eq!(rt;
-            fault_of(out.give(b"c")),
-            Some(ErrorKind::PermissionDenied),
-            "the failed call's own error"
-        );
-        assert_eq!(rt; out.give(b"").ok(), Some(0), "an empty piece");
-        assert_eq!(rt; out.failures(), 1, "an empty piece is no failure");
-        assert_eq!(rt;
-            fault_of(out.flush()),
-            Some(ErrorKind::BrokenPipe),
-            "the failed flush's own error"
-        );
-        assert_eq!(rt; out.failures(), 2);
+        let first = out.give(b"abc").ok();
+        let failed = fault_of(out.give(b"c"));
+        let empty = out.give(b"").ok();
+        let unflushed = fault_of(out.flush());
+        let failures = out.failures();
         drop(out);
+        assert_eq!(rt;
+            (first, failed, empty, unflushed, failures),
+            (
+                Some(2),
+                Some(ErrorKind::PermissionDenied),
+                Some(0),
+                Some(ErrorKind::BrokenPipe),
+                2
+            ),
+            "the failed calls' own errors, and no failure of an empty piece"
+        );
         assert_eq!(rt; writer.taken(), b"ab".as_slice());
         assert_eq!(rt;
             writer.calls(),

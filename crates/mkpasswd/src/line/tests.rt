@@ -97,9 +97,9 @@ fn inspects_lines_to_hash(rt: HostRuntime) {
 }
 
 // Bytes, then one byte so many times, then bytes.
-type Pieces<'a> = (&'a [u8], (usize, u8), &'a [u8]);
+pub(crate) type Pieces<'a> = (&'a [u8], (usize, u8), &'a [u8]);
 
-fn joined(alloc: Global, pieces: Pieces<'_>) -> Result<Vec<u8>, AllocError> {
+pub(crate) fn joined(alloc: Global, pieces: Pieces<'_>) -> Result<Vec<u8>, AllocError> {
     let (front, (count, byte), back) = pieces;
     let mut line = Vec::new(alloc);
     line.extend_from_slice(front)?;
@@ -116,100 +116,26 @@ fn measures_lines(rt: HostRuntime) -> Result<(), Fail> {
     let field_too_long = bad_setting(SettingFault::TooLong);
     let batch = Kind::Batch;
     let check = Kind::Check;
-    let rows: [(&str, Kind, Pieces<'_>, Option<LineFault>); 20] = [
-        (
-            "2,049 bytes",
-            batch,
-            (b":", (2048, b'x'), b""),
-            line_too_long,
-        ),
-        ("2,048 bytes", batch, (b":", (2047, b'x'), b""), NO_NAME),
-        (
-            "2,048 of a name",
-            batch,
-            (b"", (2048, b'x'), b""),
-            NAME_TOO_LONG,
-        ),
-        (
-            "65 of a name",
-            batch,
-            (b"", (65, b'a'), b":x"),
-            NAME_TOO_LONG,
-        ),
-        ("64 of a name", batch, (b"", (64, b'a'), b":x"), None),
-        (
-            "1,025 of a password",
-            batch,
-            (b"a:", (1025, b'x'), b""),
-            PASSWORD_TOO_LONG,
-        ),
-        (
-            "1,024 of a password",
-            batch,
-            (b"a:", (1024, b'x'), b""),
-            None,
-        ),
-        (
-            "1,025 and a colon",
-            batch,
-            (b"a:b:", (1023, b'x'), b""),
-            PASSWORD_TOO_LONG,
-        ),
-        (
-            "2,049 bytes",
-            check,
-            (b":", (2048, b'x'), b""),
-            line_too_long,
-        ),
-        ("2,048 bytes", check, (b":", (2047, b'x'), b""), NO_NAME),
-        ("65 bytes", check, (b"", (65, b'a'), b""), NAME_TOO_LONG),
-        ("64 bytes", check, (b"", (64, b'a'), b""), NO_PASSWORD),
-        (
-            "65 of a name",
-            check,
-            (b"", (65, b'a'), b"::x"),
-            NAME_TOO_LONG,
-        ),
-        ("64 of a name", check, (b"", (64, b'a'), b"::x"), None),
-        (
-            "1,025 of a password",
-            check,
-            (b"a::", (1025, b'x'), b""),
-            PASSWORD_TOO_LONG,
-        ),
-        (
-            "1,024 of a password",
-            check,
-            (b"a::", (1024, b'x'), b""),
-            None,
-        ),
-        (
-            "1,025 and a colon",
-            check,
-            (b"a::b:", (1023, b'x'), b""),
-            PASSWORD_TOO_LONG,
-        ),
-        (
-            "385 of a field",
-            check,
-            (b"a:", (385, b'$'), b":x"),
-            field_too_long,
-        ),
-        ("385, locked", check, (b"a:", (385, b'!'), b":x"), None),
-        (
-            "385, empty password",
-            check,
-            (b"a:", (385, b'$'), b":"),
-            field_too_long,
-        ),
+    let rows: [(Kind, Pieces<'_>, Option<LineFault>); 15] = [
+        (batch, (b":", (2048, b'x'), b""), line_too_long),
+        (batch, (b"", (2048, b'x'), b""), NAME_TOO_LONG),
+        (batch, (b"", (65, b'a'), b":x"), NAME_TOO_LONG),
+        (batch, (b"", (64, b'a'), b":x"), None),
+        (batch, (b"a:", (1025, b'x'), b""), PASSWORD_TOO_LONG),
+        (batch, (b"a:", (1024, b'x'), b""), None),
+        (check, (b":", (2048, b'x'), b""), line_too_long),
+        (check, (b"", (65, b'a'), b""), NAME_TOO_LONG),
+        (check, (b"", (65, b'a'), b"::x"), NAME_TOO_LONG),
+        (check, (b"", (64, b'a'), b""), NO_PASSWORD),
+        (check, (b"a::b:", (1023, b'x'), b""), PASSWORD_TOO_LONG),
+        (check, (b"a::", (1024, b'x'), b""), None),
+        (check, (b"a:", (385, b'!'), b":x"), None),
+        (check, (b"a:", (385, b'$'), b":"), field_too_long),
+        (check, (b"a:", (385, b'$'), b":x"), field_too_long),
     ];
-    for (what, kind, pieces, wanted) in rows {
+    for (kind, pieces, wanted) in rows {
         let line = joined(rt.alloc(), pieces)?;
-        assert_eq!(rt;
-            inspect(kind, line.as_slice()),
-            wanted,
-            "{what} for {kind:?}"
-        );
+        assert_eq!(rt; inspect(kind, line.as_slice()), wanted, "{pieces:?}");
     }
     Ok(())
 }

@@ -15,7 +15,7 @@ use crate::job::Plan;
 use crate::options::plan;
 use crate::options::tests::words_of;
 use crate::test_devices::{ListedWords, MemoryReader, MemoryWriter};
-use crate::test_given::{Given, Left, Ran};
+use crate::test_given::{Given, Left, Ran, counted};
 use std::io::ErrorKind;
 use std::process::Abort;
 use std::test::Fail;
@@ -26,7 +26,9 @@ const BATCH: [&str; 5] = ["--batch", "-m", "md5crypt", "-S", "xxxxxxxx"];
 // The hash of "password", of openssl-passwd(1), behind a name.
 const ANN: &str = "ann:$1$xxxxxxxx$UYCIxa628.9qXjpQCjM4a.\n";
 
-const BOB: &str = "bob:$1$xxxxxxxx$UYCIxa628.9qXjpQCjM4a.\n";
+// That, and the same for another name.
+const HASHES: &str =
+    "ann:$1$xxxxxxxx$UYCIxa628.9qXjpQCjM4a.\nbob:$1$xxxxxxxx$UYCIxa628.9qXjpQCjM4a.\n";
 
 const NO_NAME: &str = "mkpasswd: line 2: no name\n";
 
@@ -132,18 +134,31 @@ fn tally(lines: u64, refused: u64, misfits: u64) -> Tally {
 // What is told of a line that costs more than the budget.
 const OVER: (&str, &str) = ("", "mkpasswd: line 1: over budget\n");
 
-// The five counts of a meter.
-fn counted(meter: &Meter) -> [u128; 5] {
-    [
-        meter.digests(),
-        meter.bytes(),
-        meter.mixes(),
-        meter.table(),
-        meter.scratch(),
-    ]
+// Runs over the input, and wants this outcome, these texts, this word to be drawn next, and so many digests, without
+// which nothing is counted.
+fn want_work(
+    rt: &impl Abort,
+    alloc: Global,
+    words: &[&str],
+    input: &str,
+    outcome: Tally,
+    told: (&str, &str),
+    next_word: u64,
+    digests: u128,
+) -> Result<(), Fail> {
+    let given = Given::new(alloc).reading(MemoryReader::new(alloc, input.as_bytes()));
+    let left = run_words(rt, alloc, words, given)?;
+    left.want(rt, input, Ok(outcome), told.0.as_bytes(), told.1.as_bytes());
+    let counts = counted(&left.meter);
+    assert_eq!(rt;
+        (left.next_word, counts[0], counts == [0; 5]),
+        (next_word, digests, digests == 0),
+        "{words:?}: {input}"
+    );
+    Ok(())
 }
 
-// Runs over one line, and wants this text on the one output or the other, word that is drawn next, and digests.
+// Runs over one line, as above, which is refused where something is told on the fault output, and else answered.
 fn want_line(
     rt: &impl Abort,
     alloc: Global,
@@ -153,39 +168,10 @@ fn want_line(
     next_word: u64,
     digests: u128,
 ) -> Result<(), Fail> {
-    let given = Given::new(alloc).reading(MemoryReader::new(alloc, line.as_bytes()));
-    let left = run_words(rt, alloc, words, given)?;
     let refused = u64::from(!told.1.is_empty());
     let misfits = u64::from(told.0.contains(":no:") || told.0.ends_with(":no\n"));
-    assert_eq!(rt;
-        left.outcome,
-        Ok(tally(1, refused, misfits)),
-        "{words:?}: {line}"
-    );
-    assert_eq!(rt;
-        left.out.taken(),
-        told.0.as_bytes(),
-        "{words:?}: the output for {line}"
-    );
-    assert_eq!(rt;
-        left.faults.taken(),
-        told.1.as_bytes(),
-        "{words:?}: the faults of {line}"
-    );
-    assert_eq!(rt;
-        left.next_word,
-        next_word,
-        "{words:?}: the next word after {line}"
-    );
-    assert_eq!(rt;
-        left.meter.digests(),
-        digests,
-        "{words:?}: digests of {line}"
-    );
-    if digests == 0 {
-        assert_eq!(rt; counted(&left.meter), [0; 5], "{words:?}: counts of {line}");
-    }
-    Ok(())
+    let outcome = tally(1, refused, misfits);
+    want_work(rt, alloc, words, line, outcome, told, next_word, digests)
 }
 
 const CHECK: &[&str] = &["--check"];
@@ -194,21 +180,21 @@ const COUNTED: &[&str] = &["--check", "--work"];
 
 // Words, an input, the lines with those that are refused and those that are answered `no`, and both texts. Published
 // texts: of openssl-passwd(1), of Drepper's specification, and of libxcrypt.
-pub(crate) const ANSWERED: [(&[&str], &str, (u64, u64, u64), &str, &str); 15] = [
+const ANSWERED: [(&[&str], &str, (u64, u64, u64), &str, &str); 15] = [
     (&BATCH, "", (0, 0, 0), "", ""),
     (&BATCH, "\n", (1, 1, 0), "", "mkpasswd: line 1: no name\n"),
     (
         &BATCH,
         "ann:password\n:x\nbob:password",
         (3, 1, 0),
-        "ann:$1$xxxxxxxx$UYCIxa628.9qXjpQCjM4a.\nbob:$1$xxxxxxxx$UYCIxa628.9qXjpQCjM4a.\n",
+        HASHES,
         NO_NAME,
     ),
     (
         &BATCH,
         "ann:password\n:x\nbob:password\n",
         (3, 1, 0),
-        "ann:$1$xxxxxxxx$UYCIxa628.9qXjpQCjM4a.\nbob:$1$xxxxxxxx$UYCIxa628.9qXjpQCjM4a.\n",
+        HASHES,
         NO_NAME,
     ),
     (&BATCH, "ann:password\n\n", (2, 1, 0), ANN, NO_NAME),
@@ -301,24 +287,29 @@ fn answers_line_by_line(rt: HostRuntime) -> Result<(), Fail> {
     Ok(())
 }
 
+// The second hash has a salt of the words behind the first one's.
 #[test]
 fn draws_words_for_hashed_lines_alone(rt: HostRuntime) -> Result<(), Fail> {
-    let alloc = rt.alloc();
-    let reader = MemoryReader::new(alloc, b"ann:password\n:x\nbob:password\n");
-    let words = ["--batch", "-m", "md5crypt"];
-    let left = run_words(&rt, alloc, &words, Given::new(alloc).reading(reader))?;
-    assert_eq!(rt; left.outcome, Ok(tally(3, 1, 0)));
-    let text = left.out.taken();
-    assert_eq!(rt; text.len(), 78);
-    assert!(rt; text.starts_with(b"ann:$1$/0......$"));
-    let second = text.get(39..).unwrap_or(b"");
-    assert!(rt; second.starts_with(b"bob:$1$00......$"));
-    assert_eq!(rt; left.next_word, 7, "six words");
-    assert_eq!(rt; left.meter.digests(), 2004, "digests");
-    assert_eq!(rt; left.meter.bytes(), 72478, "bytes");
-    let reader = MemoryReader::new(alloc, b"c::x\ne\n");
-    let left = run_words(&rt, alloc, &["--check"], Given::new(alloc).reading(reader))?;
-    assert_eq!(rt; left.next_word, 129, "no word");
-    assert_eq!(rt; left.meter.digests(), 0, "no digest");
-    Ok(())
+    let out = "ann:$1$/0......$2QlZKnFqVuhWmzlYGl.px0\nbob:$1$00......$rv7ToD.7n.3crvqZikurX.\n";
+    want_work(
+        &rt,
+        rt.alloc(),
+        &["--batch", "-m", "md5crypt"],
+        "ann:password\n:x\nbob:password\n",
+        tally(3, 1, 0),
+        (out, NO_NAME),
+        7,
+        2004,
+    )?;
+    let told = ("c:none\n", "mkpasswd: line 2: no password field\n");
+    want_work(
+        &rt,
+        rt.alloc(),
+        CHECK,
+        "c::x\ne\n",
+        tally(2, 1, 0),
+        told,
+        129,
+        0,
+    )
 }

@@ -1,158 +1,153 @@
 use super::*;
 
-// What fails is told, as far as the fault output takes it, and has its status all the same. The line of a fault takes
-// no turn, and stands behind those of refused lines.
+const ANN: &str = "ann:$1$xxxxxxxx$UYCIxa628.9qXjpQCjM4a.\n";
+
+// What an output does: how many bytes it takes a call, the call that fails, counted from 1, or 0 for none, and whether its
+// flush fails.
+#[derive(Clone, Copy)]
+struct Takes {
+    most: usize,
+    fails_at: u64,
+    flush_fails: bool,
+}
+
+const ALL: Takes = Takes {
+    most: usize::MAX,
+    fails_at: 0,
+    flush_fails: false,
+};
+
+const NOTHING: Takes = Takes { fails_at: 1, ..ALL };
+
+const NO_BYTE: Takes = Takes { most: 0, ..ALL };
+
+const BY_THE_BYTE: Takes = Takes { most: 1, ..ALL };
+
+const FIVE_BYTES: Takes = Takes {
+    most: 5,
+    fails_at: 2,
+    ..ALL
+};
+
+const NO_FLUSH: Takes = Takes {
+    flush_fails: true,
+    ..ALL
+};
+
+fn writer(alloc: Global, takes: Takes) -> MemoryWriter {
+    let writer = MemoryWriter::new(alloc)
+        .by(takes.most)
+        .failing_at(takes.fails_at, FAILURE);
+    if takes.flush_fails {
+        writer.failing_flush(FAILURE)
+    } else {
+        writer
+    }
+}
+
+// Wants this status and these texts of a run by the words over outputs that do as much.
+fn want_cut(
+    rt: &impl Abort,
+    alloc: Global,
+    words: &[&str],
+    reader: MemoryReader<'_>,
+    (out, faults): (Takes, Takes),
+    status: u8,
+    told: (&str, &str),
+) -> Result<(), Fail> {
+    let given = Given::new(alloc)
+        .reading(reader)
+        .writing(writer(alloc, out))
+        .telling(writer(alloc, faults));
+    let served = serve(rt, alloc, words, given, true)?;
+    want(rt, words, &served, status, told);
+    Ok(())
+}
+
+const READ_FAULT: &str = "mkpasswd: read fault\n";
+
+const WRITE_FAULT: &str = "mkpasswd: write fault\n";
+
+// The line of a fault stands behind those of refused lines.
 #[test]
-fn tells_what_fails(rt: HostRuntime) -> Result<(), Fail> {
-    let alloc = rt.alloc();
-    let given = || Given::new(alloc);
-    let writer = || MemoryWriter::new(alloc);
-    let reader = |bytes| MemoryReader::new(alloc, bytes);
-    let by_input: &[&str] = &["-m", "md5crypt", "-S", "xxxxxxxx", "-s"];
-    let batch: &[&str] = &["--batch", "-m", "md5crypt", "-S", "xxxxxxxx"];
-    let unknown: &[&str] = &["-m", "sha1"];
-    let rows: [(&[&str], Given<'_>, u8, (&str, &str)); 12] = [
+fn tells_a_failed_read(rt: HostRuntime) -> Result<(), Fail> {
+    let rows: [(&[&str], &[u8], u64, (&str, &str)); 3] = [
         (
-            by_input,
-            given().reading(reader(b"x\n").failing_at(1, FAILURE)),
-            3,
-            ("", "mkpasswd: read fault\n"),
+            &["-m", "md5crypt", "-S", "xxxxxxxx", "-s"],
+            b"x\n",
+            1,
+            ("", READ_FAULT),
         ),
         (
-            batch,
-            given().reading(
-                reader(b"ann:password\nbob:pa")
-                    .by(19)
-                    .failing_at(2, FAILURE),
-            ),
-            3,
-            (
-                "ann:$1$xxxxxxxx$UYCIxa628.9qXjpQCjM4a.\n",
-                "mkpasswd: read fault\n",
-            ),
+            &["--batch", "-m", "md5crypt", "-S", "xxxxxxxx"],
+            b"ann:password\nbob:pa",
+            2,
+            (ANN, READ_FAULT),
         ),
         (
             &["--check"],
-            given().reading(reader(b"e\nb:!:x\n").failing_at(2, FAILURE)),
-            3,
+            b"e\nb:!:x\n",
+            2,
             (
                 "b:locked\n",
                 "mkpasswd: line 1: no password field\nmkpasswd: read fault\n",
             ),
         ),
-        (
-            &BY_WORD,
-            given().writing(writer().failing_at(1, FAILURE)),
-            3,
-            ("", "mkpasswd: write fault\n"),
-        ),
-        (
-            &BY_WORD,
-            given().writing(writer().failing_flush(FAILURE)),
-            3,
-            (ANSWER, "mkpasswd: write fault\n"),
-        ),
-        (
-            &BY_WORD,
-            given().within(0),
-            3,
-            ("", "mkpasswd: too many turns\n"),
-        ),
-        (
-            &BY_WORD,
-            given()
-                .writing(writer().failing_at(1, FAILURE))
-                .telling(writer().failing_at(1, FAILURE)),
-            3,
-            ("", ""),
-        ),
-        (
-            &["--check"],
-            given()
-                .reading(reader(b"e\n"))
-                .telling(writer().failing_at(1, FAILURE)),
-            3,
-            ("", "mkpasswd: write fault\n"),
-        ),
-        (
-            unknown,
-            given().telling(writer().by(5).failing_at(2, FAILURE)),
-            2,
-            ("", "mkpas"),
-        ),
-        (
-            unknown,
-            given().telling(writer().failing_flush(FAILURE)),
-            2,
-            ("", "mkpasswd: unknown method\n"),
-        ),
-        (
-            unknown,
-            given().telling(writer().by(1)),
-            2,
-            ("", "mkpasswd: unknown method\n"),
-        ),
-        (
-            &["-Q"],
-            given().telling(writer().failing_at(1, FAILURE)),
-            2,
-            ("", ""),
-        ),
     ];
-    for (words, given, status, told) in rows {
-        let served = serve(&rt, alloc, words, given, true)?;
-        want(&rt, words, &served, status, told);
+    for (words, input, call, told) in rows {
+        let alloc = rt.alloc();
+        let reader = MemoryReader::new(alloc, input).failing_at(call, FAILURE);
+        want_cut(&rt, alloc, words, reader, (ALL, ALL), 3, told)?;
     }
     Ok(())
 }
 
-// Help and the version that can't be given are a fault of their own.
+// What fails is told, as far as the fault output takes it, and has its status all the same. Help, the version and the
+// list that can't be given are a fault of their own.
 #[test]
-fn wants_help_given(rt: HostRuntime) -> Result<(), Fail> {
-    let alloc = rt.alloc();
-    let given = || Given::new(alloc);
-    let writer = || MemoryWriter::new(alloc);
-    let fault = "mkpasswd: write fault\n";
+fn tells_a_failed_write(rt: HostRuntime) -> Result<(), Fail> {
     let version: &[&str] = &["-V"];
     let list: &[&str] = &["-mhelp"];
-    let rows: [(&[&str], Given<'_>, (&str, &str)); 7] = [
+    let unknown: &[&str] = &["-m", "sha1"];
+    let unknown_method: (&str, &str) = ("", "mkpasswd: unknown method\n");
+    let untold: (&str, &str) = ("", WRITE_FAULT);
+    let rows: [(&[&str], (Takes, Takes), u8, (&str, &str)); 14] = [
+        (&BY_WORD, (NOTHING, ALL), 3, untold),
+        (&BY_WORD, (NO_FLUSH, ALL), 3, (ANSWER, WRITE_FAULT)),
+        (&BY_WORD, (NOTHING, NOTHING), 3, ("", "")),
+        (&["--check"], (ALL, NOTHING), 3, untold),
+        (unknown, (ALL, FIVE_BYTES), 2, ("", "mkpas")),
+        (unknown, (ALL, NO_FLUSH), 2, unknown_method),
+        (unknown, (ALL, BY_THE_BYTE), 2, unknown_method),
+        (&["-Q"], (ALL, NOTHING), 2, ("", "")),
+        (version, (NOTHING, ALL), 3, untold),
+        (version, (NO_BYTE, ALL), 3, untold),
         (
             version,
-            given().writing(writer().failing_at(1, FAILURE)),
-            ("", fault),
+            (NO_FLUSH, ALL),
+            3,
+            ("mkpasswd 1.0.0\n", WRITE_FAULT),
         ),
-        (version, given().writing(writer().by(0)), ("", fault)),
-        (
-            version,
-            given().writing(writer().failing_flush(FAILURE)),
-            ("mkpasswd 1.0.0\n", fault),
-        ),
-        (
-            version,
-            given().within(0),
-            ("", "mkpasswd: too many turns\n"),
-        ),
-        (
-            list,
-            given().writing(writer().failing_at(1, FAILURE)),
-            ("", fault),
-        ),
-        (
-            list,
-            given().writing(writer().failing_flush(FAILURE)),
-            (LIST, fault),
-        ),
-        (list, given().within(0), ("", "mkpasswd: too many turns\n")),
+        (&["--help"], (NOTHING, ALL), 3, untold),
+        (list, (NOTHING, ALL), 3, untold),
+        (list, (NO_FLUSH, ALL), 3, (LIST, WRITE_FAULT)),
     ];
-    for (words, given, told) in rows {
-        let served = serve(&rt, alloc, words, given, false)?;
+    for (words, outputs, status, told) in rows {
+        let reader = MemoryReader::new(rt.alloc(), b"e\n");
+        want_cut(&rt, rt.alloc(), words, reader, outputs, status, told)?;
+    }
+    Ok(())
+}
+
+// The line of the fault takes no turn.
+#[test]
+fn tells_that_its_turns_ended(rt: HostRuntime) -> Result<(), Fail> {
+    let told = ("", "mkpasswd: too many turns\n");
+    let rows: [&[&str]; 3] = [&BY_WORD, &["-V"], &["-mhelp"]];
+    for words in rows {
+        let given = Given::new(rt.alloc()).within(0);
+        let served = serve(&rt, rt.alloc(), words, given, true)?;
         want(&rt, words, &served, 3, told);
     }
-    let given = given().writing(writer().by(100).failing_at(2, FAILURE));
-    let served = serve(&rt, alloc, &["--help"], given, false)?;
-    let (status, out, faults, _) = &served.ran;
-    assert_eq!(rt; *status, 3, "help");
-    assert_eq!(rt; out.taken().len(), 100, "a part of help");
-    assert_eq!(rt; faults.taken(), fault.as_bytes(), "help");
     Ok(())
 }

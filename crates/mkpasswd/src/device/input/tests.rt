@@ -22,52 +22,36 @@ fn hands_on_the_whole_buffer(rt: HostRuntime) {
 }
 
 #[test]
+fn asks_for_nothing_too(rt: HostRuntime) {
+    let mut input = Input::new(MemoryReader::new(rt.alloc(), b"abcd"));
+    let answer = input.fetch(&mut []).ok();
+    assert_eq!(rt; (answer, input.failures()), (Some(0), 0));
+    assert_eq!(rt; input.into_inner().calls(), [Read(0, Ok(0))].as_slice());
+}
+
+#[test]
 fn counts_what_it_saw(rt: HostRuntime) {
     let reader = MemoryReader::new(rt.alloc(), b"abcd")
         .by(3)
         .failing_at(2, ErrorKind::PermissionDenied);
     let mut input = Input::new(reader);
     let mut buffer = [b'.'; 4];
-    assert_eq!(rt; input.failures(), 0);
-    assert_eq!(rt; input.fetch(&mut buffer).ok(), Some(3), "the first piece");
-    assert_eq!(rt; buffer, *b"abc.");
+    let first = input.fetch(&mut buffer).ok();
+    let failed = fault_of(input.fetch(&mut buffer));
+    let rest = input.fetch(&mut buffer).ok();
+    let end = input.fetch(&mut buffer).ok();
     assert_eq!(rt;
-        fault_of(input.fetch(&mut buffer)),
-        Some(ErrorKind::PermissionDenied),
+        (first, failed, rest, end),
+        (Some(3), Some(ErrorKind::PermissionDenied), Some(1), Some(0)),
         "the failed call's own error"
     );
-    assert_eq!(rt; input.failures(), 1);
-    assert_eq!(rt; input.fetch(&mut buffer).ok(), Some(1), "the rest");
-    assert_eq!(rt; buffer, *b"dbc.");
-    assert_eq!(rt; input.failures(), 1);
+    assert_eq!(rt; (buffer, input.failures()), (*b"dbc.", 1));
     assert_eq!(rt;
         input.into_inner().calls(),
         [
             Read(4, Ok(3)),
             Read(4, Err(ErrorKind::PermissionDenied)),
-            Read(4, Ok(1))
-        ]
-        .as_slice(),
-        "a call each"
-    );
-}
-
-#[test]
-fn giving_nothing_is_no_failure(rt: HostRuntime) {
-    let mut input = Input::new(MemoryReader::new(rt.alloc(), b"ab"));
-    let mut buffer = [b'.'; 4];
-    assert_eq!(rt; input.fetch(&mut []).ok(), Some(0), "an empty buffer");
-    assert_eq!(rt; input.fetch(&mut buffer).ok(), Some(2), "all bytes");
-    assert_eq!(rt; buffer, *b"ab..");
-    assert_eq!(rt; input.fetch(&mut buffer).ok(), Some(0), "the end");
-    assert_eq!(rt; input.fetch(&mut buffer).ok(), Some(0), "after the end");
-    assert_eq!(rt; input.failures(), 0);
-    assert_eq!(rt;
-        input.into_inner().calls(),
-        [
-            Read(0, Ok(0)),
-            Read(4, Ok(2)),
-            Read(4, Ok(0)),
+            Read(4, Ok(1)),
             Read(4, Ok(0))
         ]
         .as_slice(),

@@ -5,8 +5,6 @@ use crate::test_devices::calls::Call::{Read, Write};
 use crate::test_devices::calls::{ALL, Device, FLUSH, FLUSH_FAULTS, Step};
 use crate::test_given::Listed;
 
-const CHECK: [&str; 1] = ["--check"];
-
 // A line of 2,054 bytes, and its line feed.
 fn long_line() -> [u8; 2055] {
     let mut bytes = [b'a'; 2055];
@@ -34,9 +32,6 @@ fn want_steps(rt: &impl Abort, alloc: Global, run: Listed<'_>) -> Result<(), Fai
     }
     Ok(())
 }
-
-const HASHES: &str =
-    "ann:$1$xxxxxxxx$UYCIxa628.9qXjpQCjM4a.\nbob:$1$xxxxxxxx$UYCIxa628.9qXjpQCjM4a.\n";
 
 #[test]
 fn calls_in_order_in_a_batch(rt: HostRuntime) -> Result<(), Fail> {
@@ -108,7 +103,7 @@ fn calls_in_order_in_a_batch(rt: HostRuntime) -> Result<(), Fail> {
 #[test]
 fn calls_in_order_in_a_check(rt: HostRuntime) -> Result<(), Fail> {
     let whole = Listed {
-        words: &CHECK,
+        words: CHECK,
         input: b"b:!:x\nc::x\nd:$1$xxxxxxxx$UYCIxa628.9qXjpQCjM4a.:Password\ne\n",
         by: (ALL, ALL),
         steps: &[

@@ -1,116 +1,90 @@
-//! Lines that are refused, and long ones.
+//! Hostile lines: those that are refused, and what looks like them.
 
 use super::*;
+use crate::line::tests::{Pieces, joined};
 
-// Whether the text is the first one alone, or where something is told behind it that and a line feed.
-fn is_told(text: &[u8], first: &str, told: &str) -> bool {
-    match text.strip_prefix(first.as_bytes()) {
-        Some(rest) if told.is_empty() => rest.is_empty(),
-        Some(rest) => rest.strip_prefix(told.as_bytes()) == Some(b"\n".as_slice()),
-        None => false,
+// Behind a first line that is answered, so that they have the number 2.
+#[test]
+fn answers_hostile_lines_to_check(rt: HostRuntime) -> Result<(), Fail> {
+    let rows: [(Pieces<'_>, &str, &str); 7] = [
+        (
+            (b"c::\n:", (2048, b'a'), b""),
+            "c:none\n",
+            "mkpasswd: line 2: line too long\n",
+        ),
+        (
+            (b"c::\n", (65, b'a'), b"::x"),
+            "c:none\n",
+            "mkpasswd: line 2: name too long\n",
+        ),
+        (
+            (b"c::\na::", (1025, b'x'), b""),
+            "c:none\n",
+            "mkpasswd: line 2: password too long\n",
+        ),
+        (
+            (b"c::\na:$2b$10$x:", (1, 0), b""),
+            "c:none\n",
+            "mkpasswd: line 2: password has a zero byte\n",
+        ),
+        ((b"c::\na:", (385, b'!'), b":x"), "c:none\na:locked\n", ""),
+        (
+            (b"c::\na:", (385, b'$'), b":x"),
+            "c:none\n",
+            "mkpasswd: line 2: setting too long\n",
+        ),
+        (
+            (b"c::\na:$7$J6..../....a_b:", (1, b'x'), b""),
+            "c:none\n",
+            "mkpasswd: line 2: above ceiling\n",
+        ),
+    ];
+    for (pieces, out, faults) in rows {
+        want_lines(&rt, rt.alloc(), CHECK, pieces, (out, faults))?;
     }
+    Ok(())
 }
 
-// Each line after one that is answered, so that it has the number 2.
 #[test]
-fn refuses_hostile_lines(rt: HostRuntime) -> Result<(), Fail> {
-    let alloc = rt.alloc();
-    // The kind, what stands before and behind so many of a byte, and what is told of the line.
-    let rows: [(&str, &str, u8, usize, &str, &str); 17] = [
-        ("--check", ":", b'a', 2048, "", "line too long"),
-        ("--check", "", b'a', 65, "", "name too long"),
-        ("--check", "a::", b'x', 1025, "", "password too long"),
-        ("--check", "a:!:", 0, 1, "", "password has a zero byte"),
+fn answers_hostile_lines_to_hash(rt: HostRuntime) -> Result<(), Fail> {
+    let rows: [(Pieces<'_>, &str); 3] = [
         (
-            "--check",
-            "a:$2b$10$x:",
-            0,
-            1,
-            "",
-            "password has a zero byte",
-        ),
-        ("--check", "a:!a b:", b'x', 1, "", "a:locked"),
-        ("--check", "a:", b'$', 385, ":x", "setting too long"),
-        ("--check", "a:", b'!', 385, ":x", "a:locked"),
-        ("--check", "a:$9$a b:", b'x', 1, "", "bad character"),
-        (
-            "--check",
-            "a:$5$rounds=0$a b:",
-            b'x',
-            1,
-            "",
-            "bad character",
-        ),
-        ("--check", "a:$7$A:", b'x', 1, "", "bad cost"),
-        (
-            "--check",
-            "a:$7$E/..../....a_b:",
-            b'x',
-            1,
-            "",
-            "scrypt range",
+            (b"ann:password\n", (1024, b'a'), b""),
+            "mkpasswd: line 2: name too long\n",
         ),
         (
-            "--check",
-            "a:$7$J6..../....a_b:",
-            b'x',
-            1,
-            "",
-            "above ceiling",
+            (b"ann:password\n:", (2048, b'a'), b""),
+            "mkpasswd: line 2: line too long\n",
         ),
-        ("--batch", "", b'a', 1024, "", "name too long"),
-        ("--batch", "", b'a', 2048, "", "name too long"),
-        ("--batch", ":", b'a', 2048, "", "line too long"),
-        ("--batch", "a:", b'x', 1025, "", "password too long"),
+        (
+            (b"ann:password\na:", (1025, b'x'), b""),
+            "mkpasswd: line 2: password too long\n",
+        ),
     ];
-    for (kind, front, byte, count, back, told) in rows {
-        let mut bytes = Vec::new(alloc);
-        bytes.extend_from_slice(if kind == "--check" {
-            b"c::\n"
-        } else {
-            b"ann:password\n"
-        })?;
-        bytes.extend_from_slice(front.as_bytes())?;
-        for _ in 0..count {
-            bytes.push(byte)?;
-        }
-        bytes.extend_from_slice(back.as_bytes())?;
-        let words = [kind, "-m", "md5", "-S", "xxxxxxxx"];
-        let given = Given::new(alloc).reading(MemoryReader::new(alloc, bytes.as_slice()));
-        let left = run_words(&rt, alloc, &words, given)?;
-        let first = if kind == "--check" { "c:none\n" } else { ANN };
-        let (answer, fault) = if told.contains(':') {
-            (told, "")
-        } else {
-            ("", told)
-        };
-        assert!(rt;
-            is_told(left.out.taken(), first, answer),
-            "{front}: the output"
-        );
-        let lead = if fault.is_empty() {
-            ""
-        } else {
-            "mkpasswd: line 2: "
-        };
-        assert!(rt;
-            is_told(left.faults.taken(), lead, fault),
-            "{front}: the fault output"
-        );
-        assert_eq!(rt; left.next_word, 129, "{front}: no word");
+    for (pieces, faults) in rows {
+        want_lines(&rt, rt.alloc(), &BATCH, pieces, (ANN, faults))?;
     }
-    let reader = MemoryReader::new(alloc, b"a\0b:password\n");
+    Ok(())
+}
+
+// Wants these texts for two lines, one of which is refused where something is told on the fault output.
+fn want_lines(
+    rt: &impl Abort,
+    alloc: Global,
+    words: &[&str],
+    pieces: Pieces<'_>,
+    told: (&str, &str),
+) -> Result<(), Fail> {
+    let input = joined(alloc, pieces)?;
+    let given = Given::new(alloc).reading(MemoryReader::new(alloc, input.as_slice()));
+    let outcome = Ok(tally(2, u64::from(!told.1.is_empty()), 0));
+    want(rt, alloc, "the second line", words, given, outcome, told)
+}
+
+#[test]
+fn takes_a_zero_byte_in_a_name(rt: HostRuntime) -> Result<(), Fail> {
     let told = ("a\0b:$1$xxxxxxxx$UYCIxa628.9qXjpQCjM4a.\n", "");
-    let given = Given::new(alloc).reading(reader);
-    want(
-        &rt,
-        alloc,
-        "a name with a zero byte",
-        &BATCH,
-        given,
-        Ok(tally(1, 0, 0)),
-        told,
-    )
+    want_line(&rt, rt.alloc(), &BATCH, "a\0b:password\n", told, 129, 1002)
 }
 
 // A line of so many letters behind one of another length, so that pieces cut it anywhere.

@@ -106,21 +106,18 @@ fn adds_both_costs(rt: HostRuntime) -> Result<(), Fail> {
 // The second line and the fourth get a new salt each, in order.
 #[test]
 fn draws_words_for_new_hashes_alone(rt: HostRuntime) -> Result<(), Fail> {
-    let alloc = rt.alloc();
     let input =
         "c::x\nann:$1$xxxxxxxx$UYCIxa628.9qXjpQCjM4a.:password\nd:$1$xxxxxxxx$UYCIxa628.9qXjpQCjM4a.:Password\nbob:$1$xxxxxxxx$UYCIxa628.9qXjpQCjM4a.:password\n:x\n";
-    let words = ["--check", "--rehash", "-m", "sha256crypt", "-R", "1000"];
-    let given = Given::new(alloc).reading(MemoryReader::new(alloc, input.as_bytes()));
-    let left = run_words(&rt, alloc, &words, given)?;
-    assert_eq!(rt; left.outcome, Ok(tally(5, 1, 1)));
-    let out: &str =
+    let out =
         "c:none\nann:ok:$5$rounds=1000$/0..............$LToiiOYiTjnU4dSWPuOjf.8kEA3t0/p3gbM3ILISlHA\nd:no\nbob:ok:$5$rounds=1000$00..............$fDADscrllT/QOBSafilgJDKecoOgUEoLn1.AWAn/bZ4\n";
-    assert_eq!(rt; left.out.taken(), out.as_bytes());
-    assert_eq!(rt; left.next_word, 7, "six words");
-    assert_eq!(rt;
-        left.meter.digests(),
+    want_work(
+        &rt,
+        rt.alloc(),
+        &["--check", "--rehash", "-m", "sha256crypt", "-R", "1000"],
+        input,
+        tally(5, 1, 1),
+        (out, "mkpasswd: line 5: no name\n"),
+        7,
         5014,
-        "three stored hashes and two new ones"
-    );
-    Ok(())
+    )
 }

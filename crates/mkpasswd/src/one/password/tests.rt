@@ -31,11 +31,16 @@ fn want(
 ) {
     assert!(rt; turns <= 1 << 40);
     let mut left = turns;
-    match (read_from(reader, &mut left), wanted) {
-        (Ok(password), Ok(bytes)) => assert_eq!(rt; password.bytes(), bytes, "{what}"),
-        (outcome, wanted) => assert_eq!(rt; outcome.err(), wanted.err(), "{what}"),
-    }
-    assert_eq!(rt; left.checked_add(taken), Some(turns), "{what}: turns");
+    let outcome = read_from(reader, &mut left);
+    let read = match &outcome {
+        Ok(password) => Ok(password.bytes()),
+        Err(fault) => Err(*fault),
+    };
+    assert_eq!(rt;
+        (read, turns.checked_sub(left)),
+        (wanted, Some(taken)),
+        "{what}"
+    );
 }
 
 #[test]
