@@ -304,7 +304,7 @@ mod tests {
             (Fault::from(RunFault::Turns), 3, "too many turns"),
         ];
         for (fault, status, text) in rows {
-            assert_eq!(rt; (fault.status(), fault.text()), (status, text));
+            assert_eq!(rt; (fault.status(), fault.text()), (status, text), "{text}");
         }
     }
 }

@@ -105,8 +105,11 @@ mod tests {
             (63, b'z'),
         ] {
             assert!(rt; value < 64);
-            assert_eq!(rt; char_of(value), character, "of {value}");
-            assert_eq!(rt; value_of(character), Some(value), "of {character}");
+            assert_eq!(rt;
+                (char_of(value), value_of(character)),
+                (character, Some(value)),
+                "{value}"
+            );
         }
         for outside in [b'$', b'-', b':', b'@', b'[', b'`', b'{', 0, 255] {
             assert_eq!(rt; value_of(outside), None, "of {outside}");
@@ -117,13 +120,8 @@ mod tests {
     fn groups(rt: HostRuntime) {
         let mut out = ArrayVec::new();
         put_group(&mut out, 1, 4);
-        assert_eq!(rt; out.as_slice(), b"/...".as_slice(), "one");
         put_group(&mut out, 0xfff, 2);
-        assert_eq!(rt;
-            out.as_slice(),
-            b"/...zz".as_slice(),
-            "after it twelve bits"
-        );
+        assert_eq!(rt; out.as_slice(), b"/...zz".as_slice());
     }
 
     #[test]
@@ -141,7 +139,13 @@ mod tests {
         for (digits, number) in cases {
             assert_eq!(rt; read_30(digits), number, "of {digits:?}");
         }
-        assert_eq!(rt; value_again(63), Some(63), "the last value");
-        assert_eq!(rt; number_again(0x3fff_fffe), Some(0x3fff_fffe), "thirty bits");
+    }
+
+    #[test]
+    fn reads_what_was_written(rt: HostRuntime) {
+        assert_eq!(rt;
+            (value_again(63), number_again(0x3fff_fffe)),
+            (Some(63), Some(0x3fff_fffe))
+        );
     }
 }

@@ -120,14 +120,11 @@ impl Meter {
 #[cfg(test)]
 mod tests {
     use super::*;
+    use crate::mix::tests::counts;
 
     #[test]
     fn new_is_all_zero(rt: HostRuntime) {
         let meter = Meter::new();
-        assert_eq!(rt; meter.digests(), 0, "digests");
-        assert_eq!(rt; meter.bytes(), 0, "bytes");
-        assert_eq!(rt; meter.mixes(), 0, "mixes");
-        assert_eq!(rt; meter.table(), 0, "table");
-        assert_eq!(rt; meter.scratch(), 0, "scratch");
+        assert_eq!(rt; counts(&meter), [0; 5]);
     }
 }

@@ -112,7 +112,7 @@ fn mix_into_second(rows: &mut [u32], meter: &mut Meter)
 #[cfg(test)]
 mod tests {
     use super::*;
-    use crate::mix::tests::{BLOCKS, MIXED};
+    use crate::mix::tests::{BLOCKS, MIXED, counts};
     use crate::words::load_words;
     use std::test::Fail;
 
@@ -125,13 +125,11 @@ mod tests {
             *word = i as u32 + 1;
         }
         table.set_row(1, &row);
-        assert_eq!(rt; table.row(0), [0; 32].as_slice(), "the first row is zeros");
+        let zeros = [0; 32];
         assert_eq!(rt;
-            table.row(1),
-            row.as_slice(),
-            "the second is the words 1 to 32"
+            (table.row(0), table.row(1), table.row(2)),
+            (zeros.as_slice(), row.as_slice(), zeros.as_slice())
         );
-        assert_eq!(rt; table.row(2), [0; 32].as_slice(), "the third is zeros");
         Ok(())
     }
 
@@ -145,30 +143,25 @@ mod tests {
         table.mix_row(0, &mut meter);
         let mut mixed = [0; 32];
         load_words(&MIXED, &mut mixed);
-        assert_eq!(rt; table.row(1), mixed.as_slice(), "RFC 7914, section 9");
-        assert_eq!(rt; table.row(0), words.as_slice(), "the row before stays");
-        assert_eq!(rt; table.row(2), [0; 32].as_slice(), "the row after stays");
         assert_eq!(rt;
-            (meter.mixes(), meter.table()),
-            (1, 384),
-            "one mixing, one table"
+            (table.row(0), table.row(1), table.row(2)),
+            (words.as_slice(), mixed.as_slice(), [0; 32].as_slice()),
+            "RFC 7914, section 9, between rows that stay"
         );
+        assert_eq!(rt; counts(&meter), [0, 0, 1, 384, 0]);
         Ok(())
     }
 
     #[test]
-    fn counts(rt: HostRuntime) -> Result<(), Fail> {
+    fn counts_its_bytes(rt: HostRuntime) -> Result<(), Fail> {
         for (rows, row_words, bytes) in [(2, 32, 256), (16, 32, 2048), (0, 32, 0), (3, 0, 0)] {
             let mut meter = Meter::new();
             let _table = Table::new(rt.alloc(), rows, row_words, &mut meter)?;
-            assert_eq!(rt; meter.table(), bytes, "{rows} rows of {row_words} words");
-            let others = (
-                meter.digests(),
-                meter.bytes(),
-                meter.mixes(),
-                meter.scratch(),
+            assert_eq!(rt;
+                counts(&meter),
+                [0, 0, 0, bytes, 0],
+                "{rows} rows of {row_words} words"
             );
-            assert_eq!(rt; others, (0, 0, 0, 0), "no other count");
         }
         Ok(())
     }

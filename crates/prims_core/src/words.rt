@@ -66,10 +66,9 @@ mod tests {
         ] {
             let mut loaded = [7; 2];
             load_words(&bytes, &mut loaded);
-            assert_eq!(rt; loaded, words, "words of {bytes:?}");
             let mut stored = [7; 8];
             store_words(&words, &mut stored);
-            assert_eq!(rt; stored, bytes, "bytes of {words:?}");
+            assert_eq!(rt; (loaded, stored), (words, bytes), "{bytes:?}");
         }
     }
 }

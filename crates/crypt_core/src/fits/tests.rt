@@ -127,8 +127,11 @@ fn refused_settings_count_nothing(rt: HostRuntime) {
     for (stored, fault) in REFUSALS {
         let mut meter = Meter::new();
         let verdict = fits(rt.alloc(), &password, stored, &mut meter);
-        assert_eq!(rt; verdict, Err(FitFault::Setting(fault)), "{stored:?}");
-        assert_eq!(rt; counts(&meter), [0; 5], "{stored:?}");
+        assert_eq!(rt;
+            (verdict, counts(&meter)),
+            (Err(FitFault::Setting(fault)), [0; 5]),
+            "{stored:?}"
+        );
     }
 }
 
@@ -142,28 +145,34 @@ fn a_check_counts_one_hash(rt: HostRuntime) {
             stored.as_bytes(),
             &mut meter,
         );
-        assert!(rt; verdict.is_ok(), "{text} and {stored}");
-        assert_eq!(rt; counts(&meter), work, "{text} and {stored}");
+        assert_eq!(rt;
+            (verdict.is_ok(), counts(&meter)),
+            (true, work),
+            "{text} and {stored}"
+        );
     }
 }
 
 #[test]
 fn checks_count_on_one_meter(rt: HostRuntime) {
+    let refused = FitFault::Setting(SettingFault::BadCharacter);
+    let both = [1012, 37187, 32, 2048, 384];
+    let rows = [
+        ("password", MD5CRYPT, Ok(true), [1002, 36239, 0, 0, 0]),
+        ("", SCRYPT, Ok(true), both),
+        ("", "$1$a:b", Err(refused), both),
+    ];
     let mut meter = Meter::new();
-    let password = password_of(&rt, "password");
-    let first = fits(rt.alloc(), &password, MD5CRYPT.as_bytes(), &mut meter);
-    assert_eq!(rt; first, Ok(true));
-
-    assert!(rt; has_room(&meter));
-    let empty = password_of(&rt, "");
-    let second = fits(rt.alloc(), &empty, SCRYPT.as_bytes(), &mut meter);
-    assert_eq!(rt; second, Ok(true));
-    assert_eq!(rt; counts(&meter), [1012, 37187, 32, 2048, 384]);
-
-    assert!(rt; has_room(&meter));
-    let refused = fits(rt.alloc(), &empty, b"$1$a:b", &mut meter);
-    assert_eq!(rt; refused, Err(FitFault::Setting(SettingFault::BadCharacter)));
-    assert_eq!(rt; counts(&meter), [1012, 37187, 32, 2048, 384]);
+    for (text, stored, verdict, work) in rows {
+        assert!(rt; has_room(&meter));
+        let told = fits(
+            rt.alloc(),
+            &password_of(&rt, text),
+            stored.as_bytes(),
+            &mut meter,
+        );
+        assert_eq!(rt; (told, counts(&meter)), (verdict, work), "{stored}");
+    }
 }
 
 #[test]

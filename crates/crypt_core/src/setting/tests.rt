@@ -15,23 +15,19 @@ fn read_again(setting: &Setting) -> Result<Setting, SettingFault>
 
 // Reads a text and compares what is kept of it. The canonical text is read again as itself.
 fn reads(rt: &impl Abort, text: &[u8], method: Method, salt: &[u8], canonical: &[u8]) {
-    let found = Setting::read(text);
-    assert!(rt; found.is_ok(), "{text:?} is accepted");
-    if let Ok(setting) = found {
-        assert_eq!(rt; setting.method(), method, "the method of {text:?}");
-        assert_eq!(rt; setting.salt(), salt, "the salt of {text:?}");
-        let written = setting.text();
-        assert_eq!(rt; written.as_slice(), canonical, "the text of {text:?}");
-        let again = read_again(&setting);
-        assert!(rt; again.is_ok(), "the text of {text:?} is accepted");
-        if let Ok(again) = again {
-            assert_eq!(rt;
-                again.text().as_slice(),
-                canonical,
-                "the text of {text:?}, read again"
-            );
-        }
-    }
+    let setting = Setting::read(text).expect(rt, "a setting");
+    let again = read_again(&setting).expect(rt, "the text of a setting");
+    let written = (setting.text(), again.text());
+    assert_eq!(rt;
+        (
+            setting.method(),
+            setting.salt(),
+            written.0.as_slice(),
+            written.1.as_slice()
+        ),
+        (method, salt, canonical, canonical),
+        "{text:?}"
+    );
 }
 
 fn refuses(rt: &impl Abort, text: &[u8], wanted: SettingFault) {
@@ -232,13 +228,13 @@ fn made(rt: HostRuntime) {
         (Method::Md5crypt, 4_294_967_295, b"xxxxxxxx", b"$1$xxxxxxxx"),
     ];
     for (method, cost, salt, text) in rows {
-        let made = Setting::make(method, cost, salt);
-        assert!(rt; made.is_ok(), "cost {cost} is accepted");
-        if let Ok(setting) = made {
-            assert_eq!(rt; setting.method(), method, "the method at cost {cost}");
-            assert_eq!(rt; setting.salt(), salt, "the salt at cost {cost}");
-            assert_eq!(rt; setting.text().as_slice(), text, "the text at cost {cost}");
-        }
+        let setting = Setting::make(method, cost, salt).expect(&rt, "a setting");
+        let written = setting.text();
+        assert_eq!(rt;
+            (setting.method(), setting.salt(), written.as_slice()),
+            (method, salt, text),
+            "cost {cost}"
+        );
     }
 }
 

@@ -164,25 +164,31 @@ fn hashes_stay_within(rt: HostRuntime) -> Result<(), Fail> {
         let password = Password::new(password.as_slice()).expect(&rt, "a password");
         let mut meter = Meter::new();
         let hashed = hash(rt.alloc(), &password, &setting, &mut meter);
-        assert!(rt; hashed.is_ok(), "{len} bytes by {text}");
         let work = bound(&setting, len);
-        assert_eq!(rt;
-            [
-                meter.digests(),
-                meter.mixes(),
-                meter.table(),
-                meter.scratch()
-            ],
-            [work.digests, work.mixes, work.table, work.scratch].map(u128::from),
-            "{len} bytes by {text}"
-        );
         let slack = match setting.method() {
             Method::Sha256crypt | Method::Sha512crypt => 255 * setting.salt().len() as u128,
             Method::Md5crypt | Method::Scrypt => 0,
         };
         let most = u128::from(work.bytes);
         let within = meter.bytes() <= most && most <= meter.bytes().saturating_add(slack);
-        assert!(rt; within, "{len} bytes by {text}");
+        assert_eq!(rt;
+            (
+                hashed.is_ok(),
+                within,
+                [
+                    meter.digests(),
+                    meter.mixes(),
+                    meter.table(),
+                    meter.scratch()
+                ]
+            ),
+            (
+                true,
+                true,
+                [work.digests, work.mixes, work.table, work.scratch].map(u128::from)
+            ),
+            "{len} bytes by {text}"
+        );
     }
     Ok(())
 }

@@ -2,6 +2,11 @@
 
 use super::*;
 
+// The base-2 logarithm of N, N, r and p.
+fn numbers(params: Params) -> (u8, u32, u32, u32) {
+    (params.log_n(), params.row_count(), params.r(), params.p())
+}
+
 #[test]
 fn ranges_and_ceilings(rt: HostRuntime) {
     let rows = [
@@ -27,9 +32,8 @@ fn ranges_and_ceilings(rt: HostRuntime) {
         ),
     ];
     for (log_n, r, p, wanted) in rows {
-        let told = Params::new(log_n, r, p).map(|it| (it.log_n(), it.row_count(), it.r(), it.p()));
         assert_eq!(rt;
-            told,
+            Params::new(log_n, r, p).map(numbers),
             wanted.map(|row_count| (log_n, row_count, r, p)),
             "log2 N = {log_n}, r = {r}, p = {p}"
         );

@@ -180,6 +180,7 @@ fn serves_one_password(rt: HostRuntime) -> Result<(), Fail> {
     Ok(())
 }
 
+// The text is libxcrypt's for this salt.
 #[test]
 fn draws_three_words_for_a_salt(rt: HostRuntime) -> Result<(), Fail> {
     let alloc = rt.alloc();
@@ -354,6 +355,24 @@ fn helps_without_a_generator(rt: HostRuntime) -> Result<(), Fail> {
     Ok(())
 }
 
+#[test]
+fn refuses_without_a_generator(rt: HostRuntime) -> Result<(), Fail> {
+    let alloc = rt.alloc();
+    let served = serve(&rt, alloc, &["-Q"], Given::new(alloc), false)?;
+    let (status, out, faults, input) = &served.ran;
+    let front = b"error: unexpected argument '-Q' found\n";
+    assert_eq!(rt;
+        (
+            *status,
+            out.calls().len(),
+            faults.taken().starts_with(front),
+            input.calls().len()
+        ),
+        (2, 0, true, 0)
+    );
+    Ok(())
+}
+
 // What draws nothing.
 #[test]
 fn serves_without_a_generator(rt: HostRuntime) -> Result<(), Fail> {
@@ -378,10 +397,15 @@ fn wants_a_generator(rt: HostRuntime) -> Result<(), Fail> {
         let given = Given::new(alloc).reading(MemoryReader::new(alloc, b"x\n"));
         let served = serve(&rt, alloc, words, given, false)?;
         want(&rt, words, &served, 3, ("", "mkpasswd: start fault\n"));
-        let (_, _, faults, input) = &served.ran;
+        let (_, out, faults, input) = &served.ran;
         assert_eq!(rt;
-            (input.calls().len(), faults.calls()),
-            (0, [Write(22, Ok(22)), Flush(Ok(()))].as_slice()),
+            (
+                input.calls().len(),
+                out.calls().len(),
+                faults.calls(),
+                counted(&served.meter)
+            ),
+            (0, 0, [Write(22, Ok(22)), Flush(Ok(()))].as_slice(), [0; 5]),
             "{words:?}"
         );
     }

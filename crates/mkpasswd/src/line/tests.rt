@@ -116,7 +116,7 @@ fn measures_lines(rt: HostRuntime) -> Result<(), Fail> {
     let field_too_long = bad_setting(SettingFault::TooLong);
     let batch = Kind::Batch;
     let check = Kind::Check;
-    let rows: [(Kind, Pieces<'_>, Option<LineFault>); 15] = [
+    let rows: [(Kind, Pieces<'_>, Option<LineFault>); 16] = [
         (batch, (b":", (2048, b'x'), b""), line_too_long),
         (batch, (b"", (2048, b'x'), b""), NAME_TOO_LONG),
         (batch, (b"", (65, b'a'), b":x"), NAME_TOO_LONG),
@@ -124,6 +124,7 @@ fn measures_lines(rt: HostRuntime) -> Result<(), Fail> {
         (batch, (b"a:", (1025, b'x'), b""), PASSWORD_TOO_LONG),
         (batch, (b"a:", (1024, b'x'), b""), None),
         (check, (b":", (2048, b'x'), b""), line_too_long),
+        (check, (b"", (2048, b'x'), b""), NAME_TOO_LONG),
         (check, (b"", (65, b'a'), b""), NAME_TOO_LONG),
         (check, (b"", (65, b'a'), b"::x"), NAME_TOO_LONG),
         (check, (b"", (64, b'a'), b""), NO_PASSWORD),

@@ -180,7 +180,7 @@ const COUNTED: &[&str] = &["--check", "--work"];
 
 // Words, an input, the lines with those that are refused and those that are answered `no`, and both texts. Published
 // texts: of openssl-passwd(1), of Drepper's specification, and of libxcrypt.
-const ANSWERED: [(&[&str], &str, (u64, u64, u64), &str, &str); 15] = [
+const ANSWERED: [(&[&str], &str, (u64, u64, u64), &str, &str); 16] = [
     (&BATCH, "", (0, 0, 0), "", ""),
     (&BATCH, "\n", (1, 1, 0), "", "mkpasswd: line 1: no name\n"),
     (
@@ -242,6 +242,13 @@ const ANSWERED: [(&[&str], &str, (u64, u64, u64), &str, &str); 15] = [
         "",
     ),
     (
+        COUNTED,
+        "d:$1$xxxxxxxx$UYCIxa628.9qXjpQCjM4a.:Password\n",
+        (1, 0, 1),
+        "d:no:1002:36239:0:0\n",
+        "",
+    ),
+    (
         CHECK,
         "r:$6$rounds=10$roundstoolow$kUMsbe306n21p9R.FRkW3IGn.S9NPN0x50YhH1xhLsPuWGsUSklZt58jaTfF4ZEQpyUNGc0dqbpBYYBaHHrsX.:the minimum number is still observed",
         (1, 0, 1),
@@ -287,7 +294,7 @@ fn answers_line_by_line(rt: HostRuntime) -> Result<(), Fail> {
     Ok(())
 }
 
-// The second hash has a salt of the words behind the first one's.
+// The second hash has a salt of the words behind the first one's. Both are libxcrypt's for their salts.
 #[test]
 fn draws_words_for_hashed_lines_alone(rt: HostRuntime) -> Result<(), Fail> {
     let out = "ann:$1$/0......$2QlZKnFqVuhWmzlYGl.px0\nbob:$1$00......$rv7ToD.7n.3crvqZikurX.\n";

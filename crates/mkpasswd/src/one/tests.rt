@@ -9,6 +9,7 @@ use super::*;
 use crate::job::Plan;
 use crate::options::plan;
 use crate::options::tests::words_of;
+use crate::test_devices::calls::FAILURE;
 use crate::test_devices::{ListedWords, MemoryReader, MemoryWriter};
 use crate::test_given::{Given, Left, Ran};
 use crypt_core::password::PasswordFault;
@@ -69,34 +70,23 @@ fn run_on<'a, R: Rng>(
     )
 }
 
-// Runs a job with the words 129, 0, 0 and 7. It writes nothing to the fault output.
-fn run_job<'a>(
-    rt: &impl Abort,
-    alloc: Global,
-    job: &Job,
-    from: &PasswordFrom,
-    given: Given<'a>,
-) -> Left<'a> {
-    assert!(rt; given.turns <= 1 << 40);
-    let mut rng = ListedWords::new(&[129, 0, 0, 7]);
-    let mut meter = Meter::new();
-    let ran = run_on(alloc, job, from, given, &mut rng, &mut meter);
-    assert_eq!(rt; ran.2.taken(), b"".as_slice(), "the fault output");
-    Left::new(ran, rng.peek(), meter)
-}
-
-// Plans by the words, and runs the plan.
+// Plans by the words, and runs the plan with the words 129, 0, 0 and 7. It writes nothing to the fault output.
 fn run_words<'a>(
     rt: &impl Abort,
     alloc: Global,
     words: &[&str],
     given: Given<'a>,
 ) -> Result<Left<'a>, Fail> {
+    assert!(rt; given.turns <= 1 << 40);
     let words = words_of(alloc, words)?;
     let Plan::One(job, from) = plan(alloc, words.as_slice())? else {
         panic!(rt; "the words are for no password");
     };
-    Ok(run_job(rt, alloc, &job, &from, given))
+    let mut rng = ListedWords::new(&[129, 0, 0, 7]);
+    let mut meter = Meter::new();
+    let ran = run_on(alloc, &job, &from, given, &mut rng, &mut meter);
+    assert_eq!(rt; ran.2.taken(), b"".as_slice(), "the fault output");
+    Ok(Left::new(ran, rng.peek(), meter))
 }
 
 // Runs the plan of the words, and wants this outcome and these bytes in the output.
@@ -209,13 +199,35 @@ fn stops_with_its_turns(rt: HostRuntime) -> Result<(), Fail> {
 }
 
 #[test]
+fn stops_at_a_failed_write(rt: HostRuntime) -> Result<(), Fail> {
+    let alloc = rt.alloc();
+    let writer = MemoryWriter::new(alloc).by(10).failing_at(2, FAILURE);
+    let given = Given::new(alloc).writing(writer);
+    let write = Err(RunFault::Write);
+    want(
+        &rt,
+        alloc,
+        "the second write",
+        &BY_WORD,
+        given,
+        write,
+        b"$1$xxxxxxx",
+    )
+}
+
+#[test]
 fn draws_nothing_for_a_long_password(rt: HostRuntime) -> Result<(), Fail> {
     let alloc = rt.alloc();
     let given = Given::new(alloc).reading(MemoryReader::new(alloc, &[b'a'; 1025]));
     let left = run_words(&rt, alloc, &["-m", "md5crypt", "-s"], given)?;
     assert_eq!(rt;
-        (left.outcome, left.next_word, left.meter.digests()),
-        (Err(TOO_LONG), 129, 0)
+        (
+            left.outcome,
+            left.out.taken(),
+            left.next_word,
+            left.meter.digests()
+        ),
+        (Err(TOO_LONG), b"".as_slice(), 129, 0)
     );
     Ok(())
 }

@@ -5,6 +5,8 @@ ghost use Rattle.prims_core.specs.Digests.{md5};
 
 use super::*;
 use crate::hexadecimal::hexadecimal;
+use std::alloc::Global;
+use std::process::Abort;
 use std::test::Fail;
 
 // The digest of two pieces, under any digest.
@@ -51,64 +53,57 @@ fn md5_of_two(meter: &mut Meter, first: &[u8], second: &[u8]) -> ArrayVec<u8, 64
     running.finish(meter)
 }
 
-#[test]
-fn vectors(rt: HostRuntime) -> Result<(), Fail> {
+// Wants this digest of two pieces, in hexadecimal, and its work.
+fn want<C: Counted>(
+    rt: &impl Abort,
+    alloc: Global,
+    (first, second): (&[u8], &[u8]),
+    wanted: &str,
+) -> Result<(), Fail> {
+    assert!(rt; first.len() <= 3 && second.len() <= 3);
     let mut meter = Meter::new();
-    let mut sha256 = CountedSha256::begin();
-    sha256.feed(&mut meter, b"a");
-    sha256.feed(&mut meter, b"bc");
+    let digest = digest_of_two::<C>(&mut meter, first, second);
+    let told = hexadecimal(alloc, &digest)?;
+    let len = first.len() as u128 + second.len() as u128;
     assert_eq!(rt;
-        hexadecimal(rt.alloc(), &sha256.finish(&mut meter))?.as_str(),
-        "ba7816bf8f01cfea414140de5dae2223b00361a396177a9cb410ff61f20015ad",
-        "SHA-256 of a, then bc"
+        (told.as_str(), meter.digests(), meter.bytes()),
+        (wanted, 1, len),
+        "{first:?} and {second:?}"
     );
-    assert_eq!(rt; (meter.digests(), meter.bytes()), (1, 3), "its work");
-
-    let mut meter = Meter::new();
-    let md5 = CountedMd5::begin().finish(&mut meter);
-    assert_eq!(rt;
-        hexadecimal(rt.alloc(), &md5)?.as_str(),
-        "d41d8cd98f00b204e9800998ecf8427e",
-        "MD5 of nothing"
-    );
-    assert_eq!(rt; (meter.digests(), meter.bytes()), (1, 0), "its work");
-
-    let mut meter = Meter::new();
-    let mut sha512 = CountedSha512::begin();
-    sha512.feed(&mut meter, b"abc");
-    assert_eq!(rt;
-        hexadecimal(rt.alloc(), &sha512.finish(&mut meter))?.as_str(),
-        "ddaf35a193617abacc417349ae20413112e6fa4e89a97ea20a9eeee64b55d39a\
-         2192992a274fc1a836ba3c23a3feebbd454d4423643ce80e2a9ac94fa54ca49f",
-        "SHA-512 of abc"
-    );
-    assert_eq!(rt; (meter.digests(), meter.bytes()), (1, 3), "its work");
     Ok(())
 }
 
+// RFC 1321, section A.5, and the examples of FIPS 180.
 #[test]
-fn any_digest(rt: HostRuntime) -> Result<(), Fail> {
+fn vectors(rt: HostRuntime) -> Result<(), Fail> {
+    let alloc = rt.alloc();
+    let empty = "d41d8cd98f00b204e9800998ecf8427e";
+    want::<CountedMd5>(&rt, alloc, (b"", b""), empty)?;
+    let md5 = "900150983cd24fb0d6963f7d28e17f72";
+    want::<CountedMd5>(&rt, alloc, (b"ab", b"c"), md5)?;
+    let sha256 = "ba7816bf8f01cfea414140de5dae2223b00361a396177a9cb410ff61f20015ad";
+    want::<CountedSha256>(&rt, alloc, (b"a", b"bc"), sha256)?;
+    let sha512 = "ddaf35a193617abacc417349ae20413112e6fa4e89a97ea20a9eeee64b55d39a\
+        2192992a274fc1a836ba3c23a3feebbd454d4423643ce80e2a9ac94fa54ca49f";
+    want::<CountedSha512>(&rt, alloc, (b"abc", b""), sha512)
+}
+
+#[test]
+fn digests_on_one_meter(rt: HostRuntime) -> Result<(), Fail> {
     let mut meter = Meter::new();
-    let digest = digest_of_two::<CountedMd5>(&mut meter, b"ab", b"c");
+    let md5 = md5_of_two(&mut meter, b"", b"abc");
+    let nothing = CountedMd5::begin().finish(&mut meter);
+    let byte = first_byte::<CountedSha256>(&mut meter, b"abc");
+    let told = hexadecimal(rt.alloc(), &md5)?;
     assert_eq!(rt;
-        hexadecimal(rt.alloc(), &digest)?.as_str(),
-        "900150983cd24fb0d6963f7d28e17f72",
-        "MD5 of ab, then c"
-    );
-    assert_eq!(rt;
-        md5_of_two(&mut meter, b"", b"abc").as_slice(),
-        digest.as_slice(),
-        "cut otherwise"
-    );
-    assert_eq!(rt;
-        first_byte::<CountedSha256>(&mut meter, b"abc"),
-        0xba,
-        "SHA-256's first byte"
-    );
-    assert_eq!(rt;
-        (meter.digests(), meter.bytes()),
-        (3, 9),
-        "the work of all three"
+        (
+            told.as_str(),
+            byte,
+            nothing[0],
+            meter.digests(),
+            meter.bytes()
+        ),
+        ("900150983cd24fb0d6963f7d28e17f72", 0xba, 0xd4, 3, 6)
     );
     Ok(())
 }

@@ -3,6 +3,7 @@
 ghost use Rattle.std.specs.Prelude.{◌≡◌, ◌+◌, ◌≤◌, ◌++◌, length, take, drop};
 
 use super::*;
+use crate::mix::tests::counts;
 use std::test::Fail;
 
 // Writes over the bytes from `start` on.
@@ -45,53 +46,48 @@ fn repeat_half(scratch: &mut WordScratch, half: usize)
 }
 
 #[test]
-fn bytes(rt: HostRuntime) -> Result<(), Fail> {
+fn new_bytes_are_zero(rt: HostRuntime) -> Result<(), Fail> {
     let mut meter = Meter::new();
-    let mut scratch = ByteScratch::new(rt.alloc(), 128, &mut meter)?;
-    let counts = (meter.digests(), meter.bytes(), meter.mixes(), meter.table());
-    assert_eq!(rt; counts, (0, 0, 0, 0), "no other count");
-    assert_eq!(rt; meter.scratch(), 128, "128 bytes counted");
-    assert_eq!(rt; scratch.bytes(), [0; 128].as_slice(), "zeros");
-
-    scratch.bytes_mut()[127] = 255;
-    assert_eq!(rt; scratch.bytes()[127], 255, "the last byte");
-
-    put_bytes(&mut scratch, 2, b"abc");
-    assert_eq!(rt; &scratch.bytes()[..6], b"\0\0abc\0".as_slice(), "a part");
-    fill_bytes(&mut scratch, &[7; 128]);
-    assert_eq!(rt; scratch.bytes(), [7; 128].as_slice(), "all of it");
+    let scratch = ByteScratch::new(rt.alloc(), 128, &mut meter)?;
+    assert_eq!(rt;
+        (scratch.bytes(), counts(&meter)),
+        ([0; 128].as_slice(), [0, 0, 0, 0, 128])
+    );
     Ok(())
 }
 
 #[test]
-fn words(rt: HostRuntime) -> Result<(), Fail> {
+fn new_words_are_zero(rt: HostRuntime) -> Result<(), Fail> {
     let mut meter = Meter::new();
-    let mut scratch = WordScratch::new(rt.alloc(), 64, &mut meter)?;
-    let counts = (meter.digests(), meter.bytes(), meter.mixes(), meter.table());
-    assert_eq!(rt; counts, (0, 0, 0, 0), "no other count");
-    assert_eq!(rt; meter.scratch(), 256, "64 words counted as 256 bytes");
-    assert_eq!(rt; scratch.words(), [0; 64].as_slice(), "zeros");
+    let scratch = WordScratch::new(rt.alloc(), 64, &mut meter)?;
+    assert_eq!(rt;
+        (scratch.words(), counts(&meter)),
+        ([0; 64].as_slice(), [0, 0, 0, 0, 256])
+    );
+    Ok(())
+}
 
-    scratch.words_mut()[63] = 0xffff_ffff;
-    assert_eq!(rt; scratch.words()[63], 0xffff_ffff, "the last word");
+#[test]
+fn writes_bytes(rt: HostRuntime) -> Result<(), Fail> {
+    let mut scratch = ByteScratch::new(rt.alloc(), 8, &mut Meter::new())?;
+    scratch.bytes_mut()[7] = 255;
+    put_bytes(&mut scratch, 2, b"abc");
+    assert_eq!(rt; scratch.bytes(), b"\0\0abc\0\0\xff".as_slice(), "parts");
+    fill_bytes(&mut scratch, &[7; 8]);
+    assert_eq!(rt; scratch.bytes(), [7; 8].as_slice(), "all of it");
+    Ok(())
+}
 
-    put_words(&mut scratch, 30, &[1, 2, 3]);
-    assert_eq!(rt;
-        &scratch.words()[29..34],
-        [0, 1, 2, 3, 0].as_slice(),
-        "a part"
-    );
-    repeat_half(&mut scratch, 32);
-    assert_eq!(rt;
-        &scratch.words()[29..34],
-        [0, 1, 2, 0, 0].as_slice(),
-        "the end of the first half"
-    );
-    assert_eq!(rt;
-        &scratch.words()[61..],
-        [0, 1, 2].as_slice(),
-        "and of the second"
-    );
+#[test]
+fn writes_words(rt: HostRuntime) -> Result<(), Fail> {
+    let mut scratch = WordScratch::new(rt.alloc(), 8, &mut Meter::new())?;
+    scratch.words_mut()[7] = 0xffff_ffff;
+    put_words(&mut scratch, 2, &[1, 2, 3]);
+    let parts = [0, 0, 1, 2, 3, 0, 0, 0xffff_ffff];
+    assert_eq!(rt; scratch.words(), parts.as_slice(), "parts");
+    repeat_half(&mut scratch, 4);
+    let halves = [0, 0, 1, 2, 0, 0, 1, 2];
+    assert_eq!(rt; scratch.words(), halves.as_slice(), "twice the first half");
     Ok(())
 }
 
@@ -101,10 +97,8 @@ fn of_no_length(rt: HostRuntime) -> Result<(), Fail> {
     let bytes = ByteScratch::new(rt.alloc(), 0, &mut meter)?;
     let words = WordScratch::new(rt.alloc(), 0, &mut meter)?;
     assert_eq!(rt;
-        (bytes.bytes().len(), words.words().len()),
-        (0, 0),
-        "nothing held"
+        (bytes.bytes().len(), words.words().len(), meter.scratch()),
+        (0, 0, 0)
     );
-    assert_eq!(rt; meter.scratch(), 0, "nothing counted");
     Ok(())
 }

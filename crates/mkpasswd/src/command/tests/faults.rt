@@ -11,27 +11,30 @@ struct Takes {
     flush_fails: bool,
 }
 
-const ALL: Takes = Takes {
+const WHOLE: Takes = Takes {
     most: usize::MAX,
     fails_at: 0,
     flush_fails: false,
 };
 
-const NOTHING: Takes = Takes { fails_at: 1, ..ALL };
+const NOTHING: Takes = Takes {
+    fails_at: 1,
+    ..WHOLE
+};
 
-const NO_BYTE: Takes = Takes { most: 0, ..ALL };
+const NO_BYTE: Takes = Takes { most: 0, ..WHOLE };
 
-const BY_THE_BYTE: Takes = Takes { most: 1, ..ALL };
+const BY_THE_BYTE: Takes = Takes { most: 1, ..WHOLE };
 
 const FIVE_BYTES: Takes = Takes {
     most: 5,
     fails_at: 2,
-    ..ALL
+    ..WHOLE
 };
 
 const NO_FLUSH: Takes = Takes {
     flush_fails: true,
-    ..ALL
+    ..WHOLE
 };
 
 fn writer(alloc: Global, takes: Takes) -> MemoryWriter {
@@ -97,7 +100,7 @@ fn tells_a_failed_read(rt: HostRuntime) -> Result<(), Fail> {
     for (words, input, call, told) in rows {
         let alloc = rt.alloc();
         let reader = MemoryReader::new(alloc, input).failing_at(call, FAILURE);
-        want_cut(&rt, alloc, words, reader, (ALL, ALL), 3, told)?;
+        want_cut(&rt, alloc, words, reader, (WHOLE, WHOLE), 3, told)?;
     }
     Ok(())
 }
@@ -110,27 +113,28 @@ fn tells_a_failed_write(rt: HostRuntime) -> Result<(), Fail> {
     let list: &[&str] = &["-mhelp"];
     let unknown: &[&str] = &["-m", "sha1"];
     let unknown_method: (&str, &str) = ("", "mkpasswd: unknown method\n");
-    let untold: (&str, &str) = ("", WRITE_FAULT);
-    let rows: [(&[&str], (Takes, Takes), u8, (&str, &str)); 14] = [
-        (&BY_WORD, (NOTHING, ALL), 3, untold),
-        (&BY_WORD, (NO_FLUSH, ALL), 3, (ANSWER, WRITE_FAULT)),
+    let not_written: (&str, &str) = ("", WRITE_FAULT);
+    let rows: [(&[&str], (Takes, Takes), u8, (&str, &str)); 15] = [
+        (&BY_WORD, (NOTHING, WHOLE), 3, not_written),
+        (&BY_WORD, (NO_FLUSH, WHOLE), 3, (ANSWER, WRITE_FAULT)),
         (&BY_WORD, (NOTHING, NOTHING), 3, ("", "")),
-        (&["--check"], (ALL, NOTHING), 3, untold),
-        (unknown, (ALL, FIVE_BYTES), 2, ("", "mkpas")),
-        (unknown, (ALL, NO_FLUSH), 2, unknown_method),
-        (unknown, (ALL, BY_THE_BYTE), 2, unknown_method),
-        (&["-Q"], (ALL, NOTHING), 2, ("", "")),
-        (version, (NOTHING, ALL), 3, untold),
-        (version, (NO_BYTE, ALL), 3, untold),
+        (&["--check"], (WHOLE, NOTHING), 3, not_written),
+        (unknown, (WHOLE, FIVE_BYTES), 2, ("", "mkpas")),
+        (unknown, (WHOLE, NO_FLUSH), 2, unknown_method),
+        (unknown, (WHOLE, BY_THE_BYTE), 2, unknown_method),
+        (&["-Q"], (WHOLE, NOTHING), 2, ("", "")),
+        (version, (NOTHING, WHOLE), 3, not_written),
+        (version, (NO_BYTE, WHOLE), 3, not_written),
+        (version, (FIVE_BYTES, WHOLE), 3, ("mkpas", WRITE_FAULT)),
         (
             version,
-            (NO_FLUSH, ALL),
+            (NO_FLUSH, WHOLE),
             3,
             ("mkpasswd 1.0.0\n", WRITE_FAULT),
         ),
-        (&["--help"], (NOTHING, ALL), 3, untold),
-        (list, (NOTHING, ALL), 3, untold),
-        (list, (NO_FLUSH, ALL), 3, (LIST, WRITE_FAULT)),
+        (&["--help"], (NOTHING, WHOLE), 3, not_written),
+        (list, (NOTHING, WHOLE), 3, not_written),
+        (list, (NO_FLUSH, WHOLE), 3, (LIST, WRITE_FAULT)),
     ];
     for (words, outputs, status, told) in rows {
         let reader = MemoryReader::new(rt.alloc(), b"e\n");
@@ -143,10 +147,10 @@ fn tells_a_failed_write(rt: HostRuntime) -> Result<(), Fail> {
 #[test]
 fn tells_that_its_turns_ended(rt: HostRuntime) -> Result<(), Fail> {
     let told = ("", "mkpasswd: too many turns\n");
-    let rows: [&[&str]; 3] = [&BY_WORD, &["-V"], &["-mhelp"]];
-    for words in rows {
+    let rows: [(&[&str], bool); 3] = [(&BY_WORD, true), (&["-V"], false), (&["-mhelp"], false)];
+    for (words, generates) in rows {
         let given = Given::new(rt.alloc()).within(0);
-        let served = serve(&rt, rt.alloc(), words, given, true)?;
+        let served = serve(&rt, rt.alloc(), words, given, generates)?;
         want(&rt, words, &served, 3, told);
     }
     Ok(())

@@ -6,7 +6,7 @@ use crate::line::tests::{Pieces, joined};
 // Behind a first line that is answered, so that they have the number 2.
 #[test]
 fn answers_hostile_lines_to_check(rt: HostRuntime) -> Result<(), Fail> {
-    let rows: [(Pieces<'_>, &str, &str); 7] = [
+    let rows: [(Pieces<'_>, &str, &str); 10] = [
         (
             (b"c::\n:", (2048, b'a'), b""),
             "c:none\n",
@@ -27,7 +27,18 @@ fn answers_hostile_lines_to_check(rt: HostRuntime) -> Result<(), Fail> {
             "c:none\n",
             "mkpasswd: line 2: password has a zero byte\n",
         ),
+        (
+            (b"c::\na:!:", (1, 0), b""),
+            "c:none\n",
+            "mkpasswd: line 2: password has a zero byte\n",
+        ),
         ((b"c::\na:", (385, b'!'), b":x"), "c:none\na:locked\n", ""),
+        ((b"c::\na:!a b:", (1, b'x'), b""), "c:none\na:locked\n", ""),
+        (
+            (b"c::\na:$5$rounds=0$a b:", (1, b'x'), b""),
+            "c:none\n",
+            "mkpasswd: line 2: bad character\n",
+        ),
         (
             (b"c::\na:", (385, b'$'), b":x"),
             "c:none\n",
