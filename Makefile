@@ -3,7 +3,7 @@
 # make check      every check but the soak, and the gate; with STRICT=1 a tool that is missing is a failure, and with
 #                 ANEW=1 the gate proves all, also what an earlier one on this machine has passed
 # make gate       proves all that no gate on this machine has passed, runs the tests, tries the edits that must fail, and
-#                 leaves ./mkpasswd
+#                 without CPU leaves ./mkpasswd
 # make bench      measures against libxcrypt, in some two minutes
 # make soak       has LINES random lines of each kind answered (default 10000), by the SEED that it prints or is given
 # make lib        builds the C libraries, libmkpasswd.a and libmkpasswd.so.1

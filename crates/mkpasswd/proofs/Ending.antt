@@ -83,11 +83,12 @@ module _ {I O E : Type 0} (told : Tells I O E) (turns : ℕ) (job : Job) where
       ),
     ),
   )
-  ends-without_password Input old input left Read (bytes, reads, (failed, undecided)) calls = (
+  ends-without_password Input old input left Read (bytes, reads, (failed, undecided, moves)) calls = (
     bytes,
     reads,
     (
       undecided,
+      moves,
       (
         fails-in_input old input old.stream old.counts 1 failed,
         takes-none old input old.stream old.counts,
@@ -99,19 +100,17 @@ module _ {I O E : Type 0} (told : Tells I O E) (turns : ℕ) (job : Job) where
     bytes,
     reads,
     inl (
-      (
-        undecided,
-        (
-          fails-in_input old input old.stream old.counts 0 (unfailed ∙ sym (add-zero _)),
-          omega (arith, none, calls),
-          record {
-            text = ([], [], refl, takes-nothing told.contents old.out);
-            fault_text = ([], [], refl, takes-nothing told.fault_contents old.faults);
-          },
-          record { stream = refl; counts = refl },
-        ),
-      ),
+      undecided,
       moves,
+      (
+        fails-in_input old input old.stream old.counts 0 (unfailed ∙ sym (add-zero _)),
+        omega (arith, none, calls),
+        record {
+          text = ([], [], refl, takes-nothing told.contents old.out);
+          fault_text = ([], [], refl, takes-nothing told.fault_contents old.faults);
+        },
+        record { stream = refl; counts = refl },
+      ),
     ),
   )
   ends-without_password Input old input left Write (bytes, reads, obtains) calls = absurd obtains

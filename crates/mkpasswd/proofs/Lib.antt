@@ -16,6 +16,7 @@ pub mod LineFeeds
 pub mod LineRules
 pub mod LinesOf
 pub mod LookingThrough
+pub mod Moving
 pub mod PassedValues
 pub mod Prints
 pub mod Reading

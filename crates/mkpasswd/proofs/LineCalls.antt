@@ -12,6 +12,7 @@ use Rattle.mkpasswd.specs.declared.fault.RunFault.TheVariants.{Read, Write, OutO
 use Rattle.mkpasswd.specs.declared.job.Job.{Job}
 use Rattle.mkpasswd.specs.declared.line.Kind.{Kind}
 use Rattle.mkpasswd.specs.declared.tally.Tally.{Tally}
+use Rattle.mkpasswd.proofs.Moving.{moves-none, moves-trans}
 
 module _ {I O E : Type 0} (told : Tells I O E) (kind : Kind) (job : Job) where
   abbrev failures_of : Hands I O E → ℕ
@@ -76,7 +77,7 @@ module _ {I O E : Type 0} (told : Tells I O E) (kind : Kind) (job : Job) where
       let once = lines-once turns start new bytes result ends in
       record {
         at_most_turns = omega (arith, took.turns);
-        at_most_bytes = omega (arith, once, took.input_moves, took.out_moves, took.faults_moves);
+        at_most_bytes = omega (arith, once, took.input_moves.calls, took.out_moves.calls, took.faults_moves.calls);
         of_input = took.input_moves;
         of_out = took.out_moves;
         of_faults = took.faults_moves;
@@ -88,13 +89,16 @@ pub turns-last : {I O E : Type 0} (turns mid_left left : ℕ) (start now : Hands
 turns-last turns mid_left left start now new before more = record {
   turns = omega (arith, before.turns, more.turns);
   input_moves = before.input_moves;
-  out_moves = omega (arith, before.out_moves, more.out_moves);
-  faults_moves = omega (arith, before.faults_moves, more.faults_moves);
+  out_moves = moves-trans 0 start.out now.out new.out before.out_moves more.out_moves;
+  faults_moves = moves-trans 0 start.faults now.faults new.faults before.faults_moves more.faults_moves;
 }
 
 -- a flush takes none
 kept-moves : {T : Type 0} (contents : T → Option (List ℕ)) (old new : Device T) → IsKept contents old new → old.failures ≤ new.failures → MovesBytes 0 old new
-kept-moves contents old new kept failures = omega (arith, kept.calls, kept.bytes, failures)
+kept-moves contents old new kept failures = record {
+  idle = omega (arith, kept.idle);
+  calls = omega (arith, kept.calls, kept.bytes, failures);
+}
 
 module _ {O E : Type 0} (contents : O → Option (List ℕ)) (fault_contents : E → Option (List ℕ)) where
   pub turns-flushed : (left : ℕ) (old : Outs O E) (out : Device O) (faults : Device E) (A : Type 0) (result : Result A RunFault)
@@ -110,7 +114,7 @@ module _ {O E : Type 0} (contents : O → Option (List ℕ)) (fault_contents : E
     turns = omega (arith, first.kept.calls, ap (λ d. d.calls) same);
     fewer = omega arith;
     out_moves = kept-moves contents old.out out first.kept (let failed = first.failed in omega (arith, failed));
-    faults_moves = rw same (omega arith);
+    faults_moves = rw same (moves-none old.faults);
   }
   turns-flushed left old out faults A (Err Write) (inr (first, second)) = record {
     turns = omega (arith, first.kept.calls, second.kept.calls);

@@ -21,6 +21,7 @@ use Rattle.mkpasswd.specs.declared.lines.progress.Progress.{Progress}
 use Rattle.mkpasswd.specs.declared.tally.Tally.{Tally}
 use Rattle.mkpasswd.proofs.Finishing.{HasAnswered, finishes, finishes-with_fault}
 use Rattle.mkpasswd.proofs.LinesOf.{HasNoLineFeed-nil}
+use Rattle.mkpasswd.proofs.Moving.{moves-trans}
 use Rattle.mkpasswd.proofs.Reading.{Reads-trans}
 use Rattle.mkpasswd.proofs.Sending.{front-none, takes-nothing}
 
@@ -79,11 +80,10 @@ module _ {I O E : Type 0} (told : Tells I O E) (kind : Kind) (job : Job) where
       → left ≡ progress.left - 1 → input.calls + left ≡ old.input.calls + progress.left
       → Reads told.remaining start.input input bytes × EndsReading told turns kind job bytes start (with_input input (outs_of old)) fault
   ends-in_fetch turns start old input bytes buffer progress left Read before moved fetched took calls =
-      let given = before.answered.given in
-      let gave = fetched.1.counted in (
+      let given = before.answered.given in (
         reads-none start old input bytes before.reads fetched.1,
         ends-reading turns start old input bytes progress Read before
-            (let calls_made = calls in omega (arith, moved, fetched.0, gave, calls_made, took)) (
+            (moves-trans 0 start.input old.input input moved fetched.2) (
               fails-at_input start old input before.answered.answers 1 given (let unfailed = before.unfailed in omega (arith, unfailed, fetched.0)),
               record { text = given.text; fault_text = given.fault_text },
               record { stream = given.stream; counts = given.counts },
@@ -91,11 +91,10 @@ module _ {I O E : Type 0} (told : Tells I O E) (kind : Kind) (job : Job) where
       )
   ends-in_fetch turns start old input bytes buffer progress left Turns before moved fetched took calls =
       let given = before.answered.given in
-      let gave = fetched.1.counted in
       let answers = before.answered.answers in (
         reads-none start old input bytes before.reads fetched.1,
         ends-reading turns start old input bytes progress Turns before
-            (let calls_made = calls in omega (arith, moved, fetched.0, fetched.2, gave, calls_made, took)) (
+            (moves-trans 0 start.input old.input input moved fetched.3) (
               fails-at_input start old input answers 0 given (fetched.0 ∙ before.unfailed ∙ sym (add-zero _)),
               (let all = before.calls in omega (arith, all, fetched.2, took, calls)),
               record {
@@ -282,9 +281,9 @@ module _ {I O E : Type 0} (told : Tells I O E) (kind : Kind) (job : Job) where
       → TakesTurnsOf spare mid_left new_left now new → TakesTurnsOf spare left new_left start new
   turns-trans left mid_left new_left spare start now new before more = record {
     turns = more.turns ∙ before.turns;
-    input_moves = omega (arith, more.input_moves, before.input_moves);
-    out_moves = omega (arith, more.out_moves, before.out_moves);
-    faults_moves = omega (arith, more.faults_moves, before.faults_moves);
+    input_moves = moves-trans spare start.input now.input new.input before.input_moves more.input_moves;
+    out_moves = moves-trans 0 start.out now.out new.out before.out_moves more.out_moves;
+    faults_moves = moves-trans 0 start.faults now.faults new.faults before.faults_moves more.faults_moves;
   }
 
   -- and whether there may be more: after a fetch that gave nothing all was read

@@ -19,6 +19,7 @@ use Rattle.mkpasswd.specs.declared.lines.progress.Progress.{Progress}
 use Rattle.mkpasswd.specs.declared.tally.Tally.{Tally}
 use Rattle.mkpasswd.proofs.LineAnswering.{AreAnswers-push, after_work-append, lines-of_answers}
 use Rattle.mkpasswd.proofs.LinesOf.{AllByRecursion-push, HasNoLineFeed-append, HasNoLineFeed-nil, IsCutAtFeed, with_line_feeds-behind, with_line_feeds-behind_all}
+use Rattle.mkpasswd.proofs.Moving.{moves-none, moves-trans}
 use Rattle.mkpasswd.proofs.Sending.{Takes-trans, TakesFront-behind}
 
 -- a desk that was handed on twice
@@ -176,7 +177,7 @@ module _ {O E : Type 0} (contents : O → Option (List ℕ)) (fault_contents : E
     split = refl;
     lines = omega arith;
     room = room;
-    turns = record { turns = refl; fewer = omega arith; out_moves = omega arith; faults_moves = omega arith };
+    turns = record { turns = refl; fewer = omega arith; out_moves = moves-none old.out; faults_moves = moves-none old.faults };
     at = λ start bytes is. subst (λ b. IsAt contents fault_contents kind job start old b progress) (sym (append-nil bytes)) is;
   }
 
@@ -244,8 +245,8 @@ module _ {O E : Type 0} (contents : O → Option (List ℕ)) (fault_contents : E
   turns-trans old mid new left mid_left new_left before more = record {
     turns = more.turns ∙ before.turns;
     fewer = omega (arith, more.fewer, before.fewer);
-    out_moves = omega (arith, more.out_moves, before.out_moves);
-    faults_moves = omega (arith, more.faults_moves, before.faults_moves);
+    out_moves = moves-trans 0 old.out mid.out new.out before.out_moves more.out_moves;
+    faults_moves = moves-trans 0 old.faults mid.faults new.faults before.faults_moves more.faults_moves;
   }
 
   pub looking-step : (old mid new : Outs O E) (old_progress progress next_progress : Progress) (held : Held) (piece rest behind : List ℕ) (end : ℕ) {A : Type 0} (done : A)

@@ -4,12 +4,13 @@ use Rattle.std.specs.List.{position, slice_range}
 use Rattle.std.proofs.KnownBytes.{Consumes-trans}
 use Rattle.std.proofs.Math.Seq.{take-add}
 use Rattle.std.proofs.lemmas.List.{length-append, length-drop, length-take-le, take-take}
-use Rattle.mkpasswd.specs.Devices.{Device, IsUnfailed}
+use Rattle.mkpasswd.specs.Devices.{Device, IsUnfailed, MovesBytes}
 use Rattle.mkpasswd.specs.Input.{first_line, IsUndecided, Reads}
 use Rattle.mkpasswd.specs.Private.Fetching.{Fetches, FindsLine, buffer_size}
 use Rattle.mkpasswd.specs.declared.fault.RunFault.{RunFault}
 use Rattle.mkpasswd.specs.declared.fault.RunFault.TheVariants.{Read, Write, OutOfMemory, Turns, Password}
 use Rattle.mkpasswd.proofs.LineFeeds.{feed_at, feed_at-append, first_line-is, first_line-whole, has_feed, lacks_feed, position-feed, position-none}
+use Rattle.mkpasswd.proofs.Moving.{moves-trans}
 
 module _ {I : Type 0} (remaining : I → Option (List ℕ)) where
   -- the front of the buffer was read and has no line feed, in calls that did not fail and that each gave a
@@ -22,7 +23,7 @@ module _ {I : Type 0} (remaining : I → Option (List ℕ)) where
     pub unfailed : IsUnfailed old new
     pub calls : new.calls + left ≡ old.calls + turns
     pub fewer : left ≤ turns
-    pub few_calls : new.calls + old.bytes ≤ old.calls + new.bytes
+    pub moves : MovesBytes 0 old new
 
   pub Reads-trans : (old mid new : Device I) (front piece : List ℕ) → Reads remaining old mid front → Reads remaining mid new piece
       → Reads remaining old new (front ++ piece)
@@ -135,8 +136,6 @@ module _ {I : Type 0} (remaining : I → Option (List ℕ)) where
   reading-more old mid new buffer next filled count turns left left_new h none some took calls =
       let so_far = read_so_far old mid new buffer next filled count turns left h in
       let before_calls = h.before.calls in
-      let few_calls = h.before.few_calls in
-      let counted = h.fetched.2.counted in
       record {
         size = h.size;
         within = so_far.0;
@@ -145,7 +144,7 @@ module _ {I : Type 0} (remaining : I → Option (List ℕ)) where
         unfailed = h.fetched.1 ∙ h.before.unfailed;
         calls = omega (arith, before_calls, calls);
         fewer = (let were_fewer = h.before.fewer in omega (arith, were_fewer, took));
-        few_calls = omega (arith, few_calls, calls, took, counted, so_far.3, some);
+        moves = moves-trans 0 old mid new h.before.moves (h.fetched.4 some);
       }
 
   undecided : (old mid : Device I) (buffer : List ℕ) (filled turns left : ℕ)
@@ -163,7 +162,11 @@ module _ {I : Type 0} (remaining : I → Option (List ℕ)) where
   reading-cut old mid new buffer next filled turns left left_new Read before room fetched took calls = (
     take filled buffer,
     subst (Reads remaining old new) (append-nil _) (Reads-trans old mid new _ [] before.reads fetched.1),
-    (let unfailed = before.unfailed in omega (arith, unfailed, fetched.0), undecided old mid buffer filled turns left before room),
+    (
+      (let unfailed = before.unfailed in omega (arith, unfailed, fetched.0)),
+      undecided old mid buffer filled turns left before room,
+      moves-trans 0 old mid new before.moves fetched.2,
+    ),
   )
   reading-cut old mid new buffer next filled turns left left_new Turns before room fetched took calls = (
     take filled buffer,
@@ -172,8 +175,7 @@ module _ {I : Type 0} (remaining : I → Option (List ℕ)) where
       fetched.0 ∙ before.unfailed,
       undecided old mid buffer filled turns left before room,
       omega (arith, took, fetched.2),
-      (let few_calls = before.few_calls in let unfailed = before.unfailed in let counted = fetched.1.counted in
-          omega (arith, few_calls, unfailed, counted, fetched.0, took, fetched.2, calls)),
+      moves-trans 0 old mid new before.moves fetched.3,
     ),
   )
   reading-cut old mid new buffer next filled turns left left_new Write before room fetched took calls = absurd fetched

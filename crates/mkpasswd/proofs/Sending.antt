@@ -4,8 +4,9 @@ use Rattle.std.proofs.lemmas.List.{length-append, length-take-le, take-append-dr
 use Rattle.std.specs.Io.KnownBytes.{Appends}
 use Rattle.std.proofs.KnownBytes.{Appends-nil, Appends-trans}
 use Rattle.std.proofs.lemmas.Bool.Decides.{nat_tests}
-use Rattle.mkpasswd.specs.Devices.{Device, IsUnflushed, as_count}
+use Rattle.mkpasswd.specs.Devices.{Device, IsUnflushed, MovesBytes, as_count}
 use Rattle.mkpasswd.specs.Output.{Takes, TakesFront}
+use Rattle.mkpasswd.proofs.Moving.{moves-none, moves-trans}
 
 -- ---- what an output has taken
 
@@ -53,23 +54,24 @@ module _ {T : Type 0} where
     pub unfailed : new.failures ≡ old.failures
     pub calls : new.calls + left ≡ old.calls + turns
     pub fewer : left ≤ turns
-    pub few_calls : new.calls + old.bytes ≤ old.calls + new.bytes
+    pub moves : MovesBytes 0 old new
 
   -- a `give` that took some bytes of the rest
   pub under_way-step : (contents : T → Option (List ℕ)) (old mid new : Device T) (text rest next : List ℕ) (turns left count : ℕ)
       → IsUnderWay contents old mid text rest turns left → 0 < left → 0 < count → count ≤ length rest
       → Appends (contents mid.inner) (contents new.inner) (take count rest)
       → new.failures ≡ mid.failures + as_count (nat_eq count 0 && nat_lt 0 (length rest))
-      → new.calls ≡ mid.calls + 1 → new.bytes ≡ mid.bytes + count → IsUnflushed mid new → next ≡ drop count rest
+      → new.calls ≡ mid.calls + 1 → new.bytes ≡ mid.bytes + count → new.idle ≡ mid.idle + as_count (nat_eq count 0 && nat_eq (length rest) 0)
+      → IsUnflushed mid new → next ≡ drop count rest
       → IsUnderWay contents old new text next turns (left - 1)
-  under_way-step contents old mid new text rest next turns left count before some_left some_taken within appends failures calls bytes unflushed next_is =
+  under_way-step contents old mid new text rest next turns left count before some_left some_taken within appends failures calls bytes idle unflushed next_is =
       let sent = before.sent in
       let took = take count rest in
       let some : nat_eq count 0 ≡ false = grind (arith, nat_tests) in
       let no_failure : new.failures ≡ mid.failures = rw some at failures ∙ add-zero mid.failures in
       let size : length took ≡ count = length-take-le count rest within in
       let counted = before.takes.counted in
-      let were_few = before.few_calls in
+      let no_idle : new.idle ≡ mid.idle = rw some at idle ∙ add-zero mid.idle in
       let were_fewer = before.fewer in
       record {
         sent = sent ++ took;
@@ -82,7 +84,10 @@ module _ {T : Type 0} where
         unfailed = no_failure ∙ before.unfailed;
         calls = omega (arith, before.calls, calls);
         fewer = omega (arith, were_fewer);
-        few_calls = omega (arith, were_few, calls, bytes);
+        moves = moves-trans 0 old mid new before.moves (record {
+          idle = omega (arith, no_idle);
+          calls = omega (arith, calls, bytes, no_failure, some_taken);
+        });
       }
 
   pub under_way-start : (contents : T → Option (List ℕ)) (old : Device T) (text : List ℕ) (turns : ℕ)
@@ -94,5 +99,5 @@ module _ {T : Type 0} where
     unfailed = refl;
     calls = refl;
     fewer = omega arith;
-    few_calls = omega arith;
+    moves = moves-none old;
   }

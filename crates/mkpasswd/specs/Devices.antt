@@ -1,29 +1,30 @@
 -- What a contract sees of a device behind its wrapper.
-use Rattle.std.specs.Prelude.{◌≡◌, ℕ, ◌+◌, ◌^◌, ◌≤◌, ◌==◌, ◌&&◌, Bool, true, nat_lt, List, length, Result, Ok, Err, refl, if◌then◌else◌}
+use Rattle.std.specs.Prelude.{◌≡◌, ℕ, ◌+◌, ◌^◌, ◌≤◌, ◌==◌, ◌&&◌, Bool, true, false, nat_lt, List, length, Result, Ok, Err, refl, if◌then◌else◌}
 use Rattle.std.specs.Coded.{Coded, code_by, coded×, coded_ℕ}
 
 -- the device; how many of its calls failed; how many calls were made to move bytes, failed ones
--- among them; how many bytes these moved; how many flushes were tried; and how many bytes had been
--- moved at the last flush that worked. An input moves bytes by `fetch`, and is never flushed; an
--- output by `give`, and not by `flush`
+-- among them; how many bytes these moved; how many of these calls moved none and didn't fail; how many
+-- flushes were tried; and how many bytes had been moved at the last flush that worked. An input moves
+-- bytes by `fetch`, and is never flushed; an output by `give`, and not by `flush`
 pub record Device (T : Type 0) : Type 0 where
   pub inner : T
   pub failures : ℕ
   pub calls : ℕ
   pub bytes : ℕ
+  pub idle : ℕ
   pub flushes : ℕ
   pub flushed : ℕ
 
 -- a device is stored as its parts
 abbrev pub device_code : {T : Type 0} → Coded T → Coded (Device T)
 device_code {T} code =
-    code_by (T × (ℕ × (ℕ × (ℕ × (ℕ × ℕ))))) (coded× code (coded× coded_ℕ (coded× coded_ℕ (coded× coded_ℕ (coded× coded_ℕ coded_ℕ)))))
-    (λ d. (d.inner, (d.failures, (d.calls, (d.bytes, (d.flushes, d.flushed))))))
-    (λ p. record { inner = p.0; failures = p.1.0; calls = p.1.1.0; bytes = p.1.1.1.0; flushes = p.1.1.1.1.0; flushed = p.1.1.1.1.1 }) (λ _. refl)
+    code_by (T × (ℕ × (ℕ × (ℕ × (ℕ × (ℕ × ℕ)))))) (coded× code (coded× coded_ℕ (coded× coded_ℕ (coded× coded_ℕ (coded× coded_ℕ (coded× coded_ℕ coded_ℕ))))))
+    (λ d. (d.inner, (d.failures, (d.calls, (d.bytes, (d.idle, (d.flushes, d.flushed)))))))
+    (λ p. record { inner = p.0; failures = p.1.0; calls = p.1.1.0; bytes = p.1.1.1.0; idle = p.1.1.1.1.0; flushes = p.1.1.1.1.1.0; flushed = p.1.1.1.1.1.1 }) (λ _. refl)
 
 -- a device of which nothing was seen
 abbrev pub new_device : {T : Type 0} → T → Device T
-new_device inner = record { inner = inner; failures = 0; calls = 0; bytes = 0; flushes = 0; flushed = 0 }
+new_device inner = record { inner = inner; failures = 0; calls = 0; bytes = 0; idle = 0; flushes = 0; flushed = 0 }
 
 -- 1 where it was seen, else 0
 abbrev pub as_count : Bool → ℕ
@@ -33,6 +34,15 @@ as_count seen = if seen then 1 else 0
 abbrev pub is_failed_give : {E : Type 0} → Result ℕ E → List ℕ → Bool
 is_failed_give (Ok count) piece = count == 0 && nat_lt 0 (length piece)
 is_failed_give (Err e) piece = true
+
+-- a call is idle where it moved nothing and didn't fail: a `fetch` that gave nothing, and a `give` of an empty piece
+abbrev pub is_idle_fetch : {E : Type 0} → Result ℕ E → Bool
+is_idle_fetch (Ok count) = count == 0
+is_idle_fetch (Err e) = false
+
+abbrev pub is_idle_give : {E : Type 0} → Result ℕ E → List ℕ → Bool
+is_idle_give (Ok count) piece = count == 0 && length piece == 0
+is_idle_give (Err e) piece = false
 
 -- how many bytes a `fetch` gave or a `give` took
 abbrev pub moved_by : {E : Type 0} → Result ℕ E → ℕ
@@ -62,9 +72,11 @@ pub record HasRoomWithinRun {T : Type 0} (device : Device T) : Type 0 where
   pub bytes : device.bytes ≤ 2 ^ 63
   pub flushes : device.flushes ≤ 2 ^ 63
 
--- each call that was made to move bytes moved one or failed, but for so many
-abbrev pub MovesBytes : {T : Type 0} → ℕ → Device T → Device T → Type 0
-MovesBytes spare old new = new.calls + old.bytes + old.failures ≤ old.calls + new.bytes + new.failures + spare
+-- each call that was made to move bytes moved one or failed, but for so many; so there were no more calls than bytes,
+-- failures and these
+pub record MovesBytes {T : Type 0} (spare : ℕ) (old new : Device T) : Type 0 where
+  pub idle : new.idle ≤ old.idle + spare
+  pub calls : new.calls + old.bytes + old.failures ≤ old.calls + new.bytes + new.failures + spare
 
 -- no call failed
 abbrev pub IsUnfailed : {T : Type 0} → Device T → Device T → Type 0

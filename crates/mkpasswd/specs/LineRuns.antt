@@ -84,8 +84,8 @@ module _ {I O E : Type 0} where
       (answers : Answer) × IsReadOut tells new × AreAnswers kind job 1 (lines_of bytes) old.stream answers
       × Finishes tells answers old new result
 
-  -- The lines whose line feeds were read are answered, and more of the input was wanted. No more fetches worked than
-  -- bytes were read.
+  -- The lines whose line feeds were read are answered, and more of the input was wanted. Each fetch that worked gave a
+  -- byte, so the end of the input was not found.
   abbrev pub EndsReading : Tells I O E → ℕ → Kind → Job → List ℕ → Hands I O E → Hands I O E → RunFault → Type 0
   EndsReading tells turns kind job bytes old new fault =
       (done : List (List ℕ)) × (rest : List ℕ) × (answers : Answer)

@@ -33,17 +33,18 @@ module _ {I O E : Type 0} where
       IsPasswordRefused password fault × IsCutShort tells turns none none old new (Password fault)
   EndsBy tells turns job password old new (Err Read) = ⊥
 
-  -- nothing is answered or drawn, since a read failed or no turn was left before the password was known
+  -- nothing is answered or drawn, since a read failed or no turn was left before the password was known; each fetch that
+  -- worked gave a byte, so the end of the input was not found
   abbrev pub EndsUndecided : Tells I O E → ℕ → List ℕ → Hands I O E → Hands I O E → RunFault → Type 0
   EndsUndecided tells turns bytes old new fault =
       let none = no_answer old.stream in
-      IsUndecided bytes × IsCutShort tells turns none none old new fault
+      IsUndecided bytes × MovesBytes 0 old.input new.input × IsCutShort tells turns none none old new fault
 
   -- the input gave these bytes, whose first line is the password
   abbrev pub EndsByInput : Tells I O E → ℕ → Job → List ℕ → Hands I O E → Hands I O E → Result Tally RunFault → Type 0
   EndsByInput tells turns job bytes old new (Err Read) = EndsUndecided tells turns bytes old new Read
   EndsByInput tells turns job bytes old new (Err Turns) =
-      (EndsUndecided tells turns bytes old new Turns × MovesBytes 0 old.input new.input)
+      EndsUndecided tells turns bytes old new Turns
       ⊎ (IsDecided tells.remaining new.input bytes × EndsBy tells turns job (first_line bytes) old new (Err Turns))
   EndsByInput tells turns job bytes old new result =
       IsDecided tells.remaining new.input bytes × EndsBy tells turns job (first_line bytes) old new result

@@ -21,6 +21,7 @@ module _ {T : Type 0} (contents : T → Option (List ℕ)) where
     pub shown : Keeps (contents old.inner) (contents new.inner)
     pub calls : new.calls ≡ old.calls
     pub bytes : new.bytes ≡ old.bytes
+    pub idle : new.idle ≡ old.idle
 
   -- an output is flushed; or that failed
   pub record IsFinished (old new : Device T) : Type 0 where

@@ -1,5 +1,5 @@
 -- One fetch, the first line in a buffer that fetches fill, and the password that it is.
-use Rattle.std.specs.Prelude.{◌≡◌, ℕ, ◌+◌, ◌≤◌, List, [], length, take, Option, Result, Ok, Err}
+use Rattle.std.specs.Prelude.{◌≡◌, ◌≢◌, ℕ, ◌+◌, ◌≤◌, List, [], length, take, Option, Result, Ok, Err}
 use Rattle.std.specs.Io.KnownBytes.{IsAtEnd}
 use Rattle.crypt_core.specs.Passwords.{IsPassword, IsPasswordRefused, password_limit}
 use Rattle.mkpasswd.specs.Devices.{Device, FailsOnce, IsUnfailed, MovesBytes}
@@ -13,9 +13,9 @@ use Rattle.mkpasswd.specs.declared.job.PasswordFrom.TheVariants.{Word, Input}
 abbrev pub buffer_size : ℕ
 buffer_size = password_limit + 1
 
--- a fetch failed, or no turn was left where each fetch had given a byte, before the password was known
+-- a fetch failed, or no turn was left, before the password was known, and each fetch that worked had given a byte
 abbrev pub IsStopped : {I : Type 0} → Device I → Device I → List ℕ → ℕ → RunFault → Type 0
-IsStopped old new bytes left Read = FailsOnce old new × IsUndecided bytes
+IsStopped old new bytes left Read = FailsOnce old new × IsUndecided bytes × MovesBytes 0 old new
 IsStopped old new bytes left Turns = IsUnfailed old new × IsUndecided bytes × (left ≡ 0) × MovesBytes 0 old new
 IsStopped old new bytes left fault = ⊥
 
@@ -25,9 +25,9 @@ module _ {I : Type 0} (remaining : I → Option (List ℕ)) where
   abbrev pub Fetches : ℕ → Device I → Device I → List ℕ → Result ℕ RunFault → Type 0
   Fetches left old new buffer (Ok count) =
       (count ≤ length buffer) × IsUnfailed old new × Reads remaining old new (take count buffer)
-      × (count ≡ 0 → IsAtEnd (remaining new.inner))
-  Fetches left old new buffer (Err Read) = FailsOnce old new × Reads remaining old new []
-  Fetches left old new buffer (Err Turns) = IsUnfailed old new × Reads remaining old new [] × (left ≡ 0)
+      × (count ≡ 0 → IsAtEnd (remaining new.inner)) × (count ≢ 0 → MovesBytes 0 old new) × MovesBytes 1 old new
+  Fetches left old new buffer (Err Read) = FailsOnce old new × Reads remaining old new [] × MovesBytes 0 old new
+  Fetches left old new buffer (Err Turns) = IsUnfailed old new × Reads remaining old new [] × (left ≡ 0) × MovesBytes 0 old new
   Fetches left old new buffer (Err fault) = ⊥
 
   -- the fetches gave these bytes, and their first line is so many first bytes of the buffer; or they were stopped before

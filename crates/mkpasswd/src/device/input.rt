@@ -3,30 +3,35 @@ ghost use Rattle.std.specs.Prelude.{◌≡◌, ◌+◌, ◌-◌, ◌^◌, ◌<�
 ghost use Rattle.std.specs.Result.{is_err};
 ghost use Rattle.std.specs.Io.{ReadsAtMost};
 ghost use Rattle.std.specs.Io.KnownBytes.{ReadConsumes};
-ghost use Rattle.mkpasswd.specs.Devices.{as_count, moved_by, new_device};
+ghost use Rattle.mkpasswd.specs.Devices.{as_count, is_idle_fetch, moved_by, new_device};
 
 use std::io;
 use std::io::Read;
 use std::marker::Model;
 
-/// A reader, with the number of its failed calls, of its `fetch` calls, failed ones among them, and of
-/// the bytes that these gave. A new wrapper has seen nothing. It has no flushes.
+/// A reader, with the number of its failed calls, of its `fetch` calls, failed ones among them, of the
+/// bytes that these gave, and of those that gave none and didn't fail. A new wrapper has seen nothing. It has
+/// no flushes.
 #[derive(Drop)]
 pub struct Input<I> {
     inner: I,
     failures: u64,
     calls: u64,
     bytes: u64,
+    idle: u64,
 }
 
 impl<I> Model for Input<I> {
+    ghost use Rattle.std.specs.Prelude.{◌≤◌};
     ghost use Rattle.mkpasswd.specs.Devices.{Device, device_code};
 
     ghost Value = { Device I };
 
     ghost coded = { device_code I.code };
 
-    ghost view = { λ i. record { inner = i.inner; failures = i.failures; calls = i.calls; bytes = i.bytes; flushes = 0; flushed = 0 } };
+    ghost view = { λ i. record { inner = i.inner; failures = i.failures; calls = i.calls; bytes = i.bytes; idle = i.idle; flushes = 0; flushed = 0 } };
+
+    ghost invariant = { λ i. i.idle ≤ i.calls };
 }
 
 impl<I: Read> Input<I> {
@@ -39,6 +44,7 @@ impl<I: Read> Input<I> {
             failures: 0,
             calls: 0,
             bytes: 0,
+            idle: 0,
         }
     }
 
@@ -69,10 +75,12 @@ impl<I: Read> Input<I> {
         ensures failures { self.new.failures ≡ self.old.failures + as_count (is_err result) }
         ensures calls { self.new.calls ≡ self.old.calls + 1 }
         ensures bytes { self.new.bytes ≡ self.old.bytes + moved_by result }
+        ensures idle { self.new.idle ≡ self.old.idle + as_count (is_idle_fetch result) }
     {
         self.calls += 1;
         let answer = self.inner.read(buffer);
         match &answer {
+            Ok(0) => self.idle += 1,
             Ok(count) => self.bytes += *count as u64,
             Err(_) => self.failures += 1,
         }

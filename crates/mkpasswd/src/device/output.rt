@@ -3,33 +3,37 @@ ghost use Rattle.std.specs.Prelude.{◌≡◌, ◌+◌, ◌-◌, ◌^◌, ◌<�
 ghost use Rattle.std.specs.Result.{is_err};
 ghost use Rattle.std.specs.Io.{WritesAtMost};
 ghost use Rattle.std.specs.Io.KnownBytes.{Keeps, WriteAppends};
-ghost use Rattle.mkpasswd.specs.Devices.{FailsToFlush, IsFlushed, IsUnflushed, as_count, is_failed_give, moved_by, new_device};
+ghost use Rattle.mkpasswd.specs.Devices.{FailsToFlush, IsFlushed, IsUnflushed, as_count, is_failed_give, is_idle_give, moved_by, new_device};
 
 use std::io;
 use std::io::Write;
 use std::marker::Model;
 
 /// A writer, with the number of its failed calls, of its `give` calls, failed ones among them, of the
-/// bytes that these took, and of its flushes, failed ones among them, and how many bytes it had taken at
-/// the last flush that worked. A new wrapper has seen nothing.
+/// bytes that these took, of those on an empty piece that didn't fail, and of its flushes, failed ones among
+/// them, and how many bytes it had taken at the last flush that worked. A new wrapper has seen nothing.
 #[derive(Drop)]
 pub struct Output<O> {
     inner: O,
     failures: u64,
     calls: u64,
     bytes: u64,
+    idle: u64,
     flushes: u64,
     flushed: u64,
 }
 
 impl<O> Model for Output<O> {
+    ghost use Rattle.std.specs.Prelude.{◌≤◌};
     ghost use Rattle.mkpasswd.specs.Devices.{Device, device_code};
 
     ghost Value = { Device O };
 
     ghost coded = { device_code O.code };
 
-    ghost view = { λ o. record { inner = o.inner; failures = o.failures; calls = o.calls; bytes = o.bytes; flushes = o.flushes; flushed = o.flushed } };
+    ghost view = { λ o. record { inner = o.inner; failures = o.failures; calls = o.calls; bytes = o.bytes; idle = o.idle; flushes = o.flushes; flushed = o.flushed } };
+
+    ghost invariant = { λ o. o.idle ≤ o.calls };
 }
 
 impl<O: Write> Output<O> {
@@ -42,6 +46,7 @@ impl<O: Write> Output<O> {
             failures: 0,
             calls: 0,
             bytes: 0,
+            idle: 0,
             flushes: 0,
             flushed: 0,
         }
@@ -74,18 +79,15 @@ impl<O: Write> Output<O> {
         ensures failures { self.new.failures ≡ self.old.failures + as_count (is_failed_give result piece.now) }
         ensures calls { self.new.calls ≡ self.old.calls + 1 }
         ensures bytes { self.new.bytes ≡ self.old.bytes + moved_by result }
+        ensures idle { self.new.idle ≡ self.old.idle + as_count (is_idle_give result piece.now) }
         ensures unflushed { IsUnflushed self.old self.new }
     {
         self.calls += 1;
         let answer = self.inner.write(piece);
         match &answer {
-            Ok(count) => {
-                self.bytes += *count as u64;
-                if *count == 0 && !piece.is_empty() {
-                    self.failures += 1;
-                }
-            }
-            Err(_) => self.failures += 1,
+            Ok(0) if piece.is_empty() => self.idle += 1,
+            Ok(0) | Err(_) => self.failures += 1,
+            Ok(count) => self.bytes += *count as u64,
         }
         answer
     }
@@ -99,6 +101,7 @@ impl<O: Write> Output<O> {
         ensures failures { self.new.failures ≡ self.old.failures + as_count (is_err result) }
         ensures calls { self.new.calls ≡ self.old.calls }
         ensures bytes { self.new.bytes ≡ self.old.bytes }
+        ensures idle { self.new.idle ≡ self.old.idle }
         ensures flushed { OnOk result (IsFlushed self.old self.new) }
         ensures flush_failed { OnErr result (FailsToFlush self.old self.new) }
     {

@@ -1,9 +1,10 @@
-use Rattle.std.proofs.Common.{refl, arith}
+use Rattle.std.proofs.Common.{refl}
 use Rattle.std.proofs.lemmas.Result.{err_from_is_err_and}
 use Rattle.mkpasswd.specs.Private.Desks.{seen, with_input}
 use Rattle.mkpasswd.specs.Runs.{tells}
 use Rattle.mkpasswd.proofs.LineEnding as ending
 use Rattle.mkpasswd.proofs.LookingThrough.{same-trans}
+use Rattle.mkpasswd.proofs.Moving.{moves-none}
 use Rattle.mkpasswd.proofs.lines.read_all.Goals as goal
 
 pub fetches-init : goal.fetches-init
@@ -13,7 +14,7 @@ fetches-init g c = (
     at_input = ending.at-start (tells g.I.Read.remaining g.O.Write.contents g.E.Write.contents) c.args.task.kind c.args.task.job.now
         (with_input c.args.input.now (seen g.R.Rng.stream c.args.desk.now)) c.args.progress.now c.requires.none_held c.requires.no_line;
     room = c.requires.room;
-    takes_turns = record { turns = refl; input_moves = omega arith; out_moves = omega arith; faults_moves = omega arith };
+    takes_turns = record { turns = refl; input_moves = moves-none _; out_moves = moves-none _; faults_moves = moves-none _ };
   },
   record { out = refl; faults = refl; rng = refl; meter = refl },
 )

@@ -10,5 +10,5 @@ pub pieces-preserved : goal.pieces-preserved
 pieces-preserved g c =
     let gave = c.in-Ok.ensures in
     under_way-step g.O.Write.contents c.args.out.now c.pieces.out c.give.new.self c.args.text.now c.pieces.rest.now _ c.args.left.now c.pieces.left c.in-Ok.count
-    c.pieces.invariant (omega arith) c.if-count-gt0.true gave.within gave.takes gave.failures gave.calls gave.bytes gave.unflushed
+    c.pieces.invariant (omega arith) c.if-count-gt0.true gave.within gave.takes gave.failures gave.calls gave.bytes gave.idle gave.unflushed
     (take_rest c.pieces.rest.now c.in-Ok.count)
