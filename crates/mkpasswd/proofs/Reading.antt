@@ -157,9 +157,9 @@ module _ {I : Type 0} (remaining : I → Option (List ℕ)) where
   -- a fetch failed, or no turn was left for it
   pub reading-cut : (old mid new : Device I) (buffer next : List ℕ) (filled turns left left_new : ℕ) (fault : RunFault)
       → IsReading old mid buffer filled turns left → filled < buffer_size
-      → Fetches remaining left mid new (drop filled next) (Err fault) → left_new ≡ left - 1 → new.calls + left_new ≡ mid.calls + left
+      → Fetches remaining left mid new (drop filled next) (Err fault) → left_new ≡ left - 1
       → (bytes : List ℕ) × Reads remaining old new bytes × FindsLine remaining old new bytes left_new next (Err fault)
-  reading-cut old mid new buffer next filled turns left left_new Read before room fetched took calls = (
+  reading-cut old mid new buffer next filled turns left left_new Read before room fetched took = (
     take filled buffer,
     subst (Reads remaining old new) (append-nil _) (Reads-trans old mid new _ [] before.reads fetched.1),
     (
@@ -168,7 +168,7 @@ module _ {I : Type 0} (remaining : I → Option (List ℕ)) where
       moves-trans 0 old mid new before.moves fetched.2,
     ),
   )
-  reading-cut old mid new buffer next filled turns left left_new Turns before room fetched took calls = (
+  reading-cut old mid new buffer next filled turns left left_new Turns before room fetched took = (
     take filled buffer,
     subst (Reads remaining old new) (append-nil _) (Reads-trans old mid new _ [] before.reads fetched.1),
     (
@@ -178,9 +178,9 @@ module _ {I : Type 0} (remaining : I → Option (List ℕ)) where
       moves-trans 0 old mid new before.moves fetched.3,
     ),
   )
-  reading-cut old mid new buffer next filled turns left left_new Write before room fetched took calls = absurd fetched
-  reading-cut old mid new buffer next filled turns left left_new OutOfMemory before room fetched took calls = absurd fetched
-  reading-cut old mid new buffer next filled turns left left_new (Password fault) before room fetched took calls = absurd fetched
+  reading-cut old mid new buffer next filled turns left left_new Write before room fetched took = absurd fetched
+  reading-cut old mid new buffer next filled turns left left_new OutOfMemory before room fetched took = absurd fetched
+  reading-cut old mid new buffer next filled turns left left_new (Password fault) before room fetched took = absurd fetched
 
   -- the buffer is full
   pub reading-full : (old mid : Device I) (buffer : List ℕ) (filled turns left : ℕ)

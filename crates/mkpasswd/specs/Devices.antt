@@ -53,7 +53,7 @@ moved_by (Err e) = 0
 abbrev pub turns_limit : ℕ
 turns_limit = 2 ^ 40
 
--- the numbers of a device leave room for any run
+-- the numbers of a device leave room for any run; `idle` is never above `calls`, by the wrapper's invariant
 abbrev pub HasRoomBeforeRun : {T : Type 0} → Device T → Type 0
 HasRoomBeforeRun d = (d.failures ≤ 2 ^ 62) × (d.calls ≤ 2 ^ 62) × (d.bytes ≤ 2 ^ 62) × (d.flushes ≤ 2 ^ 62)
 

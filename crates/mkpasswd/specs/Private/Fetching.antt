@@ -20,8 +20,8 @@ IsStopped old new bytes left Turns = IsUnfailed old new × IsUndecided bytes × 
 IsStopped old new bytes left fault = ⊥
 
 module _ {I : Type 0} (remaining : I → Option (List ℕ)) where
-  -- the first so many bytes of the buffer were read, none only at the end; or nothing was, since the fetch
-  -- failed or no turn was left for it
+  -- the first so many bytes of the buffer were read, none only at the end, and only then was the fetch idle; or nothing
+  -- was, since the fetch failed or no turn was left for it
   abbrev pub Fetches : ℕ → Device I → Device I → List ℕ → Result ℕ RunFault → Type 0
   Fetches left old new buffer (Ok count) =
       (count ≤ length buffer) × IsUnfailed old new × Reads remaining old new (take count buffer)

@@ -10,8 +10,8 @@ use std::io::Read;
 use std::marker::Model;
 
 /// A reader, with the number of its failed calls, of its `fetch` calls, failed ones among them, of the
-/// bytes that these gave, and of those that gave none and didn't fail. A new wrapper has seen nothing. It has
-/// no flushes.
+/// bytes that these gave, and of the `fetch` calls that gave none and didn't fail. A new wrapper has seen
+/// nothing. It has no flushes.
 #[derive(Drop)]
 pub struct Input<I> {
     inner: I,

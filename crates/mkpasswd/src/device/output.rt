@@ -10,8 +10,9 @@ use std::io::Write;
 use std::marker::Model;
 
 /// A writer, with the number of its failed calls, of its `give` calls, failed ones among them, of the
-/// bytes that these took, of those on an empty piece that didn't fail, and of its flushes, failed ones among
-/// them, and how many bytes it had taken at the last flush that worked. A new wrapper has seen nothing.
+/// bytes that these took, of the `give` calls of an empty piece that didn't fail, and of its flushes, failed
+/// ones among them, and how many bytes it had taken at the last flush that worked. A new wrapper has seen
+/// nothing.
 #[derive(Drop)]
 pub struct Output<O> {
     inner: O,

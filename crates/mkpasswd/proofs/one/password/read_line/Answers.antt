@@ -7,7 +7,7 @@ pub returns-in_err-count-clause-read : goal.returns-in_err-count-clause-read
 returns-in_err-count-clause-read g c =
     let p = err_from_is_err_and c.from_residual.result c.from_residual.ensures.1 in rw (p.1, p.2) (
     reading-cut g.I.Read.remaining c.args.input.now c.fetches.input c.fetch_behind.new.input c.fetches.buffer c.fetch_behind.new.buffer c.fetches.filled c.args.left.now c.fetches.left c.fetch_behind.new.left c.in_err-count.field-0.0
-    c.fetches.invariant (omega arith) c.in_err-count.ensures.fetches c.in_err-count.ensures.takes_turn c.in_err-count.ensures.turns)
+    c.fetches.invariant (omega arith) c.in_err-count.ensures.fetches c.in_err-count.ensures.takes_turn)
 
 pub returns-in-Some-clause-read : goal.returns-in-Some-clause-read
 returns-in-Some-clause-read g c =
