@@ -3,14 +3,14 @@ use Rattle.std.proofs.Common.{◌≡◌, ◌<◌, ℕ, List, length, IfOk, IfErr
 use Rattle.prims_core.specs.declared.work.Work.{Work}
 use Rattle.crypt_core.specs.Crypt.{crypt}
 use Rattle.crypt_core.specs.Passwords.{IsPassword}
-use Rattle.crypt_core.specs.Settings.{Kept, Spells}
+use Rattle.crypt_core.specs.Settings.{SettingValue, Spells}
 use Rattle.crypt_core.specs.Work.{work}
 use Rattle.crypt_c.specs.Calls.{HasRoomFor, Hashes, IsPut}
 use Rattle.crypt_c.specs.declared.refusal.Refusal.{Refusal}
 use Rattle.crypt_c.specs.declared.refusal.Refusal.TheVariants.{TooFewBytes}
 
 -- there was room for it
-pub hashes : (password setting text old new : List ℕ) (kept : Kept) (done : Work) (result : Result ℕ Refusal)
+pub hashes : (password setting text old new : List ℕ) (kept : SettingValue) (done : Work) (result : Result ℕ Refusal)
     → IsPassword password → Spells setting kept → text ≡ crypt password kept → length text < length old → done ≡ work password kept
     → IfOk result (λ count. (count ≡ length text) × IsPut text old new)
     → IfErr result (λ refusal. (refusal ≡ TooFewBytes) × (¬ HasRoomFor text old) × (new ≡ old))

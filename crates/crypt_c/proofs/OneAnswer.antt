@@ -9,13 +9,13 @@ use Rattle.crypt_core.specs.Passwords.{IsPassword, IsPasswordRefused, password_l
 use Rattle.crypt_core.specs.Readings.{IsReadOneWay}
 use Rattle.crypt_core.specs.Refusals.{IsRefused}
 use Rattle.crypt_core.specs.Replacements.{is_replaced_by}
-use Rattle.crypt_core.specs.Settings.{Kept, Spells, canonical_text}
+use Rattle.crypt_core.specs.Settings.{SettingValue, Spells, canonical_text}
 use Rattle.crypt_core.specs.declared.method.Method.{Method}
 use Rattle.crypt_core.specs.declared.password.PasswordFault.{PasswordFault}
 use Rattle.crypt_core.specs.declared.password.PasswordFault.TheVariants.{TooLong, HasNul}
 use Rattle.crypt_core.specs.declared.setting.fault.SettingFault.{SettingFault}
 use Rattle.crypt_core.specs.declared.setting.fault.SettingFault.TheVariants as setting
-use Rattle.crypt_c.specs.Calls.{Compares, Explains, HasRoomFor, Hashes, IsToldOrLacks, Makes, Replaces, Tells, method_numbered}
+use Rattle.crypt_c.specs.Calls.{Compares, Explains, HasRoomFor, Hashes, IsToldOrLacks, Makes, Replaces, Reports, method_numbered}
 use Rattle.crypt_c.specs.Numbers.{length_told, refusal_number, refusal_text, refusal_told, verdict_told}
 use Rattle.crypt_c.specs.declared.refusal.Refusal.{Refusal}
 use Rattle.crypt_c.specs.declared.refusal.Refusal.TheVariants.{Password, Setting, OutOfMemory, TooFewBytes, UnknownMethod, Cost, UnknownNumber}
@@ -32,7 +32,7 @@ password_once bytes HasNul HasNul x y = refl
 password_once bytes TooLong HasNul x y = absurd (omega (arith, y.0))
 password_once bytes HasNul TooLong x y = absurd (omega (arith, x.0))
 
-setting_once : (text : List ℕ) → IsReadOneWay text → (a b : Kept) → Spells text a → Spells text b → a ≡ b
+setting_once : (text : List ℕ) → IsReadOneWay text → (a b : SettingValue) → Spells text a → Spells text b → a ≡ b
 unfolding IsReadOneWay
 setting_once text one a b x y = cc (one (Ok a) (Ok b) x y)
 
@@ -40,7 +40,7 @@ refusal_once : (text : List ℕ) → IsReadOneWay text → (a b : SettingFault) 
 unfolding IsReadOneWay
 refusal_once text one a b x y = cc (one (Err a) (Err b) x y)
 
-text_apart : (text : List ℕ) → IsReadOneWay text → (kept : Kept) (fault : SettingFault) → Spells text kept → IsRefused text fault → ⊥
+text_apart : (text : List ℕ) → IsReadOneWay text → (kept : SettingValue) (fault : SettingFault) → Spells text kept → IsRefused text fault → ⊥
 unfolding IsReadOneWay
 text_apart text one kept fault x y = absurd (cc (one (Ok kept) (Err fault) x y))
 
@@ -62,7 +62,7 @@ compared_once p s one a b (Err UnknownMethod) holds x y = absurd x
 compared_once p s one a b (Err Cost) holds x y = absurd x
 compared_once p s one a b (Err UnknownNumber) holds x y = absurd x
 compared_once p s one a b told (Err OutOfMemory) x y = search rules
-compared_once p s one a b (Ok v) (Ok w) x y = inl (ap (λ (t : Bool). verdict_told (Ok t)) (verdict_once v w x.1.2 (subst (λ (k : Kept). IsTrue w ↔ (crypt p k ≡ s)) (setting_once s (one x.0) y.1.0 x.1.0 y.1.1 x.1.1) y.1.2)))
+compared_once p s one a b (Ok v) (Ok w) x y = inl (ap (λ (t : Bool). verdict_told (Ok t)) (verdict_once v w x.1.2 (subst (λ (k : SettingValue). IsTrue w ↔ (crypt p k ≡ s)) (setting_once s (one x.0) y.1.0 x.1.0 y.1.1 x.1.1) y.1.2)))
 compared_once p s one a b (Ok v) (Err (Password f)) x y = absurd (password_apart p f x.0 y.0)
 compared_once p s one a b (Ok v) (Err (Setting f)) x y = absurd (text_apart s (one x.0) x.1.0 f x.1.1 y.1.0)
 compared_once p s one a b (Err (Password f)) (Ok w) x y = absurd (password_apart p f y.0 x.0)
@@ -83,13 +83,13 @@ hashed_once p s one old m n a b (Err UnknownMethod) holds x y = absurd x
 hashed_once p s one old m n a b (Err Cost) holds x y = absurd x
 hashed_once p s one old m n a b (Err UnknownNumber) holds x y = absurd x
 hashed_once p s one old m n a b told (Err OutOfMemory) x y = search rules
-hashed_once p s one old m n a b (Ok v) (Ok w) x y = inl (ap (λ (t : ℕ). length_told (Ok t)) (x.1.2 ∙ ap (λ (k : Kept). length (crypt p k)) (setting_once s (one x.0) x.1.0 y.1.0 x.1.1 y.1.1) ∙ sym y.1.2))
+hashed_once p s one old m n a b (Ok v) (Ok w) x y = inl (ap (λ (t : ℕ). length_told (Ok t)) (x.1.2 ∙ ap (λ (k : SettingValue). length (crypt p k)) (setting_once s (one x.0) x.1.0 y.1.0 x.1.1 y.1.1) ∙ sym y.1.2))
 hashed_once p s one old m n a b (Ok v) (Err (Password f)) x y = absurd (password_apart p f x.0 y.0)
 hashed_once p s one old m n a b (Ok v) (Err (Setting f)) x y = absurd (text_apart s (one x.0) x.1.0 f x.1.1 y.1)
-hashed_once p s one old m n a b (Ok v) (Err TooFewBytes) x y = absurd (subst (λ (k : Kept). ¬ HasRoomFor (crypt p k) old) (setting_once s (one x.0) y.1.0 x.1.0 y.1.1 x.1.1) y.1.2 x.1.3.0)
+hashed_once p s one old m n a b (Ok v) (Err TooFewBytes) x y = absurd (subst (λ (k : SettingValue). ¬ HasRoomFor (crypt p k) old) (setting_once s (one x.0) y.1.0 x.1.0 y.1.1 x.1.1) y.1.2 x.1.3.0)
 hashed_once p s one old m n a b (Err (Password f)) (Ok w) x y = absurd (password_apart p f y.0 x.0)
 hashed_once p s one old m n a b (Err (Setting f)) (Ok w) x y = absurd (text_apart s (one x.0) y.1.0 f y.1.1 x.1)
-hashed_once p s one old m n a b (Err TooFewBytes) (Ok w) x y = absurd (subst (λ (k : Kept). ¬ HasRoomFor (crypt p k) old) (setting_once s (one x.0) x.1.0 y.1.0 x.1.1 y.1.1) x.1.2 y.1.3.0)
+hashed_once p s one old m n a b (Err TooFewBytes) (Ok w) x y = absurd (subst (λ (k : SettingValue). ¬ HasRoomFor (crypt p k) old) (setting_once s (one x.0) x.1.0 y.1.0 x.1.1 y.1.1) x.1.2 y.1.3.0)
 hashed_once p s one old m n a b (Err OutOfMemory) (Ok w) x y = inr refl
 hashed_once p s one old m n a b (Err (Password f)) (Err (Password g)) x y = ap (λ (h : PasswordFault). refusal_told (Password h)) (password_once p f g x.0 y.0)
 hashed_once p s one old m n a b (Err (Password f)) (Err (Setting g)) x y = absurd (password_apart p f y.0 x.0)
@@ -101,11 +101,11 @@ hashed_once p s one old m n a b (Err TooFewBytes) (Err TooFewBytes) x y = refl
 hashed_once p s one old m n a b (Err TooFewBytes) (Err (Password g)) x y = absurd (password_apart p g x.0 y.0)
 hashed_once p s one old m n a b (Err TooFewBytes) (Err (Setting g)) x y = absurd (text_apart s (one x.0) x.1.0 g x.1.1 y.1)
 hashed_once p s one old m n a b (Err OutOfMemory) (Err TooFewBytes) x y =
-    absurd (subst (λ (k : Kept). ¬ HasRoomFor (crypt p k) old) (setting_once s (one x.0) y.1.0 x.1.0 y.1.1 x.1.1) y.1.2 x.1.2)
+    absurd (subst (λ (k : SettingValue). ¬ HasRoomFor (crypt p k) old) (setting_once s (one x.0) y.1.0 x.1.0 y.1.1 x.1.1) y.1.2 x.1.2)
 hashed_once p s one old m n a b (Err OutOfMemory) (Err (Password g)) x y = absurd (password_apart p g x.0 y.0)
 hashed_once p s one old m n a b (Err OutOfMemory) (Err (Setting g)) x y = absurd (text_apart s (one x.0) x.1.0 g x.1.1 y.1)
 
-pub told_once : {A : Type 0} (measure : Kept → ℕ → A) (stored : List ℕ) (len : ℕ) → (len ≤ password_limit → IsReadOneWay stored) → (old a b : A) (told holds : Result ℕ Refusal) → Tells measure stored len old a told → Tells measure stored len old b holds → told ≡ holds
+pub told_once : {A : Type 0} (measure : SettingValue → ℕ → A) (stored : List ℕ) (len : ℕ) → (len ≤ password_limit → IsReadOneWay stored) → (old a b : A) (told holds : Result ℕ Refusal) → Reports measure stored len old a told → Reports measure stored len old b holds → told ≡ holds
 told_once measure s len one old a b told (Err (Password HasNul)) x y = absurd y
 told_once measure s len one old a b told (Err OutOfMemory) x y = absurd y
 told_once measure s len one old a b told (Err TooFewBytes) x y = absurd y
@@ -128,7 +128,7 @@ told_once measure s len one old a b (Err (Password TooLong)) (Err (Setting g)) x
 told_once measure s len one old a b (Err (Setting f)) (Err (Password TooLong)) x y = absurd (omega (arith, x.0, y.0))
 told_once measure s len one old a b (Err (Setting f)) (Err (Setting g)) x y = ap (λ (h : SettingFault). Err (Setting h)) (refusal_once s (one x.0) f g x.1 y.1)
 
-pub replaced_once : (stored new : List ℕ) → IsReadOneWay stored → ((kept : Kept) → Spells stored kept → IsReadOneWay new) → (told holds : Result Bool Refusal) → Replaces stored new told → Replaces stored new holds → told ≡ holds
+pub replaced_once : (stored new : List ℕ) → IsReadOneWay stored → ((kept : SettingValue) → Spells stored kept → IsReadOneWay new) → (told holds : Result Bool Refusal) → Replaces stored new told → Replaces stored new holds → told ≡ holds
 replaced_once s t one later told (Err (Password f)) x y = absurd y
 replaced_once s t one later told (Err OutOfMemory) x y = absurd y
 replaced_once s t one later told (Err TooFewBytes) x y = absurd y
@@ -141,7 +141,7 @@ replaced_once s t one later (Err TooFewBytes) holds x y = absurd x
 replaced_once s t one later (Err UnknownMethod) holds x y = absurd x
 replaced_once s t one later (Err Cost) holds x y = absurd x
 replaced_once s t one later (Err UnknownNumber) holds x y = absurd x
-replaced_once s t one later (Ok v) (Ok w) x y = ap (λ (b : Bool). Ok b) (x.4 ∙ ap (λ (k : Kept). is_replaced_by k.scheme x.1.scheme) (setting_once s one x.0 y.0 x.2 y.2) ∙ ap (λ (k : Kept). is_replaced_by y.0.scheme k.scheme) (setting_once t (later x.0 x.2) x.1 y.1 x.3 y.3) ∙ sym y.4)
+replaced_once s t one later (Ok v) (Ok w) x y = ap (λ (b : Bool). Ok b) (x.4 ∙ ap (λ (k : SettingValue). is_replaced_by k.scheme x.1.scheme) (setting_once s one x.0 y.0 x.2 y.2) ∙ ap (λ (k : SettingValue). is_replaced_by y.0.scheme k.scheme) (setting_once t (later x.0 x.2) x.1 y.1 x.3 y.3) ∙ sym y.4)
 replaced_once s t one later (Ok v) (Err (Setting f)) x y = elim y [
   | inl first ↦ absurd (text_apart s one x.0 f x.2 first)
   | inr second ↦ absurd (text_apart t (later x.0 x.2) x.1 f x.3 second.2)

@@ -8,7 +8,7 @@ use Rattle.crypt_core.specs.MadeSettings.{TakesCost, with_made_salt}
 use Rattle.crypt_core.specs.Passwords.{IsPassword, IsPasswordRefused, password_limit}
 use Rattle.crypt_core.specs.Refusals.{IsRefused}
 use Rattle.crypt_core.specs.Replacements.{is_replaced_by}
-use Rattle.crypt_core.specs.Settings.{Kept, Spells, canonical_text}
+use Rattle.crypt_core.specs.Settings.{SettingValue, Spells, canonical_text}
 use Rattle.crypt_core.specs.Work.{cost, work}
 use Rattle.crypt_core.specs.declared.fits.FitFault.TheVariants as fit
 use Rattle.crypt_core.specs.declared.method.Method.{Method}
@@ -46,38 +46,38 @@ Compares password stored done (Err refusal) = ⊥
 -- its text and a byte 0 are put; or the first refusal that holds, and the caller's bytes are as they were
 abbrev pub Hashes : List ℕ → List ℕ → List ℕ → List ℕ → Work → Result ℕ Refusal → Type 0
 Hashes password setting old new done (Ok count) =
-    IsPassword password × ((kept : Kept) × Spells setting kept × (count ≡ length (crypt password kept))
+    IsPassword password × ((kept : SettingValue) × Spells setting kept × (count ≡ length (crypt password kept))
     × IsPut (crypt password kept) old new × (done ≡ work password kept))
 Hashes password setting old new done (Err (Password fault)) =
     IsPasswordRefused password fault × (new ≡ old) × (done ≡ no_work)
 Hashes password setting old new done (Err (Setting fault)) =
     IsPassword password × IsRefused setting fault × (new ≡ old) × (done ≡ no_work)
 Hashes password setting old new done (Err TooFewBytes) =
-    IsPassword password × ((kept : Kept) × Spells setting kept × ¬ HasRoomFor (crypt password kept) old
+    IsPassword password × ((kept : SettingValue) × Spells setting kept × ¬ HasRoomFor (crypt password kept) old
     × (new ≡ old) × (done ≡ no_work))
 Hashes password setting old new done (Err OutOfMemory) =
-    IsPassword password × ((kept : Kept) × Spells setting kept × HasRoomFor (crypt password kept) old
+    IsPassword password × ((kept : SettingValue) × Spells setting kept × HasRoomFor (crypt password kept) old
     × IsAfterRefusedGrowth no_work kept.scheme done × (new ≡ old))
 Hashes password setting old new done (Err refusal) = ⊥
 
 -- ---- what a hash will take
 
 -- a measure of the setting that a text spells, and of a password's length; too long a length is told first
-abbrev pub Tells : {A : Type 0} → (Kept → ℕ → A) → List ℕ → ℕ → A → A → Result ℕ Refusal → Type 0
-Tells measure stored len old new (Ok count) =
-    (len ≤ password_limit) × (count ≡ 0) × ((kept : Kept) × Spells stored kept × (new ≡ measure kept len))
-Tells measure stored len old new (Err (Password TooLong)) = (password_limit < len) × (new ≡ old)
-Tells measure stored len old new (Err (Setting fault)) = (len ≤ password_limit) × IsRefused stored fault × (new ≡ old)
-Tells measure stored len old new (Err refusal) = ⊥
+abbrev pub Reports : {A : Type 0} → (SettingValue → ℕ → A) → List ℕ → ℕ → A → A → Result ℕ Refusal → Type 0
+Reports measure stored len old new (Ok count) =
+    (len ≤ password_limit) × (count ≡ 0) × ((kept : SettingValue) × Spells stored kept × (new ≡ measure kept len))
+Reports measure stored len old new (Err (Password TooLong)) = (password_limit < len) × (new ≡ old)
+Reports measure stored len old new (Err (Setting fault)) = (len ≤ password_limit) × IsRefused stored fault × (new ≡ old)
+Reports measure stored len old new (Err refusal) = ⊥
 
 -- ---- settings
 
 -- the one setting is replaced by the other; a refusal of the first text is told before one of the second
 abbrev pub Replaces : List ℕ → List ℕ → Result Bool Refusal → Type 0
 Replaces stored new (Ok verdict) =
-    (kept : Kept) × (other : Kept) × Spells stored kept × Spells new other × (verdict ≡ is_replaced_by kept.scheme other.scheme)
+    (kept : SettingValue) × (other : SettingValue) × Spells stored kept × Spells new other × (verdict ≡ is_replaced_by kept.scheme other.scheme)
 Replaces stored new (Err (Setting fault)) =
-    IsRefused stored fault ⊎ ((kept : Kept) × Spells stored kept × IsRefused new fault)
+    IsRefused stored fault ⊎ ((kept : SettingValue) × Spells stored kept × IsRefused new fault)
 Replaces stored new (Err refusal) = ⊥
 
 -- the methods by their numbers, which are those of their texts' prefixes
@@ -115,8 +115,8 @@ Explains number old new (Err refusal) = ⊥
 -- ---- from the facts to the number
 
 -- each answer of which these facts hold is the one that the number tells
-abbrev pub TellsEach : {A : Type 0} → (Result A Refusal → ℤ) → (Result A Refusal → Type 0) → ℤ → Type 0
-TellsEach {A = A} told holds number = (answer : Result A Refusal) → holds answer → number ≡ told answer
+abbrev pub Determines : {A : Type 0} → (Result A Refusal → ℤ) → (Result A Refusal → Type 0) → ℤ → Type 0
+Determines {A = A} told holds number = (answer : Result A Refusal) → holds answer → number ≡ told answer
 
 -- such a number where memory may be refused: in the place of a value it can tell that, and in the place of no other refusal
 abbrev pub IsToldOrLacks : {A : Type 0} → (Result A Refusal → ℤ) → ℤ → Result A Refusal → Type 0

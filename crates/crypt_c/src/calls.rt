@@ -4,8 +4,8 @@ ghost use Rattle.prims_core.specs.Work.{no_work};
 ghost use Rattle.crypt_core.specs.Work.{cost, work_bound};
 ghost use Rattle.crypt_core.specs.Passwords.{IsPassword, password_limit};
 ghost use Rattle.crypt_core.specs.Readings.{IsReadOneWay};
-ghost use Rattle.crypt_core.specs.Settings.{Kept, Spells};
-ghost use Rattle.crypt_c.specs.Calls.{Compares, Explains, Hashes, Makes, Replaces, Tells, method_numbered};
+ghost use Rattle.crypt_core.specs.Settings.{SettingValue, Spells};
+ghost use Rattle.crypt_c.specs.Calls.{Compares, Explains, Hashes, Makes, Replaces, Reports, method_numbered};
 ghost use Rattle.crypt_c.specs.Private.Steps.{IsUntold, IsSmall};
 
 use crate::put::put;
@@ -65,7 +65,7 @@ pub(crate) fn tell_bound(
     password_len: usize,
     most: &mut Work,
 ) -> Result<usize, Refusal>
-    ensures tells { Tells work_bound stored.now password_len most.old most.new result }
+    ensures tells { Reports work_bound stored.now password_len most.old most.new result }
     ensures one_reading { password_len ≤ password_limit → IsReadOneWay stored.now }
     ensures nothing { IfOk result (λ count. count ≡ 0) }
 {
@@ -79,7 +79,7 @@ pub(crate) fn tell_cost(
     password_len: usize,
     number: &mut u64,
 ) -> Result<usize, Refusal>
-    ensures tells { Tells cost stored.now password_len number.old number.new result }
+    ensures tells { Reports cost stored.now password_len number.old number.new result }
     ensures one_reading { password_len ≤ password_limit → IsReadOneWay stored.now }
     ensures nothing { IfOk result (λ count. count ≡ 0) }
 {
@@ -103,7 +103,7 @@ fn read_setting(stored: &[u8], password_len: usize) -> Result<Setting, Refusal>
 pub(crate) fn is_replaced(stored: &[u8], new: &[u8]) -> Result<bool, Refusal>
     ensures replaces { Replaces stored.now new.now result }
     ensures one_reading { IsReadOneWay stored.now }
-    ensures then_one { (kept : Kept) → Spells stored.now kept → IsReadOneWay new.now }
+    ensures then_one { (kept : SettingValue) → Spells stored.now kept → IsReadOneWay new.now }
 {
     let stored = Setting::read(stored)?;
     let new = Setting::read(new)?;

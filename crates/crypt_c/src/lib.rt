@@ -8,7 +8,7 @@
 ghost use Rattle.std.specs.Prelude.{◌≡◌, ◌^◌, ◌<◌, ◌∷◌, [], Bool, List, Result, ℕ, IfOk};
 ghost use Rattle.crypt_core.specs.Work.{cost, work_bound};
 ghost use Rattle.prims_core.specs.declared.work.Work.{Work as Done};
-ghost use Rattle.crypt_c.specs.Calls.{Compares, Explains, Hashes, Makes, Replaces, Tells, TellsEach, TellsOrLacks};
+ghost use Rattle.crypt_c.specs.Calls.{Compares, Explains, Hashes, Makes, Replaces, Reports, Determines, TellsOrLacks};
 ghost use Rattle.crypt_c.specs.Numbers.{length_told, verdict_told};
 ghost use Rattle.crypt_c.specs.Private.Steps.{IsSmall};
 ghost use Rattle.crypt_c.specs.declared.refusal.Refusal.{Refusal as Refused};
@@ -75,9 +75,9 @@ pub extern "C" fn mkpasswd_hash(
 /// The refusals: too many bytes for a password, and those of the text as a setting. After one `most` is as it was.
 #[unsafe(no_mangle)]
 pub extern "C" fn mkpasswd_bound(stored: &[u8], password_len: usize, most: &mut Work) -> i32
-    ensures tells { (answer : Result ℕ Refused) × Tells work_bound stored.now password_len most.old most.new answer
+    ensures tells { (answer : Result ℕ Refused) × Reports work_bound stored.now password_len most.old most.new answer
         × (result ≡ length_told answer) }
-    ensures each { (new : Done) → TellsEach length_told (Tells work_bound stored.now password_len most.old new) result }
+    ensures each { (new : Done) → Determines length_told (Reports work_bound stored.now password_len most.old new) result }
 {
     length_number(tell_bound(stored, password_len, most))
 }
@@ -86,9 +86,9 @@ pub extern "C" fn mkpasswd_bound(stored: &[u8], password_len: usize, most: &mut 
 /// Otherwise as [`mkpasswd_bound`].
 #[unsafe(no_mangle)]
 pub extern "C" fn mkpasswd_cost(stored: &[u8], password_len: usize, number: &mut u64) -> i32
-    ensures tells { (answer : Result ℕ Refused) × Tells cost stored.now password_len number.old number.new answer
+    ensures tells { (answer : Result ℕ Refused) × Reports cost stored.now password_len number.old number.new answer
         × (result ≡ length_told answer) }
-    ensures each { (new : ℕ) → TellsEach length_told (Tells cost stored.now password_len number.old new) result }
+    ensures each { (new : ℕ) → Determines length_told (Reports cost stored.now password_len number.old new) result }
 {
     length_number(tell_cost(stored, password_len, number))
 }
@@ -101,7 +101,7 @@ pub extern "C" fn mkpasswd_cost(stored: &[u8], password_len: usize, number: &mut
 pub extern "C" fn mkpasswd_replaced(stored: &[u8], new: &[u8]) -> i32
     ensures replaces { (answer : Result Bool Refused) × Replaces stored.now new.now answer
         × (result ≡ verdict_told answer) }
-    ensures each { TellsEach verdict_told (Replaces stored.now new.now) result }
+    ensures each { Determines verdict_told (Replaces stored.now new.now) result }
 {
     verdict_number(is_replaced(stored, new))
 }
@@ -124,7 +124,7 @@ pub extern "C" fn mkpasswd_setting(
     ensures makes { (answer : Result ℕ Refused) × Makes method cost (first ∷ second ∷ third ∷ []) out.old out.new answer
         × (result ≡ length_told answer) }
     ensures each { (new : List ℕ)
-        → TellsEach length_told (Makes method cost (first ∷ second ∷ third ∷ []) out.old new) result }
+        → Determines length_told (Makes method cost (first ∷ second ∷ third ∷ []) out.old new) result }
 {
     length_number(put_setting(method, cost, [first, second, third], out))
 }
@@ -137,7 +137,7 @@ pub extern "C" fn mkpasswd_setting(
 pub extern "C" fn mkpasswd_refusal(number: i32, out: &mut [u8]) -> i32
     ensures explains { (answer : Result ℕ Refused) × Explains number out.old out.new answer
         × (result ≡ length_told answer) }
-    ensures each { (new : List ℕ) → TellsEach length_told (Explains number out.old new) result }
+    ensures each { (new : List ℕ) → Determines length_told (Explains number out.old new) result }
 {
     length_number(put_refusal(number, out))
 }

@@ -16,12 +16,12 @@ use Rattle.crypt_core.specs.declared.scheme.Scheme.TheVariants.{Md5crypt, Sha256
 use Rattle.crypt_core.specs.Methods.{prefix, salt_limit, md5crypt_salt_limit, shacrypt_salt_limit, scrypt_salt_limit}
 use Rattle.crypt_core.specs.Packing.{packed_len}
 use Rattle.crypt_core.specs.Private.Costs.{HasCost}
-use Rattle.crypt_core.specs.Settings.{Kept, method_of, IsSettingByte, dollar, IsEndOfField, IsField, BeginsWith, rounds_word, rounds_field, IsRoundsNumber, held, SpellsRounds, SpellsCost, IsScryptSalt, KeepsSalt, Spells, IsSetting, cost_part, canonical_text, min_rounds, max_rounds, setting_limit, canonical_limit}
+use Rattle.crypt_core.specs.Settings.{SettingValue, method_of, IsSettingByte, dollar, IsEndOfField, IsField, BeginsWith, rounds_word, rounds_field, IsRoundsNumber, clamped, SpellsRounds, SpellsCost, IsScryptSalt, KeepsSalt, Spells, IsSetting, cost_part, canonical_text, min_rounds, max_rounds, setting_limit, canonical_limit}
 use Rattle.crypt_core.proofs.Numerals.{length-scrypt_part}
 
 -- What a setting keeps is bounded
 
-pub held_range : (n : ℕ) → (min_rounds ≤ held n) × (held n ≤ max_rounds)
+pub held_range : (n : ℕ) → (min_rounds ≤ clamped n) × (clamped n ≤ max_rounds)
 held_range n = (omega arith, omega arith)
 
 rounds_range : (count : ℕ) (flag : Bool) (part after : List ℕ) → SpellsRounds (record { count = count; is_written = flag }) part after → (min_rounds ≤ count) × (count ≤ max_rounds)
@@ -43,7 +43,7 @@ salt_bounded methods.Sha256crypt field salt k = cut shacrypt_salt_limit field sa
 salt_bounded methods.Sha512crypt field salt k = cut shacrypt_salt_limit field salt k
 salt_bounded methods.Scrypt field salt k = omega (arith, ap length k.0, k.1.short)
 
-pub setting_bounded : (kept : Kept) → IsSetting kept → HasCost kept.scheme × (length kept.salt ≤ salt_limit (method_of kept.scheme))
+pub setting_bounded : (kept : SettingValue) → IsSetting kept → HasCost kept.scheme × (length kept.salt ≤ salt_limit (method_of kept.scheme))
 setting_bounded kept (text, s) =
     (cost_bounded kept.scheme s.scheme.part (s.field ++ s.rest) s.scheme.cost, salt_bounded (method_of kept.scheme) s.field kept.salt s.salt)
 
@@ -165,7 +165,7 @@ begins_within (y ∷ salt) tail (w ∷ word) none end (more, e) =
 rounds_word_no_dollar : AllByRecursion (λ b. b ≢ dollar) rounds_word
 rounds_word_no_dollar = (λ e. omega arith, (λ e. omega arith, (λ e. omega arith, (λ e. omega arith, (λ e. omega arith, (λ e. omega arith, (λ e. omega arith, tt)))))))
 
-pub held_again : (n : ℕ) → min_rounds ≤ n → n ≤ max_rounds → n ≡ held n
+pub held_again : (n : ℕ) → min_rounds ≤ n → n ≤ max_rounds → n ≡ clamped n
 held_again n low high = omega arith
 
 rounds_again : (count : ℕ) (flag : Bool) (n : ℕ) (part field rest salt tail : List ℕ) → salt ≡ take n field → IsEndOfField tail → SpellsRounds (record { count = count; is_written = flag }) part (field ++ rest) → SpellsRounds (record { count = count; is_written = flag }) (cost_part (Sha256crypt (record { count = count; is_written = flag }))) (salt ++ tail)
@@ -175,7 +175,7 @@ rounds_again count true n part field rest salt tail e end s =
       decimal count,
       decimal_is_number count (omega (arith, range)) below,
       refl,
-      held_again count range.0 range.1 ∙ ap held (sym (decimal_is_IsNumeral count below).1),
+      held_again count range.0 range.1 ∙ ap clamped (sym (decimal_is_IsNumeral count below).1),
     )
 rounds_again count false n part field rest salt tail e end s =
     (refl, s.1, λ begins. s.2 (begins_longer n field rest salt rounds_word e (begins_within salt tail rounds_word rounds_word_no_dollar end begins)))
@@ -187,7 +187,7 @@ cost_again (Sha512crypt r) n part field rest salt tail e end s = rounds_again r.
 cost_again (Scrypt c) n part field rest salt tail e end s = (refl, s.1, s.2)
 
 -- what a text spells, its canonical text spells, whatever stands behind a `$`
-pub canonical_spells_before : (text : List ℕ) (kept : Kept) (tail : List ℕ) → Spells text kept → IsEndOfField tail → All IsSettingByte tail → canonical_limit + length tail ≤ setting_limit
+pub canonical_spells_before : (text : List ℕ) (kept : SettingValue) (tail : List ℕ) → Spells text kept → IsEndOfField tail → All IsSettingByte tail → canonical_limit + length tail ≤ setting_limit
     → Spells (canonical_text kept ++ tail) kept
 canonical_spells_before text kept tail s end tail_bytes short =
     let m : Method = method_of kept.scheme in
@@ -216,7 +216,7 @@ canonical_spells_before text kept tail s end tail_bytes short =
       salt = salt_again m s.field kept.salt s.salt;
     }
 
-pub canonical_spells : (text : List ℕ) (kept : Kept) → Spells text kept → Spells (canonical_text kept) kept
+pub canonical_spells : (text : List ℕ) (kept : SettingValue) → Spells text kept → Spells (canonical_text kept) kept
 canonical_spells text kept s =
     subst (λ (t : List ℕ). Spells t kept) (append-nil (canonical_text kept)) (canonical_spells_before text kept [] s tt (All-nil IsSettingByte) (omega arith))
 

@@ -5,7 +5,7 @@ use Rattle.std.proofs.lemmas.List.Elements.{All-cons, All-contains, All-from_rec
 use Rattle.prims_core.specs.Alphabet.{alphabet}
 use Rattle.crypt_core.specs.Crypt.{crypt, digest_by}
 use Rattle.crypt_core.specs.Packing.{packed, packed_len}
-use Rattle.crypt_core.specs.Settings.{Kept, Spells, IsSettingByte, canonical_text, dollar, method_of}
+use Rattle.crypt_core.specs.Settings.{SettingValue, Spells, IsSettingByte, canonical_text, dollar, method_of}
 use Rattle.crypt_core.proofs.Canonical.{canonical_spells_before}
 use Rattle.crypt_core.proofs.Making.{character_is_byte}
 use Rattle.std.proofs.lemmas.List.{length-append}
@@ -21,7 +21,7 @@ dollar_is_byte = record {
   apart = λ inside. All-contains (λ b. b ≢ dollar) (codes ":;*!\\") dollar no_dollar inside refl;
 }
 
-pub hashed_spells : (kept : Kept) (digest : List ℕ) → Spells (canonical_text kept) kept
+pub hashed_spells : (kept : SettingValue) (digest : List ℕ) → Spells (canonical_text kept) kept
     → Spells (canonical_text kept ++ dollar ∷ packed (method_of kept.scheme) digest) kept
 hashed_spells kept digest spelled =
     let text = packed (method_of kept.scheme) digest in
@@ -29,7 +29,7 @@ hashed_spells kept digest spelled =
     canonical_spells_before (canonical_text kept) kept (dollar ∷ text) spelled refl (All-cons IsSettingByte dollar text dollar_is_byte bytes)
     (omega (arith, length-packed_text (method_of kept.scheme) digest, packed_len-small (method_of kept.scheme)))
 
-pub length-crypt : (password : List ℕ) (kept : Kept) → length (crypt password kept) ≡ length (canonical_text kept) + 1 + packed_len (method_of kept.scheme)
+pub length-crypt : (password : List ℕ) (kept : SettingValue) → length (crypt password kept) ≡ length (canonical_text kept) + 1 + packed_len (method_of kept.scheme)
 unfolding crypt
 length-crypt password kept =
     let digest = digest_by kept.scheme password kept.salt in

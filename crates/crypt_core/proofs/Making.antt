@@ -18,7 +18,7 @@ use Rattle.crypt_core.specs.declared.setting.fault.MakeFault.TheVariants.{SaltLe
 use Rattle.crypt_core.specs.Methods.{prefix, salt_limit, md5crypt_salt_limit, shacrypt_salt_limit, scrypt_salt_limit}
 use Rattle.crypt_core.specs.MadeSettings.{made_cost, made_scheme, made_setting, TakesCost, IsMakeable, BreaksMake, IsMakeRefused, make_rule_number, max_cost, default_cost, cost_at}
 use Rattle.crypt_core.specs.Private.Costs.{HasCost}
-use Rattle.crypt_core.specs.Settings.{Kept, method_of, IsSettingByte, dollar, BeginsWith, rounds_word, rounds_field, IsRoundsNumber, held, SpellsRounds, scrypt_part, SpellsCost, KeepsSalt, IsSetting, cost_part, canonical_text, min_rounds, max_rounds, default_rounds}
+use Rattle.crypt_core.specs.Settings.{SettingValue, method_of, IsSettingByte, dollar, BeginsWith, rounds_word, rounds_field, IsRoundsNumber, clamped, SpellsRounds, scrypt_part, SpellsCost, KeepsSalt, IsSetting, cost_part, canonical_text, min_rounds, max_rounds, default_rounds}
 use Rattle.crypt_core.proofs.Numerals.{all_scrypt_part}
 use Rattle.crypt_core.proofs.Canonical.{canonical_short, decimal_is_number, number_bytes, held_again, held_range}
 
@@ -114,7 +114,7 @@ IsMade (Scrypt n) = Unit {0}
 rounds_spelled : (count : ℕ) (flag : Bool) (salt : List ℕ) → min_rounds ≤ count → count ≤ max_rounds → (flag ≡ false → count ≡ default_rounds) → All (Contains alphabet) salt → SpellsRounds (record { count = count; is_written = flag }) (cost_part (Sha256crypt (record { count = count; is_written = flag }))) (salt ++ [])
 rounds_spelled count true salt low high made all =
     let below : count < 2 ^ 64 = omega arith in
-    (decimal count, decimal_is_number count (omega arith) below, refl, held_again count low high ∙ ap held (sym (decimal_is_IsNumeral count below).1))
+    (decimal count, decimal_is_number count (omega arith) below, refl, held_again count low high ∙ ap clamped (sym (decimal_is_IsNumeral count below).1))
 rounds_spelled count false salt low high made all = (refl, made refl, no_rounds salt all)
 
 cost_spelled : (scheme : Scheme) (salt : List ℕ) → HasCost scheme → IsMade scheme → All (Contains alphabet) salt → SpellsCost scheme (cost_part scheme) (salt ++ [])
@@ -131,7 +131,7 @@ salt_kept methods.Scrypt salt short all = (refl, record { short = short; charact
 
 spelled : (scheme : Scheme) (salt : List ℕ) → HasCost scheme → IsMade scheme → length salt ≤ salt_limit (method_of scheme) → All (Contains alphabet) salt → IsSetting (record { scheme = scheme; salt = salt })
 spelled scheme salt c m short all =
-    let kept : Kept = record { scheme = scheme; salt = salt } in (
+    let kept : SettingValue = record { scheme = scheme; salt = salt } in (
       canonical_text kept,
       record {
         is_text = record {
@@ -171,7 +171,7 @@ made_cost_accepted cost (inr range) =
     let some : eqb cost 0 ≡ false = ne_eqb cost 0 (λ e. omega arith) in
     subst (λ (b : Bool). HasCost (Scrypt (cost_at (cond b default_cost cost)))) (sym some) (accepted_at cost (omega arith))
 
-rounds_made : (b : Bool) (cost : ℕ) → HasCost (Sha256crypt (cond b (record { count = default_rounds; is_written = false }) (record { count = held cost; is_written = true }))) × IsMade (Sha256crypt (cond b (record { count = default_rounds; is_written = false }) (record { count = held cost; is_written = true })))
+rounds_made : (b : Bool) (cost : ℕ) → HasCost (Sha256crypt (cond b (record { count = default_rounds; is_written = false }) (record { count = clamped cost; is_written = true }))) × IsMade (Sha256crypt (cond b (record { count = default_rounds; is_written = false }) (record { count = clamped cost; is_written = true })))
 rounds_made true cost = ((omega arith, omega arith), λ e. refl)
 rounds_made false cost = (held_range cost, λ e. absurd (cc e))
 

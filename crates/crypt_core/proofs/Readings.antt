@@ -7,7 +7,7 @@ use Rattle.crypt_core.specs.declared.scheme.Rounds.{Rounds}
 use Rattle.crypt_core.specs.declared.scheme.Scheme.{Scheme}
 use Rattle.crypt_core.specs.declared.scheme.Scheme.TheVariants.{Md5crypt, Sha256crypt, Sha512crypt, Scrypt}
 use Rattle.crypt_core.specs.Methods.{prefix}
-use Rattle.crypt_core.specs.Settings.{Kept, method_of, scrypt_part, SpellsCost, KeepsSalt, SpellsScheme, Spells}
+use Rattle.crypt_core.specs.Settings.{SettingValue, method_of, scrypt_part, SpellsCost, KeepsSalt, SpellsScheme, Spells}
 use Rattle.crypt_core.proofs.Fields.{field_unique}
 use Rattle.crypt_core.proofs.Numerals.{scrypt_part_unique}
 use Rattle.crypt_core.proofs.Rounds.{rounds_unique}
@@ -76,11 +76,11 @@ salt_unique methods.Sha256crypt f s t a b = a ∙ sym b
 salt_unique methods.Sha512crypt f s t a b = a ∙ sym b
 salt_unique methods.Scrypt f s t a b = a.0 ∙ sym b.0
 
-abbrev kept_of : Scheme → List ℕ → Kept
+abbrev kept_of : Scheme → List ℕ → SettingValue
 kept_of scheme salt = record { scheme = scheme; salt = salt }
 
 -- a text spells one setting at most
-pub setting_unique : (text : List ℕ) (a b : Kept) → Spells text a → Spells text b → a ≡ b
+pub setting_unique : (text : List ℕ) (a b : SettingValue) → Spells text a → Spells text b → a ≡ b
 setting_unique text a b sa sb =
     let fronts = scheme_unique text a.scheme b.scheme (sa.field ++ sa.rest) (sb.field ++ sb.rest) sa.scheme sb.scheme in
     let fields = field_unique sa.field sb.field sa.rest sb.rest sa.is_field sb.is_field fronts.1 in

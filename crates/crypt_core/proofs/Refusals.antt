@@ -13,7 +13,7 @@ use Rattle.crypt_core.specs.declared.setting.fault.SettingFault.TheVariants.{Too
 use Rattle.crypt_core.specs.Methods.{prefix}
 use Rattle.crypt_core.specs.Readings.{IsReadOneWay, IsReading}
 use Rattle.crypt_core.specs.Refusals.{IsShaText, LacksRounds, IsScryptText, Breaks, IsRefused, rule_number}
-use Rattle.crypt_core.specs.Settings.{Kept, method_of, rounds_word, SpellsRounds, scrypt_part, HasNumerals, IsScryptSalt, KeepsSalt, SpellsScheme, Spells}
+use Rattle.crypt_core.specs.Settings.{SettingValue, method_of, rounds_word, SpellsRounds, scrypt_part, HasNumerals, IsScryptSalt, KeepsSalt, SpellsScheme, Spells}
 use Rattle.crypt_core.proofs.Fields.{field_unique}
 use Rattle.crypt_core.proofs.Numerals.{scrypt_part_unique, length-scrypt_part, all_scrypt_part}
 use Rattle.crypt_core.proofs.Readings.{prefix_unique, setting_unique}
@@ -79,7 +79,7 @@ scrypt_salt (Sha256crypt r) n field salt e k = absurd cc
 scrypt_salt (Sha512crypt r) n field salt e k = absurd cc
 
 -- what a text spells breaks no rule
-pub spelled_breaks_none : (text : List ℕ) (kept : Kept) → Spells text kept → (fault : SettingFault) → Breaks fault text → ⊥
+pub spelled_breaks_none : (text : List ℕ) (kept : SettingValue) → Spells text kept → (fault : SettingFault) → Breaks fault text → ⊥
 spelled_breaks_none text kept s TooLong b = omega (arith, s.is_text.short)
 spelled_breaks_none text kept s BadCharacter b = b s.is_text.bytes
 spelled_breaks_none text kept s BadSalt b =
@@ -123,12 +123,12 @@ refusal_unique text f g rf rg = elim (cases_order (rule_number f) (rule_number g
 -- so it is read as one of these at most
 pub one_reading : (text : List ℕ) → IsReadOneWay text
 unfolding IsReadOneWay
-one_reading text (Ok kept) (Ok other) spelled s = ap (λ (k : Kept). Ok k) (setting_unique text kept other spelled s)
+one_reading text (Ok kept) (Ok other) spelled s = ap (λ (k : SettingValue). Ok k) (setting_unique text kept other spelled s)
 one_reading text (Ok kept) (Err fault) spelled refused = absurd (spelled_breaks_none text kept spelled fault refused.breaks)
 one_reading text (Err fault) (Ok kept) refused spelled = absurd (spelled_breaks_none text kept spelled fault refused.breaks)
 one_reading text (Err fault) (Err other) refused r = ap (λ (f : SettingFault). Err f) (refusal_unique text fault other refused r)
 
 -- an answer that is right
-pub reading_is : (text : List ℕ) (r : Result Kept SettingFault) → IfOk r (Spells text) → IfErr r (IsRefused text) → IsReading text r
+pub reading_is : (text : List ℕ) (r : Result SettingValue SettingFault) → IfOk r (Spells text) → IfErr r (IsRefused text) → IsReading text r
 reading_is text (Ok kept) spelled refused = spelled
 reading_is text (Err fault) spelled refused = refused

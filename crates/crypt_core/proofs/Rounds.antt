@@ -5,7 +5,7 @@ use Rattle.std.specs.Str.Parse.{digits_value}
 use Rattle.std.proofs.lemmas.List.{append_cancel_left}
 use Rattle.std.proofs.lemmas.List.Elements.{All-cons, All-weaker}
 use Rattle.crypt_core.specs.declared.scheme.Rounds.{Rounds}
-use Rattle.crypt_core.specs.Settings.{dollar, IsField, rounds_word, rounds_field, IsRoundsNumber, held, SpellsRounds, max_rounds}
+use Rattle.crypt_core.specs.Settings.{dollar, IsField, rounds_word, rounds_field, IsRoundsNumber, clamped, SpellsRounds, max_rounds}
 use Rattle.crypt_core.proofs.Fields.{field_unique}
 
 -- the digits of a proper field go up to its `$`
@@ -30,7 +30,7 @@ rounds_by : (m n : ℕ) (f g : Bool) (p q x y : List ℕ) → SpellsRounds (reco
 rounds_by m n true true p q x y a b e =
     let same : rounds_field a.0 ++ x ≡ rounds_field b.0 ++ y = sym (ap (λ (z : List ℕ). z ++ x) a.2) ∙ e ∙ ap (λ (z : List ℕ). z ++ y) b.2 in
     let both = digits_unique a.0 b.0 x y a.1 b.1 same in
-    (a.3 ∙ ap (λ (ds : List ℕ). held (digits_value 10 ds)) both.0 ∙ sym b.3, refl, both.1)
+    (a.3 ∙ ap (λ (ds : List ℕ). clamped (digits_value 10 ds)) both.0 ∙ sym b.3, refl, both.1)
 rounds_by m n true false p q x y a b e =
     let y_is : y ≡ rounds_word ++ (a.0 ++ (dollar ∷ x)) = sym (ap (λ (z : List ℕ). z ++ y) b.0) ∙ sym e ∙ ap (λ (z : List ℕ). z ++ x) a.2 ∙ field_parts a.0 x in
     absurd (b.2 (a.0 ++ (dollar ∷ x), y_is))
@@ -51,13 +51,13 @@ rounds_unique a b p q x y ra rb e =
     let flag : a.is_written ≡ b.is_written = all.1 in
     (ap (λ (n : ℕ). rounds_of n a.is_written) count ∙ ap (rounds_of b.count) flag, all.2)
 
-held_min : (n : ℕ) → held (min n max_rounds) ≡ held n
+held_min : (n : ℕ) → clamped (min n max_rounds) ≡ clamped n
 held_min n = omega arith
 
 -- a proper field, with its held number
-pub written_rounds : (after field digits rest : List ℕ) (number : ℕ) (r : Rounds) → after ≡ rounds_word ++ field → IsRoundsNumber digits → field ≡ digits ++ (dollar ∷ rest) → number ≡ min (digits_value 10 digits) max_rounds → r ≡ record { count = held number; is_written = true } → (part : List ℕ) × (after ≡ part ++ rest) × SpellsRounds r part rest
+pub written_rounds : (after field digits rest : List ℕ) (number : ℕ) (r : Rounds) → after ≡ rounds_word ++ field → IsRoundsNumber digits → field ≡ digits ++ (dollar ∷ rest) → number ≡ min (digits_value 10 digits) max_rounds → r ≡ record { count = clamped number; is_written = true } → (part : List ℕ) × (after ≡ part ++ rest) × SpellsRounds r part rest
 written_rounds after field digits rest number r begins is_number parts is made = (
   rounds_field digits,
   begins ∙ ap (λ (x : List ℕ). rounds_word ++ x) parts ∙ sym (field_parts digits rest),
-  subst (λ (s : Rounds). SpellsRounds s (rounds_field digits) rest) (sym made) (digits, is_number, refl, ap held is ∙ held_min (digits_value 10 digits)),
+  subst (λ (s : Rounds). SpellsRounds s (rounds_field digits) rest) (sym made) (digits, is_number, refl, ap clamped is ∙ held_min (digits_value 10 digits)),
 )

@@ -7,7 +7,7 @@ use Rattle.kdf_core.specs.ScryptWork.{IsAfterRefusal}
 use Rattle.crypt_core.specs.Md5crypt.{md5crypt_digest}
 use Rattle.crypt_core.specs.Methods.{digest_len}
 use Rattle.crypt_core.specs.Packing.{packed, packed_len}
-use Rattle.crypt_core.specs.Settings.{Kept, canonical_limit, canonical_text, dollar, method_of}
+use Rattle.crypt_core.specs.Settings.{SettingValue, canonical_limit, canonical_text, dollar, method_of}
 use Rattle.crypt_core.specs.ShaCrypt.{shacrypt_digest}
 use Rattle.crypt_core.specs.declared.method.Method.TheVariants as methods
 use Rattle.crypt_core.specs.declared.scheme.Scheme.{Scheme}
@@ -21,7 +21,7 @@ digest_by (Sha512crypt rounds) password salt = shacrypt_digest sha512 password s
 digest_by (Scrypt cost) password salt = scrypt password salt cost (digest_len methods.Scrypt)
 
 -- the setting's own text, and the packed digest behind a `$`
-unfoldable pub crypt : List ℕ → Kept → List ℕ
+unfoldable pub crypt : List ℕ → SettingValue → List ℕ
 crypt password kept =
     canonical_text kept ++ dollar ∷ packed (method_of kept.scheme) (digest_by kept.scheme password kept.salt)
 

@@ -3,21 +3,21 @@ use Rattle.std.specs.Prelude.{◌≡◌, ℕ, ◌↔◌, Bool, List, IsTrue, Res
 use Rattle.prims_core.specs.declared.work.Work.{Work}
 use Rattle.crypt_core.specs.Crypt.{crypt, IsAfterRefusedGrowth}
 use Rattle.crypt_core.specs.Refusals.{IsRefused}
-use Rattle.crypt_core.specs.Settings.{Kept, Spells}
+use Rattle.crypt_core.specs.Settings.{SettingValue, Spells}
 use Rattle.crypt_core.specs.Work.{raised_by, work}
 use Rattle.crypt_core.specs.declared.fits.FitFault.{FitFault}
 use Rattle.crypt_core.specs.declared.fits.FitFault.TheVariants.{Setting, OutOfMemory}
 
 -- the text spells a setting, and the password's hash by it is the text, to the last byte
 abbrev pub Fits : List ℕ → List ℕ → Type 0
-Fits password stored = (kept : Kept) × Spells stored kept × (crypt password kept ≡ stored)
+Fits password stored = (kept : SettingValue) × Spells stored kept × (crypt password kept ≡ stored)
 
 -- The password was hashed by the setting that the text spells, and compared; or the text was refused, and
 -- nothing was counted; or memory for that hash was refused.
 abbrev pub Compares : List ℕ → List ℕ → Work → Work → Result Bool FitFault → Type 0
 Compares password stored before after (Ok verdict) =
-    (kept : Kept) × Spells stored kept × (IsTrue verdict ↔ (crypt password kept ≡ stored))
+    (kept : SettingValue) × Spells stored kept × (IsTrue verdict ↔ (crypt password kept ≡ stored))
     × (after ≡ raised_by before (work password kept))
 Compares password stored before after (Err (Setting fault)) = IsRefused stored fault × (after ≡ before)
 Compares password stored before after (Err OutOfMemory) =
-    (kept : Kept) × Spells stored kept × IsAfterRefusedGrowth before kept.scheme after
+    (kept : SettingValue) × Spells stored kept × IsAfterRefusedGrowth before kept.scheme after

@@ -12,11 +12,11 @@ use Rattle.crypt_core.specs.declared.setting.fault.MakeFault.{MakeFault}
 use Rattle.crypt_core.specs.declared.setting.fault.MakeFault.TheVariants.{SaltLength, SaltCharacter, Cost}
 use Rattle.crypt_core.specs.MadeSalts.{made_salt, made_salt_length}
 use Rattle.crypt_core.specs.Methods.{salt_limit}
-use Rattle.crypt_core.specs.Settings.{Kept, default_rounds, held}
+use Rattle.crypt_core.specs.Settings.{SettingValue, default_rounds, clamped}
 
 -- the default and no field for cost 0, and otherwise a field with the cost, held
 abbrev pub made_rounds : ℕ → Rounds
-made_rounds cost = if cost == 0 then record { count = default_rounds; is_written = false } else record { count = held cost; is_written = true }
+made_rounds cost = if cost == 0 then record { count = default_rounds; is_written = false } else record { count = clamped cost; is_written = true }
 
 -- the least cost of scrypt, the greatest, and the one that 0 stands for
 abbrev pub min_cost : ℕ
@@ -44,11 +44,11 @@ made_scheme methods.Sha512crypt cost = Sha512crypt (made_rounds cost)
 made_scheme methods.Scrypt cost = Scrypt (made_cost cost)
 
 -- the setting of a method with a cost and a salt
-abbrev pub made_setting : Method → ℕ → List ℕ → Kept
+abbrev pub made_setting : Method → ℕ → List ℕ → SettingValue
 made_setting method cost salt = record { scheme = made_scheme method cost; salt = salt }
 
 -- the same with a new salt, which three words make
-abbrev pub with_made_salt : Method → ℕ → List ℕ → Kept
+abbrev pub with_made_salt : Method → ℕ → List ℕ → SettingValue
 with_made_salt method cost words = made_setting method cost (made_salt words (made_salt_length method))
 
 -- scrypt takes the costs 0 and from the least to the greatest, and the other methods take any

@@ -11,7 +11,7 @@ use Rattle.crypt_core.specs.declared.scheme.Scheme.TheVariants.{Md5crypt, Sha256
 use Rattle.crypt_core.specs.Methods.{prefix, salt_limit, scrypt_salt_limit}
 
 -- what is kept of a text: the scheme with its cost, and the salt
-pub record Kept : Type 0 where
+pub record SettingValue : Type 0 where
   pub scheme : Scheme
   pub salt : List ℕ
 
@@ -79,8 +79,8 @@ abbrev pub default_rounds : ℕ
 default_rounds = 5000
 
 -- the nearest number of rounds
-abbrev pub held : ℕ → ℕ
-held n = max min_rounds (min n max_rounds)
+abbrev pub clamped : ℕ → ℕ
+clamped n = max min_rounds (min n max_rounds)
 
 -- the word, the digits of the number, and a `$`
 abbrev pub rounds_field : List ℕ → List ℕ
@@ -89,7 +89,7 @@ rounds_field digits = rounds_word ++ (digits ++ dollar ∷ [])
 -- a field, and then the rounds are its number, held; or no field, and then they are the default
 abbrev pub SpellsRounds : Rounds → List ℕ → List ℕ → Type 0
 SpellsRounds rounds part after = MatchBool rounds.is_written
-    ((digits : List ℕ) × IsRoundsNumber digits × (part ≡ rounds_field digits) × (rounds.count ≡ held (digits_value 10 digits)))
+    ((digits : List ℕ) × IsRoundsNumber digits × (part ≡ rounds_field digits) × (rounds.count ≡ clamped (digits_value 10 digits)))
     ((part ≡ []) × (rounds.count ≡ default_rounds) × ¬ BeginsWith after rounds_word)
 
 -- The cost part of scrypt's texts
@@ -134,7 +134,7 @@ pub record SpellsScheme (text : List ℕ) (scheme : Scheme) (after : List ℕ) :
   pub cost : SpellsCost scheme part after
 
 -- the text spells what is kept of it
-pub record Spells (text : List ℕ) (kept : Kept) : Type 0 where
+pub record Spells (text : List ℕ) (kept : SettingValue) : Type 0 where
   pub is_text : IsSettingText text
   pub field : List ℕ
   pub rest : List ℕ
@@ -143,7 +143,7 @@ pub record Spells (text : List ℕ) (kept : Kept) : Type 0 where
   pub salt : KeepsSalt (method_of kept.scheme) field kept.salt
 
 -- what some text spells
-abbrev pub IsSetting : Kept → Type 0
+abbrev pub IsSetting : SettingValue → Type 0
 IsSetting kept = (text : List ℕ) × Spells text kept
 
 -- The canonical text
@@ -156,7 +156,7 @@ cost_part (Sha512crypt rounds) = if rounds.is_written then rounds_field (decimal
 cost_part (Scrypt cost) = scrypt_part cost
 
 -- it ends with the salt
-abbrev pub canonical_text : Kept → List ℕ
+abbrev pub canonical_text : SettingValue → List ℕ
 canonical_text kept = prefix (method_of kept.scheme) ++ (cost_part kept.scheme ++ kept.salt)
 
 -- the most bytes of a canonical text: scrypt's are the longest

@@ -11,7 +11,7 @@ use Rattle.kdf_core.specs.ScryptWork.{mixed_bytes, scrypt_work}
 use Rattle.crypt_core.specs.Cycle.{digit_bytes}
 use Rattle.crypt_core.specs.Md5crypt.{md5crypt_rounds}
 use Rattle.crypt_core.specs.Methods.{digest_len}
-use Rattle.crypt_core.specs.Settings.{Kept}
+use Rattle.crypt_core.specs.Settings.{SettingValue}
 use Rattle.crypt_core.specs.ShaCrypt.{sha_opening_byte}
 use Rattle.crypt_core.specs.declared.method.Method.TheVariants as methods
 use Rattle.crypt_core.specs.declared.scheme.Scheme.{Scheme}
@@ -75,7 +75,7 @@ first_byte_by (Sha512crypt rounds) password salt = sha_opening_byte sha512 passw
 first_byte_by scheme password salt = 0
 
 -- the work of the hash of a password by a setting
-abbrev pub work : List ℕ → Kept → Work
+abbrev pub work : List ℕ → SettingValue → Work
 work password kept =
     work_by kept.scheme (first_byte_by kept.scheme password kept.salt) (length password) (length kept.salt)
 
@@ -85,7 +85,7 @@ abbrev pub greatest_byte : ℕ
 greatest_byte = 255
 
 -- the same for a password of so many bytes, with the greatest byte in place of a
-abbrev pub work_bound : Kept → ℕ → Work
+abbrev pub work_bound : SettingValue → ℕ → Work
 work_bound kept password_length = work_by kept.scheme greatest_byte password_length (length kept.salt)
 
 -- what no count of a hash reaches, for any password and any setting
@@ -101,5 +101,5 @@ mixed_bytes_by (Scrypt cost) = mixed_bytes cost
 mixed_bytes_by scheme = 0
 
 -- for a password of so many bytes: the bytes that are digested at most, and those that are mixed
-abbrev pub cost : Kept → ℕ → ℕ
+abbrev pub cost : SettingValue → ℕ → ℕ
 cost kept password_length = (work_bound kept password_length).bytes + mixed_bytes_by kept.scheme

@@ -6,7 +6,7 @@ ghost use Rattle.crypt_core.specs.declared.setting.fault.SettingFault.{SettingFa
 ghost use Rattle.crypt_core.specs.Fits.{Compares, Fits};
 ghost use Rattle.crypt_core.specs.Readings.{IsReadOneWay};
 ghost use Rattle.crypt_core.specs.Refusals.{IsRefused};
-ghost use Rattle.crypt_core.specs.Settings.{Kept, Spells};
+ghost use Rattle.crypt_core.specs.Settings.{SettingValue, Spells};
 ghost use Rattle.crypt_core.specs.Work.{work, work_limit, IsBelow};
 
 use crate::hash::{HashFault, hash};
@@ -81,7 +81,7 @@ pub fn fits(
     requires { HasRoom meter.old }
     ensures verdict { IfOk result (λ verdict. IsTrue verdict ↔ Fits password.now stored.now) }
     ensures compared { Compares password.now stored.now meter.old meter.new result }
-    ensures below { (kept : Kept) → Spells stored.now kept → IsBelow (work password.now kept) work_limit }
+    ensures below { (kept : SettingValue) → Spells stored.now kept → IsBelow (work password.now kept) work_limit }
     ensures one_reading { IsReadOneWay stored.now }
     ensures each_refusal { (fault : Refusal) → IsRefused stored.now fault → result ≡ Err (FitFault.Setting fault) }
 {

@@ -1,7 +1,7 @@
 //! What a setting asks for: its method with the cost.
 
 ghost use Rattle.std.specs.Prelude.{◌≡◌, true, false};
-ghost use Rattle.crypt_core.specs.Settings.{default_rounds, held, method_of};
+ghost use Rattle.crypt_core.specs.Settings.{default_rounds, clamped, method_of};
 
 use crate::method::Method;
 use kdf_core::params::Params;
@@ -37,7 +37,7 @@ impl Rounds {
 
     /// The rounds of a field with this number: the nearest from the fewest to the most.
     pub fn written(number: u64) -> Rounds
-        ensures { result ≡ record { count = held number; is_written = true } }
+        ensures { result ≡ record { count = clamped number; is_written = true } }
     {
         Rounds {
             count: number.clamp(MIN_ROUNDS, MAX_ROUNDS) as u32,

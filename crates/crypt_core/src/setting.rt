@@ -46,9 +46,9 @@ pub struct Setting {
 }
 
 impl Model for Setting {
-    ghost use Rattle.crypt_core.specs.Settings.{Kept, IsSetting};
+    ghost use Rattle.crypt_core.specs.Settings.{SettingValue, IsSetting};
 
-    ghost Value = { Kept };
+    ghost Value = { SettingValue };
 
     ghost view = { λ a. record { scheme = a.scheme; salt = a.salt.items } };
 

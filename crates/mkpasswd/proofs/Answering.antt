@@ -9,9 +9,9 @@ use Rattle.mkpasswd.specs.LineAnswers.IsAnswer.{refused}
 use Rattle.mkpasswd.specs.Lines.{IsLineRefused, line_limit, rule_number}
 use Rattle.mkpasswd.specs.Private.Made.{IsRaisedBelow, Says, fault_text_of, tally_of, text_of}
 use Rattle.mkpasswd.specs.Private.Deliveries.{Sends}
-use Rattle.mkpasswd.specs.Private.Desks.{Outs}
+use Rattle.mkpasswd.specs.Private.Desks.{OutputState}
 use Rattle.mkpasswd.specs.Private.Progress.{AnswersOne, HasRoomIn}
-use Rattle.mkpasswd.specs.Private.Rooms.{HasCountsFor, HasRoomFor, answer_limit, line_work_limit}
+use Rattle.mkpasswd.specs.Private.Headroom.{HasCountsFor, HasRoomFor, answer_limit, line_work_limit}
 use Rattle.mkpasswd.specs.Tallies.{both_tallies}
 use Rattle.mkpasswd.specs.declared.answer.LineAnswer.{LineAnswer}
 use Rattle.mkpasswd.specs.declared.answer.Outcome.{Outcome}
@@ -95,7 +95,7 @@ one_more-counts lines old new room small = record {
 
 module _ {O E : Type 0} where
   -- room for the next line is left after an answer
-  pub room-after : (contents : O → Option (List ℕ)) (fault_contents : E → Option (List ℕ)) (tally : Tally) (made : LineAnswer) (old new : Outs O E) (left new_left : ℕ) {A : Type 0} (done : A)
+  pub room-after : (contents : O → Option (List ℕ)) (fault_contents : E → Option (List ℕ)) (tally : Tally) (made : LineAnswer) (old new : OutputState O E) (left new_left : ℕ) {A : Type 0} (done : A)
       → HasRoomIn tally old → IsRaisedBelow line_work_limit old.counts new.counts
       → ((told : Answer) → Says made.outcome made.text.items told → Sends contents fault_contents new_left told old.out old.faults new.out new.faults (Ok done))
       → old.out.calls + old.faults.calls + left ≤ calls_limit
@@ -120,7 +120,7 @@ module _ {O E : Type 0} where
   -- ---- an answer that was made
 
   -- whether it is given whole or cut short
-  pub answers-sent : (contents : O → Option (List ℕ)) (fault_contents : E → Option (List ℕ)) (left : ℕ) (answer : Answer) (old new : Outs O E) {A : Type 0} (result : Result A RunFault)
+  pub answers-sent : (contents : O → Option (List ℕ)) (fault_contents : E → Option (List ℕ)) (left : ℕ) (answer : Answer) (old new : OutputState O E) {A : Type 0} (result : Result A RunFault)
       → new.stream ≡ answer.stream → new.counts ≡ after_work old.counts answer.hashings
       → Sends contents fault_contents left answer old.out old.faults new.out new.faults result
       → AnswersOne contents fault_contents left answer old new result

@@ -3,7 +3,7 @@ use Rattle.std.proofs.Common.{◌≡◌, ℕ, List, [], ◌++◌, Some, Result, 
 use Rattle.std.proofs.lemmas.Option.{none-some}
 use Rattle.rand_core.specs.Stream.{Stream}
 use Rattle.crypt_core.specs.Methods.{prefix}
-use Rattle.crypt_core.specs.Settings.{BeginsWith, Kept, Spells, method_of}
+use Rattle.crypt_core.specs.Settings.{BeginsWith, SettingValue, Spells, method_of}
 use Rattle.crypt_core.specs.declared.method.Method.{Method}
 use Rattle.crypt_core.specs.declared.method.Method.TheVariants.{Md5crypt, Sha256crypt, Sha512crypt, Scrypt}
 use Rattle.mkpasswd.specs.Answers.{Answer}
@@ -14,7 +14,7 @@ use Rattle.mkpasswd.specs.LineOptions.{OnlyRefuses}
 use Rattle.mkpasswd.specs.Lines.{HasParts, IsStored, Parts}
 use Rattle.mkpasswd.specs.One.{EndsBy, EndsByInput, EndsOne}
 use Rattle.mkpasswd.specs.Rehashes.{without_rehash}
-use Rattle.mkpasswd.specs.Runs.{Hands, Tells}
+use Rattle.mkpasswd.specs.Runs.{RunState, DeviceBytes}
 use Rattle.mkpasswd.specs.declared.fault.RunFault.{RunFault}
 use Rattle.mkpasswd.specs.declared.fault.RunFault.TheVariants.{Read, Write, OutOfMemory, Turns, Password}
 use Rattle.mkpasswd.specs.declared.job.Job.{Job}
@@ -67,14 +67,14 @@ first_of_prefix Sha256crypt rest = refl
 first_of_prefix Sha512crypt rest = refl
 first_of_prefix Scrypt rest = refl
 
-first_is_dollar : (field : List ℕ) (kept : Kept) → Spells field kept → slice_index field 0 ≡ 36
+first_is_dollar : (field : List ℕ) (kept : SettingValue) → Spells field kept → slice_index field 0 ≡ 36
 first_is_dollar field kept spells =
     ap (λ (text : List ℕ). slice_index text 0) spells.scheme.parts ∙ first_of_prefix (method_of kept.scheme) (spells.scheme.part ++ (spells.field ++ spells.rest))
 
 begins_with : (field front : List ℕ) (first : ℕ) → ((rest : List ℕ) → slice_index (front ++ rest) 0 ≡ first) → BeginsWith field front → slice_index field 0 ≡ first
 begins_with field front first starts begins = ap (λ (text : List ℕ). slice_index text 0) begins.1 ∙ starts begins.0
 
-spelled-stored : (field : List ℕ) (kept : Kept) → Spells field kept → IsStored field
+spelled-stored : (field : List ℕ) (kept : SettingValue) → Spells field kept → IsStored field
 spelled-stored field kept spells =
     let dollar = first_is_dollar field kept spells in
     record {
@@ -122,27 +122,27 @@ only_refuses kind job = record {
 -- ---- a single password
 
 module _ {I O E : Type 0} where
-  unoptioned-by : (tells : Tells I O E) (turns : ℕ) (job : Job) (password : List ℕ) (old new : Hands I O E) (result : Result Tally RunFault)
-      → EndsBy tells turns job password old new result → EndsBy tells turns (without_rehash (without_budget job)) password old new result
-  unoptioned-by tells turns job password old new (Ok tally) ends = ends
-  unoptioned-by tells turns job password old new (Err Read) ends = ends
-  unoptioned-by tells turns job password old new (Err Write) ends = ends
-  unoptioned-by tells turns job password old new (Err OutOfMemory) ends = ends
-  unoptioned-by tells turns job password old new (Err Turns) ends = ends
-  unoptioned-by tells turns job password old new (Err (Password fault)) ends = ends
+  unoptioned-by : (device_bytes : DeviceBytes I O E) (turns : ℕ) (job : Job) (password : List ℕ) (old new : RunState I O E) (result : Result Tally RunFault)
+      → EndsBy device_bytes turns job password old new result → EndsBy device_bytes turns (without_rehash (without_budget job)) password old new result
+  unoptioned-by device_bytes turns job password old new (Ok tally) ends = ends
+  unoptioned-by device_bytes turns job password old new (Err Read) ends = ends
+  unoptioned-by device_bytes turns job password old new (Err Write) ends = ends
+  unoptioned-by device_bytes turns job password old new (Err OutOfMemory) ends = ends
+  unoptioned-by device_bytes turns job password old new (Err Turns) ends = ends
+  unoptioned-by device_bytes turns job password old new (Err (Password fault)) ends = ends
 
-  unoptioned-input : (tells : Tells I O E) (turns : ℕ) (job : Job) (bytes : List ℕ) (old new : Hands I O E) (result : Result Tally RunFault)
-      → EndsByInput tells turns job bytes old new result → EndsByInput tells turns (without_rehash (without_budget job)) bytes old new result
-  unoptioned-input tells turns job bytes old new (Ok tally) ends = ends
-  unoptioned-input tells turns job bytes old new (Err Read) ends = ends
-  unoptioned-input tells turns job bytes old new (Err Write) ends = ends
-  unoptioned-input tells turns job bytes old new (Err OutOfMemory) ends = ends
-  unoptioned-input tells turns job bytes old new (Err Turns) ends = ends
-  unoptioned-input tells turns job bytes old new (Err (Password fault)) ends = ends
+  unoptioned-input : (device_bytes : DeviceBytes I O E) (turns : ℕ) (job : Job) (bytes : List ℕ) (old new : RunState I O E) (result : Result Tally RunFault)
+      → EndsByInput device_bytes turns job bytes old new result → EndsByInput device_bytes turns (without_rehash (without_budget job)) bytes old new result
+  unoptioned-input device_bytes turns job bytes old new (Ok tally) ends = ends
+  unoptioned-input device_bytes turns job bytes old new (Err Read) ends = ends
+  unoptioned-input device_bytes turns job bytes old new (Err Write) ends = ends
+  unoptioned-input device_bytes turns job bytes old new (Err OutOfMemory) ends = ends
+  unoptioned-input device_bytes turns job bytes old new (Err Turns) ends = ends
+  unoptioned-input device_bytes turns job bytes old new (Err (Password fault)) ends = ends
 
   -- its run ends as without what only lines have
-  pub unoptioned : (tells : Tells I O E) (turns : ℕ) (job : Job) (from : PasswordFrom) (old new : Hands I O E) (result : Result Tally RunFault)
-      → EndsOne tells turns job from old new result → EndsOne tells turns (without_rehash (without_budget job)) from old new result
-  unoptioned tells turns job (Word bytes) old new result ends = (ends.0, unoptioned-by tells turns job bytes.items old new result ends.1)
-  unoptioned tells turns job Input old new result ends =
-      (ends.0, ends.1, unoptioned-input tells turns job ends.0 old new result ends.2)
+  pub unoptioned : (device_bytes : DeviceBytes I O E) (turns : ℕ) (job : Job) (from : PasswordFrom) (old new : RunState I O E) (result : Result Tally RunFault)
+      → EndsOne device_bytes turns job from old new result → EndsOne device_bytes turns (without_rehash (without_budget job)) from old new result
+  unoptioned device_bytes turns job (Word bytes) old new result ends = (ends.0, unoptioned-by device_bytes turns job bytes.items old new result ends.1)
+  unoptioned device_bytes turns job Input old new result ends =
+      (ends.0, ends.1, unoptioned-input device_bytes turns job ends.0 old new result ends.2)

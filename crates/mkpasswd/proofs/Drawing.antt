@@ -4,7 +4,7 @@ use Rattle.std.proofs.lemmas.List.FromFn.{length-map-range_with_len}
 use Rattle.rand_core.specs.Stream.{Stream}
 use Rattle.crypt_core.specs.MadeSalts.{made_character, made_salt, three_words, made_salt_length}
 use Rattle.crypt_core.specs.MadeSettings.{made_scheme}
-use Rattle.crypt_core.specs.Settings.{Kept}
+use Rattle.crypt_core.specs.Settings.{SettingValue}
 use Rattle.crypt_core.specs.Work.{cost, greatest_byte, mixed_bytes_by, work_by}
 use Rattle.mkpasswd.specs.Makers.{Recipe, setting_by, words_for}
 
@@ -31,12 +31,12 @@ not_false true e = refl
 not_false false e = cc
 
 -- the setting and the stream, as the recipe has them
-pub record IsDrawn (recipe : Recipe) (before after : Stream) (kept : Kept) : Type 0 where
+pub record IsDrawn (recipe : Recipe) (before after : Stream) (kept : SettingValue) : Type 0 where
   pub kept_is : kept ≡ setting_by recipe (words_for recipe before).0
   pub stream_is : after ≡ (words_for recipe before).1
 
 -- words were drawn for a salt
-pub is_drawn : (recipe : Recipe) (before after : Stream) (words : List ℕ) (kept : Kept) (draws : Bool)
+pub is_drawn : (recipe : Recipe) (before after : Stream) (words : List ℕ) (kept : SettingValue) (draws : Bool)
     → draws ≡ not (is_some recipe.salt) → draws ≡ true → (words, after) ≡ three_words before → kept ≡ setting_by recipe words
     → IsDrawn recipe before after kept
 is_drawn recipe before after words kept draws is on drawn made =
@@ -47,7 +47,7 @@ is_drawn recipe before after words kept draws is on drawn made =
     }
 
 -- a given salt takes none
-pub is_not_drawn : (recipe : Recipe) (before after : Stream) (words : List ℕ) (kept : Kept) (draws : Bool)
+pub is_not_drawn : (recipe : Recipe) (before after : Stream) (words : List ℕ) (kept : SettingValue) (draws : Bool)
     → draws ≡ not (is_some recipe.salt) → draws ≡ false → after ≡ before → kept ≡ setting_by recipe words
     → IsDrawn recipe before after kept
 is_not_drawn recipe before after words kept draws is off same made =

@@ -4,7 +4,7 @@ use Rattle.rand_core.specs.Stream.{Stream}
 use Rattle.prims_core.specs.declared.work.Work.{Work}
 use Rattle.crypt_core.specs.Crypt.{IsAfterRefusedGrowth}
 use Rattle.crypt_core.specs.Passwords.{IsPassword}
-use Rattle.crypt_core.specs.Settings.{Kept}
+use Rattle.crypt_core.specs.Settings.{SettingValue}
 use Rattle.crypt_core.specs.Work.{raised_by, work}
 use Rattle.mkpasswd.specs.Answers.{after_work, hash_text, no_answer, password_answer}
 use Rattle.mkpasswd.specs.Devices.{Device}
@@ -13,7 +13,7 @@ use Rattle.mkpasswd.specs.One.{EndsBy, EndsOne, EndsByInput}
 use Rattle.mkpasswd.specs.Output.{ShowsOutcome, Takes}
 use Rattle.mkpasswd.specs.Private.Deliveries.{Delivers, FinishesBoth}
 use Rattle.mkpasswd.specs.Private.Fetching.{ObtainsFrom}
-use Rattle.mkpasswd.specs.Runs.{Fails, Hands, IsAfter, IsAfterBoth, TakesAnswer, Tells, hands}
+use Rattle.mkpasswd.specs.Runs.{Fails, RunState, IsAfter, IsAfterBoth, TakesAnswer, DeviceBytes, run_state}
 use Rattle.mkpasswd.specs.Tallies.{one_line}
 use Rattle.mkpasswd.specs.Texts.{as_line}
 use Rattle.mkpasswd.specs.declared.fault.RunFault.{RunFault}
@@ -26,31 +26,31 @@ use Rattle.mkpasswd.proofs.Drawing.{IsDrawn}
 use Rattle.mkpasswd.proofs.Finishing.{HasAnswered, finishes, finishes-with_fault}
 use Rattle.mkpasswd.proofs.Sending.{takes-nothing}
 
-module _ {I O E : Type 0} (told : Tells I O E) (turns : ℕ) (job : Job) where
+module _ {I O E : Type 0} (told : DeviceBytes I O E) (turns : ℕ) (job : Job) where
   -- the hands after a step that left the outputs alone
-  abbrev before_giving : Hands I O E → Device I → Stream → Work → Hands I O E
-  before_giving old input stream counts = hands input old.out old.faults stream counts
+  abbrev before_giving : RunState I O E → Device I → Stream → Work → RunState I O E
+  before_giving old input stream counts = run_state input old.out old.faults stream counts
 
   -- nothing was given
-  fails-in_input : (old : Hands I O E) (input : Device I) (stream : Stream) (counts : Work) (failed : ℕ)
+  fails-in_input : (old : RunState I O E) (input : Device I) (stream : Stream) (counts : Work) (failed : ℕ)
       → input.failures ≡ old.input.failures + failed → Fails failed 0 0 old (before_giving old input stream counts)
   fails-in_input old input stream counts failed failures =
       record { of_input = failures; of_out = sym (add-zero _); of_faults = sym (add-zero _) }
 
-  takes-none : (old : Hands I O E) (input : Device I) (stream : Stream) (counts : Work)
+  takes-none : (old : RunState I O E) (input : Device I) (stream : Stream) (counts : Work)
       → TakesAnswer told (no_answer old.stream) old (before_giving old input stream counts)
   takes-none old input stream counts = record {
     text = takes-nothing told.contents old.out;
     fault_text = takes-nothing told.fault_contents old.faults;
   }
 
-  still : (old : Hands I O E) (input : Device I) → IsAfter (no_answer old.stream) old (before_giving old input old.stream old.counts)
+  still : (old : RunState I O E) (input : Device I) → IsAfter (no_answer old.stream) old (before_giving old input old.stream old.counts)
   still old input = record { stream = refl; counts = refl }
 
   -- ---- the password
 
   -- there is none
-  pub ends-without_password : (from : PasswordFrom) (old : Hands I O E) (input : Device I) (left : ℕ) (fault : RunFault)
+  pub ends-without_password : (from : PasswordFrom) (old : RunState I O E) (input : Device I) (left : ℕ) (fault : RunFault)
       → ObtainsFrom told.remaining from old.input input left (Err fault) → input.calls + left ≡ old.input.calls + turns
       → EndsOne told turns job from old (before_giving old input old.stream old.counts) (Err fault)
   ends-without_password (Word bytes) old input left (Password fault) (same, refused) calls = (
@@ -123,7 +123,7 @@ module _ {I O E : Type 0} (told : Tells I O E) (turns : ℕ) (job : Job) where
   is_password Input old input left password (bytes, reads, (unfailed, decided, is, ok)) = (ok, unfailed)
 
   -- the run ends as it does by that password
-  ends-with_password : (from : PasswordFrom) (old new : Hands I O E) (left : ℕ) (password : List ℕ) (result : Result Tally RunFault)
+  ends-with_password : (from : PasswordFrom) (old new : RunState I O E) (left : ℕ) (password : List ℕ) (result : Result Tally RunFault)
       → ObtainsFrom told.remaining from old.input new.input left (Ok password) → EndsBy told turns job password old new result
       → EndsOne told turns job from old new result
   ends-with_password (Word bytes) old new left password result (same, (is, ok)) ends =
@@ -142,7 +142,7 @@ module _ {I O E : Type 0} (told : Tells I O E) (turns : ℕ) (job : Job) where
   -- ---- the hash
 
   -- memory for it was refused
-  pub ends-out_of_memory : (from : PasswordFrom) (password : List ℕ) (old : Hands I O E) (input : Device I) (stream : Stream) (counts : Work) (left : ℕ) (kept : Kept)
+  pub ends-out_of_memory : (from : PasswordFrom) (password : List ℕ) (old : RunState I O E) (input : Device I) (stream : Stream) (counts : Work) (left : ℕ) (kept : SettingValue)
       → ObtainsFrom told.remaining from old.input input left (Ok password) → IsDrawn job.maker old.stream stream kept
       → IsAfterRefusedGrowth old.counts kept.scheme counts
       → EndsOne told turns job from old (before_giving old input stream counts) (Err OutOfMemory)
@@ -153,19 +153,19 @@ module _ {I O E : Type 0} (told : Tells I O E) (turns : ℕ) (job : Job) where
         (
           fails-in_input old input stream counts 0 (is.1 ∙ sym (add-zero _)),
           takes-none old input stream counts,
-          inl (subst (λ (k : Kept). IsAfterRefusedGrowth old.counts k.scheme counts) drawn.kept_is refused, drawn.stream_is),
+          inl (subst (λ (k : SettingValue). IsAfterRefusedGrowth old.counts k.scheme counts) drawn.kept_is refused, drawn.stream_is),
         ),
       )
 
   -- it is made: the words are drawn, and its work is counted
-  pub record HasHash (from : PasswordFrom) (password line : List ℕ) (old : Hands I O E) (input : Device I) (stream : Stream) (counts : Work) (left : ℕ) : Type 0 where
+  pub record HasHash (from : PasswordFrom) (password line : List ℕ) (old : RunState I O E) (input : Device I) (stream : Stream) (counts : Work) (left : ℕ) : Type 0 where
     pub obtains : ObtainsFrom told.remaining from old.input input left (Ok password)
     pub calls : input.calls + left ≡ old.input.calls + turns
     pub line_is : line ≡ (password_answer job password old.stream).text
     pub stream_is : stream ≡ (password_answer job password old.stream).stream
     pub counts_are : counts ≡ after_work old.counts (password_answer job password old.stream).hashings
 
-  pub has_hash : (from : PasswordFrom) (password line : List ℕ) (old : Hands I O E) (input : Device I) (stream : Stream) (counts : Work) (left : ℕ) (kept : Kept)
+  pub has_hash : (from : PasswordFrom) (password line : List ℕ) (old : RunState I O E) (input : Device I) (stream : Stream) (counts : Work) (left : ℕ) (kept : SettingValue)
       → ObtainsFrom told.remaining from old.input input left (Ok password) → input.calls + left ≡ old.input.calls + turns
       → IsDrawn job.maker old.stream stream kept → counts ≡ raised_by old.counts (work password kept)
       → line ≡ as_line (hash_text job password kept)
@@ -173,26 +173,26 @@ module _ {I O E : Type 0} (told : Tells I O E) (turns : ℕ) (job : Job) where
   has_hash from password line old input stream counts left kept obtains calls drawn counted hashed = record {
     obtains = obtains;
     calls = calls;
-    line_is = hashed ∙ ap (λ (k : Kept). as_line (hash_text job password k)) drawn.kept_is;
+    line_is = hashed ∙ ap (λ (k : SettingValue). as_line (hash_text job password k)) drawn.kept_is;
     stream_is = drawn.stream_is;
-    counts_are = counted ∙ ap (λ (k : Kept). raised_by old.counts (work password k)) drawn.kept_is;
+    counts_are = counted ∙ ap (λ (k : SettingValue). raised_by old.counts (work password k)) drawn.kept_is;
   }
 
-  after_answer : (from : PasswordFrom) (password line : List ℕ) (old : Hands I O E) (input : Device I) (out : Device O) (stream : Stream) (counts : Work) (left : ℕ)
+  after_answer : (from : PasswordFrom) (password line : List ℕ) (old : RunState I O E) (input : Device I) (out : Device O) (stream : Stream) (counts : Work) (left : ℕ)
       → HasHash from password line old input stream counts left
-      → IsAfterBoth (no_answer old.stream) (password_answer job password old.stream) old (hands input out old.faults stream counts)
+      → IsAfterBoth (no_answer old.stream) (password_answer job password old.stream) old (run_state input out old.faults stream counts)
   after_answer from password line old input out stream counts left has = record { stream = has.stream_is; counts = has.counts_are }
 
   -- ---- the giving
 
   -- it was cut short
-  pub ends-sending : (from : PasswordFrom) (password line : List ℕ) (old : Hands I O E) (input : Device I) (out : Device O) (stream : Stream) (counts : Work) (left : ℕ) (fault : RunFault)
+  pub ends-sending : (from : PasswordFrom) (password line : List ℕ) (old : RunState I O E) (input : Device I) (out : Device O) (stream : Stream) (counts : Work) (left : ℕ) (fault : RunFault)
       → HasHash from password line old input stream counts left
       → Delivers told.contents old.out out line {A = Unit {0}} (Err fault) → ShowsOutcome {A = Unit {0}} left old.out out (Err fault)
-      → EndsOne told turns job from old (hands input out old.faults stream counts) (Err fault)
+      → EndsOne told turns job from old (run_state input out old.faults stream counts) (Err fault)
   ends-sending from password line old input out stream counts left Write has (sent, unsent, split, takes) failed =
       let is = is_password from old.input input left password has.obtains in
-      ends-with_password from old (hands input out old.faults stream counts) left password (Err Write) has.obtains (
+      ends-with_password from old (run_state input out old.faults stream counts) left password (Err Write) has.obtains (
         is.0,
         inl (
           inl (
@@ -204,7 +204,7 @@ module _ {I O E : Type 0} (told : Tells I O E) (turns : ℕ) (job : Job) where
       )
   ends-sending from password line old input out stream counts left Turns has ((sent, unsent, split, takes), some) (kept, made) =
       let is = is_password from old.input input left password has.obtains in
-      ends-with_password from old (hands input out old.faults stream counts) left password (Err Turns) has.obtains (
+      ends-with_password from old (run_state input out old.faults stream counts) left password (Err Turns) has.obtains (
         is.0,
         (
           record { of_input = is.1 ∙ sym (add-zero _); of_out = kept ∙ sym (add-zero _); of_faults = sym (add-zero _) },
@@ -219,9 +219,9 @@ module _ {I O E : Type 0} (told : Tells I O E) (turns : ℕ) (job : Job) where
   ends-sending from password line old input out stream counts left (Password fault) has delivers outcome = absurd delivers
 
   -- it is given
-  answered : (from : PasswordFrom) (password line : List ℕ) (old : Hands I O E) (input : Device I) (out : Device O) (stream : Stream) (counts : Work) (left : ℕ)
+  answered : (from : PasswordFrom) (password line : List ℕ) (old : RunState I O E) (input : Device I) (out : Device O) (stream : Stream) (counts : Work) (left : ℕ)
       → HasHash from password line old input stream counts left → Takes told.contents old.out out line → out.failures ≡ old.out.failures
-      → HasAnswered told (password_answer job password old.stream) old (hands input out old.faults stream counts)
+      → HasAnswered told (password_answer job password old.stream) old (run_state input out old.faults stream counts)
   answered from password line old input out stream counts left has takes unfailed =
       let is = is_password from old.input input left password has.obtains in
       record {
@@ -234,25 +234,25 @@ module _ {I O E : Type 0} (told : Tells I O E) (turns : ℕ) (job : Job) where
       }
 
   -- and both outputs are flushed
-  pub ends-finished : (from : PasswordFrom) (password line : List ℕ) (old : Hands I O E) (input : Device I) (out new_out : Device O) (faults : Device E) (stream : Stream) (counts : Work) (left : ℕ) {A : Type 0} (done : A)
+  pub ends-finished : (from : PasswordFrom) (password line : List ℕ) (old : RunState I O E) (input : Device I) (out new_out : Device O) (faults : Device E) (stream : Stream) (counts : Work) (left : ℕ) {A : Type 0} (done : A)
       → HasHash from password line old input stream counts left → Takes told.contents old.out out line → out.failures ≡ old.out.failures
       → FinishesBoth told.contents told.fault_contents out old.faults new_out faults (Ok done)
-      → EndsOne told turns job from old (hands input new_out faults stream counts) (Ok one_line)
+      → EndsOne told turns job from old (run_state input new_out faults stream counts) (Ok one_line)
   ends-finished from password line old input out new_out faults stream counts left done has takes unfailed flushes =
-      ends-with_password from old (hands input new_out faults stream counts) left password (Ok one_line) has.obtains (
+      ends-with_password from old (run_state input new_out faults stream counts) left password (Ok one_line) has.obtains (
         (is_password from old.input input left password has.obtains).0,
-        finishes told (password_answer job password old.stream) old (hands input out old.faults stream counts) new_out faults one_line done
+        finishes told (password_answer job password old.stream) old (run_state input out old.faults stream counts) new_out faults one_line done
             (answered from password line old input out stream counts left has takes unfailed) refl flushes,
       )
 
   -- or a flush failed
-  pub ends-unfinished : (from : PasswordFrom) (password line : List ℕ) (old : Hands I O E) (input : Device I) (out new_out : Device O) (faults : Device E) (stream : Stream) (counts : Work) (left : ℕ) (A : Type 0) (fault : RunFault)
+  pub ends-unfinished : (from : PasswordFrom) (password line : List ℕ) (old : RunState I O E) (input : Device I) (out new_out : Device O) (faults : Device E) (stream : Stream) (counts : Work) (left : ℕ) (A : Type 0) (fault : RunFault)
       → HasHash from password line old input stream counts left → Takes told.contents old.out out line → out.failures ≡ old.out.failures
       → FinishesBoth told.contents told.fault_contents out old.faults new_out faults {A = A} (Err fault)
-      → EndsOne told turns job from old (hands input new_out faults stream counts) (Err fault)
+      → EndsOne told turns job from old (run_state input new_out faults stream counts) (Err fault)
   ends-unfinished from password line old input out new_out faults stream counts left A fault has takes unfailed flushes =
-      let ends = finishes-with_fault told (password_answer job password old.stream) old (hands input out old.faults stream counts) new_out faults A fault
+      let ends = finishes-with_fault told (password_answer job password old.stream) old (run_state input out old.faults stream counts) new_out faults A fault
       (answered from password line old input out stream counts left has takes unfailed) flushes in
       let ok = (is_password from old.input input left password has.obtains).0 in
-      rw ends.0 (ends-with_password from old (hands input new_out faults stream counts) left password (Err Write) has.obtains
+      rw ends.0 (ends-with_password from old (run_state input new_out faults stream counts) left password (Err Write) has.obtains
       (ok, inr (rw ends.0 at ends.1)))

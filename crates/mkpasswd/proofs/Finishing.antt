@@ -5,7 +5,7 @@ use Rattle.mkpasswd.specs.Answers.{Answer}
 use Rattle.mkpasswd.specs.Devices.{Device}
 use Rattle.mkpasswd.specs.Output.{Takes, TakesAndFlushes, TakesAndFailsToFlush}
 use Rattle.mkpasswd.specs.Private.Deliveries.{FinishesBoth, IsFinished, IsUnfinished}
-use Rattle.mkpasswd.specs.Runs.{Fails, Finishes, Hands, IsAfter, TakesAnswer, Tells, hands}
+use Rattle.mkpasswd.specs.Runs.{Fails, Finishes, RunState, IsAfter, TakesAnswer, DeviceBytes, run_state}
 use Rattle.mkpasswd.specs.declared.fault.RunFault.{RunFault}
 use Rattle.mkpasswd.specs.declared.fault.RunFault.TheVariants.{Read, Write, OutOfMemory, Turns, Password}
 use Rattle.mkpasswd.specs.declared.tally.Tally.{Tally}
@@ -43,21 +43,21 @@ module _ {T : Type 0} (contents : T → Option (List ℕ)) where
 
 -- ---- both outputs
 
-module _ {I O E : Type 0} (told : Tells I O E) where
+module _ {I O E : Type 0} (told : DeviceBytes I O E) where
   -- all answers are given, and nothing failed
-  pub record HasAnswered (answers : Answer) (old mid : Hands I O E) : Type 0 where
+  pub record HasAnswered (answers : Answer) (old mid : RunState I O E) : Type 0 where
     pub fails : Fails 0 0 0 old mid
     pub takes : TakesAnswer told answers old mid
     pub after : IsAfter answers old mid
 
   -- the hands after the flushes
-  abbrev pub flushed : Hands I O E → Device O → Device E → Hands I O E
-  flushed mid out faults = hands mid.input out faults mid.stream mid.counts
+  abbrev pub flushed : RunState I O E → Device O → Device E → RunState I O E
+  flushed mid out faults = run_state mid.input out faults mid.stream mid.counts
 
   one-more : (old mid new failed : ℕ) → mid ≡ old + 0 → new ≡ mid + failed → new ≡ old + failed
   one-more old mid new failed none more = omega (arith, none, more)
 
-  pub finishes : (answers : Answer) (old mid : Hands I O E) (out : Device O) (faults : Device E) (tally : Tally) {A : Type 0} (done : A)
+  pub finishes : (answers : Answer) (old mid : RunState I O E) (out : Device O) (faults : Device E) (tally : Tally) {A : Type 0} (done : A)
       → HasAnswered answers old mid → tally ≡ answers.tally
       → FinishesBoth told.contents told.fault_contents mid.out mid.faults out faults (Ok done)
       → Finishes told answers old (flushed mid out faults) (Ok tally)
@@ -75,7 +75,7 @@ module _ {I O E : Type 0} (told : Tells I O E) where
     record { stream = answered.after.stream; counts = answered.after.counts },
   )
 
-  pub finishes-with_fault : (answers : Answer) (old mid : Hands I O E) (out : Device O) (faults : Device E) (A : Type 0) (fault : RunFault)
+  pub finishes-with_fault : (answers : Answer) (old mid : RunState I O E) (out : Device O) (faults : Device E) (A : Type 0) (fault : RunFault)
       → HasAnswered answers old mid
       → FinishesBoth told.contents told.fault_contents mid.out mid.faults out faults {A = A} (Err fault)
       → (fault ≡ Write) × Finishes told answers old (flushed mid out faults) (Err fault)

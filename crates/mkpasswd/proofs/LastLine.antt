@@ -2,7 +2,7 @@
 use Rattle.std.proofs.Common.{◌≡◌, ◌≢◌, ℕ, ◌+◌, List, [], ◌∷◌, ◌++◌, length, Option, Result, Ok, Err, sym, ap, subst, ◌∙◌, append-nil, arith}
 use Rattle.mkpasswd.specs.LineRuns.{AreAnswers, both, lines_of}
 use Rattle.mkpasswd.specs.Private.LineEnds.{AnswersLast, IsAllAnswered}
-use Rattle.mkpasswd.specs.Private.Desks.{Outs}
+use Rattle.mkpasswd.specs.Private.Desks.{OutputState}
 use Rattle.mkpasswd.specs.Private.Progress.{IsAt}
 use Rattle.mkpasswd.specs.Tallies.{both_tallies}
 use Rattle.mkpasswd.specs.declared.fault.RunFault.{RunFault}
@@ -14,12 +14,12 @@ use Rattle.mkpasswd.proofs.LinesOf.{lines_of-last, lines_of-nil, lines_of-with_l
 use Rattle.mkpasswd.proofs.LookingThrough.{AnswersHeld, cut-answering, given-both}
 
 module _ {O E : Type 0} (contents : O → Option (List ℕ)) (fault_contents : E → Option (List ℕ)) (kind : Kind) (job : Job) where
-  lines-are : (start now : Outs O E) (bytes : List ℕ) (progress : Progress) (at : IsAt contents fault_contents kind job start now bytes progress)
+  lines-are : (start now : OutputState O E) (bytes : List ℕ) (progress : Progress) (at : IsAt contents fault_contents kind job start now bytes progress)
       → lines_of bytes ≡ at.done ++ lines_of at.rest
   lines-are start now bytes progress at = ap lines_of at.split ∙ lines_of-with_line_feeds at.done at.rest at.lines
 
   -- nothing is held
-  pub last-none : (start now : Outs O E) (bytes : List ℕ) (progress : Progress) (at : IsAt contents fault_contents kind job start now bytes progress)
+  pub last-none : (start now : OutputState O E) (bytes : List ℕ) (progress : Progress) (at : IsAt contents fault_contents kind job start now bytes progress)
       → at.rest ≡ [] → IsAllAnswered contents fault_contents kind job start now bytes progress.tally
   last-none start now bytes progress at none =
       let lines = lines-are start now bytes progress at ∙ ap (λ rest. at.done ++ lines_of rest) none ∙ ap (λ others. at.done ++ others) lines_of-nil ∙ append-nil at.done in
@@ -31,7 +31,7 @@ module _ {O E : Type 0} (contents : O → Option (List ℕ)) (fault_contents : E
       }
 
   -- what is held is answered
-  pub last-answered : (start old new : Outs O E) (bytes : List ℕ) (progress next_progress : Progress) (A : Type 0) (result : Result A RunFault)
+  pub last-answered : (start old new : OutputState O E) (bytes : List ℕ) (progress next_progress : Progress) (A : Type 0) (result : Result A RunFault)
       → (at : IsAt contents fault_contents kind job start old bytes progress) → at.rest ≢ []
       → AnswersHeld contents fault_contents kind job old new progress.tally progress.held next_progress {A = A} result
       → AnswersLast contents fault_contents kind job start new bytes next_progress {A = A} result

@@ -4,9 +4,9 @@ use Rattle.mkpasswd.specs.Answers.{Answer}
 use Rattle.mkpasswd.specs.Devices.{Device, MovesBytes}
 use Rattle.mkpasswd.specs.LineRuns.{EndsAnswering, EndsLines, EndsByLines, EndsReading, EndsWhole}
 use Rattle.mkpasswd.specs.Private.Deliveries.{FinishesBoth, IsKept}
-use Rattle.mkpasswd.specs.Private.Desks.{Outs, TakesTurns, outs_of, with_input}
+use Rattle.mkpasswd.specs.Private.Desks.{OutputState, TakesTurns, output_state_of, with_input}
 use Rattle.mkpasswd.specs.Private.LineEnds.{TakesTurnsOf}
-use Rattle.mkpasswd.specs.Runs.{Fails, Finishes, Hands, IsCutShort, IsWithinTurns, Tells}
+use Rattle.mkpasswd.specs.Runs.{Fails, Finishes, RunState, IsCutShort, IsWithinTurns, DeviceBytes}
 use Rattle.mkpasswd.specs.declared.fault.RunFault.{RunFault}
 use Rattle.mkpasswd.specs.declared.fault.RunFault.TheVariants.{Read, Write, OutOfMemory, Turns, Password}
 use Rattle.mkpasswd.specs.declared.job.Job.{Job}
@@ -14,11 +14,11 @@ use Rattle.mkpasswd.specs.declared.line.Kind.{Kind}
 use Rattle.mkpasswd.specs.declared.tally.Tally.{Tally}
 use Rattle.mkpasswd.proofs.Moving.{moves-none, moves-trans}
 
-module _ {I O E : Type 0} (told : Tells I O E) (kind : Kind) (job : Job) where
-  abbrev failures_of : Hands I O E → ℕ
+module _ {I O E : Type 0} (told : DeviceBytes I O E) (kind : Kind) (job : Job) where
+  abbrev failures_of : RunState I O E → ℕ
   failures_of now = now.input.failures + now.out.failures + now.faults.failures
 
-  fails-of : (start new : Hands I O E) (input out faults : ℕ) → Fails input out faults start new
+  fails-of : (start new : RunState I O E) (input out faults : ℕ) → Fails input out faults start new
       → failures_of new ≡ failures_of start + input + out + faults
   fails-of start new input out faults fails =
       let of_input = fails.of_input in
@@ -27,7 +27,7 @@ module _ {I O E : Type 0} (told : Tells I O E) (kind : Kind) (job : Job) where
       omega (arith, of_input, of_out, of_faults)
 
   -- a run ends with the first call that fails
-  cut-once : (turns : ℕ) (done next : Answer) (start new : Hands I O E) (fault : RunFault)
+  cut-once : (turns : ℕ) (done next : Answer) (start new : RunState I O E) (fault : RunFault)
       → IsCutShort told turns done next start new fault → failures_of new ≤ failures_of start + 1
   cut-once turns done next start new Read ends = omega (arith, fails-of start new 1 0 0 ends.0)
   cut-once turns done next start new Write (inl cut, after) = omega (arith, fails-of start new 0 1 0 cut.0)
@@ -36,7 +36,7 @@ module _ {I O E : Type 0} (told : Tells I O E) (kind : Kind) (job : Job) where
   cut-once turns done next start new OutOfMemory ends = omega (arith, fails-of start new 0 0 0 ends.0)
   cut-once turns done next start new (Password fault) ends = omega (arith, fails-of start new 0 0 0 ends.0)
 
-  finished-once : (answers : Answer) (start new : Hands I O E) (result : Result Tally RunFault)
+  finished-once : (answers : Answer) (start new : RunState I O E) (result : Result Tally RunFault)
       → Finishes told answers start new result → failures_of new ≤ failures_of start + 1
   finished-once answers start new (Ok tally) ends = omega (arith, fails-of start new 0 0 0 ends.1)
   finished-once answers start new (Err Write) (inl ends, after) = omega (arith, fails-of start new 0 1 0 ends.0)
@@ -47,20 +47,20 @@ module _ {I O E : Type 0} (told : Tells I O E) (kind : Kind) (job : Job) where
   finished-once answers start new (Err (Password fault)) ends = absurd ends
 
   -- the three ways of an end
-  whole-once : (start new : Hands I O E) (bytes : List ℕ) (result : Result Tally RunFault)
+  whole-once : (start new : RunState I O E) (bytes : List ℕ) (result : Result Tally RunFault)
       → EndsWhole told kind job bytes start new result → failures_of new ≤ failures_of start + 1
   whole-once start new bytes result (answers, read_out, are, ends) = finished-once answers start new result ends
 
-  reading-once : (turns : ℕ) (start new : Hands I O E) (bytes : List ℕ) (fault : RunFault)
+  reading-once : (turns : ℕ) (start new : RunState I O E) (bytes : List ℕ) (fault : RunFault)
       → EndsReading told turns kind job bytes start new fault → failures_of new ≤ failures_of start + 1
   reading-once turns start new bytes fault (done, rest, answers, answered, no_feed, moved, ends) = cut-once turns answers _ start new fault ends
 
-  answering-once : (turns : ℕ) (start new : Hands I O E) (bytes : List ℕ) (fault : RunFault)
+  answering-once : (turns : ℕ) (start new : RunState I O E) (bytes : List ℕ) (fault : RunFault)
       → EndsAnswering told turns kind job bytes start new fault → failures_of new ≤ failures_of start + 1
   answering-once turns start new bytes fault (done, line, rest, answers, next, answered, no_feed, is_line, is_next, owed, ends) =
       cut-once turns answers next start new fault ends
 
-  lines-once : (turns : ℕ) (start new : Hands I O E) (bytes : List ℕ) (result : Result Tally RunFault)
+  lines-once : (turns : ℕ) (start new : RunState I O E) (bytes : List ℕ) (result : Result Tally RunFault)
       → EndsByLines told turns kind job bytes start new result → failures_of new ≤ failures_of start + 1
   lines-once turns start new bytes (Ok tally) ends = whole-once start new bytes (Ok tally) ends
   lines-once turns start new bytes (Err Read) ends = reading-once turns start new bytes Read ends
@@ -71,7 +71,7 @@ module _ {I O E : Type 0} (told : Tells I O E) (kind : Kind) (job : Job) where
   lines-once turns start new bytes (Err OutOfMemory) ends = answering-once turns start new bytes OutOfMemory ends
   lines-once turns start new bytes (Err (Password fault)) ends = absurd ends
 
-  pub within-turns : (turns left : ℕ) (start new : Hands I O E) (result : Result Tally RunFault)
+  pub within-turns : (turns left : ℕ) (start new : RunState I O E) (result : Result Tally RunFault)
       → EndsLines told turns kind job start new result → TakesTurnsOf 1 turns left start new → IsWithinTurns turns start new
   within-turns turns left start new result (bytes, reads, ends) took =
       let once = lines-once turns start new bytes result ends in
@@ -84,8 +84,8 @@ module _ {I O E : Type 0} (told : Tells I O E) (kind : Kind) (job : Job) where
       }
 
 -- the turns of the fetches, and then those of the last answer
-pub turns-last : {I O E : Type 0} (turns mid_left left : ℕ) (start now : Hands I O E) (new : Outs O E) → TakesTurnsOf 1 turns mid_left start now
-    → TakesTurns mid_left left (outs_of now) new → TakesTurnsOf 1 turns left start (with_input now.input new)
+pub turns-last : {I O E : Type 0} (turns mid_left left : ℕ) (start now : RunState I O E) (new : OutputState O E) → TakesTurnsOf 1 turns mid_left start now
+    → TakesTurns mid_left left (output_state_of now) new → TakesTurnsOf 1 turns left start (with_input now.input new)
 turns-last turns mid_left left start now new before more = record {
   turns = omega (arith, before.turns, more.turns);
   input_moves = before.input_moves;
@@ -101,7 +101,7 @@ kept-moves contents old new kept failures = record {
 }
 
 module _ {O E : Type 0} (contents : O → Option (List ℕ)) (fault_contents : E → Option (List ℕ)) where
-  pub turns-flushed : (left : ℕ) (old : Outs O E) (out : Device O) (faults : Device E) (A : Type 0) (result : Result A RunFault)
+  pub turns-flushed : (left : ℕ) (old : OutputState O E) (out : Device O) (faults : Device E) (A : Type 0) (result : Result A RunFault)
       → FinishesBoth contents fault_contents old.out old.faults out faults {A = A} result
       → TakesTurns left left old (record old { out = out; faults = faults })
   turns-flushed left old out faults A (Ok done) (first, second) = record {

@@ -4,13 +4,13 @@ use Rattle.std.proofs.KnownBytes.{Consumes-nil}
 use Rattle.mkpasswd.specs.Answers.{Answer, no_answer}
 use Rattle.mkpasswd.specs.Devices.{Device, IsUnfailed, MovesBytes}
 use Rattle.mkpasswd.specs.Input.{Reads}
-use Rattle.mkpasswd.specs.LineRuns.{EndsAnswering, EndsLines, EndsReading, IsNext, IsOwed}
+use Rattle.mkpasswd.specs.LineRuns.{EndsAnswering, EndsLines, EndsReading, IsNext, IsUnsent}
 use Rattle.mkpasswd.specs.Private.Deliveries.{FinishesBoth}
-use Rattle.mkpasswd.specs.Private.Desks.{Outs, TakesTurns, outs_of, with_input}
+use Rattle.mkpasswd.specs.Private.Desks.{OutputState, TakesTurns, output_state_of, with_input}
 use Rattle.mkpasswd.specs.Private.Fetching.{Fetches}
 use Rattle.mkpasswd.specs.Private.LineEnds.{AnswersLast, GoesOn, GoesToEnd, HasRoomToRead, IsAllAnswered, IsAtInput, TakesTurnsOf, spare_fetch}
-use Rattle.mkpasswd.specs.Private.Progress.{AreGiven, IsAt, IsCutAt, IsInterrupted, LooksThrough, StandsFor}
-use Rattle.mkpasswd.specs.Runs.{Fails, Hands, IsCutShort, Tells, calls_of}
+use Rattle.mkpasswd.specs.Private.Progress.{AreGiven, IsAt, IsCutAt, IsInterrupted, LooksThrough, Represents}
+use Rattle.mkpasswd.specs.Runs.{Fails, RunState, IsCutShort, DeviceBytes, calls_of}
 use Rattle.mkpasswd.specs.Tallies.{no_line}
 use Rattle.mkpasswd.specs.Texts.{line_feed}
 use Rattle.mkpasswd.specs.declared.fault.RunFault.{RunFault}
@@ -25,11 +25,11 @@ use Rattle.mkpasswd.proofs.Moving.{moves-trans}
 use Rattle.mkpasswd.proofs.Reading.{Reads-trans}
 use Rattle.mkpasswd.proofs.Sending.{front-none, takes-nothing}
 
-module _ {I O E : Type 0} (told : Tells I O E) (kind : Kind) (job : Job) where
+module _ {I O E : Type 0} (told : DeviceBytes I O E) (kind : Kind) (job : Job) where
   -- ---- between two fetches
 
   -- what is told of a progress doesn't hang on the turns that are left
-  pub at-turned : (start now : Outs O E) (bytes : List ℕ) (progress next : Progress)
+  pub at-turned : (start now : OutputState O E) (bytes : List ℕ) (progress next : Progress)
       → IsAt told.contents told.fault_contents kind job start now bytes progress
       → next.held ≡ progress.held → next.tally ≡ progress.tally
       → IsAt told.contents told.fault_contents kind job start now bytes next
@@ -40,7 +40,7 @@ module _ {I O E : Type 0} (told : Tells I O E) (kind : Kind) (job : Job) where
     split = at.split;
     lines = at.lines;
     no_feed = at.no_feed;
-    held = subst (λ h. StandsFor h at.rest) (sym held) at.held;
+    held = subst (λ h. Represents h at.rest) (sym held) at.held;
     are = at.are;
     tally = tally ∙ at.tally;
     numbers = at.numbers;
@@ -50,9 +50,9 @@ module _ {I O E : Type 0} (told : Tells I O E) (kind : Kind) (job : Job) where
   -- ---- the ends
 
   -- what failed, where it was the input or nothing
-  fails-at_input : (start old : Hands I O E) (input : Device I) (answers : Answer) (failed : ℕ)
-      → AreGiven told.contents told.fault_contents answers (outs_of start) (outs_of old) → input.failures ≡ start.input.failures + failed
-      → Fails failed 0 0 start (with_input input (outs_of old))
+  fails-at_input : (start old : RunState I O E) (input : Device I) (answers : Answer) (failed : ℕ)
+      → AreGiven told.contents told.fault_contents answers (output_state_of start) (output_state_of old) → input.failures ≡ start.input.failures + failed
+      → Fails failed 0 0 start (with_input input (output_state_of old))
   fails-at_input start old input answers failed given failures = record {
     of_input = failures;
     of_out = given.out_unfailed ∙ sym (add-zero _);
@@ -60,25 +60,25 @@ module _ {I O E : Type 0} (told : Tells I O E) (kind : Kind) (job : Job) where
   }
 
   -- a fetch that gave nothing leaves what was read
-  reads-none : (start old : Hands I O E) (input : Device I) (bytes : List ℕ) → Reads told.remaining start.input old.input bytes
+  reads-none : (start old : RunState I O E) (input : Device I) (bytes : List ℕ) → Reads told.remaining start.input old.input bytes
       → Reads told.remaining old.input input [] → Reads told.remaining start.input input bytes
   reads-none start old input bytes before none =
       subst (Reads told.remaining start.input input) (append-nil bytes) (Reads-trans told.remaining start.input old.input input bytes [] before none)
 
   -- more of the input was wanted
-  ends-reading : (turns : ℕ) (start old : Hands I O E) (input : Device I) (bytes : List ℕ) (progress : Progress) (fault : RunFault)
+  ends-reading : (turns : ℕ) (start old : RunState I O E) (input : Device I) (bytes : List ℕ) (progress : Progress) (fault : RunFault)
       → (before : IsAtInput told turns kind job start old bytes progress) → MovesBytes 0 start.input input
-      → IsCutShort told turns before.answered.answers (no_answer before.answered.answers.stream) start (with_input input (outs_of old)) fault
-      → EndsReading told turns kind job bytes start (with_input input (outs_of old)) fault
+      → IsCutShort told turns before.answered.answers (no_answer before.answered.answers.stream) start (with_input input (output_state_of old)) fault
+      → EndsReading told turns kind job bytes start (with_input input (output_state_of old)) fault
   ends-reading turns start old input bytes progress fault before moved cut =
       let at = before.answered in
       (at.done, at.rest, at.answers, record { split = at.split; lines = at.lines; are = at.are }, at.no_feed, moved, cut)
 
-  ends-in_fetch : (turns : ℕ) (start old : Hands I O E) (input : Device I) (bytes buffer : List ℕ) (progress : Progress) (left : ℕ) (fault : RunFault)
+  ends-in_fetch : (turns : ℕ) (start old : RunState I O E) (input : Device I) (bytes buffer : List ℕ) (progress : Progress) (left : ℕ) (fault : RunFault)
       → IsAtInput told turns kind job start old bytes progress → MovesBytes 0 start.input old.input
       → Fetches told.remaining progress.left old.input input buffer (Err fault)
       → left ≡ progress.left - 1 → input.calls + left ≡ old.input.calls + progress.left
-      → Reads told.remaining start.input input bytes × EndsReading told turns kind job bytes start (with_input input (outs_of old)) fault
+      → Reads told.remaining start.input input bytes × EndsReading told turns kind job bytes start (with_input input (output_state_of old)) fault
   ends-in_fetch turns start old input bytes buffer progress left Read before moved fetched took calls =
       let given = before.answered.given in (
         reads-none start old input bytes before.reads fetched.1,
@@ -108,11 +108,11 @@ module _ {I O E : Type 0} (told : Tells I O E) (kind : Kind) (job : Job) where
   ends-in_fetch turns start old input bytes buffer progress left OutOfMemory before moved fetched took calls = absurd fetched
   ends-in_fetch turns start old input bytes buffer progress left (Password fault) before moved fetched took calls = absurd fetched
 
-  pub ends-fetching : (turns : ℕ) (start old : Hands I O E) (input : Device I) (bytes buffer : List ℕ) (progress : Progress) (left : ℕ) (fault : RunFault)
+  pub ends-fetching : (turns : ℕ) (start old : RunState I O E) (input : Device I) (bytes buffer : List ℕ) (progress : Progress) (left : ℕ) (fault : RunFault)
       → IsAtInput told turns kind job start old bytes progress → MovesBytes 0 start.input old.input
       → Fetches told.remaining progress.left old.input input buffer (Err fault)
       → left ≡ progress.left - 1 → input.calls + left ≡ old.input.calls + progress.left
-      → EndsLines told turns kind job start (with_input input (outs_of old)) (Err fault)
+      → EndsLines told turns kind job start (with_input input (output_state_of old)) (Err fault)
   ends-fetching turns start old input bytes buffer progress left Read before moved fetched took calls =
       let ends = ends-in_fetch turns start old input bytes buffer progress left Read before moved fetched took calls in (bytes, ends.0, ends.1)
   ends-fetching turns start old input bytes buffer progress left Turns before moved fetched took calls =
@@ -122,9 +122,9 @@ module _ {I O E : Type 0} (told : Tells I O E) (kind : Kind) (job : Job) where
   ends-fetching turns start old input bytes buffer progress left (Password fault) before moved fetched took calls = absurd fetched
 
   -- an answer was cut short
-  cut-ends : (turns : ℕ) (start new : Hands I O E) (left : ℕ) (done next : Answer) (fault : RunFault)
+  cut-ends : (turns : ℕ) (start new : RunState I O E) (left : ℕ) (done next : Answer) (fault : RunFault)
       → IsUnfailed start.input new.input → calls_of new + left ≡ calls_of start + turns
-      → IsInterrupted told.contents told.fault_contents left done next (outs_of start) (outs_of new) fault
+      → IsInterrupted told.contents told.fault_contents left done next (output_state_of start) (output_state_of new) fault
       → IsCutShort told turns done next start new fault
   cut-ends turns start new left done next Write unfailed calls (stream, counts, inl (failed, kept, text, fault_text)) = (
     inl (
@@ -154,17 +154,17 @@ module _ {I O E : Type 0} (told : Tells I O E) (kind : Kind) (job : Job) where
   cut-ends turns start new left done next Read unfailed calls cut = absurd cut.2
   cut-ends turns start new left done next (Password fault) unfailed calls cut = absurd cut.2
 
-  cut-owed : (left : ℕ) (start new : Hands I O E) (done next : Answer) (fault : RunFault)
-      → IsInterrupted told.contents told.fault_contents left done next (outs_of start) (outs_of new) fault → IsOwed done next start new fault
+  cut-owed : (left : ℕ) (start new : RunState I O E) (done next : Answer) (fault : RunFault)
+      → IsInterrupted told.contents told.fault_contents left done next (output_state_of start) (output_state_of new) fault → IsUnsent done next start new fault
   cut-owed left start new done next Turns (stream, counts, (kept, faults_kept, none, text, fault_text, owed)) = owed
   cut-owed left start new done next Write cut = tt
   cut-owed left start new done next OutOfMemory cut = tt
   cut-owed left start new done next Read cut = absurd cut.2
   cut-owed left start new done next (Password fault) cut = absurd cut.2
 
-  ends-line : (turns : ℕ) (start new : Hands I O E) (bytes line rest : List ℕ) (left : ℕ) (fault : RunFault)
+  ends-line : (turns : ℕ) (start new : RunState I O E) (bytes line rest : List ℕ) (left : ℕ) (fault : RunFault)
       → IsUnfailed start.input new.input → calls_of new + left ≡ calls_of start + turns → IsNext told new line rest
-      → IsCutAt told.contents told.fault_contents kind job (outs_of start) (outs_of new) bytes line rest left fault
+      → IsCutAt told.contents told.fault_contents kind job (output_state_of start) (output_state_of new) bytes line rest left fault
       → EndsAnswering told turns kind job bytes start new fault
   ends-line turns start new bytes line rest left fault unfailed calls is_line at = (
     at.done,
@@ -181,10 +181,10 @@ module _ {I O E : Type 0} (told : Tells I O E) (kind : Kind) (job : Job) where
   )
 
   -- a line was being answered
-  pub ends-answering : (turns : ℕ) (start new : Hands I O E) (bytes line rest : List ℕ) (left : ℕ) (fault : RunFault)
+  pub ends-answering : (turns : ℕ) (start new : RunState I O E) (bytes line rest : List ℕ) (left : ℕ) (fault : RunFault)
       → Reads told.remaining start.input new.input bytes → IsUnfailed start.input new.input
       → calls_of new + left ≡ calls_of start + turns → IsNext told new line rest
-      → IsCutAt told.contents told.fault_contents kind job (outs_of start) (outs_of new) bytes line rest left fault
+      → IsCutAt told.contents told.fault_contents kind job (output_state_of start) (output_state_of new) bytes line rest left fault
       → EndsLines told turns kind job start new (Err fault)
   ends-answering turns start new bytes line rest left Write reads unfailed calls is_line at =
       (bytes, reads, inl (ends-line turns start new bytes line rest left Write unfailed calls is_line at))
@@ -198,22 +198,22 @@ module _ {I O E : Type 0} (told : Tells I O E) (kind : Kind) (job : Job) where
   -- ---- a piece that was fetched
 
   -- a run before a fetch, and what that gave
-  pub record HasFetched (turns : ℕ) (start old : Hands I O E) (new_input : Device I) (bytes buffer : List ℕ) (count : ℕ) (progress : Progress) (left : ℕ) : Type 0 where
+  pub record HasFetched (turns : ℕ) (start old : RunState I O E) (new_input : Device I) (bytes buffer : List ℕ) (count : ℕ) (progress : Progress) (left : ℕ) : Type 0 where
     pub before : IsAtInput told turns kind job start old bytes progress
     pub fetched : Fetches told.remaining progress.left old.input new_input buffer (Ok count)
     pub calls : new_input.calls + left ≡ old.input.calls + progress.left
 
-  read_then : (turns : ℕ) (start old : Hands I O E) (new_input : Device I) (bytes buffer : List ℕ) (count : ℕ) (progress : Progress) (left : ℕ)
+  read_then : (turns : ℕ) (start old : RunState I O E) (new_input : Device I) (bytes buffer : List ℕ) (count : ℕ) (progress : Progress) (left : ℕ)
       → HasFetched turns start old new_input bytes buffer count progress left
       → Reads told.remaining start.input new_input (bytes ++ take count buffer)
   read_then turns start old new_input bytes buffer count progress left h =
       Reads-trans told.remaining start.input old.input new_input bytes (take count buffer) h.before.reads h.fetched.2
 
   -- it was looked through, or a line in it was being answered
-  pub goes-piece : (turns : ℕ) (start old : Hands I O E) (new_input : Device I) (new : Outs O E) (bytes buffer : List ℕ) (count : ℕ) (progress : Progress) (left : ℕ) (next : Progress)
+  pub goes-piece : (turns : ℕ) (start old : RunState I O E) (new_input : Device I) (new : OutputState O E) (bytes buffer : List ℕ) (count : ℕ) (progress : Progress) (left : ℕ) (next : Progress)
       → HasFetched turns start old new_input bytes buffer count progress left
-      → TakesTurns left next.left (outs_of old) new
-      → LooksThrough told.contents told.fault_contents kind job (outs_of start) new (bytes ++ take count buffer) next {A = Unit {0}} (Ok tt)
+      → TakesTurns left next.left (output_state_of old) new
+      → LooksThrough told.contents told.fault_contents kind job (output_state_of start) new (bytes ++ take count buffer) next {A = Unit {0}} (Ok tt)
       → (read : List ℕ) × IsAtInput told turns kind job start (with_input new_input new) read next
   goes-piece turns start old new_input new bytes buffer count progress left next h calls looked = (
     bytes ++ take count buffer,
@@ -225,10 +225,10 @@ module _ {I O E : Type 0} (told : Tells I O E) (kind : Kind) (job : Job) where
     },
   )
 
-  pub ends-piece : (turns : ℕ) (start old : Hands I O E) (new_input : Device I) (new : Outs O E) (bytes buffer : List ℕ) (count : ℕ) (progress : Progress) (left : ℕ) (next : Progress) (fault : RunFault)
+  pub ends-piece : (turns : ℕ) (start old : RunState I O E) (new_input : Device I) (new : OutputState O E) (bytes buffer : List ℕ) (count : ℕ) (progress : Progress) (left : ℕ) (next : Progress) (fault : RunFault)
       → HasFetched turns start old new_input bytes buffer count progress left
-      → TakesTurns left next.left (outs_of old) new
-      → LooksThrough told.contents told.fault_contents kind job (outs_of start) new (bytes ++ take count buffer) next {A = Unit {0}} (Err fault)
+      → TakesTurns left next.left (output_state_of old) new
+      → LooksThrough told.contents told.fault_contents kind job (output_state_of start) new (bytes ++ take count buffer) next {A = Unit {0}} (Err fault)
       → EndsLines told turns kind job start (with_input new_input new) (Err fault)
   ends-piece turns start old new_input new bytes buffer count progress left next fault h calls (line, behind, few, cut) =
       ends-answering turns start (with_input new_input new) (bytes ++ take count buffer) line (line ++ line_feed ∷ behind) next.left fault
@@ -241,7 +241,7 @@ module _ {I O E : Type 0} (told : Tells I O E) (kind : Kind) (job : Job) where
   -- ---- the fetches
 
   -- nothing was read
-  pub at-start : (start : Hands I O E) (progress : Progress) → StandsFor progress.held [] → progress.tally ≡ no_line
+  pub at-start : (start : RunState I O E) (progress : Progress) → Represents progress.held [] → progress.tally ≡ no_line
       → IsAtInput told progress.left kind job start start [] progress
   at-start start progress none_held no_line = record {
     reads = record { shown = Consumes-nil _; counted = omega arith };
@@ -270,14 +270,14 @@ module _ {I O E : Type 0} (told : Tells I O E) (kind : Kind) (job : Job) where
   }
 
   -- the fetches so far, each of which gave a byte
-  pub record IsFetching (turns : ℕ) (start now : Hands I O E) (progress : Progress) : Type 0 where
+  pub record IsFetching (turns : ℕ) (start now : RunState I O E) (progress : Progress) : Type 0 where
     pub read : List ℕ
     pub at_input : IsAtInput told turns kind job start now read progress
     pub room : HasRoomToRead progress now
     pub takes_turns : TakesTurnsOf 0 turns progress.left start now
 
   -- the turns of some steps, and of one more
-  pub turns-trans : (left mid_left new_left spare : ℕ) (start now new : Hands I O E) → TakesTurnsOf 0 left mid_left start now
+  pub turns-trans : (left mid_left new_left spare : ℕ) (start now new : RunState I O E) → TakesTurnsOf 0 left mid_left start now
       → TakesTurnsOf spare mid_left new_left now new → TakesTurnsOf spare left new_left start new
   turns-trans left mid_left new_left spare start now new before more = record {
     turns = more.turns ∙ before.turns;
@@ -287,14 +287,14 @@ module _ {I O E : Type 0} (told : Tells I O E) (kind : Kind) (job : Job) where
   }
 
   -- and whether there may be more: after a fetch that gave nothing all was read
-  abbrev pub IsFetched : ℕ → Hands I O E → Hands I O E → Progress → Bool → Type 0
+  abbrev pub IsFetched : ℕ → RunState I O E → RunState I O E → Progress → Bool → Type 0
   IsFetched turns start now progress true = IsFetching turns start now progress
   IsFetched turns start now progress false =
       GoesToEnd told turns kind job start now progress {A = Unit {0}} (Ok tt) × HasRoomToRead progress now
       × TakesTurnsOf 1 turns progress.left start now
 
   -- one more
-  pub fetched-more : (turns : ℕ) (start now new : Hands I O E) (progress next : Progress) (has_more more : Bool) → has_more ≡ true
+  pub fetched-more : (turns : ℕ) (start now new : RunState I O E) (progress next : Progress) (has_more more : Bool) → has_more ≡ true
       → IsFetched turns start now progress has_more → GoesOn told turns kind job start new next (Ok more) → HasRoomToRead next new
       → TakesTurnsOf (spare_fetch (Ok more)) progress.left next.left now new
       → IsFetched turns start new next more
@@ -308,7 +308,7 @@ module _ {I O E : Type 0} (told : Tells I O E) (kind : Kind) (job : Job) where
       (goes, room, turns-trans turns progress.left next.left 1 start now new before.takes_turns took)
   fetched-more turns start now new progress next false more is before goes room took = absurd (cc)
 
-  pub fetched-so_far : (turns : ℕ) (start now : Hands I O E) (progress : Progress) (has_more : Bool) → has_more ≡ true
+  pub fetched-so_far : (turns : ℕ) (start now : RunState I O E) (progress : Progress) (has_more : Bool) → has_more ≡ true
       → IsFetched turns start now progress has_more → IsFetching turns start now progress
   fetched-so_far turns start now progress true is fetched = fetched
   fetched-so_far turns start now progress false is fetched = absurd (cc)
@@ -316,19 +316,19 @@ module _ {I O E : Type 0} (told : Tells I O E) (kind : Kind) (job : Job) where
   -- ---- the end of the input
 
   -- the last line was being answered
-  pub ends-last : (turns : ℕ) (start now : Hands I O E) (new : Outs O E) (progress next : Progress) (fault : RunFault)
+  pub ends-last : (turns : ℕ) (start now : RunState I O E) (new : OutputState O E) (progress next : Progress) (fault : RunFault)
       → (all : GoesToEnd told turns kind job start now progress {A = Unit {0}} (Ok tt))
-      → TakesTurns progress.left next.left (outs_of now) new
-      → AnswersLast told.contents told.fault_contents kind job (outs_of start) new all.0 next {A = Unit {0}} (Err fault)
+      → TakesTurns progress.left next.left (output_state_of now) new
+      → AnswersLast told.contents told.fault_contents kind job (output_state_of start) new all.0 next {A = Unit {0}} (Err fault)
       → EndsLines told turns kind job start (with_input now.input new) (Err fault)
   ends-last turns start now new progress next fault all calls (line, some, cut) =
       ends-answering turns start (with_input now.input new) all.0 line line next.left fault
       all.1.reads all.1.unfailed (let before = all.1.calls in omega (arith, before, calls.turns)) (inr (refl, some, all.2)) cut
 
   -- all lines are answered
-  answered : (turns : ℕ) (start now : Hands I O E) (new : Outs O E) (progress : Progress) (tally : Tally)
+  answered : (turns : ℕ) (start now : RunState I O E) (new : OutputState O E) (progress : Progress) (tally : Tally)
       → (all : GoesToEnd told turns kind job start now progress {A = Unit {0}} (Ok tt))
-      → (last : IsAllAnswered told.contents told.fault_contents kind job (outs_of start) new all.0 tally)
+      → (last : IsAllAnswered told.contents told.fault_contents kind job (output_state_of start) new all.0 tally)
       → HasAnswered told last.answers start (with_input now.input new)
   answered turns start now new progress tally all last = record {
     fails = record {
@@ -341,9 +341,9 @@ module _ {I O E : Type 0} (told : Tells I O E) (kind : Kind) (job : Job) where
   }
 
   -- and both outputs are flushed
-  pub ends-finished : (turns : ℕ) (start now : Hands I O E) (new : Outs O E) (progress : Progress) (tally : Tally) (out : Device O) (faults : Device E) {A : Type 0} (done : A)
+  pub ends-finished : (turns : ℕ) (start now : RunState I O E) (new : OutputState O E) (progress : Progress) (tally : Tally) (out : Device O) (faults : Device E) {A : Type 0} (done : A)
       → (all : GoesToEnd told turns kind job start now progress {A = Unit {0}} (Ok tt))
-      → IsAllAnswered told.contents told.fault_contents kind job (outs_of start) new all.0 tally
+      → IsAllAnswered told.contents told.fault_contents kind job (output_state_of start) new all.0 tally
       → FinishesBoth told.contents told.fault_contents new.out new.faults out faults (Ok done)
       → EndsLines told turns kind job start (with_input now.input (record new { out = out; faults = faults })) (Ok tally)
   ends-finished turns start now new progress tally out faults done all last flushes = (
@@ -358,9 +358,9 @@ module _ {I O E : Type 0} (told : Tells I O E) (kind : Kind) (job : Job) where
   )
 
   -- or a flush failed
-  pub ends-unfinished : (turns : ℕ) (start now : Hands I O E) (new : Outs O E) (progress : Progress) (tally : Tally) (out : Device O) (faults : Device E) (A : Type 0) (fault : RunFault)
+  pub ends-unfinished : (turns : ℕ) (start now : RunState I O E) (new : OutputState O E) (progress : Progress) (tally : Tally) (out : Device O) (faults : Device E) (A : Type 0) (fault : RunFault)
       → (all : GoesToEnd told turns kind job start now progress {A = Unit {0}} (Ok tt))
-      → IsAllAnswered told.contents told.fault_contents kind job (outs_of start) new all.0 tally
+      → IsAllAnswered told.contents told.fault_contents kind job (output_state_of start) new all.0 tally
       → FinishesBoth told.contents told.fault_contents new.out new.faults out faults {A = A} (Err fault)
       → EndsLines told turns kind job start (with_input now.input (record new { out = out; faults = faults })) (Err fault)
   ends-unfinished turns start now new progress tally out faults A fault all last flushes =

@@ -5,8 +5,8 @@ use Rattle.mkpasswd.specs.Answers.{Answer, IsRefusedAmong, after_work}
 use Rattle.mkpasswd.specs.LineAnswers.{IsAnswer}
 use Rattle.mkpasswd.specs.LineRuns.{AreAnswers, both, piece_size, with_line_feeds}
 use Rattle.mkpasswd.specs.Output.{Takes}
-use Rattle.mkpasswd.specs.Private.Desks.{IsSameDesk, Outs, TakesTurns}
-use Rattle.mkpasswd.specs.Private.Progress.{AnswersOne, AreGiven, HasRoomIn, IsAt, IsInterrupted, LooksThrough, StandsFor}
+use Rattle.mkpasswd.specs.Private.Desks.{IsSameDesk, OutputState, TakesTurns}
+use Rattle.mkpasswd.specs.Private.Progress.{AnswersOne, AreGiven, HasRoomIn, IsAt, IsInterrupted, LooksThrough, Represents}
 use Rattle.mkpasswd.specs.Tallies.{both_tallies}
 use Rattle.mkpasswd.specs.Texts.{HasNoLineFeed, line_feed}
 use Rattle.mkpasswd.specs.declared.desk.Desk.{Desk}
@@ -33,14 +33,14 @@ same-trans old mid new before more = record {
 
 module _ {O E : Type 0} (contents : O → Option (List ℕ)) (fault_contents : E → Option (List ℕ)) (kind : Kind) (job : Job) where
   -- where the run is before the step for a line
-  pub record IsAtLine (start old : Outs O E) (bytes front : List ℕ) (progress : Progress) (line : List ℕ) (next : Answer) : Type 0 where
+  pub record IsAtLine (start old : OutputState O E) (bytes front : List ℕ) (progress : Progress) (line : List ℕ) (next : Answer) : Type 0 where
     pub at : IsAt contents fault_contents kind job start old bytes progress
     pub is_line : line ≡ at.rest ++ front
     pub no_feed : HasNoLineFeed line
     pub is_next : IsAnswer kind job (progress.tally.lines + 1) line old.stream next
 
   -- the next answer is given, behind those that were
-  pub given-both : (start old new : Outs O E) (answers next : Answer) (left : ℕ) {A : Type 0} (done : A)
+  pub given-both : (start old new : OutputState O E) (answers next : Answer) (left : ℕ) {A : Type 0} (done : A)
       → AreGiven contents fault_contents answers start old
       → AnswersOne contents fault_contents left next old new (Ok done)
       → AreGiven contents fault_contents (both answers next) start new
@@ -53,16 +53,16 @@ module _ {O E : Type 0} (contents : O → Option (List ℕ)) (fault_contents : E
     counts = given.1 ∙ (ap (λ c. after_work c next.hashings) before.counts ∙ sym (after_work-append start.counts answers.hashings next.hashings));
   }
 
-  counts-after : (start old new : Outs O E) (bytes front : List ℕ) (progress : Progress) (line : List ℕ) (next : Answer)
+  counts-after : (start old new : OutputState O E) (bytes front : List ℕ) (progress : Progress) (line : List ℕ) (next : Answer)
       → (before : IsAtLine start old bytes front progress line next) → new.counts ≡ after_work old.counts next.hashings
       → new.counts ≡ after_work (after_work start.counts before.at.answers.hashings) next.hashings
   counts-after start old new bytes front progress line next before after = after ∙ ap (λ c. after_work c next.hashings) before.at.given.counts
 
-  pub at-answered : (start old new : Outs O E) (bytes front : List ℕ) (progress next_progress : Progress) (line : List ℕ) (next : Answer) {A : Type 0} (done : A)
+  pub at-answered : (start old new : OutputState O E) (bytes front : List ℕ) (progress next_progress : Progress) (line : List ℕ) (next : Answer) {A : Type 0} (done : A)
       → IsAtLine start old bytes front progress line next
       → AnswersOne contents fault_contents next_progress.left next old new (Ok done)
       → next_progress.tally ≡ both_tallies progress.tally next.tally
-      → StandsFor next_progress.held []
+      → Represents next_progress.held []
       → IsAt contents fault_contents kind job start new (bytes ++ (front ++ line_feed ∷ [])) next_progress
   at-answered start old new bytes front progress next_progress line next done before given counted cleared =
       let at = before.at in
@@ -84,7 +84,7 @@ module _ {O E : Type 0} (contents : O → Option (List ℕ)) (fault_contents : E
       }
 
   -- how it is cut short
-  pub cut-answering : (start old new : Outs O E) (bytes front : List ℕ) (progress : Progress) (left : ℕ) (line : List ℕ) (next : Answer) (A : Type 0) (fault : RunFault)
+  pub cut-answering : (start old new : OutputState O E) (bytes front : List ℕ) (progress : Progress) (left : ℕ) (line : List ℕ) (next : Answer) (A : Type 0) (fault : RunFault)
       → (before : IsAtLine start old bytes front progress line next)
       → AnswersOne contents fault_contents left next old new {A = A} (Err fault)
       → IsInterrupted contents fault_contents left before.at.answers next start new fault
@@ -135,7 +135,7 @@ module _ {O E : Type 0} (contents : O → Option (List ℕ)) (fault_contents : E
   cut-answering start old new bytes front progress left line next A Read before given = absurd given.2
   cut-answering start old new bytes front progress left line next A (Password fault) before given = absurd given.2
 
-  pub looks-cut : (start old new : Outs O E) (bytes front behind : List ℕ) (progress next_progress : Progress) (line : List ℕ) (next : Answer) (A : Type 0) (fault : RunFault)
+  pub looks-cut : (start old new : OutputState O E) (bytes front behind : List ℕ) (progress next_progress : Progress) (line : List ℕ) (next : Answer) (A : Type 0) (fault : RunFault)
       → IsAtLine start old bytes front progress line next
       → AnswersOne contents fault_contents next_progress.left next old new {A = A} (Err fault)
       → length behind < piece_size
@@ -162,16 +162,16 @@ module _ {O E : Type 0} (contents : O → Option (List ℕ)) (fault_contents : E
   -- ---- a piece
 
   -- the front of the piece was looked through, and each line that ends in it is answered
-  pub record IsLooking (old now : Outs O E) (old_progress progress : Progress) (piece rest : List ℕ) : Type 0 where
+  pub record IsLooking (old now : OutputState O E) (old_progress progress : Progress) (piece rest : List ℕ) : Type 0 where
     pub front : List ℕ
     pub split : front ++ rest ≡ piece
     pub lines : progress.tally.lines + length rest ≤ old_progress.tally.lines + length piece
     pub room : HasRoomIn progress.tally now
     pub turns : TakesTurns old_progress.left progress.left old now
-    pub at : (start : Outs O E) (bytes : List ℕ) → IsAt contents fault_contents kind job start old bytes old_progress
+    pub at : (start : OutputState O E) (bytes : List ℕ) → IsAt contents fault_contents kind job start old bytes old_progress
         → IsAt contents fault_contents kind job start now (bytes ++ front) progress
 
-  pub looking-start : (old : Outs O E) (progress : Progress) (piece : List ℕ) → HasRoomIn progress.tally old → IsLooking old old progress progress piece piece
+  pub looking-start : (old : OutputState O E) (progress : Progress) (piece : List ℕ) → HasRoomIn progress.tally old → IsLooking old old progress progress piece piece
   looking-start old progress piece room = record {
     front = [];
     split = refl;
@@ -182,23 +182,23 @@ module _ {O E : Type 0} (contents : O → Option (List ℕ)) (fault_contents : E
   }
 
   -- what the answer to a line that is held leaves, as far as that can be told of any result
-  abbrev pub AnswersHeld : Outs O E → Outs O E → Tally → Held → Progress → {A : Type 0} → Result A RunFault → Type 0
+  abbrev pub AnswersHeld : OutputState O E → OutputState O E → Tally → Held → Progress → {A : Type 0} → Result A RunFault → Type 0
   AnswersHeld old new tally held next_progress result =
-      (line : List ℕ) → StandsFor held line
+      (line : List ℕ) → Represents held line
       → (answer : Answer) × IsAnswer kind job (tally.lines + 1) line old.stream answer
       × AnswersOne contents fault_contents next_progress.left answer old new result
       × OnOk result (next_progress.tally ≡ both_tallies tally answer.tally)
 
   -- the step for one line of the piece, which ends at its first line feed
-  pub record IsStep (old mid new : Outs O E) (old_progress progress next_progress : Progress) (held : Held) (piece rest : List ℕ) (end : ℕ) {A : Type 0} (result : Result A RunFault) : Type 0 where
+  pub record IsStep (old mid new : OutputState O E) (old_progress progress next_progress : Progress) (held : Held) (piece rest : List ℕ) (end : ℕ) {A : Type 0} (result : Result A RunFault) : Type 0 where
     pub before : IsLooking old mid old_progress progress piece rest
     pub cut : IsCutAtFeed rest end
-    pub holds : (line : List ℕ) → StandsFor progress.held line → StandsFor held (line ++ take end rest)
+    pub holds : (line : List ℕ) → Represents progress.held line → Represents held (line ++ take end rest)
     pub answers : AnswersHeld mid new progress.tally held next_progress result
 
-  line-answered : (old mid new : Outs O E) (old_progress progress next_progress : Progress) (held : Held) (piece rest : List ℕ) (end : ℕ) {A : Type 0} (result : Result A RunFault)
+  line-answered : (old mid new : OutputState O E) (old_progress progress next_progress : Progress) (held : Held) (piece rest : List ℕ) (end : ℕ) {A : Type 0} (result : Result A RunFault)
       → (step : IsStep old mid new old_progress progress next_progress held piece rest end result)
-      → (start : Outs O E) (bytes : List ℕ) → IsAt contents fault_contents kind job start old bytes old_progress
+      → (start : OutputState O E) (bytes : List ℕ) → IsAt contents fault_contents kind job start old bytes old_progress
       → (line : List ℕ) × (next : Answer)
       × IsAtLine start mid (bytes ++ step.before.front) (take end rest) progress line next
       × AnswersOne contents fault_contents next_progress.left next mid new result
@@ -224,10 +224,10 @@ module _ {O E : Type 0} (contents : O → Option (List ℕ)) (fault_contents : E
       → front ++ (take end rest ++ line_feed ∷ drop (end + 1) rest) ≡ piece
   piece-parts front rest piece end split cut = ap (λ others. front ++ others) (sym cut.parts) ∙ split
 
-  pub looking-cut : (old mid new : Outs O E) (old_progress progress next_progress : Progress) (held : Held) (piece rest : List ℕ) (end : ℕ) (A : Type 0) (fault : RunFault)
+  pub looking-cut : (old mid new : OutputState O E) (old_progress progress next_progress : Progress) (held : Held) (piece rest : List ℕ) (end : ℕ) (A : Type 0) (fault : RunFault)
       → IsStep old mid new old_progress progress next_progress held piece rest end {A = A} (Err fault)
       → length piece ≤ piece_size
-      → (start : Outs O E) (bytes : List ℕ) → IsAt contents fault_contents kind job start old bytes old_progress
+      → (start : OutputState O E) (bytes : List ℕ) → IsAt contents fault_contents kind job start old bytes old_progress
       → LooksThrough contents fault_contents kind job start new (bytes ++ piece) next_progress {A = A} (Err fault)
   looking-cut old mid new old_progress progress next_progress held piece rest end A fault step small start bytes is =
       let front = step.before.front in
@@ -240,7 +240,7 @@ module _ {O E : Type 0} (contents : O → Option (List ℕ)) (fault_contents : E
       ∙ ap (λ others. bytes ++ others) (piece-parts front rest piece end step.before.split step.cut))
       (looks-cut start mid new (bytes ++ front) (take end rest) behind progress next_progress answered.0 answered.1 A fault answered.2 answered.3 few)
 
-  turns-trans : (old mid new : Outs O E) (left mid_left new_left : ℕ) → TakesTurns left mid_left old mid → TakesTurns mid_left new_left mid new
+  turns-trans : (old mid new : OutputState O E) (left mid_left new_left : ℕ) → TakesTurns left mid_left old mid → TakesTurns mid_left new_left mid new
       → TakesTurns left new_left old new
   turns-trans old mid new left mid_left new_left before more = record {
     turns = more.turns ∙ before.turns;
@@ -249,9 +249,9 @@ module _ {O E : Type 0} (contents : O → Option (List ℕ)) (fault_contents : E
     faults_moves = moves-trans 0 old.faults mid.faults new.faults before.faults_moves more.faults_moves;
   }
 
-  pub looking-step : (old mid new : Outs O E) (old_progress progress next_progress : Progress) (held : Held) (piece rest behind : List ℕ) (end : ℕ) {A : Type 0} (done : A)
+  pub looking-step : (old mid new : OutputState O E) (old_progress progress next_progress : Progress) (held : Held) (piece rest behind : List ℕ) (end : ℕ) {A : Type 0} (done : A)
       → IsStep old mid new old_progress progress next_progress held piece rest end (Ok done)
-      → StandsFor next_progress.held [] → HasRoomIn next_progress.tally new → next_progress.tally.lines ≤ progress.tally.lines + 1
+      → Represents next_progress.held [] → HasRoomIn next_progress.tally new → next_progress.tally.lines ≤ progress.tally.lines + 1
       → TakesTurns progress.left next_progress.left mid new → behind ≡ drop (end + 1) rest
       → IsLooking old new old_progress next_progress piece behind
   looking-step old mid new old_progress progress next_progress held piece rest behind end done step cleared room lines turns is_behind =
@@ -276,10 +276,10 @@ module _ {O E : Type 0} (contents : O → Option (List ℕ)) (fault_contents : E
       }
 
   -- what is behind the last line feed is held
-  pub looking-end : (old now : Outs O E) (old_progress progress : Progress) (held : Held) (piece rest : List ℕ)
+  pub looking-end : (old now : OutputState O E) (old_progress progress : Progress) (held : Held) (piece rest : List ℕ)
       → IsLooking old now old_progress progress piece rest → HasNoLineFeed rest
-      → ((line : List ℕ) → StandsFor progress.held line → StandsFor held (line ++ rest))
-      → (start : Outs O E) (bytes : List ℕ) → IsAt contents fault_contents kind job start old bytes old_progress
+      → ((line : List ℕ) → Represents progress.held line → Represents held (line ++ rest))
+      → (start : OutputState O E) (bytes : List ℕ) → IsAt contents fault_contents kind job start old bytes old_progress
       → IsAt contents fault_contents kind job start now (bytes ++ piece) (record { held = held; tally = progress.tally; left = progress.left })
   looking-end old now old_progress progress held piece rest looking none holds start bytes is =
       let at = looking.at start bytes is in

@@ -3,7 +3,7 @@ use Rattle.std.proofs.Common.{◌≡◌, ℕ, ◌≤◌, ◌⊎◌, Bool, true, 
 use Rattle.std.proofs.lemmas.Option.{none-some}
 use Rattle.rand_core.specs.Stream.{Stream}
 use Rattle.crypt_core.specs.Crypt.{crypt}
-use Rattle.crypt_core.specs.Settings.{Kept}
+use Rattle.crypt_core.specs.Settings.{SettingValue}
 use Rattle.mkpasswd.specs.Answers.{Answer}
 use Rattle.mkpasswd.specs.Budgets.{IsAbove}
 use Rattle.mkpasswd.specs.LineAnswers.{HasSetting, IsAnswer, IsCostly}
@@ -16,7 +16,7 @@ use Rattle.mkpasswd.specs.declared.line.Kind.{Kind}
 use Rattle.mkpasswd.specs.declared.line.Kind.TheVariants.{Batch}
 
 -- a check costs no less with new hashes
-same_or_more : (job : Job) (kept : Kept) (stream : Stream) (password : ℕ)
+same_or_more : (job : Job) (kept : SettingValue) (stream : Stream) (password : ℕ)
     → check_cost (without_rehash job) kept stream password ≤ check_cost job kept stream password
 same_or_more job kept stream password = omega arith
 
@@ -41,7 +41,7 @@ module _ (kind : Kind) (job : Job) (line : List ℕ) (stream : Stream) where
 
   module _ (still : ¬ IsRenewable kind job line stream) where
     -- where the password fits, or the line is costly, no setting of the field is out of date
-    recent : (parts : Parts) (field : List ℕ) (kept : Kept) → HasSetting kind line parts field kept
+    recent : (parts : Parts) (field : List ℕ) (kept : SettingValue) → HasSetting kind line parts field kept
         → (crypt parts.password kept ≡ field) ⊎ IsCostly kind job line stream → is_outdated job kept ≡ false
     recent parts field kept stored why = go (is_outdated job kept) refl
       where
@@ -50,7 +50,7 @@ module _ (kind : Kind) (job : Job) (line : List ℕ) (stream : Stream) where
         go false is = is
 
     -- so it costs the same
-    same_check_cost : (kept : Kept) (password : ℕ) → is_outdated job kept ≡ false
+    same_check_cost : (kept : SettingValue) (password : ℕ) → is_outdated job kept ≡ false
         → check_cost job kept stream password ≡ check_cost (without_rehash job) kept stream password
     same_check_cost kept password is = rw is refl
 

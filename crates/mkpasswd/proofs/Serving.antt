@@ -10,7 +10,7 @@ use Rattle.mkpasswd.specs.Faults.{fault_status, parse_status}
 use Rattle.mkpasswd.specs.Options.{Plans}
 use Rattle.mkpasswd.specs.Output.{Shows}
 use Rattle.mkpasswd.specs.Private.Telling.{RefusalShown, RunsOrLacks}
-use Rattle.mkpasswd.specs.Runs.{Hands, Tells}
+use Rattle.mkpasswd.specs.Runs.{RunState, DeviceBytes}
 use Rattle.mkpasswd.specs.Tallies.{no_line, tally_status}
 use Rattle.mkpasswd.specs.declared.fault.Fault.{Fault}
 use Rattle.mkpasswd.specs.declared.fault.Fault.TheVariants.{Start, Usage, Run}
@@ -100,36 +100,36 @@ module _ {O E : Type 0} (contents : O → Option (List ℕ)) (fault_contents : E
 
 -- ---- the command
 
-module _ {I O E : Type 0} (told : Tells I O E) where
+module _ {I O E : Type 0} (told : DeviceBytes I O E) where
   -- with other outputs
-  abbrev pub with_faults : Hands I O E → Device E → Hands I O E
+  abbrev pub with_faults : RunState I O E → Device E → RunState I O E
   with_faults old faults = record old { faults = faults }
 
-  abbrev pub with_outs : Hands I O E → Device O → Device E → Hands I O E
+  abbrev pub with_outs : RunState I O E → Device O → Device E → RunState I O E
   with_outs old out faults = record old { out = out; faults = faults }
 
-  pub serves_run : (turns : ℕ) (generates : Bool) (words : List Text) (plan : Plan) (old new : Hands I O E) (tally : Tally) (status : ℕ)
+  pub serves_run : (turns : ℕ) (generates : Bool) (words : List Text) (plan : Plan) (old new : RunState I O E) (tally : Tally) (status : ℕ)
       → Plans words (Ok plan) → RunsOrLacks told turns generates plan old new (Ok tally) → status ≡ tally_status tally
       → Serves told turns generates words old new status
   serves_run turns generates words plan old new tally status planned runs status_is =
       (Ok plan, planned, rw runs.0 (new, Ok tally, runs.1, (refl, (refl, refl, status_is))))
 
-  pub serves_fault : (turns : ℕ) (generates : Bool) (words : List Text) (plan : Plan) (old mid : Hands I O E) (faults : Device E) (fault : Fault) (status : ℕ)
+  pub serves_fault : (turns : ℕ) (generates : Bool) (words : List Text) (plan : Plan) (old mid : RunState I O E) (faults : Device E) (fault : Fault) (status : ℕ)
       → Plans words (Ok plan) → RunsOrLacks told turns generates plan old mid (Err fault) → IsTold told.fault_contents fault mid.faults faults
       → status ≡ fault_status fault → Serves told turns generates words old (with_faults mid faults) status
-  serves_fault turns generates words plan old mid faults Start status planned runs tells status_is =
-      (Ok plan, planned, rw (runs.0, ← runs.1) (refl, (tells, refl, status_is)))
-  serves_fault turns generates words plan old mid faults (Run fault) status planned runs tells status_is =
-      (Ok plan, planned, rw runs.0 (mid, Err fault, runs.1, (refl, (tells, refl, status_is))))
-  serves_fault turns generates words plan old mid faults (Usage fault) status planned runs tells status_is = absurd runs
+  serves_fault turns generates words plan old mid faults Start status planned runs device_bytes status_is =
+      (Ok plan, planned, rw (runs.0, ← runs.1) (refl, (device_bytes, refl, status_is)))
+  serves_fault turns generates words plan old mid faults (Run fault) status planned runs device_bytes status_is =
+      (Ok plan, planned, rw runs.0 (mid, Err fault, runs.1, (refl, (device_bytes, refl, status_is))))
+  serves_fault turns generates words plan old mid faults (Usage fault) status planned runs device_bytes status_is = absurd runs
 
-  pub serves_refusal : (turns : ℕ) (generates : Bool) (words : List Text) (fault : UsageFault) (old : Hands I O E) (out : Device O) (faults : Device E) (status : ℕ)
+  pub serves_refusal : (turns : ℕ) (generates : Bool) (words : List Text) (fault : UsageFault) (old : RunState I O E) (out : Device O) (faults : Device E) (status : ℕ)
       → Plans words (Err fault) → RefusalShown told.contents told.fault_contents fault turns old.out old.faults out faults status
       → Serves told turns generates words old (with_outs old out faults) status
   serves_refusal turns generates words (Parse error) old out faults status planned (inl shown) = (Err (Parse error), planned, (refl, shown))
-  serves_refusal turns generates words (Parse error) old out faults status planned (inr tells) = (Err NoMemory, tt, (refl, tells))
-  serves_refusal turns generates words UnknownMethod old out faults status planned tells = (Err UnknownMethod, planned, (refl, tells))
-  serves_refusal turns generates words TwoSalts old out faults status planned tells = (Err TwoSalts, planned, (refl, tells))
-  serves_refusal turns generates words TwoModes old out faults status planned tells = (Err TwoModes, planned, (refl, tells))
-  serves_refusal turns generates words (Make fault) old out faults status planned tells = (Err (Make fault), planned, (refl, tells))
-  serves_refusal turns generates words NoMemory old out faults status planned tells = (Err NoMemory, planned, (refl, tells))
+  serves_refusal turns generates words (Parse error) old out faults status planned (inr device_bytes) = (Err NoMemory, tt, (refl, device_bytes))
+  serves_refusal turns generates words UnknownMethod old out faults status planned device_bytes = (Err UnknownMethod, planned, (refl, device_bytes))
+  serves_refusal turns generates words TwoSalts old out faults status planned device_bytes = (Err TwoSalts, planned, (refl, device_bytes))
+  serves_refusal turns generates words TwoModes old out faults status planned device_bytes = (Err TwoModes, planned, (refl, device_bytes))
+  serves_refusal turns generates words (Make fault) old out faults status planned device_bytes = (Err (Make fault), planned, (refl, device_bytes))
+  serves_refusal turns generates words NoMemory old out faults status planned device_bytes = (Err NoMemory, planned, (refl, device_bytes))

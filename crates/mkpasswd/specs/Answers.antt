@@ -3,7 +3,7 @@ use Rattle.std.specs.Prelude.{ℕ, List, [], ◌∷◌, ◌++◌, ◌⊎◌, ◌
 use Rattle.rand_core.specs.Stream.{Stream}
 use Rattle.prims_core.specs.declared.work.Work.{Work}
 use Rattle.crypt_core.specs.Crypt.{crypt, IsAfterRefusedGrowth}
-use Rattle.crypt_core.specs.Settings.{Kept}
+use Rattle.crypt_core.specs.Settings.{SettingValue}
 use Rattle.crypt_core.specs.Work.{raised_by, work}
 use Rattle.mkpasswd.specs.Makers.{next_setting, words_for}
 use Rattle.mkpasswd.specs.Tallies.{no_line, one_line}
@@ -16,10 +16,10 @@ use Rattle.mkpasswd.specs.declared.tally.Tally.{Tally}
 -- a hash that is made: of which password, by which setting, and what is left of the stream when it begins
 pub record Hashing : Type 0 where
   pub password : List ℕ
-  pub setting : Kept
+  pub setting : SettingValue
   pub stream : Stream
 
-abbrev pub hashing : List ℕ → Kept → Stream → Hashing
+abbrev pub hashing : List ℕ → SettingValue → Stream → Hashing
 hashing password kept stream = record { password = password; setting = kept; stream = stream }
 
 -- the counts after the work of these hashes
@@ -73,7 +73,7 @@ abbrev pub wanted_text : Job → Work → List ℕ
 wanted_text job work = if job.work then work_text work else []
 
 -- the hash of a password by a setting, as crypt(3) gives it, and its counts where they are wanted
-abbrev pub hash_text : Job → List ℕ → Kept → List ℕ
+abbrev pub hash_text : Job → List ℕ → SettingValue → List ℕ
 hash_text job password kept = crypt password kept ++ wanted_text job (work password kept)
 
 -- ---- the answer to a password

@@ -18,7 +18,7 @@ use Rattle.mkpasswd.specs.Methods.{methods_text}
 use Rattle.mkpasswd.specs.One.{EndsOne}
 use Rattle.mkpasswd.specs.Options.{Plans}
 use Rattle.mkpasswd.specs.Output.{Shows, TakesAndFlushes}
-use Rattle.mkpasswd.specs.Runs.{Finishes, Hands, IsWithinTurns, Tells}
+use Rattle.mkpasswd.specs.Runs.{Finishes, RunState, IsWithinTurns, DeviceBytes}
 use Rattle.mkpasswd.specs.Tallies.{no_line, tally_status}
 use Rattle.mkpasswd.specs.Texts.{as_line, program_front}
 use Rattle.mkpasswd.specs.declared.fault.Fault.{Fault}
@@ -97,88 +97,88 @@ module _ {O E : Type 0} (contents : O → Option (List ℕ)) (fault_contents : E
 
 module _ {I O E : Type 0} where
   -- only the outputs have changed, as is said here
-  abbrev pub InOutputs : (Device O → Device E → Device O → Device E → ℕ → Type 0) → Hands I O E → Hands I O E → ℕ → Type 0
+  abbrev pub InOutputs : (Device O → Device E → Device O → Device E → ℕ → Type 0) → RunState I O E → RunState I O E → ℕ → Type 0
   InOutputs Does old new status =
       (new ≡ record old { out = new.out; faults = new.faults }) × Does old.out old.faults new.out new.faults status
 
   -- ---- a plan is run
 
   -- each plan has its run, within the turns
-  abbrev pub Ends : Tells I O E → ℕ → Plan → Hands I O E → Hands I O E → Result Tally RunFault → Type 0
-  Ends tells turns Methods old new result =
-      Shows tells.contents turns old.out new.out methods_text result × (new ≡ record old { out = new.out })
+  abbrev pub Ends : DeviceBytes I O E → ℕ → Plan → RunState I O E → RunState I O E → Result Tally RunFault → Type 0
+  Ends device_bytes turns Methods old new result =
+      Shows device_bytes.contents turns old.out new.out methods_text result × (new ≡ record old { out = new.out })
       × IfOk result (λ tally. tally ≡ no_line)
-  Ends tells turns (One job from) old new result = EndsOne tells turns job from old new result × IsWithinTurns turns old new
-  Ends tells turns (Batch job) old new result =
-      EndsLines tells turns kinds.Batch job old new result × IsWithinTurns turns old new
-  Ends tells turns (Check job) old new result =
-      EndsLines tells turns kinds.Check job old new result × IsWithinTurns turns old new
+  Ends device_bytes turns (One job from) old new result = EndsOne device_bytes turns job from old new result × IsWithinTurns turns old new
+  Ends device_bytes turns (Batch job) old new result =
+      EndsLines device_bytes turns kinds.Batch job old new result × IsWithinTurns turns old new
+  Ends device_bytes turns (Check job) old new result =
+      EndsLines device_bytes turns kinds.Check job old new result × IsWithinTurns turns old new
 
   -- There is a state in between, in which the run has ended. A plan that lacks its generator, which the first argument
   -- says, is not run.
-  abbrev pub RunsPlan : Bool → Tells I O E → ℕ → Plan → Hands I O E → Hands I O E → ℕ → Type 0
-  RunsPlan true tells turns plan = InOutputs (TellsFault tells.contents tells.fault_contents Start)
-  RunsPlan false tells turns plan = λ old new status.
-      (mid : Hands I O E) × (result : Result Tally RunFault) × Ends tells turns plan old mid result
-      × InOutputs (Concludes tells.contents tells.fault_contents result) mid new status
+  abbrev pub RunsPlan : Bool → DeviceBytes I O E → ℕ → Plan → RunState I O E → RunState I O E → ℕ → Type 0
+  RunsPlan true device_bytes turns plan = InOutputs (TellsFault device_bytes.contents device_bytes.fault_contents Start)
+  RunsPlan false device_bytes turns plan = λ old new status.
+      (mid : RunState I O E) × (result : Result Tally RunFault) × Ends device_bytes turns plan old mid result
+      × InOutputs (Concludes device_bytes.contents device_bytes.fault_contents result) mid new status
 
   -- ---- the command
 
   -- what is done where the words mean this; `generates` says whether there is a generator
-  abbrev pub Follows : Tells I O E → ℕ → Bool → Result Plan UsageFault → Hands I O E → Hands I O E → ℕ → Type 0
-  Follows tells turns generates (Ok plan) = RunsPlan (lacks_generator generates plan) tells turns plan
-  Follows tells turns generates (Err (Parse error)) =
-      InOutputs (ShowsError tells.contents tells.fault_contents (parse_status (kind_of error)) turns)
-  Follows tells turns generates (Err fault) = InOutputs (TellsFault tells.contents tells.fault_contents (Usage fault))
+  abbrev pub Follows : DeviceBytes I O E → ℕ → Bool → Result Plan UsageFault → RunState I O E → RunState I O E → ℕ → Type 0
+  Follows device_bytes turns generates (Ok plan) = RunsPlan (lacks_generator generates plan) device_bytes turns plan
+  Follows device_bytes turns generates (Err (Parse error)) =
+      InOutputs (ShowsError device_bytes.contents device_bytes.fault_contents (parse_status (kind_of error)) turns)
+  Follows device_bytes turns generates (Err fault) = InOutputs (TellsFault device_bytes.contents device_bytes.fault_contents (Usage fault))
 
   -- The words are planned, and what follows from that is done. That memory ran out may be told of any words.
-  abbrev pub Serves : Tells I O E → ℕ → Bool → List Text → Hands I O E → Hands I O E → ℕ → Type 0
-  Serves tells turns generates words old new status =
-      (planned : Result Plan UsageFault) × Plans words planned × Follows tells turns generates planned old new status
+  abbrev pub Serves : DeviceBytes I O E → ℕ → Bool → List Text → RunState I O E → RunState I O E → ℕ → Type 0
+  Serves device_bytes turns generates words old new status =
+      (planned : Result Plan UsageFault) × Plans words planned × Follows device_bytes turns generates planned old new status
 
   -- ---- status 0
 
   -- a text was given to the output, which was flushed; no call failed, and nothing else was done
-  pub record GivesOnly (tells : Tells I O E) (text : List ℕ) (old new : Hands I O E) : Type 0 where
+  pub record GivesOnly (device_bytes : DeviceBytes I O E) (text : List ℕ) (old new : RunState I O E) : Type 0 where
     pub others : new ≡ record old { out = new.out }
-    pub gives : TakesAndFlushes tells.contents old.out new.out text
+    pub gives : TakesAndFlushes device_bytes.contents old.out new.out text
     pub unfailed : IsUnfailed old.out new.out
 
   -- these bytes were read, and a run has given this answer, in which no line is refused or answered `no`
-  pub record Succeeds (tells : Tells I O E) (read : List ℕ) (answer : Answer) (old new : Hands I O E) : Type 0 where
-    pub input : Reads tells.remaining old.input new.input read
-    pub run : Finishes tells answer old new (Ok answer.tally)
+  pub record Succeeds (device_bytes : DeviceBytes I O E) (read : List ℕ) (answer : Answer) (old new : RunState I O E) : Type 0 where
+    pub input : Reads device_bytes.remaining old.input new.input read
+    pub run : Finishes device_bytes answer old new (Ok answer.tally)
     pub status : tally_status answer.tally ≡ 0
 
   -- the input was read to its end, and each of its lines answered
-  abbrev pub SucceedsByLines : Tells I O E → Kind → Job → Hands I O E → Hands I O E → Type 0
-  SucceedsByLines tells kind job old new =
-      (bytes : List ℕ) × (answers : Answer) × IsReadOut tells new × AreAnswers kind job 1 (lines_of bytes) old.stream answers
-      × Succeeds tells bytes answers old new
+  abbrev pub SucceedsByLines : DeviceBytes I O E → Kind → Job → RunState I O E → RunState I O E → Type 0
+  SucceedsByLines device_bytes kind job old new =
+      (bytes : List ℕ) × (answers : Answer) × IsReadOut device_bytes new × AreAnswers kind job 1 (lines_of bytes) old.stream answers
+      × Succeeds device_bytes bytes answers old new
 
   -- all that a plan asks for was done; for a word the input is left alone, and for a password of the input what decides
   -- it is read
-  abbrev pub IsDone : Tells I O E → Plan → Hands I O E → Hands I O E → Type 0
-  IsDone tells Methods old new = GivesOnly tells methods_text old new
-  IsDone tells (One job (Word password)) old new =
+  abbrev pub IsDone : DeviceBytes I O E → Plan → RunState I O E → RunState I O E → Type 0
+  IsDone device_bytes Methods old new = GivesOnly device_bytes methods_text old new
+  IsDone device_bytes (One job (Word password)) old new =
       IsPassword password.items × (new.input ≡ old.input)
-      × Succeeds tells [] (password_answer job password.items old.stream) old new
-  IsDone tells (One job Input) old new =
-      (bytes : List ℕ) × IsDecided tells.remaining new.input bytes × IsPassword (first_line bytes)
-      × Succeeds tells bytes (password_answer job (first_line bytes) old.stream) old new
-  IsDone tells (Batch job) old new = SucceedsByLines tells kinds.Batch job old new
-  IsDone tells (Check job) old new = SucceedsByLines tells kinds.Check job old new
+      × Succeeds device_bytes [] (password_answer job password.items old.stream) old new
+  IsDone device_bytes (One job Input) old new =
+      (bytes : List ℕ) × IsDecided device_bytes.remaining new.input bytes × IsPassword (first_line bytes)
+      × Succeeds device_bytes bytes (password_answer job (first_line bytes) old.stream) old new
+  IsDone device_bytes (Batch job) old new = SucceedsByLines device_bytes kinds.Batch job old new
+  IsDone device_bytes (Check job) old new = SucceedsByLines device_bytes kinds.Check job old new
 
   -- the words ask for help or the version, and some text is given
-  abbrev pub IsHelped : Tells I O E → List Text → Hands I O E → Hands I O E → Type 0
-  IsHelped tells words old new =
+  abbrev pub IsHelped : DeviceBytes I O E → List Text → RunState I O E → RunState I O E → Type 0
+  IsHelped device_bytes words old new =
       (error : Error) × Plans words (Err (Parse error)) × (parse_status (kind_of error) ≡ 0)
-      × (text : List ℕ) × GivesOnly tells text old new
+      × (text : List ℕ) × GivesOnly device_bytes text old new
 
   -- the words have a plan, which is done; or they ask for help or the version, which is given
-  abbrev pub IsWhole : Tells I O E → List Text → Hands I O E → Hands I O E → Type 0
-  IsWhole tells words old new =
-      ((plan : Plan) × Plans words (Ok plan) × IsDone tells plan old new) ⊎ IsHelped tells words old new
+  abbrev pub IsWhole : DeviceBytes I O E → List Text → RunState I O E → RunState I O E → Type 0
+  IsWhole device_bytes words old new =
+      ((plan : Plan) × Plans words (Ok plan) × IsDone device_bytes plan old new) ⊎ IsHelped device_bytes words old new
 
 -- ---- one hash in a line
 
@@ -191,6 +191,6 @@ abbrev pub IsNoOption : Text → Type 0
 IsNoOption word = (word ≡ codes "-") ⊎ ¬ BeginsWith word (codes "-")
 
 -- the output has taken the hash of the password by the setting of the method and the salt, and a line feed
-abbrev pub PrintsHash : {I O E : Type 0} → Tells I O E → Method → Text → Text → Hands I O E → Hands I O E → Type 0
-PrintsHash tells method salt password old new =
-    Appends (tells.contents old.out.inner) (tells.contents new.out.inner) (as_line (crypt password (made_setting method 0 salt)))
+abbrev pub PrintsHash : {I O E : Type 0} → DeviceBytes I O E → Method → Text → Text → RunState I O E → RunState I O E → Type 0
+PrintsHash device_bytes method salt password old new =
+    Appends (device_bytes.contents old.out.inner) (device_bytes.contents new.out.inner) (as_line (crypt password (made_setting method 0 salt)))

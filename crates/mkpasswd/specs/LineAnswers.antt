@@ -2,7 +2,7 @@
 use Rattle.std.specs.Prelude.{◌≡◌, ◌≢◌, ℕ, ◌⊎◌, List, [], ◌∷◌, ◌++◌, length, codes, decimal, true, false, Some, None}
 use Rattle.rand_core.specs.Stream.{Stream}
 use Rattle.crypt_core.specs.Crypt.{crypt}
-use Rattle.crypt_core.specs.Settings.{Kept, Spells}
+use Rattle.crypt_core.specs.Settings.{SettingValue, Spells}
 use Rattle.crypt_core.specs.Work.{cost, raised_by, work}
 use Rattle.prims_core.specs.Work.{no_work}
 use Rattle.prims_core.specs.declared.work.Work.{Work}
@@ -45,7 +45,7 @@ abbrev pub unhashed_answer : Job → List ℕ → List ℕ → Stream → Answer
 unhashed_answer job name verdict = printed (verdict_text job name verdict no_work) one_line []
 
 -- a verdict on a password, which is hashed by the stored setting
-abbrev pub compared_answer : Job → List ℕ → List ℕ → List ℕ → Kept → Tally → Stream → Answer
+abbrev pub compared_answer : Job → List ℕ → List ℕ → List ℕ → SettingValue → Tally → Stream → Answer
 compared_answer job name verdict password kept tally stream =
     printed (verdict_text job name verdict (work password kept)) tally (hashing password kept stream ∷ []) stream
 
@@ -54,7 +54,7 @@ abbrev pub new_hash_text : Job → List ℕ → Stream → List ℕ
 new_hash_text job password stream = colon ∷ crypt password (next_setting job.maker stream)
 
 -- a password that fits is hashed anew, by a setting that the job makes
-abbrev pub rehashed_answer : Job → List ℕ → List ℕ → Kept → Stream → Answer
+abbrev pub rehashed_answer : Job → List ℕ → List ℕ → SettingValue → Stream → Answer
 rehashed_answer job name password kept stream =
     let new = next_setting job.maker stream in
     let left = (words_for job.maker stream).1 in
@@ -68,7 +68,7 @@ pub record HasSoundParts (kind : Kind) (line : List ℕ) (parts : Parts) : Type 
   pub cut : HasParts kind line parts
 
 -- the same, with a field that spells a setting
-pub record HasSetting (kind : Kind) (line : List ℕ) (parts : Parts) (field : List ℕ) (kept : Kept) : Type 0 where
+pub record HasSetting (kind : Kind) (line : List ℕ) (parts : Parts) (field : List ℕ) (kept : SettingValue) : Type 0 where
   pub taken : HasSoundParts kind line parts
   pub has : parts.field ≡ Some field
   pub spells : Spells field kept
@@ -78,7 +78,7 @@ pub record HasSetting (kind : Kind) (line : List ℕ) (parts : Parts) (field : L
 abbrev pub HasCost : Job → Parts → Stream → ℕ → Type 0
 HasCost job parts stream number =
     ((parts.field ≡ None) × (number ≡ cost (next_setting job.maker stream) (length parts.password)))
-    ⊎ ((field : List ℕ) × (kept : Kept) × (parts.field ≡ Some field) × Spells field kept
+    ⊎ ((field : List ℕ) × (kept : SettingValue) × (parts.field ≡ Some field) × Spells field kept
     × (number ≡ check_cost job kept stream (length parts.password)))
 
 -- a line that breaks no rule, and costs more than the budget
@@ -110,17 +110,17 @@ pub data IsAnswer (kind : Kind) (job : Job) (number : ℕ) (line : List ℕ) (st
   locked : (parts : Parts) → (field : List ℕ) → HasSoundParts kind line parts → parts.field ≡ Some field → IsLocked field
       → answer ≡ unhashed_answer job parts.name (codes "locked") stream
       → IsAnswer kind job number line stream answer
-  ok : (parts : Parts) → (field : List ℕ) → (kept : Kept) → HasSetting kind line parts field kept
+  ok : (parts : Parts) → (field : List ℕ) → (kept : SettingValue) → HasSetting kind line parts field kept
       → ¬ IsCostly kind job line stream
       → crypt parts.password kept ≡ field → is_outdated job kept ≡ false
       → answer ≡ compared_answer job parts.name (codes "ok") parts.password kept one_line stream
       → IsAnswer kind job number line stream answer
-  rehashed : (parts : Parts) → (field : List ℕ) → (kept : Kept) → HasSetting kind line parts field kept
+  rehashed : (parts : Parts) → (field : List ℕ) → (kept : SettingValue) → HasSetting kind line parts field kept
       → ¬ IsCostly kind job line stream
       → crypt parts.password kept ≡ field → is_outdated job kept ≡ true
       → answer ≡ rehashed_answer job parts.name parts.password kept stream
       → IsAnswer kind job number line stream answer
-  no : (parts : Parts) → (field : List ℕ) → (kept : Kept) → HasSetting kind line parts field kept
+  no : (parts : Parts) → (field : List ℕ) → (kept : SettingValue) → HasSetting kind line parts field kept
       → ¬ IsCostly kind job line stream
       → crypt parts.password kept ≢ field
       → answer ≡ compared_answer job parts.name (codes "no") parts.password kept misfit_line stream

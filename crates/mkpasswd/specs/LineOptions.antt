@@ -2,7 +2,7 @@
 use Rattle.std.specs.Prelude.{◌≡◌, ℕ, ◌⊎◌, ◌↔◌, List, true, Some}
 use Rattle.rand_core.specs.Stream.{Stream}
 use Rattle.crypt_core.specs.Crypt.{crypt}
-use Rattle.crypt_core.specs.Settings.{Kept}
+use Rattle.crypt_core.specs.Settings.{SettingValue}
 use Rattle.mkpasswd.specs.Answers.{Answer}
 use Rattle.mkpasswd.specs.Budgets.{without_budget}
 use Rattle.mkpasswd.specs.LineAnswers.{HasSetting, IsAnswer, IsCostly, refused_answer}
@@ -31,7 +31,7 @@ pub record OnlyRefuses (kind : Kind) (job : Job) : Type 0 where
 pub record IsRenewable (kind : Kind) (job : Job) (line : List ℕ) (stream : Stream) : Type 0 where
   pub parts : Parts
   pub field : List ℕ
-  pub kept : Kept
+  pub kept : SettingValue
   pub stored : HasSetting kind line parts field kept
   pub outdated : is_outdated job kept ≡ true
   pub fits_or_costly : (crypt parts.password kept ≡ field) ⊎ IsCostly kind job line stream

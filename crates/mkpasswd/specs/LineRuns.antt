@@ -8,7 +8,7 @@ use Rattle.mkpasswd.specs.Devices.{MovesBytes}
 use Rattle.mkpasswd.specs.Input.{Reads}
 use Rattle.mkpasswd.specs.LineAnswers.{IsAnswer}
 use Rattle.mkpasswd.specs.Texts.{HasNoLineFeed, line_feed}
-use Rattle.mkpasswd.specs.Runs.{Finishes, Hands, IsCutShort, Tells}
+use Rattle.mkpasswd.specs.Runs.{Finishes, RunState, IsCutShort, DeviceBytes}
 use Rattle.mkpasswd.specs.Tallies.{both_tallies}
 use Rattle.mkpasswd.specs.declared.fault.RunFault.{RunFault}
 use Rattle.mkpasswd.specs.declared.fault.RunFault.TheVariants.{Read, Write, OutOfMemory, Turns, Password}
@@ -66,60 +66,60 @@ module _ {I O E : Type 0} where
   -- ---- where a run is
 
   -- nothing is left to read
-  abbrev pub IsReadOut : Tells I O E → Hands I O E → Type 0
-  IsReadOut tells new = IsAtEnd (tells.remaining new.input.inner)
+  abbrev pub IsReadOut : DeviceBytes I O E → RunState I O E → Type 0
+  IsReadOut device_bytes new = IsAtEnd (device_bytes.remaining new.input.inner)
 
   -- a line stands in front of what was read and isn't answered, with its line feed among the last bytes, as many as a piece has;
   -- or it is all of that, and the end of the input
-  abbrev pub IsNext : Tells I O E → Hands I O E → List ℕ → List ℕ → Type 0
-  IsNext tells new line rest =
+  abbrev pub IsNext : DeviceBytes I O E → RunState I O E → List ℕ → List ℕ → Type 0
+  IsNext device_bytes new line rest =
       ((behind : List ℕ) × (rest ≡ line ++ line_feed ∷ behind) × (length behind < piece_size))
-      ⊎ ((rest ≡ line) × (line ≢ []) × IsReadOut tells new)
+      ⊎ ((rest ≡ line) × (line ≢ []) × IsReadOut device_bytes new)
 
   -- ---- how it ends, where it has read these bytes
 
   -- All lines are answered.
-  abbrev pub EndsWhole : Tells I O E → Kind → Job → List ℕ → Hands I O E → Hands I O E → Result Tally RunFault → Type 0
-  EndsWhole tells kind job bytes old new result =
-      (answers : Answer) × IsReadOut tells new × AreAnswers kind job 1 (lines_of bytes) old.stream answers
-      × Finishes tells answers old new result
+  abbrev pub EndsWhole : DeviceBytes I O E → Kind → Job → List ℕ → RunState I O E → RunState I O E → Result Tally RunFault → Type 0
+  EndsWhole device_bytes kind job bytes old new result =
+      (answers : Answer) × IsReadOut device_bytes new × AreAnswers kind job 1 (lines_of bytes) old.stream answers
+      × Finishes device_bytes answers old new result
 
   -- The lines whose line feeds were read are answered, and more of the input was wanted. Each fetch that worked gave a
   -- byte, so the end of the input was not found.
-  abbrev pub EndsReading : Tells I O E → ℕ → Kind → Job → List ℕ → Hands I O E → Hands I O E → RunFault → Type 0
-  EndsReading tells turns kind job bytes old new fault =
+  abbrev pub EndsReading : DeviceBytes I O E → ℕ → Kind → Job → List ℕ → RunState I O E → RunState I O E → RunFault → Type 0
+  EndsReading device_bytes turns kind job bytes old new fault =
       (done : List (List ℕ)) × (rest : List ℕ) × (answers : Answer)
       × AreAnswered kind job old.stream bytes done rest answers × HasNoLineFeed rest × MovesBytes 0 old.input new.input
-      × IsCutShort tells turns answers (no_answer answers.stream) old new fault
+      × IsCutShort device_bytes turns answers (no_answer answers.stream) old new fault
 
   -- where the turns were over, some of these two answers is still to come
-  abbrev pub IsOwed : Answer → Answer → Hands I O E → Hands I O E → RunFault → Type 0
-  IsOwed done next old new Turns =
+  abbrev pub IsUnsent : Answer → Answer → RunState I O E → RunState I O E → RunFault → Type 0
+  IsUnsent done next old new Turns =
       new.out.bytes + new.faults.bytes
       < old.out.bytes + old.faults.bytes + length (done.text ++ next.text) + length (done.fault_text ++ next.fault_text)
-  IsOwed done next old new fault = ⊤
+  IsUnsent done next old new fault = ⊤
 
   -- Some lines are answered, and the next one was being answered.
-  abbrev pub EndsAnswering : Tells I O E → ℕ → Kind → Job → List ℕ → Hands I O E → Hands I O E → RunFault → Type 0
-  EndsAnswering tells turns kind job bytes old new fault =
+  abbrev pub EndsAnswering : DeviceBytes I O E → ℕ → Kind → Job → List ℕ → RunState I O E → RunState I O E → RunFault → Type 0
+  EndsAnswering device_bytes turns kind job bytes old new fault =
       (done : List (List ℕ)) × (line : List ℕ) × (rest : List ℕ) × (answers : Answer) × (next : Answer)
-      × AreAnswered kind job old.stream bytes done rest answers × HasNoLineFeed line × IsNext tells new line rest
+      × AreAnswered kind job old.stream bytes done rest answers × HasNoLineFeed line × IsNext device_bytes new line rest
       × IsAnswer kind job (length done + 1) line answers.stream next
-      × IsOwed answers next old new fault × IsCutShort tells turns answers next old new fault
+      × IsUnsent answers next old new fault × IsCutShort device_bytes turns answers next old new fault
 
   -- A read fails where more is wanted, a write where an answer is given, and a flush at the end of all; the turns end
   -- where more is wanted or an answer is given; memory is wanted for a hash.
-  abbrev pub EndsByLines : Tells I O E → ℕ → Kind → Job → List ℕ → Hands I O E → Hands I O E → Result Tally RunFault → Type 0
-  EndsByLines tells turns kind job bytes old new (Ok tally) = EndsWhole tells kind job bytes old new (Ok tally)
-  EndsByLines tells turns kind job bytes old new (Err Read) = EndsReading tells turns kind job bytes old new Read
-  EndsByLines tells turns kind job bytes old new (Err Write) =
-      EndsAnswering tells turns kind job bytes old new Write ⊎ EndsWhole tells kind job bytes old new (Err Write)
-  EndsByLines tells turns kind job bytes old new (Err Turns) =
-      EndsReading tells turns kind job bytes old new Turns ⊎ EndsAnswering tells turns kind job bytes old new Turns
-  EndsByLines tells turns kind job bytes old new (Err OutOfMemory) = EndsAnswering tells turns kind job bytes old new OutOfMemory
-  EndsByLines tells turns kind job bytes old new (Err (Password fault)) = ⊥
+  abbrev pub EndsByLines : DeviceBytes I O E → ℕ → Kind → Job → List ℕ → RunState I O E → RunState I O E → Result Tally RunFault → Type 0
+  EndsByLines device_bytes turns kind job bytes old new (Ok tally) = EndsWhole device_bytes kind job bytes old new (Ok tally)
+  EndsByLines device_bytes turns kind job bytes old new (Err Read) = EndsReading device_bytes turns kind job bytes old new Read
+  EndsByLines device_bytes turns kind job bytes old new (Err Write) =
+      EndsAnswering device_bytes turns kind job bytes old new Write ⊎ EndsWhole device_bytes kind job bytes old new (Err Write)
+  EndsByLines device_bytes turns kind job bytes old new (Err Turns) =
+      EndsReading device_bytes turns kind job bytes old new Turns ⊎ EndsAnswering device_bytes turns kind job bytes old new Turns
+  EndsByLines device_bytes turns kind job bytes old new (Err OutOfMemory) = EndsAnswering device_bytes turns kind job bytes old new OutOfMemory
+  EndsByLines device_bytes turns kind job bytes old new (Err (Password fault)) = ⊥
 
   -- the run over the lines of an input
-  abbrev pub EndsLines : Tells I O E → ℕ → Kind → Job → Hands I O E → Hands I O E → Result Tally RunFault → Type 0
-  EndsLines tells turns kind job old new result =
-      (bytes : List ℕ) × Reads tells.remaining old.input new.input bytes × EndsByLines tells turns kind job bytes old new result
+  abbrev pub EndsLines : DeviceBytes I O E → ℕ → Kind → Job → RunState I O E → RunState I O E → Result Tally RunFault → Type 0
+  EndsLines device_bytes turns kind job old new result =
+      (bytes : List ℕ) × Reads device_bytes.remaining old.input new.input bytes × EndsByLines device_bytes turns kind job bytes old new result

@@ -5,7 +5,7 @@ use Rattle.std.specs.Option.{option_map_or}
 use Rattle.rand_core.specs.Stream.{Stream}
 use Rattle.crypt_core.specs.MadeSalts.{three_words}
 use Rattle.crypt_core.specs.MadeSettings.{IsMakeable, IsMakeRefused, TakesCost, made_setting, with_made_salt}
-use Rattle.crypt_core.specs.Settings.{Kept}
+use Rattle.crypt_core.specs.Settings.{SettingValue}
 use Rattle.crypt_core.specs.declared.method.Method.{Method}
 use Rattle.crypt_core.specs.declared.setting.fault.MakeFault.{MakeFault}
 use Rattle.crypt_core.specs.declared.setting.fault.MakeFault.TheVariants.{Cost}
@@ -31,7 +31,7 @@ IsRecipeRefused method cost None fault = (fault ≡ Cost) × ¬ TakesCost method
 IsRecipeRefused method cost (Some salt) fault = IsMakeRefused method cost salt fault
 
 -- the setting: by the salt that was given, or by one made of the words
-abbrev pub setting_by : Recipe → List ℕ → Kept
+abbrev pub setting_by : Recipe → List ℕ → SettingValue
 setting_by recipe words =
     option_map_or (made_setting recipe.method recipe.cost) recipe.salt (with_made_salt recipe.method recipe.cost words)
 
@@ -41,5 +41,5 @@ abbrev pub words_for : Recipe → Stream → List ℕ × Stream
 words_for recipe stream = if is_some recipe.salt then ([], stream) else three_words stream
 
 -- the setting of the next hash
-abbrev pub next_setting : Recipe → Stream → Kept
+abbrev pub next_setting : Recipe → Stream → SettingValue
 next_setting recipe stream = setting_by recipe (words_for recipe stream).0

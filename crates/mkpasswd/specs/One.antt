@@ -4,7 +4,7 @@ use Rattle.crypt_core.specs.Passwords.{IsPassword, IsPasswordRefused}
 use Rattle.mkpasswd.specs.Answers.{no_answer, password_answer}
 use Rattle.mkpasswd.specs.Devices.{MovesBytes}
 use Rattle.mkpasswd.specs.Input.{first_line, IsDecided, IsUndecided, Reads}
-use Rattle.mkpasswd.specs.Runs.{Finishes, Hands, IsCutShort, Tells}
+use Rattle.mkpasswd.specs.Runs.{Finishes, RunState, IsCutShort, DeviceBytes}
 use Rattle.mkpasswd.specs.declared.fault.RunFault.{RunFault}
 use Rattle.mkpasswd.specs.declared.fault.RunFault.TheVariants.{Read, Write, OutOfMemory, Turns, Password}
 use Rattle.mkpasswd.specs.declared.job.Job.{Job}
@@ -15,43 +15,43 @@ use Rattle.mkpasswd.specs.declared.tally.Tally.{Tally}
 module _ {I O E : Type 0} where
   -- the password is these bytes, if they are one: they are tested before a word is drawn, and only then
   -- comes the answer
-  abbrev pub EndsBy : Tells I O E → ℕ → Job → List ℕ → Hands I O E → Hands I O E → Result Tally RunFault → Type 0
-  EndsBy tells turns job password old new (Ok tally) =
-      IsPassword password × Finishes tells (password_answer job password old.stream) old new (Ok tally)
-  EndsBy tells turns job password old new (Err Write) =
+  abbrev pub EndsBy : DeviceBytes I O E → ℕ → Job → List ℕ → RunState I O E → RunState I O E → Result Tally RunFault → Type 0
+  EndsBy device_bytes turns job password old new (Ok tally) =
+      IsPassword password × Finishes device_bytes (password_answer job password old.stream) old new (Ok tally)
+  EndsBy device_bytes turns job password old new (Err Write) =
       let answer = password_answer job password old.stream in
       IsPassword password
-      × (IsCutShort tells turns (no_answer old.stream) answer old new Write ⊎ Finishes tells answer old new (Err Write))
-  EndsBy tells turns job password old new (Err Turns) =
+      × (IsCutShort device_bytes turns (no_answer old.stream) answer old new Write ⊎ Finishes device_bytes answer old new (Err Write))
+  EndsBy device_bytes turns job password old new (Err Turns) =
       let answer = password_answer job password old.stream in
-      IsPassword password × IsCutShort tells turns (no_answer old.stream) answer old new Turns
+      IsPassword password × IsCutShort device_bytes turns (no_answer old.stream) answer old new Turns
       × (new.out.bytes < old.out.bytes + length answer.text)
-  EndsBy tells turns job password old new (Err OutOfMemory) =
-      IsPassword password × IsCutShort tells turns (no_answer old.stream) (password_answer job password old.stream) old new OutOfMemory
-  EndsBy tells turns job password old new (Err (Password fault)) =
+  EndsBy device_bytes turns job password old new (Err OutOfMemory) =
+      IsPassword password × IsCutShort device_bytes turns (no_answer old.stream) (password_answer job password old.stream) old new OutOfMemory
+  EndsBy device_bytes turns job password old new (Err (Password fault)) =
       let none = no_answer old.stream in
-      IsPasswordRefused password fault × IsCutShort tells turns none none old new (Password fault)
-  EndsBy tells turns job password old new (Err Read) = ⊥
+      IsPasswordRefused password fault × IsCutShort device_bytes turns none none old new (Password fault)
+  EndsBy device_bytes turns job password old new (Err Read) = ⊥
 
   -- nothing is answered or drawn, since a read failed or no turn was left before the password was known; each fetch that
   -- worked gave a byte, so the end of the input was not found
-  abbrev pub EndsUndecided : Tells I O E → ℕ → List ℕ → Hands I O E → Hands I O E → RunFault → Type 0
-  EndsUndecided tells turns bytes old new fault =
+  abbrev pub EndsUndecided : DeviceBytes I O E → ℕ → List ℕ → RunState I O E → RunState I O E → RunFault → Type 0
+  EndsUndecided device_bytes turns bytes old new fault =
       let none = no_answer old.stream in
-      IsUndecided bytes × MovesBytes 0 old.input new.input × IsCutShort tells turns none none old new fault
+      IsUndecided bytes × MovesBytes 0 old.input new.input × IsCutShort device_bytes turns none none old new fault
 
   -- the input gave these bytes, whose first line is the password
-  abbrev pub EndsByInput : Tells I O E → ℕ → Job → List ℕ → Hands I O E → Hands I O E → Result Tally RunFault → Type 0
-  EndsByInput tells turns job bytes old new (Err Read) = EndsUndecided tells turns bytes old new Read
-  EndsByInput tells turns job bytes old new (Err Turns) =
-      EndsUndecided tells turns bytes old new Turns
-      ⊎ (IsDecided tells.remaining new.input bytes × EndsBy tells turns job (first_line bytes) old new (Err Turns))
-  EndsByInput tells turns job bytes old new result =
-      IsDecided tells.remaining new.input bytes × EndsBy tells turns job (first_line bytes) old new result
+  abbrev pub EndsByInput : DeviceBytes I O E → ℕ → Job → List ℕ → RunState I O E → RunState I O E → Result Tally RunFault → Type 0
+  EndsByInput device_bytes turns job bytes old new (Err Read) = EndsUndecided device_bytes turns bytes old new Read
+  EndsByInput device_bytes turns job bytes old new (Err Turns) =
+      EndsUndecided device_bytes turns bytes old new Turns
+      ⊎ (IsDecided device_bytes.remaining new.input bytes × EndsBy device_bytes turns job (first_line bytes) old new (Err Turns))
+  EndsByInput device_bytes turns job bytes old new result =
+      IsDecided device_bytes.remaining new.input bytes × EndsBy device_bytes turns job (first_line bytes) old new result
 
   -- a word is the password itself, and the input is left alone
-  abbrev pub EndsOne : Tells I O E → ℕ → Job → PasswordFrom → Hands I O E → Hands I O E → Result Tally RunFault → Type 0
-  EndsOne tells turns job (Word bytes) old new result =
-      (new.input ≡ old.input) × EndsBy tells turns job bytes.items old new result
-  EndsOne tells turns job Input old new result =
-      (bytes : List ℕ) × Reads tells.remaining old.input new.input bytes × EndsByInput tells turns job bytes old new result
+  abbrev pub EndsOne : DeviceBytes I O E → ℕ → Job → PasswordFrom → RunState I O E → RunState I O E → Result Tally RunFault → Type 0
+  EndsOne device_bytes turns job (Word bytes) old new result =
+      (new.input ≡ old.input) × EndsBy device_bytes turns job bytes.items old new result
+  EndsOne device_bytes turns job Input old new result =
+      (bytes : List ℕ) × Reads device_bytes.remaining old.input new.input bytes × EndsByInput device_bytes turns job bytes old new result

@@ -7,5 +7,5 @@ pub mod Found
 pub mod LineEnds
 pub mod Made
 pub mod Progress
-pub mod Rooms
+pub mod Headroom
 pub mod Telling

@@ -9,7 +9,7 @@ ghost use Rattle.mkpasswd.specs.Answers.{Answer, count_text, counts_text, hash_t
 ghost use Rattle.mkpasswd.specs.LineAnswers.{IsAnswer, front_of, refused_answer};
 ghost use Rattle.mkpasswd.specs.Lines.{name_limit};
 ghost use Rattle.mkpasswd.specs.Private.Made.{Checks, IsRaisedBelow, Makes, Says};
-ghost use Rattle.mkpasswd.specs.Private.Rooms.{HasCountsForLine, answer_limit, count_limit, front_limit, line_work_limit, verdict_front_limit};
+ghost use Rattle.mkpasswd.specs.Private.Headroom.{HasCountsForLine, answer_limit, count_limit, front_limit, line_work_limit, verdict_front_limit};
 ghost use Rattle.mkpasswd.specs.Texts.{as_line, colon};
 
 mod verdict;

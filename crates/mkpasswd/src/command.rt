@@ -6,7 +6,7 @@ ghost use Rattle.mkpasswd.specs.Commands.{IsNoOption, IsTold, IsWhole, PrintsHas
 ghost use Rattle.mkpasswd.specs.Devices.{HasRoomWithinRun, HaveRoomBeforeRun, turns_limit};
 ghost use Rattle.mkpasswd.specs.Faults.{fault_status};
 ghost use Rattle.mkpasswd.specs.Private.Telling.{ErrorShown, RefusalShown, RunsOrLacks};
-ghost use Rattle.mkpasswd.specs.Runs.{HasCountsForRun, hands, tells};
+ghost use Rattle.mkpasswd.specs.Runs.{HasCountsForRun, run_state, device_bytes};
 
 use crate::device::{Input, Output};
 use crate::fault::{Fault, UsageFault};
@@ -56,24 +56,24 @@ pub fn run_command<I: Read, O: Write, E: Write, R: Rng>(
     requires turns { turns ≤ turns_limit }
     requires devices { HaveRoomBeforeRun input.old out.old faults.old }
     requires counts { HasCountsForRun meter.old }
-    ensures serves { Serves (tells I.remaining O.contents E.contents) turns (is_some generator.old) (map string_bytes words.now)
-        (hands input.old out.old faults.old (stream_in R.stream generator.old) meter.old)
-        (hands input.new out.new faults.new (stream_in R.stream generator.new) meter.new) result }
-    ensures whole { result ≡ 0 → IsWhole (tells I.remaining O.contents E.contents) (map string_bytes words.now)
-        (hands input.old out.old faults.old (stream_in R.stream generator.old) meter.old)
-        (hands input.new out.new faults.new (stream_in R.stream generator.new) meter.new) }
+    ensures serves { Serves (device_bytes I.remaining O.contents E.contents) turns (is_some generator.old) (map string_bytes words.now)
+        (run_state input.old out.old faults.old (stream_in R.stream generator.old) meter.old)
+        (run_state input.new out.new faults.new (stream_in R.stream generator.new) meter.new) result }
+    ensures whole { result ≡ 0 → IsWhole (device_bytes I.remaining O.contents E.contents) (map string_bytes words.now)
+        (run_state input.old out.old faults.old (stream_in R.stream generator.old) meter.old)
+        (run_state input.new out.new faults.new (stream_in R.stream generator.new) meter.new) }
     ensures prints { (name salt password : List ℕ) → (method : Method) → method_named name ≡ Some method
         → IsNoOption salt → IsNoOption password → map string_bytes words.now ≡ hash_words name salt password → result ≡ 0
-        → PrintsHash (tells I.remaining O.contents E.contents) method salt password
-        (hands input.old out.old faults.old (stream_in R.stream generator.old) meter.old)
-        (hands input.new out.new faults.new (stream_in R.stream generator.new) meter.new) }
+        → PrintsHash (device_bytes I.remaining O.contents E.contents) method salt password
+        (run_state input.old out.old faults.old (stream_in R.stream generator.old) meter.old)
+        (run_state input.new out.new faults.new (stream_in R.stream generator.new) meter.new) }
     ensures generator { is_some generator.new ≡ is_some generator.old }
 {
     match plan(alloc, words) {
         Ok(plan) => {
             match run_plan(alloc, &plan, input, out, faults, generator, meter, turns) {
                 Ok(tally) => tally.status(),
-                Err(fault) => tell(&fault, faults),
+                Err(fault) => report_fault(&fault, faults),
             }
         }
         Err(fault) => show_refusal(alloc, fault, out, faults, turns),
@@ -94,9 +94,9 @@ fn run_plan<I: Read, O: Write, E: Write, R: Rng>(
     requires turns { turns ≤ turns_limit }
     requires devices { HaveRoomBeforeRun input.old out.old faults.old }
     requires counts { HasCountsForRun meter.old }
-    ensures runs { RunsOrLacks (tells I.remaining O.contents E.contents) turns (is_some generator.old) plan.now
-        (hands input.old out.old faults.old (stream_in R.stream generator.old) meter.old)
-        (hands input.new out.new faults.new (stream_in R.stream generator.new) meter.new) result }
+    ensures runs { RunsOrLacks (device_bytes I.remaining O.contents E.contents) turns (is_some generator.old) plan.now
+        (run_state input.old out.old faults.old (stream_in R.stream generator.old) meter.old)
+        (run_state input.new out.new faults.new (stream_in R.stream generator.new) meter.new) result }
     ensures fault_room { HasRoomWithinRun faults.new }
     ensures generator { is_some generator.new ≡ is_some generator.old }
 {
@@ -134,7 +134,7 @@ fn show_refusal<O: Write, E: Write>(
         | UsageFault::TwoSalts
         | UsageFault::TwoModes
         | UsageFault::Make(_)
-        | UsageFault::OutOfMemory => tell(&Fault::Usage(fault), faults),
+        | UsageFault::OutOfMemory => report_fault(&Fault::Usage(fault), faults),
     }
 }
 
@@ -152,7 +152,7 @@ fn show_error<O: Write, E: Write>(
     ensures { ErrorShown O.contents E.contents error.now turns out.old faults.old out.new faults.new result }
 {
     let Ok(text) = format!(in alloc; "{error}") else {
-        return tell(&Fault::Usage(UsageFault::OutOfMemory), faults);
+        return report_fault(&Fault::Usage(UsageFault::OutOfMemory), faults);
     };
     if error.use_stderr() {
         let _ = show(faults, text.as_bytes(), turns);
@@ -160,7 +160,7 @@ fn show_error<O: Write, E: Write>(
     }
     match show(out, text.as_bytes(), turns) {
         Ok(()) => 0,
-        Err(fault) => tell(&Fault::Run(fault), faults),
+        Err(fault) => report_fault(&Fault::Run(fault), faults),
     }
 }
 
@@ -169,7 +169,7 @@ fn show_error<O: Write, E: Write>(
 /// that is left. After `Parse` TEXT is empty, since `clap` has the text.
 ///
 /// The output's numbers have to leave room for these calls, as they do behind a run.
-pub fn tell<E: Write>(fault: &Fault, faults: &mut Output<E>) -> u8
+pub fn report_fault<E: Write>(fault: &Fault, faults: &mut Output<E>) -> u8
     requires room { HasRoomWithinRun faults.old }
     ensures told { IsTold E.contents fault.now faults.old faults.new }
     ensures status { result ≡ fault_status fault.now }

@@ -104,7 +104,7 @@ pub(crate) fn entry_of(kind: Kind, line: &[u8]) -> Result<Entry<'_>, LineFault>
     ensures before_field { IfErr result IsBeforeField }
 {
     let (name, back) = name_of(line)?;
-    let Some((field, password)) = parts_behind(kind, back) else {
+    let Some((field, password)) = fields_after_name(kind, back) else {
         return Err(LineFault::NoPassword);
     };
     match Password::new(password) {
@@ -140,7 +140,7 @@ fn name_of(line: &[u8]) -> Result<(&[u8], Option<&[u8]>), LineFault>
 }
 
 // The field, which only a line to check has, and the password, in what follows the name's colon.
-fn parts_behind(kind: Kind, back: Option<&[u8]>) -> Option<(Option<&[u8]>, &[u8])>
+fn fields_after_name(kind: Kind, back: Option<&[u8]>) -> Option<(Option<&[u8]>, &[u8])>
     ensures { MatchOption result (LacksParts kind (bytes_of back.entry))
         (λ x. HasBehind kind (bytes_of back.entry) (bytes_of x.0) x.1.now) }
 {

@@ -4,10 +4,10 @@ ghost use Rattle.std.specs.Prelude.{◌≡◌, ℕ, ◌<◌, ◌≤◌, [], List
 ghost use Rattle.mkpasswd.specs.Devices.{HasRoomWithinRun, HaveRoomBeforeRun, MovesBytes, turns_limit};
 ghost use Rattle.mkpasswd.specs.LineOptions.{OnlyRefuses, OnlyRenews, RenewsNone};
 ghost use Rattle.mkpasswd.specs.LineRuns.{EndsLines};
-ghost use Rattle.mkpasswd.specs.Private.Desks.{IsSameDesk, seen, with_input};
+ghost use Rattle.mkpasswd.specs.Private.Desks.{IsSameDesk, state_of, with_input};
 ghost use Rattle.mkpasswd.specs.Private.LineEnds.{GoesOn, GoesToEnd, HasRoomToRead, IsAtInput, TakesTurnsOf, spare_fetch};
-ghost use Rattle.mkpasswd.specs.Private.Progress.{StandsFor};
-ghost use Rattle.mkpasswd.specs.Runs.{Hands, HasCountsForRun, IsWithinTurns, hands, tells};
+ghost use Rattle.mkpasswd.specs.Private.Progress.{Represents};
+ghost use Rattle.mkpasswd.specs.Runs.{RunState, HasCountsForRun, IsWithinTurns, run_state, device_bytes};
 ghost use Rattle.mkpasswd.specs.Tallies.{no_line};
 ghost use Rattle.mkpasswd.specs.declared.line.Kind.TheVariants.{Batch, Check};
 
@@ -72,12 +72,12 @@ pub fn run_batch<I: Read, O: Write, E: Write, R: Rng>(
     requires turns { turns ≤ turns_limit }
     requires devices { HaveRoomBeforeRun input.old out.old faults.old }
     requires counts { HasCountsForRun meter.old }
-    ensures ends { EndsLines (tells I.remaining O.contents E.contents) turns Batch job.now
-        (hands input.old out.old faults.old (R.stream rng.old) meter.old)
-        (hands input.new out.new faults.new (R.stream rng.new) meter.new) result }
+    ensures ends { EndsLines (device_bytes I.remaining O.contents E.contents) turns Batch job.now
+        (run_state input.old out.old faults.old (R.stream rng.old) meter.old)
+        (run_state input.new out.new faults.new (R.stream rng.new) meter.new) result }
     ensures within_turns { IsWithinTurns turns
-        (hands input.old out.old faults.old (R.stream rng.old) meter.old)
-        (hands input.new out.new faults.new (R.stream rng.new) meter.new) }
+        (run_state input.old out.old faults.old (R.stream rng.old) meter.old)
+        (run_state input.new out.new faults.new (R.stream rng.new) meter.new) }
     ensures fault_room { HasRoomWithinRun faults.new }
     ensures budget { OnlyRefuses Batch job.now }
     ensures rehash { RenewsNone Batch job.now }
@@ -115,12 +115,12 @@ pub fn run_check<I: Read, O: Write, E: Write, R: Rng>(
     requires turns { turns ≤ turns_limit }
     requires devices { HaveRoomBeforeRun input.old out.old faults.old }
     requires counts { HasCountsForRun meter.old }
-    ensures ends { EndsLines (tells I.remaining O.contents E.contents) turns Check job.now
-        (hands input.old out.old faults.old (R.stream rng.old) meter.old)
-        (hands input.new out.new faults.new (R.stream rng.new) meter.new) result }
+    ensures ends { EndsLines (device_bytes I.remaining O.contents E.contents) turns Check job.now
+        (run_state input.old out.old faults.old (R.stream rng.old) meter.old)
+        (run_state input.new out.new faults.new (R.stream rng.new) meter.new) result }
     ensures within_turns { IsWithinTurns turns
-        (hands input.old out.old faults.old (R.stream rng.old) meter.old)
-        (hands input.new out.new faults.new (R.stream rng.new) meter.new) }
+        (run_state input.old out.old faults.old (R.stream rng.old) meter.old)
+        (run_state input.new out.new faults.new (R.stream rng.new) meter.new) }
     ensures fault_room { HasRoomWithinRun faults.new }
     ensures budget { OnlyRefuses Check job.now }
     ensures rehash { OnlyRenews Check job.now }
@@ -140,10 +140,10 @@ fn run_lines<I: Read, O: Write, E: Write, R: Rng>(
     requires turns { turns ≤ turns_limit }
     requires devices { HaveRoomBeforeRun input.old desk.old.out.now desk.old.faults.now }
     requires counts { HasCountsForRun desk.old.meter.now }
-    ensures ends { EndsLines (tells I.remaining O.contents E.contents) turns task.entry.kind task.entry.job.now
-        (with_input input.old (seen R.stream desk.old)) (with_input input.new (seen R.stream desk.new)) result }
+    ensures ends { EndsLines (device_bytes I.remaining O.contents E.contents) turns task.entry.kind task.entry.job.now
+        (with_input input.old (state_of R.stream desk.old)) (with_input input.new (state_of R.stream desk.new)) result }
     ensures within_turns { IsWithinTurns turns
-        (with_input input.old (seen R.stream desk.old)) (with_input input.new (seen R.stream desk.new)) }
+        (with_input input.old (state_of R.stream desk.old)) (with_input input.new (state_of R.stream desk.new)) }
     ensures fault_room { HasRoomWithinRun desk.new.faults.now }
     ensures same { IsSameDesk desk.old desk.new }
 {
@@ -161,14 +161,14 @@ fn read_all<I: Read, O: Write, E: Write, R: Rng>(
     desk: &mut Desk<O, E, R>,
     progress: &mut Progress,
 ) -> Result<(), RunFault>
-    requires none_held { StandsFor progress.old.held [] }
+    requires none_held { Represents progress.old.held [] }
     requires no_line { progress.old.tally ≡ no_line }
-    requires room { HasRoomToRead progress.old (with_input input.old (seen R.stream desk.old)) }
-    ensures goes { GoesToEnd (tells I.remaining O.contents E.contents) progress.old.left task.entry.kind task.entry.job.now
-        (with_input input.old (seen R.stream desk.old)) (with_input input.new (seen R.stream desk.new)) progress.new result }
-    ensures room { OnOk result (HasRoomToRead progress.new (with_input input.new (seen R.stream desk.new))) }
+    requires room { HasRoomToRead progress.old (with_input input.old (state_of R.stream desk.old)) }
+    ensures goes { GoesToEnd (device_bytes I.remaining O.contents E.contents) progress.old.left task.entry.kind task.entry.job.now
+        (with_input input.old (state_of R.stream desk.old)) (with_input input.new (state_of R.stream desk.new)) progress.new result }
+    ensures room { OnOk result (HasRoomToRead progress.new (with_input input.new (state_of R.stream desk.new))) }
     ensures turns { TakesTurnsOf 1 progress.old.left progress.new.left
-        (with_input input.old (seen R.stream desk.old)) (with_input input.new (seen R.stream desk.new)) }
+        (with_input input.old (state_of R.stream desk.old)) (with_input input.new (state_of R.stream desk.new)) }
     ensures fault_room { HasRoomWithinRun desk.new.faults.now }
     ensures same { IsSameDesk desk.old desk.new }
 {
@@ -186,17 +186,17 @@ fn read_piece<I: Read, O: Write, E: Write, R: Rng>(
     desk: &mut Desk<O, E, R>,
     progress: &mut Progress,
 ) -> Result<bool, RunFault>
-    requires room { HasRoomToRead progress.old (with_input input.old (seen R.stream desk.old)) }
-    ensures goes { (start : Hands I O E) → (turns : ℕ) → (bytes : List ℕ)
-        → IsAtInput (tells I.remaining O.contents E.contents) turns task.entry.kind task.entry.job.now start
-        (with_input input.old (seen R.stream desk.old)) bytes progress.old
+    requires room { HasRoomToRead progress.old (with_input input.old (state_of R.stream desk.old)) }
+    ensures goes { (start : RunState I O E) → (turns : ℕ) → (bytes : List ℕ)
+        → IsAtInput (device_bytes I.remaining O.contents E.contents) turns task.entry.kind task.entry.job.now start
+        (with_input input.old (state_of R.stream desk.old)) bytes progress.old
         → MovesBytes 0 start.input input.old
-        → GoesOn (tells I.remaining O.contents E.contents) turns task.entry.kind task.entry.job.now start
-        (with_input input.new (seen R.stream desk.new)) progress.new result }
-    ensures room { OnOk result (HasRoomToRead progress.new (with_input input.new (seen R.stream desk.new))) }
+        → GoesOn (device_bytes I.remaining O.contents E.contents) turns task.entry.kind task.entry.job.now start
+        (with_input input.new (state_of R.stream desk.new)) progress.new result }
+    ensures room { OnOk result (HasRoomToRead progress.new (with_input input.new (state_of R.stream desk.new))) }
     ensures fewer { OnOk result (progress.new.left < progress.old.left) }
     ensures turns { TakesTurnsOf (spare_fetch result) progress.old.left progress.new.left
-        (with_input input.old (seen R.stream desk.old)) (with_input input.new (seen R.stream desk.new)) }
+        (with_input input.old (state_of R.stream desk.old)) (with_input input.new (state_of R.stream desk.new)) }
     ensures fault_room { HasRoomWithinRun desk.new.faults.now }
     ensures same { IsSameDesk desk.old desk.new }
 {
@@ -205,7 +205,7 @@ fn read_piece<I: Read, O: Write, E: Write, R: Rng>(
     if count == 0 {
         return Ok(false);
     }
-    progress.look_through(task, &piece[..count], desk)?;
+    progress.answer_lines_in(task, &piece[..count], desk)?;
     Ok(true)
 }
 

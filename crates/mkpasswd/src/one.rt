@@ -6,7 +6,7 @@ ghost use Rattle.mkpasswd.specs.Devices.{HasRoomBeforeRun, HasRoomWithinRun, Hav
 ghost use Rattle.mkpasswd.specs.One.{EndsOne};
 ghost use Rattle.mkpasswd.specs.Private.Fetching.{ObtainsFrom};
 ghost use Rattle.mkpasswd.specs.Rehashes.{without_rehash};
-ghost use Rattle.mkpasswd.specs.Runs.{hands, tells, HasCountsForRun, IsWithinTurns};
+ghost use Rattle.mkpasswd.specs.Runs.{run_state, device_bytes, HasCountsForRun, IsWithinTurns};
 
 mod password;
 
@@ -58,15 +58,15 @@ pub fn run_one<I: Read, O: Write, E: Write, R: Rng>(
     requires turns { turns ≤ turns_limit }
     requires devices { HaveRoomBeforeRun input.old out.old faults.old }
     requires counts { HasCountsForRun meter.old }
-    ensures ends { EndsOne (tells I.remaining O.contents E.contents) turns job.now from.now
-        (hands input.old out.old faults.old (R.stream rng.old) meter.old)
-        (hands input.new out.new faults.new (R.stream rng.new) meter.new) result }
-    ensures options { EndsOne (tells I.remaining O.contents E.contents) turns (without_rehash (without_budget job.now)) from.now
-        (hands input.old out.old faults.old (R.stream rng.old) meter.old)
-        (hands input.new out.new faults.new (R.stream rng.new) meter.new) result }
+    ensures ends { EndsOne (device_bytes I.remaining O.contents E.contents) turns job.now from.now
+        (run_state input.old out.old faults.old (R.stream rng.old) meter.old)
+        (run_state input.new out.new faults.new (R.stream rng.new) meter.new) result }
+    ensures options { EndsOne (device_bytes I.remaining O.contents E.contents) turns (without_rehash (without_budget job.now)) from.now
+        (run_state input.old out.old faults.old (R.stream rng.old) meter.old)
+        (run_state input.new out.new faults.new (R.stream rng.new) meter.new) result }
     ensures within_turns { IsWithinTurns turns
-        (hands input.old out.old faults.old (R.stream rng.old) meter.old)
-        (hands input.new out.new faults.new (R.stream rng.new) meter.new) }
+        (run_state input.old out.old faults.old (R.stream rng.old) meter.old)
+        (run_state input.new out.new faults.new (R.stream rng.new) meter.new) }
     ensures fault_room { HasRoomWithinRun faults.new }
 {
     let mut left = turns;

@@ -28,7 +28,7 @@ const AFTER_HELP: &str = "A password that begins with '-' is handed in by --stdi
 
 // The values of the options and words.
 #[derive(Clone, Copy)]
-struct Given<'a> {
+struct Arguments<'a> {
     method: Option<&'a str>,
     salt: Option<&'a str>,
     salt_word: Option<&'a str>,
@@ -89,13 +89,13 @@ pub fn plan(alloc: Global, words: &[String]) -> Result<Plan, UsageFault>
 }
 
 // Reads the words by the command. An error is `clap`'s own; where memory runs out, its kind says so.
-fn read_words<'a>(alloc: Global, words: &'a [String]) -> Result<Given<'a>, clap::Error>
+fn read_words<'a>(alloc: Global, words: &'a [String]) -> Result<Arguments<'a>, clap::Error>
     ensures ok { IfOk result (λ given. Gives (map string_bytes words.entry.now) (values_of given)) }
     ensures err { IfErr result (λ error. kind_of error ≢ ErrorKind.OutOfMemory
         → Refuses (map string_bytes words.entry.now) error) }
 {
     let matches = command(alloc)?.try_get_matches_from(words)?;
-    Ok(Given {
+    Ok(Arguments {
         method: matches.get_str("method"),
         salt: matches.get_str("salt"),
         salt_word: matches.get_str("salt-word"),
@@ -119,7 +119,7 @@ fn is_set(matches: &ArgMatches<'_>, id: &str) -> bool
 }
 
 // The method that TYPE names, or `None` where it asks for the list of methods.
-fn one_method(given: &Given<'_>) -> Result<Option<Method>, UsageFault>
+fn one_method(given: &Arguments<'_>) -> Result<Option<Method>, UsageFault>
     ensures known { IfOk result (λ method.
         MatchOption method (AsksForMethods (values_of given.now)) (Names (values_of given.now))) }
     ensures unknown { IfErr result (λ fault. (fault ≡ UsageFault.Method)
@@ -136,7 +136,7 @@ fn one_method(given: &Given<'_>) -> Result<Option<Method>, UsageFault>
 }
 
 // The salt that was given, in one of the two ways at most.
-fn one_salt<'a>(given: &Given<'a>) -> Result<Option<&'a [u8]>, UsageFault>
+fn one_salt<'a>(given: &Arguments<'a>) -> Result<Option<&'a [u8]>, UsageFault>
     ensures once { IfOk result (λ salt. ¬ HasTwoSalts (values_of given.now)
         × (bytes_of salt ≡ given_salt (values_of given.now))) }
     ensures twice { IfErr result (λ fault. (fault ≡ UsageFault.TwoSalts)
@@ -150,7 +150,7 @@ fn one_salt<'a>(given: &Given<'a>) -> Result<Option<&'a [u8]>, UsageFault>
 }
 
 // The mode that was asked for, or the input where none was.
-fn one_mode<'a>(given: &Given<'a>) -> Result<Mode<'a>, UsageFault>
+fn one_mode<'a>(given: &Arguments<'a>) -> Result<Mode<'a>, UsageFault>
     ensures one { IfOk result (λ mode. (length (modes_of (values_of given.now)) ≤ 1)
         × (mode_of mode ≡ slice_index_or (modes_of (values_of given.now)) 0 input)) }
     ensures more { IfErr result (λ fault. (fault ≡ UsageFault.TwoModes)

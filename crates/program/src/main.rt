@@ -2,7 +2,7 @@
 //! an exit status. All else is the library's.
 #![tactic(auto)]
 
-use mkpasswd::command::{run_command, tell};
+use mkpasswd::command::{report_fault, run_command};
 use mkpasswd::device::{Input, Output};
 use mkpasswd::fault::Fault;
 use prims_core::meter::Meter;
@@ -30,7 +30,7 @@ fn main(rt: HostRuntime) -> ExitCode {
                 TURNS,
             )
         }
-        Err(fault) => tell(&fault, &mut faults),
+        Err(fault) => report_fault(&fault, &mut faults),
     };
     ExitCode::from(status)
 }

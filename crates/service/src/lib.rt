@@ -4,7 +4,7 @@
 ghost use Rattle.std.specs.Prelude.{◌≤◌, ◌↔◌, IfErr, IfOk, IsTrue};
 ghost use Rattle.crypt_core.specs.Passwords.{password_limit};
 ghost use Rattle.crypt_core.specs.Refusals.{IsRefused};
-ghost use Rattle.crypt_core.specs.Settings.{Kept, Spells};
+ghost use Rattle.crypt_core.specs.Settings.{SettingValue, Spells};
 ghost use Rattle.service.specs.Limits.{IsAffordable};
 
 use crypt_core::setting::{Setting, SettingFault};
@@ -14,7 +14,7 @@ use crypt_core::work::{bound, cost};
 /// within 64 MiB of table and 16 KiB of scratch memory.
 pub fn is_affordable(stored: &[u8], password_len: usize) -> Result<bool, SettingFault>
     requires { password_len ≤ password_limit }
-    ensures told { IfOk result (λ answer. (kept : Kept) × Spells stored.now kept
+    ensures told { IfOk result (λ answer. (kept : SettingValue) × Spells stored.now kept
         × (IsTrue answer ↔ IsAffordable kept password_len)) }
     ensures refused { IfErr result (IsRefused stored.now) }
 {

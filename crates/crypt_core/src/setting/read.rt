@@ -11,7 +11,7 @@ ghost use Rattle.crypt_core.specs.Methods.{prefix};
 ghost use Rattle.crypt_core.specs.Private.Parts.{AllRefused, HasField, HasNumber, HasNumbers, HasRounds, HasSalt, LacksSalt};
 ghost use Rattle.crypt_core.specs.Readings.{IsReadOneWay};
 ghost use Rattle.crypt_core.specs.Refusals.{IsRefused, IsShaText, LacksCost, LacksNumber};
-ghost use Rattle.crypt_core.specs.Settings.{Kept, IsSettingByte, IsSettingText, dollar, max_rounds, BeginsWith, IsRoundsNumber, scrypt_part_len, IsScryptSalt, SpellsScheme, Spells};
+ghost use Rattle.crypt_core.specs.Settings.{SettingValue, IsSettingByte, IsSettingText, dollar, max_rounds, BeginsWith, IsRoundsNumber, scrypt_part_len, IsScryptSalt, SpellsScheme, Spells};
 
 use super::fault::SettingFault;
 use super::salt::in_alphabet;
@@ -30,7 +30,7 @@ impl Setting {
     /// text is the setting of its hash.
     pub fn read(text: &[u8]) -> Result<Setting, SettingFault>
         ensures spelled { IfOk result (Spells text.now) }
-        ensures each_setting { (kept : Kept) → Spells text.now kept → result ≡ Ok kept }
+        ensures each_setting { (kept : SettingValue) → Spells text.now kept → result ≡ Ok kept }
 
         ensures refused { IfErr result (IsRefused text.now) }
         ensures each_refusal { (fault : Refusal) → IsRefused text.now fault → result ≡ Err fault }

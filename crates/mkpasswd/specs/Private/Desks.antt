@@ -3,19 +3,19 @@ use Rattle.std.specs.Prelude.{◌≡◌, ℕ, ◌+◌, ◌≤◌}
 use Rattle.rand_core.specs.Stream.{Stream}
 use Rattle.prims_core.specs.declared.work.Work.{Work}
 use Rattle.mkpasswd.specs.Devices.{Device, MovesBytes}
-use Rattle.mkpasswd.specs.Runs.{Hands, hands}
+use Rattle.mkpasswd.specs.Runs.{RunState, run_state}
 use Rattle.mkpasswd.specs.declared.desk.Desk.{Desk}
 
 -- what they are
-pub record Outs (O E : Type 0) : Type 0 where
+pub record OutputState (O E : Type 0) : Type 0 where
   pub out : Device O
   pub faults : Device E
   pub stream : Stream
   pub counts : Work
 
 module _ {O E R : Type 0} where
-  abbrev pub seen : (R → Stream) → Desk O E R → Outs O E
-  seen stream desk =
+  abbrev pub state_of : (R → Stream) → Desk O E R → OutputState O E
+  state_of stream desk =
       record { out = desk.out.now; faults = desk.faults.now; stream = stream desk.rng.now; counts = desk.meter.now }
 
   -- a desk holds the same references as before
@@ -27,15 +27,15 @@ module _ {O E R : Type 0} where
 
 module _ {I O E : Type 0} where
   -- with the input, and without it
-  abbrev pub with_input : Device I → Outs O E → Hands I O E
-  with_input input outs = hands input outs.out outs.faults outs.stream outs.counts
+  abbrev pub with_input : Device I → OutputState O E → RunState I O E
+  with_input input outs = run_state input outs.out outs.faults outs.stream outs.counts
 
-  abbrev pub outs_of : Hands I O E → Outs O E
-  outs_of now = record { out = now.out; faults = now.faults; stream = now.stream; counts = now.counts }
+  abbrev pub output_state_of : RunState I O E → OutputState O E
+  output_state_of now = record { out = now.out; faults = now.faults; stream = now.stream; counts = now.counts }
 
 module _ {O E : Type 0} where
   -- each call of the outputs took one of the turns, and moved a byte or failed
-  pub record TakesTurns (left new_left : ℕ) (old new : Outs O E) : Type 0 where
+  pub record TakesTurns (left new_left : ℕ) (old new : OutputState O E) : Type 0 where
     pub turns : new.out.calls + new.faults.calls + new_left ≡ old.out.calls + old.faults.calls + left
     pub fewer : new_left ≤ left
     pub out_moves : MovesBytes 0 old.out new.out

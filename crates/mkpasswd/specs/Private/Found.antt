@@ -1,11 +1,11 @@
 -- What the program keeps of the matches, beside the values that they stand for.
 use Rattle.mkpasswd.specs.Makers.{bytes_of}
 use Rattle.mkpasswd.specs.Options.{Mode, Values, input, lines, word}
-use Rattle.mkpasswd.specs.declared.options.Given.{Given}
+use Rattle.mkpasswd.specs.declared.options.Arguments.{Arguments}
 use Rattle.mkpasswd.specs.declared.options.Mode.{Mode as KeptMode}
 use Rattle.mkpasswd.specs.declared.options.Mode.TheVariants as kept
 
-abbrev pub values_of : Given → Values
+abbrev pub values_of : Arguments → Values
 values_of given = record {
   method = bytes_of given.method;
   salt = bytes_of given.salt;

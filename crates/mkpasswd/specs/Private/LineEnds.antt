@@ -4,9 +4,9 @@ use Rattle.mkpasswd.specs.Answers.{Answer}
 use Rattle.mkpasswd.specs.Devices.{IsUnfailed, MovesBytes, calls_limit}
 use Rattle.mkpasswd.specs.Input.{Reads}
 use Rattle.mkpasswd.specs.LineRuns.{AreAnswers, EndsLines, IsReadOut, lines_of, piece_size}
-use Rattle.mkpasswd.specs.Private.Desks.{Outs, outs_of}
+use Rattle.mkpasswd.specs.Private.Desks.{OutputState, output_state_of}
 use Rattle.mkpasswd.specs.Private.Progress.{AreGiven, HasRoomToAnswer, IsAt, IsCutAt}
-use Rattle.mkpasswd.specs.Runs.{Hands, Tells, calls_of}
+use Rattle.mkpasswd.specs.Runs.{RunState, DeviceBytes, calls_of}
 use Rattle.mkpasswd.specs.declared.fault.RunFault.{RunFault}
 use Rattle.mkpasswd.specs.declared.job.Job.{Job}
 use Rattle.mkpasswd.specs.declared.line.Kind.{Kind}
@@ -22,14 +22,14 @@ spare_fetch (Err fault) = 0
 module _ {O E : Type 0} where
   -- all lines in these bytes are answered
   pub record IsAllAnswered (contents : O → Option (List ℕ)) (fault_contents : E → Option (List ℕ)) (kind : Kind) (job : Job)
-      (start now : Outs O E) (bytes : List ℕ) (tally : Tally) : Type 0 where
+      (start now : OutputState O E) (bytes : List ℕ) (tally : Tally) : Type 0 where
     pub answers : Answer
     pub are : AreAnswers kind job 1 (lines_of bytes) start.stream answers
     pub tally_is : tally ≡ answers.tally
     pub given : AreGiven contents fault_contents answers start now
 
   -- the last line is answered, where that has no line feed
-  abbrev pub AnswersLast : (O → Option (List ℕ)) → (E → Option (List ℕ)) → Kind → Job → Outs O E → Outs O E → List ℕ → Progress → {A : Type 0} → Result A RunFault → Type 0
+  abbrev pub AnswersLast : (O → Option (List ℕ)) → (E → Option (List ℕ)) → Kind → Job → OutputState O E → OutputState O E → List ℕ → Progress → {A : Type 0} → Result A RunFault → Type 0
   AnswersLast contents fault_contents kind job start new bytes progress (Ok done) =
       IsAllAnswered contents fault_contents kind job start new bytes progress.tally
   AnswersLast contents fault_contents kind job start new bytes progress (Err fault) =
@@ -37,15 +37,15 @@ module _ {O E : Type 0} where
 
 module _ {I O E : Type 0} where
   -- room for as many fetches as turns are left, and for the answers to all lines that they can give
-  pub record HasRoomToRead (progress : Progress) (now : Hands I O E) : Type 0 where
+  pub record HasRoomToRead (progress : Progress) (now : RunState I O E) : Type 0 where
     pub failures : now.input.failures ≤ 2 ^ 62
     pub bytes : now.input.bytes + piece_size * progress.left ≤ 2 ^ 62 + 2 ^ 49
     pub calls : calls_of now + progress.left ≤ 2 ^ 62 + calls_limit
     pub lines : progress.tally.lines + piece_size * progress.left ≤ 2 ^ 49
-    pub outs : HasRoomToAnswer 1 progress (outs_of now)
+    pub outs : HasRoomToAnswer 1 progress (output_state_of now)
 
   -- each call took one of the turns, and moved a byte or failed, but for so many of the input
-  pub record TakesTurnsOf (spare left new_left : ℕ) (old new : Hands I O E) : Type 0 where
+  pub record TakesTurnsOf (spare left new_left : ℕ) (old new : RunState I O E) : Type 0 where
     pub turns : calls_of new + new_left ≡ calls_of old + left
     pub input_moves : MovesBytes spare old.input new.input
     pub out_moves : MovesBytes 0 old.out new.out
@@ -53,25 +53,25 @@ module _ {I O E : Type 0} where
 
   -- These bytes were read. Of them the lines with a line feed are answered, and nothing failed; what follows
   -- them is held.
-  pub record IsAtInput (tells : Tells I O E) (turns : ℕ) (kind : Kind) (job : Job) (start now : Hands I O E)
+  pub record IsAtInput (device_bytes : DeviceBytes I O E) (turns : ℕ) (kind : Kind) (job : Job) (start now : RunState I O E)
       (bytes : List ℕ) (progress : Progress) : Type 0 where
-    pub reads : Reads tells.remaining start.input now.input bytes
+    pub reads : Reads device_bytes.remaining start.input now.input bytes
     pub unfailed : IsUnfailed start.input now.input
     pub calls : calls_of now + progress.left ≡ calls_of start + turns
-    pub answered : IsAt tells.contents tells.fault_contents kind job (outs_of start) (outs_of now) bytes progress
+    pub answered : IsAt device_bytes.contents device_bytes.fault_contents kind job (output_state_of start) (output_state_of now) bytes progress
 
   -- ---- steps
 
   -- one fetch, and the answers to the lines that end in what it gave; or the run is over
-  abbrev pub GoesOn : Tells I O E → ℕ → Kind → Job → Hands I O E → Hands I O E → Progress → Result Bool RunFault → Type 0
-  GoesOn tells turns kind job start new progress (Ok true) =
-      (bytes : List ℕ) × IsAtInput tells turns kind job start new bytes progress
-  GoesOn tells turns kind job start new progress (Ok false) =
-      (bytes : List ℕ) × IsAtInput tells turns kind job start new bytes progress × IsReadOut tells new
-  GoesOn tells turns kind job start new progress (Err fault) = EndsLines tells turns kind job start new (Err fault)
+  abbrev pub GoesOn : DeviceBytes I O E → ℕ → Kind → Job → RunState I O E → RunState I O E → Progress → Result Bool RunFault → Type 0
+  GoesOn device_bytes turns kind job start new progress (Ok true) =
+      (bytes : List ℕ) × IsAtInput device_bytes turns kind job start new bytes progress
+  GoesOn device_bytes turns kind job start new progress (Ok false) =
+      (bytes : List ℕ) × IsAtInput device_bytes turns kind job start new bytes progress × IsReadOut device_bytes new
+  GoesOn device_bytes turns kind job start new progress (Err fault) = EndsLines device_bytes turns kind job start new (Err fault)
 
   -- the fetches to the end of the input
-  abbrev pub GoesToEnd : Tells I O E → ℕ → Kind → Job → Hands I O E → Hands I O E → Progress → {A : Type 0} → Result A RunFault → Type 0
-  GoesToEnd tells turns kind job start new progress (Ok done) =
-      (bytes : List ℕ) × IsAtInput tells turns kind job start new bytes progress × IsReadOut tells new
-  GoesToEnd tells turns kind job start new progress (Err fault) = EndsLines tells turns kind job start new (Err fault)
+  abbrev pub GoesToEnd : DeviceBytes I O E → ℕ → Kind → Job → RunState I O E → RunState I O E → Progress → {A : Type 0} → Result A RunFault → Type 0
+  GoesToEnd device_bytes turns kind job start new progress (Ok done) =
+      (bytes : List ℕ) × IsAtInput device_bytes turns kind job start new bytes progress × IsReadOut device_bytes new
+  GoesToEnd device_bytes turns kind job start new progress (Err fault) = EndsLines device_bytes turns kind job start new (Err fault)

@@ -2,7 +2,7 @@
 use Rattle.std.specs.Prelude.{◌≡◌, ◌≢◌, ℕ, ◌+◌, ◌-◌, ◌<◌, ◌⊎◌, Bool, true, false, List, [], ◌++◌, length, codes, if◌then◌else◌, MatchBool, Result, Ok, Err}
 use Rattle.rand_core.specs.Stream.{Stream}
 use Rattle.crypt_core.specs.Crypt.{crypt, IsAfterRefusedGrowth}
-use Rattle.crypt_core.specs.Settings.{Kept, Spells}
+use Rattle.crypt_core.specs.Settings.{SettingValue, Spells}
 use Rattle.crypt_core.specs.Work.{raised_by, work}
 use Rattle.crypt_core.specs.declared.fits.FitFault.{FitFault}
 use Rattle.crypt_core.specs.declared.fits.FitFault.TheVariants.{Setting as NoSetting, OutOfMemory as NoMemory}
@@ -89,10 +89,10 @@ is_outdated_verdict verdict = false
 -- a setting that the field spells costs no more than the budget, whatever the stream is
 abbrev pub IsWithinBudget : Job → List ℕ → List ℕ → Type 0
 IsWithinBudget job field password =
-    (kept : Kept) → Spells field kept → (stream : Stream) → ¬ IsAbove job.budget (check_cost job kept stream (length password))
+    (kept : SettingValue) → Spells field kept → (stream : Stream) → ¬ IsAbove job.budget (check_cost job kept stream (length password))
 
 -- the hash of the password by a setting that the field spells was made, and the setting is out of date or isn't
-pub record IsCompared (job : Job) (field password : List ℕ) (before after : Work) (kept : Kept) (outdated : Bool) : Type 0 where
+pub record IsCompared (job : Job) (field password : List ℕ) (before after : Work) (kept : SettingValue) (outdated : Bool) : Type 0 where
   pub spells : Spells field kept
   pub within : IsWithinBudget job field password
   pub counts : after ≡ raised_by before (work password kept)
@@ -103,11 +103,11 @@ abbrev pub IsVerdict : Job → List ℕ → List ℕ → Work → Work → Verdi
 IsVerdict job field password before after NoneStored = (field ≡ []) × (after ≡ before)
 IsVerdict job field password before after Locked = IsLocked field × (after ≡ before)
 IsVerdict job field password before after Fits =
-    (kept : Kept) × IsCompared job field password before after kept false × (crypt password kept ≡ field)
+    (kept : SettingValue) × IsCompared job field password before after kept false × (crypt password kept ≡ field)
 IsVerdict job field password before after Outdated =
-    (kept : Kept) × IsCompared job field password before after kept true × (crypt password kept ≡ field)
+    (kept : SettingValue) × IsCompared job field password before after kept true × (crypt password kept ≡ field)
 IsVerdict job field password before after Differs =
-    (kept : Kept) × (outdated : Bool) × IsCompared job field password before after kept outdated × (crypt password kept ≢ field)
+    (kept : SettingValue) × (outdated : Bool) × IsCompared job field password before after kept outdated × (crypt password kept ≢ field)
 
 -- what stops `fits` stops the verdict
 abbrev pub no_verdict_of : FitFault → NoVerdict
@@ -117,7 +117,7 @@ no_verdict_of NoMemory = OutOfMemory
 -- why a field gets no verdict: it has to be a stored text, and is refused as one, or costs more than the budget
 abbrev pub IsRefusedField : Job → List ℕ → List ℕ → LineFault → Type 0
 IsRefusedField job field password (Setting fault) = IsFieldRefused field fault
-IsRefusedField job field password OverBudget = IsGoodField field × (kept : Kept) × Spells field kept
+IsRefusedField job field password OverBudget = IsGoodField field × (kept : SettingValue) × Spells field kept
     × ((stream : Stream) → IsAbove job.budget (check_cost job kept stream (length password)))
 IsRefusedField job field password fault = ⊥
 
@@ -126,7 +126,7 @@ abbrev pub Judges : Job → List ℕ → List ℕ → Work → Work → Result V
 Judges job field password before after (Ok verdict) = IsGoodField field × IsVerdict job field password before after verdict
 Judges job field password before after (Err (RefusedBy fault)) = IsRefusedField job field password fault × (after ≡ before)
 Judges job field password before after (Err OutOfMemory) =
-    IsGoodField field × (kept : Kept) × Spells field kept × IsWithinBudget job field password × IsAfterRefusedGrowth before kept.scheme after
+    IsGoodField field × (kept : SettingValue) × Spells field kept × IsWithinBudget job field password × IsAfterRefusedGrowth before kept.scheme after
 
 -- by how much the counts have risen
 abbrev pub rise : Work → Work → Work

@@ -3,8 +3,8 @@ ghost use Rattle.std.specs.Prelude.{◌≡◌, ℕ, ◌++◌, ◌↔◌, [], Lis
 ghost use Rattle.mkpasswd.specs.Answers.{Answer};
 ghost use Rattle.mkpasswd.specs.LineAnswers.{IsAnswer};
 ghost use Rattle.mkpasswd.specs.Private.Made.{IsRaisedBelow, Makes};
-ghost use Rattle.mkpasswd.specs.Private.Progress.{StandsFor};
-ghost use Rattle.mkpasswd.specs.Private.Rooms.{HasCountsForLine, line_work_limit};
+ghost use Rattle.mkpasswd.specs.Private.Progress.{Represents};
+ghost use Rattle.mkpasswd.specs.Private.Headroom.{HasCountsForLine, line_work_limit};
 
 use crate::answer::{LineAnswer, answer_line, refusal};
 use crate::desk::Task;
@@ -25,13 +25,13 @@ pub(crate) enum Held {
 
 impl Held {
     pub(crate) fn new() -> Held
-        ensures { StandsFor result [] }
+        ensures { Represents result [] }
     {
         Held::Bytes(ArrayVec::new())
     }
 
     pub(crate) fn is_empty(&self) -> bool
-        ensures { (line : List ℕ) → StandsFor self.now line → IsTrue result ↔ (line ≡ []) }
+        ensures { (line : List ℕ) → Represents self.now line → IsTrue result ↔ (line ≡ []) }
     {
         match self {
             Held::Bytes(bytes) => bytes.is_empty(),
@@ -40,7 +40,7 @@ impl Held {
     }
 
     pub(crate) fn append(&mut self, piece: &[u8])
-        ensures { (line : List ℕ) → StandsFor self.old line → StandsFor self.new (line ++ piece.now) }
+        ensures { (line : List ℕ) → Represents self.old line → Represents self.new (line ++ piece.now) }
     {
         if let Held::Bytes(bytes) = self {
             if bytes.try_extend_from_slice(piece).is_err() {
@@ -58,7 +58,7 @@ impl Held {
         meter: &mut Meter,
     ) -> Result<LineAnswer, HashFault>
         requires { HasCountsForLine meter.old }
-        ensures answer { (line : List ℕ) → StandsFor self.now line
+        ensures answer { (line : List ℕ) → Represents self.now line
             → (answer : Answer) × IsAnswer task.entry.kind task.entry.job.now number line (R.stream rng.old) answer
             × Makes answer meter.old meter.new (R.stream rng.new) result }
         ensures small { IsRaisedBelow line_work_limit meter.old meter.new }

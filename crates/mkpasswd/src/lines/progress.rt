@@ -6,11 +6,11 @@ ghost use Rattle.mkpasswd.specs.Devices.{HasRoomWithinRun, MovesBytes, turns_lim
 ghost use Rattle.mkpasswd.specs.LineAnswers.{IsAnswer};
 ghost use Rattle.mkpasswd.specs.LineRuns.{piece_size};
 ghost use Rattle.mkpasswd.specs.Private.Deliveries.{Sends};
-ghost use Rattle.mkpasswd.specs.Private.Desks.{IsSameDesk, Outs, TakesTurns, seen};
+ghost use Rattle.mkpasswd.specs.Private.Desks.{IsSameDesk, OutputState, TakesTurns, state_of};
 ghost use Rattle.mkpasswd.specs.Private.LineEnds.{AnswersLast};
 ghost use Rattle.mkpasswd.specs.Private.Made.{Says, tally_of};
-ghost use Rattle.mkpasswd.specs.Private.Progress.{AnswersOne, HasRoomIn, HasRoomToAnswer, IsAt, LooksThrough, StandsFor};
-ghost use Rattle.mkpasswd.specs.Private.Rooms.{answer_limit, lines_limit};
+ghost use Rattle.mkpasswd.specs.Private.Progress.{AnswersOne, HasRoomIn, HasRoomToAnswer, IsAt, LooksThrough, Represents};
+ghost use Rattle.mkpasswd.specs.Private.Headroom.{answer_limit, lines_limit};
 ghost use Rattle.mkpasswd.specs.Tallies.{both_tallies, no_line};
 
 use super::held::Held;
@@ -37,7 +37,7 @@ pub(crate) struct Progress {
 impl Progress {
     /// Nothing is read or answered.
     pub(crate) fn new(turns: u64) -> Progress
-        ensures held { StandsFor result.held [] }
+        ensures held { Represents result.held [] }
         ensures tally { result.tally ≡ no_line }
         ensures left { result.left ≡ turns }
     {
@@ -49,20 +49,20 @@ impl Progress {
     }
 
     /// Answers each line that ends in the piece, in order, and holds what follows the last of them.
-    pub(crate) fn look_through<O: Write, E: Write, R: Rng>(
+    pub(crate) fn answer_lines_in<O: Write, E: Write, R: Rng>(
         &mut self,
         task: Task<'_>,
         piece: &[u8],
         desk: &mut Desk<O, E, R>,
     ) -> Result<(), RunFault>
         requires size { length piece.now ≤ piece_size }
-        requires room { HasRoomToAnswer (length piece.now) self.old (seen R.stream desk.old) }
-        ensures looked { (start : Outs O E) → (bytes : List ℕ)
-            → IsAt O.contents E.contents task.entry.kind task.entry.job.now start (seen R.stream desk.old) bytes self.old
-            → LooksThrough O.contents E.contents task.entry.kind task.entry.job.now start (seen R.stream desk.new) (bytes ++ piece.now) self.new result }
-        ensures room { OnOk result (HasRoomIn self.new.tally (seen R.stream desk.new)) }
+        requires room { HasRoomToAnswer (length piece.now) self.old (state_of R.stream desk.old) }
+        ensures looked { (start : OutputState O E) → (bytes : List ℕ)
+            → IsAt O.contents E.contents task.entry.kind task.entry.job.now start (state_of R.stream desk.old) bytes self.old
+            → LooksThrough O.contents E.contents task.entry.kind task.entry.job.now start (state_of R.stream desk.new) (bytes ++ piece.now) self.new result }
+        ensures room { OnOk result (HasRoomIn self.new.tally (state_of R.stream desk.new)) }
         ensures lines { self.new.tally.lines ≤ self.old.tally.lines + length piece.now }
-        ensures turns { TakesTurns self.old.left self.new.left (seen R.stream desk.old) (seen R.stream desk.new) }
+        ensures turns { TakesTurns self.old.left self.new.left (state_of R.stream desk.old) (state_of R.stream desk.new) }
         ensures fault_room { HasRoomWithinRun desk.new.faults.now }
         ensures same { IsSameDesk desk.old desk.new }
     {
@@ -82,12 +82,12 @@ impl Progress {
         task: Task<'_>,
         desk: &mut Desk<O, E, R>,
     ) -> Result<(), RunFault>
-        requires room { HasRoomToAnswer 1 self.old (seen R.stream desk.old) }
-        ensures answers { (start : Outs O E) → (bytes : List ℕ)
-            → IsAt O.contents E.contents task.entry.kind task.entry.job.now start (seen R.stream desk.old) bytes self.old
-            → AnswersLast O.contents E.contents task.entry.kind task.entry.job.now start (seen R.stream desk.new) bytes self.new result }
-        ensures room { OnOk result (HasRoomIn self.new.tally (seen R.stream desk.new)) }
-        ensures turns { TakesTurns self.old.left self.new.left (seen R.stream desk.old) (seen R.stream desk.new) }
+        requires room { HasRoomToAnswer 1 self.old (state_of R.stream desk.old) }
+        ensures answers { (start : OutputState O E) → (bytes : List ℕ)
+            → IsAt O.contents E.contents task.entry.kind task.entry.job.now start (state_of R.stream desk.old) bytes self.old
+            → AnswersLast O.contents E.contents task.entry.kind task.entry.job.now start (state_of R.stream desk.new) bytes self.new result }
+        ensures room { OnOk result (HasRoomIn self.new.tally (state_of R.stream desk.new)) }
+        ensures turns { TakesTurns self.old.left self.new.left (state_of R.stream desk.old) (state_of R.stream desk.new) }
         ensures fault_room { HasRoomWithinRun desk.new.faults.now }
         ensures same { IsSameDesk desk.old desk.new }
     {
@@ -103,15 +103,15 @@ impl Progress {
         task: Task<'_>,
         desk: &mut Desk<O, E, R>,
     ) -> Result<(), RunFault>
-        requires room { HasRoomToAnswer 1 self.old (seen R.stream desk.old) }
-        ensures answers { (line : List ℕ) → StandsFor self.old.held line
+        requires room { HasRoomToAnswer 1 self.old (state_of R.stream desk.old) }
+        ensures answers { (line : List ℕ) → Represents self.old.held line
             → (answer : Answer) × IsAnswer task.entry.kind task.entry.job.now (self.old.tally.lines + 1) line (R.stream desk.old.rng.now) answer
-            × AnswersOne O.contents E.contents self.new.left answer (seen R.stream desk.old) (seen R.stream desk.new) result
+            × AnswersOne O.contents E.contents self.new.left answer (state_of R.stream desk.old) (state_of R.stream desk.new) result
             × OnOk result (self.new.tally ≡ both_tallies self.old.tally answer.tally) }
-        ensures held { OnOk result (StandsFor self.new.held []) }
-        ensures room { OnOk result (HasRoomIn self.new.tally (seen R.stream desk.new)) }
+        ensures held { OnOk result (Represents self.new.held []) }
+        ensures room { OnOk result (HasRoomIn self.new.tally (state_of R.stream desk.new)) }
         ensures lines { self.new.tally.lines ≤ self.old.tally.lines + 1 }
-        ensures turns { TakesTurns self.old.left self.new.left (seen R.stream desk.old) (seen R.stream desk.new) }
+        ensures turns { TakesTurns self.old.left self.new.left (state_of R.stream desk.old) (state_of R.stream desk.new) }
         ensures fault_room { HasRoomWithinRun desk.new.faults.now }
         ensures same { IsSameDesk desk.old desk.new }
     {

@@ -54,7 +54,7 @@ fn read_line<I: Read>(
 {
     let mut filled = 0;
     'fetches: while filled < buffer.len() {
-        let count = fetch_behind(input, buffer, filled, left)?;
+        let count = fetch_after(input, buffer, filled, left)?;
         if let Some(at) = line_feed_at(&buffer[filled..filled + count]) {
             return Ok(filled + at);
         }
@@ -68,7 +68,7 @@ fn read_line<I: Read>(
 
 // Makes one fetch behind the first `filled` bytes of the buffer, where there is room, and answers how many
 // bytes it gave: none at the end.
-fn fetch_behind<I: Read>(
+fn fetch_after<I: Read>(
     input: &mut Input<I>,
     buffer: &mut [u8],
     filled: usize,

@@ -6,7 +6,7 @@ use Rattle.std.proofs.lemmas.Slice.Eq.{bytes_eq-Decides}
 use Rattle.rand_core.specs.Stream.{Stream}
 use Rattle.prims_core.specs.declared.work.Work.{Work}
 use Rattle.crypt_core.specs.Crypt.{crypt, IsAfterRefusedGrowth}
-use Rattle.crypt_core.specs.Settings.{Kept, Spells}
+use Rattle.crypt_core.specs.Settings.{SettingValue, Spells}
 use Rattle.crypt_core.specs.Work.{cost, work}
 use Rattle.crypt_core.specs.declared.hash.HashFault.{HashFault}
 use Rattle.crypt_core.specs.declared.hash.HashFault.TheVariants.{OutOfMemory}
@@ -81,8 +81,8 @@ cheap_field kind job line stream parts field taken is within costly =
 told : (job : Job) (name password : List ℕ) (before after : Work) (stream : Stream) (verdict : Verdict) (made : LineAnswer) (work : Work)
     → TellsVerdict job name password before after stream verdict made → rise before after ≡ work
     → verdict_text job name (told_word job password stream verdict) work ≡ made.text.items
-told job name password before after stream verdict made work tells risen =
-    sym (tells.1 ∙ ap (λ (counts : Work). verdict_text job name (told_word job password stream verdict) counts) risen)
+told job name password before after stream verdict made work device_bytes risen =
+    sym (device_bytes.1 ∙ ap (λ (counts : Work). verdict_text job name (told_word job password stream verdict) counts) risen)
 
 -- one hash after another raises the counts by both
 raised_twice : (before middle after : Work) (first second : Work) → middle ≡ raised_by before first → after ≡ raised_by middle second
@@ -94,54 +94,54 @@ verdict_is_answered : (kind : Kind) (job : Job) (number : ℕ) (line : List ℕ)
     → IsVerdict job field parts.password before middle verdict → IsFollowed job parts.password middle after stream left verdict
     → TellsVerdict job parts.name parts.password before after stream verdict made
     → IsAnswered kind job number line stream left before after (Ok made)
-verdict_is_answered kind job number line stream left parts field before middle after NoneStored made taken is judged then tells =
+verdict_is_answered kind job number line stream left parts field before middle after NoneStored made taken is judged then device_bytes =
     let same = then.0 ∙ judged.1 in
-    let text = told job parts.name parts.password before after stream NoneStored made no_work tells (rise-same before after same) in (
+    let text = told job parts.name parts.password before after stream NoneStored made no_work device_bytes (rise-same before after same) in (
       unhashed_answer job parts.name (codes "none") stream,
       none parts taken (is ∙ ap Some judged.0) refl,
-      (rw tells.0 (record { text = text; fault_text = refl; tally = refl }), same, then.1),
+      (rw device_bytes.0 (record { text = text; fault_text = refl; tally = refl }), same, then.1),
     )
-verdict_is_answered kind job number line stream left parts field before middle after Locked made taken is judged then tells =
+verdict_is_answered kind job number line stream left parts field before middle after Locked made taken is judged then device_bytes =
     let same = then.0 ∙ judged.1 in
-    let text = told job parts.name parts.password before after stream Locked made no_work tells (rise-same before after same) in (
+    let text = told job parts.name parts.password before after stream Locked made no_work device_bytes (rise-same before after same) in (
       unhashed_answer job parts.name (codes "locked") stream,
       locked parts field taken is judged.0 refl,
-      (rw tells.0 (record { text = text; fault_text = refl; tally = refl }), same, then.1),
+      (rw device_bytes.0 (record { text = text; fault_text = refl; tally = refl }), same, then.1),
     )
-verdict_is_answered kind job number line stream left parts field before middle after Fits made taken is judged then tells =
+verdict_is_answered kind job number line stream left parts field before middle after Fits made taken is judged then device_bytes =
     let kept = judged.0 in
     let counts = then.0 ∙ judged.1.counts in
-    let text = told job parts.name parts.password before after stream Fits made (work parts.password kept) tells (rise-raised before after (work parts.password kept) counts) in (
+    let text = told job parts.name parts.password before after stream Fits made (work parts.password kept) device_bytes (rise-raised before after (work parts.password kept) counts) in (
       compared_answer job parts.name (codes "ok") parts.password kept one_line stream,
       ok parts field kept (record { taken = taken; has = is; spells = judged.1.spells }) (cheap_field kind job line stream parts field taken is judged.1.within) judged.2 judged.1.outdated_is refl,
-      (rw tells.0 (record { text = text; fault_text = refl; tally = refl }), counts, then.1),
+      (rw device_bytes.0 (record { text = text; fault_text = refl; tally = refl }), counts, then.1),
     )
-verdict_is_answered kind job number line stream left parts field before middle after Outdated made taken is judged then tells =
+verdict_is_answered kind job number line stream left parts field before middle after Outdated made taken is judged then device_bytes =
     let kept = judged.0 in
     let old = work parts.password kept in
     let new = work parts.password (next_setting job.maker stream) in
     let risen = rise-raised before after (raised_by old new) (raised_twice before middle after old new judged.1.counts then.0) in
-    let text = told job parts.name parts.password before after stream Outdated made (raised_by old new) tells risen in (
+    let text = told job parts.name parts.password before after stream Outdated made (raised_by old new) device_bytes risen in (
       rehashed_answer job parts.name parts.password kept stream,
       rehashed parts field kept (record { taken = taken; has = is; spells = judged.1.spells }) (cheap_field kind job line stream parts field taken is judged.1.within) judged.2 judged.1.outdated_is refl,
       (
-        rw tells.0 (record { text = text; fault_text = refl; tally = refl }),
+        rw device_bytes.0 (record { text = text; fault_text = refl; tally = refl }),
         then.0 ∙ ap (λ (c : Work). raised_by c new) judged.1.counts,
         then.1,
       ),
     )
-verdict_is_answered kind job number line stream left parts field before middle after Differs made taken is judged then tells =
+verdict_is_answered kind job number line stream left parts field before middle after Differs made taken is judged then device_bytes =
     let kept = judged.0 in
     let counts = then.0 ∙ judged.2.counts in
-    let text = told job parts.name parts.password before after stream Differs made (work parts.password kept) tells (rise-raised before after (work parts.password kept) counts) in (
+    let text = told job parts.name parts.password before after stream Differs made (work parts.password kept) device_bytes (rise-raised before after (work parts.password kept) counts) in (
       compared_answer job parts.name (codes "no") parts.password kept misfit_line stream,
       no parts field kept (record { taken = taken; has = is; spells = judged.2.spells }) (cheap_field kind job line stream parts field taken is judged.2.within) judged.3 refl,
-      (rw tells.0 (record { text = text; fault_text = refl; tally = refl }), counts, then.1),
+      (rw device_bytes.0 (record { text = text; fault_text = refl; tally = refl }), counts, then.1),
     )
 
 -- where memory is refused for the stored setting, the answer is what its hash would have said
 refused_is_answered : (kind : Kind) (job : Job) (number : ℕ) (line : List ℕ) (stream left : Stream) (parts : Parts) (field : List ℕ) (before after : Work)
-    (kept : Kept) → HasSoundParts kind line parts → parts.field ≡ Some field → Spells field kept → IsWithinBudget job field parts.password
+    (kept : SettingValue) → HasSoundParts kind line parts → parts.field ≡ Some field → Spells field kept → IsWithinBudget job field parts.password
     → IsAfterRefusedGrowth before kept.scheme after → left ≡ stream
     → IsAnswered kind job number line stream left before after (Err OutOfMemory)
 refused_is_answered kind job number line stream left parts field before after kept taken is spelled within without left_is =

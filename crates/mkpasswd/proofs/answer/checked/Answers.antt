@@ -1,6 +1,6 @@
 use Rattle.std.proofs.Common.{◌≡◌, ◌∙◌, List, ℕ, ◌∷◌, ◌++◌, append_assoc, append-nil, ap, ap₂, refl, sym}
 use Rattle.crypt_core.specs.Crypt.{crypt}
-use Rattle.crypt_core.specs.Settings.{Kept}
+use Rattle.crypt_core.specs.Settings.{SettingValue}
 use Rattle.crypt_core.specs.Work.{raised_by, work}
 use Rattle.mkpasswd.specs.Answers.{wanted_text}
 use Rattle.mkpasswd.specs.LineAnswers.{front_of, new_hash_text, verdict_text}
@@ -15,7 +15,7 @@ followed : (g : Over) (c : goal.After-outcome g)
     (g.R.Rng.stream c.if-is_outdated.rng) c.in_ok-verdict.verdict
 followed g c = elim c.if-is_outdated.branch [
   | then-is_outdated+in_ok-append_new_hash w ↦ rw (sym c.is_outdated.ensures ∙ w.if-is_outdated.true, w.meter-is, w.rng-is) (
-    w.in_ok-append_new_hash.ensures.count ∙ ap (λ (k : Kept). raised_by c.verdict_of.new.meter (work c.args.password.now k)) w.next_setting-setting.ensures.setting,
+    w.in_ok-append_new_hash.ensures.count ∙ ap (λ (k : SettingValue). raised_by c.verdict_of.new.meter (work c.args.password.now k)) w.next_setting-setting.ensures.setting,
     w.next_setting-setting.ensures.stream,
   )
   | else-is_outdated w ↦ rw (sym c.is_outdated.ensures ∙ w.if-is_outdated.false, w.meter-is, w.rng-is) (refl, refl)
@@ -31,7 +31,7 @@ worded g c =
     c.append.ensures ∙ ap₂ (λ (x y : List ℕ). x ++ y) c.text_behind-text.ensures.text (c.as_bytes.ensures.value ∙ c.text.ensures) in
     elim c.if-is_outdated.branch [
       | then-is_outdated+in_ok-append_new_hash w ↦ rw (sym c.is_outdated.ensures ∙ w.if-is_outdated.true, w.text-is)
-          (w.in_ok-append_new_hash.ensures.text ∙ (ap₂ (λ (x : List ℕ) (k : Kept). x ++ colon ∷ crypt c.args.password.now k) so_far w.next_setting-setting.ensures.setting
+          (w.in_ok-append_new_hash.ensures.text ∙ (ap₂ (λ (x : List ℕ) (k : SettingValue). x ++ colon ∷ crypt c.args.password.now k) so_far w.next_setting-setting.ensures.setting
           ∙ append_assoc front word new))
       | else-is_outdated w ↦ rw (sym c.is_outdated.ensures ∙ w.if-is_outdated.false, w.text-is) (so_far ∙ ap (λ (x : List ℕ). front ++ x) (sym (append-nil word)))
     ]

@@ -20,5 +20,5 @@ returns-in-Ok-show g c =
 pub returns : goal.returns
 returns g c =
     let asked : ¬ ((kind_of c.args.error.now ≢ kind.DisplayHelp) × (kind_of c.args.error.now ≢ kind.DisplayVersion)) = λ both. true≢false (sym (c.use_stderr.ensures.1 both) ∙ c.if-use_stderr.false) in
-    inl (help_shown g.O.Write.contents g.E.Write.contents _ c.args.turns c.args.out.now c.args.faults.now c.show-2.new.out c.tell-in-Err.new.faults c.tell-in-Err.result asked
-    (c.as_bytes-2.result.now, c.show-2.new.out, Err c.in-Err.fault, shows-tally g.O.Write.contents c.args.turns c.args.out.now c.show-2.new.out c.as_bytes-2.result.now _ c.in-Err.ensures, tt, (c.tell-in-Err.ensures.told, refl, c.tell-in-Err.ensures.status)))
+    inl (help_shown g.O.Write.contents g.E.Write.contents _ c.args.turns c.args.out.now c.args.faults.now c.show-2.new.out c.report_fault-in-Err.new.faults c.report_fault-in-Err.result asked
+    (c.as_bytes-2.result.now, c.show-2.new.out, Err c.in-Err.fault, shows-tally g.O.Write.contents c.args.turns c.args.out.now c.show-2.new.out c.as_bytes-2.result.now _ c.in-Err.ensures, tt, (c.report_fault-in-Err.ensures.told, refl, c.report_fault-in-Err.ensures.status)))

@@ -1,38 +1,38 @@
 use Rattle.std.proofs.Common.{refl}
 use Rattle.std.proofs.lemmas.Result.{err_from_is_err_and}
-use Rattle.mkpasswd.specs.Private.Desks.{outs_of, seen, with_input}
-use Rattle.mkpasswd.specs.Runs.{tells}
+use Rattle.mkpasswd.specs.Private.Desks.{output_state_of, state_of, with_input}
+use Rattle.mkpasswd.specs.Runs.{device_bytes}
 use Rattle.mkpasswd.proofs.LineEnding as ending
 use Rattle.mkpasswd.proofs.lines.read_piece.Goals as goal
 
 pub returns-in_err-count-clause-goes : goal.returns-in_err-count-clause-goes
 returns-in_err-count-clause-goes g c start turns bytes before moved =
     let p = err_from_is_err_and c.from_residual.result c.from_residual.ensures.1 in
-    rw (p.1, p.2) (ending.ends-fetching (tells g.I.Read.remaining g.O.Write.contents g.E.Write.contents) c.args.task.kind c.args.task.job.now turns start
-    (with_input c.args.input.now (seen g.R.Rng.stream c.args.desk.now)) c.fetch_piece.new.input bytes c.fetch_piece.new.buffer
+    rw (p.1, p.2) (ending.ends-fetching (device_bytes g.I.Read.remaining g.O.Write.contents g.E.Write.contents) c.args.task.kind c.args.task.job.now turns start
+    (with_input c.args.input.now (state_of g.R.Rng.stream c.args.desk.now)) c.fetch_piece.new.input bytes c.fetch_piece.new.buffer
     c.args.progress.now c.fetch_piece.new.left c.in_err-count.field-0.0 before moved c.in_err-count.ensures.fetches c.in_err-count.ensures.takes_turn c.in_err-count.ensures.turns)
 
-pub returns-in_err-look_through-clause-goes : goal.returns-in_err-look_through-clause-goes
-returns-in_err-look_through-clause-goes g c start turns bytes before moved =
-    let told = tells g.I.Read.remaining g.O.Write.contents g.E.Write.contents in
-    let old = with_input c.args.input.now (seen g.R.Rng.stream c.args.desk.now) in
-    let turned = ending.at-turned told c.args.task.kind c.args.task.job.now (outs_of start) (outs_of old) bytes
+pub returns-in_err-answer_lines_in-clause-goes : goal.returns-in_err-answer_lines_in-clause-goes
+returns-in_err-answer_lines_in-clause-goes g c start turns bytes before moved =
+    let told = device_bytes g.I.Read.remaining g.O.Write.contents g.E.Write.contents in
+    let old = with_input c.args.input.now (state_of g.R.Rng.stream c.args.desk.now) in
+    let turned = ending.at-turned told c.args.task.kind c.args.task.job.now (output_state_of start) (output_state_of old) bytes
     c.args.progress.now (record c.args.progress.now { left = c.fetch_piece.new.left }) before.answered refl refl in
-    let p = err_from_is_err_and c.from_residual-in_err-look_through.result c.from_residual-in_err-look_through.ensures.1 in
+    let p = err_from_is_err_and c.from_residual-in_err-answer_lines_in.result c.from_residual-in_err-answer_lines_in.ensures.1 in
     rw (p.1, p.2) (ending.ends-piece told c.args.task.kind c.args.task.job.now turns start old c.fetch_piece.new.input
-    (seen g.R.Rng.stream c.look_through.new.desk) bytes c.fetch_piece.new.buffer
-    c.in_ok-count.count c.args.progress.now c.fetch_piece.new.left c.look_through.new.self c.in_err-look_through.field-0.0
+    (state_of g.R.Rng.stream c.answer_lines_in.new.desk) bytes c.fetch_piece.new.buffer
+    c.in_ok-count.count c.args.progress.now c.fetch_piece.new.left c.answer_lines_in.new.self c.in_err-answer_lines_in.field-0.0
     (record { before = before; fetched = c.in_ok-count.ensures.fetches; calls = c.in_ok-count.ensures.turns })
-    c.in_err-look_through.ensures.turns (c.in_err-look_through.ensures.looked _ _ turned))
+    c.in_err-answer_lines_in.ensures.turns (c.in_err-answer_lines_in.ensures.looked _ _ turned))
 
 pub returns-clause-goes : goal.returns-clause-goes
 returns-clause-goes g c start turns bytes before moved =
-    let told = tells g.I.Read.remaining g.O.Write.contents g.E.Write.contents in
-    let old = with_input c.args.input.now (seen g.R.Rng.stream c.args.desk.now) in
-    let turned = ending.at-turned told c.args.task.kind c.args.task.job.now (outs_of start) (outs_of old) bytes
+    let told = device_bytes g.I.Read.remaining g.O.Write.contents g.E.Write.contents in
+    let old = with_input c.args.input.now (state_of g.R.Rng.stream c.args.desk.now) in
+    let turned = ending.at-turned told c.args.task.kind c.args.task.job.now (output_state_of start) (output_state_of old) bytes
     c.args.progress.now (record c.args.progress.now { left = c.fetch_piece.new.left }) before.answered refl refl in
     ending.goes-piece told c.args.task.kind c.args.task.job.now turns start old c.fetch_piece.new.input
-    (seen g.R.Rng.stream c.look_through.new.desk) bytes c.fetch_piece.new.buffer
-    c.in_ok-count.count c.args.progress.now c.fetch_piece.new.left c.look_through.new.self
+    (state_of g.R.Rng.stream c.answer_lines_in.new.desk) bytes c.fetch_piece.new.buffer
+    c.in_ok-count.count c.args.progress.now c.fetch_piece.new.left c.answer_lines_in.new.self
     (record { before = before; fetched = c.in_ok-count.ensures.fetches; calls = c.in_ok-count.ensures.turns })
-    c.in_ok-look_through.ensures.turns (c.in_ok-look_through.ensures.looked _ _ turned)
+    c.in_ok-answer_lines_in.ensures.turns (c.in_ok-answer_lines_in.ensures.looked _ _ turned)

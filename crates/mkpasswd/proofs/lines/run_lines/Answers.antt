@@ -1,28 +1,28 @@
 use Rattle.std.proofs.Common.{Ok}
 use Rattle.std.proofs.lemmas.Result.{err_from_is_err_and}
-use Rattle.mkpasswd.specs.Private.Desks.{seen, with_input}
-use Rattle.mkpasswd.specs.Runs.{tells}
+use Rattle.mkpasswd.specs.Private.Desks.{state_of, with_input}
+use Rattle.mkpasswd.specs.Runs.{device_bytes}
 use Rattle.mkpasswd.proofs.LineCalls.{turns-flushed, turns-last, within-turns}
 use Rattle.mkpasswd.proofs.LineEnding as ending
 use Rattle.mkpasswd.proofs.lines.run_lines.Goals as goal
 
 pub returns-in_err-end-clause-ends : goal.returns-in_err-end-clause-ends
 returns-in_err-end-clause-ends g c =
-    let told = tells g.I.Read.remaining g.O.Write.contents g.E.Write.contents in
-    let start = with_input c.args.input.now (seen g.R.Rng.stream c.args.desk.now) in
-    let now = with_input c.read_all.new.input (seen g.R.Rng.stream c.read_all.new.desk) in
-    let last = seen g.R.Rng.stream c.end.new.desk in
+    let told = device_bytes g.I.Read.remaining g.O.Write.contents g.E.Write.contents in
+    let start = with_input c.args.input.now (state_of g.R.Rng.stream c.args.desk.now) in
+    let now = with_input c.read_all.new.input (state_of g.R.Rng.stream c.read_all.new.desk) in
+    let last = state_of g.R.Rng.stream c.end.new.desk in
     let all = rw c.new-progress.ensures.left at c.in_ok-read_all.ensures.goes in
     let p = err_from_is_err_and c.from_residual-in_err-end.result c.from_residual-in_err-end.ensures.1 in
     rw (p.1, p.2) (ending.ends-last told c.args.task.kind c.args.task.job.now c.args.turns start now last c.read_all.new.progress c.end.new.self c.in_err-end.field-0.0
-    all c.in_err-end.ensures.turns (c.in_err-end.ensures.answers (seen g.R.Rng.stream c.args.desk.now) all.0 all.1.answered))
+    all c.in_err-end.ensures.turns (c.in_err-end.ensures.answers (state_of g.R.Rng.stream c.args.desk.now) all.0 all.1.answered))
 
 pub returns-in_err-end-clause-within_turns : goal.returns-in_err-end-clause-within_turns
 returns-in_err-end-clause-within_turns g c =
-    let told = tells g.I.Read.remaining g.O.Write.contents g.E.Write.contents in
-    let start = with_input c.args.input.now (seen g.R.Rng.stream c.args.desk.now) in
-    let now = with_input c.read_all.new.input (seen g.R.Rng.stream c.read_all.new.desk) in
-    let last = seen g.R.Rng.stream c.end.new.desk in
+    let told = device_bytes g.I.Read.remaining g.O.Write.contents g.E.Write.contents in
+    let start = with_input c.args.input.now (state_of g.R.Rng.stream c.args.desk.now) in
+    let now = with_input c.read_all.new.input (state_of g.R.Rng.stream c.read_all.new.desk) in
+    let last = state_of g.R.Rng.stream c.end.new.desk in
     within-turns told c.args.task.kind c.args.task.job.now c.args.turns c.end.new.self.left start (with_input now.input last)
     c.from_residual-in_err-end.result (returns-in_err-end-clause-ends g c)
     (turns-last c.args.turns c.read_all.new.progress.left c.end.new.self.left start now last
@@ -30,21 +30,21 @@ returns-in_err-end-clause-within_turns g c =
 
 pub returns-in_err-finish_both-clause-ends : goal.returns-in_err-finish_both-clause-ends
 returns-in_err-finish_both-clause-ends g c =
-    let told = tells g.I.Read.remaining g.O.Write.contents g.E.Write.contents in
-    let start = with_input c.args.input.now (seen g.R.Rng.stream c.args.desk.now) in
-    let now = with_input c.read_all.new.input (seen g.R.Rng.stream c.read_all.new.desk) in
-    let last = seen g.R.Rng.stream c.end.new.desk in
+    let told = device_bytes g.I.Read.remaining g.O.Write.contents g.E.Write.contents in
+    let start = with_input c.args.input.now (state_of g.R.Rng.stream c.args.desk.now) in
+    let now = with_input c.read_all.new.input (state_of g.R.Rng.stream c.read_all.new.desk) in
+    let last = state_of g.R.Rng.stream c.end.new.desk in
     let all = rw c.new-progress.ensures.left at c.in_ok-read_all.ensures.goes in
     let p = err_from_is_err_and c.from_residual-in_err-finish_both.result c.from_residual-in_err-finish_both.ensures.1 in
     rw (p.1, p.2) (ending.ends-unfinished told c.args.task.kind c.args.task.job.now c.args.turns start now last c.read_all.new.progress c.end.new.self.tally c.finish_both.new.out c.finish_both.new.faults
-    (Unit {0}) c.in_err-finish_both.field-0.0 all (c.in_ok-end.ensures.answers (seen g.R.Rng.stream c.args.desk.now) all.0 all.1.answered) c.in_err-finish_both.ensures.finishes)
+    (Unit {0}) c.in_err-finish_both.field-0.0 all (c.in_ok-end.ensures.answers (state_of g.R.Rng.stream c.args.desk.now) all.0 all.1.answered) c.in_err-finish_both.ensures.finishes)
 
 pub returns-in_err-finish_both-clause-within_turns : goal.returns-in_err-finish_both-clause-within_turns
 returns-in_err-finish_both-clause-within_turns g c =
-    let told = tells g.I.Read.remaining g.O.Write.contents g.E.Write.contents in
-    let start = with_input c.args.input.now (seen g.R.Rng.stream c.args.desk.now) in
-    let now = with_input c.read_all.new.input (seen g.R.Rng.stream c.read_all.new.desk) in
-    let last = seen g.R.Rng.stream c.end.new.desk in
+    let told = device_bytes g.I.Read.remaining g.O.Write.contents g.E.Write.contents in
+    let start = with_input c.args.input.now (state_of g.R.Rng.stream c.args.desk.now) in
+    let now = with_input c.read_all.new.input (state_of g.R.Rng.stream c.read_all.new.desk) in
+    let last = state_of g.R.Rng.stream c.end.new.desk in
     let new = record last { out = c.finish_both.new.out; faults = c.finish_both.new.faults } in
     within-turns told c.args.task.kind c.args.task.job.now c.args.turns c.end.new.self.left start (with_input now.input new)
     c.from_residual-in_err-finish_both.result (returns-in_err-finish_both-clause-ends g c)
@@ -55,20 +55,20 @@ returns-in_err-finish_both-clause-within_turns g c =
 
 pub returns-clause-ends : goal.returns-clause-ends
 returns-clause-ends g c =
-    let told = tells g.I.Read.remaining g.O.Write.contents g.E.Write.contents in
-    let start = with_input c.args.input.now (seen g.R.Rng.stream c.args.desk.now) in
-    let now = with_input c.read_all.new.input (seen g.R.Rng.stream c.read_all.new.desk) in
-    let last = seen g.R.Rng.stream c.end.new.desk in
+    let told = device_bytes g.I.Read.remaining g.O.Write.contents g.E.Write.contents in
+    let start = with_input c.args.input.now (state_of g.R.Rng.stream c.args.desk.now) in
+    let now = with_input c.read_all.new.input (state_of g.R.Rng.stream c.read_all.new.desk) in
+    let last = state_of g.R.Rng.stream c.end.new.desk in
     let all = rw c.new-progress.ensures.left at c.in_ok-read_all.ensures.goes in
     ending.ends-finished told c.args.task.kind c.args.task.job.now c.args.turns start now last c.read_all.new.progress c.end.new.self.tally c.finish_both.new.out c.finish_both.new.faults
-    c.in_ok-finish_both.field-0 all (c.in_ok-end.ensures.answers (seen g.R.Rng.stream c.args.desk.now) all.0 all.1.answered) c.in_ok-finish_both.ensures.finishes
+    c.in_ok-finish_both.field-0 all (c.in_ok-end.ensures.answers (state_of g.R.Rng.stream c.args.desk.now) all.0 all.1.answered) c.in_ok-finish_both.ensures.finishes
 
 pub returns-clause-within_turns : goal.returns-clause-within_turns
 returns-clause-within_turns g c =
-    let told = tells g.I.Read.remaining g.O.Write.contents g.E.Write.contents in
-    let start = with_input c.args.input.now (seen g.R.Rng.stream c.args.desk.now) in
-    let now = with_input c.read_all.new.input (seen g.R.Rng.stream c.read_all.new.desk) in
-    let last = seen g.R.Rng.stream c.end.new.desk in
+    let told = device_bytes g.I.Read.remaining g.O.Write.contents g.E.Write.contents in
+    let start = with_input c.args.input.now (state_of g.R.Rng.stream c.args.desk.now) in
+    let now = with_input c.read_all.new.input (state_of g.R.Rng.stream c.read_all.new.desk) in
+    let last = state_of g.R.Rng.stream c.end.new.desk in
     let new = record last { out = c.finish_both.new.out; faults = c.finish_both.new.faults } in
     within-turns told c.args.task.kind c.args.task.job.now c.args.turns c.end.new.self.left start (with_input now.input new) (Ok c.end.new.self.tally) (returns-clause-ends g c)
     (turns-last c.args.turns c.end.new.self.left c.end.new.self.left start (with_input now.input last) new

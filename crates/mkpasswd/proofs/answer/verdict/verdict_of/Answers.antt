@@ -4,7 +4,7 @@ use Rattle.std.proofs.lemmas.Result.{err_from_is_err_and}
 use Rattle.prims_core.specs.declared.work.Work.{Work}
 use Rattle.crypt_core.specs.Fits.{Compares}
 use Rattle.crypt_core.specs.Refusals.{IsRefused}
-use Rattle.crypt_core.specs.Settings.{Kept, Spells}
+use Rattle.crypt_core.specs.Settings.{SettingValue, Spells}
 use Rattle.rand_core.specs.Stream.{Stream}
 use Rattle.crypt_core.specs.Work.{raised_by, work}
 use Rattle.crypt_core.specs.declared.fits.FitFault.{FitFault}
@@ -19,23 +19,23 @@ use Rattle.mkpasswd.specs.declared.job.Job.{Job}
 use Rattle.mkpasswd.proofs.answer.verdict.verdict_of.Goals as goal
 
 -- a field that was read as a setting is good, and spells nothing else
-good_field : (field : List ℕ) (kept : Kept) (read : Result Kept SettingFault) → read ≡ Ok kept
+good_field : (field : List ℕ) (kept : SettingValue) (read : Result SettingValue SettingFault) → read ≡ Ok kept
     → ((fault : SettingFault) → IsRefused field fault → read ≡ Err fault) → IsGoodField field
 good_field field kept read is each stored fault refused = let bad = each fault refused in cc
 
-only_setting : (field : List ℕ) (kept other : Kept) (read : Result Kept SettingFault) → read ≡ Ok kept
-    → ((spelled : Kept) → Spells field spelled → read ≡ Ok spelled) → Spells field other → kept ≡ other
+only_setting : (field : List ℕ) (kept other : SettingValue) (read : Result SettingValue SettingFault) → read ≡ Ok kept
+    → ((spelled : SettingValue) → Spells field spelled → read ≡ Ok spelled) → Spells field other → kept ≡ other
 only_setting field kept other read is each spelled = let same = each other spelled in cc
 
 -- it costs what was compared with the budget
-within_budget : (job : Job) (field password : List ℕ) (kept : Kept) (read : Result Kept SettingFault) (over : Bool) (number : ℕ) → read ≡ Ok kept
-    → ((spelled : Kept) → Spells field spelled → read ≡ Ok spelled) → over ≡ false
+within_budget : (job : Job) (field password : List ℕ) (kept : SettingValue) (read : Result SettingValue SettingFault) (over : Bool) (number : ℕ) → read ≡ Ok kept
+    → ((spelled : SettingValue) → Spells field spelled → read ≡ Ok spelled) → over ≡ false
     → IsTrue over ↔ IsAbove job.budget number → ((stream : Stream) → number ≡ check_cost job kept stream (length password))
     → IsWithinBudget job field password
 within_budget job field password kept read over number is each not_over tests priced other spelled stream above =
     let same = only_setting field kept other read is each spelled in
     let number_is : number ≡ check_cost job other stream (length password) =
-    priced stream ∙ ap (λ (k : Kept). check_cost job k stream (length password)) same in
+    priced stream ∙ ap (λ (k : SettingValue). check_cost job k stream (length password)) same in
     true≢false (sym (tests.1 (subst (λ (n : ℕ). IsAbove job.budget n) (sym number_is) above)) ∙ not_over)
 
 -- what stopped `fits`
@@ -60,7 +60,7 @@ returns-in_err-fits-in-Stored-clause-judges c =
     c.in-Stored.ensures good within c.in_err-fits-in-Stored.ensures.compared)
 
 -- the field was compared by the setting that was read, which is the one that it spells
-is_compared : (job : Job) (field password : List ℕ) (before after : Work) (kept : Kept) (outdated : Bool) → Spells field kept
+is_compared : (job : Job) (field password : List ℕ) (before after : Work) (kept : SettingValue) (outdated : Bool) → Spells field kept
     → IsWithinBudget job field password → after ≡ raised_by before (work password kept) → is_outdated job kept ≡ outdated
     → IsCompared job field password before after kept outdated
 is_compared job field password before after kept outdated spells within counts is =

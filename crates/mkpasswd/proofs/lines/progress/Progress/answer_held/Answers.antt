@@ -1,6 +1,6 @@
 use Rattle.std.proofs.Common.{refl, sym, ap, ◌∙◌}
 use Rattle.std.proofs.lemmas.Result.{err_from_is_err_and}
-use Rattle.mkpasswd.specs.Private.Desks.{seen}
+use Rattle.mkpasswd.specs.Private.Desks.{state_of}
 use Rattle.mkpasswd.specs.Tallies.{both_tallies}
 use Rattle.mkpasswd.proofs.Answering.{answers-sent, room-after}
 use Rattle.mkpasswd.proofs.lines.progress.Progress.answer_held.Goals as goal
@@ -16,7 +16,7 @@ returns-in_err-give-clause-answers g c line stands =
     let p = err_from_is_err_and c.from_residual-in_err-give.result c.from_residual-in_err-give.ensures.1 in
     let made = c.in_ok-answer.ensures.answer line stands in
     let sent = answers-sent g.O.Write.contents g.E.Write.contents c.give.new.left made.0
-    (seen g.R.Rng.stream c.args.desk.now) (seen g.R.Rng.stream c.give.new.desk) c.give.result
+    (state_of g.R.Rng.stream c.args.desk.now) (state_of g.R.Rng.stream c.give.new.desk) c.give.result
     (ap g.R.Rng.stream c.give.ensures.rest.0 ∙ made.2.2) (c.give.ensures.rest.1 ∙ made.2.1) (c.give.ensures.sends made.0 made.2.0) in
     rw (p.1, p.2) (made.0, made.1, rw c.in_err-give.was at sent, tt)
 
@@ -34,5 +34,5 @@ returns-clause-room g c =
     let small = rw (← c.give.ensures.rest.1) at c.in_ok-answer.ensures.small in
     rw c.count_line.ensures (
     room-after g.O.Write.contents g.E.Write.contents c.args.self.now.tally c.in_ok-answer.answer
-    (seen g.R.Rng.stream c.args.desk.now) (seen g.R.Rng.stream c.give.new.desk) c.args.self.now.left c.give.new.left c.in_ok-give.field-0
+    (state_of g.R.Rng.stream c.args.desk.now) (state_of g.R.Rng.stream c.give.new.desk) c.args.self.now.left c.give.new.left c.in_ok-give.field-0
     c.requires.room.outs small c.in_ok-give.ensures.sends c.requires.room.calls c.give.ensures.calls c.give.ensures.out_bytes c.give.ensures.faults_bytes)

@@ -1,6 +1,6 @@
 use Rattle.std.proofs.Common.{◌∙◌, ap, length, sym}
 use Rattle.mkpasswd.proofs.Serving.{is_told}
-use Rattle.mkpasswd.proofs.command.tell.Goals as goal
+use Rattle.mkpasswd.proofs.command.report_fault.Goals as goal
 
 pub returns-clause-told : goal.returns-clause-told
 returns-clause-told g c =

@@ -1,15 +1,15 @@
 use Rattle.std.proofs.Common.{◌+◌, arith, sym, refl, ◌∙◌}
 use Rattle.std.proofs.lemmas.Result.{err_from_is_err_and}
 use Rattle.std.proofs.lemmas.List.{length-drop, take_rest}
-use Rattle.mkpasswd.specs.Private.Desks.{seen}
+use Rattle.mkpasswd.specs.Private.Desks.{state_of}
 use Rattle.mkpasswd.proofs.LinesOf.{HasNoLineFeed-position, cut-at_feed}
 use Rattle.mkpasswd.proofs.LookingThrough.{looking-cut, looking-end, looking-start, looking-step, same-trans}
-use Rattle.mkpasswd.proofs.lines.progress.Progress.look_through.Goals as goal
+use Rattle.mkpasswd.proofs.lines.progress.Progress.answer_lines_in.Goals as goal
 
 pub lines-init : goal.lines-init
 lines-init g c = (
   looking-start g.O.Write.contents g.E.Write.contents c.args.task.kind c.args.task.job.now
-      (seen g.R.Rng.stream c.args.desk.now) c.args.self.now c.args.piece.now c.requires.room.outs,
+      (state_of g.R.Rng.stream c.args.desk.now) c.args.self.now c.args.piece.now c.requires.room.outs,
   record { out = refl; faults = refl; rng = refl; meter = refl },
 )
 
@@ -17,7 +17,7 @@ pub returns-in_err-answer_held-clause-looked : goal.returns-in_err-answer_held-c
 returns-in_err-answer_held-clause-looked g c =
     let p = err_from_is_err_and c.from_residual.result c.from_residual.ensures.1 in
     rw (p.1, p.2) (looking-cut g.O.Write.contents g.E.Write.contents c.args.task.kind c.args.task.job.now
-    (seen g.R.Rng.stream c.args.desk.now) (seen g.R.Rng.stream c.lines.desk) (seen g.R.Rng.stream c.answer_held.new.desk)
+    (state_of g.R.Rng.stream c.args.desk.now) (state_of g.R.Rng.stream c.lines.desk) (state_of g.R.Rng.stream c.answer_held.new.desk)
     c.args.self.now c.lines.self c.answer_held.new.self c.append.new.self c.args.piece.now c.lines.rest.now c.in-Some.end (Unit {0}) c.in_err-answer_held.field-0.0
     (record {
       before = c.lines.invariant.0;
@@ -35,7 +35,7 @@ pub lines-preserved : goal.lines-preserved
 lines-preserved g c =
     let next = c.in_ok-answer_held.ensures in (
       looking-step g.O.Write.contents g.E.Write.contents c.args.task.kind c.args.task.job.now
-          (seen g.R.Rng.stream c.args.desk.now) (seen g.R.Rng.stream c.lines.desk) (seen g.R.Rng.stream c.answer_held.new.desk)
+          (state_of g.R.Rng.stream c.args.desk.now) (state_of g.R.Rng.stream c.lines.desk) (state_of g.R.Rng.stream c.answer_held.new.desk)
           c.args.self.now c.lines.self c.answer_held.new.self c.append.new.self c.args.piece.now c.lines.rest.now _ c.in-Some.end c.in_ok-answer_held.field-0
           (record {
             before = c.lines.invariant.0;
@@ -50,6 +50,6 @@ lines-preserved g c =
 pub returns-clause-looked : goal.returns-clause-looked
 returns-clause-looked g c =
     looking-end g.O.Write.contents g.E.Write.contents c.args.task.kind c.args.task.job.now
-    (seen g.R.Rng.stream c.args.desk.now) (seen g.R.Rng.stream c.lines.desk)
+    (state_of g.R.Rng.stream c.args.desk.now) (state_of g.R.Rng.stream c.lines.desk)
     c.args.self.now c.lines.self c.append-2.new.self c.args.piece.now c.lines.rest.now
     c.lines.invariant.0 (HasNoLineFeed-position c.lines.rest.now (sym c.line_feed_at.ensures ∙ c.in_default.is)) c.append-2.ensures
