@@ -15,8 +15,9 @@ use Rattle.crypt_core.specs.declared.scheme.Scheme.{Scheme}
 use Rattle.crypt_core.specs.declared.scheme.Scheme.TheVariants.{Md5crypt, Sha256crypt, Sha512crypt, Scrypt}
 use Rattle.crypt_core.specs.Methods.{prefix, salt_limit, md5crypt_salt_limit, shacrypt_salt_limit, scrypt_salt_limit}
 use Rattle.crypt_core.specs.Packing.{packed_len}
-use Rattle.crypt_core.specs.Private.Costs.{HasCost}
-use Rattle.crypt_core.specs.Settings.{SettingValue, method_of, IsSettingByte, dollar, IsEndOfField, IsField, BeginsWith, rounds_word, rounds_field, IsRoundsNumber, clamped, SpellsRounds, SpellsCost, IsScryptSalt, KeepsSalt, Spells, IsSetting, cost_part, canonical_text, min_rounds, max_rounds, setting_limit, canonical_limit}
+use Rattle.crypt_core.specs.Schemes.{IsScheme, method_of}
+use Rattle.crypt_core.specs.Settings.{SettingValue, IsSettingByte, dollar, IsEndOfField, IsField, BeginsWith, rounds_word, rounds_field, IsRoundsNumber, SpellsRounds, SpellsCost, IsScryptSalt, KeepsSalt, Spells, IsSetting, cost_part, canonical_text, setting_limit, canonical_limit}
+use Rattle.crypt_core.specs.Rounds.{IsRounds, default_rounds, rounds, clamped, min_rounds, max_rounds}
 use Rattle.crypt_core.proofs.Numerals.{length-scrypt_part}
 
 -- What a setting keeps is bounded
@@ -24,15 +25,29 @@ use Rattle.crypt_core.proofs.Numerals.{length-scrypt_part}
 pub held_range : (n : ℕ) → (min_rounds ≤ clamped n) × (clamped n ≤ max_rounds)
 held_range n = (omega arith, omega arith)
 
+pub clamped_rounds : (n : ℕ) → IsRounds (rounds (clamped n) true)
+clamped_rounds n = record { from = omega arith; to = omega arith; unwritten = λ e. absurd (cc e) }
+
+pub unwritten_rounds : IsRounds (rounds default_rounds false)
+unwritten_rounds = record { from = omega arith; to = omega arith; unwritten = λ e. refl }
+
 rounds_range : (count : ℕ) (flag : Bool) (part after : List ℕ) → SpellsRounds (record { count = count; is_written = flag }) part after → (min_rounds ≤ count) × (count ≤ max_rounds)
 rounds_range count true part after s = let r = held_range (digits_value 10 s.0) in (omega (arith, s.3, r.0), omega (arith, s.3, r.1))
 rounds_range count false part after s = (omega (arith, s.1), omega (arith, s.1))
 
-pub cost_bounded : (scheme : Scheme) (part after : List ℕ) → SpellsCost scheme part after → HasCost scheme
+spelled_rounds : (count : ℕ) (flag : Bool) (part after : List ℕ) → SpellsRounds (record { count = count; is_written = flag }) part after → IsRounds (rounds count flag)
+spelled_rounds count true part after s =
+    let range = rounds_range count true part after s in
+    record { from = range.0; to = range.1; unwritten = λ e. absurd (cc e) }
+spelled_rounds count false part after s =
+    let range = rounds_range count false part after s in
+    record { from = range.0; to = range.1; unwritten = λ e. s.1 }
+
+pub cost_bounded : (scheme : Scheme) (part after : List ℕ) → SpellsCost scheme part after → IsScheme scheme
 cost_bounded Md5crypt part after s = tt
-cost_bounded (Sha256crypt r) part after s = rounds_range r.count r.is_written part after s
-cost_bounded (Sha512crypt r) part after s = rounds_range r.count r.is_written part after s
-cost_bounded (Scrypt n) part after s = (s.1, s.2)
+cost_bounded (Sha256crypt r) part after s = spelled_rounds r.count r.is_written part after s
+cost_bounded (Sha512crypt r) part after s = spelled_rounds r.count r.is_written part after s
+cost_bounded (Scrypt n) part after s = s.2
 
 cut : (n : ℕ) (field salt : List ℕ) → salt ≡ take n field → length salt ≤ n
 cut n field salt e = omega (arith, ap length e, length-take n field)
@@ -43,7 +58,7 @@ salt_bounded methods.Sha256crypt field salt k = cut shacrypt_salt_limit field sa
 salt_bounded methods.Sha512crypt field salt k = cut shacrypt_salt_limit field salt k
 salt_bounded methods.Scrypt field salt k = omega (arith, ap length k.0, k.1.short)
 
-pub setting_bounded : (kept : SettingValue) → IsSetting kept → HasCost kept.scheme × (length kept.salt ≤ salt_limit (method_of kept.scheme))
+pub setting_bounded : (kept : SettingValue) → IsSetting kept → IsScheme kept.scheme × (length kept.salt ≤ salt_limit (method_of kept.scheme))
 setting_bounded kept (text, s) =
     (cost_bounded kept.scheme s.scheme.part (s.field ++ s.rest) s.scheme.cost, salt_bounded (method_of kept.scheme) s.field kept.salt s.salt)
 
@@ -62,10 +77,10 @@ length_rounds count true high = length_written count high
 length_rounds count false high = omega arith
 
 -- the canonical text stays within its limit
-pub canonical_short : (scheme : Scheme) (salt : List ℕ) → HasCost scheme → length salt ≤ salt_limit (method_of scheme) → length (prefix (method_of scheme)) + (length (cost_part scheme) + length salt) ≤ canonical_limit
+pub canonical_short : (scheme : Scheme) (salt : List ℕ) → IsScheme scheme → length salt ≤ salt_limit (method_of scheme) → length (prefix (method_of scheme)) + (length (cost_part scheme) + length salt) ≤ canonical_limit
 canonical_short Md5crypt salt c l = omega arith
-canonical_short (Sha256crypt r) salt c l = omega (arith, length_rounds r.count r.is_written c.1)
-canonical_short (Sha512crypt r) salt c l = omega (arith, length_rounds r.count r.is_written c.1)
+canonical_short (Sha256crypt r) salt c l = omega (arith, length_rounds r.count r.is_written c.to)
+canonical_short (Sha512crypt r) salt c l = omega (arith, length_rounds r.count r.is_written c.to)
 canonical_short (Scrypt n) salt c l = omega (arith, length-scrypt_part n)
 
 -- Digits
@@ -221,9 +236,9 @@ canonical_spells text kept s =
     subst (λ (t : List ℕ). Spells t kept) (append-nil (canonical_text kept)) (canonical_spells_before text kept [] s tt (All-nil IsSettingByte) (omega arith))
 
 -- with a `$` and the text of the method's digest it stays within the limit of a hash
-pub packed_short : (scheme : Scheme) (salt : List ℕ) → HasCost scheme → length salt ≤ salt_limit (method_of scheme)
+pub packed_short : (scheme : Scheme) (salt : List ℕ) → IsScheme scheme → length salt ≤ salt_limit (method_of scheme)
     → length (prefix (method_of scheme)) + (length (cost_part scheme) + length salt) + packed_len (method_of scheme) < hash_limit
 packed_short Md5crypt salt c l = omega arith
-packed_short (Sha256crypt r) salt c l = omega (arith, length_rounds r.count r.is_written c.1)
-packed_short (Sha512crypt r) salt c l = omega (arith, length_rounds r.count r.is_written c.1)
+packed_short (Sha256crypt r) salt c l = omega (arith, length_rounds r.count r.is_written c.to)
+packed_short (Sha512crypt r) salt c l = omega (arith, length_rounds r.count r.is_written c.to)
 packed_short (Scrypt n) salt c l = omega (arith, length-scrypt_part n)

@@ -10,7 +10,8 @@ use Rattle.crypt_core.specs.declared.setting.fault.SettingFault.{SettingFault}
 use Rattle.crypt_core.specs.declared.setting.fault.SettingFault.TheVariants.{TooLong, BadCharacter, UnknownScheme, BadRounds, BadCost, ScryptRange, AboveCeiling, BadSalt}
 use Rattle.crypt_core.specs.Methods.{prefix}
 use Rattle.crypt_core.specs.Refusals.{IsShaText, LacksRounds, LacksCost, IsScryptText, Breaks, IsRefused, rule_number}
-use Rattle.crypt_core.specs.Settings.{method_of, IsSettingByte, IsSettingText, IsField, BeginsWith, scrypt_part, IsScryptSalt, SpellsCost, SpellsScheme, scrypt_part_len, setting_limit}
+use Rattle.crypt_core.specs.Settings.{IsSettingByte, IsSettingText, IsField, BeginsWith, scrypt_part, IsScryptSalt, SpellsCost, SpellsScheme, scrypt_part_len, setting_limit}
+use Rattle.crypt_core.specs.Schemes.{method_of}
 use Rattle.crypt_core.proofs.Numerals.{scrypt_part_unique, length-scrypt_part, all_scrypt_part}
 use Rattle.crypt_core.proofs.Readings.{prefix_unique}
 use Rattle.crypt_core.proofs.Refusals.{scheme_breaks_none}

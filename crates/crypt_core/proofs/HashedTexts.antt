@@ -5,7 +5,8 @@ use Rattle.std.proofs.lemmas.List.Elements.{All-cons, All-contains, All-from_rec
 use Rattle.prims_core.specs.Alphabet.{alphabet}
 use Rattle.crypt_core.specs.Crypt.{crypt, digest_by}
 use Rattle.crypt_core.specs.Packing.{packed, packed_len}
-use Rattle.crypt_core.specs.Settings.{SettingValue, Spells, IsSettingByte, canonical_text, dollar, method_of}
+use Rattle.crypt_core.specs.Settings.{SettingValue, Spells, IsSettingByte, canonical_text, dollar}
+use Rattle.crypt_core.specs.Schemes.{method_of}
 use Rattle.crypt_core.proofs.Canonical.{canonical_spells_before}
 use Rattle.crypt_core.proofs.Making.{character_is_byte}
 use Rattle.std.proofs.lemmas.List.{length-append}

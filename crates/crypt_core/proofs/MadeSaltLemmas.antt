@@ -1,5 +1,5 @@
 -- Lemmas on salts made of random words.
-use Rattle.std.proofs.Common.{◌≡◌, ◌<◌, ◌⊎◌, ℕ, ◌+◌, List, [], ◌∷◌, ◌++◌, All, arith, inl, inr, length, refl}
+use Rattle.std.proofs.Common.{◌≡◌, ◌<◌, ◌≤◌, ◌⊎◌, ℕ, ◌+◌, List, [], ◌∷◌, ◌++◌, All, arith, inl, inr, length, refl}
 use Rattle.std.specs.List.{range_with_len}
 use Rattle.std.proofs.lemmas.List.FromFn.{map-range_with_len_more}
 use Rattle.std.proofs.lemmas.List.Elements.{All-map}
@@ -23,26 +23,9 @@ pub all_made_salt : (words : List ℕ) (n : ℕ) → All (Contains alphabet) (ma
 unfolding made_salt
 all_made_salt words n = All-map (Contains alphabet) (made_character words) (range_with_len 0 n) (λ k d h. in_alphabet _)
 
--- as many characters as a made salt has make a salt that the method takes
-pub made_is_makeable : (m : Method) (cost : ℕ) (salt : List ℕ) → length salt ≡ made_salt_length m → All (Contains alphabet) salt → TakesCost m cost → IsMakeable m cost salt
-made_is_makeable Md5crypt cost salt len all taken = record { some = omega arith; short = omega arith; characters = all; taken = taken }
-made_is_makeable Sha256crypt cost salt len all taken = record { some = omega arith; short = omega arith; characters = all; taken = taken }
-made_is_makeable Sha512crypt cost salt len all taken = record { some = omega arith; short = omega arith; characters = all; taken = taken }
-made_is_makeable Scrypt cost salt len all taken = record { some = omega arith; short = omega arith; characters = all; taken = taken }
-
--- so only its cost can be refused
-pub only_cost : (m : Method) (cost : ℕ) (salt : List ℕ) → length salt ≡ made_salt_length m → All (Contains alphabet) salt
-    → (fault : MakeFault) → IsMakeRefused m cost salt fault → fault ≡ Cost
-only_cost m cost salt len all SaltLength refused = absurd (never_short m salt len refused.breaks)
-  where
-    never_short : (m : Method) (salt : List ℕ) → length salt ≡ made_salt_length m → (length salt ≡ 0) ⊎ (salt_limit m < length salt) → ⊥
-    never_short Md5crypt salt len (inl none) = omega (arith, len, none)
-    never_short Sha256crypt salt len (inl none) = omega (arith, len, none)
-    never_short Sha512crypt salt len (inl none) = omega (arith, len, none)
-    never_short Scrypt salt len (inl none) = omega (arith, len, none)
-    never_short Md5crypt salt len (inr long) = omega (arith, len, long)
-    never_short Sha256crypt salt len (inr long) = omega (arith, len, long)
-    never_short Sha512crypt salt len (inr long) = omega (arith, len, long)
-    never_short Scrypt salt len (inr long) = omega (arith, len, long)
-only_cost m cost salt len all SaltCharacter refused = absurd (refused.breaks all)
-only_cost m cost salt len all Cost refused = refl
+-- as many characters as a made salt has, the method keeps
+pub made_short : (m : Method) → made_salt_length m ≤ salt_limit m
+made_short Md5crypt = omega arith
+made_short Sha256crypt = omega arith
+made_short Sha512crypt = omega arith
+made_short Scrypt = omega arith

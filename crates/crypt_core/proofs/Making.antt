@@ -1,8 +1,10 @@
 -- What a method, a cost and a salt make is a setting.
-use Rattle.std.proofs.Common.{◌≡◌, ◌≢◌, ℕ, ◌+◌, ◌≤◌, ◌<◌, ◌^◌, Bool, true, false, not, cond, eqb, inl, inr, ◌&&◌, List, [], ◌++◌, length, get_or, All, length-append, append-nil, refl, sym, ap, subst, ◌∙◌, arith}
+use Rattle.std.proofs.Common.{◌≡◌, ◌≢◌, ℕ, ◌+◌, ◌≤◌, ◌<◌, ◌^◌, ◌*◌, Bool, true, false, not, cond, eqb, inl, inr, ◌&&◌, List, [], ◌++◌, length, get_or, All, length-append, append-nil, refl, sym, ap, subst, ◌∙◌, arith}
 use Rattle.std.specs.Prelude.{Contains, decimal, codes, nat_le, Result, Ok, Err, OnOk, IfErr, IsOk}
 use Rattle.std.specs.List.{list_all}
+use Rattle.std.proofs.Math.Nat.{le-mul_of_pos_right, lt_of_not-le, mul-le-mul_right, one-le-mul}
 use Rattle.std.proofs.Math.Pow.{pow_mono}
+use Rattle.kdf_core.specs.Params.{ScryptCost, row_count, IsAccepted}
 use Rattle.std.proofs.lemmas.Bool.{and_parts, not-true, eqb-false, leb-true, ne_eqb, cases_order}
 use Rattle.std.proofs.lemmas.List.{take_all}
 use Rattle.std.proofs.lemmas.List.Sums.{AllPass-from_list_all}
@@ -16,9 +18,10 @@ use Rattle.crypt_core.specs.declared.scheme.Scheme.TheVariants.{Md5crypt, Sha256
 use Rattle.crypt_core.specs.declared.setting.fault.MakeFault.{MakeFault}
 use Rattle.crypt_core.specs.declared.setting.fault.MakeFault.TheVariants.{SaltLength, SaltCharacter, Cost}
 use Rattle.crypt_core.specs.Methods.{prefix, salt_limit, md5crypt_salt_limit, shacrypt_salt_limit, scrypt_salt_limit}
-use Rattle.crypt_core.specs.MadeSettings.{made_cost, made_scheme, made_setting, TakesCost, IsMakeable, BreaksMake, IsMakeRefused, make_rule_number, max_cost, default_cost, cost_at}
-use Rattle.crypt_core.specs.Private.Costs.{HasCost}
-use Rattle.crypt_core.specs.Settings.{SettingValue, method_of, IsSettingByte, dollar, BeginsWith, rounds_word, rounds_field, IsRoundsNumber, clamped, SpellsRounds, scrypt_part, SpellsCost, KeepsSalt, IsSetting, cost_part, canonical_text, min_rounds, max_rounds, default_rounds}
+use Rattle.crypt_core.specs.MadeSettings.{made_cost, made_scheme, made_setting, TakesCost, TakesSalt, IsMakeable, BreaksMake, IsMakeRefused, make_rule_number, max_cost, default_cost, cost_at}
+use Rattle.crypt_core.specs.Schemes.{IsScheme, method_of}
+use Rattle.crypt_core.specs.Settings.{SettingValue, HasNumerals, IsSettingByte, dollar, BeginsWith, rounds_word, rounds_field, IsRoundsNumber, SpellsRounds, scrypt_part, SpellsCost, KeepsSalt, IsSetting, cost_part, canonical_text}
+use Rattle.crypt_core.specs.Rounds.{clamped, min_rounds, max_rounds, default_rounds}
 use Rattle.crypt_core.proofs.Numerals.{all_scrypt_part}
 use Rattle.crypt_core.proofs.Canonical.{canonical_short, decimal_is_number, number_bytes, held_again, held_range}
 
@@ -89,10 +92,10 @@ rounds_bytes : (count : ℕ) (flag : Bool) → min_rounds ≤ count → count �
 rounds_bytes count true low high = field_bytes (decimal count) (decimal_is_number count (omega arith) (omega arith))
 rounds_bytes count false low high = All-nil IsSettingByte
 
-cost_bytes : (scheme : Scheme) → HasCost scheme → All IsSettingByte (cost_part scheme)
+cost_bytes : (scheme : Scheme) → IsScheme scheme → All IsSettingByte (cost_part scheme)
 cost_bytes Md5crypt c = All-nil IsSettingByte
-cost_bytes (Sha256crypt r) c = rounds_bytes r.count r.is_written c.0 c.1
-cost_bytes (Sha512crypt r) c = rounds_bytes r.count r.is_written c.0 c.1
+cost_bytes (Sha256crypt r) c = rounds_bytes r.count r.is_written c.from c.to
+cost_bytes (Sha512crypt r) c = rounds_bytes r.count r.is_written c.from c.to
 cost_bytes (Scrypt n) c = All-weaker (Contains alphabet) IsSettingByte character_is_byte (scrypt_part n) (all_scrypt_part n)
 
 -- The cost part
@@ -104,24 +107,31 @@ no_rounds salt all (more, e) =
     let long : 6 < length salt = omega (arith, ap length begins) in
     not_equals (get_or salt 6 0) (All-get_or (Contains alphabet) salt 6 0 long all) (ap (λ (xs : List ℕ). get_or xs 6 0) begins)
 
--- rounds without a field are the default
-abbrev IsMade : Scheme → Type 0
-IsMade Md5crypt = Unit {0}
-IsMade (Sha256crypt r) = r.is_written ≡ false → r.count ≡ default_rounds
-IsMade (Sha512crypt r) = r.is_written ≡ false → r.count ≡ default_rounds
-IsMade (Scrypt n) = Unit {0}
-
 rounds_spelled : (count : ℕ) (flag : Bool) (salt : List ℕ) → min_rounds ≤ count → count ≤ max_rounds → (flag ≡ false → count ≡ default_rounds) → All (Contains alphabet) salt → SpellsRounds (record { count = count; is_written = flag }) (cost_part (Sha256crypt (record { count = count; is_written = flag }))) (salt ++ [])
 rounds_spelled count true salt low high made all =
     let below : count < 2 ^ 64 = omega arith in
     (decimal count, decimal_is_number count (omega arith) below, refl, held_again count low high ∙ ap clamped (sym (decimal_is_IsNumeral count below).1))
 rounds_spelled count false salt low high made all = (refl, made refl, no_rounds salt all)
 
-cost_spelled : (scheme : Scheme) (salt : List ℕ) → HasCost scheme → IsMade scheme → All (Contains alphabet) salt → SpellsCost scheme (cost_part scheme) (salt ++ [])
-cost_spelled Md5crypt salt c m all = refl
-cost_spelled (Sha256crypt r) salt c m all = rounds_spelled r.count r.is_written salt c.0 c.1 m all
-cost_spelled (Sha512crypt r) salt c m all = rounds_spelled r.count r.is_written salt c.0 c.1 m all
-cost_spelled (Scrypt n) salt c m all = (refl, c.0, c.1)
+-- so many characters say the numbers that scrypt takes
+pub accepted_numerals : (cost : ScryptCost) → IsAccepted cost → HasNumerals cost
+accepted_numerals cost accepted =
+    let n = row_count cost in
+    let some_n : 1 ≤ n = let above : 0 ≤ cost.log_n = omega arith in let mono : 2 ^ 0 ≤ 2 ^ cost.log_n = pow_mono above in omega (arith, mono) in
+    let some_nr : 0 < n * cost.r = one-le-mul some_n accepted.in_range.some_block in
+    let within : n * cost.r * cost.p ≤ 2 ^ 23 = accepted.within in
+    let table : n * cost.r ≤ n * cost.r * cost.p = le-mul_of_pos_right (n * cost.r) accepted.in_range.some_part in
+    let rows : n ≤ n * cost.r = le-mul_of_pos_right n accepted.in_range.some_block in
+    let blocks : 1 * cost.r ≤ n * cost.r = mul-le-mul_right cost.r some_n in
+    let parts : 1 * cost.p ≤ n * cost.r * cost.p = mul-le-mul_right cost.p some_nr in
+    let low : cost.log_n < 24 = lt_of_not-le (λ high. let power : 2 ^ 24 ≤ n = pow_mono high in omega arith) in
+    record { log_n = omega (arith, low); r = omega (arith, blocks, table, within); p = omega (arith, parts, within) }
+
+cost_spelled : (scheme : Scheme) (salt : List ℕ) → IsScheme scheme → All (Contains alphabet) salt → SpellsCost scheme (cost_part scheme) (salt ++ [])
+cost_spelled Md5crypt salt c all = refl
+cost_spelled (Sha256crypt r) salt c all = rounds_spelled r.count r.is_written salt c.from c.to c.unwritten all
+cost_spelled (Sha512crypt r) salt c all = rounds_spelled r.count r.is_written salt c.from c.to c.unwritten all
+cost_spelled (Scrypt n) salt c all = (refl, accepted_numerals n c, c)
 
 salt_kept : (m : Method) (salt : List ℕ) → length salt ≤ salt_limit m → All (Contains alphabet) salt → KeepsSalt m salt salt
 salt_kept methods.Md5crypt salt short all = sym (take_all md5crypt_salt_limit salt short)
@@ -129,8 +139,8 @@ salt_kept methods.Sha256crypt salt short all = sym (take_all shacrypt_salt_limit
 salt_kept methods.Sha512crypt salt short all = sym (take_all shacrypt_salt_limit salt short)
 salt_kept methods.Scrypt salt short all = (refl, record { short = short; characters = all })
 
-spelled : (scheme : Scheme) (salt : List ℕ) → HasCost scheme → IsMade scheme → length salt ≤ salt_limit (method_of scheme) → All (Contains alphabet) salt → IsSetting (record { scheme = scheme; salt = salt })
-spelled scheme salt c m short all =
+pub spelled : (scheme : Scheme) (salt : List ℕ) → IsScheme scheme → length salt ≤ salt_limit (method_of scheme) → All (Contains alphabet) salt → IsSetting (record { scheme = scheme; salt = salt })
+spelled scheme salt c short all =
     let kept : SettingValue = record { scheme = scheme; salt = salt } in (
       canonical_text kept,
       record {
@@ -145,7 +155,7 @@ spelled scheme salt c m short all =
         scheme = record {
           part = cost_part scheme;
           parts = ap (λ (x : List ℕ). prefix (method_of scheme) ++ (cost_part scheme ++ x)) (sym (append-nil salt));
-          cost = cost_spelled scheme salt c m all;
+          cost = cost_spelled scheme salt c all;
         };
         salt = salt_kept (method_of scheme) salt short all;
       },
@@ -153,45 +163,20 @@ spelled scheme salt c m short all =
 
 -- What is made
 
-pub accepted_at : (cost : ℕ) → cost ≤ max_cost → HasCost (Scrypt (cost_at cost))
+pub accepted_at : (cost : ℕ) → cost ≤ max_cost → IsAccepted (cost_at cost)
 accepted_at cost high =
     let log_high : cost + 7 ≤ max_cost + 7 = omega arith in
-    let power : 2 ^ (cost + 7) ≤ 2 ^ (max_cost + 7) = pow_mono log_high in (
-      record { log_n = omega arith; r = omega arith; p = omega arith },
-      record {
-        in_range = record { above_one = omega arith; below = omega arith; some_block = omega arith; some_part = omega arith };
-        within = omega (arith, power);
-      },
-    )
+    let power : 2 ^ (cost + 7) ≤ 2 ^ (max_cost + 7) = pow_mono log_high in
+    record {
+      in_range = record { above_one = omega arith; below = omega arith; some_block = omega arith; some_part = omega arith };
+      within = omega (arith, power);
+    }
 
--- the numbers of a cost that scrypt takes are accepted
-pub made_cost_accepted : (cost : ℕ) → TakesCost methods.Scrypt cost → HasCost (Scrypt (made_cost cost))
-made_cost_accepted cost (inl none) = subst (λ (c : ℕ). HasCost (Scrypt (made_cost c))) (sym none) (accepted_at default_cost (omega arith))
-made_cost_accepted cost (inr range) =
-    let some : eqb cost 0 ≡ false = ne_eqb cost 0 (λ e. omega arith) in
-    subst (λ (b : Bool). HasCost (Scrypt (cost_at (cond b default_cost cost)))) (sym some) (accepted_at cost (omega arith))
-
-rounds_made : (b : Bool) (cost : ℕ) → HasCost (Sha256crypt (cond b (record { count = default_rounds; is_written = false }) (record { count = clamped cost; is_written = true }))) × IsMade (Sha256crypt (cond b (record { count = default_rounds; is_written = false }) (record { count = clamped cost; is_written = true })))
-rounds_made true cost = ((omega arith, omega arith), λ e. refl)
-rounds_made false cost = (held_range cost, λ e. absurd (cc e))
-
-made_bounded : (m : Method) (cost : ℕ) → TakesCost m cost → HasCost (made_scheme m cost) × IsMade (made_scheme m cost)
-made_bounded methods.Md5crypt cost c = (tt, tt)
-made_bounded methods.Sha256crypt cost c = rounds_made (eqb cost 0) cost
-made_bounded methods.Sha512crypt cost c = rounds_made (eqb cost 0) cost
-made_bounded methods.Scrypt cost c = (made_cost_accepted cost c, tt)
-
-made_method : (m : Method) (cost : ℕ) → method_of (made_scheme m cost) ≡ m
+pub made_method : (m : Method) (cost : ℕ) → method_of (made_scheme m cost) ≡ m
 made_method methods.Md5crypt cost = refl
 made_method methods.Sha256crypt cost = refl
 made_method methods.Sha512crypt cost = refl
 made_method methods.Scrypt cost = refl
-
--- where no rule is broken, what is made is a setting
-pub made_is_setting : (m : Method) (cost : ℕ) (salt : List ℕ) → IsMakeable m cost salt → IsSetting (made_setting m cost salt)
-made_is_setting m cost salt h =
-    let bounded = made_bounded m cost h.taken in
-    spelled (made_scheme m cost) salt bounded.0 bounded.1 (subst (λ (k : Method). length salt ≤ salt_limit k) (sym (made_method m cost)) h.short) h.characters
 
 pub limit_below : (m : Method) → salt_limit m ≤ scrypt_salt_limit
 limit_below methods.Md5crypt = omega arith
@@ -212,10 +197,25 @@ make_refused_cost m cost salt some short all bad = record { breaks = bad; first 
 
 -- what a setting can be made of breaks no rule
 pub makeable_breaks_none : (m : Method) (cost : ℕ) (salt : List ℕ) → IsMakeable m cost salt → (f : MakeFault) → BreaksMake f m cost salt → ⊥
-makeable_breaks_none m cost salt h SaltLength (inl none) = omega (arith, h.some)
-makeable_breaks_none m cost salt h SaltLength (inr long) = omega (arith, h.short, long)
-makeable_breaks_none m cost salt h SaltCharacter b = b h.characters
-makeable_breaks_none m cost salt h Cost b = b h.taken
+makeable_breaks_none m cost salt h SaltLength (inl none) = omega (arith, h.takes_salt.some)
+makeable_breaks_none m cost salt h SaltLength (inr long) = omega (arith, h.takes_salt.short, long)
+makeable_breaks_none m cost salt h SaltCharacter b = b h.takes_salt.characters
+makeable_breaks_none m cost salt h Cost b = b h.takes_cost
+
+-- nor does a salt that the method takes, with whatever cost, break a rule on salts
+pub taken_breaks_none : (m : Method) (salt : List ℕ) → TakesSalt m salt → (f : MakeFault) → ((cost : ℕ) → IsMakeRefused m cost salt f) → ⊥
+taken_breaks_none m salt h SaltLength refused = elim ((refused 0).breaks) [
+  | inl none ↦ omega (arith, h.some)
+  | inr long ↦ omega (arith, h.short, long)
+]
+taken_breaks_none m salt h SaltCharacter refused = (refused 0).breaks h.characters
+taken_breaks_none m salt h Cost refused = (refused 7).breaks (seven_taken m)
+  where
+    seven_taken : (m : Method) → TakesCost m 7
+    seven_taken methods.Md5crypt = tt
+    seven_taken methods.Sha256crypt = tt
+    seven_taken methods.Sha512crypt = tt
+    seven_taken methods.Scrypt = inr (omega arith, omega arith)
 
 make_rules_differ : (f g : MakeFault) → make_rule_number f ≡ make_rule_number g → f ≡ g
 make_rules_differ SaltLength SaltLength e = refl

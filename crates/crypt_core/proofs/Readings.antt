@@ -3,11 +3,12 @@ use Rattle.std.proofs.Common.{◌≡◌, ℕ, List, ◌++◌, drop, get_or, refl
 use Rattle.kdf_core.specs.Params.{ScryptCost}
 use Rattle.crypt_core.specs.declared.method.Method.{Method}
 use Rattle.crypt_core.specs.declared.method.Method.TheVariants as methods
-use Rattle.crypt_core.specs.declared.scheme.Rounds.{Rounds}
+use Rattle.crypt_core.specs.Rounds.{Rounds}
 use Rattle.crypt_core.specs.declared.scheme.Scheme.{Scheme}
 use Rattle.crypt_core.specs.declared.scheme.Scheme.TheVariants.{Md5crypt, Sha256crypt, Sha512crypt, Scrypt}
 use Rattle.crypt_core.specs.Methods.{prefix}
-use Rattle.crypt_core.specs.Settings.{SettingValue, method_of, scrypt_part, SpellsCost, KeepsSalt, SpellsScheme, Spells}
+use Rattle.crypt_core.specs.Settings.{SettingValue, scrypt_part, SpellsCost, KeepsSalt, SpellsScheme, Spells}
+use Rattle.crypt_core.specs.Schemes.{method_of}
 use Rattle.crypt_core.proofs.Fields.{field_unique}
 use Rattle.crypt_core.proofs.Numerals.{scrypt_part_unique}
 use Rattle.crypt_core.proofs.Rounds.{rounds_unique}

@@ -5,7 +5,7 @@ use Rattle.std.proofs.lemmas.Bool.{cases_order}
 use Rattle.std.proofs.lemmas.List.{append_cancel_left}
 use Rattle.kdf_core.specs.Params.{ScryptCost, IsAccepted}
 use Rattle.crypt_core.specs.declared.method.Method.TheVariants as methods
-use Rattle.crypt_core.specs.declared.scheme.Rounds.{Rounds}
+use Rattle.crypt_core.specs.Rounds.{Rounds}
 use Rattle.crypt_core.specs.declared.scheme.Scheme.{Scheme}
 use Rattle.crypt_core.specs.declared.scheme.Scheme.TheVariants.{Md5crypt, Sha256crypt, Sha512crypt, Scrypt}
 use Rattle.crypt_core.specs.declared.setting.fault.SettingFault.{SettingFault}
@@ -13,7 +13,8 @@ use Rattle.crypt_core.specs.declared.setting.fault.SettingFault.TheVariants.{Too
 use Rattle.crypt_core.specs.Methods.{prefix}
 use Rattle.crypt_core.specs.Readings.{IsReadOneWay, IsReading}
 use Rattle.crypt_core.specs.Refusals.{IsShaText, LacksRounds, IsScryptText, Breaks, IsRefused, rule_number}
-use Rattle.crypt_core.specs.Settings.{SettingValue, method_of, rounds_word, SpellsRounds, scrypt_part, HasNumerals, IsScryptSalt, KeepsSalt, SpellsScheme, Spells}
+use Rattle.crypt_core.specs.Settings.{SettingValue, rounds_word, SpellsRounds, scrypt_part, HasNumerals, IsScryptSalt, KeepsSalt, SpellsScheme, Spells}
+use Rattle.crypt_core.specs.Schemes.{method_of}
 use Rattle.crypt_core.proofs.Fields.{field_unique}
 use Rattle.crypt_core.proofs.Numerals.{scrypt_part_unique, length-scrypt_part, all_scrypt_part}
 use Rattle.crypt_core.proofs.Readings.{prefix_unique, setting_unique}

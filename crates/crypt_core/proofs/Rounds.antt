@@ -4,8 +4,8 @@ use Rattle.std.specs.Prelude.{min}
 use Rattle.std.specs.Str.Parse.{digits_value}
 use Rattle.std.proofs.lemmas.List.{append_cancel_left}
 use Rattle.std.proofs.lemmas.List.Elements.{All-cons, All-weaker}
-use Rattle.crypt_core.specs.declared.scheme.Rounds.{Rounds}
-use Rattle.crypt_core.specs.Settings.{dollar, IsField, rounds_word, rounds_field, IsRoundsNumber, clamped, SpellsRounds, max_rounds}
+use Rattle.crypt_core.specs.Rounds.{Rounds, clamped, max_rounds}
+use Rattle.crypt_core.specs.Settings.{dollar, IsField, rounds_word, rounds_field, IsRoundsNumber, SpellsRounds}
 use Rattle.crypt_core.proofs.Fields.{field_unique}
 
 -- the digits of a proper field go up to its `$`

@@ -14,7 +14,8 @@ use Rattle.std.proofs.lemmas.Str.{digit_value_digit}
 use Rattle.prims_core.specs.Alphabet.{alphabet, character_of, numerals}
 use Rattle.kdf_core.specs.Params.{cost_of}
 use Rattle.crypt_core.specs.Refusals.{LacksCost}
-use Rattle.crypt_core.specs.Settings.{dollar, IsEndOfField, IsField, IsRoundsNumber, scrypt_part, HasNumerals, max_rounds, scrypt_part_len}
+use Rattle.crypt_core.specs.Settings.{dollar, IsEndOfField, IsField, IsRoundsNumber, scrypt_part, HasNumerals, scrypt_part_len}
+use Rattle.crypt_core.specs.Rounds.{max_rounds}
 use Rattle.crypt_core.proofs.Fields.{field_unique}
 use Rattle.crypt_core.proofs.Rounds.{digits_are_field}
 

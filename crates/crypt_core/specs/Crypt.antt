@@ -7,7 +7,8 @@ use Rattle.kdf_core.specs.ScryptWork.{IsAfterRefusal}
 use Rattle.crypt_core.specs.Md5crypt.{md5crypt_digest}
 use Rattle.crypt_core.specs.Methods.{digest_len}
 use Rattle.crypt_core.specs.Packing.{packed, packed_len}
-use Rattle.crypt_core.specs.Settings.{SettingValue, canonical_limit, canonical_text, dollar, method_of}
+use Rattle.crypt_core.specs.Settings.{SettingValue, canonical_limit, canonical_text, dollar}
+use Rattle.crypt_core.specs.Schemes.{method_of}
 use Rattle.crypt_core.specs.ShaCrypt.{shacrypt_digest}
 use Rattle.crypt_core.specs.declared.method.Method.TheVariants as methods
 use Rattle.crypt_core.specs.declared.scheme.Scheme.{Scheme}

@@ -1,5 +1,6 @@
 pub mod Crypt
 pub mod Cycle
+pub mod FieldReadings
 pub mod FitFaults
 pub mod Fits
 pub mod HashFaults
@@ -15,7 +16,10 @@ pub mod Readings
 pub mod Refusals
 pub mod Replacements
 pub mod RoundMessage
+pub mod Rounds
+pub mod Schemes
 pub mod SettingFaults
 pub mod Settings
 pub mod ShaCrypt
+pub mod StoredFields
 pub mod Work

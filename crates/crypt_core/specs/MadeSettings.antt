@@ -5,16 +5,17 @@ use Rattle.prims_core.specs.Alphabet.{alphabet}
 use Rattle.kdf_core.specs.Params.{ScryptCost, cost_of}
 use Rattle.crypt_core.specs.declared.method.Method.{Method}
 use Rattle.crypt_core.specs.declared.method.Method.TheVariants as methods
-use Rattle.crypt_core.specs.declared.scheme.Rounds.{Rounds}
+use Rattle.crypt_core.specs.Rounds.{Rounds, default_rounds, clamped}
+use Rattle.crypt_core.specs.Schemes.{method_of}
 use Rattle.crypt_core.specs.declared.scheme.Scheme.{Scheme}
 use Rattle.crypt_core.specs.declared.scheme.Scheme.TheVariants.{Md5crypt, Sha256crypt, Sha512crypt, Scrypt}
 use Rattle.crypt_core.specs.declared.setting.fault.MakeFault.{MakeFault}
 use Rattle.crypt_core.specs.declared.setting.fault.MakeFault.TheVariants.{SaltLength, SaltCharacter, Cost}
 use Rattle.crypt_core.specs.MadeSalts.{made_salt, made_salt_length}
 use Rattle.crypt_core.specs.Methods.{salt_limit}
-use Rattle.crypt_core.specs.Settings.{SettingValue, default_rounds, clamped}
+use Rattle.crypt_core.specs.Settings.{SettingValue}
 
--- the default and no field for cost 0, and otherwise a field with the cost, held
+-- the default and no field for cost 0, and otherwise a field with the cost, clamped
 abbrev pub made_rounds : ℕ → Rounds
 made_rounds cost = if cost == 0 then record { count = default_rounds; is_written = false } else record { count = clamped cost; is_written = true }
 
@@ -47,21 +48,25 @@ made_scheme methods.Scrypt cost = Scrypt (made_cost cost)
 abbrev pub made_setting : Method → ℕ → List ℕ → SettingValue
 made_setting method cost salt = record { scheme = made_scheme method cost; salt = salt }
 
--- the same with a new salt, which three words make
-abbrev pub with_made_salt : Method → ℕ → List ℕ → SettingValue
-with_made_salt method cost words = made_setting method cost (made_salt words (made_salt_length method))
+-- a scheme with a new salt, which three random words make
+abbrev pub salted : Scheme → List ℕ → SettingValue
+salted scheme words = record { scheme = scheme; salt = made_salt words (made_salt_length (method_of scheme)) }
 
 -- scrypt takes the costs 0 and from the least to the greatest, and the other methods take any
 abbrev pub TakesCost : Method → ℕ → Type 0
 TakesCost methods.Scrypt cost = (cost ≡ 0) ⊎ ((min_cost ≤ cost) × (cost ≤ max_cost))
 TakesCost method cost = Unit {0}
 
--- one character of crypt's alphabet or more, no more than the method keeps, and a cost that it takes
-pub record IsMakeable (method : Method) (cost : ℕ) (salt : List ℕ) : Type 0 where
+-- one character of crypt's alphabet or more, and no more than the method keeps
+pub record TakesSalt (method : Method) (salt : List ℕ) : Type 0 where
   pub some : 0 < length salt
   pub short : length salt ≤ salt_limit method
   pub characters : All (Contains alphabet) salt
-  pub taken : TakesCost method cost
+
+-- a salt and a cost that the method takes
+pub record IsMakeable (method : Method) (cost : ℕ) (salt : List ℕ) : Type 0 where
+  pub takes_salt : TakesSalt method salt
+  pub takes_cost : TakesCost method cost
 
 -- Refusals
 

@@ -1,5 +1,4 @@
 -- What only contracts of private functions cite. A reader of the public clauses needs none of it.
-pub mod Costs
 pub mod Counting
 pub mod Parts
 pub mod RoundStrings

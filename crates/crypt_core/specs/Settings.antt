@@ -1,11 +1,12 @@
 -- Settings: which text spells which, and the one canonical text of each (crypt(5)).
-use Rattle.std.specs.Prelude.{◌≡◌, ◌≢◌, ℕ, ◌+◌, ◌^◌, ◌<◌, ◌≤◌, if◌then◌else◌, min, max, List, [], ◌∷◌, ◌++◌, length, take, All, Contains, MatchBool, decimal, codes}
+use Rattle.std.specs.Prelude.{◌≡◌, ◌≢◌, ℕ, ◌+◌, ◌^◌, ◌<◌, ◌≤◌, if◌then◌else◌, List, [], ◌∷◌, ◌++◌, length, take, All, Contains, MatchBool, decimal, codes}
 use Rattle.std.specs.Str.Parse.{digits_value}
 use Rattle.prims_core.specs.Alphabet.{alphabet, numerals}
 use Rattle.kdf_core.specs.Params.{ScryptCost, IsAccepted}
 use Rattle.crypt_core.specs.declared.method.Method.{Method}
 use Rattle.crypt_core.specs.declared.method.Method.TheVariants as methods
-use Rattle.crypt_core.specs.declared.scheme.Rounds.{Rounds}
+use Rattle.crypt_core.specs.Rounds.{Rounds, clamped, default_rounds}
+use Rattle.crypt_core.specs.Schemes.{method_of}
 use Rattle.crypt_core.specs.declared.scheme.Scheme.{Scheme}
 use Rattle.crypt_core.specs.declared.scheme.Scheme.TheVariants.{Md5crypt, Sha256crypt, Sha512crypt, Scrypt}
 use Rattle.crypt_core.specs.Methods.{prefix, salt_limit, scrypt_salt_limit}
@@ -14,13 +15,6 @@ use Rattle.crypt_core.specs.Methods.{prefix, salt_limit, scrypt_salt_limit}
 pub record SettingValue : Type 0 where
   pub scheme : Scheme
   pub salt : List ℕ
-
--- the method that a scheme belongs to
-abbrev pub method_of : Scheme → Method
-method_of Md5crypt = methods.Md5crypt
-method_of (Sha256crypt rounds) = methods.Sha256crypt
-method_of (Sha512crypt rounds) = methods.Sha512crypt
-method_of (Scrypt cost) = methods.Scrypt
 
 -- Bytes and fields
 
@@ -68,25 +62,11 @@ abbrev pub IsRoundsNumber : List ℕ → Type 0
 IsRoundsNumber [] = ⊥
 IsRoundsNumber (d ∷ ds) = (49 ≤ d) × (d ≤ 57) × All (λ c. (48 ≤ c) × (c ≤ 57)) ds
 
--- the fewest rounds, the most, and those of a text without a field
-abbrev pub min_rounds : ℕ
-min_rounds = 1000
-
-abbrev pub max_rounds : ℕ
-max_rounds = 999999999
-
-abbrev pub default_rounds : ℕ
-default_rounds = 5000
-
--- the nearest number of rounds
-abbrev pub clamped : ℕ → ℕ
-clamped n = max min_rounds (min n max_rounds)
-
 -- the word, the digits of the number, and a `$`
 abbrev pub rounds_field : List ℕ → List ℕ
 rounds_field digits = rounds_word ++ (digits ++ dollar ∷ [])
 
--- a field, and then the rounds are its number, held; or no field, and then they are the default
+-- a field, and then the rounds are its number, clamped; or no field, and then they are the default
 abbrev pub SpellsRounds : Rounds → List ℕ → List ℕ → Type 0
 SpellsRounds rounds part after = MatchBool rounds.is_written
     ((digits : List ℕ) × IsRoundsNumber digits × (part ≡ rounds_field digits) × (rounds.count ≡ clamped (digits_value 10 digits)))
@@ -148,7 +128,7 @@ IsSetting kept = (text : List ℕ) × Spells text kept
 
 -- The canonical text
 
--- the cost as it is held; rounds that the text didn't have are left out
+-- the cost as it is kept; rounds that the text didn't have are left out
 abbrev pub cost_part : Scheme → List ℕ
 cost_part Md5crypt = []
 cost_part (Sha256crypt rounds) = if rounds.is_written then rounds_field (decimal rounds.count) else []

@@ -84,9 +84,13 @@ work password kept =
 abbrev pub greatest_byte : ℕ
 greatest_byte = 255
 
--- the same for a password of so many bytes, with the greatest byte in place of a
+-- the same with the greatest byte in place of a, for a password and a salt of so many bytes
+abbrev pub bound_by : Scheme → ℕ → ℕ → Work
+bound_by scheme password_length salt_length = work_by scheme greatest_byte password_length salt_length
+
+-- for a setting, and a password of so many bytes
 abbrev pub work_bound : SettingValue → ℕ → Work
-work_bound kept password_length = work_by kept.scheme greatest_byte password_length (length kept.salt)
+work_bound kept password_length = bound_by kept.scheme password_length (length kept.salt)
 
 -- what no count of a hash reaches, for any password and any setting
 abbrev pub work_limit : ℕ
@@ -100,6 +104,10 @@ abbrev pub mixed_bytes_by : Scheme → ℕ
 mixed_bytes_by (Scrypt cost) = mixed_bytes cost
 mixed_bytes_by scheme = 0
 
--- for a password of so many bytes: the bytes that are digested at most, and those that are mixed
+-- for a password and a salt of so many bytes: the bytes that are digested at most, and those that are mixed
+abbrev pub cost_by : Scheme → ℕ → ℕ → ℕ
+cost_by scheme password_length salt_length = (bound_by scheme password_length salt_length).bytes + mixed_bytes_by scheme
+
+-- for a setting, and a password of so many bytes
 abbrev pub cost : SettingValue → ℕ → ℕ
-cost kept password_length = (work_bound kept password_length).bytes + mixed_bytes_by kept.scheme
+cost kept password_length = cost_by kept.scheme password_length (length kept.salt)

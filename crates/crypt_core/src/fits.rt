@@ -9,9 +9,10 @@ ghost use Rattle.crypt_core.specs.Refusals.{IsRefused};
 ghost use Rattle.crypt_core.specs.Settings.{SettingValue, Spells};
 ghost use Rattle.crypt_core.specs.Work.{work, work_limit, IsBelow};
 
-use crate::hash::{HashFault, hash};
+use crate::hash::HashFault;
 use crate::password::Password;
-use crate::setting::{Setting, SettingFault};
+use crate::setting::SettingFault;
+use crate::stored::StoredHash;
 use prims_core::meter::Meter;
 use std::alloc::Global;
 use thiserror::Error;
@@ -85,9 +86,7 @@ pub fn fits(
     ensures one_reading { IsReadOneWay stored.now }
     ensures each_refusal { (fault : Refusal) → IsRefused stored.now fault → result ≡ Err (FitFault.Setting fault) }
 {
-    let setting = Setting::read(stored)?;
-    let hashed = hash(alloc, password, &setting, meter)?;
-    Ok(hashed.text() == stored)
+    Ok(StoredHash::read(stored)?.fits(alloc, password, meter)?)
 }
 
 #[cfg(test)]

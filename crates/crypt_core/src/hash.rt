@@ -8,7 +8,8 @@ ghost use Rattle.crypt_core.specs.declared.method.Method.TheVariants.{Scrypt};
 ghost use Rattle.crypt_core.specs.Crypt.{crypt, digest_by, hash_limit, IsAfterRefusedGrowth};
 ghost use Rattle.crypt_core.specs.Methods.{digest_len};
 ghost use Rattle.crypt_core.specs.Packing.{packed};
-ghost use Rattle.crypt_core.specs.Settings.{Spells, canonical_text, dollar, method_of};
+ghost use Rattle.crypt_core.specs.Settings.{Spells, canonical_text, dollar};
+ghost use Rattle.crypt_core.specs.Schemes.{method_of};
 ghost use Rattle.crypt_core.specs.Work.{raised_by, work, work_limit, IsBelow};
 
 use crate::md5crypt::md5crypt;
@@ -139,13 +140,13 @@ fn digest_of(
         Scheme::Sha256crypt(rounds) => Ok(shacrypt::<CountedSha256>(
             password,
             salt,
-            rounds.count,
+            rounds.count(),
             meter,
         )),
         Scheme::Sha512crypt(rounds) => Ok(shacrypt::<CountedSha512>(
             password,
             salt,
-            rounds.count,
+            rounds.count(),
             meter,
         )),
         Scheme::Scrypt(params) => scrypt_digest(alloc, password.bytes(), salt, &params, meter),

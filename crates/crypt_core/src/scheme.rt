@@ -1,31 +1,45 @@
-//! What a setting asks for: its method with the cost.
+//! Schemes: a method with its cost, and no salt. What depends on these two alone is asked of a scheme: the work of a
+//! hash ([`Scheme::bound`], [`Scheme::cost`]), and whether a newer scheme replaces it.
 
-ghost use Rattle.std.specs.Prelude.{◌≡◌, true, false};
-ghost use Rattle.crypt_core.specs.Settings.{default_rounds, clamped, method_of};
+ghost use Rattle.std.specs.Prelude.{◌≡◌, IsTrue, true, false};
+ghost use Rattle.crypt_core.specs.Replacements.{is_replaced_by};
+ghost use Rattle.crypt_core.specs.Rounds.{IsRounds, default_rounds, clamped};
+ghost use Rattle.crypt_core.specs.Schemes.{IsScheme, method_of};
 
 use crate::method::Method;
 use kdf_core::params::Params;
+use std::marker::Model;
 
-/// The most rounds of SHA-crypt. A greater number of a text counts as this one.
+/// The most rounds of SHA-crypt. A greater number in a setting counts as this one.
 pub const MAX_ROUNDS: u64 = 999_999_999;
 
-/// The fewest rounds of SHA-crypt. A smaller number of a text counts as this one.
-const MIN_ROUNDS: u64 = 1000;
+/// The fewest rounds of SHA-crypt. A smaller number in a setting counts as this one.
+pub const MIN_ROUNDS: u64 = 1000;
 
-/// The rounds of SHA-crypt that a text without a field for them has.
-const DEFAULT_ROUNDS: u32 = 5000;
+/// The rounds of SHA-crypt where the setting has no `rounds=` field.
+pub const DEFAULT_ROUNDS: u32 = 5000;
 
-/// The rounds of SHA-crypt.
+/// The rounds of SHA-crypt, from 1000 to 999999999: those of a `rounds=` field, or 5000 without one.
 #[derive(Clone, Copy, Debug, PartialEq, Eq)]
 pub struct Rounds {
-    /// How many they are, from 1000 to 999999999.
-    pub count: u32,
-    /// Whether a text has its field `rounds=`.
-    pub is_written: bool,
+    count: u32,
+    is_written: bool,
+}
+
+impl Model for Rounds {
+    ghost use Rattle.crypt_core.specs.Rounds.{IsRounds, Rounds, rounds};
+
+    ghost Value = { Rounds };
+
+    ghost view = { λ a. rounds a.count a.is_written };
+
+    ghost invariant = { λ a. IsRounds (rounds a.count a.is_written) };
+
+    ghost inverse = { λ v. record { count = v.count; is_written = v.is_written } };
 }
 
 impl Rounds {
-    /// The rounds of a text without a field for them.
+    /// Returns the rounds of a setting without a `rounds=` field: 5000.
     pub fn unwritten() -> Rounds
         ensures { result ≡ record { count = default_rounds; is_written = false } }
     {
@@ -35,7 +49,7 @@ impl Rounds {
         }
     }
 
-    /// The rounds of a field with this number: the nearest from the fewest to the most.
+    /// Returns the rounds of a field with this number, clamped to 1000 to 999999999.
     pub fn written(number: u64) -> Rounds
         ensures { result ≡ record { count = clamped number; is_written = true } }
     {
@@ -44,23 +58,39 @@ impl Rounds {
             is_written: true,
         }
     }
+
+    /// Returns how many rounds they are.
+    pub fn count(&self) -> u32
+        ensures count { result ≡ self.now.count }
+        ensures in_range { IsRounds self.now }
+    {
+        self.count
+    }
+
+    /// Returns whether the setting has a `rounds=` field.
+    pub fn is_written(&self) -> bool
+        ensures written { result ≡ self.now.is_written }
+        ensures in_range { IsRounds self.now }
+    {
+        self.is_written
+    }
 }
 
 /// A method with its cost.
 #[derive(Clone, Copy, Debug, PartialEq, Eq)]
 pub enum Scheme {
-    /// It has but one cost.
+    /// FreeBSD's md5crypt, whose cost is fixed.
     Md5crypt,
-    /// Its rounds.
+    /// SHA-crypt over SHA-256, with its rounds.
     Sha256crypt(Rounds),
-    /// Its rounds.
+    /// SHA-crypt over SHA-512, with its rounds.
     Sha512crypt(Rounds),
-    /// scrypt's N, r and p.
+    /// scrypt, with its N, r and p.
     Scrypt(Params),
 }
 
 impl Scheme {
-    /// The method of the scheme.
+    /// Returns the method of the scheme.
     pub fn method(&self) -> Method
         ensures { result ≡ method_of self.now }
     {
@@ -69,6 +99,35 @@ impl Scheme {
             Scheme::Sha256crypt(_) => Method::Sha256crypt,
             Scheme::Sha512crypt(_) => Method::Sha512crypt,
             Scheme::Scrypt(_) => Method::Scrypt,
+        }
+    }
+
+    /// Returns whether a hash of this scheme is out of date where new hashes are made with the scheme `new`: that has
+    /// another method, or the same one with more rounds, or for scrypt a greater `N * r * p`. Whether the rounds have a
+    /// field makes no difference.
+    pub fn is_replaced_by(&self, new: &Scheme) -> bool
+        ensures { result ≡ is_replaced_by self.now new.now }
+    {
+        match (self, new) {
+            (Scheme::Md5crypt, Scheme::Md5crypt) => false,
+            (Scheme::Sha256crypt(old), Scheme::Sha256crypt(new))
+            | (Scheme::Sha512crypt(old), Scheme::Sha512crypt(new)) => old.count() < new.count(),
+            (Scheme::Scrypt(old), Scheme::Scrypt(new)) => old.product() < new.product(),
+            _ => true,
+        }
+    }
+
+    /// Returns true, and shows a contract what each part says of itself: its rounds or numbers are in range.
+    pub(crate) fn is_in_range(&self) -> bool
+        ensures holds { IsTrue result }
+        ensures in_range { IsScheme self.now }
+    {
+        match self {
+            Scheme::Md5crypt => true,
+            Scheme::Sha256crypt(rounds) | Scheme::Sha512crypt(rounds) => {
+                u64::from(rounds.count()) <= MAX_ROUNDS
+            }
+            Scheme::Scrypt(params) => params.log_n() > 0,
         }
     }
 }

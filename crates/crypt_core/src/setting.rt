@@ -3,16 +3,15 @@
 //! A `Setting` holds what some text spells, and nothing else. [`Setting::read`] takes it from a text
 //! and `Setting::text` gives its one canonical text back.
 
-ghost use Rattle.std.specs.Prelude.{◌≡◌, ◌≤◌, length};
+ghost use Rattle.std.specs.Prelude.{◌≡◌, ◌≤◌, ◌↔◌, length, All, Contains, IsTrue};
+ghost use Rattle.prims_core.specs.Alphabet.{alphabet};
 ghost use Rattle.crypt_core.specs.Methods.{salt_limit};
-ghost use Rattle.crypt_core.specs.Private.Costs.{HasCost};
+ghost use Rattle.crypt_core.specs.Schemes.{IsScheme, method_of};
 ghost use Rattle.crypt_core.specs.Replacements.{is_replaced_by};
-ghost use Rattle.crypt_core.specs.Settings.{method_of};
 
 mod fault;
 mod make;
 mod read;
-mod salt;
 #[cfg(test)]
 mod tests;
 mod text;
@@ -21,6 +20,7 @@ use crate::method::{Method, SCRYPT_SALT_LIMIT};
 use crate::scheme::Scheme;
 use arrayvec::ArrayVec;
 pub use fault::{MakeFault, SettingFault};
+use prims_core::alphabet::value_of;
 use std::marker::Model;
 
 /// The most bytes of a setting's text.
@@ -63,10 +63,9 @@ impl Setting {
         self.scheme.method()
     }
 
-    /// The method with its cost, which is in range.
-    pub(crate) fn scheme(&self) -> Scheme
-        ensures value { result ≡ self.now.scheme }
-        ensures cost { HasCost self.now.scheme }
+    /// Returns the scheme: the method with its cost.
+    pub fn scheme(&self) -> Scheme
+        ensures { result ≡ self.now.scheme }
     {
         self.scheme
     }
@@ -79,26 +78,29 @@ impl Setting {
         self.salt.as_slice()
     }
 
-    /// Whether a hash by this setting is out of date where new ones are made by the other: that is of another method,
-    /// or of the same one with more rounds, or for scrypt with a greater `N * r * p`. Salts don't matter, nor whether
-    /// the rounds have a field.
+    /// Returns whether a hash with this setting is out of date where new hashes are made with the setting `new`, as
+    /// [`Scheme::is_replaced_by`] tells of their schemes. Salts make no difference.
     pub fn replaced_by(&self, new: &Setting) -> bool
         ensures { result ≡ is_replaced_by self.now.scheme new.now.scheme }
     {
-        match self.scheme() {
-            Scheme::Md5crypt => !matches!(new.scheme(), Scheme::Md5crypt),
-            Scheme::Sha256crypt(old) => match new.scheme() {
-                Scheme::Sha256crypt(new) => old.count < new.count,
-                _ => true,
-            },
-            Scheme::Sha512crypt(old) => match new.scheme() {
-                Scheme::Sha512crypt(new) => old.count < new.count,
-                _ => true,
-            },
-            Scheme::Scrypt(old) => match new.scheme() {
-                Scheme::Scrypt(new) => old.product() < new.product(),
-                _ => true,
-            },
+        self.scheme.is_replaced_by(&new.scheme)
+    }
+}
+
+// Whether each byte is a character of crypt's alphabet.
+fn in_alphabet(bytes: &[u8]) -> bool
+    ensures { IsTrue result ↔ All (Contains alphabet) bytes.now }
+{
+    for byte in bytes {
+        if !is_in_alphabet(*byte) {
+            return false;
         }
     }
+    true
+}
+
+fn is_in_alphabet(byte: u8) -> bool
+    ensures { IsTrue result ↔ Contains alphabet byte }
+{
+    value_of(byte).is_some()
 }

@@ -2,11 +2,12 @@
 //! too much. It is the closed form of what the meter counts, step by step of each scheme.
 ghost use Rattle.std.specs.Prelude.{◌≡◌, ℕ, ◌+◌, ◌*◌, ◌^◌, ◌<◌, ◌≤◌, List, length};
 ghost use Rattle.crypt_core.specs.Cycle.{by_digit, digit_bytes};
-ghost use Rattle.crypt_core.specs.Methods.{md5crypt_salt_limit, scrypt_salt_limit, shacrypt_salt_limit};
+ghost use Rattle.crypt_core.specs.Methods.{md5crypt_salt_limit, salt_limit, scrypt_salt_limit, shacrypt_salt_limit};
 ghost use Rattle.crypt_core.specs.Passwords.{password_limit, IsPassword};
-ghost use Rattle.crypt_core.specs.Settings.{max_rounds};
+ghost use Rattle.crypt_core.specs.Rounds.{max_rounds};
+ghost use Rattle.crypt_core.specs.Schemes.{method_of};
 ghost use Rattle.crypt_core.specs.ShaCrypt.{sha_opening_byte};
-ghost use Rattle.crypt_core.specs.Work.{cost, digests_alone, greatest_byte, md5crypt_work, rounds_bytes, shacrypt_work, work, work_bound, work_by, work_limit, IsBelow, IsWithin};
+ghost use Rattle.crypt_core.specs.Work.{bound_by, cost, cost_by, digests_alone, greatest_byte, md5crypt_work, rounds_bytes, shacrypt_work, work, work_bound, work_by, work_limit, IsBelow, IsWithin};
 
 use crate::md5crypt::ROUNDS;
 use crate::scheme::Scheme;
@@ -19,11 +20,61 @@ pub use prims_core::work::Work;
 /// The greatest byte.
 const GREATEST_BYTE: u64 = 255;
 
-/// The most that a hash by the setting counts, for any password of `password_len` bytes, which are at
-/// most [`PASSWORD_LIMIT`](crate::password::PASSWORD_LIMIT). Nothing is hashed for it and no memory is taken.
+impl Scheme {
+    /// Returns the bound on the work of one hash with this scheme, for any password of `password_len` bytes and any salt
+    /// of `salt_len` bytes. It hashes nothing and takes no memory.
+    ///
+    /// A hash with md5crypt or scrypt counts exactly this. One with SHA-crypt counts up to `255 * salt_len` bytes less.
+    /// Each count is below 2^41.
+    ///
+    /// Conditions: `password_len` is at most [`PASSWORD_LIMIT`](crate::password::PASSWORD_LIMIT), and `salt_len` at most
+    /// what the method keeps: 8, 16, 16 or 86.
+    pub fn bound(&self, password_len: usize, salt_len: usize) -> Work
+        requires password { password_len ≤ password_limit }
+        requires salt { salt_len ≤ salt_limit (method_of self.now) }
+        ensures bound { result ≡ bound_by self.now password_len salt_len }
+        ensures never_passed { (password salt : List ℕ) → IsPassword password → length password ≡ password_len
+            → length salt ≡ salt_len → IsWithin (work password (record { scheme = self.now; salt = salt })) result }
+        ensures below { IsBelow result work_limit }
+    {
+        let password = password_len as u64;
+        let salt = salt_len as u64;
+        match self {
+            Scheme::Md5crypt => md5crypt_bound(password, salt),
+            Scheme::Sha256crypt(rounds) => {
+                shacrypt_bound::<CountedSha256>(rounds.count(), password, salt)
+            }
+            Scheme::Sha512crypt(rounds) => {
+                shacrypt_bound::<CountedSha512>(rounds.count(), password, salt)
+            }
+            Scheme::Scrypt(params) => scrypt_bound(params, password, salt),
+        }
+    }
+
+    /// Returns the greatest cost of one hash with this scheme as one number, for any password of `password_len` bytes and
+    /// any salt of `salt_len` bytes: the bytes of the [`bound`](Scheme::bound), and for scrypt the 128r bytes of each of
+    /// its mixings. A budget is compared with it. It is below 2^42.
+    ///
+    /// Conditions: as for [`bound`](Scheme::bound).
+    pub fn cost(&self, password_len: usize, salt_len: usize) -> u64
+        requires password { password_len ≤ password_limit }
+        requires salt { salt_len ≤ salt_limit (method_of self.now) }
+        ensures number { result ≡ cost_by self.now password_len salt_len }
+        ensures below { result < 2 ^ 42 }
+    {
+        let mixed = match self {
+            Scheme::Scrypt(params) => mixed_bytes(params),
+            Scheme::Md5crypt | Scheme::Sha256crypt(_) | Scheme::Sha512crypt(_) => 0,
+        };
+        self.bound(password_len, salt_len).bytes + mixed
+    }
+}
+
+/// Returns the bound on the work of one hash with this setting, for any password of `password_len` bytes, which are at
+/// most [`PASSWORD_LIMIT`](crate::password::PASSWORD_LIMIT). It hashes nothing and takes no memory.
 ///
-/// A hash by md5crypt or scrypt counts exactly this. One by SHA-crypt counts for its salt of s bytes up
-/// to `255 * s` bytes less, and all else as it stands here. Each count is below 2^41.
+/// A hash with md5crypt or scrypt counts exactly this. One with SHA-crypt counts up to 255 bytes less for each byte of its
+/// salt. Each count is below 2^41.
 pub fn bound(setting: &Setting, password_len: usize) -> Work
     requires { password_len ≤ password_limit }
     ensures bound { result ≡ work_bound setting.now password_len }
@@ -31,36 +82,20 @@ pub fn bound(setting: &Setting, password_len: usize) -> Work
         → IsWithin (work password setting.now) result }
     ensures below { IsBelow result work_limit }
 {
-    let password = password_len as u64;
-    let salt = setting.salt().len() as u64;
-    match setting.scheme() {
-        Scheme::Md5crypt => md5crypt_bound(password, salt),
-        Scheme::Sha256crypt(rounds) => {
-            shacrypt_bound::<CountedSha256>(rounds.count, password, salt)
-        }
-        Scheme::Sha512crypt(rounds) => {
-            shacrypt_bound::<CountedSha512>(rounds.count, password, salt)
-        }
-        Scheme::Scrypt(params) => scrypt_bound(&params, password, salt),
-    }
+    setting.scheme().bound(password_len, setting.salt().len())
 }
 
-/// What a hash by the setting costs at most, as one number, for any password of `password_len` bytes, which
-/// are at most [`PASSWORD_LIMIT`](crate::password::PASSWORD_LIMIT): the bytes of its [`bound`], and for
-/// scrypt the 128r bytes that each of the bound's mixings mixes.
+/// Returns the greatest cost of one hash with this setting as one number, for any password of `password_len` bytes, which
+/// are at most [`PASSWORD_LIMIT`](crate::password::PASSWORD_LIMIT): the bytes of its [`bound`], and for scrypt the 128r
+/// bytes of each of its mixings.
 ///
-/// It is what a budget is compared with. Nothing is hashed for it and no memory is taken. It is below 2^42
-/// for every setting.
+/// A budget is compared with it. It hashes nothing and takes no memory. It is below 2^42 for every setting.
 pub fn cost(setting: &Setting, password_len: usize) -> u64
     requires { password_len ≤ password_limit }
     ensures number { result ≡ cost setting.now password_len }
     ensures below { result < 2 ^ 42 }
 {
-    let mixed = match setting.scheme() {
-        Scheme::Scrypt(params) => mixed_bytes(&params),
-        Scheme::Md5crypt | Scheme::Sha256crypt(_) | Scheme::Sha512crypt(_) => 0,
-    };
-    bound(setting, password_len).bytes + mixed
+    setting.scheme().cost(password_len, setting.salt().len())
 }
 
 // The second message of md5crypt has the three bytes `$1$`, and one byte for each binary digit of the

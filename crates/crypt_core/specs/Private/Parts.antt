@@ -1,13 +1,13 @@
 -- What is read off the front of a text, part by part.
-use Rattle.std.specs.Prelude.{◌≡◌, ℕ, min, List, ◌∷◌, ◌++◌}
+use Rattle.std.specs.Prelude.{Option, Some, None, true, false, ◌≡◌, ℕ, min, List, ◌∷◌, ◌++◌}
 use Rattle.std.specs.Str.Parse.{digits_value}
 use Rattle.kdf_core.specs.Params.{ScryptCost}
 use Rattle.crypt_core.specs.declared.method.Method.{Method}
 use Rattle.crypt_core.specs.declared.method.Method.TheVariants as methods
-use Rattle.crypt_core.specs.declared.scheme.Rounds.{Rounds}
+use Rattle.crypt_core.specs.Rounds.{clamped, default_rounds, rounds, Rounds, max_rounds}
 use Rattle.crypt_core.specs.declared.setting.fault.SettingFault.{SettingFault}
 use Rattle.crypt_core.specs.Refusals.{IsRefused}
-use Rattle.crypt_core.specs.Settings.{dollar, max_rounds, IsField, IsRoundsNumber, IsScryptSalt, IsSettingText, HasNumerals, KeepsSalt, scrypt_part, SpellsRounds}
+use Rattle.crypt_core.specs.Settings.{dollar, IsField, IsRoundsNumber, IsScryptSalt, IsSettingText, HasNumerals, KeepsSalt, scrypt_part, SpellsRounds}
 
 -- every setting text of this form gets this refusal
 abbrev pub AllRefused : (List ℕ → Type 0) → SettingFault → Type 0
@@ -17,6 +17,11 @@ AllRefused HasForm fault = (text : List ℕ) → IsSettingText text → HasForm 
 abbrev pub HasNumber : List ℕ → ℕ → List ℕ → Type 0
 HasNumber field number rest = (digits : List ℕ) × IsRoundsNumber digits × (field ≡ digits ++ (dollar ∷ rest))
     × (number ≡ min (digits_value 10 digits) max_rounds)
+
+-- the rounds of a field with this number, or without a field
+abbrev pub field_rounds : Option ℕ → Rounds
+field_rounds (Some number) = rounds (clamped number) true
+field_rounds None = rounds default_rounds false
 
 -- these rounds are spelled in front of the rest
 abbrev pub HasRounds : List ℕ → Rounds → List ℕ → Type 0

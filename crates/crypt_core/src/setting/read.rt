@@ -8,14 +8,14 @@ ghost use Rattle.std.specs.Str.Parse.{digits_value};
 ghost use Rattle.kdf_core.specs.Params.{cost_of, IsAccepted};
 ghost use Rattle.crypt_core.specs.declared.setting.fault.SettingFault.{SettingFault as Refusal};
 ghost use Rattle.crypt_core.specs.Methods.{prefix};
-ghost use Rattle.crypt_core.specs.Private.Parts.{AllRefused, HasField, HasNumber, HasNumbers, HasRounds, HasSalt, LacksSalt};
+ghost use Rattle.crypt_core.specs.Private.Parts.{AllRefused, HasField, HasNumber, HasNumbers, HasRounds, HasSalt, LacksSalt, field_rounds};
 ghost use Rattle.crypt_core.specs.Readings.{IsReadOneWay};
 ghost use Rattle.crypt_core.specs.Refusals.{IsRefused, IsShaText, LacksCost, LacksNumber};
-ghost use Rattle.crypt_core.specs.Settings.{SettingValue, IsSettingByte, IsSettingText, dollar, max_rounds, BeginsWith, IsRoundsNumber, scrypt_part_len, IsScryptSalt, SpellsScheme, Spells};
+ghost use Rattle.crypt_core.specs.Settings.{SettingValue, IsSettingByte, IsSettingText, dollar, BeginsWith, IsRoundsNumber, scrypt_part_len, IsScryptSalt, SpellsScheme, Spells};
+ghost use Rattle.crypt_core.specs.Rounds.{max_rounds};
 
 use super::fault::SettingFault;
-use super::salt::in_alphabet;
-use super::{COST_CHARACTERS, ROUNDS_WORD, SETTING_LIMIT, Setting};
+use super::{COST_CHARACTERS, ROUNDS_WORD, SETTING_LIMIT, Setting, in_alphabet};
 use crate::method::{Method, SCRYPT_SALT_LIMIT};
 use crate::scheme::{MAX_ROUNDS, Rounds, Scheme};
 use arrayvec::ArrayVec;
@@ -85,12 +85,12 @@ fn scheme_at(text: &[u8]) -> Result<(Scheme, &[u8]), SettingFault>
         return Ok((Scheme::Md5crypt, after));
     }
     if let Some(after) = after_front(text, Method::Sha256crypt.prefix()) {
-        let (rounds, rest) = rounds_at(after)?;
-        return Ok((Scheme::Sha256crypt(rounds), rest));
+        let (number, rest) = rounds_at(after)?;
+        return Ok((Scheme::Sha256crypt(rounds_of(number)), rest));
     }
     if let Some(after) = after_front(text, Method::Sha512crypt.prefix()) {
-        let (rounds, rest) = rounds_at(after)?;
-        return Ok((Scheme::Sha512crypt(rounds), rest));
+        let (number, rest) = rounds_at(after)?;
+        return Ok((Scheme::Sha512crypt(rounds_of(number)), rest));
     }
     if let Some(after) = after_front(text, Method::Scrypt.prefix()) {
         let params = params_at(after)?;
@@ -106,21 +106,31 @@ fn after_front<'a>(text: &'a [u8], front: &[u8]) -> Option<&'a [u8]>
     text.strip_prefix(front)
 }
 
-// The rounds that follow SHA-crypt's prefix, and what comes after their field.
-fn rounds_at(after: &[u8]) -> Result<(Rounds, &[u8]), SettingFault>
-    ensures ok { IfOk result (λ x. HasRounds after.now x.0 x.1.now) }
+// The number of the field for SHA-crypt's rounds, if there is one, and what comes after it.
+fn rounds_at(after: &[u8]) -> Result<(Option<u64>, &[u8]), SettingFault>
+    ensures ok { IfOk result (λ x. HasRounds after.now (field_rounds x.0) x.1.now) }
     ensures err { IfErr result (AllRefused (λ text. IsShaText text after.now)) }
 {
     let Some(field) = after_front(after, ROUNDS_WORD) else {
-        return Ok((Rounds::unwritten(), after));
+        return Ok((None, after));
     };
     let Some((number, rest)) = number_at(field) else {
         return Err(SettingFault::BadRounds);
     };
-    Ok((Rounds::written(number), rest))
+    Ok((Some(number), rest))
 }
 
-// The number of the digits up to a `$`, held at the upper end, and what follows the `$`.
+// The rounds of a field with this number, or without a field.
+fn rounds_of(number: Option<u64>) -> Rounds
+    ensures { result ≡ field_rounds number }
+{
+    match number {
+        Some(number) => Rounds::written(number),
+        None => Rounds::unwritten(),
+    }
+}
+
+// The number of the digits up to a `$`, at most the upper end of rounds, and what follows the `$`.
 fn number_at(field: &[u8]) -> Option<(u64, &[u8])>
     ensures none { IfNone result (LacksNumber field.now) }
     ensures some { IfSome result (λ x. HasNumber field.now x.0 x.1.now) }

@@ -3,9 +3,9 @@
 ghost use Rattle.std.specs.Prelude.{◌≡◌, ◌+◌, ◌<◌, ◌≤◌, ◌++◌, length, decimal};
 ghost use Rattle.arrayvec.specs.ArrayVec.{array_vec_len};
 ghost use Rattle.crypt_core.specs.Crypt.{hash_limit};
-ghost use Rattle.crypt_core.specs.Private.Costs.{HasCost};
+ghost use Rattle.crypt_core.specs.Schemes.{IsScheme, method_of};
 ghost use Rattle.crypt_core.specs.Packing.{packed_len};
-ghost use Rattle.crypt_core.specs.Settings.{canonical_limit, cost_part, canonical_text, method_of, Spells};
+ghost use Rattle.crypt_core.specs.Settings.{canonical_limit, cost_part, canonical_text, Spells};
 
 use super::{ROUNDS_WORD, Setting, TEXT_CAPACITY};
 use crate::scheme::Scheme;
@@ -35,15 +35,14 @@ impl Setting {
 // Appends the scheme's cost part.
 fn append_cost(text: &mut ArrayVec<u8, TEXT_CAPACITY>, scheme: &Scheme)
     requires room { array_vec_len text.old + length (cost_part scheme.now) ≤ TEXT_CAPACITY }
-    requires fits { HasCost scheme.now }
     ensures { text.new.items ≡ text.old.items ++ cost_part scheme.now }
 {
     match scheme {
         Scheme::Md5crypt => {}
         Scheme::Sha256crypt(rounds) | Scheme::Sha512crypt(rounds) => {
-            if rounds.is_written {
+            if rounds.is_written() {
                 append(text, ROUNDS_WORD);
-                append_decimal(text, rounds.count);
+                append_decimal(text, rounds.count());
                 append(text, b"$");
             }
         }

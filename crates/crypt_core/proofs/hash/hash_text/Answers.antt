@@ -1,6 +1,7 @@
 use Rattle.std.proofs.Common.{◌≡◌, ◌∷◌, ◌++◌, List, [], ℕ, append_assoc, sym, subst, ◌∙◌}
 use Rattle.crypt_core.specs.Packing.{packed}
-use Rattle.crypt_core.specs.Settings.{Spells, canonical_text, dollar, method_of}
+use Rattle.crypt_core.specs.Settings.{Spells, canonical_text, dollar}
+use Rattle.crypt_core.specs.Schemes.{method_of}
 use Rattle.crypt_core.proofs.HashedTexts.{hashed_spells}
 use Rattle.crypt_core.proofs.hash.hash_text.Goals as goal
 

@@ -1,12 +1,10 @@
-use Rattle.std.proofs.Common.{ℕ, List, sym, subst}
-use Rattle.crypt_core.specs.declared.scheme.Scheme.{Scheme}
-use Rattle.crypt_core.specs.MadeSettings.{made_scheme}
-use Rattle.crypt_core.specs.Settings.{IsSetting}
-use Rattle.crypt_core.proofs.Making.{made_is_setting}
+use Rattle.std.proofs.Common.{◌≡◌}
+use Rattle.crypt_core.proofs.Making.{taken_breaks_none}
 use Rattle.crypt_core.proofs.setting.Setting.make.Goals as goal
 
-pub invariant_of-result : goal.invariant_of-result
-invariant_of-result c =
-    subst (λ (s : Scheme). IsSetting (record { scheme = s; salt = c.buffer_of.result.items })) (sym c.scheme_of.ensures)
-    (subst (λ (xs : List ℕ). IsSetting (record { scheme = made_scheme c.args.method c.args.cost; salt = xs })) (sym c.buffer_of.ensures)
-    (made_is_setting c.args.method c.args.cost c.args.salt.now c.in_ok-check.ensures.ok))
+pub returns-in-Err-clause-accepted : goal.returns-in-Err-clause-accepted
+returns-in-Err-clause-accepted c =
+    (λ e. absurd (cc e), λ made. absurd (taken_breaks_none c.args.method c.args.salt.now made.takes_salt c.in-Err.fault c.in-Err.ensures.err))
+
+pub returns-in-Err-clause-refused : goal.returns-in-Err-clause-refused
+returns-in-Err-clause-refused c = c.in-Err.ensures.err c.args.cost

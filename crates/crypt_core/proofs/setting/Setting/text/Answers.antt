@@ -3,12 +3,13 @@ use Rattle.std.proofs.Common.{◌≡◌, ◌+◌, ◌<◌, length, ap, subst, �
 use Rattle.crypt_core.specs.declared.method.Method.{Method}
 use Rattle.crypt_core.specs.Methods.{prefix}
 use Rattle.crypt_core.specs.Packing.{packed_len}
-use Rattle.crypt_core.specs.Settings.{SettingValue, Spells, cost_part, canonical_text, method_of}
+use Rattle.crypt_core.specs.Settings.{SettingValue, Spells, cost_part, canonical_text}
+use Rattle.crypt_core.specs.Schemes.{method_of}
 use Rattle.crypt_core.proofs.Canonical.{setting_bounded, canonical_short, canonical_spells, packed_short}
 use Rattle.crypt_core.proofs.setting.Setting.text.Goals as goal
 
-pub append_cost-requires-clause-room : goal.append_cost-requires-clause-room
-append_cost-requires-clause-room c =
+pub append_cost-requires : goal.append_cost-requires
+append_cost-requires c =
     let kept : SettingValue = record { scheme = c.self.inside.scheme; salt = c.self.inside.salt.items } in
     let bounded = setting_bounded kept c.self.invariant in
     let front : length c.prefix.result.now ≡ length (prefix (method_of c.self.inside.scheme)) = ap length c.prefix.ensures ∙ ap (λ (m : Method). length (prefix m)) c.method.ensures in

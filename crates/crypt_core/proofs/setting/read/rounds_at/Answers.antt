@@ -1,3 +1,5 @@
+use Rattle.std.proofs.Common.{true, refl}
+use Rattle.crypt_core.specs.Rounds.{clamped, rounds}
 use Rattle.crypt_core.proofs.First.{refused_rounds}
 use Rattle.crypt_core.proofs.Rounds.{written_rounds}
 use Rattle.crypt_core.proofs.setting.read.rounds_at.Goals as goal
@@ -10,4 +12,4 @@ returns-in_default-number_at-clause-err c = λ text is_text is_sha.
 pub returns-clause-ok : goal.returns-clause-ok
 returns-clause-ok c =
     let found = c.in-Some-number_at.ensures.some in
-    written_rounds c.args.after.now c.in-Some.field.now found.0 c.in-Some-number_at.rest.now c.in-Some-number_at.number c.written.result c.in-Some.ensures found.1 found.2 found.3 c.written.ensures
+    written_rounds c.args.after.now c.in-Some.field.now found.0 c.in-Some-number_at.rest.now c.in-Some-number_at.number (rounds (clamped c.in-Some-number_at.number) true) c.in-Some.ensures found.1 found.2 found.3 refl

@@ -2,6 +2,7 @@ use Rattle.std.proofs.Common.{◌≡◌, length, ap, ◌∙◌, arith}
 use Rattle.crypt_core.specs.declared.scheme.Scheme.{Scheme}
 use Rattle.crypt_core.specs.Settings.{cost_part, scrypt_part_len}
 use Rattle.crypt_core.proofs.Numerals.{length-scrypt_part}
+use Rattle.crypt_core.proofs.Making.{accepted_numerals}
 use Rattle.crypt_core.proofs.setting.text.append_cost.Goals as goal
 
 pub put_group-requires-clause-room : goal.put_group-requires-clause-room
@@ -18,3 +19,15 @@ pub put_group-requires-in-Scrypt-2-clause-room : goal.put_group-requires-in-Scry
 put_group-requires-in-Scrypt-2-clause-room c =
     let long : length (cost_part c.args.scheme.now) ≡ scrypt_part_len = ap (λ (s : Scheme). length (cost_part s)) c.in-Scrypt.is ∙ length-scrypt_part c.in-Scrypt.params in
     omega (arith, c.put_group.ensures.len, c.put_group-in-Scrypt.ensures.len)
+
+pub put_group-requires-clause-fits : goal.put_group-requires-clause-fits
+put_group-requires-clause-fits c =
+    omega (arith, c.from.ensures, c.log_n.ensures.number, (accepted_numerals c.in-Scrypt.params c.log_n.ensures.accepted).log_n)
+
+pub put_group-requires-in-Scrypt-clause-fits : goal.put_group-requires-in-Scrypt-clause-fits
+put_group-requires-in-Scrypt-clause-fits c =
+    omega (arith, c.r.ensures.number, (accepted_numerals c.in-Scrypt.params c.log_n.ensures.accepted).r)
+
+pub put_group-requires-in-Scrypt-2-clause-fits : goal.put_group-requires-in-Scrypt-2-clause-fits
+put_group-requires-in-Scrypt-2-clause-fits c =
+    omega (arith, c.p.ensures.number, (accepted_numerals c.in-Scrypt.params c.log_n.ensures.accepted).p)

@@ -3,7 +3,7 @@ use Rattle.prims_core.specs.Alphabet.{alphabet}
 use Rattle.std.proofs.Common.{All, refl, subst, length, ◌≤◌, arith}
 use Rattle.std.proofs.lemmas.List.{take_all}
 use Rattle.std.proofs.lemmas.List.Elements.{All-more}
-use Rattle.crypt_core.proofs.setting.salt.in_alphabet.Goals as goal
+use Rattle.crypt_core.proofs.setting.in_alphabet.Goals as goal
 
 pub returns-then-not-is_in_alphabet : goal.returns-then-not-is_in_alphabet
 returns-then-not-is_in_alphabet c =

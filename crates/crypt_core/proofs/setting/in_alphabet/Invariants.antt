@@ -2,7 +2,7 @@
 use Rattle.std.specs.Prelude.{Contains}
 use Rattle.prims_core.specs.Alphabet.{alphabet}
 use Rattle.std.proofs.Common.{All, take}
-use Rattle.crypt_core.proofs.setting.salt.in_alphabet.Given as goal
+use Rattle.crypt_core.proofs.setting.in_alphabet.Given as goal
 
 abbrev pub invariant-loop-byte : goal.invariant-loop-byte
 invariant-loop-byte l = All (Contains alphabet) (take l.byte-index l.bytes)

@@ -1,0 +1,22 @@
+use Rattle.std.proofs.Common.{◌≡◌, ◌≤◌, ◌∙◌, ℕ, List, All, Contains, length, subst, sym, ap, arith}
+use Rattle.crypt_core.specs.MadeSettings.{IsMakeRefused, TakesSalt}
+use Rattle.crypt_core.specs.Schemes.{method_of}
+use Rattle.crypt_core.specs.Settings.{IsSetting}
+use Rattle.crypt_core.specs.declared.method.Method.{Method}
+use Rattle.crypt_core.proofs.Making.{spelled, taken_breaks_none}
+use Rattle.crypt_core.proofs.setting.Setting.with_salt.Goals as goal
+
+pub invariant_of-result : goal.invariant_of-result
+invariant_of-result c =
+    let takes : TakesSalt (method_of c.args.scheme) c.args.salt.now = subst (λ (m : Method). TakesSalt m c.args.salt.now) c.method.ensures c.in-Ok.ensures.ok in
+    subst (λ (xs : List ℕ). IsSetting (record { scheme = c.args.scheme; salt = xs })) (sym c.buffer_of.ensures)
+    (spelled c.args.scheme c.args.salt.now c.is_in_range.ensures.in_range takes.short takes.characters)
+
+pub returns-in-Err-clause-refused : goal.returns-in-Err-clause-refused
+returns-in-Err-clause-refused c = λ cost.
+    subst (λ (m : Method). IsMakeRefused m cost c.args.salt.now c.in-Err.fault) c.method.ensures (c.in-Err.ensures.err cost)
+
+pub returns-in-Err-clause-accepted : goal.returns-in-Err-clause-accepted
+returns-in-Err-clause-accepted c =
+    let refused = returns-in-Err-clause-refused c in
+    (λ e. absurd (cc e), λ takes. absurd (taken_breaks_none (method_of c.args.scheme) c.args.salt.now takes c.in-Err.fault refused))

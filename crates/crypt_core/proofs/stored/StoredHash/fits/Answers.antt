@@ -1,0 +1,19 @@
+use Rattle.std.proofs.Common.{◌≡◌, ◌∙◌, sym, ap, IsTrue}
+use Rattle.std.proofs.lemmas.Slice.Eq.{bytes_eq-Decides}
+use Rattle.crypt_core.specs.Crypt.{crypt}
+use Rattle.crypt_core.specs.Fits.{Fits}
+use Rattle.crypt_core.specs.Settings.{SettingValue, Spells}
+use Rattle.crypt_core.proofs.Readings.{setting_unique}
+use Rattle.crypt_core.proofs.stored.StoredHash.fits.Goals as goal
+
+-- A text spells one setting at most, so the hash that was compared is the only one that could be the text.
+pub returns-clause-fits : goal.returns-clause-fits
+returns-clause-fits c =
+    let password = c.args.password.now in
+    let stored = c.self.inside.text.now in
+    let setting : SettingValue = c.self.inside.setting in
+    let hashed : c.text.result.now ≡ crypt password setting = c.text.ensures.text ∙ c.in_ok-hashed.ensures.text in
+    let compared = bytes_eq-Decides c.text.result.now stored in
+    let fitting : IsTrue c.eq.result → Fits password stored = λ equal. (setting, c.self.invariant, sym hashed ∙ compared.0 (sym c.eq.ensures ∙ equal)) in
+    let equal : Fits password stored → IsTrue c.eq.result = λ fits. c.eq.ensures ∙ compared.1 (hashed ∙ ap (crypt password) (setting_unique stored setting fits.0 c.self.invariant fits.1) ∙ fits.2) in
+    rw (← c.self.view_is) (fitting, equal)

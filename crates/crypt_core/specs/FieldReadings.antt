@@ -1,0 +1,14 @@
+-- What a stored field is read as.
+use Rattle.std.specs.Prelude.{◌≡◌, ℕ, List, [], Result, Ok, Err}
+use Rattle.crypt_core.specs.Refusals.{IsRefused}
+use Rattle.crypt_core.specs.StoredFields.{IsHashOf, IsLocked, IsStored}
+use Rattle.crypt_core.specs.declared.setting.fault.SettingFault.{SettingFault}
+use Rattle.crypt_core.specs.declared.stored.StoredField.{StoredField}
+use Rattle.crypt_core.specs.declared.stored.StoredField.TheVariants.{Empty, Locked, Hash}
+
+-- an empty field, a locked one, or a stored hash; or why a field of neither kind is no stored hash
+abbrev pub IsFieldReading : List ℕ → Result StoredField SettingFault → Type 0
+IsFieldReading field (Ok Empty) = field ≡ []
+IsFieldReading field (Ok Locked) = IsLocked field
+IsFieldReading field (Ok (Hash stored)) = IsStored field × IsHashOf field stored
+IsFieldReading field (Err fault) = IsStored field × IsRefused field fault

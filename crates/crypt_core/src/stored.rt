@@ -1,0 +1,138 @@
+//! Stored fields, as a password file has them (shadow(5)): an empty one, a locked one, or a stored hash, which is read
+//! once and keeps its setting.
+
+ghost use Rattle.std.specs.Prelude.{◌≡◌, ◌↔◌, Err, IsTrue, IfOk, IfErr, OnOk, OnErr};
+ghost use Rattle.prims_core.specs.Meter.{HasRoom};
+ghost use Rattle.crypt_core.specs.declared.setting.fault.SettingFault.{SettingFault as Refusal};
+ghost use Rattle.crypt_core.specs.Crypt.{crypt, IsAfterRefusedGrowth};
+ghost use Rattle.crypt_core.specs.FieldReadings.{IsFieldReading};
+ghost use Rattle.crypt_core.specs.Fits.{Fits};
+ghost use Rattle.crypt_core.specs.Readings.{IsReadOneWay};
+ghost use Rattle.crypt_core.specs.Refusals.{IsRefused};
+ghost use Rattle.crypt_core.specs.Settings.{Spells};
+ghost use Rattle.crypt_core.specs.StoredFields.{IsHashOf, IsLocked};
+ghost use Rattle.crypt_core.specs.Work.{raised_by, work, work_limit, IsBelow};
+
+use crate::hash::{HashFault, hash};
+use crate::password::Password;
+use crate::setting::{Setting, SettingFault};
+use prims_core::meter::Meter;
+use std::alloc::Global;
+use std::marker::Model;
+
+/// A stored hash: a text that spells a setting, and this setting. A contract sees both.
+#[derive(Drop)]
+pub struct StoredHash<'a> {
+    text: &'a [u8],
+    setting: Setting,
+}
+
+impl<'a> Model for StoredHash<'a> {
+    ghost use Rattle.crypt_core.specs.Settings.{Spells};
+    ghost use Rattle.crypt_core.specs.StoredFields.{StoredHash};
+
+    ghost Value = { StoredHash };
+
+    ghost view = { λ a. record { text = a.text.now; setting = a.setting } };
+
+    ghost invariant = { λ a. Spells a.text.now a.setting };
+}
+
+impl<'a> StoredHash<'a> {
+    /// Reads the setting that a stored hash spells, as [`Setting::read`] does.
+    ///
+    /// # Errors
+    ///
+    /// The first rule that the text breaks as a setting, in the order of [`SettingFault`].
+    pub fn read(text: &'a [u8]) -> Result<StoredHash<'a>, SettingFault>
+        ensures spelled { IfOk result (IsHashOf text.now) }
+        ensures refused { IfErr result (IsRefused text.now) }
+        ensures each_refusal { (fault : Refusal) → IsRefused text.now fault → result ≡ Err fault }
+        ensures one_reading { IsReadOneWay text.now }
+    {
+        let setting = Setting::read(text)?;
+        Ok(StoredHash { text, setting })
+    }
+
+    /// Returns the text.
+    pub fn text(&self) -> &[u8]
+        ensures { result.now ≡ self.now.text }
+    {
+        self.text
+    }
+
+    /// Returns the setting that the text spells.
+    pub fn setting(&self) -> &Setting
+        ensures value { result.now ≡ self.now.setting }
+        ensures spelled { Spells self.now.text self.now.setting }
+    {
+        &self.setting
+    }
+
+    /// Returns whether hashing the password with the setting reproduces the text, to the last byte.
+    ///
+    /// It raises the meter by exactly the work of that one hash, less than 2^41 in each count; before hashing,
+    /// [`bound`](crate::work::bound) tells what it can be. Condition: each count of the meter is at most 2^120.
+    ///
+    /// # Errors
+    ///
+    /// - `OutOfMemory`: scrypt could not allocate. The meter adds only the allocations that succeeded. No other method
+    ///   takes memory.
+    pub fn fits(
+        &self,
+        alloc: Global,
+        password: &Password,
+        meter: &mut Meter,
+    ) -> Result<bool, HashFault>
+        requires { HasRoom meter.old }
+        ensures verdict { IfOk result (λ verdict. IsTrue verdict ↔ (crypt password.now self.now.setting ≡ self.now.text)) }
+        ensures fits { IfOk result (λ verdict. IsTrue verdict ↔ Fits password.now self.now.text) }
+        ensures count { OnOk result (meter.new ≡ raised_by meter.old (work password.now self.now.setting)) }
+        ensures below { IsBelow (work password.now self.now.setting) work_limit }
+        ensures refused { OnErr result (IsAfterRefusedGrowth meter.old self.now.setting.scheme meter.new) }
+        ensures spelled { Spells self.now.text self.now.setting }
+    {
+        let hashed = hash(alloc, password, &self.setting, meter)?;
+        Ok(hashed.text() == self.text)
+    }
+}
+
+/// What a field of a password file stands for.
+#[derive(Drop)]
+pub enum StoredField<'a> {
+    /// An empty field: there is no password.
+    Empty,
+    /// A locked field, which begins with `!` or `*`: no password matches it.
+    Locked,
+    /// A stored hash.
+    Hash(StoredHash<'a>),
+}
+
+impl<'a> StoredField<'a> {
+    /// Reads a field: an empty one, one that begins with `!` or `*`, or else a stored hash.
+    ///
+    /// # Errors
+    ///
+    /// The first rule that a field of neither kind breaks as a setting, in the order of [`SettingFault`].
+    pub fn read(field: &'a [u8]) -> Result<StoredField<'a>, SettingFault>
+        ensures reading { IsFieldReading field.now result }
+        ensures one_reading { IsReadOneWay field.now }
+    {
+        if field.is_empty() {
+            return Ok(StoredField::Empty);
+        }
+        if is_locked(field) {
+            return Ok(StoredField::Locked);
+        }
+        match StoredHash::read(field) {
+            Ok(stored) => Ok(StoredField::Hash(stored)),
+            Err(fault) => Err(fault),
+        }
+    }
+}
+
+fn is_locked(field: &[u8]) -> bool
+    ensures { IsTrue result ↔ IsLocked field.now }
+{
+    field.starts_with(b"!") || field.starts_with(b"*")
+}
