@@ -3,10 +3,10 @@ use Rattle.std.proofs.Common.{◌≡◌, ℕ, ◌+◌, Bool, true, false, not, L
 use Rattle.std.proofs.lemmas.List.FromFn.{length-map-range_with_len}
 use Rattle.rand_core.specs.Stream.{Stream}
 use Rattle.crypt_core.specs.MadeSalts.{made_character, made_salt, three_words, made_salt_length}
-use Rattle.crypt_core.specs.MadeSettings.{made_scheme}
+use Rattle.crypt_core.specs.Schemes.{method_of}
 use Rattle.crypt_core.specs.Settings.{SettingValue}
-use Rattle.crypt_core.specs.Work.{cost, greatest_byte, mixed_bytes_by, work_by}
-use Rattle.mkpasswd.specs.Makers.{Recipe, setting_by, words_for}
+use Rattle.crypt_core.specs.Work.{cost, cost_by}
+use Rattle.mkpasswd.specs.Makers.{Recipe, made_cost_by, setting_by, words_for}
 
 -- a given salt leaves the words no part in the setting
 same_setting : (recipe : Recipe) (words others : List ℕ) → is_some recipe.salt ≡ true → setting_by recipe words ≡ setting_by recipe others
@@ -64,14 +64,9 @@ made_salt-length : (words : List ℕ) (n : ℕ) → length (made_salt words n) �
 unfolding made_salt
 made_salt-length words n = length-map-range_with_len (made_character words) 0 n
 
--- it is the same for all words, since they make salts of one length
-pub same_cost : (recipe : Recipe) (words others : List ℕ) (password : ℕ) → cost (setting_by recipe words) password ≡ cost (setting_by recipe others) password
-same_cost recipe words others password = go recipe.salt where
-  go : (salt : Option (List ℕ))
-      → cost (setting_by (record recipe { salt = salt }) words) password ≡ cost (setting_by (record recipe { salt = salt }) others) password
-  go None =
-      let scheme = made_scheme recipe.method recipe.cost in
-      let len = made_salt_length recipe.method in
-      ap (λ (salt : ℕ). (work_by scheme greatest_byte password salt).bytes + mixed_bytes_by scheme)
-      (made_salt-length words len ∙ sym (made_salt-length others len))
+-- it is known before any words are, since they make salts of one length
+pub made_cost : (recipe : Recipe) (words : List ℕ) (password : ℕ) → cost (setting_by recipe words) password ≡ made_cost_by recipe password
+made_cost recipe words password = go recipe.salt where
+  go : (salt : Option (List ℕ)) → cost (setting_by (record recipe { salt = salt }) words) password ≡ made_cost_by (record recipe { salt = salt }) password
+  go None = ap (cost_by recipe.scheme password) (made_salt-length words (made_salt_length (method_of recipe.scheme)))
   go (Some salt) = refl

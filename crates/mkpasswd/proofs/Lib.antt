@@ -20,7 +20,6 @@ pub mod Moving
 pub mod PassedValues
 pub mod Prints
 pub mod Reading
-pub mod Recipes
 pub mod Renewing
 pub mod Sending
 pub mod Serving

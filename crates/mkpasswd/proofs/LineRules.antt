@@ -2,13 +2,21 @@
 use Rattle.std.proofs.Common.{◌≡◌, ℕ, ◌≤◌, ◌<◌, List, [], length, Contains, Option, Some, None, inl, inr, refl, sym, ap, subst, ◌∙◌, arith}
 use Rattle.std.proofs.lemmas.Bool.{cases_order}
 use Rattle.crypt_core.specs.Passwords.{IsPassword, IsPasswordRefused}
+use Rattle.std.specs.Prelude.{Result, Ok, Err}
+use Rattle.crypt_core.specs.FieldReadings.{IsFieldReading}
+use Rattle.crypt_core.specs.Readings.{IsReadOneWay}
 use Rattle.crypt_core.specs.Refusals.{IsRefused}
+use Rattle.crypt_core.specs.Settings.{SettingValue}
+use Rattle.crypt_core.specs.StoredFields.{IsStored}
+use Rattle.crypt_core.specs.declared.stored.StoredField.{StoredField}
+use Rattle.crypt_core.specs.declared.stored.StoredField.TheVariants.{Empty, Locked, Hash}
 use Rattle.crypt_core.specs.declared.password.PasswordFault.{PasswordFault}
 use Rattle.crypt_core.specs.declared.password.PasswordFault.TheVariants.{TooLong, HasNul}
 use Rattle.crypt_core.specs.declared.setting.fault.SettingFault.{SettingFault}
 use Rattle.mkpasswd.specs.Texts.{colon}
-use Rattle.mkpasswd.specs.Lines.{Breaks, HasName, HasParts, IsLineRefused, IsSound, IsStored, Parts, line_limit, rule_number}
-use Rattle.mkpasswd.specs.Private.Entries.{HasBehind, IsBeforeField, IsCutOrWhole, IsEntry, IsFieldRefused, IsGoodField, IsGoodName, IsNamed, LacksParts}
+use Rattle.mkpasswd.specs.Lines.{Breaks, HasName, HasParts, IsLineRefused, IsSound, Parts, line_limit, rule_number}
+use Rattle.mkpasswd.specs.LineAnswers.{HasSoundParts}
+use Rattle.mkpasswd.specs.Private.Lines.{HasBehind, IsCutOrWhole, IsGoodName, IsNamed, LacksParts}
 use Rattle.mkpasswd.specs.declared.line.Kind.{Kind}
 use Rattle.mkpasswd.specs.declared.line.Kind.TheVariants.{Batch, Check}
 use Rattle.mkpasswd.specs.declared.line.LineFault.{LineFault}
@@ -60,7 +68,20 @@ parts_break_none kind line parts short good cut (Setting fault) below breaks = o
 parts_break_none kind line parts short good cut fault below breaks =
     name_breaks_none kind line parts.name short good (name_of_parts kind line parts cut) fault (omega arith) breaks
 
--- ---- entries, and refusals before the field is looked at
+-- ---- the rules before that of the field
+
+-- a line that breaks none of them
+pub record IsEntry (kind : Kind) (line : List ℕ) (parts : Parts) : Type 0 where
+  pub short : length line ≤ line_limit
+  pub good : IsGoodName parts.name
+  pub cut : HasParts kind line parts
+  pub password : IsPassword parts.password
+
+abbrev IsBeforeField : LineFault → Type 0
+IsBeforeField fault = rule_number fault < 6
+
+abbrev IsFieldRefused : List ℕ → SettingFault → Type 0
+IsFieldRefused field fault = IsStored field × IsRefused field fault
 
 pub refused_without_parts : (kind : Kind) (line name : List ℕ) (back : Option (List ℕ)) → IsNamed line name back → LacksParts kind back
     → IsLineRefused kind line NoPassword
@@ -145,14 +166,31 @@ sound_entry kind line parts entry right (Setting fault) breaks =
     right fault refused.0 refused.1 refused.2
 sound_entry kind line parts entry right fault breaks = entry_breaks_none kind line parts entry fault (omega arith) breaks
 
-pub sound_without_field : (kind : Kind) (line : List ℕ) (parts : Parts) → IsEntry kind line parts → parts.field ≡ None → IsSound kind line
+sound_without_field : (kind : Kind) (line : List ℕ) (parts : Parts) → IsEntry kind line parts → parts.field ≡ None → IsSound kind line
 sound_without_field kind line parts entry none = sound_entry kind line parts entry (λ fault field some refused. cc)
 
-pub sound_with_field : (kind : Kind) (line : List ℕ) (parts : Parts) (field : List ℕ) → IsEntry kind line parts → parts.field ≡ Some field
-    → IsGoodField field → IsSound kind line
-sound_with_field kind line parts field entry is good = sound_entry kind line parts entry (λ fault other some refused.
+-- a field that was read is not refused
+read_field : (field : List ℕ) (stored : StoredField) → IsReadOneWay field → IsFieldReading field (Ok stored) → (fault : SettingFault) → IsFieldRefused field fault → ⊥
+unfolding IsReadOneWay
+read_field field Empty one read fault refused = refused.0.some read
+read_field field Locked one read fault refused = refused.0.unlocked read
+read_field field (Hash stored) one read fault refused =
+    let both : Ok stored.setting ≡ Err fault = one (Ok stored.setting) (Err fault) read.1.spells refused.1 in
+    absurd cc
+
+sound_with_field : (kind : Kind) (line : List ℕ) (parts : Parts) (field : List ℕ) (stored : StoredField) → IsEntry kind line parts → parts.field ≡ Some field
+    → IsReadOneWay field → IsFieldReading field (Ok stored) → IsSound kind line
+sound_with_field kind line parts field stored entry is one read = sound_entry kind line parts entry (λ fault other some refused.
     let same : other ≡ field = cc in
-    good (subst IsStored same refused.0) fault (subst (λ (bytes : List ℕ). IsRefused bytes fault) same refused.1))
+    read_field field stored one read fault (subst IsStored same refused.0, subst (λ (bytes : List ℕ). IsRefused bytes fault) same refused.1))
+
+pub taken_with_field : (kind : Kind) (line : List ℕ) (parts : Parts) (field : List ℕ) (stored : StoredField) → IsEntry kind line parts → parts.field ≡ Some field
+    → IsReadOneWay field → IsFieldReading field (Ok stored) → HasSoundParts kind line parts
+taken_with_field kind line parts field stored entry is one read =
+    record { sound = sound_with_field kind line parts field stored entry is one read; cut = entry.cut }
+
+pub taken_without_field : (kind : Kind) (line : List ℕ) (parts : Parts) → IsEntry kind line parts → parts.field ≡ None → HasSoundParts kind line parts
+taken_without_field kind line parts entry none = record { sound = sound_without_field kind line parts entry none; cut = entry.cut }
 
 pub refused_field : (kind : Kind) (line : List ℕ) (parts : Parts) (field : List ℕ) (fault : SettingFault) → IsEntry kind line parts
     → parts.field ≡ Some field → IsFieldRefused field fault → IsLineRefused kind line (Setting fault)
@@ -161,12 +199,18 @@ refused_field kind line parts field fault entry is refused = record {
   first = entry_breaks_none kind line parts entry;
 }
 
--- an entry is refused for its field alone
-pub field_of_refused : (kind : Kind) (line : List ℕ) (parts : Parts) (field : List ℕ) → IsEntry kind line parts → parts.field ≡ Some field
-    → (fault : LineFault) → IsLineRefused kind line fault → (inner : SettingFault) × (fault ≡ Setting inner) × IsFieldRefused field inner
-field_of_refused kind line parts field entry is (Setting inner) refused =
+-- an entry is refused for its field alone, and for one fault of this
+pub only_field_fault : (kind : Kind) (line : List ℕ) (parts : Parts) (field : List ℕ) (one : SettingFault) → IsEntry kind line parts → parts.field ≡ Some field
+    → IsReadOneWay field → IsRefused field one → (fault : LineFault) → IsLineRefused kind line fault → Setting one ≡ fault
+unfolding IsReadOneWay
+only_field_fault kind line parts field one entry is once refused_one (Setting inner) refused =
     let found = field_of_breaks kind line parts entry.cut inner refused.breaks in
     let same : found.0 ≡ field = cc (found.1, is) in
-    (inner, refl, subst (λ (bytes : List ℕ). IsFieldRefused bytes inner) same found.2)
-field_of_refused kind line parts field entry is fault refused =
+    let both : Err one ≡ Err inner = once (Err one) (Err inner) refused_one (subst (λ (bytes : List ℕ). IsRefused bytes inner) same found.2.1) in
+    cc
+only_field_fault kind line parts field one entry is once refused_one fault refused =
     absurd (entry_breaks_none kind line parts entry fault (omega arith) refused.breaks)
+
+-- a line that breaks no rule gets no refusal
+pub taken_not_refused : (kind : Kind) (line : List ℕ) (parts : Parts) (fault : LineFault) → HasSoundParts kind line parts → IsLineRefused kind line fault → ⊥
+taken_not_refused kind line parts fault taken refused = taken.sound fault refused.breaks

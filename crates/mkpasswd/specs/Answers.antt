@@ -1,11 +1,12 @@
 -- What is answered to one item: a password or a line.
 use Rattle.std.specs.Prelude.{ℕ, List, [], ◌∷◌, ◌++◌, ◌⊎◌, ◌≡◌, decimal, if◌then◌else◌}
 use Rattle.rand_core.specs.Stream.{Stream}
+use Rattle.prims_core.specs.Work.{no_work}
 use Rattle.prims_core.specs.declared.work.Work.{Work}
 use Rattle.crypt_core.specs.Crypt.{crypt, IsAfterRefusedGrowth}
 use Rattle.crypt_core.specs.Settings.{SettingValue}
 use Rattle.crypt_core.specs.Work.{raised_by, work}
-use Rattle.mkpasswd.specs.Makers.{next_setting, words_for}
+use Rattle.mkpasswd.specs.Makers.{next_setting, stream_after}
 use Rattle.mkpasswd.specs.Tallies.{no_line, one_line}
 use Rattle.mkpasswd.specs.Texts.{as_line, colon}
 use Rattle.mkpasswd.specs.declared.job.Job.{Job}
@@ -33,6 +34,11 @@ IsRefusedAmong before [] after stream = ⊥
 IsRefusedAmong before (next ∷ others) after stream =
     (IsAfterRefusedGrowth before next.setting.scheme after × (stream ≡ next.stream))
     ⊎ IsRefusedAmong (raised_by before (work next.password next.setting)) others after stream
+
+-- the work of these hashes
+abbrev pub work_of : List Hashing → Work
+work_of [] = no_work
+work_of (next ∷ others) = raised_by (work next.password next.setting) (work_of others)
 
 -- ---- answers
 
@@ -72,19 +78,18 @@ work_text work = counts_text work.digests work.bytes work.mixes work.table
 abbrev pub wanted_text : Job → Work → List ℕ
 wanted_text job work = if job.work then work_text work else []
 
--- the hash of a password by a setting, as crypt(3) gives it, and its counts where they are wanted
-abbrev pub hash_text : Job → List ℕ → SettingValue → List ℕ
-hash_text job password kept = crypt password kept ++ wanted_text job (work password kept)
+-- ---- the hash of a password
 
--- ---- the answer to a password
+-- the text that crypt(3) gives with the next setting that the job makes
+abbrev pub new_hash : Job → List ℕ → Stream → List ℕ
+new_hash job password stream = crypt password (next_setting job.maker stream)
 
--- behind this front, the hash by the setting that the job makes, on a line of its own
-abbrev pub hashed_answer : Job → List ℕ → List ℕ → Stream → Answer
-hashed_answer job front password stream =
-    let kept = next_setting job.maker stream in
-    let left = (words_for job.maker stream).1 in
-    printed (as_line (front ++ hash_text job password kept)) one_line (hashing password kept left ∷ []) left
+-- how it is made: the words for its setting are drawn first
+abbrev pub new_hashing : Job → List ℕ → Stream → Hashing
+new_hashing job password stream = hashing password (next_setting job.maker stream) (stream_after job.maker stream)
 
--- a single password has no front
+-- the line for a single password: its hash, and the counts of its work if they are wanted
 abbrev pub password_answer : Job → List ℕ → Stream → Answer
-password_answer job = hashed_answer job []
+password_answer job password stream =
+    printed (as_line (new_hash job password stream ++ wanted_text job (work_of (new_hashing job password stream ∷ [])))) one_line
+    (new_hashing job password stream ∷ []) (stream_after job.maker stream)

@@ -13,6 +13,7 @@ pub mod Makers
 pub mod Methods
 pub mod One
 pub mod Options
+pub mod Outcomes
 pub mod Output
 pub mod Private
 pub mod Rehashes

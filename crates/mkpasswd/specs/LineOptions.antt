@@ -3,10 +3,11 @@ use Rattle.std.specs.Prelude.{◌≡◌, ℕ, ◌⊎◌, ◌↔◌, List, true, 
 use Rattle.rand_core.specs.Stream.{Stream}
 use Rattle.crypt_core.specs.Crypt.{crypt}
 use Rattle.crypt_core.specs.Settings.{SettingValue}
+use Rattle.crypt_core.specs.StoredFields.{IsStored}
 use Rattle.mkpasswd.specs.Answers.{Answer}
 use Rattle.mkpasswd.specs.Budgets.{without_budget}
 use Rattle.mkpasswd.specs.LineAnswers.{HasSetting, IsAnswer, IsCostly, refused_answer}
-use Rattle.mkpasswd.specs.Lines.{HasParts, IsStored, Parts}
+use Rattle.mkpasswd.specs.Lines.{HasParts, Parts}
 use Rattle.mkpasswd.specs.Rehashes.{is_outdated, without_rehash}
 use Rattle.mkpasswd.specs.declared.job.Job.{Job}
 use Rattle.mkpasswd.specs.declared.line.Kind.{Kind}
@@ -17,28 +18,28 @@ use Rattle.mkpasswd.specs.declared.line.LineFault.TheVariants.{OverBudget}
 -- A costly line gets this refusal, and each other line the answer without a budget. No line to check is costly whose
 -- field is empty or locked; a line of a batch has no field.
 pub record OnlyRefuses (kind : Kind) (job : Job) : Type 0 where
-  pub costly : (number : ℕ) → (line : List ℕ) → (stream : Stream) → (answer : Answer) → IsCostly kind job line stream
+  pub costly : (number : ℕ) → (line : List ℕ) → (stream : Stream) → (answer : Answer) → IsCostly kind job line
       → IsAnswer kind job number line stream answer → answer ≡ refused_answer number OverBudget stream
-  pub others : (number : ℕ) → (line : List ℕ) → (stream : Stream) → (answer : Answer) → ¬ IsCostly kind job line stream
+  pub others : (number : ℕ) → (line : List ℕ) → (stream : Stream) → (answer : Answer) → ¬ IsCostly kind job line
       → IsAnswer kind job number line stream answer ↔ IsAnswer kind (without_budget job) number line stream answer
-  pub unhashed : (line : List ℕ) → (stream : Stream) → (parts : Parts) → (field : List ℕ) → HasParts kind line parts
-      → parts.field ≡ Some field → ¬ IsStored field → ¬ IsCostly kind job line stream
+  pub unhashed : (line : List ℕ) → (parts : Parts) → (field : List ℕ) → HasParts kind line parts
+      → parts.field ≡ Some field → ¬ IsStored field → ¬ IsCostly kind job line
 
 -- ---- new hashes
 
 -- A line to check that breaks no rule, and whose field spells a setting that is out of date. Its password fits, or it
 -- costs too much together with the new hash.
-pub record IsRenewable (kind : Kind) (job : Job) (line : List ℕ) (stream : Stream) : Type 0 where
+pub record IsRenewable (kind : Kind) (job : Job) (line : List ℕ) : Type 0 where
   pub parts : Parts
   pub field : List ℕ
   pub kept : SettingValue
   pub stored : HasSetting kind line parts field kept
   pub outdated : is_outdated job kept ≡ true
-  pub fits_or_costly : (crypt parts.password kept ≡ field) ⊎ IsCostly kind job line stream
+  pub fits_or_costly : (crypt parts.password kept ≡ field) ⊎ IsCostly kind job line
 
 -- every other line gets the answers that it gets without them
 abbrev pub OnlyRenews : Kind → Job → Type 0
-OnlyRenews kind job = (number : ℕ) → (line : List ℕ) → (stream : Stream) → (answer : Answer) → ¬ IsRenewable kind job line stream
+OnlyRenews kind job = (number : ℕ) → (line : List ℕ) → (stream : Stream) → (answer : Answer) → ¬ IsRenewable kind job line
     → IsAnswer kind job number line stream answer ↔ IsAnswer kind (without_rehash job) number line stream answer
 
 -- and so does each line of a batch

@@ -1,8 +1,8 @@
 -- A line of an input: its parts, and the rules that it can break.
-use Rattle.std.specs.Prelude.{◌≡◌, ◌≢◌, ℕ, ◌<◌, ◌⊎◌, List, [], ◌∷◌, ◌++◌, length, codes, Contains, Option, Some, None}
+use Rattle.std.specs.Prelude.{◌≡◌, ◌≢◌, ℕ, ◌<◌, ◌⊎◌, List, [], ◌∷◌, ◌++◌, length, Contains, Option, Some, None}
 use Rattle.crypt_core.specs.Passwords.{IsPasswordRefused}
 use Rattle.crypt_core.specs.Refusals.{IsRefused}
-use Rattle.crypt_core.specs.Settings.{BeginsWith}
+use Rattle.crypt_core.specs.StoredFields.{IsStored}
 use Rattle.mkpasswd.specs.Texts.{colon}
 use Rattle.mkpasswd.specs.declared.line.Kind.{Kind}
 use Rattle.mkpasswd.specs.declared.line.Kind.TheVariants.{Batch, Check}
@@ -31,17 +31,6 @@ abbrev pub HasParts : Kind → List ℕ → Parts → Type 0
 HasParts Batch line parts = IsCut line parts.name parts.password × (parts.field ≡ None)
 HasParts Check line parts =
     (field back : List ℕ) × IsCut line parts.name back × IsCut back field parts.password × (parts.field ≡ Some field)
-
--- ---- the fields
-
--- no password fits such a field
-abbrev pub IsLocked : List ℕ → Type 0
-IsLocked field = BeginsWith field (codes "!") ⊎ BeginsWith field (codes "*")
-
--- a field that has to be a stored text
-pub record IsStored (field : List ℕ) : Type 0 where
-  pub some : field ≢ []
-  pub unlocked : ¬ IsLocked field
 
 -- ---- the rules
 

@@ -11,6 +11,7 @@ use Rattle.clap.specs.declared.builder.ArgAction.TheVariants.{Set, SetTrue}
 use Rattle.clap.specs.declared.builder.value_parser.ValueParser.TheVariants.{Signed, Unsigned}
 use Rattle.clap.specs.declared.error.Error.{Error}
 use Rattle.clap.specs.declared.error.kind.ErrorKind.TheVariants as kind
+use Rattle.crypt_core.specs.MadeSettings.{made_scheme}
 use Rattle.crypt_core.specs.Methods.{method_named}
 use Rattle.crypt_core.specs.declared.method.Method.{Method}
 use Rattle.mkpasswd.specs.Makers.{IsRecipe, IsRecipeRefused}
@@ -220,7 +221,7 @@ IsFrom mode from = ⊥
 -- where `--work` was, and the budget is that of `--budget`
 pub record IsJob (values : Values) (method : Method) (job : Job) : Type 0 where
   pub accepted : IsRecipe method values.cost (given_salt values)
-  pub maker : job.maker ≡ record { method = method; cost = values.cost; salt = given_salt values }
+  pub maker : job.maker ≡ record { scheme = made_scheme method values.cost; salt = given_salt values }
   pub rehash : job.rehash ≡ values.rehash
   pub work : job.work ≡ values.work
   pub budget : job.budget ≡ values.budget

@@ -1,10 +1,9 @@
 //! What the program is asked to do.
-ghost use Rattle.std.specs.Prelude.{◌≡◌, ◌↔◌, IsTrue};
-ghost use Rattle.mkpasswd.specs.Budgets.{IsAbove};
-ghost use Rattle.mkpasswd.specs.Rehashes.{is_outdated};
+ghost use Rattle.std.specs.Prelude.{◌≡◌, ◌&&◌};
+ghost use Rattle.crypt_core.specs.Replacements.{is_replaced_by};
 
 use crate::maker::Maker;
-use crypt_core::setting::Setting;
+use crypt_core::scheme::Scheme;
 
 /// What the words after the program's name ask for.
 #[derive(Drop)]
@@ -34,19 +33,12 @@ pub struct Job {
 }
 
 impl Job {
-    /// Whether a hash by the setting gets a new one in its place: these are wanted, and the setting is replaced by
-    /// those that the job makes.
-    pub(crate) fn renews(&self, setting: &Setting) -> bool
-        ensures { result ≡ is_outdated self.now setting.now }
+    /// Returns whether a hash of this scheme gets a new one in its place: new hashes are wanted, and their scheme
+    /// replaces it.
+    pub(crate) fn renews(&self, scheme: &Scheme) -> bool
+        ensures { result ≡ (self.now.rehash && is_replaced_by scheme.now self.now.maker.scheme) }
     {
-        self.rehash && setting.replaced_by(&self.maker.any_setting())
-    }
-
-    /// Whether a cost is above the budget. Without one none is.
-    pub(crate) fn is_over_budget(&self, cost: u64) -> bool
-        ensures { IsTrue result ↔ IsAbove self.now.budget cost }
-    {
-        self.budget.is_some_and(|budget| cost > budget)
+        self.rehash && scheme.is_replaced_by(&self.maker.scheme())
     }
 }
 

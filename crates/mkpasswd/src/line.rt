@@ -1,16 +1,16 @@
 //! A line of an input: `name:password` to hash, or `name:field:password` to check, and the first thing that is
 //! wrong with it.
-ghost use Rattle.std.specs.Prelude.{◌≡◌, Some, IfSome, IfNone, MatchOption, IfOk, IfErr, Contains};
-ghost use Rattle.crypt_core.specs.declared.setting.fault.SettingFault.{SettingFault as SettingRefusal};
-ghost use Rattle.mkpasswd.specs.Lines.{IsCut, IsLineRefused, IsSound};
+ghost use Rattle.std.specs.Prelude.{◌≡◌, ◌<◌, ◌≤◌, length, Err, Some, IfSome, IfNone, MatchOption, IfOk, IfErr, Contains};
+ghost use Rattle.mkpasswd.specs.Lines.{IsCut, IsLineRefused, IsSound, name_limit, rule_number};
 ghost use Rattle.mkpasswd.specs.Texts.{colon};
 ghost use Rattle.mkpasswd.specs.Makers.{bytes_of};
-ghost use Rattle.mkpasswd.specs.Private.Entries.{HasBehind, IsBeforeField, IsEntry, IsField, IsFieldRefused, IsGoodField, IsNamed, LacksParts, parts_of};
+ghost use Rattle.mkpasswd.specs.Private.Lines.{HasBehind, IsLine, IsNamed, LacksParts};
 ghost use Rattle.mkpasswd.specs.declared.line.Kind.{Kind as LineKind};
 ghost use Rattle.mkpasswd.specs.declared.line.LineFault.{LineFault as Refusal};
 
 use crypt_core::password::{Password, PasswordFault};
-use crypt_core::setting::{Setting, SettingFault};
+use crypt_core::setting::SettingFault;
+use crypt_core::stored::StoredField;
 use thiserror::Error;
 
 /// The most bytes of a line, without its line feed.
@@ -73,47 +73,59 @@ impl LineFault {
     }
 }
 
-/// The first thing that is wrong with a line, given without its line feed, or `None` where it gets an answer.
+/// Returns the first thing that is wrong with a line, given without its line feed, or `None` where it gets an answer.
 ///
 /// A field that is empty or locked is right whatever else it has, and the password is looked at before the
-/// field. It takes no memory, and nothing is hashed. A budget is not looked at: `OverBudget` is never answered.
+/// field. It takes no memory, and nothing is hashed. A budget is not looked at: it never returns `OverBudget`.
 pub fn inspect(kind: Kind, line: &[u8]) -> Option<LineFault>
     ensures sound { IfNone result (IsSound kind line.now) }
     ensures refused { IfSome result (IsLineRefused kind line.now) }
     ensures each_refusal { (fault : Refusal) → IsLineRefused kind line.now fault → result ≡ Some fault }
 {
-    match entry_of(kind, line) {
-        Ok(entry) => Some(LineFault::Setting(field_fault(entry.field?)?)),
+    match read_line(kind, line) {
+        Ok(_) => None,
         Err(fault) => Some(fault),
     }
 }
 
-/// The parts of a line that has a name and a password.
+/// A line that breaks no rule, by its parts.
 #[derive(Drop)]
-pub(crate) struct Entry<'a> {
+pub(crate) struct Line<'a> {
     pub(crate) name: &'a [u8],
-    /// What the password is checked against.
-    pub(crate) field: Option<&'a [u8]>,
     pub(crate) password: Password,
+    /// What the password is checked against; only a line to check has it.
+    pub(crate) field: Option<StoredField<'a>>,
 }
 
-/// Cuts a line into its parts, or answers the first thing that is wrong with it, but for its field.
-pub(crate) fn entry_of(kind: Kind, line: &[u8]) -> Result<Entry<'_>, LineFault>
-    ensures entry { IfOk result (λ entry. IsEntry kind line.now (parts_of entry)) }
-    ensures refused { IfErr result (IsLineRefused kind line.now) }
-    ensures before_field { IfErr result IsBeforeField }
+/// Reads a line, given without its line feed, or returns the first thing that is wrong with it.
+pub(crate) fn read_line(kind: Kind, bytes: &[u8]) -> Result<Line<'_>, LineFault>
+    ensures read { IfOk result (λ line. IsLine kind bytes.now line.name.now line.password line.field) }
+    ensures short { IfOk result (λ line. length line.name.now ≤ name_limit) }
+    ensures refused { IfErr result (IsLineRefused kind bytes.now) }
+    ensures each_refusal { (fault : Refusal) → IsLineRefused kind bytes.now fault → result ≡ Err fault }
 {
-    let (name, back) = name_of(line)?;
+    let (name, back) = name_of(bytes)?;
     let Some((field, password)) = fields_after_name(kind, back) else {
         return Err(LineFault::NoPassword);
     };
-    match Password::new(password) {
-        Ok(password) => Ok(Entry {
+    let password = match Password::new(password) {
+        Ok(password) => password,
+        Err(fault) => return Err(LineFault::Password(fault)),
+    };
+    let Some(field) = field else {
+        return Ok(Line {
             name,
-            field,
             password,
+            field: None,
+        });
+    };
+    match StoredField::read(field) {
+        Ok(field) => Ok(Line {
+            name,
+            password,
+            field: Some(field),
         }),
-        Err(fault) => Err(LineFault::Password(fault)),
+        Err(fault) => Err(LineFault::Setting(fault)),
     }
 }
 
@@ -121,7 +133,7 @@ pub(crate) fn entry_of(kind: Kind, line: &[u8]) -> Result<Entry<'_>, LineFault>
 fn name_of(line: &[u8]) -> Result<(&[u8], Option<&[u8]>), LineFault>
     ensures named { IfOk result (λ x. IsNamed line.now x.0.now (bytes_of x.1)) }
     ensures refused { IfErr result (λ fault. (kind : LineKind) → IsLineRefused kind line.now fault) }
-    ensures before_field { IfErr result IsBeforeField }
+    ensures before_field { IfErr result (λ fault. rule_number fault < 6) }
 {
     if line.len() > LINE_LIMIT {
         return Err(LineFault::LineTooLong);
@@ -159,42 +171,6 @@ fn cut(text: &[u8]) -> Option<(&[u8], &[u8])>
 {
     let end = text.iter().position(|byte| *byte == b':')?;
     Some((&text[..end], &text[end + 1..]))
-}
-
-/// What a field asks for.
-#[derive(Clone, Copy, Debug, PartialEq, Eq)]
-pub(crate) enum Field {
-    /// Nothing is stored.
-    Empty,
-    /// It begins with `!` or `*`, so that no password fits.
-    Locked,
-    /// It has to be a stored text.
-    Stored,
-}
-
-impl Field {
-    /// By the field's first byte.
-    pub(crate) fn of(field: &[u8]) -> Field
-        ensures { IsField result field.now }
-    {
-        match field {
-            [] => Field::Empty,
-            [b'!' | b'*', ..] => Field::Locked,
-            _ => Field::Stored,
-        }
-    }
-}
-
-// What is wrong with a field.
-fn field_fault(field: &[u8]) -> Option<SettingFault>
-    ensures none { IfNone result (IsGoodField field.now) }
-    ensures refused { IfSome result (IsFieldRefused field.now) }
-    ensures each_refusal { (fault : SettingRefusal) → IsFieldRefused field.now fault → result ≡ Some fault }
-{
-    match Field::of(field) {
-        Field::Empty | Field::Locked => None,
-        Field::Stored => Setting::read(field).err(),
-    }
 }
 
 #[cfg(test)]

@@ -1,104 +1,129 @@
-//! What makes the setting of each hash: a method and a cost, with a salt that was given once or is
-//! made anew from random words.
+//! What makes the setting of each hash: a scheme, with a salt that was given once or is made of random numbers for
+//! each hash.
 
-ghost use Rattle.std.specs.Prelude.{◌≡◌, ◌↔◌, ℕ, Err, IsOk, IfOk, IfErr, is_some, not};
+ghost use Rattle.std.specs.Prelude.{◌≡◌, ◌↔◌, ℕ, ◌^◌, ◌<◌, ◌≤◌, List, Err, IsOk, IfOk, IfErr, is_some, not};
 ghost use Rattle.crypt_core.specs.declared.setting.fault.MakeFault.{MakeFault as Fault};
 ghost use Rattle.crypt_core.specs.MadeSettings.{made_scheme};
+ghost use Rattle.crypt_core.specs.Methods.{salt_limit};
+ghost use Rattle.crypt_core.specs.Passwords.{password_limit};
+ghost use Rattle.crypt_core.specs.Schemes.{method_of};
 ghost use Rattle.crypt_core.specs.Work.{cost};
-ghost use Rattle.rand_core.specs.Stream.{Stream};
-ghost use Rattle.mkpasswd.specs.Makers.{IsRecipe, IsRecipeRefused, bytes_of, next_setting, setting_by, words_for};
+ghost use Rattle.mkpasswd.specs.Makers.{IsRecipe, IsRecipeRefused, bytes_of, made_cost_by, next_setting, recipe, salt_length, setting_by, stream_after};
 
 use arrayvec::ArrayVec;
-use crypt_core::made_salt::draw;
+use crypt_core::made_salt::{draw, made_salt_length};
 use crypt_core::method::{Method, SCRYPT_SALT_LIMIT};
+use crypt_core::scheme::Scheme;
 use crypt_core::setting::{MakeFault, Setting};
 use prims_core::buffer::buffer_of;
 use rand_core::Rng;
 use std::marker::Model;
 
-// A salt that every method takes.
-const ANY_SALT: &[u8] = b".";
-
-/// A method with a cost that it takes, and a salt that it takes or none.
+/// A scheme, and a salt that its method takes or none.
 #[derive(Drop)]
 pub struct Maker {
-    method: Method,
-    cost: u32,
+    scheme: Scheme,
     salt: Option<ArrayVec<u8, SCRYPT_SALT_LIMIT>>,
 }
 
 impl Model for Maker {
     ghost use Rattle.std.specs.Prelude.{option_map};
-    ghost use Rattle.mkpasswd.specs.Makers.{IsRecipe, Recipe};
+    ghost use Rattle.crypt_core.specs.Schemes.{method_of};
+    ghost use Rattle.mkpasswd.specs.Makers.{Recipe, TakesGiven, recipe};
 
     ghost Value = { Recipe };
 
-    ghost view = { λ a. record {
-      method = a.method;
-      cost = a.cost;
-      salt = option_map (λ salt. salt.items) a.salt;
-    } };
+    ghost view = { λ a. recipe a.scheme (option_map (λ salt. salt.items) a.salt) };
 
-    ghost invariant = { λ a. IsRecipe a.method a.cost (option_map (λ salt. salt.items) a.salt) };
+    ghost invariant = { λ a. TakesGiven (method_of a.scheme) (option_map (λ salt. salt.items) a.salt) };
 }
 
 impl Maker {
-    /// What makes settings of a method with a cost, and with the salt, or where there is none with a
-    /// new one for each; or the first fault.
+    /// Returns what makes settings of a method with a cost, and with the salt, or without one with a new salt for each.
     ///
-    /// Cost 0 is the method's own; else it is a number of rounds, or for scrypt 6 to 11. It and a given salt are tested
-    /// as [`Setting::make`] tests them, with the same faults. Without a salt only `Cost` can come.
+    /// Cost 0 is the method's default; otherwise it is a number of rounds, or for scrypt 6 to 11.
+    ///
+    /// # Errors
+    ///
+    /// As [`Setting::make`] returns them. Without a salt `Cost` is the only one.
     pub fn new(method: Method, cost: u32, salt: Option<&[u8]>) -> Result<Maker, MakeFault>
-        ensures made { IfOk result (λ maker.
-            maker ≡ record { method = method; cost = cost; salt = bytes_of salt.entry }) }
+        ensures made { IfOk result (λ maker. maker ≡ recipe (made_scheme method cost) (bytes_of salt.entry)) }
         ensures accepted { IsOk result ↔ IsRecipe method cost (bytes_of salt.entry) }
         ensures refused { IfErr result (IsRecipeRefused method cost (bytes_of salt.entry)) }
         ensures each_refusal { (fault : Fault) → IsRecipeRefused method cost (bytes_of salt.entry) fault
             → result ≡ Err fault }
     {
-        Setting::make(method, cost, salt.unwrap_or(ANY_SALT))?;
-        let salt = match salt {
-            Some(salt) => Some(buffer_of(salt)),
-            None => None,
-        };
-        Ok(Maker { method, cost, salt })
+        match salt {
+            Some(salt) => match Setting::make(method, cost, salt) {
+                Ok(setting) => Ok(Maker {
+                    scheme: setting.scheme(),
+                    salt: Some(buffer_of(salt)),
+                }),
+                Err(fault) => Err(fault),
+            },
+            None => match Scheme::made(method, cost) {
+                Ok(scheme) => Ok(Maker { scheme, salt: None }),
+                Err(fault) => Err(fault),
+            },
+        }
     }
 
-    /// Whether each setting gets a new salt, so that random words have to be drawn for it.
+    /// Returns the scheme of each setting.
+    pub fn scheme(&self) -> Scheme
+        ensures { result ≡ self.now.scheme }
+    {
+        self.scheme
+    }
+
+    /// Returns whether each setting gets a new salt, so that random numbers are drawn for it.
     pub fn draws(&self) -> bool
         ensures { result ≡ not (is_some self.now.salt) }
     {
         self.salt.is_none()
     }
 
-    /// A setting, by the salt that was given, or by a new one of 8, 16, 16 or 22 characters that these
-    /// words make.
+    /// Returns a setting with the salt that was given, or with a new one of 8, 16, 16 or 22 characters that these random
+    /// numbers make.
     pub fn setting(&self, words: [u64; 3]) -> Setting
         ensures { result ≡ setting_by self.now words }
     {
         match &self.salt {
-            Some(salt) => Setting::make(self.method, self.cost, salt.as_slice()).unwrap(),
-            None => Setting::with_made_salt(self.method, self.cost, words).unwrap(),
+            Some(salt) => Setting::with_salt(self.scheme, salt.as_slice()).unwrap(),
+            None => Setting::salted(self.scheme, words),
         }
     }
 
-    /// The setting of the next hash. Three words are drawn where its salt has to be made, and none
-    /// otherwise.
+    /// Returns the greatest cost of one hash with a setting that this makes, for any password of `password_len` bytes.
+    /// Nothing is drawn or hashed for it. It is below 2^42.
+    ///
+    /// Condition: `password_len` is at most [`PASSWORD_LIMIT`](crypt_core::password::PASSWORD_LIMIT).
+    pub fn cost(&self, password_len: usize) -> u64
+        requires { password_len ≤ password_limit }
+        ensures number { result ≡ made_cost_by self.now password_len }
+        ensures each { (words : List ℕ) → cost (setting_by self.now words) password_len ≡ result }
+        ensures below { result < 2 ^ 42 }
+    {
+        self.scheme.cost(password_len, self.salt_len())
+    }
+
+    // How many bytes of salt each setting has.
+    fn salt_len(&self) -> usize
+        ensures number { result ≡ salt_length self.now.scheme self.now.salt }
+        ensures short { result ≤ salt_limit (method_of self.now.scheme) }
+    {
+        match &self.salt {
+            Some(salt) => salt.len(),
+            None => made_salt_length(self.scheme.method()),
+        }
+    }
+
+    /// Returns the setting of the next hash. It draws three random numbers if its salt is made, and none otherwise.
     pub(crate) fn next_setting<R: Rng>(&self, rng: &mut R) -> Setting
         ensures setting { result ≡ next_setting self.now (R.stream rng.old) }
-        ensures stream { R.stream rng.new ≡ (words_for self.now (R.stream rng.old)).1 }
+        ensures stream { R.stream rng.new ≡ stream_after self.now (R.stream rng.old) }
     {
         let words = if self.draws() { draw(rng) } else { [0; 3] };
         self.setting(words)
-    }
-
-    /// A setting to be priced or compared before any words are drawn: which characters a made salt has changes
-    /// neither the cost of a hash nor whether it is out of date.
-    pub(crate) fn any_setting(&self) -> Setting
-        ensures scheme { result.scheme ≡ made_scheme self.now.method self.now.cost }
-        ensures cost { (stream : Stream) → (len : ℕ) → cost result len ≡ cost (next_setting self.now stream) len }
-    {
-        self.setting([0; 3])
     }
 }
 
