@@ -227,7 +227,7 @@ return {
             $hash => "// Meter::new() and md5::Md5\nfn f() { g(\"Meter::new()\", r#\"\"md5::Md5\"#); }",
         ],
         ['a function with a meter', $hash => 'fn f(meter: &mut Meter, other: &Meter) {}'],
-        ['a meter that is lent to a struct', $hash => "struct Desk<'a> {\n    meter: &'a mut Meter,\n}"],
+        ['a meter that is lent to a struct', $hash => "struct Run<'a> {\n    meter: &'a mut Meter,\n}"],
         ['a meter in tests', "$lines/tests/cut_short.rt" => "$makes\nstruct Kept { meter: Meter }"],
         [
             'a second module of tests',

@@ -9,8 +9,7 @@ use Rattle.mkpasswd.specs.LineAnswers.IsAnswer.{refused}
 use Rattle.mkpasswd.specs.Lines.{IsLineRefused, line_limit, rule_number}
 use Rattle.mkpasswd.specs.Private.Made.{IsRaisedBelow, Says, fault_text_of, tally_of, text_of}
 use Rattle.mkpasswd.specs.Private.Deliveries.{Sends}
-use Rattle.mkpasswd.specs.Private.Desks.{OutputState}
-use Rattle.mkpasswd.specs.Private.Progress.{AnswersOne, HasRoomIn}
+use Rattle.mkpasswd.specs.Private.LineProgress.{AnswersOne, HasRoomIn, OutputState}
 use Rattle.mkpasswd.specs.Private.Headroom.{HasCountsFor, HasRoomFor, answer_limit, line_work_limit}
 use Rattle.mkpasswd.specs.Tallies.{both_tallies}
 use Rattle.mkpasswd.specs.declared.answer.LineAnswer.{LineAnswer}

@@ -4,8 +4,7 @@ use Rattle.mkpasswd.specs.Answers.{Answer}
 use Rattle.mkpasswd.specs.Devices.{Device, MovesBytes}
 use Rattle.mkpasswd.specs.LineRuns.{EndsAnswering, EndsLines, EndsByLines, EndsReading, EndsWhole}
 use Rattle.mkpasswd.specs.Private.Deliveries.{FinishesBoth, IsKept}
-use Rattle.mkpasswd.specs.Private.Desks.{OutputState, TakesTurns, output_state_of, with_input}
-use Rattle.mkpasswd.specs.Private.LineEnds.{TakesTurnsOf}
+use Rattle.mkpasswd.specs.Private.LineProgress.{OutputState, TakesTurns, TakesTurnsOf, output_state_of, with_input}
 use Rattle.mkpasswd.specs.Runs.{Fails, Finishes, RunState, IsCutShort, IsWithinTurns, DeviceBytes}
 use Rattle.mkpasswd.specs.declared.fault.RunFault.{RunFault}
 use Rattle.mkpasswd.specs.declared.fault.RunFault.TheVariants.{Read, Write, OutOfMemory, Turns, Password}

@@ -5,39 +5,43 @@ use Rattle.mkpasswd.specs.Answers.{Answer, IsRefusedAmong, after_work}
 use Rattle.mkpasswd.specs.LineAnswers.{IsAnswer}
 use Rattle.mkpasswd.specs.LineRuns.{AreAnswers, both, piece_size, with_line_feeds}
 use Rattle.mkpasswd.specs.Output.{Takes}
-use Rattle.mkpasswd.specs.Private.Desks.{IsSameDesk, OutputState, TakesTurns}
-use Rattle.mkpasswd.specs.Private.Progress.{AnswersOne, AreGiven, HasRoomIn, IsAt, IsInterrupted, LooksThrough, Represents}
+use Rattle.mkpasswd.specs.Private.LineProgress.{AnswersOne, AreGiven, HasRoomIn, IsAt, IsInterrupted, IsSameRun, LooksThrough, OutputState, Position, Represents, TakesTurns}
 use Rattle.mkpasswd.specs.Tallies.{both_tallies}
 use Rattle.mkpasswd.specs.Texts.{HasNoLineFeed, line_feed}
-use Rattle.mkpasswd.specs.declared.desk.Desk.{Desk}
+use Rattle.mkpasswd.specs.declared.lines.run.LineRun.{LineRun}
 use Rattle.mkpasswd.specs.declared.fault.RunFault.{RunFault}
 use Rattle.mkpasswd.specs.declared.fault.RunFault.TheVariants.{Read, Write, OutOfMemory, Turns, Password}
 use Rattle.mkpasswd.specs.declared.job.Job.{Job}
 use Rattle.mkpasswd.specs.declared.line.Kind.{Kind}
-use Rattle.mkpasswd.specs.declared.lines.held.Held.{Held}
-use Rattle.mkpasswd.specs.declared.lines.progress.Progress.{Progress}
+use Rattle.mkpasswd.specs.declared.lines.buffer.LineBuffer.{LineBuffer}
 use Rattle.mkpasswd.specs.declared.tally.Tally.{Tally}
 use Rattle.mkpasswd.proofs.LineAnswering.{AreAnswers-push, after_work-append, lines-of_answers}
 use Rattle.mkpasswd.proofs.LinesOf.{AllByRecursion-push, HasNoLineFeed-append, HasNoLineFeed-nil, IsCutAtFeed, with_line_feeds-behind, with_line_feeds-behind_all}
 use Rattle.mkpasswd.proofs.Moving.{moves-none, moves-trans}
 use Rattle.mkpasswd.proofs.Sending.{Takes-trans, TakesFront-behind}
 
--- a desk that was handed on twice
-pub same-trans : {O E R : Type 0} (old mid new : Desk O E R) → IsSameDesk old mid → IsSameDesk mid new → IsSameDesk old new
+-- a run after two steps
+pub same-trans : {O E R : Type 0} (old mid new : LineRun O E R) → IsSameRun old mid → IsSameRun mid new → IsSameRun old new
 same-trans old mid new before more = record {
+  kind = more.kind ∙ before.kind;
+  job = more.job ∙ before.job;
   out = more.out ∙ before.out;
   faults = more.faults ∙ before.faults;
   rng = more.rng ∙ before.rng;
   meter = more.meter ∙ before.meter;
 }
 
+-- what it says of its kind and its job
+pub for-same : {O E R : Type 0} (old new : LineRun O E R) (P : Kind → Job → Type 0) → IsSameRun old new → P new.kind new.job.now → P old.kind old.job.now
+for-same old new P same says = subst (λ kind. P kind old.job.now) same.kind (subst (λ job. P new.kind job) same.job says)
+
 module _ {O E : Type 0} (contents : O → Option (List ℕ)) (fault_contents : E → Option (List ℕ)) (kind : Kind) (job : Job) where
   -- where the run is before the step for a line
-  pub record IsAtLine (start old : OutputState O E) (bytes front : List ℕ) (progress : Progress) (line : List ℕ) (next : Answer) : Type 0 where
-    pub at : IsAt contents fault_contents kind job start old bytes progress
+  pub record IsAtLine (start old : OutputState O E) (bytes front : List ℕ) (position : Position) (line : List ℕ) (next : Answer) : Type 0 where
+    pub at : IsAt contents fault_contents kind job start old bytes position
     pub is_line : line ≡ at.rest ++ front
     pub no_feed : HasNoLineFeed line
-    pub is_next : IsAnswer kind job (progress.tally.lines + 1) line old.stream next
+    pub is_next : IsAnswer kind job (position.tally.lines + 1) line old.stream next
 
   -- the next answer is given, behind those that were
   pub given-both : (start old new : OutputState O E) (answers next : Answer) (left : ℕ) {A : Type 0} (done : A)
@@ -53,20 +57,20 @@ module _ {O E : Type 0} (contents : O → Option (List ℕ)) (fault_contents : E
     counts = given.1 ∙ (ap (λ c. after_work c next.hashings) before.counts ∙ sym (after_work-append start.counts answers.hashings next.hashings));
   }
 
-  counts-after : (start old new : OutputState O E) (bytes front : List ℕ) (progress : Progress) (line : List ℕ) (next : Answer)
-      → (before : IsAtLine start old bytes front progress line next) → new.counts ≡ after_work old.counts next.hashings
+  counts-after : (start old new : OutputState O E) (bytes front : List ℕ) (position : Position) (line : List ℕ) (next : Answer)
+      → (before : IsAtLine start old bytes front position line next) → new.counts ≡ after_work old.counts next.hashings
       → new.counts ≡ after_work (after_work start.counts before.at.answers.hashings) next.hashings
-  counts-after start old new bytes front progress line next before after = after ∙ ap (λ c. after_work c next.hashings) before.at.given.counts
+  counts-after start old new bytes front position line next before after = after ∙ ap (λ c. after_work c next.hashings) before.at.given.counts
 
-  pub at-answered : (start old new : OutputState O E) (bytes front : List ℕ) (progress next_progress : Progress) (line : List ℕ) (next : Answer) {A : Type 0} (done : A)
-      → IsAtLine start old bytes front progress line next
-      → AnswersOne contents fault_contents next_progress.left next old new (Ok done)
-      → next_progress.tally ≡ both_tallies progress.tally next.tally
-      → Represents next_progress.held []
-      → IsAt contents fault_contents kind job start new (bytes ++ (front ++ line_feed ∷ [])) next_progress
-  at-answered start old new bytes front progress next_progress line next done before given counted cleared =
+  pub at-answered : (start old new : OutputState O E) (bytes front : List ℕ) (position next_position : Position) (line : List ℕ) (next : Answer) {A : Type 0} (done : A)
+      → IsAtLine start old bytes front position line next
+      → AnswersOne contents fault_contents next_position.turns_left next old new (Ok done)
+      → next_position.tally ≡ both_tallies position.tally next.tally
+      → Represents next_position.buffer []
+      → IsAt contents fault_contents kind job start new (bytes ++ (front ++ line_feed ∷ [])) next_position
+  at-answered start old new bytes front position next_position line next done before given counted cleared =
       let at = before.at in
-      let number : progress.tally.lines + 1 ≡ 1 + length at.done = omega (arith, ap (λ t. t.lines) at.tally, at.numbers) in
+      let number : position.tally.lines + 1 ≡ 1 + length at.done = omega (arith, ap (λ t. t.lines) at.tally, at.numbers) in
       let are : AreAnswers kind job 1 (at.done ++ line ∷ []) start.stream (both at.answers next) =
       AreAnswers-push kind job 1 at.done line start.stream at.answers next at.are (rw (number, at.given.stream) at before.is_next) in
       record {
@@ -80,19 +84,19 @@ module _ {O E : Type 0} (contents : O → Option (List ℕ)) (fault_contents : E
         are = are;
         tally = counted ∙ ap (λ t. both_tallies t next.tally) at.tally;
         numbers = lines-of_answers kind job 1 (at.done ++ line ∷ []) start.stream (both at.answers next) are;
-        given = given-both start old new at.answers next next_progress.left done at.given given;
+        given = given-both start old new at.answers next next_position.turns_left done at.given given;
       }
 
   -- how it is cut short
-  pub cut-answering : (start old new : OutputState O E) (bytes front : List ℕ) (progress : Progress) (left : ℕ) (line : List ℕ) (next : Answer) (A : Type 0) (fault : RunFault)
-      → (before : IsAtLine start old bytes front progress line next)
+  pub cut-answering : (start old new : OutputState O E) (bytes front : List ℕ) (position : Position) (left : ℕ) (line : List ℕ) (next : Answer) (A : Type 0) (fault : RunFault)
+      → (before : IsAtLine start old bytes front position line next)
       → AnswersOne contents fault_contents left next old new {A = A} (Err fault)
       → IsInterrupted contents fault_contents left before.at.answers next start new fault
-  cut-answering start old new bytes front progress left line next A Write before given =
+  cut-answering start old new bytes front position left line next A Write before given =
       let at = before.at in
       let done = at.answers in (
         given.0,
-        counts-after start old new bytes front progress line next before given.1,
+        counts-after start old new bytes front position line next before given.1,
         elim given.2 [
           | inl cut ↦ inl (
             cut.0 ∙ ap (λ n. n + 1) at.given.out_unfailed,
@@ -108,12 +112,12 @@ module _ {O E : Type 0} (contents : O → Option (List ℕ)) (fault_contents : E
           )
         ],
       )
-  cut-answering start old new bytes front progress left line next A Turns before given =
+  cut-answering start old new bytes front position left line next A Turns before given =
       let at = before.at in
       let done = at.answers in
       let cut = given.2 in (
         given.0,
-        counts-after start old new bytes front progress line next before given.1,
+        counts-after start old new bytes front position line next before given.1,
         (
           cut.0 ∙ at.given.out_unfailed,
           cut.1 ∙ at.given.faults_unfailed,
@@ -124,7 +128,7 @@ module _ {O E : Type 0} (contents : O → Option (List ℕ)) (fault_contents : E
               omega (arith, cut.5, taken, told, length-append done.text next.text, length-append done.fault_text next.fault_text)),
         ),
       )
-  cut-answering start old new bytes front progress left line next A OutOfMemory before given =
+  cut-answering start old new bytes front position left line next A OutOfMemory before given =
       let at = before.at in (
         subst (λ counts. IsRefusedAmong counts next.hashings new.counts new.stream) at.given.counts given.2,
         ap (λ d. d.failures) given.0 ∙ at.given.out_unfailed,
@@ -132,17 +136,17 @@ module _ {O E : Type 0} (contents : O → Option (List ℕ)) (fault_contents : E
         subst (λ d. Takes contents start.out d at.answers.text) (sym given.0) at.given.text,
         subst (λ d. Takes fault_contents start.faults d at.answers.fault_text) (sym given.1) at.given.fault_text,
       )
-  cut-answering start old new bytes front progress left line next A Read before given = absurd given.2
-  cut-answering start old new bytes front progress left line next A (Password fault) before given = absurd given.2
+  cut-answering start old new bytes front position left line next A Read before given = absurd given.2
+  cut-answering start old new bytes front position left line next A (Password fault) before given = absurd given.2
 
-  pub looks-cut : (start old new : OutputState O E) (bytes front behind : List ℕ) (progress next_progress : Progress) (line : List ℕ) (next : Answer) (A : Type 0) (fault : RunFault)
-      → IsAtLine start old bytes front progress line next
-      → AnswersOne contents fault_contents next_progress.left next old new {A = A} (Err fault)
+  pub looks-cut : (start old new : OutputState O E) (bytes front behind : List ℕ) (position next_position : Position) (line : List ℕ) (next : Answer) (A : Type 0) (fault : RunFault)
+      → IsAtLine start old bytes front position line next
+      → AnswersOne contents fault_contents next_position.turns_left next old new {A = A} (Err fault)
       → length behind < piece_size
-      → LooksThrough contents fault_contents kind job start new (bytes ++ (front ++ line_feed ∷ behind)) next_progress {A = A} (Err fault)
-  looks-cut start old new bytes front behind progress next_progress line next A fault before given small =
+      → LooksThrough contents fault_contents kind job start new (bytes ++ (front ++ line_feed ∷ behind)) next_position {A = A} (Err fault)
+  looks-cut start old new bytes front behind position next_position line next A fault before given small =
       let at = before.at in
-      let number : progress.tally.lines + 1 ≡ length at.done + 1 = omega (arith, ap (λ t. t.lines) at.tally, at.numbers) in (
+      let number : position.tally.lines + 1 ≡ length at.done + 1 = omega (arith, ap (λ t. t.lines) at.tally, at.numbers) in (
         line,
         behind,
         small,
@@ -155,55 +159,55 @@ module _ {O E : Type 0} (contents : O → Option (List ℕ)) (fault_contents : E
           no_feed = before.no_feed;
           are = at.are;
           is_next = rw (number, at.given.stream) at before.is_next;
-          cut = cut-answering start old new bytes front progress next_progress.left line next A fault before given;
+          cut = cut-answering start old new bytes front position next_position.turns_left line next A fault before given;
         },
       )
 
   -- ---- a piece
 
   -- the front of the piece was looked through, and each line that ends in it is answered
-  pub record IsLooking (old now : OutputState O E) (old_progress progress : Progress) (piece rest : List ℕ) : Type 0 where
+  pub record IsLooking (old now : OutputState O E) (old_position position : Position) (piece rest : List ℕ) : Type 0 where
     pub front : List ℕ
     pub split : front ++ rest ≡ piece
-    pub lines : progress.tally.lines + length rest ≤ old_progress.tally.lines + length piece
-    pub room : HasRoomIn progress.tally now
-    pub turns : TakesTurns old_progress.left progress.left old now
-    pub at : (start : OutputState O E) (bytes : List ℕ) → IsAt contents fault_contents kind job start old bytes old_progress
-        → IsAt contents fault_contents kind job start now (bytes ++ front) progress
+    pub lines : position.tally.lines + length rest ≤ old_position.tally.lines + length piece
+    pub room : HasRoomIn position.tally now
+    pub turns : TakesTurns old_position.turns_left position.turns_left old now
+    pub at : (start : OutputState O E) (bytes : List ℕ) → IsAt contents fault_contents kind job start old bytes old_position
+        → IsAt contents fault_contents kind job start now (bytes ++ front) position
 
-  pub looking-start : (old : OutputState O E) (progress : Progress) (piece : List ℕ) → HasRoomIn progress.tally old → IsLooking old old progress progress piece piece
-  looking-start old progress piece room = record {
+  pub looking-start : (old : OutputState O E) (position : Position) (piece : List ℕ) → HasRoomIn position.tally old → IsLooking old old position position piece piece
+  looking-start old position piece room = record {
     front = [];
     split = refl;
     lines = omega arith;
     room = room;
     turns = record { turns = refl; fewer = omega arith; out_moves = moves-none old.out; faults_moves = moves-none old.faults };
-    at = λ start bytes is. subst (λ b. IsAt contents fault_contents kind job start old b progress) (sym (append-nil bytes)) is;
+    at = λ start bytes is. subst (λ b. IsAt contents fault_contents kind job start old b position) (sym (append-nil bytes)) is;
   }
 
-  -- what the answer to a line that is held leaves, as far as that can be told of any result
-  abbrev pub AnswersHeld : OutputState O E → OutputState O E → Tally → Held → Progress → {A : Type 0} → Result A RunFault → Type 0
-  AnswersHeld old new tally held next_progress result =
-      (line : List ℕ) → Represents held line
+  -- what the answer to a line that is buffer leaves, as far as that can be told of any result
+  abbrev pub AnswersBuffered : OutputState O E → OutputState O E → Tally → LineBuffer → Position → {A : Type 0} → Result A RunFault → Type 0
+  AnswersBuffered old new tally buffer next_position result =
+      (line : List ℕ) → Represents buffer line
       → (answer : Answer) × IsAnswer kind job (tally.lines + 1) line old.stream answer
-      × AnswersOne contents fault_contents next_progress.left answer old new result
-      × OnOk result (next_progress.tally ≡ both_tallies tally answer.tally)
+      × AnswersOne contents fault_contents next_position.turns_left answer old new result
+      × OnOk result (next_position.tally ≡ both_tallies tally answer.tally)
 
   -- the step for one line of the piece, which ends at its first line feed
-  pub record IsStep (old mid new : OutputState O E) (old_progress progress next_progress : Progress) (held : Held) (piece rest : List ℕ) (end : ℕ) {A : Type 0} (result : Result A RunFault) : Type 0 where
-    pub before : IsLooking old mid old_progress progress piece rest
+  pub record IsStep (old mid new : OutputState O E) (old_position position next_position : Position) (buffer : LineBuffer) (piece rest : List ℕ) (end : ℕ) {A : Type 0} (result : Result A RunFault) : Type 0 where
+    pub before : IsLooking old mid old_position position piece rest
     pub cut : IsCutAtFeed rest end
-    pub holds : (line : List ℕ) → Represents progress.held line → Represents held (line ++ take end rest)
-    pub answers : AnswersHeld mid new progress.tally held next_progress result
+    pub holds : (line : List ℕ) → Represents position.buffer line → Represents buffer (line ++ take end rest)
+    pub answers : AnswersBuffered mid new position.tally buffer next_position result
 
-  line-answered : (old mid new : OutputState O E) (old_progress progress next_progress : Progress) (held : Held) (piece rest : List ℕ) (end : ℕ) {A : Type 0} (result : Result A RunFault)
-      → (step : IsStep old mid new old_progress progress next_progress held piece rest end result)
-      → (start : OutputState O E) (bytes : List ℕ) → IsAt contents fault_contents kind job start old bytes old_progress
+  line-answered : (old mid new : OutputState O E) (old_position position next_position : Position) (buffer : LineBuffer) (piece rest : List ℕ) (end : ℕ) {A : Type 0} (result : Result A RunFault)
+      → (step : IsStep old mid new old_position position next_position buffer piece rest end result)
+      → (start : OutputState O E) (bytes : List ℕ) → IsAt contents fault_contents kind job start old bytes old_position
       → (line : List ℕ) × (next : Answer)
-      × IsAtLine start mid (bytes ++ step.before.front) (take end rest) progress line next
-      × AnswersOne contents fault_contents next_progress.left next mid new result
-      × OnOk result (next_progress.tally ≡ both_tallies progress.tally next.tally)
-  line-answered old mid new old_progress progress next_progress held piece rest end result step start bytes is =
+      × IsAtLine start mid (bytes ++ step.before.front) (take end rest) position line next
+      × AnswersOne contents fault_contents next_position.turns_left next mid new result
+      × OnOk result (next_position.tally ≡ both_tallies position.tally next.tally)
+  line-answered old mid new old_position position next_position buffer piece rest end result step start bytes is =
       let at = step.before.at start bytes is in
       let line = at.rest ++ take end rest in
       let got = step.answers line (step.holds at.rest at.held) in (
@@ -224,21 +228,21 @@ module _ {O E : Type 0} (contents : O → Option (List ℕ)) (fault_contents : E
       → front ++ (take end rest ++ line_feed ∷ drop (end + 1) rest) ≡ piece
   piece-parts front rest piece end split cut = ap (λ others. front ++ others) (sym cut.parts) ∙ split
 
-  pub looking-cut : (old mid new : OutputState O E) (old_progress progress next_progress : Progress) (held : Held) (piece rest : List ℕ) (end : ℕ) (A : Type 0) (fault : RunFault)
-      → IsStep old mid new old_progress progress next_progress held piece rest end {A = A} (Err fault)
+  pub looking-cut : (old mid new : OutputState O E) (old_position position next_position : Position) (buffer : LineBuffer) (piece rest : List ℕ) (end : ℕ) (A : Type 0) (fault : RunFault)
+      → IsStep old mid new old_position position next_position buffer piece rest end {A = A} (Err fault)
       → length piece ≤ piece_size
-      → (start : OutputState O E) (bytes : List ℕ) → IsAt contents fault_contents kind job start old bytes old_progress
-      → LooksThrough contents fault_contents kind job start new (bytes ++ piece) next_progress {A = A} (Err fault)
-  looking-cut old mid new old_progress progress next_progress held piece rest end A fault step small start bytes is =
+      → (start : OutputState O E) (bytes : List ℕ) → IsAt contents fault_contents kind job start old bytes old_position
+      → LooksThrough contents fault_contents kind job start new (bytes ++ piece) next_position {A = A} (Err fault)
+  looking-cut old mid new old_position position next_position buffer piece rest end A fault step small start bytes is =
       let front = step.before.front in
       let behind = drop (end + 1) rest in
       let within = step.cut.within in
       let few : length behind < piece_size = omega (arith, small, within, length-drop (end + 1) rest, length-append front rest, ap length step.before.split) in
-      let answered = line-answered old mid new old_progress progress next_progress held piece rest end (Err fault) step start bytes is in
-      subst (λ b. LooksThrough contents fault_contents kind job start new b next_progress {A = A} (Err fault))
+      let answered = line-answered old mid new old_position position next_position buffer piece rest end (Err fault) step start bytes is in
+      subst (λ b. LooksThrough contents fault_contents kind job start new b next_position {A = A} (Err fault))
       (append_assoc bytes front (take end rest ++ line_feed ∷ behind)
       ∙ ap (λ others. bytes ++ others) (piece-parts front rest piece end step.before.split step.cut))
-      (looks-cut start mid new (bytes ++ front) (take end rest) behind progress next_progress answered.0 answered.1 A fault answered.2 answered.3 few)
+      (looks-cut start mid new (bytes ++ front) (take end rest) behind position next_position answered.0 answered.1 A fault answered.2 answered.3 few)
 
   turns-trans : (old mid new : OutputState O E) (left mid_left new_left : ℕ) → TakesTurns left mid_left old mid → TakesTurns mid_left new_left mid new
       → TakesTurns left new_left old new
@@ -249,12 +253,12 @@ module _ {O E : Type 0} (contents : O → Option (List ℕ)) (fault_contents : E
     faults_moves = moves-trans 0 old.faults mid.faults new.faults before.faults_moves more.faults_moves;
   }
 
-  pub looking-step : (old mid new : OutputState O E) (old_progress progress next_progress : Progress) (held : Held) (piece rest behind : List ℕ) (end : ℕ) {A : Type 0} (done : A)
-      → IsStep old mid new old_progress progress next_progress held piece rest end (Ok done)
-      → Represents next_progress.held [] → HasRoomIn next_progress.tally new → next_progress.tally.lines ≤ progress.tally.lines + 1
-      → TakesTurns progress.left next_progress.left mid new → behind ≡ drop (end + 1) rest
-      → IsLooking old new old_progress next_progress piece behind
-  looking-step old mid new old_progress progress next_progress held piece rest behind end done step cleared room lines turns is_behind =
+  pub looking-step : (old mid new : OutputState O E) (old_position position next_position : Position) (buffer : LineBuffer) (piece rest behind : List ℕ) (end : ℕ) {A : Type 0} (done : A)
+      → IsStep old mid new old_position position next_position buffer piece rest end (Ok done)
+      → Represents next_position.buffer [] → HasRoomIn next_position.tally new → next_position.tally.lines ≤ position.tally.lines + 1
+      → TakesTurns position.turns_left next_position.turns_left mid new → behind ≡ drop (end + 1) rest
+      → IsLooking old new old_position next_position piece behind
+  looking-step old mid new old_position position next_position buffer piece rest behind end done step cleared room lines turns is_behind =
       let before = step.before in
       let front = before.front in
       let line = take end rest ++ line_feed ∷ [] in
@@ -267,21 +271,21 @@ module _ {O E : Type 0} (contents : O → Option (List ℕ)) (fault_contents : E
             ∙ piece-parts front rest piece end before.split step.cut);
         lines = omega (arith, lines, before.lines, within, ap length is_behind, length-drop (end + 1) rest);
         room = room;
-        turns = turns-trans old mid new old_progress.left progress.left next_progress.left before.turns turns;
+        turns = turns-trans old mid new old_position.turns_left position.turns_left next_position.turns_left before.turns turns;
         at = λ start bytes is.
-            let answered = line-answered old mid new old_progress progress next_progress held piece rest end (Ok done) step start bytes is in
-            subst (λ b. IsAt contents fault_contents kind job start new b next_progress)
+            let answered = line-answered old mid new old_position position next_position buffer piece rest end (Ok done) step start bytes is in
+            subst (λ b. IsAt contents fault_contents kind job start new b next_position)
             (append_assoc bytes front line)
-            (at-answered start mid new (bytes ++ front) (take end rest) progress next_progress answered.0 answered.1 done answered.2 answered.3 answered.4 cleared);
+            (at-answered start mid new (bytes ++ front) (take end rest) position next_position answered.0 answered.1 done answered.2 answered.3 answered.4 cleared);
       }
 
-  -- what is behind the last line feed is held
-  pub looking-end : (old now : OutputState O E) (old_progress progress : Progress) (held : Held) (piece rest : List ℕ)
-      → IsLooking old now old_progress progress piece rest → HasNoLineFeed rest
-      → ((line : List ℕ) → Represents progress.held line → Represents held (line ++ rest))
-      → (start : OutputState O E) (bytes : List ℕ) → IsAt contents fault_contents kind job start old bytes old_progress
-      → IsAt contents fault_contents kind job start now (bytes ++ piece) (record { held = held; tally = progress.tally; left = progress.left })
-  looking-end old now old_progress progress held piece rest looking none holds start bytes is =
+  -- what is behind the last line feed is buffer
+  pub looking-end : (old now : OutputState O E) (old_position position : Position) (buffer : LineBuffer) (piece rest : List ℕ)
+      → IsLooking old now old_position position piece rest → HasNoLineFeed rest
+      → ((line : List ℕ) → Represents position.buffer line → Represents buffer (line ++ rest))
+      → (start : OutputState O E) (bytes : List ℕ) → IsAt contents fault_contents kind job start old bytes old_position
+      → IsAt contents fault_contents kind job start now (bytes ++ piece) (record { buffer = buffer; tally = position.tally; turns_left = position.turns_left })
+  looking-end old now old_position position buffer piece rest looking none holds start bytes is =
       let at = looking.at start bytes is in
       record {
         done = at.done;

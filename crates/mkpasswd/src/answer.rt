@@ -14,9 +14,8 @@ ghost use Rattle.mkpasswd.specs.Texts.{as_line, colon};
 
 mod verdict;
 
-use crate::desk::Task;
 use crate::job::Job;
-use crate::line::{LineFault, NAME_LIMIT, entry_of};
+use crate::line::{Kind, LineFault, NAME_LIMIT, entry_of};
 use arrayvec::ArrayVec;
 use crypt_core::hash::{HASH_LIMIT, HashFault, hash};
 use crypt_core::password::Password;
@@ -84,18 +83,19 @@ pub(crate) fn answer_password(
 /// that is after the verdict. A line that is refused is not hashed, and one that costs more than the budget is refused.
 /// `OutOfMemory` comes as `hash` has it, at either hash of a line.
 pub(crate) fn answer_line<R: Rng>(
-    task: Task<'_>,
+    alloc: Global,
+    kind: Kind,
+    job: &Job,
     number: u64,
     line: &[u8],
     rng: &mut R,
     meter: &mut Meter,
 ) -> Result<LineAnswer, HashFault>
     requires { HasCountsForLine meter.old }
-    ensures answer { (answer : Answer) × IsAnswer task.entry.kind task.entry.job.now number line.now (R.stream rng.old) answer
+    ensures answer { (answer : Answer) × IsAnswer kind job.now number line.now (R.stream rng.old) answer
         × Makes answer meter.old meter.new (R.stream rng.new) result }
     ensures small { IsRaisedBelow line_work_limit meter.old meter.new }
 {
-    let Task { alloc, kind, job } = task;
     let entry = match entry_of(kind, line) {
         Ok(entry) => entry,
         Err(fault) => return Ok(refusal(number, fault)),

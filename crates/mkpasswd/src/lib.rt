@@ -4,7 +4,6 @@
 
 mod answer;
 pub mod command;
-mod desk;
 pub mod device;
 pub mod fault;
 mod fetch;

@@ -1,35 +1,25 @@
 //! The runs over the lines of an input. Each line is answered once its end was read, before more is read, so
 //! that a run holds one line and one piece of its input, whatever that is.
-ghost use Rattle.std.specs.Prelude.{◌≡◌, ℕ, ◌<◌, ◌≤◌, [], List, OnOk};
-ghost use Rattle.mkpasswd.specs.Devices.{HasRoomWithinRun, HaveRoomBeforeRun, MovesBytes, turns_limit};
+ghost use Rattle.std.specs.Prelude.{◌≤◌};
+ghost use Rattle.mkpasswd.specs.Devices.{HasRoomWithinRun, HaveRoomBeforeRun, turns_limit};
 ghost use Rattle.mkpasswd.specs.LineOptions.{OnlyRefuses, OnlyRenews, RenewsNone};
 ghost use Rattle.mkpasswd.specs.LineRuns.{EndsLines};
-ghost use Rattle.mkpasswd.specs.Private.Desks.{IsSameDesk, state_of, with_input};
-ghost use Rattle.mkpasswd.specs.Private.LineEnds.{GoesOn, GoesToEnd, HasRoomToRead, IsAtInput, TakesTurnsOf, spare_fetch};
-ghost use Rattle.mkpasswd.specs.Private.Progress.{Represents};
-ghost use Rattle.mkpasswd.specs.Runs.{RunState, HasCountsForRun, IsWithinTurns, run_state, device_bytes};
-ghost use Rattle.mkpasswd.specs.Tallies.{no_line};
+ghost use Rattle.mkpasswd.specs.Runs.{HasCountsForRun, IsWithinTurns, run_state, device_bytes};
 ghost use Rattle.mkpasswd.specs.declared.line.Kind.TheVariants.{Batch, Check};
 
-mod held;
-mod progress;
+mod buffer;
+mod run;
 
-use crate::desk::{Desk, Task};
 use crate::device::{Input, Output};
 use crate::fault::RunFault;
-use crate::fetch::fetch_piece;
 use crate::job::Job;
 use crate::line::Kind;
-use crate::send::finish_both;
 use crate::tally::Tally;
 use prims_core::meter::Meter;
-use progress::Progress;
 use rand_core::Rng;
+use run::LineRun;
 use std::alloc::Global;
 use std::io::{Read, Write};
-
-// How many bytes are fetched at once.
-const PIECE_SIZE: usize = 512;
 
 /// Hashes the password of each line `name:password` of the input by the job's setting, and gives
 /// `name:HASH` to the output, or what is wrong with the line to the fault output.
@@ -82,9 +72,8 @@ pub fn run_batch<I: Read, O: Write, E: Write, R: Rng>(
     ensures budget { OnlyRefuses Batch job.now }
     ensures rehash { RenewsNone Batch job.now }
 {
-    let kind = Kind::Batch;
-    let mut desk = Desk::new(out, faults, rng, meter);
-    run_lines(Task { alloc, kind, job }, input, &mut desk, turns)
+    let mut run = LineRun::new(alloc, Kind::Batch, job, out, faults, rng, meter, turns);
+    run.answer_all(input)
 }
 
 /// Checks the password of each line `name:field:password` of the input against its field, and gives `name:ok`,
@@ -125,88 +114,8 @@ pub fn run_check<I: Read, O: Write, E: Write, R: Rng>(
     ensures budget { OnlyRefuses Check job.now }
     ensures rehash { OnlyRenews Check job.now }
 {
-    let kind = Kind::Check;
-    let mut desk = Desk::new(out, faults, rng, meter);
-    run_lines(Task { alloc, kind, job }, input, &mut desk, turns)
-}
-
-// The run over lines of either kind.
-fn run_lines<I: Read, O: Write, E: Write, R: Rng>(
-    task: Task<'_>,
-    input: &mut Input<I>,
-    desk: &mut Desk<O, E, R>,
-    turns: u64,
-) -> Result<Tally, RunFault>
-    requires turns { turns ≤ turns_limit }
-    requires devices { HaveRoomBeforeRun input.old desk.old.out.now desk.old.faults.now }
-    requires counts { HasCountsForRun desk.old.meter.now }
-    ensures ends { EndsLines (device_bytes I.remaining O.contents E.contents) turns task.entry.kind task.entry.job.now
-        (with_input input.old (state_of R.stream desk.old)) (with_input input.new (state_of R.stream desk.new)) result }
-    ensures within_turns { IsWithinTurns turns
-        (with_input input.old (state_of R.stream desk.old)) (with_input input.new (state_of R.stream desk.new)) }
-    ensures fault_room { HasRoomWithinRun desk.new.faults.now }
-    ensures same { IsSameDesk desk.old desk.new }
-{
-    let mut progress = Progress::new(turns);
-    read_all(task, input, desk, &mut progress)?;
-    progress.end(task, desk)?;
-    finish_both(desk.out, desk.faults)?;
-    Ok(progress.tally)
-}
-
-// Reads the whole input, and answers each line that has a line feed.
-fn read_all<I: Read, O: Write, E: Write, R: Rng>(
-    task: Task<'_>,
-    input: &mut Input<I>,
-    desk: &mut Desk<O, E, R>,
-    progress: &mut Progress,
-) -> Result<(), RunFault>
-    requires none_held { Represents progress.old.held [] }
-    requires no_line { progress.old.tally ≡ no_line }
-    requires room { HasRoomToRead progress.old (with_input input.old (state_of R.stream desk.old)) }
-    ensures goes { GoesToEnd (device_bytes I.remaining O.contents E.contents) progress.old.left task.entry.kind task.entry.job.now
-        (with_input input.old (state_of R.stream desk.old)) (with_input input.new (state_of R.stream desk.new)) progress.new result }
-    ensures room { OnOk result (HasRoomToRead progress.new (with_input input.new (state_of R.stream desk.new))) }
-    ensures turns { TakesTurnsOf 1 progress.old.left progress.new.left
-        (with_input input.old (state_of R.stream desk.old)) (with_input input.new (state_of R.stream desk.new)) }
-    ensures fault_room { HasRoomWithinRun desk.new.faults.now }
-    ensures same { IsSameDesk desk.old desk.new }
-{
-    let mut has_more = true;
-    'fetches: while has_more {
-        has_more = read_piece(task, input, desk, progress)?;
-    }
-    Ok(())
-}
-
-// Makes one fetch, and answers each line that ends in what it gives. Answers whether it gave any.
-fn read_piece<I: Read, O: Write, E: Write, R: Rng>(
-    task: Task<'_>,
-    input: &mut Input<I>,
-    desk: &mut Desk<O, E, R>,
-    progress: &mut Progress,
-) -> Result<bool, RunFault>
-    requires room { HasRoomToRead progress.old (with_input input.old (state_of R.stream desk.old)) }
-    ensures goes { (start : RunState I O E) → (turns : ℕ) → (bytes : List ℕ)
-        → IsAtInput (device_bytes I.remaining O.contents E.contents) turns task.entry.kind task.entry.job.now start
-        (with_input input.old (state_of R.stream desk.old)) bytes progress.old
-        → MovesBytes 0 start.input input.old
-        → GoesOn (device_bytes I.remaining O.contents E.contents) turns task.entry.kind task.entry.job.now start
-        (with_input input.new (state_of R.stream desk.new)) progress.new result }
-    ensures room { OnOk result (HasRoomToRead progress.new (with_input input.new (state_of R.stream desk.new))) }
-    ensures fewer { OnOk result (progress.new.left < progress.old.left) }
-    ensures turns { TakesTurnsOf (spare_fetch result) progress.old.left progress.new.left
-        (with_input input.old (state_of R.stream desk.old)) (with_input input.new (state_of R.stream desk.new)) }
-    ensures fault_room { HasRoomWithinRun desk.new.faults.now }
-    ensures same { IsSameDesk desk.old desk.new }
-{
-    let mut piece = [0; PIECE_SIZE];
-    let count = fetch_piece(input, &mut piece, &mut progress.left)?;
-    if count == 0 {
-        return Ok(false);
-    }
-    progress.answer_lines_in(task, &piece[..count], desk)?;
-    Ok(true)
+    let mut run = LineRun::new(alloc, Kind::Check, job, out, faults, rng, meter, turns);
+    run.answer_all(input)
 }
 
 #[cfg(test)]

@@ -204,7 +204,7 @@ halted_is_answered kind job number line stream parts field fault entry is halted
 
 pub returns-in-None-clause-answer : goal.returns-in-None-clause-answer
 returns-in-None-clause-answer g c =
-    let job = c.args.task.job.now in
+    let job = c.args.job.now in
     let parts = parts_of c.in-Ok.entry in
     let stream = g.R.Rng.stream c.args.rng.now in
     let lacks : parts.field ≡ None = rw c.in-None.is refl in
@@ -212,7 +212,7 @@ returns-in-None-clause-answer g c =
       refused_answer c.args.number OverBudget stream,
       over (record {
         parts = parts;
-        taken = unfielded c.args.task.kind c.args.line.now parts c.in-Ok.ensures.entry lacks;
+        taken = unfielded c.args.kind c.args.line.now parts c.in-Ok.ensures.entry lacks;
         number = c.cost_of.result;
         cost = inl (lacks, priced);
         above = c.is_over_budget.ensures.0 c.if-is_over_budget.true;
@@ -222,16 +222,16 @@ returns-in-None-clause-answer g c =
 
 pub returns-in-None-2-clause-answer : goal.returns-in-None-2-clause-answer
 returns-in-None-2-clause-answer g c =
-    let job = c.args.task.job.now in
+    let job = c.args.job.now in
     let parts = parts_of c.in-Ok.entry in
     let stream = g.R.Rng.stream c.args.rng.now in
     let lacks : parts.field ≡ None = rw c.in-None-2.is refl in
-    let taken = unfielded c.args.task.kind c.args.line.now parts c.in-Ok.ensures.entry lacks in
+    let taken = unfielded c.args.kind c.args.line.now parts c.in-Ok.ensures.entry lacks in
     let priced = c.cost_of.ensures.number ∙ c.any_setting.ensures.cost stream (length parts.password) in
     let within = λ (above : IsAbove job.budget (cost (next_setting job.maker stream) (length parts.password))).
     true≢false (sym (c.is_over_budget.ensures.1 (subst (λ (n : ℕ). IsAbove job.budget n) (sym priced) above)) ∙ c.if-is_over_budget.false) in (
       hashed_answer job (front_of parts.name) parts.password stream,
-      hashed parts taken lacks (cheap_unfielded c.args.task.kind job c.args.line.now stream parts taken.cut lacks within) refl,
+      hashed parts taken lacks (cheap_unfielded c.args.kind job c.args.line.now stream parts taken.cut lacks within) refl,
       c.hashed.ensures.answer,
     )
 
@@ -241,8 +241,8 @@ returns-in-Ok-checked-clause-answer g c =
     let field = c.in-Some.field.now in
     let is : parts.field ≡ Some field = rw c.in-Some.is refl in
     let checks = c.in-Ok-checked.ensures.checks in
-    verdict_is_answered c.args.task.kind c.args.task.job.now c.args.number c.args.line.now (g.R.Rng.stream c.args.rng.now) (g.R.Rng.stream c.checked.new.rng) parts field c.args.meter.now
-    checks.1 c.checked.new.meter checks.0 c.in-Ok-checked.answer (entry_is_taken c.args.task.kind c.args.line.now parts field c.in-Ok.ensures.entry is checks.2.0) is checks.2.1 checks.3 checks.4
+    verdict_is_answered c.args.kind c.args.job.now c.args.number c.args.line.now (g.R.Rng.stream c.args.rng.now) (g.R.Rng.stream c.checked.new.rng) parts field c.args.meter.now
+    checks.1 c.checked.new.meter checks.0 c.in-Ok-checked.answer (entry_is_taken c.args.kind c.args.line.now parts field c.in-Ok.ensures.entry is checks.2.0) is checks.2.1 checks.3 checks.4
 
 pub returns-in-Err-Refused-clause-answer : goal.returns-in-Err-Refused-clause-answer
 returns-in-Err-Refused-clause-answer g c =
@@ -252,14 +252,14 @@ returns-in-Err-Refused-clause-answer g c =
     let checks = rw c.in-Err-Refused.field-0-is at c.in-Err-Refused.ensures.checks in
     let stream = g.R.Rng.stream c.args.rng.now in (
       refused_answer c.args.number c.in-Err-Refused.fault stream,
-      halted_is_answered c.args.task.kind c.args.task.job.now c.args.number c.args.line.now stream parts field c.in-Err-Refused.fault c.in-Ok.ensures.entry is checks.0.0,
+      halted_is_answered c.args.kind c.args.job.now c.args.number c.args.line.now stream parts field c.in-Err-Refused.fault c.in-Ok.ensures.entry is checks.0.0,
       (c.refusal-in-Err-Refused.ensures stream, checks.0.1, checks.1),
     )
 
 pub returns-in-Err-OutOfMemory-clause-answer : goal.returns-in-Err-OutOfMemory-clause-answer
 returns-in-Err-OutOfMemory-clause-answer g c =
-    let kind = c.args.task.kind in
-    let job = c.args.task.job.now in
+    let kind = c.args.kind in
+    let job = c.args.job.now in
     let line = c.args.line.now in
     let parts = parts_of c.in-Ok.entry in
     let field = c.in-Some.field.now in

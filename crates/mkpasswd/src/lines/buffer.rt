@@ -1,71 +1,82 @@
-//! What is held of the line that is being read.
+//! The part of a line that was read.
 ghost use Rattle.std.specs.Prelude.{◌≡◌, ℕ, ◌++◌, ◌↔◌, [], List, IsTrue};
 ghost use Rattle.mkpasswd.specs.Answers.{Answer};
 ghost use Rattle.mkpasswd.specs.LineAnswers.{IsAnswer};
 ghost use Rattle.mkpasswd.specs.Private.Made.{IsRaisedBelow, Makes};
-ghost use Rattle.mkpasswd.specs.Private.Progress.{Represents};
+ghost use Rattle.mkpasswd.specs.Private.LineProgress.{Represents};
 ghost use Rattle.mkpasswd.specs.Private.Headroom.{HasCountsForLine, line_work_limit};
 
 use crate::answer::{LineAnswer, answer_line, refusal};
-use crate::desk::Task;
-use crate::line::{LINE_LIMIT, LineFault};
+use crate::job::Job;
+use crate::line::{Kind, LINE_LIMIT, LineFault};
 use arrayvec::ArrayVec;
 use crypt_core::hash::HashFault;
 use prims_core::meter::Meter;
 use rand_core::Rng;
+use std::alloc::Global;
 
-/// The part of a line that was read.
+/// The part of a line that was read, in memory of a fixed size.
 #[derive(Drop)]
-pub(crate) enum Held {
+pub(crate) enum LineBuffer {
     /// Its bytes.
     Bytes(ArrayVec<u8, LINE_LIMIT>),
     /// It is too long, and its bytes don't matter.
     TooLong,
 }
 
-impl Held {
-    pub(crate) fn new() -> Held
+impl LineBuffer {
+    pub(crate) fn new() -> LineBuffer
         ensures { Represents result [] }
     {
-        Held::Bytes(ArrayVec::new())
+        LineBuffer::Bytes(ArrayVec::new())
     }
 
     pub(crate) fn is_empty(&self) -> bool
         ensures { (line : List ℕ) → Represents self.now line → IsTrue result ↔ (line ≡ []) }
     {
         match self {
-            Held::Bytes(bytes) => bytes.is_empty(),
-            Held::TooLong => false,
+            LineBuffer::Bytes(bytes) => bytes.is_empty(),
+            LineBuffer::TooLong => false,
         }
     }
 
     pub(crate) fn append(&mut self, piece: &[u8])
         ensures { (line : List ℕ) → Represents self.old line → Represents self.new (line ++ piece.now) }
     {
-        if let Held::Bytes(bytes) = self {
+        if let LineBuffer::Bytes(bytes) = self {
             if bytes.try_extend_from_slice(piece).is_err() {
-                *self = Held::TooLong;
+                *self = LineBuffer::TooLong;
             }
         }
     }
 
-    /// The answer to the line that is held, which has this number.
+    /// Makes the answer to the line, which has this number.
     pub(crate) fn answer<R: Rng>(
         &self,
-        task: Task<'_>,
+        alloc: Global,
+        kind: Kind,
+        job: &Job,
         number: u64,
         rng: &mut R,
         meter: &mut Meter,
     ) -> Result<LineAnswer, HashFault>
         requires { HasCountsForLine meter.old }
         ensures answer { (line : List ℕ) → Represents self.now line
-            → (answer : Answer) × IsAnswer task.entry.kind task.entry.job.now number line (R.stream rng.old) answer
+            → (answer : Answer) × IsAnswer kind job.now number line (R.stream rng.old) answer
             × Makes answer meter.old meter.new (R.stream rng.new) result }
         ensures small { IsRaisedBelow line_work_limit meter.old meter.new }
     {
         match self {
-            Held::Bytes(line) => answer_line(task, number, line.as_slice(), rng, meter),
-            Held::TooLong => Ok(refusal(number, LineFault::LineTooLong)),
+            LineBuffer::Bytes(line) => answer_line(
+                alloc,
+                kind,
+                job,
+                number,
+                line.as_slice(),
+                rng,
+                meter,
+            ),
+            LineBuffer::TooLong => Ok(refusal(number, LineFault::LineTooLong)),
         }
     }
 }

@@ -3,15 +3,15 @@ use std::mem::size_of;
 use std::test::Fail;
 
 // It has room for a line that is not too long, and for little else.
-const _: () = prove!(size_of::<Held>() <= LINE_LIMIT + 16);
+const _: () = prove!(size_of::<LineBuffer>() <= LINE_LIMIT + 16);
 
 const _: () = prove!(LINE_LIMIT == 2048);
 
 // Whether these bytes are held, or `None`: that they are too many.
-fn holds(held: &Held, want: Option<&[u8]>) -> bool {
-    match held {
-        Held::Bytes(bytes) => want == Some(bytes.as_slice()),
-        Held::TooLong => want.is_none(),
+fn holds(buffer: &LineBuffer, want: Option<&[u8]>) -> bool {
+    match buffer {
+        LineBuffer::Bytes(bytes) => want == Some(bytes.as_slice()),
+        LineBuffer::TooLong => want.is_none(),
     }
 }
 
@@ -36,11 +36,11 @@ fn holds_a_line_over_pieces(rt: HostRuntime) -> Result<(), Fail> {
         ("too many twice", [&long, &long, b"a"], None),
     ];
     for (what, pieces, want) in rows {
-        let mut held = Held::new();
+        let mut buffer = LineBuffer::new();
         for piece in pieces {
-            held.append(piece);
+            buffer.append(piece);
         }
-        assert!(rt; holds(&held, want), "{what}");
+        assert!(rt; holds(&buffer, want), "{what}");
     }
     Ok(())
 }
