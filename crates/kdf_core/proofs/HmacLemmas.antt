@@ -1,7 +1,9 @@
--- A tag and a key's block, made step by step.
-use Rattle.std.proofs.Common.{◌≡◌, ℕ, ◌-◌, ◌<◌, ◌≤◌, List, [], ◌++◌, length, replicate, drop, sym, ap, ◌∙◌, append_assoc, arith}
+-- A tag and a key's block, made step by step, and two strings of bytes under XOR.
+use Rattle.std.proofs.Common.{◌≡◌, ℕ, ◌-◌, ◌<◌, ◌≤◌, List, [], ◌++◌, length, get_or, bit_xor, replicate, drop, sym, ap, ◌∙◌, append_assoc, arith}
 use Rattle.std.proofs.lemmas.List.{append-nil, drop-replicate}
 use Rattle.std.proofs.lemmas.Bool.{cond_below, cond_above}
+use Rattle.std.proofs.lemmas.Grind.{same_number_lists}
+use Rattle.std.proofs.lemmas.Simd.{get_or-zip2, length-zip2}
 use Rattle.prims_core.specs.Digests.{sha256}
 use Rattle.prims_core.specs.Words.{xor_lists}
 use Rattle.kdf_core.specs.Hmac.{hmac, hmac_sha256, ipad, opad, key_block, padded_key, PaddedKey, IsKeyOf}
@@ -44,3 +46,11 @@ pub padded_is : (key block padded : List ℕ) (pad : ℕ) → block ≡ key_bloc
     → padded ≡ xor_lists block (replicate 64 pad) → padded ≡ padded_key sha256 64 key pad
 unfolding padded_key
 padded_is key block padded pad is under = under ∙ ap (λ (b : List ℕ). xor_lists b (replicate 64 pad)) is
+
+-- a string that has the exclusive or at each place
+pub xor_lists-from_places : (sum xs ys : List ℕ) → length sum ≡ length xs → length xs ≡ length ys
+    → ((k : ℕ) → k < length xs → get_or sum k 0 ≡ bit_xor (get_or xs k 0) (get_or ys k 0)) → sum ≡ xor_lists xs ys
+unfolding xor_lists
+xor_lists-from_places sum xs ys length_is same places =
+    same_number_lists sum (xor_lists xs ys) (length_is ∙ sym (length-zip2 bit_xor xs ys same))
+    (λ k inside. places k (omega arith) ∙ sym (get_or-zip2 bit_xor xs ys k 0 0 0 (omega arith) (omega arith)))

@@ -7,4 +7,3 @@ pub mod Pbkdf2Lemmas
 pub mod ScryptBounds
 pub mod ScryptLemmas
 pub mod ScryptValue
-pub mod XorLemmas

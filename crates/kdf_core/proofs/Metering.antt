@@ -1,7 +1,7 @@
 -- How the work of several calls adds up.
 use Rattle.std.proofs.Common.{◌≡◌, ℕ, ◌+◌, ap, ◌∙◌, arith}
 use Rattle.prims_core.specs.Meter.{with_work}
-use Rattle.prims_core.specs.declared.work.Work.{Work}
+use Rattle.prims_core.specs.declared.meter.Work.{Work}
 
 -- some work, and then some more
 pub work_more : (a b c : Work) (d x e y digests bytes : ℕ) → b ≡ with_work a d x → c ≡ with_work b e y

@@ -11,7 +11,7 @@ use Rattle.std.proofs.lemmas.Nat.{pow-add, pow_pos}
 use Rattle.std.proofs.Math.Nat.{add-mul-mod_self_left, mul-div_cancel, mul_assoc}
 use Rattle.std.proofs.Math.Seq.{drop-cons}
 use Rattle.prims_core.specs.BlockMix.{block_mix}
-use Rattle.prims_core.specs.declared.work.Work.{Work}
+use Rattle.prims_core.specs.declared.meter.Work.{Work}
 use Rattle.prims_core.specs.Words.{chunks_exact}
 use Rattle.kdf_core.proofs.Pbkdf2Lemmas.{range-more}
 use Rattle.kdf_core.specs.Private.Mixing.{HasShape, HoldsMixings, IsPower}

@@ -4,7 +4,7 @@ use Rattle.std.specs.Int.{div_ceil}
 use Rattle.std.proofs.lemmas.List.{take_at}
 use Rattle.prims_core.specs.Memory.{written_over}
 use Rattle.prims_core.specs.Meter.{with_work}
-use Rattle.prims_core.specs.declared.work.Work.{Work}
+use Rattle.prims_core.specs.declared.meter.Work.{Work}
 use Rattle.kdf_core.specs.Hmac.{key_digests, key_bytes, tag_bytes}
 use Rattle.kdf_core.specs.Params.{ScryptCost, row_count}
 use Rattle.kdf_core.specs.Pbkdf2.{pbkdf2_sha256, block_bytes, pbkdf2_digests, pbkdf2_bytes}

@@ -3,7 +3,7 @@
 use Rattle.std.specs.Prelude.{◌≡◌, ℕ, ◌+◌, ◌*◌, ◌⊎◌, List, ◌++◌}
 use Rattle.std.specs.Int.{div_ceil}
 use Rattle.prims_core.specs.Work.{raised_by}
-use Rattle.prims_core.specs.declared.work.Work.{Work}
+use Rattle.prims_core.specs.declared.meter.Work.{Work}
 use Rattle.kdf_core.specs.Hmac.{sha256_length, key_digests, key_bytes, key_messages, tag_bytes}
 use Rattle.kdf_core.specs.Params.{ScryptCost, row_count}
 use Rattle.kdf_core.specs.Pbkdf2.{pbkdf2_messages, pbkdf2_sha256}

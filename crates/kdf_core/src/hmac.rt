@@ -9,7 +9,6 @@ ghost use Rattle.prims_core.specs.Meter.{with_work};
 ghost use Rattle.prims_core.specs.Words.{xor_lists};
 ghost use Rattle.kdf_core.specs.Hmac.{hmac_sha256, key_block, IsKeyOf, key_digests, key_bytes, tag_bytes};
 
-use crate::xor::xor_into;
 use prims_core::counted::{Counted, CountedSha256};
 use prims_core::meter::Meter;
 use std::marker::Model;
@@ -98,6 +97,16 @@ fn padded(block: &[u8; 64], pad: u8) -> [u8; 64]
     let mut padded = *block;
     xor_into(&mut padded, &[pad; 64]);
     padded
+}
+
+/// Adds `bytes` to `sum` by XOR, byte by byte. The two have one length.
+pub(crate) fn xor_into(sum: &mut [u8], bytes: &[u8])
+    requires { length sum.old ≡ length bytes.now }
+    ensures { sum.new ≡ xor_lists sum.old bytes.now }
+{
+    'places: for i in 0..sum.len() {
+        sum[i] ^= bytes[i];
+    }
 }
 
 // The digest of three pieces as one message.

@@ -9,4 +9,3 @@ pub mod scrypt;
 #[cfg(test)]
 mod tests;
 pub mod work;
-mod xor;

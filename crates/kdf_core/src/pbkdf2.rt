@@ -8,8 +8,7 @@ ghost use Rattle.prims_core.specs.Meter.{with_work};
 ghost use Rattle.kdf_core.specs.Hmac.{hmac_sha256, IsKeyOf};
 ghost use Rattle.kdf_core.specs.Pbkdf2.{block, block_bytes, pbkdf2_sha256, pbkdf2_digests, pbkdf2_bytes};
 
-use crate::hmac::{HmacKey, SHA256_LENGTH};
-use crate::xor::xor_into;
+use crate::hmac::{HmacKey, SHA256_LENGTH, xor_into};
 use prims_core::meter::Meter;
 use prims_core::words::number_be;
 

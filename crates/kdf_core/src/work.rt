@@ -8,7 +8,7 @@ ghost use Rattle.kdf_core.specs.ScryptWork.{mixed_bytes, scrypt_work};
 use crate::hmac::{SHA256_BLOCK, SHA256_LENGTH};
 use crate::params::Params;
 use crate::scrypt::UNIT_BYTES;
-use prims_core::work::Work;
+use prims_core::meter::Work;
 
 /// What a meter counts of scrypt (RFC 7914, section 6), for a password, a salt and a result of so many bytes.
 ///

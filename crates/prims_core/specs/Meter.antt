@@ -1,7 +1,7 @@
 -- What a meter has counted, which is the work done through it.
 use Rattle.std.specs.Prelude.{◌≡◌, ℕ, ◌+◌, ◌^◌, ◌≤◌, List, length, sum_by}
 use Rattle.prims_core.specs.Work.{IsAtMost}
-use Rattle.prims_core.specs.declared.work.Work.{Work}
+use Rattle.prims_core.specs.declared.meter.Work.{Work}
 
 -- the counts after so many more digests, of so many bytes in all
 abbrev pub with_work : Work → ℕ → ℕ → Work

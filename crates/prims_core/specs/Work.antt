@@ -1,6 +1,6 @@
 -- Some work, in five counts: what a hash takes, and also all that a meter has counted.
-use Rattle.std.specs.Prelude.{ℕ, ◌+◌, ◌≤◌, ◌<◌}
-use Rattle.prims_core.specs.declared.work.Work.{Work}
+use Rattle.std.specs.Prelude.{ℕ, ◌+◌, ◌-◌, ◌≤◌, ◌<◌}
+use Rattle.prims_core.specs.declared.meter.Work.{Work}
 
 -- none at all, as of a meter that is new
 abbrev pub no_work : Work
@@ -14,6 +14,16 @@ raised_by counts work = record {
   mixes = counts.mixes + work.mixes;
   table = counts.table + work.table;
   scratch = counts.scratch + work.scratch;
+}
+
+-- the work from one reading of a meter to a later one: by how much each count has risen
+abbrev pub work_between : Work → Work → Work
+work_between before after = record {
+  digests = after.digests - before.digests;
+  bytes = after.bytes - before.bytes;
+  mixes = after.mixes - before.mixes;
+  table = after.table - before.table;
+  scratch = after.scratch - before.scratch;
 }
 
 -- no count is above that of the other

@@ -14,4 +14,3 @@ pub mod salsa;
 pub mod scratch;
 pub mod table;
 pub mod words;
-pub mod work;

@@ -1,12 +1,31 @@
 //! The meter: five counts of the work done.
 //!
-//! Each count is raised by the call that does the work, and by no other, so that what a meter says
-//! after a run is what the run has done through it.
+//! Only the call that does the work raises a count, so what a meter says after a run is what the run
+//! has done through it. A [`Reading`] of the meter before a call gives the [`Work`] of that call.
 
 ghost use Rattle.std.specs.Prelude.{◌≡◌, ◌+◌, ◌^◌, ◌<◌};
-ghost use Rattle.prims_core.specs.Work.{no_work};
+ghost use Rattle.prims_core.specs.Work.{no_work, raised_by, work_between, IsBelow, IsWithin};
+ghost use Rattle.prims_core.specs.declared.meter.Work.{Work as Counts};
 
 use std::marker::Model;
+
+/// The work of a hash: the five counts by which it raises a meter. Its form is that of a struct of C. Clauses
+/// see a [`Meter`] and a [`Reading`] as this record too, with counts of up to 128 bits.
+#[repr(C)]
+#[derive(Clone, Copy, Debug, PartialEq, Eq)]
+pub struct Work {
+    /// Digests made.
+    pub digests: u64,
+    /// Bytes digested.
+    pub bytes: u64,
+    /// Mixings, which scrypt alone makes: each handles 2r blocks of 64 bytes, so that its price grows
+    /// with r.
+    pub mixes: u64,
+    /// Bytes of scrypt's table.
+    pub table: u64,
+    /// Bytes of scrypt's scratch memory.
+    pub scratch: u64,
+}
 
 /// Counts of the work done: digests, bytes fed to them, mixings of 2r blocks by scrypt, and bytes of
 /// scrypt's tables and scratch memory. Clauses see it as that work.
@@ -20,11 +39,32 @@ pub struct Meter {
 }
 
 impl Model for Meter {
-    ghost use Rattle.prims_core.specs.declared.work.Work.{Work};
+    ghost use Rattle.prims_core.specs.declared.meter.Work.{Work};
 
     ghost Value = { Work };
 
     ghost view = { λ m. record { digests = m.digests; bytes = m.bytes; mixes = m.mixes; table = m.table; scratch = m.scratch } };
+}
+
+/// The counts of a meter at one moment, from which a later one tells its work ([`Meter::work_since`]).
+/// Nothing makes a meter of it. Clauses see it as those counts.
+#[derive(Clone, Copy, Debug)]
+pub struct Reading {
+    digests: u128,
+    bytes: u128,
+    mixes: u128,
+    table: u128,
+    scratch: u128,
+}
+
+impl Model for Reading {
+    ghost use Rattle.prims_core.specs.declared.meter.Work.{Work};
+
+    ghost Value = { Work };
+
+    ghost view = { λ r. record { digests = r.digests; bytes = r.bytes; mixes = r.mixes; table = r.table; scratch = r.scratch } };
+
+    ghost inverse = { λ w. record { digests = w.digests; bytes = w.bytes; mixes = w.mixes; table = w.table; scratch = w.scratch } };
 }
 
 impl Meter {
@@ -76,6 +116,37 @@ impl Meter {
         self.scratch
     }
 
+    /// Returns the counts of this moment.
+    pub fn reading(&self) -> Reading
+        ensures { result ≡ self.now }
+    {
+        Reading {
+            digests: self.digests,
+            bytes: self.bytes,
+            mixes: self.mixes,
+            table: self.table,
+            scratch: self.scratch,
+        }
+    }
+
+    /// Returns the work done since the reading: the rise of each count.
+    ///
+    /// No count of the reading is above the meter's, and each has risen by less than 2^64.
+    pub fn work_since(&self, reading: &Reading) -> Work
+        requires earlier { IsWithin reading.now self.now }
+        requires small { IsBelow (work_between reading.now self.now) (2 ^ 64) }
+        ensures work { result ≡ work_between reading.now self.now }
+        ensures raised { (work : Counts) → self.now ≡ raised_by reading.now work → result ≡ work }
+    {
+        Work {
+            digests: (self.digests - reading.digests) as u64,
+            bytes: (self.bytes - reading.bytes) as u64,
+            mixes: (self.mixes - reading.mixes) as u64,
+            table: (self.table - reading.table) as u64,
+            scratch: (self.scratch - reading.scratch) as u64,
+        }
+    }
+
     /// Counts so many bytes fed to a digest.
     pub(crate) fn count_bytes(&mut self, count: usize)
         requires { self.old.bytes + count < 2 ^ 128 }
@@ -118,13 +189,4 @@ impl Meter {
 }
 
 #[cfg(test)]
-mod tests {
-    use super::*;
-    use crate::mix::tests::counts;
-
-    #[test]
-    fn new_is_all_zero(rt: HostRuntime) {
-        let meter = Meter::new();
-        assert_eq!(rt; counts(&meter), [0; 5]);
-    }
-}
+mod tests;

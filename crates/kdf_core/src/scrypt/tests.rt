@@ -6,7 +6,7 @@ ghost use Rattle.kdf_core.specs.Scrypt.{scrypt};
 use super::*;
 use crate::tests::{counts, hexadecimal};
 use crate::work::scrypt_work;
-use prims_core::work::Work;
+use prims_core::meter::Work;
 use std::test::Fail;
 
 #[derive(Clone, Copy)]

@@ -1,7 +1,6 @@
 //! MD5 (RFC 1321), counted.
 
 use super::Counted;
-use crate::buffer::buffer_of;
 use crate::meter::Meter;
 use arrayvec::ArrayVec;
 use md5::{Digest, Md5};
@@ -48,7 +47,7 @@ impl Counted for CountedMd5 {
 
     fn finish(self, meter: &mut Meter) -> ArrayVec<u8, 64> {
         meter.count_digest();
-        buffer_of(&self.running.finalize())
+        ArrayVec::try_from(self.running.finalize().as_slice()).unwrap()
     }
 
     ghost at_least_1 = { Prim.search rules };

@@ -1,7 +1,6 @@
 //! SHA-512 (FIPS 180-4), counted.
 
 use super::Counted;
-use crate::buffer::buffer_of;
 use crate::meter::Meter;
 use arrayvec::ArrayVec;
 use sha2::{Digest, Sha512};
@@ -48,7 +47,7 @@ impl Counted for CountedSha512 {
 
     fn finish(self, meter: &mut Meter) -> ArrayVec<u8, 64> {
         meter.count_digest();
-        buffer_of(&self.running.finalize())
+        ArrayVec::try_from(self.running.finalize().as_slice()).unwrap()
     }
 
     ghost at_least_1 = { Prim.search rules };

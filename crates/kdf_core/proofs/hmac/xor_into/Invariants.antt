@@ -1,5 +1,5 @@
 use Rattle.std.proofs.Common.{◌≡◌, ℕ, ◌<◌, ◌≤◌, bit_xor, get_or}
-use Rattle.kdf_core.proofs.xor.xor_into.Given as goal
+use Rattle.kdf_core.proofs.hmac.xor_into.Given as goal
 
 -- the places below the index are added, and those from it on are as they were
 abbrev pub invariant-places : goal.invariant-places

@@ -1,6 +1,6 @@
 use Rattle.std.proofs.Common.{arith}
-use Rattle.kdf_core.proofs.XorLemmas.{xor_lists-from_places}
-use Rattle.kdf_core.proofs.xor.xor_into.Goals as goal
+use Rattle.kdf_core.proofs.HmacLemmas.{xor_lists-from_places}
+use Rattle.kdf_core.proofs.hmac.xor_into.Goals as goal
 
 pub returns : goal.returns
 returns c =
