@@ -1,6 +1,6 @@
 -- The hash that is put into the caller's bytes.
 use Rattle.std.proofs.Common.{◌≡◌, ◌<◌, ℕ, List, length, IfOk, IfErr, Result, Ok, Err}
-use Rattle.prims_core.specs.declared.work.Work.{Work}
+use Rattle.prims_core.specs.declared.meter.Work.{Work}
 use Rattle.crypt_core.specs.Crypt.{crypt}
 use Rattle.crypt_core.specs.Passwords.{IsPassword}
 use Rattle.crypt_core.specs.Settings.{SettingValue, Spells}

@@ -1,7 +1,7 @@
 -- What each call answers, and what it leaves in the caller's bytes and counts.
 use Rattle.std.specs.Prelude.{◌≡◌, ◌≢◌, ◌⊎◌, ◌+◌, ◌<◌, ◌≤◌, ◌==◌, ℕ, ℤ, Bool, if◌then◌else◌, List, ◌∷◌, ◌++◌, length, drop, Option, Some, None, Result, Ok, Err}
 use Rattle.prims_core.specs.Work.{no_work}
-use Rattle.prims_core.specs.declared.work.Work.{Work}
+use Rattle.prims_core.specs.declared.meter.Work.{Work}
 use Rattle.crypt_core.specs.Crypt.{IsAfterRefusedGrowth, crypt}
 use Rattle.crypt_core.specs.Fits as fits
 use Rattle.crypt_core.specs.MadeSettings.{TakesCost, with_made_salt}

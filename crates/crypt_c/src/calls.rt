@@ -17,7 +17,7 @@ use crypt_core::password::{PASSWORD_LIMIT, Password, PasswordFault};
 use crypt_core::setting::Setting;
 use crypt_core::work::{bound, cost};
 use prims_core::meter::Meter;
-use prims_core::work::Work;
+use prims_core::meter::Work;
 use std::alloc::Global;
 
 /// Whether a password fits a stored text.

@@ -7,7 +7,7 @@
 
 ghost use Rattle.std.specs.Prelude.{◌≡◌, ◌^◌, ◌<◌, ◌∷◌, [], Bool, List, Result, ℕ, IfOk};
 ghost use Rattle.crypt_core.specs.Work.{cost, work_bound};
-ghost use Rattle.prims_core.specs.declared.work.Work.{Work as Done};
+ghost use Rattle.prims_core.specs.declared.meter.Work.{Work as Done};
 ghost use Rattle.crypt_c.specs.Calls.{Compares, Explains, Hashes, Makes, Replaces, Reports, Determines, TellsOrLacks};
 ghost use Rattle.crypt_c.specs.Numbers.{length_told, verdict_told};
 ghost use Rattle.crypt_c.specs.Private.Steps.{IsSmall};
@@ -20,7 +20,7 @@ mod refusal;
 use calls::{compare, is_replaced, put_hash, put_refusal, put_setting, tell_bound, tell_cost};
 use crypt_core::version::VERSION_NUMBER;
 use prims_core::meter::Meter;
-use prims_core::work::Work;
+use prims_core::meter::Work;
 use refusal::Refusal;
 use std::alloc::Global;
 

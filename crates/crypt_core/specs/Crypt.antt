@@ -1,7 +1,7 @@
 -- The text that crypt(3) gives for a password and a setting.
 use Rattle.std.specs.Prelude.{ℕ, ◌+◌, List, ◌∷◌, ◌++◌}
 use Rattle.prims_core.specs.Digests.{sha256, sha512}
-use Rattle.prims_core.specs.declared.work.Work.{Work}
+use Rattle.prims_core.specs.declared.meter.Work.{Work}
 use Rattle.kdf_core.specs.Scrypt.{scrypt}
 use Rattle.kdf_core.specs.ScryptWork.{IsAfterRefusal}
 use Rattle.crypt_core.specs.Md5crypt.{md5crypt_digest}

@@ -6,7 +6,7 @@ use Rattle.std.specs.Int.{div_ceil}
 use Rattle.prims_core.specs.Digests.{sha256, sha512}
 -- a meter raised by some work, and work within other work or below a number
 pub use Rattle.prims_core.specs.Work.{raised_by, IsBelow, IsWithin}
-use Rattle.prims_core.specs.declared.work.Work.{Work}
+use Rattle.prims_core.specs.declared.meter.Work.{Work}
 use Rattle.kdf_core.specs.ScryptWork.{mixed_bytes, scrypt_work}
 use Rattle.crypt_core.specs.Cycle.{digit_bytes}
 use Rattle.crypt_core.specs.Md5crypt.{md5crypt_rounds}

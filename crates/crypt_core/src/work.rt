@@ -15,7 +15,7 @@ use crate::setting::Setting;
 use kdf_core::params::Params;
 use kdf_core::work::{mixed_bytes, scrypt_work};
 use prims_core::counted::{Counted, CountedMd5, CountedSha256, CountedSha512};
-pub use prims_core::work::Work;
+pub use prims_core::meter::Work;
 
 /// The greatest byte.
 const GREATEST_BYTE: u64 = 255;

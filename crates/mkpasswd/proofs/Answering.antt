@@ -1,20 +1,21 @@
--- The answer to a line that is too long, how far an answer raises the counts, and the room that it leaves.
-use Rattle.std.proofs.Common.{◌≡◌, ℕ, ◌+◌, ◌<◌, ◌≤◌, List, [], length, Option, Result, Ok, Err, refl, arith}
+-- The decision on a line that is too long, the texts of outcomes, how far an answer raises the counts, and the room that
+-- it leaves.
+use Rattle.std.proofs.Common.{◌≡◌, ◌≢◌, Bool, ℕ, ◌+◌, ◌<◌, ◌≤◌, List, [], length, Option, Result, Ok, Err, refl, arith}
 use Rattle.rand_core.specs.Stream.{Stream}
-use Rattle.prims_core.specs.declared.work.Work.{Work}
+use Rattle.prims_core.specs.declared.meter.Work.{Work}
 use Rattle.mkpasswd.specs.Answers.{Answer, after_work}
 use Rattle.mkpasswd.specs.Devices.{Device, IsUnfailed, IsUnflushed, calls_limit}
-use Rattle.mkpasswd.specs.LineAnswers.{IsAnswer, refused_answer}
-use Rattle.mkpasswd.specs.LineAnswers.IsAnswer.{refused}
+use Rattle.mkpasswd.specs.LineAnswers.{IsDecision, fault_output_text, outcome_text, output_text, refusal}
+use Rattle.mkpasswd.specs.LineAnswers.IsDecision.{refused}
 use Rattle.mkpasswd.specs.Lines.{IsLineRefused, line_limit, rule_number}
-use Rattle.mkpasswd.specs.Private.Made.{IsRaisedBelow, Says, fault_text_of, tally_of, text_of}
+use Rattle.mkpasswd.specs.Outcomes.{tally_of}
+use Rattle.mkpasswd.specs.Private.Answers.{IsRaisedBelow}
 use Rattle.mkpasswd.specs.Private.Deliveries.{Sends}
 use Rattle.mkpasswd.specs.Private.LineProgress.{AnswersOne, HasRoomIn, OutputState}
 use Rattle.mkpasswd.specs.Private.Headroom.{HasCountsFor, HasRoomFor, answer_limit, line_work_limit}
 use Rattle.mkpasswd.specs.Tallies.{both_tallies}
-use Rattle.mkpasswd.specs.declared.answer.LineAnswer.{LineAnswer}
 use Rattle.mkpasswd.specs.declared.answer.Outcome.{Outcome}
-use Rattle.mkpasswd.specs.declared.answer.Outcome.TheVariants.{Answered, Misfit, Refused}
+use Rattle.mkpasswd.specs.declared.answer.Outcome.TheVariants.{Hashed, Match, Rehashed, Mismatch, NoHash, Locked, Refused}
 use Rattle.mkpasswd.specs.declared.fault.RunFault.{RunFault}
 use Rattle.mkpasswd.specs.declared.fault.RunFault.TheVariants.{Read, Write, OutOfMemory, Turns, Password}
 use Rattle.mkpasswd.specs.declared.job.Job.{Job}
@@ -41,28 +42,12 @@ too_long-refused kind line long = record {
   first = λ earlier before. absurd (omega (arith, some_rule earlier, before));
 }
 
--- so its refusal is the answer, whatever its bytes are
-pub too_long-answered : (kind : Kind) (job : Job) (number : ℕ) (line : List ℕ) (stream : Stream) (made : LineAnswer) (counts : Work)
-    → line_limit < length line → ((stream : Stream) → Says made.outcome made.text.items (refused_answer number LineTooLong stream))
-    → (answer : Answer) × IsAnswer kind job number line stream answer
-    × (Says made.outcome made.text.items answer × (counts ≡ after_work counts answer.hashings) × (stream ≡ answer.stream))
-too_long-answered kind job number line stream made counts long says = (
-  refused_answer number LineTooLong stream,
-  refused LineTooLong (too_long-refused kind line long) refl,
-  (says stream, refl, refl),
-)
+-- so its refusal is what it comes to, whatever its bytes are
+pub too_long-decided : (kind : Kind) (job : Job) (line : List ℕ) (stream : Stream) → line_limit < length line
+    → IsDecision kind job line stream (refusal LineTooLong stream)
+too_long-decided kind job line stream long = refused LineTooLong (too_long-refused kind line long) refl
 
 -- ---- one more line
-
--- what an outcome and a text say, with no hashes
-abbrev said_answer : Outcome → List ℕ → Stream → Answer
-said_answer outcome text stream = record {
-  text = text_of outcome text;
-  fault_text = fault_text_of outcome text;
-  tally = tally_of outcome;
-  hashings = [];
-  stream = stream;
-}
 
 -- every outcome is of one line
 record IsOfOneLine (tally : Tally) : Type 0 where
@@ -71,9 +56,28 @@ record IsOfOneLine (tally : Tally) : Type 0 where
   misfits : tally.misfits ≤ 1
 
 one_line-of : (outcome : Outcome) → IsOfOneLine (tally_of outcome)
-one_line-of Answered = record { lines = refl; refused = omega arith; misfits = omega arith }
-one_line-of Misfit = record { lines = refl; refused = omega arith; misfits = omega arith }
-one_line-of Refused = record { lines = refl; refused = omega arith; misfits = omega arith }
+one_line-of (Hashed hash) = record { lines = refl; refused = omega arith; misfits = omega arith }
+one_line-of Match = record { lines = refl; refused = omega arith; misfits = omega arith }
+one_line-of (Rehashed hash) = record { lines = refl; refused = omega arith; misfits = omega arith }
+one_line-of Mismatch = record { lines = refl; refused = omega arith; misfits = omega arith }
+one_line-of NoHash = record { lines = refl; refused = omega arith; misfits = omega arith }
+one_line-of Locked = record { lines = refl; refused = omega arith; misfits = omega arith }
+one_line-of (Refused fault) = record { lines = refl; refused = omega arith; misfits = omega arith }
+
+-- the texts of an outcome that is no refusal
+pub record IsPrinted (wanted : Bool) (number : ℕ) (name : List ℕ) (outcome : Outcome) (work : Work) : Type 0 where
+  pub text : output_text wanted name outcome work ≡ outcome_text wanted name outcome work
+  pub fault_text : fault_output_text number outcome ≡ []
+
+pub is_printed : (wanted : Bool) (number : ℕ) (name : List ℕ) (outcome : Outcome) (work : Work) → ((fault : LineFault) → outcome ≢ Refused fault)
+    → IsPrinted wanted number name outcome work
+is_printed wanted number name (Hashed hash) work other = record { text = refl; fault_text = refl }
+is_printed wanted number name Match work other = record { text = refl; fault_text = refl }
+is_printed wanted number name (Rehashed hash) work other = record { text = refl; fault_text = refl }
+is_printed wanted number name Mismatch work other = record { text = refl; fault_text = refl }
+is_printed wanted number name NoHash work other = record { text = refl; fault_text = refl }
+is_printed wanted number name Locked work other = record { text = refl; fault_text = refl }
+is_printed wanted number name (Refused fault) work other = absurd (other fault refl)
 
 one_more-device : {T : Type 0} (lines : ℕ) (old new : Device T) → HasRoomFor lines old → IsUnfailed old new → IsUnflushed old new → new.calls ≤ calls_limit
     → new.bytes ≤ old.bytes + answer_limit → HasRoomFor (lines + 1) new
@@ -94,16 +98,15 @@ one_more-counts lines old new room small = record {
 
 module _ {O E : Type 0} where
   -- room for the next line is left after an answer
-  pub room-after : (contents : O → Option (List ℕ)) (fault_contents : E → Option (List ℕ)) (tally : Tally) (made : LineAnswer) (old new : OutputState O E) (left new_left : ℕ) {A : Type 0} (done : A)
+  pub room-after : (tally : Tally) (outcome : Outcome) (old new : OutputState O E) (left new_left : ℕ)
       → HasRoomIn tally old → IsRaisedBelow line_work_limit old.counts new.counts
-      → ((told : Answer) → Says made.outcome made.text.items told → Sends contents fault_contents new_left told old.out old.faults new.out new.faults (Ok done))
+      → IsUnfailed old.out new.out × IsUnfailed old.faults new.faults → IsUnflushed old.out new.out × IsUnflushed old.faults new.faults
       → old.out.calls + old.faults.calls + left ≤ calls_limit
       → new.out.calls + new.faults.calls + new_left ≡ old.out.calls + old.faults.calls + left
       → new.out.bytes ≤ old.out.bytes + answer_limit → new.faults.bytes ≤ old.faults.bytes + answer_limit
-      → HasRoomIn (both_tallies tally (tally_of made.outcome)) new
-  room-after contents fault_contents tally made old new left new_left done room small sends calls turns bytes fault_bytes =
-      let sent = sends (said_answer made.outcome made.text.items old.stream) (record { text = refl; fault_text = refl; tally = refl }) in
-      let one = one_line-of made.outcome in
+      → HasRoomIn (both_tallies tally (tally_of outcome)) new
+  room-after tally outcome old new left new_left room small unfailed unflushed calls turns bytes fault_bytes =
+      let one = one_line-of outcome in
       let line = one.lines in
       let were_refused = room.tallied.refused in
       let refused_now = one.refused in
@@ -111,8 +114,8 @@ module _ {O E : Type 0} where
       let misfits_now = one.misfits in
       record {
         tallied = record { refused = omega arith; misfits = omega arith };
-        out = rw line (one_more-device tally.lines old.out new.out room.out sent.0 sent.2.flush (omega (arith, calls, turns)) bytes);
-        faults = rw line (one_more-device tally.lines old.faults new.faults room.faults sent.1 sent.3.flush (omega (arith, calls, turns)) fault_bytes);
+        out = rw line (one_more-device tally.lines old.out new.out room.out unfailed.0 unflushed.0 (omega (arith, calls, turns)) bytes);
+        faults = rw line (one_more-device tally.lines old.faults new.faults room.faults unfailed.1 unflushed.1 (omega (arith, calls, turns)) fault_bytes);
         counts = rw line (one_more-counts tally.lines old.counts new.counts room.counts small);
       }
 

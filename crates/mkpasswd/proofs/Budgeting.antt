@@ -9,10 +9,11 @@ use Rattle.crypt_core.specs.declared.method.Method.{Method}
 use Rattle.crypt_core.specs.declared.method.Method.TheVariants.{Md5crypt, Sha256crypt, Sha512crypt, Scrypt}
 use Rattle.mkpasswd.specs.Answers.{Answer}
 use Rattle.mkpasswd.specs.Budgets.{without_budget}
-use Rattle.mkpasswd.specs.LineAnswers.{IsAnswer, IsCostly, refused_answer}
-use Rattle.mkpasswd.specs.LineAnswers.IsAnswer.{refused, over, hashed, none, locked, ok, rehashed, no}
+use Rattle.mkpasswd.specs.LineAnswers.{Decision, IsAnswer, IsCostly, IsDecision, decided_answer, refusal, refused_answer}
+use Rattle.mkpasswd.specs.LineAnswers.IsDecision.{refused, over, hashed, none, locked, ok, rehashed, no}
 use Rattle.mkpasswd.specs.LineOptions.{OnlyRefuses}
-use Rattle.mkpasswd.specs.Lines.{HasParts, IsStored, Parts}
+use Rattle.crypt_core.specs.StoredFields.{IsStored}
+use Rattle.mkpasswd.specs.Lines.{HasParts, Parts}
 use Rattle.mkpasswd.specs.One.{EndsBy, EndsByInput, EndsOne}
 use Rattle.mkpasswd.specs.Rehashes.{without_rehash}
 use Rattle.mkpasswd.specs.Runs.{RunState, DeviceBytes}
@@ -29,37 +30,37 @@ use Rattle.mkpasswd.proofs.Cuts.{parts_unique}
 -- ---- lines
 
 -- without a budget no line is costly
-free : (kind : Kind) (job : Job) (line : List ℕ) (stream : Stream) → ¬ IsCostly kind (without_budget job) line stream
-free kind job line stream costly = costly.above
+free : (kind : Kind) (job : Job) (line : List ℕ) → ¬ IsCostly kind (without_budget job) line
+free kind job line costly = costly.above
 
--- so each answer to one that isn't stands
-answer-without : (kind : Kind) (job : Job) (number : ℕ) (line : List ℕ) (stream : Stream) (answer : Answer) → ¬ IsCostly kind job line stream
-    → IsAnswer kind job number line stream answer → IsAnswer kind (without_budget job) number line stream answer
-answer-without kind job number line stream answer cheap (refused fault breaks is) = refused fault breaks is
-answer-without kind job number line stream answer cheap (over costly is) = absurd (cheap costly)
-answer-without kind job number line stream answer cheap (hashed parts taken lacks within is) = hashed parts taken lacks (free kind job line stream) is
-answer-without kind job number line stream answer cheap (none parts taken empty is) = none parts taken empty is
-answer-without kind job number line stream answer cheap (locked parts field taken has is_locked is) = locked parts field taken has is_locked is
-answer-without kind job number line stream answer cheap (ok parts field kept stored within same recent is) =
-    ok parts field kept stored (free kind job line stream) same recent is
-answer-without kind job number line stream answer cheap (rehashed parts field kept stored within same outdated is) =
-    rehashed parts field kept stored (free kind job line stream) same outdated is
-answer-without kind job number line stream answer cheap (no parts field kept stored within differs is) =
-    no parts field kept stored (free kind job line stream) differs is
+-- so what another one comes to stands
+decision-without : (kind : Kind) (job : Job) (line : List ℕ) (stream : Stream) (made : Decision) → ¬ IsCostly kind job line
+    → IsDecision kind job line stream made → IsDecision kind (without_budget job) line stream made
+decision-without kind job line stream made cheap (refused fault breaks is) = refused fault breaks is
+decision-without kind job line stream made cheap (over costly is) = absurd (cheap costly)
+decision-without kind job line stream made cheap (hashed parts taken lacks within is) = hashed parts taken lacks (free kind job line) is
+decision-without kind job line stream made cheap (none parts taken empty is) = none parts taken empty is
+decision-without kind job line stream made cheap (locked parts field taken has is_locked is) = locked parts field taken has is_locked is
+decision-without kind job line stream made cheap (ok parts field kept stored within same recent is) =
+    ok parts field kept stored (free kind job line) same recent is
+decision-without kind job line stream made cheap (rehashed parts field kept stored within same outdated is) =
+    rehashed parts field kept stored (free kind job line) same outdated is
+decision-without kind job line stream made cheap (no parts field kept stored within differs is) =
+    no parts field kept stored (free kind job line) differs is
 
 -- and the other way round
-answer-within : (kind : Kind) (job : Job) (number : ℕ) (line : List ℕ) (stream : Stream) (answer : Answer) → ¬ IsCostly kind job line stream
-    → IsAnswer kind (without_budget job) number line stream answer → IsAnswer kind job number line stream answer
-answer-within kind job number line stream answer cheap (refused fault breaks is) = refused fault breaks is
-answer-within kind job number line stream answer cheap (over costly is) = absurd costly.above
-answer-within kind job number line stream answer cheap (hashed parts taken lacks within is) = hashed parts taken lacks cheap is
-answer-within kind job number line stream answer cheap (none parts taken empty is) = none parts taken empty is
-answer-within kind job number line stream answer cheap (locked parts field taken has is_locked is) = locked parts field taken has is_locked is
-answer-within kind job number line stream answer cheap (ok parts field kept stored within same recent is) =
+decision-within : (kind : Kind) (job : Job) (line : List ℕ) (stream : Stream) (made : Decision) → ¬ IsCostly kind job line
+    → IsDecision kind (without_budget job) line stream made → IsDecision kind job line stream made
+decision-within kind job line stream made cheap (refused fault breaks is) = refused fault breaks is
+decision-within kind job line stream made cheap (over costly is) = absurd costly.above
+decision-within kind job line stream made cheap (hashed parts taken lacks within is) = hashed parts taken lacks cheap is
+decision-within kind job line stream made cheap (none parts taken empty is) = none parts taken empty is
+decision-within kind job line stream made cheap (locked parts field taken has is_locked is) = locked parts field taken has is_locked is
+decision-within kind job line stream made cheap (ok parts field kept stored within same recent is) =
     ok parts field kept stored cheap same recent is
-answer-within kind job number line stream answer cheap (rehashed parts field kept stored within same outdated is) =
+decision-within kind job line stream made cheap (rehashed parts field kept stored within same outdated is) =
     rehashed parts field kept stored cheap same outdated is
-answer-within kind job number line stream answer cheap (no parts field kept stored within differs is) = no parts field kept stored cheap differs is
+decision-within kind job line stream made cheap (no parts field kept stored within differs is) = no parts field kept stored cheap differs is
 
 -- a text that spells a setting begins with a `$`
 first_of_prefix : (method : Method) (rest : List ℕ) → slice_index (prefix method ++ rest) 0 ≡ 36
@@ -87,9 +88,9 @@ spelled-stored field kept spells =
     }
 
 -- and a field that spells none has no cost
-unstored-cheap : (kind : Kind) (job : Job) (line : List ℕ) (stream : Stream) (parts : Parts) (field : List ℕ) → HasParts kind line parts
-    → parts.field ≡ Some field → ¬ IsStored field → ¬ IsCostly kind job line stream
-unstored-cheap kind job line stream parts field has is unstored costly =
+unstored-cheap : (kind : Kind) (job : Job) (line : List ℕ) (parts : Parts) (field : List ℕ) → HasParts kind line parts
+    → parts.field ≡ Some field → ¬ IsStored field → ¬ IsCostly kind job line
+unstored-cheap kind job line parts field has is unstored costly =
     let same = ap (λ (p : Parts). p.field) (parts_unique kind line costly.parts parts costly.taken.cut has) in
     elim costly.cost [
       | inl made ↦ absurd (none-some field (sym made.0 ∙ (same ∙ is)))
@@ -98,25 +99,28 @@ unstored-cheap kind job line stream parts field has is unstored costly =
           unstored (subst IsStored fields (spelled-stored spelled.0 spelled.1 spelled.3))
     ]
 
--- what breaks no rule and costs too much gets no answer but the refusal
-costly-refused : (kind : Kind) (job : Job) (number : ℕ) (line : List ℕ) (stream : Stream) (answer : Answer) → IsCostly kind job line stream
-    → IsAnswer kind job number line stream answer → answer ≡ refused_answer number OverBudget stream
-costly-refused kind job number line stream answer costly (refused fault breaks is) = absurd (costly.taken.sound fault breaks.breaks)
-costly-refused kind job number line stream answer costly (over other is) = is
-costly-refused kind job number line stream answer costly (hashed parts taken lacks cheap is) = absurd (cheap costly)
-costly-refused kind job number line stream answer costly (none parts taken empty is) =
-    absurd (unstored-cheap kind job line stream parts [] taken.cut empty (λ stored. stored.some refl) costly)
-costly-refused kind job number line stream answer costly (locked parts field taken has is_locked is) =
-    absurd (unstored-cheap kind job line stream parts field taken.cut has (λ stored. stored.unlocked is_locked) costly)
-costly-refused kind job number line stream answer costly (ok parts field kept stored cheap same recent is) = absurd (cheap costly)
-costly-refused kind job number line stream answer costly (rehashed parts field kept stored cheap same outdated is) = absurd (cheap costly)
-costly-refused kind job number line stream answer costly (no parts field kept stored cheap differs is) = absurd (cheap costly)
+-- what breaks no rule and costs too much is refused
+costly-refused : (kind : Kind) (job : Job) (line : List ℕ) (stream : Stream) (made : Decision) → IsCostly kind job line
+    → IsDecision kind job line stream made → made ≡ refusal OverBudget stream
+costly-refused kind job line stream made costly (refused fault breaks is) = absurd (costly.taken.sound fault breaks.breaks)
+costly-refused kind job line stream made costly (over other is) = is
+costly-refused kind job line stream made costly (hashed parts taken lacks cheap is) = absurd (cheap costly)
+costly-refused kind job line stream made costly (none parts taken empty is) =
+    absurd (unstored-cheap kind job line parts [] taken.cut empty (λ stored. stored.some refl) costly)
+costly-refused kind job line stream made costly (locked parts field taken has is_locked is) =
+    absurd (unstored-cheap kind job line parts field taken.cut has (λ stored. stored.unlocked is_locked) costly)
+costly-refused kind job line stream made costly (ok parts field kept stored cheap same recent is) = absurd (cheap costly)
+costly-refused kind job line stream made costly (rehashed parts field kept stored cheap same outdated is) = absurd (cheap costly)
+costly-refused kind job line stream made costly (no parts field kept stored cheap differs is) = absurd (cheap costly)
 
 pub only_refuses : (kind : Kind) (job : Job) → OnlyRefuses kind job
 only_refuses kind job = record {
-  costly = costly-refused kind job;
-  others = λ number line stream answer cheap.
-      (answer-without kind job number line stream answer cheap, answer-within kind job number line stream answer cheap);
+  costly = λ number line stream answer costly is.
+      is.2 ∙ ap (decided_answer job number) (costly-refused kind job line stream is.0 costly is.1);
+  others = λ number line stream answer cheap. (
+    λ is. (is.0, decision-without kind job line stream is.0 cheap is.1, is.2),
+    λ is. (is.0, decision-within kind job line stream is.0 cheap is.1, is.2),
+  );
   unhashed = unstored-cheap kind job;
 }
 

@@ -1,12 +1,13 @@
 -- How the run for one password ends, from what its steps leave.
 use Rattle.std.proofs.Common.{◌≡◌, ℕ, ◌+◌, List, [], Result, Ok, Err, refl, sym, ap, subst, ◌∙◌, add-zero, arith, inl, inr}
 use Rattle.rand_core.specs.Stream.{Stream}
-use Rattle.prims_core.specs.declared.work.Work.{Work}
+use Rattle.prims_core.specs.declared.meter.Work.{Work}
 use Rattle.crypt_core.specs.Crypt.{IsAfterRefusedGrowth}
 use Rattle.crypt_core.specs.Passwords.{IsPassword}
 use Rattle.crypt_core.specs.Settings.{SettingValue}
 use Rattle.crypt_core.specs.Work.{raised_by, work}
-use Rattle.mkpasswd.specs.Answers.{after_work, hash_text, no_answer, password_answer}
+use Rattle.mkpasswd.specs.Makers.{next_setting, stream_after}
+use Rattle.mkpasswd.specs.Answers.{after_work, no_answer, password_answer}
 use Rattle.mkpasswd.specs.Devices.{Device}
 use Rattle.mkpasswd.specs.Input.{first_line}
 use Rattle.mkpasswd.specs.One.{EndsBy, EndsOne, EndsByInput}
@@ -142,18 +143,18 @@ module _ {I O E : Type 0} (told : DeviceBytes I O E) (turns : ℕ) (job : Job) w
   -- ---- the hash
 
   -- memory for it was refused
-  pub ends-out_of_memory : (from : PasswordFrom) (password : List ℕ) (old : RunState I O E) (input : Device I) (stream : Stream) (counts : Work) (left : ℕ) (kept : SettingValue)
-      → ObtainsFrom told.remaining from old.input input left (Ok password) → IsDrawn job.maker old.stream stream kept
-      → IsAfterRefusedGrowth old.counts kept.scheme counts
+  pub ends-out_of_memory : (from : PasswordFrom) (password : List ℕ) (old : RunState I O E) (input : Device I) (stream : Stream) (counts : Work) (left : ℕ)
+      → ObtainsFrom told.remaining from old.input input left (Ok password) → stream ≡ stream_after job.maker old.stream
+      → IsAfterRefusedGrowth old.counts (next_setting job.maker old.stream).scheme counts
       → EndsOne told turns job from old (before_giving old input stream counts) (Err OutOfMemory)
-  ends-out_of_memory from password old input stream counts left kept obtains drawn refused =
+  ends-out_of_memory from password old input stream counts left obtains drawn refused =
       let is = is_password from old.input input left password obtains in
       ends-with_password from old (before_giving old input stream counts) left password (Err OutOfMemory) obtains (
         is.0,
         (
           fails-in_input old input stream counts 0 (is.1 ∙ sym (add-zero _)),
           takes-none old input stream counts,
-          inl (subst (λ (k : SettingValue). IsAfterRefusedGrowth old.counts k.scheme counts) drawn.kept_is refused, drawn.stream_is),
+          inl (refused, drawn),
         ),
       )
 
@@ -165,18 +166,13 @@ module _ {I O E : Type 0} (told : DeviceBytes I O E) (turns : ℕ) (job : Job) w
     pub stream_is : stream ≡ (password_answer job password old.stream).stream
     pub counts_are : counts ≡ after_work old.counts (password_answer job password old.stream).hashings
 
-  pub has_hash : (from : PasswordFrom) (password line : List ℕ) (old : RunState I O E) (input : Device I) (stream : Stream) (counts : Work) (left : ℕ) (kept : SettingValue)
+  pub has_hash : (from : PasswordFrom) (password line : List ℕ) (old : RunState I O E) (input : Device I) (stream : Stream) (counts : Work) (left : ℕ)
       → ObtainsFrom told.remaining from old.input input left (Ok password) → input.calls + left ≡ old.input.calls + turns
-      → IsDrawn job.maker old.stream stream kept → counts ≡ raised_by old.counts (work password kept)
-      → line ≡ as_line (hash_text job password kept)
+      → stream ≡ stream_after job.maker old.stream → counts ≡ raised_by old.counts (work password (next_setting job.maker old.stream))
+      → line ≡ (password_answer job password old.stream).text
       → HasHash from password line old input stream counts left
-  has_hash from password line old input stream counts left kept obtains calls drawn counted hashed = record {
-    obtains = obtains;
-    calls = calls;
-    line_is = hashed ∙ ap (λ (k : SettingValue). as_line (hash_text job password k)) drawn.kept_is;
-    stream_is = drawn.stream_is;
-    counts_are = counted ∙ ap (λ (k : SettingValue). raised_by old.counts (work password k)) drawn.kept_is;
-  }
+  has_hash from password line old input stream counts left obtains calls drawn counted hashed =
+      record { obtains = obtains; calls = calls; line_is = hashed; stream_is = drawn; counts_are = counted }
 
   after_answer : (from : PasswordFrom) (password line : List ℕ) (old : RunState I O E) (input : Device I) (out : Device O) (stream : Stream) (counts : Work) (left : ℕ)
       → HasHash from password line old input stream counts left

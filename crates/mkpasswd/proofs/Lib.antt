@@ -3,6 +3,7 @@ pub mod Budgeting
 pub mod CommandFacts
 pub mod Counting
 pub mod Cuts
+pub mod Deciding
 pub mod Drawing
 pub mod Ending
 pub mod Finishing

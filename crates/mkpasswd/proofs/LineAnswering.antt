@@ -1,10 +1,13 @@
 -- The answers to the lines of an input, one after another.
 use Rattle.std.proofs.Common.{◌≡◌, ℕ, suc, ◌+◌, List, [], ◌∷◌, ◌++◌, length, refl, sym, ap, ◌∙◌, append_assoc, append-nil, add_assoc, add-zero, zero-add, arith}
 use Rattle.rand_core.specs.Stream.{Stream}
-use Rattle.prims_core.specs.declared.work.Work.{Work}
+use Rattle.prims_core.specs.declared.meter.Work.{Work}
 use Rattle.crypt_core.specs.Work.{raised_by, work}
 use Rattle.mkpasswd.specs.Answers.{Answer, Hashing, after_work, no_answer}
-use Rattle.mkpasswd.specs.LineAnswers.{IsAnswer, refused, over, hashed, none, locked, ok, rehashed, no}
+use Rattle.mkpasswd.specs.LineAnswers.{IsAnswer}
+use Rattle.mkpasswd.specs.Outcomes.{tally_of}
+use Rattle.mkpasswd.specs.declared.answer.Outcome.{Outcome}
+use Rattle.mkpasswd.specs.declared.answer.Outcome.TheVariants.{Hashed, Match, Rehashed, Mismatch, NoHash, Locked, Refused}
 use Rattle.mkpasswd.specs.LineRuns.{AreAnswers, both}
 use Rattle.mkpasswd.specs.declared.job.Job.{Job}
 use Rattle.mkpasswd.specs.declared.line.Kind.{Kind}
@@ -26,16 +29,18 @@ after_work-append counts (hashing ∷ hashings) others = after_work-append (rais
 
 -- ---- the answers to lines
 
+lines-of_outcome : (outcome : Outcome) → (tally_of outcome).lines ≡ 1
+lines-of_outcome (Hashed hash) = refl
+lines-of_outcome Match = refl
+lines-of_outcome (Rehashed hash) = refl
+lines-of_outcome Mismatch = refl
+lines-of_outcome NoHash = refl
+lines-of_outcome Locked = refl
+lines-of_outcome (Refused fault) = refl
+
 pub lines-of_answer : (kind : Kind) (job : Job) (number : ℕ) (line : List ℕ) (stream : Stream) (answer : Answer)
     → IsAnswer kind job number line stream answer → answer.tally.lines ≡ 1
-lines-of_answer kind job number line stream answer (refused fault breaks is) = ap (λ a. a.tally.lines) is
-lines-of_answer kind job number line stream answer (over costly is) = ap (λ a. a.tally.lines) is
-lines-of_answer kind job number line stream answer (hashed parts taken no_field within is) = ap (λ a. a.tally.lines) is
-lines-of_answer kind job number line stream answer (none parts taken empty is) = ap (λ a. a.tally.lines) is
-lines-of_answer kind job number line stream answer (locked parts field taken has is_locked is) = ap (λ a. a.tally.lines) is
-lines-of_answer kind job number line stream answer (ok parts field kept stored within same recent is) = ap (λ a. a.tally.lines) is
-lines-of_answer kind job number line stream answer (rehashed parts field kept stored within same outdated is) = ap (λ a. a.tally.lines) is
-lines-of_answer kind job number line stream answer (no parts field kept stored within differs is) = ap (λ a. a.tally.lines) is
+lines-of_answer kind job number line stream answer (made, decides, is) = ap (λ a. a.tally.lines) is ∙ lines-of_outcome made.outcome
 
 -- the tally counts each line
 pub lines-of_answers : (kind : Kind) (job : Job) (number : ℕ) (lines : List (List ℕ)) (stream : Stream) (answers : Answer)

@@ -4,7 +4,7 @@ use Rattle.std.proofs.lemmas.Option.{none-some}
 use Rattle.clap.specs.Words.{Text, matches_of}
 use Rattle.rand_core.specs.Stream.{Stream}
 use Rattle.crypt_core.specs.Crypt.{crypt}
-use Rattle.crypt_core.specs.MadeSettings.{made_setting}
+use Rattle.crypt_core.specs.MadeSettings.{made_scheme, made_setting}
 use Rattle.crypt_core.specs.Methods.{method_named}
 use Rattle.crypt_core.specs.Settings.{BeginsWith}
 use Rattle.crypt_core.specs.declared.method.Method.{Method}
@@ -38,7 +38,7 @@ text_of (lines kind) = []
 
 -- the answer of their job is the hash alone
 text_by : (method : Method) (salt password : Text) (job : Job) (bytes : Text) (stream : Stream)
-    → job.maker ≡ record { method = method; cost = 0; salt = Some salt } → job.work ≡ false → bytes ≡ password
+    → job.maker ≡ record { scheme = made_scheme method 0; salt = Some salt } → job.work ≡ false → bytes ≡ password
     → (password_answer job bytes stream).text ≡ as_line (crypt password (made_setting method 0 salt))
 text_by method salt password job bytes stream maker_is work_is bytes_is =
     rw (maker_is, work_is, bytes_is) (ap as_line (append-nil (crypt password (made_setting method 0 salt))))

@@ -1,8 +1,8 @@
 -- What is answered to one item: a password or a line.
-use Rattle.std.specs.Prelude.{ℕ, List, [], ◌∷◌, ◌++◌, ◌⊎◌, ◌≡◌, decimal, if◌then◌else◌}
+use Rattle.std.specs.Prelude.{Bool, ℕ, List, [], ◌∷◌, ◌++◌, ◌⊎◌, ◌≡◌, decimal, if◌then◌else◌}
 use Rattle.rand_core.specs.Stream.{Stream}
 use Rattle.prims_core.specs.Work.{no_work}
-use Rattle.prims_core.specs.declared.work.Work.{Work}
+use Rattle.prims_core.specs.declared.meter.Work.{Work}
 use Rattle.crypt_core.specs.Crypt.{crypt, IsAfterRefusedGrowth}
 use Rattle.crypt_core.specs.Settings.{SettingValue}
 use Rattle.crypt_core.specs.Work.{raised_by, work}
@@ -74,9 +74,9 @@ counts_text digests bytes mixes table =
 abbrev pub work_text : Work → List ℕ
 work_text work = counts_text work.digests work.bytes work.mixes work.table
 
--- and only where the job wants them
-abbrev pub wanted_text : Job → Work → List ℕ
-wanted_text job work = if job.work then work_text work else []
+-- and only if they are wanted
+abbrev pub wanted_text : Bool → Work → List ℕ
+wanted_text wanted work = if wanted then work_text work else []
 
 -- ---- the hash of a password
 
@@ -91,5 +91,5 @@ new_hashing job password stream = hashing password (next_setting job.maker strea
 -- the line for a single password: its hash, and the counts of its work if they are wanted
 abbrev pub password_answer : Job → List ℕ → Stream → Answer
 password_answer job password stream =
-    printed (as_line (new_hash job password stream ++ wanted_text job (work_of (new_hashing job password stream ∷ [])))) one_line
+    printed (as_line (new_hash job password stream ++ wanted_text job.work (work_of (new_hashing job password stream ∷ [])))) one_line
     (new_hashing job password stream ∷ []) (stream_after job.maker stream)

@@ -1,7 +1,7 @@
 -- What a line comes to, by the parts that it has, and the answer to it.
-use Rattle.std.specs.Prelude.{◌≡◌, ◌≢◌, ℕ, ◌⊎◌, List, [], ◌∷◌, ◌++◌, length, codes, decimal, true, false, Option, Some, None}
+use Rattle.std.specs.Prelude.{◌≡◌, ◌≢◌, Bool, ℕ, ◌⊎◌, List, [], ◌∷◌, ◌++◌, length, codes, decimal, true, false, Option, Some, None}
 use Rattle.rand_core.specs.Stream.{Stream}
-use Rattle.prims_core.specs.declared.work.Work.{Work}
+use Rattle.prims_core.specs.declared.meter.Work.{Work}
 use Rattle.crypt_core.specs.Crypt.{crypt}
 use Rattle.crypt_core.specs.Settings.{SettingValue, Spells}
 use Rattle.crypt_core.specs.StoredFields.{IsLocked}
@@ -31,8 +31,8 @@ abbrev pub front_of : List ℕ → List ℕ
 front_of name = name ++ colon ∷ []
 
 -- the line for a name: its outcome, and the counts of the work for it if they are wanted
-abbrev pub outcome_text : Job → List ℕ → Outcome → Work → List ℕ
-outcome_text job name outcome work = as_line (front_of name ++ rendered outcome ++ wanted_text job work)
+abbrev pub outcome_text : Bool → List ℕ → Outcome → Work → List ℕ
+outcome_text wanted name outcome work = as_line (front_of name ++ (rendered outcome ++ wanted_text wanted work))
 
 -- ---- decisions
 
@@ -52,9 +52,9 @@ abbrev pub refusal : LineFault → Stream → Decision
 refusal fault = decision [] (Refused fault) []
 
 -- what is written of it: a refusal goes to the fault output, and every other outcome to the output
-abbrev pub output_text : Job → List ℕ → Outcome → Work → List ℕ
-output_text job name (Refused fault) work = []
-output_text job name outcome work = outcome_text job name outcome work
+abbrev pub output_text : Bool → List ℕ → Outcome → Work → List ℕ
+output_text wanted name (Refused fault) work = []
+output_text wanted name outcome work = outcome_text wanted name outcome work
 
 abbrev pub fault_output_text : ℕ → Outcome → List ℕ
 fault_output_text number (Refused fault) = refusal_text number fault
@@ -62,7 +62,7 @@ fault_output_text number outcome = []
 
 abbrev pub decided_answer : Job → ℕ → Decision → Answer
 decided_answer job number made = record {
-  text = output_text job made.name made.outcome (work_of made.hashings);
+  text = output_text job.work made.name made.outcome (work_of made.hashings);
   fault_text = fault_output_text number made.outcome;
   tally = tally_of made.outcome;
   hashings = made.hashings;
@@ -116,7 +116,7 @@ pub data IsDecision (kind : Kind) (job : Job) (line : List ℕ) (stream : Stream
   hashed : (parts : Parts) → HasSoundParts kind line parts → parts.field ≡ None
       → ¬ IsCostly kind job line
       → made ≡ decision parts.name (Hashed (new_hash job parts.password stream))
-        (new_hashing job parts.password stream ∷ []) (stream_after job.maker stream)
+      (new_hashing job parts.password stream ∷ []) (stream_after job.maker stream)
       → IsDecision kind job line stream made
   none : (parts : Parts) → HasSoundParts kind line parts → parts.field ≡ Some []
       → made ≡ decision parts.name NoHash [] stream
@@ -133,7 +133,7 @@ pub data IsDecision (kind : Kind) (job : Job) (line : List ℕ) (stream : Stream
       → ¬ IsCostly kind job line
       → crypt parts.password kept ≡ field → is_outdated job kept ≡ true
       → made ≡ decision parts.name (Rehashed (new_hash job parts.password stream))
-        (hashing parts.password kept stream ∷ new_hashing job parts.password stream ∷ []) (stream_after job.maker stream)
+      (hashing parts.password kept stream ∷ new_hashing job parts.password stream ∷ []) (stream_after job.maker stream)
       → IsDecision kind job line stream made
   no : (parts : Parts) → (field : List ℕ) → (kept : SettingValue) → HasSetting kind line parts field kept
       → ¬ IsCostly kind job line

@@ -3,7 +3,7 @@
 use Rattle.std.specs.Prelude.{◌≡◌, ℕ, ◌+◌, ◌^◌, ◌≤◌, ◌⊎◌, List, ◌++◌, Option, Result, Ok, Err}
 use Rattle.rand_core.specs.Stream.{Stream}
 use Rattle.prims_core.specs.Work.{IsAtMost}
-use Rattle.prims_core.specs.declared.work.Work.{Work}
+use Rattle.prims_core.specs.declared.meter.Work.{Work}
 use Rattle.mkpasswd.specs.Answers.{Answer, IsRefusedAmong, after_work}
 use Rattle.mkpasswd.specs.Devices.{Device, FailsToFlush, IsFlushed, IsUnflushed, MovesBytes}
 use Rattle.mkpasswd.specs.Output.{Takes, TakesFront, TakesThen}

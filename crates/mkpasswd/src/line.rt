@@ -104,7 +104,10 @@ pub(crate) fn read_line(kind: Kind, bytes: &[u8]) -> Result<Line<'_>, LineFault>
     ensures refused { IfErr result (IsLineRefused kind bytes.now) }
     ensures each_refusal { (fault : Refusal) → IsLineRefused kind bytes.now fault → result ≡ Err fault }
 {
-    let (name, back) = name_of(bytes)?;
+    let (name, back) = match name_of(bytes) {
+        Ok(parts) => parts,
+        Err(fault) => return Err(fault),
+    };
     let Some((field, password)) = fields_after_name(kind, back) else {
         return Err(LineFault::NoPassword);
     };

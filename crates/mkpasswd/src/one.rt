@@ -10,7 +10,7 @@ ghost use Rattle.mkpasswd.specs.Runs.{run_state, device_bytes, HasCountsForRun, 
 
 mod password;
 
-use crate::answer::answer_password;
+use crate::answer::{Outcome, make_hash, render};
 use crate::device::{Input, Output};
 use crate::fault::RunFault;
 use crate::job::{Job, PasswordFrom};
@@ -71,8 +71,10 @@ pub fn run_one<I: Read, O: Write, E: Write, R: Rng>(
 {
     let mut left = turns;
     let password = obtain(from, input, &mut left)?;
-    let setting = job.maker.next_setting(rng);
-    let line = answer_password(alloc, job, &password, &setting, meter)?;
+    let before = meter.reading();
+    let hash = make_hash(alloc, job, &password, rng, meter)?;
+    let work = meter.work_since(&before);
+    let line = render(job, None, &Outcome::Hashed(hash), &work);
     send(out, line.as_slice(), &mut left)?;
     finish_both(out, faults)?;
     Ok(Tally {

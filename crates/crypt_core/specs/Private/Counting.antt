@@ -1,7 +1,7 @@
 -- How single digests raise a meter.
 use Rattle.std.specs.Prelude.{ℕ, List, length}
 use Rattle.prims_core.specs.Meter.{with_work}
-use Rattle.prims_core.specs.declared.work.Work.{Work}
+use Rattle.prims_core.specs.declared.meter.Work.{Work}
 
 -- the meter after the digest of a message
 abbrev pub with_digest : Work → List ℕ → Work

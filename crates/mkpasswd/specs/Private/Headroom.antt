@@ -1,7 +1,7 @@
 -- Room for what a run does: a number for each count, and what is left of it.
 use Rattle.std.specs.Prelude.{ℕ, ◌^◌, ◌+◌, ◌*◌, ◌≤◌}
 use Rattle.prims_core.specs.Work.{IsAtMost}
-use Rattle.prims_core.specs.declared.work.Work.{Work}
+use Rattle.prims_core.specs.declared.meter.Work.{Work}
 use Rattle.crypt_core.specs.Crypt.{hash_limit}
 use Rattle.crypt_core.specs.Work.{work_limit}
 use Rattle.mkpasswd.specs.Devices.{Device, calls_limit}
@@ -25,7 +25,7 @@ abbrev pub verdict_front_limit : ℕ
 verdict_front_limit = front_limit + 2
 
 abbrev pub count_limit : ℕ
-count_limit = 41
+count_limit = 21
 
 abbrev pub answer_limit : ℕ
 answer_limit = verdict_front_limit + 1 + hash_limit + 4 * count_limit + 1

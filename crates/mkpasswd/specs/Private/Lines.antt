@@ -1,6 +1,7 @@
 -- What the steps that read a line know of it.
 use Rattle.std.specs.Prelude.{◌≡◌, ◌≢◌, ℕ, ◌≤◌, List, [], length, Contains, Option, Some, None, Ok}
 use Rattle.crypt_core.specs.FieldReadings.{IsFieldReading}
+use Rattle.crypt_core.specs.Readings.{IsReadOneWay}
 use Rattle.crypt_core.specs.declared.stored.StoredField.{StoredField}
 use Rattle.mkpasswd.specs.LineAnswers.{HasSoundParts}
 use Rattle.mkpasswd.specs.Lines.{IsCut, Parts, line_limit, name_limit}
@@ -39,7 +40,7 @@ LacksParts Check (Some back) = ¬ Contains back colon
 -- what a field is read as, if there is one
 abbrev pub IsFieldOf : Option (List ℕ) → Option StoredField → Type 0
 IsFieldOf None None = Unit {0}
-IsFieldOf (Some field) (Some stored) = IsFieldReading field (Ok stored)
+IsFieldOf (Some field) (Some stored) = IsFieldReading field (Ok stored) × IsReadOneWay field
 IsFieldOf None (Some stored) = ⊥
 IsFieldOf (Some field) None = ⊥
 

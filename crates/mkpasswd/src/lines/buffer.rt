@@ -1,12 +1,12 @@
 //! The part of a line that was read.
-ghost use Rattle.std.specs.Prelude.{◌≡◌, ℕ, ◌++◌, ◌↔◌, [], List, IsTrue};
-ghost use Rattle.mkpasswd.specs.Answers.{Answer};
-ghost use Rattle.mkpasswd.specs.LineAnswers.{IsAnswer};
-ghost use Rattle.mkpasswd.specs.Private.Made.{IsRaisedBelow, Makes};
+ghost use Rattle.std.specs.Prelude.{◌≡◌, ℕ, ◌≤◌, ◌++◌, ◌↔◌, [], List, length, IfOk, IsTrue};
+ghost use Rattle.prims_core.specs.Work.{IsWithin};
+ghost use Rattle.mkpasswd.specs.Lines.{name_limit};
+ghost use Rattle.mkpasswd.specs.Private.Answers.{Decides, IsRaisedBelow};
 ghost use Rattle.mkpasswd.specs.Private.LineProgress.{Represents};
 ghost use Rattle.mkpasswd.specs.Private.Headroom.{HasCountsForLine, line_work_limit};
 
-use crate::answer::{LineAnswer, answer_line, refusal};
+use crate::answer::{LineAnswer, answer_line};
 use crate::job::Job;
 use crate::line::{Kind, LINE_LIMIT, LineFault};
 use arrayvec::ArrayVec;
@@ -50,33 +50,25 @@ impl LineBuffer {
         }
     }
 
-    /// Makes the answer to the line, which has this number.
+    /// Decides the answer to the line, as [`answer_line`] does.
     pub(crate) fn answer<R: Rng>(
         &self,
         alloc: Global,
         kind: Kind,
         job: &Job,
-        number: u64,
         rng: &mut R,
         meter: &mut Meter,
-    ) -> Result<LineAnswer, HashFault>
+    ) -> Result<LineAnswer<'_>, HashFault>
         requires { HasCountsForLine meter.old }
-        ensures answer { (line : List ℕ) → Represents self.now line
-            → (answer : Answer) × IsAnswer kind job.now number line (R.stream rng.old) answer
-            × Makes answer meter.old meter.new (R.stream rng.new) result }
+        ensures decides { (line : List ℕ) → Represents self.now line
+            → Decides kind job.now line (R.stream rng.old) meter.old meter.new (R.stream rng.new) result }
+        ensures short { IfOk result (λ answer. length answer.name.now ≤ name_limit) }
+        ensures rises { IsWithin meter.old meter.new }
         ensures small { IsRaisedBelow line_work_limit meter.old meter.new }
     {
         match self {
-            LineBuffer::Bytes(line) => answer_line(
-                alloc,
-                kind,
-                job,
-                number,
-                line.as_slice(),
-                rng,
-                meter,
-            ),
-            LineBuffer::TooLong => Ok(refusal(number, LineFault::LineTooLong)),
+            LineBuffer::Bytes(line) => answer_line(alloc, kind, job, line.as_slice(), rng, meter),
+            LineBuffer::TooLong => Ok(LineAnswer::refused(LineFault::LineTooLong)),
         }
     }
 }

@@ -1,18 +1,20 @@
 //! A run over lines, and its steps: it reads the input piece by piece, and answers each line that ends in a piece.
 ghost use Rattle.std.specs.Prelude.{◌≡◌, ℕ, ◌+◌, ◌<◌, ◌≤◌, ◌++◌, [], List, length, OnOk};
-ghost use Rattle.mkpasswd.specs.Answers.{Answer};
-ghost use Rattle.mkpasswd.specs.Devices.{HasRoomWithinRun, HaveRoomBeforeRun, MovesBytes, turns_limit};
-ghost use Rattle.mkpasswd.specs.LineAnswers.{IsAnswer};
+ghost use Rattle.mkpasswd.specs.Answers.{Answer, work_of};
+ghost use Rattle.mkpasswd.specs.Devices.{HasRoomWithinRun, HaveRoomBeforeRun, IsUnfailed, IsUnflushed, MovesBytes, turns_limit};
+ghost use Rattle.mkpasswd.specs.LineAnswers.{Decision, IsAnswer, decided_answer};
+ghost use Rattle.mkpasswd.specs.Lines.{name_limit};
 ghost use Rattle.mkpasswd.specs.LineRuns.{EndsLines, piece_size};
 ghost use Rattle.mkpasswd.specs.Private.Deliveries.{Sends};
 ghost use Rattle.mkpasswd.specs.Private.Headroom.{answer_limit, lines_limit};
 ghost use Rattle.mkpasswd.specs.Private.LineProgress.{AnswersLast, AnswersOne, GoesToEnd, HasRoomIn, HasRoomToAnswer, HasRoomToRead, IsAt, IsSameRun, LooksThrough, OutputState, ReadsPiece, Represents, TakesTurns, TakesTurnsOf, position_of, spare_fetch, state_of, with_input};
-ghost use Rattle.mkpasswd.specs.Private.Made.{Says, tally_of};
+ghost use Rattle.mkpasswd.specs.Outcomes.{tally_of};
+ghost use Rattle.mkpasswd.specs.Private.Answers.{IsDecided};
 ghost use Rattle.mkpasswd.specs.Runs.{HasCountsForRun, IsWithinTurns, device_bytes};
 ghost use Rattle.mkpasswd.specs.Tallies.{both_tallies, no_line};
 
 use super::buffer::LineBuffer;
-use crate::answer::{LineAnswer, Outcome};
+use crate::answer::{LineAnswer, Outcome, render, render_refusal};
 use crate::device::{Input, Output};
 use crate::fault::RunFault;
 use crate::fetch::{fetch_piece, line_feed_at};
@@ -20,7 +22,7 @@ use crate::job::Job;
 use crate::line::Kind;
 use crate::send::{finish_both, send};
 use crate::tally::Tally;
-use prims_core::meter::Meter;
+use prims_core::meter::{Meter, Work};
 use rand_core::Rng;
 use std::alloc::Global;
 use std::io::{Read, Write};
@@ -206,19 +208,32 @@ impl<O: Write, E: Write, R: Rng> LineRun<'_, '_, '_, '_, '_, O, E, R> {
         ensures same { IsSameRun self.old self.new }
     {
         let number = self.tally.lines + 1;
-        let answer = self.buffer.answer(
-            self.alloc, self.kind, self.job, number, self.rng, self.meter,
+        let before = self.meter.reading();
+        let answer = self
+            .buffer
+            .answer(self.alloc, self.kind, self.job, self.rng, self.meter)?;
+        let work = self.meter.work_since(&before);
+        give(
+            number,
+            self.job,
+            &answer,
+            &work,
+            self.out,
+            self.faults,
+            &mut self.turns_left,
         )?;
-        give(&answer, self.out, self.faults, &mut self.turns_left)?;
-        count_line(&mut self.tally, answer.outcome);
+        count_line(&mut self.tally, &answer.outcome);
         self.buffer = LineBuffer::new();
         Ok(())
     }
 }
 
-// Gives an answer to the output where it belongs.
+// Gives the answer to the line with this number, after this work, to the output where it belongs.
 fn give<O: Write, E: Write>(
-    answer: &LineAnswer,
+    number: u64,
+    job: &Job,
+    answer: &LineAnswer<'_>,
+    work: &Work,
     out: &mut Output<O>,
     faults: &mut Output<E>,
     left: &mut u64,
@@ -226,8 +241,11 @@ fn give<O: Write, E: Write>(
     requires turns { left.old ≤ turns_limit }
     requires out_room { HasRoomWithinRun out.old }
     requires faults_room { HasRoomWithinRun faults.old }
-    ensures sends { (told : Answer) → Says answer.now.outcome answer.now.text.items told
-        → Sends O.contents E.contents left.new told out.old faults.old out.new faults.new result }
+    requires short { length answer.now.name.now ≤ name_limit }
+    ensures sends { (made : Decision) → IsDecided made answer.now → work_of made.hashings ≡ work.now
+        → Sends O.contents E.contents left.new (decided_answer job.now number made) out.old faults.old out.new faults.new result }
+    ensures unfailed { OnOk result (IsUnfailed out.old out.new × IsUnfailed faults.old faults.new) }
+    ensures unflushed { IsUnflushed out.old out.new × IsUnflushed faults.old faults.new }
     ensures calls { out.new.calls + faults.new.calls + left.new ≡ out.old.calls + faults.old.calls + left.old }
     ensures fewer { left.new ≤ left.old }
     ensures out_moves { MovesBytes 0 out.old out.new }
@@ -237,23 +255,31 @@ fn give<O: Write, E: Write>(
     ensures fault_failures { faults.new.failures ≤ faults.old.failures + 1 }
     ensures fault_flushes { faults.new.flushes ≡ faults.old.flushes }
 {
-    match answer.outcome {
-        Outcome::Answered | Outcome::Misfit => send(out, answer.text.as_slice(), left),
-        Outcome::Refused => send(faults, answer.text.as_slice(), left),
+    match &answer.outcome {
+        Outcome::Refused(fault) => send(faults, render_refusal(number, fault).as_slice(), left),
+        outcome => send(
+            out,
+            render(job, Some(answer.name), outcome, work).as_slice(),
+            left,
+        ),
     }
 }
 
 // Counts one more line.
-fn count_line(tally: &mut Tally, outcome: Outcome)
+fn count_line(tally: &mut Tally, outcome: &Outcome)
     requires room { tally.old.lines < lines_limit }
     requires refused { tally.old.refused ≤ tally.old.lines }
     requires misfits { tally.old.misfits ≤ tally.old.lines }
-    ensures { tally.new ≡ both_tallies tally.old (tally_of outcome) }
+    ensures { tally.new ≡ both_tallies tally.old (tally_of outcome.now) }
 {
     tally.lines += 1;
     match outcome {
-        Outcome::Answered => {}
-        Outcome::Misfit => tally.misfits += 1,
-        Outcome::Refused => tally.refused += 1,
+        Outcome::Mismatch => tally.misfits += 1,
+        Outcome::Refused(_) => tally.refused += 1,
+        Outcome::Hashed(_)
+        | Outcome::Match
+        | Outcome::Rehashed(_)
+        | Outcome::NoHash
+        | Outcome::Locked => {}
     }
 }

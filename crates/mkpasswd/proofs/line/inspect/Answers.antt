@@ -1,0 +1,1 @@
+use Rattle.mkpasswd.proofs.line.inspect.Goals as goal
