@@ -2,8 +2,7 @@
 pub mod Deliveries
 pub mod Entries
 pub mod Fetching
-pub mod Found
-pub mod Made
-pub mod LineProgress
 pub mod Headroom
-pub mod Telling
+pub mod LineProgress
+pub mod Made
+pub mod Options
