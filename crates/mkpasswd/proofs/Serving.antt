@@ -4,12 +4,11 @@ use Rattle.clap.specs.Words.{Text}
 use Rattle.clap.specs.declared.error.kind.ErrorKind.{ErrorKind}
 use Rattle.clap.specs.declared.error.kind.ErrorKind.TheVariants as kind
 use Rattle.crypt_core.specs.declared.setting.fault.MakeFault.{MakeFault}
-use Rattle.mkpasswd.specs.Commands.{IsTold, Serves, ShowsError, ShowsHelp, ShowsMistake, TellsFault, fault_line}
+use Rattle.mkpasswd.specs.Commands.{IsTold, RefusalShown, RunsOrLacks, Serves, ShowsError, ShowsHelp, ShowsMistake, TellsFault, fault_line}
 use Rattle.mkpasswd.specs.Devices.{Device}
 use Rattle.mkpasswd.specs.Faults.{fault_status, parse_status}
 use Rattle.mkpasswd.specs.Options.{Plans}
 use Rattle.mkpasswd.specs.Output.{Shows}
-use Rattle.mkpasswd.specs.Private.Telling.{RefusalShown, RunsOrLacks}
 use Rattle.mkpasswd.specs.Runs.{RunState, DeviceBytes}
 use Rattle.mkpasswd.specs.Tallies.{no_line, tally_status}
 use Rattle.mkpasswd.specs.declared.fault.Fault.{Fault}

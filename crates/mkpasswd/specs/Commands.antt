@@ -25,7 +25,7 @@ use Rattle.mkpasswd.specs.declared.fault.Fault.{Fault}
 use Rattle.mkpasswd.specs.declared.fault.Fault.TheVariants.{Start, Usage, Run}
 use Rattle.mkpasswd.specs.declared.fault.RunFault.{RunFault}
 use Rattle.mkpasswd.specs.declared.fault.UsageFault.{UsageFault}
-use Rattle.mkpasswd.specs.declared.fault.UsageFault.TheVariants.{Parse}
+use Rattle.mkpasswd.specs.declared.fault.UsageFault.TheVariants.{Parse, OutOfMemory}
 use Rattle.mkpasswd.specs.declared.job.Job.{Job}
 use Rattle.mkpasswd.specs.declared.job.PasswordFrom.TheVariants.{Word, Input}
 use Rattle.mkpasswd.specs.declared.job.Plan.{Plan}
@@ -194,3 +194,27 @@ IsNoOption word = (word ≡ codes "-") ⊎ ¬ BeginsWith word (codes "-")
 abbrev pub PrintsHash : {I O E : Type 0} → DeviceBytes I O E → Method → Text → Text → RunState I O E → RunState I O E → Type 0
 PrintsHash device_bytes method salt password old new =
     Appends (device_bytes.contents old.out.inner) (device_bytes.contents new.out.inner) (as_line (crypt password (made_setting method 0 salt)))
+
+-- ---- steps of the code
+
+module _ {I O E : Type 0} where
+  -- the plan's run has ended; or it lacks a generator, and nothing was done
+  abbrev pub RunsOrLacks : DeviceBytes I O E → ℕ → Bool → Plan → RunState I O E → RunState I O E → Result Tally Fault → Type 0
+  RunsOrLacks device_bytes turns generates plan old new (Ok tally) =
+      (lacks_generator generates plan ≡ false) × Ends device_bytes turns plan old new (Ok tally)
+  RunsOrLacks device_bytes turns generates plan old new (Err (Run fault)) =
+      (lacks_generator generates plan ≡ false) × Ends device_bytes turns plan old new (Err fault)
+  RunsOrLacks device_bytes turns generates plan old new (Err Start) = (lacks_generator generates plan ≡ true) × (new ≡ old)
+  RunsOrLacks device_bytes turns generates plan old new (Err (Usage fault)) = ⊥
+
+module _ {O E : Type 0} (contents : O → Option (List ℕ)) (fault_contents : E → Option (List ℕ)) where
+  -- the text of `clap`'s error was shown; or memory for it ran out, which was told
+  abbrev pub ErrorShown : Error → ℕ → Device O → Device E → Device O → Device E → ℕ → Type 0
+  ErrorShown error turns out faults new_out new_faults status =
+      ShowsError contents fault_contents (parse_status (kind_of error)) turns out faults new_out new_faults status
+      ⊎ TellsFault contents fault_contents (Usage OutOfMemory) out faults new_out new_faults status
+
+  -- why the words have no plan
+  abbrev pub RefusalShown : UsageFault → ℕ → Device O → Device E → Device O → Device E → ℕ → Type 0
+  RefusalShown (Parse error) = ErrorShown error
+  RefusalShown fault = λ turns. TellsFault contents fault_contents (Usage fault)

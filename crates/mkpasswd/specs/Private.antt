@@ -2,8 +2,7 @@
 pub mod Answers
 pub mod Deliveries
 pub mod Fetching
-pub mod Found
 pub mod Headroom
 pub mod LineProgress
 pub mod Lines
-pub mod Telling
+pub mod Options

@@ -2,10 +2,9 @@
 ghost use Rattle.std.specs.Prelude.{◌≡◌, ℕ, ◌<◌, ◌≤◌, List, Some, is_some, map, string_bytes};
 ghost use Rattle.crypt_core.specs.Methods.{method_named};
 ghost use Rattle.crypt_core.specs.declared.method.Method.{Method};
-ghost use Rattle.mkpasswd.specs.Commands.{IsNoOption, IsTold, IsWhole, PrintsHash, Serves, fault_line, hash_words, stream_in};
+ghost use Rattle.mkpasswd.specs.Commands.{ErrorShown, IsNoOption, IsTold, IsWhole, PrintsHash, RefusalShown, RunsOrLacks, Serves, fault_line, hash_words, stream_in};
 ghost use Rattle.mkpasswd.specs.Devices.{HasRoomWithinRun, HaveRoomBeforeRun, turns_limit};
 ghost use Rattle.mkpasswd.specs.Faults.{fault_status};
-ghost use Rattle.mkpasswd.specs.Private.Telling.{ErrorShown, RefusalShown, RunsOrLacks};
 ghost use Rattle.mkpasswd.specs.Runs.{HasCountsForRun, run_state, device_bytes};
 
 use crate::device::{Input, Output};
@@ -15,8 +14,8 @@ use crate::lines::{run_batch, run_check};
 use crate::methods::run_methods;
 use crate::one::run_one;
 use crate::options::plan;
-use crate::send::show;
 use crate::tally::Tally;
+use crate::transfer::show;
 use arrayvec::ArrayVec;
 use prims_core::meter::Meter;
 use rand_core::Rng;

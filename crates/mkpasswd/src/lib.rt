@@ -6,7 +6,6 @@ mod answer;
 pub mod command;
 pub mod device;
 pub mod fault;
-mod fetch;
 pub mod job;
 pub mod line;
 pub mod lines;
@@ -14,9 +13,9 @@ pub mod maker;
 pub mod methods;
 pub mod one;
 pub mod options;
-mod send;
 pub mod tally;
 #[cfg(test)]
 mod test_devices;
 #[cfg(test)]
 mod test_given;
+mod transfer;

@@ -7,8 +7,8 @@ ghost use Rattle.mkpasswd.specs.Tallies.{no_line};
 
 use crate::device::Output;
 use crate::fault::RunFault;
-use crate::send::show;
 use crate::tally::Tally;
+use crate::transfer::show;
 use std::io::Write;
 
 const METHODS: &str = "Available methods:\nmd5crypt\nsha256crypt\nsha512crypt\nscrypt\n";

@@ -8,7 +8,7 @@ ghost use Rattle.crypt_core.specs.Methods.{method_named};
 ghost use Rattle.mkpasswd.specs.Makers.{bytes_of};
 ghost use Rattle.mkpasswd.specs.Options.{AsksForMethods, Gives, HasTwoSalts, Names, Plans, Refuses};
 ghost use Rattle.mkpasswd.specs.Options.{command, flag_rule, given_salt, hash_rules, input, is_set, line_rules, modes_of, type_of, value_rule};
-ghost use Rattle.mkpasswd.specs.Private.Found.{mode_of, values_of};
+ghost use Rattle.mkpasswd.specs.Private.Options.{mode_of, values_of};
 
 use crate::fault::UsageFault;
 use crate::job::{Job, PasswordFrom, Plan};

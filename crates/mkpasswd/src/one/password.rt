@@ -7,7 +7,7 @@ ghost use Rattle.mkpasswd.specs.Private.Fetching.{buffer_size, Fetches, FindsLin
 
 use crate::device::Input;
 use crate::fault::RunFault;
-use crate::fetch::{fetch_piece, line_feed_at};
+use crate::transfer::{fetch_piece, line_feed_at};
 use crypt_core::password::{PASSWORD_LIMIT, Password};
 use std::io::Read;
 

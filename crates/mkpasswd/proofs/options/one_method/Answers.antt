@@ -4,7 +4,7 @@ use Rattle.std.proofs.lemmas.Slice.Eq.{bytes_eq-Decides}
 use Rattle.crypt_core.specs.Methods.{method_named}
 use Rattle.mkpasswd.specs.Makers.{bytes_of}
 use Rattle.mkpasswd.specs.Options.{type_of}
-use Rattle.mkpasswd.specs.Private.Found.{values_of}
+use Rattle.mkpasswd.specs.Private.Options.{values_of}
 use Rattle.mkpasswd.proofs.options.one_method.Goals as goal
 
 -- the text of TYPE, or else the default

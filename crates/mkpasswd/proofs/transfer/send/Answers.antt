@@ -1,7 +1,7 @@
 use Rattle.std.proofs.Common.{arith}
 use Rattle.std.proofs.lemmas.List.{take_rest}
 use Rattle.mkpasswd.proofs.Sending.{under_way-start, under_way-step}
-use Rattle.mkpasswd.proofs.send.send.Goals as goal
+use Rattle.mkpasswd.proofs.transfer.send.Goals as goal
 
 pub pieces-init : goal.pieces-init
 pieces-init g c = under_way-start g.O.Write.contents c.args.out.now c.args.text.now c.args.left.now
