@@ -120,6 +120,17 @@ fn tags_of_the_standard(rt: HostRuntime) -> Result<(), Fail> {
     Ok(())
 }
 
+// RFC 4231, section 4.6: its case 5, whose tag is cut at 128 bits.
+#[test]
+fn a_tag_cut(rt: HostRuntime) -> Result<(), Fail> {
+    let tag = tag_of(&[0x0c; 20], b"Test With ", b"Truncation", &mut Meter::new());
+    assert_eq!(rt;
+        hexadecimal(rt.alloc(), &tag[..16])?.as_str(),
+        "a3b6167473100ee06e0c796c2955552b"
+    );
+    Ok(())
+}
+
 // The last two tags are from Python's `hmac`. The key serves any number of them, each for two digests.
 #[test]
 fn keys_and_their_work(rt: HostRuntime) -> Result<(), Fail> {

@@ -7,6 +7,7 @@ use super::*;
 use crate::tests::{counts, hexadecimal};
 use crate::work::scrypt_work;
 use prims_core::meter::Work;
+use std::process::Abort;
 use std::test::Fail;
 
 #[derive(Clone, Copy)]
@@ -108,6 +109,28 @@ const ROWS: [Row; 9] = [
     },
 ];
 
+// Many parts, and a part of many blocks, from Python's `hashlib`.
+const LONG_ROWS: [Row; 2] = [
+    Row {
+        password: b"pw",
+        salt: b"salt",
+        log_n: 1,
+        r: 1,
+        p: 8193,
+        work: (65_546, 6_554_564, 32_772, 256, 1_048_960),
+        wanted: "678d9a80ce0193d6d1da2d0e769a072422e233dfbcc04a772561dd7b23ca24dd",
+    },
+    Row {
+        password: b"pw",
+        salt: b"salt",
+        log_n: 1,
+        r: 4097,
+        p: 1,
+        work: (32_778, 3_277_764, 4, 1_048_832, 1_573_248),
+        wanted: "6c67225ff3ca9b0cd5bdd4b9f8e2aa667d9ebfc755fcfe6bd12a8e29587d438b",
+    },
+];
+
 // All counts of some work.
 fn counts_of(work: Work) -> (u128, u128, u128, u128, u128) {
     (
@@ -119,34 +142,41 @@ fn counts_of(work: Work) -> (u128, u128, u128, u128, u128) {
     )
 }
 
+// Wants a row's bytes, and its work, told and known before.
+fn want(rt: &impl Abort, alloc: Global, row: &Row) -> Result<(), Fail> {
+    let (log_n, r, p, count) = (row.log_n, row.r, row.p, row.wanted.len() / 2);
+    assert!(rt; count <= 128 && row.password.len() <= 65 && row.salt.len() <= 70);
+    let params = Params::new(log_n, r, p)?;
+    let mut out = vec![in alloc; 7; count]?;
+    let mut meter = Meter::new();
+    scrypt(alloc, row.password, row.salt, &params, &mut out, &mut meter)?;
+    let known = scrypt_work(
+        &params,
+        row.password.len() as u64,
+        row.salt.len() as u64,
+        count as u64,
+    );
+    let told = hexadecimal(alloc, &out)?;
+    assert_eq!(rt;
+        (told.as_str(), counts(&meter), counts_of(known)),
+        (row.wanted, row.work, row.work),
+        "of {log_n}, {r}, {p}, {count} bytes"
+    );
+    Ok(())
+}
+
 #[test]
 fn rows_of_the_standard(rt: HostRuntime) -> Result<(), Fail> {
     for row in ROWS {
-        let (log_n, r, p, count) = (row.log_n, row.r, row.p, row.wanted.len() / 2);
-        assert!(rt; count <= 128 && row.password.len() <= 65 && row.salt.len() <= 70);
-        let params = Params::new(log_n, r, p)?;
-        let mut out = vec![in rt.alloc(); 7; count]?;
-        let mut meter = Meter::new();
-        scrypt(
-            rt.alloc(),
-            row.password,
-            row.salt,
-            &params,
-            &mut out,
-            &mut meter,
-        )?;
-        let known = scrypt_work(
-            &params,
-            row.password.len() as u64,
-            row.salt.len() as u64,
-            count as u64,
-        );
-        let told = hexadecimal(rt.alloc(), &out)?;
-        assert_eq!(rt;
-            (told.as_str(), counts(&meter), counts_of(known)),
-            (row.wanted, row.work, row.work),
-            "of {log_n}, {r}, {p}, {count} bytes"
-        );
+        want(&rt, rt.alloc(), &row)?;
+    }
+    Ok(())
+}
+
+#[test]
+fn long_rows(rt: HostRuntime) -> Result<(), Fail> {
+    for row in LONG_ROWS {
+        want(&rt, rt.alloc(), &row)?;
     }
     Ok(())
 }

@@ -95,15 +95,22 @@ fn digests_on_one_meter(rt: HostRuntime) -> Result<(), Fail> {
     let nothing = CountedMd5::begin().finish(&mut meter);
     let byte = first_byte::<CountedSha256>(&mut meter, b"abc");
     let told = hexadecimal(rt.alloc(), &md5)?;
+    let of_nothing = hexadecimal(rt.alloc(), &nothing)?;
     assert_eq!(rt;
         (
             told.as_str(),
             byte,
-            nothing[0],
+            of_nothing.as_str(),
             meter.digests(),
             meter.bytes()
         ),
-        ("900150983cd24fb0d6963f7d28e17f72", 0xba, 0xd4, 3, 6)
+        (
+            "900150983cd24fb0d6963f7d28e17f72",
+            0xba,
+            "d41d8cd98f00b204e9800998ecf8427e",
+            3,
+            6
+        )
     );
     Ok(())
 }

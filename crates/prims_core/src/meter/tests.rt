@@ -82,3 +82,15 @@ fn works_compared_and_cloned(rt: HostRuntime) -> Result<(), Fail> {
     assert_eq!(rt; counts_of(&clone), [2, 3, 1, 5, 7]);
     Ok(())
 }
+
+#[test]
+fn a_reading_cloned(rt: HostRuntime) -> Result<(), Fail> {
+    let mut meter = Meter::new();
+    meter.count_bytes(100);
+    let clone = meter.reading().clone()?;
+    meter.count_digest();
+    meter.count_bytes(3);
+    let work = meter.work_since(&clone);
+    assert_eq!(rt; counts_of(&work), [1, 3, 0, 0, 0]);
+    Ok(())
+}

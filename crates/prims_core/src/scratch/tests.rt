@@ -4,6 +4,7 @@ ghost use Rattle.std.specs.Prelude.{◌≡◌, ◌+◌, ◌≤◌, ◌++◌, len
 
 use super::*;
 use crate::mix::tests::counts;
+use crate::table::Table;
 use std::test::Fail;
 
 // Writes over the bytes from `start` on.
@@ -89,6 +90,26 @@ fn writes_words(rt: HostRuntime) -> Result<(), Fail> {
     let halves = [0, 0, 1, 2, 0, 0, 1, 2];
     assert_eq!(rt; scratch.words(), halves.as_slice(), "twice the first half");
     Ok(())
+}
+
+// With one growth refused, by `rt try --test --fail-alloc N`, that growth isn't counted and the others are. With
+// ample memory all three are.
+#[test]
+fn what_a_refused_growth_leaves(rt: HostRuntime) {
+    let mut meter = Meter::new();
+    let table = match Table::new(rt.alloc(), 2, 32, &mut meter) {
+        Ok(_) => 256,
+        Err(_) => 0,
+    };
+    let bytes = match ByteScratch::new(rt.alloc(), 128, &mut meter) {
+        Ok(_) => 128,
+        Err(_) => 0,
+    };
+    let words = match WordScratch::new(rt.alloc(), 64, &mut meter) {
+        Ok(_) => 256,
+        Err(_) => 0,
+    };
+    assert_eq!(rt; counts(&meter), [0, 0, 0, table, bytes + words]);
 }
 
 #[test]
