@@ -4,7 +4,7 @@ use Rattle.prims_core.specs.Work.{no_work}
 use Rattle.prims_core.specs.declared.work.Work.{Work}
 use Rattle.crypt_core.specs.Crypt.{IsAfterRefusedGrowth, crypt}
 use Rattle.crypt_core.specs.Fits as fits
-use Rattle.crypt_core.specs.MadeSettings.{TakesCost, with_made_salt}
+use Rattle.crypt_core.specs.MadeSettings.{TakesCost, made_scheme, salted}
 use Rattle.crypt_core.specs.Passwords.{IsPassword, IsPasswordRefused, password_limit}
 use Rattle.crypt_core.specs.Refusals.{IsRefused}
 use Rattle.crypt_core.specs.Replacements.{is_replaced_by}
@@ -90,14 +90,14 @@ method_numbered number =
 abbrev pub Makes : ℕ → ℕ → List ℕ → List ℕ → List ℕ → Result ℕ Refusal → Type 0
 Makes number cost words old new (Ok count) =
     (method : Method) × (method_numbered number ≡ Some method) × TakesCost method cost
-    × (count ≡ length (canonical_text (with_made_salt method cost words)))
-    × IsPut (canonical_text (with_made_salt method cost words)) old new
+    × (count ≡ length (canonical_text (salted (made_scheme method cost) words)))
+    × IsPut (canonical_text (salted (made_scheme method cost) words)) old new
 Makes number cost words old new (Err UnknownMethod) = (method_numbered number ≡ None) × (new ≡ old)
 Makes number cost words old new (Err Cost) =
     (method : Method) × (method_numbered number ≡ Some method) × (¬ TakesCost method cost) × (new ≡ old)
 Makes number cost words old new (Err TooFewBytes) =
     (method : Method) × (method_numbered number ≡ Some method) × TakesCost method cost
-    × (¬ HasRoomFor (canonical_text (with_made_salt method cost words)) old) × (new ≡ old)
+    × (¬ HasRoomFor (canonical_text (salted (made_scheme method cost) words)) old) × (new ≡ old)
 Makes number cost words old new (Err refusal) = ⊥
 
 -- ---- refusals

@@ -14,6 +14,7 @@ use crypt_core::fits::fits;
 use crypt_core::hash::{hash, hash_len};
 use crypt_core::method::Method;
 use crypt_core::password::{PASSWORD_LIMIT, Password, PasswordFault};
+use crypt_core::scheme::Scheme;
 use crypt_core::setting::Setting;
 use crypt_core::work::{bound, cost};
 use prims_core::meter::Meter;
@@ -123,10 +124,10 @@ pub(crate) fn put_setting(
     let Some(method) = method_numbered(method) else {
         return Err(Refusal::UnknownMethod);
     };
-    let Ok(setting) = Setting::with_made_salt(method, cost, words) else {
+    let Ok(scheme) = Scheme::made(method, cost) else {
         return Err(Refusal::Cost);
     };
-    put(out, setting.text().as_slice())
+    put(out, Setting::salted(scheme, words).text().as_slice())
 }
 
 // The method that a number stands for.
