@@ -78,6 +78,8 @@ fn is_word(word: &[u8], name: &[u8]) -> bool
 #[cfg(test)]
 mod tests {
     use super::*;
+    use crate::values::are_distinct;
+    use std::test::Fail;
 
     #[test]
     fn seven_words_name_methods(rt: HostRuntime) {
@@ -97,5 +99,16 @@ mod tests {
         for (word, method) in cases {
             assert_eq!(rt; Method::named(word.as_bytes()), method, "{word}");
         }
+    }
+
+    #[test]
+    fn each_method_equals_itself_alone(rt: HostRuntime) -> Result<(), Fail> {
+        let methods = [
+            Method::Md5crypt,
+            Method::Sha256crypt,
+            Method::Sha512crypt,
+            Method::Scrypt,
+        ];
+        are_distinct(&rt, &methods)
     }
 }
