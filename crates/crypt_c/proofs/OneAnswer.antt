@@ -4,6 +4,7 @@ use Rattle.std.proofs.Math.IntN.{nat_abs}
 use Rattle.std.proofs.lemmas.Option.{none-some, same_Some}
 use Rattle.prims_core.specs.declared.work.Work.{Work}
 use Rattle.crypt_core.specs.Crypt.{crypt}
+use Rattle.crypt_core.specs.Methods.{method_numbered}
 use Rattle.crypt_core.specs.MadeSettings.{TakesCost, made_scheme, salted}
 use Rattle.crypt_core.specs.Passwords.{IsPassword, IsPasswordRefused, password_limit}
 use Rattle.crypt_core.specs.Readings.{IsReadOneWay}
@@ -15,7 +16,7 @@ use Rattle.crypt_core.specs.declared.password.PasswordFault.{PasswordFault}
 use Rattle.crypt_core.specs.declared.password.PasswordFault.TheVariants.{TooLong, HasNul}
 use Rattle.crypt_core.specs.declared.setting.fault.SettingFault.{SettingFault}
 use Rattle.crypt_core.specs.declared.setting.fault.SettingFault.TheVariants as setting
-use Rattle.crypt_c.specs.Calls.{Compares, Explains, HasRoomFor, Hashes, IsToldOrLacks, Makes, Replaces, Reports, method_numbered}
+use Rattle.crypt_c.specs.Calls.{Compares, Explains, HasRoomFor, Hashes, IsToldOrLacks, Makes, Replaces, Reports}
 use Rattle.crypt_c.specs.Numbers.{length_told, refusal_number, refusal_text, refusal_told, verdict_told}
 use Rattle.crypt_c.specs.declared.refusal.Refusal.{Refusal}
 use Rattle.crypt_c.specs.declared.refusal.Refusal.TheVariants.{Password, Setting, OutOfMemory, TooFewBytes, UnknownMethod, Cost, UnknownNumber}
