@@ -13,6 +13,9 @@ my $sha256 = "$counted/counted_sha256.rt";
 my $main = 'crates/program/src/main.rt';
 my $hash = 'crates/crypt_core/src/hash.rt';
 my $scheme = 'crates/crypt_core/src/md5crypt.rt';
+my $password = 'crates/crypt_core/src/password.rt';
+my $salsa = 'crates/prims_core/src/salsa.rt';
+my $mix = 'crates/prims_core/src/mix.rt';
 my $exports = 'crates/crypt_c/src/lib.rt';
 my $lines = 'crates/mkpasswd/src/lines';
 my $import = 'use prims_core::meter::Meter;';
@@ -218,8 +221,22 @@ return {
         ['memory that is read as a meter', $hash => 'fn f(meter: &mut Meter) { unsafe { read(meter) }; }'],
         ['a meter in another file', $meter => undef],
         ['a block that is mixed aside', 'crates/kdf_core/src/scrypt.rt' => 'fn f(block: &mut [u32; 16]) { prims_core::salsa::salsa8(block); }'],
-        ['a mixing that calls it', 'crates/prims_core/src/mix.rt' => 'use crate::salsa::salsa8;'],
-        ['a second caller in its file', 'crates/prims_core/src/salsa.rt' => 'pub fn twice(block: &mut [u32; 16]) { salsa8(block); salsa8(block); }'],
+        ['a mixing that calls it', $mix => 'use crate::salsa::salsa8;'],
+        ['a second caller in its file', $salsa => 'pub fn twice(block: &mut [u32; 16]) { salsa8(block); salsa8(block); }'],
+        [
+            'a block that is mixed aside where blocks are mixed',
+            $mix => ["    meter.count_mix();\n}\n\n/// Makes the 2r", "    let _ = mixed_block(&x, &x);\n    meter.count_mix();\n}\n\n/// Makes the 2r"],
+        ],
+        ['a third caller of the mixing', $mix => 'pub fn mix_aside(x: &Diagonals) { let _ = mixed_block(x, x); }'],
+        ['the mixing of a block by another name', $mix => 'fn f() { let g = mixed_block; }'],
+        ['a block in lanes that is mixed aside', $mix => ['    salsa8_of(&x.xor(block))', '    let _ = salsa8_of(x); salsa8_of(&x.xor(block))']],
+        ['a block in lanes that another file mixes', 'crates/prims_core/src/table.rt' => 'fn f(x: &Diagonals) { crate::salsa::salsa8_of(x); }'],
+        ['a call of its own that mixes twice', $salsa => ['    mixed.store(block);', '    let _ = salsa8_of(&mixed); mixed.store(block);']],
+        ['a password that derives Debug', $password => ["#[derive(Drop)]\npub struct Password", "#[derive(Debug, Drop)]\npub struct Password"]],
+        ['a password that derives Debug in a second attribute', $password => ['pub struct Password', "#[derive(Debug)]\npub struct Password"]],
+        ['a password that is shown', $password => 'impl Debug for Password {}'],
+        ['a password that is shown by a path', $password => 'impl std::fmt::Display for Password {}'],
+        ['a password that another file shows', $hash => 'impl fmt::Debug for Password {}'],
         ['a string without an end', $hash => 'fn f() { g(" }'],
     ],
 
@@ -236,6 +253,7 @@ return {
             'a second module of tests',
             $hash => "#[cfg(test)]\n#[allow(unused)]\nmod more {\n    mod below {\n        $makes\n    }\n}",
         ],
+        ['a fault of a password that is shown', $password => 'impl Debug for PasswordFault {}'],
         ['a remark behind a crate', 'crates.txt' => ['program: mkpasswd', "# md5\nprogram: mkpasswd"]],
     ],
 };

@@ -4,7 +4,8 @@ use Rattle.std.proofs.Math.IntN.{nat_abs}
 use Rattle.std.proofs.lemmas.Option.{none-some, same_Some}
 use Rattle.prims_core.specs.declared.meter.Work.{Work}
 use Rattle.crypt_core.specs.Crypt.{crypt}
-use Rattle.crypt_core.specs.MadeSettings.{TakesCost, with_made_salt}
+use Rattle.crypt_core.specs.Methods.{method_numbered}
+use Rattle.crypt_core.specs.MadeSettings.{TakesCost, made_scheme, salted}
 use Rattle.crypt_core.specs.Passwords.{IsPassword, IsPasswordRefused, password_limit}
 use Rattle.crypt_core.specs.Readings.{IsReadOneWay}
 use Rattle.crypt_core.specs.Refusals.{IsRefused}
@@ -15,7 +16,7 @@ use Rattle.crypt_core.specs.declared.password.PasswordFault.{PasswordFault}
 use Rattle.crypt_core.specs.declared.password.PasswordFault.TheVariants.{TooLong, HasNul}
 use Rattle.crypt_core.specs.declared.setting.fault.SettingFault.{SettingFault}
 use Rattle.crypt_core.specs.declared.setting.fault.SettingFault.TheVariants as setting
-use Rattle.crypt_c.specs.Calls.{Compares, Explains, HasRoomFor, Hashes, IsToldOrLacks, Makes, Replaces, Reports, method_numbered}
+use Rattle.crypt_c.specs.Calls.{Compares, Explains, HasRoomFor, Hashes, IsToldOrLacks, Makes, Replaces, Reports}
 use Rattle.crypt_c.specs.Numbers.{length_told, refusal_number, refusal_text, refusal_told, verdict_told}
 use Rattle.crypt_c.specs.declared.refusal.Refusal.{Refusal}
 use Rattle.crypt_c.specs.declared.refusal.Refusal.TheVariants.{Password, Setting, OutOfMemory, TooFewBytes, UnknownMethod, Cost, UnknownNumber}
@@ -170,10 +171,10 @@ made_once number cost words old a b (Err (Password f)) holds x y = absurd x
 made_once number cost words old a b (Err (Setting f)) holds x y = absurd x
 made_once number cost words old a b (Err OutOfMemory) holds x y = absurd x
 made_once number cost words old a b (Err UnknownNumber) holds x y = absurd x
-made_once number cost words old a b (Ok v) (Ok w) x y = ap (λ (t : ℕ). Ok t) (x.3 ∙ ap (λ (k : Method). length (canonical_text (with_made_salt k cost words))) (some_once x.0 y.0 (method_numbered number) x.1 y.1) ∙ sym y.3)
+made_once number cost words old a b (Ok v) (Ok w) x y = ap (λ (t : ℕ). Ok t) (x.3 ∙ ap (λ (k : Method). length (canonical_text (salted (made_scheme k cost) words))) (some_once x.0 y.0 (method_numbered number) x.1 y.1) ∙ sym y.3)
 made_once number cost words old a b (Ok v) (Err UnknownMethod) x y = absurd (none_apart x.0 (method_numbered number) x.1 y.0)
 made_once number cost words old a b (Ok v) (Err Cost) x y = absurd (y.2 (subst (λ (k : Method). TakesCost k cost) (some_once x.0 y.0 (method_numbered number) x.1 y.1) x.2))
-made_once number cost words old a b (Ok v) (Err TooFewBytes) x y = absurd (subst (λ (k : Method). ¬ HasRoomFor (canonical_text (with_made_salt k cost words)) old) (some_once y.0 x.0 (method_numbered number) y.1 x.1) y.3 x.4.0)
+made_once number cost words old a b (Ok v) (Err TooFewBytes) x y = absurd (subst (λ (k : Method). ¬ HasRoomFor (canonical_text (salted (made_scheme k cost) words)) old) (some_once y.0 x.0 (method_numbered number) y.1 x.1) y.3 x.4.0)
 made_once number cost words old a b (Err UnknownMethod) (Ok w) x y = absurd (none_apart y.0 (method_numbered number) y.1 x.0)
 made_once number cost words old a b (Err UnknownMethod) (Err UnknownMethod) x y = refl
 made_once number cost words old a b (Err UnknownMethod) (Err Cost) x y = absurd (none_apart y.0 (method_numbered number) y.1 x.0)
@@ -182,7 +183,7 @@ made_once number cost words old a b (Err Cost) (Ok w) x y = absurd (x.2 (subst (
 made_once number cost words old a b (Err Cost) (Err UnknownMethod) x y = absurd (none_apart x.0 (method_numbered number) x.1 y.0)
 made_once number cost words old a b (Err Cost) (Err Cost) x y = refl
 made_once number cost words old a b (Err Cost) (Err TooFewBytes) x y = absurd (x.2 (subst (λ (k : Method). TakesCost k cost) (some_once y.0 x.0 (method_numbered number) y.1 x.1) y.2))
-made_once number cost words old a b (Err TooFewBytes) (Ok w) x y = absurd (subst (λ (k : Method). ¬ HasRoomFor (canonical_text (with_made_salt k cost words)) old) (some_once x.0 y.0 (method_numbered number) x.1 y.1) x.3 y.4.0)
+made_once number cost words old a b (Err TooFewBytes) (Ok w) x y = absurd (subst (λ (k : Method). ¬ HasRoomFor (canonical_text (salted (made_scheme k cost) words)) old) (some_once x.0 y.0 (method_numbered number) x.1 y.1) x.3 y.4.0)
 made_once number cost words old a b (Err TooFewBytes) (Err UnknownMethod) x y = absurd (none_apart x.0 (method_numbered number) x.1 y.0)
 made_once number cost words old a b (Err TooFewBytes) (Err Cost) x y = absurd (y.2 (subst (λ (k : Method). TakesCost k cost) (some_once x.0 y.0 (method_numbered number) x.1 y.1) x.2))
 made_once number cost words old a b (Err TooFewBytes) (Err TooFewBytes) x y = refl

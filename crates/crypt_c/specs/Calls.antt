@@ -1,10 +1,11 @@
 -- What each call answers, and what it leaves in the caller's bytes and counts.
-use Rattle.std.specs.Prelude.{◌≡◌, ◌≢◌, ◌⊎◌, ◌+◌, ◌<◌, ◌≤◌, ◌==◌, ℕ, ℤ, Bool, if◌then◌else◌, List, ◌∷◌, ◌++◌, length, drop, Option, Some, None, Result, Ok, Err}
+use Rattle.std.specs.Prelude.{◌≡◌, ◌≢◌, ◌⊎◌, ◌+◌, ◌<◌, ◌≤◌, ℕ, ℤ, Bool, List, ◌∷◌, ◌++◌, length, drop, Some, None, Result, Ok, Err}
 use Rattle.prims_core.specs.Work.{no_work}
 use Rattle.prims_core.specs.declared.meter.Work.{Work}
 use Rattle.crypt_core.specs.Crypt.{IsAfterRefusedGrowth, crypt}
 use Rattle.crypt_core.specs.Fits as fits
-use Rattle.crypt_core.specs.MadeSettings.{TakesCost, with_made_salt}
+use Rattle.crypt_core.specs.MadeSettings.{TakesCost, made_scheme, salted}
+use Rattle.crypt_core.specs.Methods.{method_numbered}
 use Rattle.crypt_core.specs.Passwords.{IsPassword, IsPasswordRefused, password_limit}
 use Rattle.crypt_core.specs.Refusals.{IsRefused}
 use Rattle.crypt_core.specs.Replacements.{is_replaced_by}
@@ -12,7 +13,6 @@ use Rattle.crypt_core.specs.Settings.{SettingValue, Spells, canonical_text}
 use Rattle.crypt_core.specs.Work.{cost, work}
 use Rattle.crypt_core.specs.declared.fits.FitFault.TheVariants as fit
 use Rattle.crypt_core.specs.declared.method.Method.{Method}
-use Rattle.crypt_core.specs.declared.method.Method.TheVariants.{Md5crypt, Sha256crypt, Sha512crypt, Scrypt}
 use Rattle.crypt_core.specs.declared.password.PasswordFault.TheVariants.{TooLong}
 use Rattle.crypt_c.specs.Numbers.{refusal_text, refusal_told}
 use Rattle.crypt_c.specs.declared.refusal.Refusal.{Refusal}
@@ -80,24 +80,18 @@ Replaces stored new (Err (Setting fault)) =
     IsRefused stored fault ⊎ ((kept : SettingValue) × Spells stored kept × IsRefused new fault)
 Replaces stored new (Err refusal) = ⊥
 
--- the methods by their numbers, which are those of their texts' prefixes
-abbrev pub method_numbered : ℕ → Option Method
-method_numbered number =
-    if number == 1 then Some Md5crypt else if number == 5 then Some Sha256crypt else if number == 6 then Some Sha512crypt
-    else if number == 7 then Some Scrypt else None
-
 -- its text and a byte 0 are put; or the first refusal that holds, and the caller's bytes are as they were
 abbrev pub Makes : ℕ → ℕ → List ℕ → List ℕ → List ℕ → Result ℕ Refusal → Type 0
 Makes number cost words old new (Ok count) =
     (method : Method) × (method_numbered number ≡ Some method) × TakesCost method cost
-    × (count ≡ length (canonical_text (with_made_salt method cost words)))
-    × IsPut (canonical_text (with_made_salt method cost words)) old new
+    × (count ≡ length (canonical_text (salted (made_scheme method cost) words)))
+    × IsPut (canonical_text (salted (made_scheme method cost) words)) old new
 Makes number cost words old new (Err UnknownMethod) = (method_numbered number ≡ None) × (new ≡ old)
 Makes number cost words old new (Err Cost) =
     (method : Method) × (method_numbered number ≡ Some method) × (¬ TakesCost method cost) × (new ≡ old)
 Makes number cost words old new (Err TooFewBytes) =
     (method : Method) × (method_numbered number ≡ Some method) × TakesCost method cost
-    × (¬ HasRoomFor (canonical_text (with_made_salt method cost words)) old) × (new ≡ old)
+    × (¬ HasRoomFor (canonical_text (salted (made_scheme method cost) words)) old) × (new ≡ old)
 Makes number cost words old new (Err refusal) = ⊥
 
 -- ---- refusals

@@ -5,7 +5,7 @@ ghost use Rattle.crypt_core.specs.Work.{cost, work_bound};
 ghost use Rattle.crypt_core.specs.Passwords.{IsPassword, password_limit};
 ghost use Rattle.crypt_core.specs.Readings.{IsReadOneWay};
 ghost use Rattle.crypt_core.specs.Settings.{SettingValue, Spells};
-ghost use Rattle.crypt_c.specs.Calls.{Compares, Explains, Hashes, Makes, Replaces, Reports, method_numbered};
+ghost use Rattle.crypt_c.specs.Calls.{Compares, Explains, Hashes, Makes, Replaces, Reports};
 ghost use Rattle.crypt_c.specs.Private.Steps.{IsUntold, IsSmall};
 
 use crate::put::put;
@@ -14,6 +14,7 @@ use crypt_core::fits::fits;
 use crypt_core::hash::{hash, hash_len};
 use crypt_core::method::Method;
 use crypt_core::password::{PASSWORD_LIMIT, Password, PasswordFault};
+use crypt_core::scheme::Scheme;
 use crypt_core::setting::Setting;
 use crypt_core::work::{bound, cost};
 use prims_core::meter::Meter;
@@ -120,26 +121,13 @@ pub(crate) fn put_setting(
     ensures makes { Makes method cost words out.old out.new result }
     ensures short { IfOk result (λ count. count < 2 ^ 31) }
 {
-    let Some(method) = method_numbered(method) else {
+    let Some(method) = Method::numbered(method) else {
         return Err(Refusal::UnknownMethod);
     };
-    let Ok(setting) = Setting::with_made_salt(method, cost, words) else {
+    let Ok(scheme) = Scheme::made(method, cost) else {
         return Err(Refusal::Cost);
     };
-    put(out, setting.text().as_slice())
-}
-
-// The method that a number stands for.
-fn method_numbered(number: u32) -> Option<Method>
-    ensures { result ≡ method_numbered number }
-{
-    match number {
-        1 => Some(Method::Md5crypt),
-        5 => Some(Method::Sha256crypt),
-        6 => Some(Method::Sha512crypt),
-        7 => Some(Method::Scrypt),
-        _ => None,
-    }
+    put(out, Setting::salted(scheme, words).text().as_slice())
 }
 
 /// Puts the words for a refusal, and answers their length.

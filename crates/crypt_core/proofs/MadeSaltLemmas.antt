@@ -1,5 +1,5 @@
 -- Lemmas on salts made of random words.
-use Rattle.std.proofs.Common.{◌≡◌, ◌<◌, ◌≤◌, ◌⊎◌, ℕ, ◌+◌, List, [], ◌∷◌, ◌++◌, All, arith, inl, inr, length, refl}
+use Rattle.std.proofs.Common.{◌≡◌, ◌≤◌, ℕ, ◌+◌, List, [], ◌∷◌, ◌++◌, All, arith}
 use Rattle.std.specs.List.{range_with_len}
 use Rattle.std.proofs.lemmas.List.FromFn.{map-range_with_len_more}
 use Rattle.std.proofs.lemmas.List.Elements.{All-map}
@@ -7,12 +7,9 @@ use Rattle.prims_core.specs.Alphabet.{alphabet}
 use Rattle.std.specs.Prelude.{Contains}
 use Rattle.crypt_core.proofs.Numerals.{in_alphabet}
 use Rattle.crypt_core.specs.MadeSalts.{made_character, made_salt, made_salt_length}
-use Rattle.crypt_core.specs.MadeSettings.{IsMakeRefused, IsMakeable, TakesCost}
 use Rattle.crypt_core.specs.Methods.{salt_limit}
 use Rattle.crypt_core.specs.declared.method.Method.{Method}
 use Rattle.crypt_core.specs.declared.method.Method.TheVariants.{Md5crypt, Sha256crypt, Sha512crypt, Scrypt}
-use Rattle.crypt_core.specs.declared.setting.fault.MakeFault.{MakeFault}
-use Rattle.crypt_core.specs.declared.setting.fault.MakeFault.TheVariants.{SaltLength, SaltCharacter, Cost}
 
 -- one character more
 pub made_salt-more : (words : List ℕ) (n : ℕ) → made_salt words (n + 1) ≡ made_salt words n ++ made_character words n ∷ []

@@ -1,11 +1,11 @@
 -- What a method, a cost and a salt make is a setting.
-use Rattle.std.proofs.Common.{◌≡◌, ◌≢◌, ℕ, ◌+◌, ◌≤◌, ◌<◌, ◌^◌, ◌*◌, Bool, true, false, not, cond, eqb, inl, inr, ◌&&◌, List, [], ◌++◌, length, get_or, All, length-append, append-nil, refl, sym, ap, subst, ◌∙◌, arith}
+use Rattle.std.proofs.Common.{◌≡◌, ◌≢◌, ℕ, ◌+◌, ◌≤◌, ◌<◌, ◌^◌, ◌*◌, Bool, true, false, not, eqb, inl, inr, ◌&&◌, List, [], ◌++◌, length, get_or, All, length-append, append-nil, refl, sym, ap, ◌∙◌, arith}
 use Rattle.std.specs.Prelude.{Contains, decimal, codes, nat_le, Result, Ok, Err, OnOk, IfErr, IsOk}
 use Rattle.std.specs.List.{list_all}
 use Rattle.std.proofs.Math.Nat.{le-mul_of_pos_right, lt_of_not-le, mul-le-mul_right, one-le-mul}
 use Rattle.std.proofs.Math.Pow.{pow_mono}
 use Rattle.kdf_core.specs.Params.{ScryptCost, row_count, IsAccepted}
-use Rattle.std.proofs.lemmas.Bool.{and_parts, not-true, eqb-false, leb-true, ne_eqb, cases_order}
+use Rattle.std.proofs.lemmas.Bool.{and_parts, not-true, eqb-false, leb-true, cases_order}
 use Rattle.std.proofs.lemmas.List.{take_all}
 use Rattle.std.proofs.lemmas.List.Sums.{AllPass-from_list_all}
 use Rattle.std.proofs.lemmas.List.Elements.{All-nil, All-append, All-from_recursion, All-contains, All-weaker, All-get_or}
@@ -18,12 +18,12 @@ use Rattle.crypt_core.specs.declared.scheme.Scheme.TheVariants.{Md5crypt, Sha256
 use Rattle.crypt_core.specs.declared.setting.fault.MakeFault.{MakeFault}
 use Rattle.crypt_core.specs.declared.setting.fault.MakeFault.TheVariants.{SaltLength, SaltCharacter, Cost}
 use Rattle.crypt_core.specs.Methods.{prefix, salt_limit, md5crypt_salt_limit, shacrypt_salt_limit, scrypt_salt_limit}
-use Rattle.crypt_core.specs.MadeSettings.{made_cost, made_scheme, made_setting, TakesCost, TakesSalt, IsMakeable, BreaksMake, IsMakeRefused, make_rule_number, max_cost, default_cost, cost_at}
+use Rattle.crypt_core.specs.MadeSettings.{made_scheme, TakesCost, TakesSalt, IsMakeable, BreaksMake, IsMakeRefused, make_rule_number, max_cost, cost_at}
 use Rattle.crypt_core.specs.Schemes.{IsScheme, method_of}
 use Rattle.crypt_core.specs.Settings.{SettingValue, HasNumerals, IsSettingByte, dollar, BeginsWith, rounds_word, rounds_field, IsRoundsNumber, SpellsRounds, scrypt_part, SpellsCost, KeepsSalt, IsSetting, cost_part, canonical_text}
 use Rattle.crypt_core.specs.Rounds.{clamped, min_rounds, max_rounds, default_rounds}
 use Rattle.crypt_core.proofs.Numerals.{all_scrypt_part}
-use Rattle.crypt_core.proofs.Canonical.{canonical_short, decimal_is_number, number_bytes, held_again, held_range}
+use Rattle.crypt_core.proofs.Canonical.{canonical_short, decimal_is_number, number_bytes, held_again}
 
 -- Characters
 

@@ -3,24 +3,12 @@ use Rattle.std.specs.Prelude.{ℕ, ◌*◌, ◌/◌, ◌%◌, ◌^◌, List, [],
 use Rattle.std.specs.List.{range_with_len}
 use Rattle.rand_core.specs.Stream.{Stream, next_u64}
 use Rattle.prims_core.specs.Alphabet.{character_of}
-use Rattle.crypt_core.specs.Methods.{md5crypt_salt_limit, shacrypt_salt_limit}
-use Rattle.crypt_core.specs.declared.method.Method.{Method}
-use Rattle.crypt_core.specs.declared.method.Method.TheVariants.{Md5crypt, Sha256crypt, Sha512crypt, Scrypt}
+-- how many characters a made salt has
+pub use Rattle.crypt_core.specs.Methods.{made_salt_length, made_salt_limit}
 
 -- character i: a word gives up to ten characters, six bits for each, lowest bits first
 abbrev pub made_character : List ℕ → ℕ → ℕ
 made_character words i = character_of (slice_index words (i / 10) / 2 ^ (6 * (i % 10)) % 64)
-
--- the most characters of a made salt
-abbrev pub made_salt_limit : ℕ
-made_salt_limit = 22
-
--- the characters of a made salt: as many as the method keeps, but for scrypt, where 22 have 132 bits
-abbrev pub made_salt_length : Method → ℕ
-made_salt_length Md5crypt = md5crypt_salt_limit
-made_salt_length Sha256crypt = shacrypt_salt_limit
-made_salt_length Sha512crypt = shacrypt_salt_limit
-made_salt_length Scrypt = made_salt_limit
 
 -- a salt of so many characters, at most ten a word
 unfoldable pub made_salt : List ℕ → ℕ → List ℕ

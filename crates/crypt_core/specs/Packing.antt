@@ -1,6 +1,8 @@
 -- How crypt(5) writes a digest: its bytes are taken in groups, in an order of the method's own.
 use Rattle.std.specs.Prelude.{ℕ, ◌+◌, ◌*◌, List, [], ◌∷◌, length, fold, slice_index, flat_map}
 use Rattle.prims_core.specs.Alphabet.{numerals}
+-- how many characters the text of a method's digest has
+pub use Rattle.crypt_core.specs.Methods.{packed_len}
 use Rattle.crypt_core.specs.declared.method.Method.{Method}
 use Rattle.crypt_core.specs.declared.method.Method.TheVariants.{Md5crypt, Sha256crypt, Sha512crypt, Scrypt}
 
@@ -56,10 +58,3 @@ groups_of Scrypt = scrypt_groups
 -- the text of a method's digest
 unfoldable pub packed : Method → List ℕ → List ℕ
 packed method digest = packed_by (groups_of method) digest
-
--- how many characters the text of the method's digest has
-abbrev pub packed_len : Method → ℕ
-packed_len Md5crypt = 22
-packed_len Sha256crypt = 43
-packed_len Sha512crypt = 86
-packed_len Scrypt = 43

@@ -15,5 +15,7 @@ pub mod scheme;
 pub mod setting;
 pub mod shacrypt;
 pub mod stored;
+#[cfg(test)]
+mod values;
 pub mod version;
 pub mod work;

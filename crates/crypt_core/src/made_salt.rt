@@ -8,13 +8,11 @@ ghost use Rattle.crypt_core.specs.MadeSalts.{made_salt, made_salt_length, made_s
 #[cfg(test)]
 mod tests;
 
-use crate::method::{MD5CRYPT_SALT_LIMIT, Method, SHACRYPT_SALT_LIMIT};
+pub use crate::method::MADE_SALT_LIMIT;
+use crate::method::Method;
 use arrayvec::ArrayVec;
 use prims_core::alphabet::char_of;
 use rand_core::Rng;
-
-/// The most characters of a made salt, which scrypt has.
-pub const MADE_SALT_LIMIT: usize = 22;
 
 /// The salt of `len` characters, at most [`MADE_SALT_LIMIT`], that three random words give.
 ///
@@ -41,11 +39,7 @@ pub fn made_salt_length(method: Method) -> usize
     ensures length { result ≡ made_salt_length method }
     ensures enough { result ≤ made_salt_limit }
 {
-    match method {
-        Method::Md5crypt => MD5CRYPT_SALT_LIMIT,
-        Method::Sha256crypt | Method::Sha512crypt => SHACRYPT_SALT_LIMIT,
-        Method::Scrypt => MADE_SALT_LIMIT,
-    }
+    method.row().made_salt_length
 }
 
 /// The next three words of the generator, in the order in which it gives them.

@@ -1,8 +1,8 @@
 //! The methods by which a password is hashed, and the words that name them.
 
-ghost use Rattle.std.specs.Prelude.{◌≡◌};
+ghost use Rattle.std.specs.Prelude.{◌≡◌, ◌||◌};
 ghost use Rattle.std.specs.Str.{bytes_eq};
-ghost use Rattle.crypt_core.specs.Methods.{method_named, prefix, salt_limit};
+ghost use Rattle.crypt_core.specs.Methods.{made_salt_length, method_named, method_numbered, method_row, packed_len, prefix, salt_limit};
 
 /// The most bytes of salt that md5crypt keeps.
 pub const MD5CRYPT_SALT_LIMIT: usize = 8;
@@ -12,6 +12,20 @@ pub const SHACRYPT_SALT_LIMIT: usize = 16;
 
 /// The most bytes of salt that scrypt keeps. No method keeps more.
 pub const SCRYPT_SALT_LIMIT: usize = 86;
+
+/// The most characters of a made salt, which scrypt has.
+pub const MADE_SALT_LIMIT: usize = 22;
+
+// The characters of md5crypt's packed digest, and of sha256crypt's.
+const MD5CRYPT_PACKED_LEN: usize = 22;
+
+const SHA256CRYPT_PACKED_LEN: usize = 43;
+
+/// The characters of sha512crypt's packed digest. No other method's are more.
+pub const SHA512CRYPT_PACKED_LEN: usize = 86;
+
+/// The characters of scrypt's packed digest.
+pub const SCRYPT_PACKED_LEN: usize = 43;
 
 /// A hashing method of crypt(5).
 #[derive(Clone, Copy, Debug, PartialEq, Eq)]
@@ -26,46 +40,131 @@ pub enum Method {
     Scrypt,
 }
 
+/// What is fixed for a method: its row of the table.
+#[derive(Clone, Copy)]
+pub(crate) struct MethodRow {
+    /// The word that names it.
+    pub(crate) name: &'static [u8],
+    /// Another one, or the same where there is none.
+    pub(crate) alias: &'static [u8],
+    /// The number in its prefix, which stands for it in C.
+    pub(crate) number: u32,
+    /// What a text of the method begins with.
+    pub(crate) prefix: &'static [u8],
+    /// The most bytes of salt that it keeps.
+    pub(crate) salt_limit: usize,
+    /// The characters of a made salt.
+    pub(crate) made_salt_length: usize,
+    /// The characters of its packed digest.
+    pub(crate) packed_len: usize,
+}
+
 impl Method {
     /// The method of a name (`md5crypt`, `sha256crypt`, `sha512crypt`, `scrypt`) or of an alias (`md5`, `sha-256`,
     /// `sha-512`), or `None` for any other word.
     pub fn named(word: &[u8]) -> Option<Method>
         ensures { result ≡ method_named word.now }
     {
-        if is_word(word, b"md5crypt") || is_word(word, b"md5") {
+        if Method::Md5crypt.is_named(word) {
             Some(Method::Md5crypt)
-        } else if is_word(word, b"sha256crypt") || is_word(word, b"sha-256") {
+        } else if Method::Sha256crypt.is_named(word) {
             Some(Method::Sha256crypt)
-        } else if is_word(word, b"sha512crypt") || is_word(word, b"sha-512") {
+        } else if Method::Sha512crypt.is_named(word) {
             Some(Method::Sha512crypt)
-        } else if is_word(word, b"scrypt") {
+        } else if Method::Scrypt.is_named(word) {
             Some(Method::Scrypt)
         } else {
             None
         }
     }
 
+    /// Returns the method of a number, 1, 5, 6 or 7, as in its prefix, or `None` for any other number.
+    pub fn numbered(number: u32) -> Option<Method>
+        ensures { result ≡ method_numbered number }
+    {
+        if number == Method::Md5crypt.row().number {
+            Some(Method::Md5crypt)
+        } else if number == Method::Sha256crypt.row().number {
+            Some(Method::Sha256crypt)
+        } else if number == Method::Sha512crypt.row().number {
+            Some(Method::Sha512crypt)
+        } else if number == Method::Scrypt.row().number {
+            Some(Method::Scrypt)
+        } else {
+            None
+        }
+    }
+
+    /// Returns the method's row of the table.
+    pub(crate) fn row(self) -> MethodRow
+        ensures name { result.name.now ≡ (method_row self).name }
+        ensures alias { result.alias.now ≡ (method_row self).alias }
+        ensures number { result.number ≡ (method_row self).number }
+        ensures prefix { result.prefix.now ≡ prefix self }
+        ensures kept { result.salt_limit ≡ salt_limit self }
+        ensures made { result.made_salt_length ≡ made_salt_length self }
+        ensures packed { result.packed_len ≡ packed_len self }
+    {
+        match self {
+            Method::Md5crypt => MethodRow {
+                name: b"md5crypt",
+                alias: b"md5",
+                number: 1,
+                prefix: b"$1$",
+                salt_limit: MD5CRYPT_SALT_LIMIT,
+                made_salt_length: MD5CRYPT_SALT_LIMIT,
+                packed_len: MD5CRYPT_PACKED_LEN,
+            },
+            Method::Sha256crypt => MethodRow {
+                name: b"sha256crypt",
+                alias: b"sha-256",
+                number: 5,
+                prefix: b"$5$",
+                salt_limit: SHACRYPT_SALT_LIMIT,
+                made_salt_length: SHACRYPT_SALT_LIMIT,
+                packed_len: SHA256CRYPT_PACKED_LEN,
+            },
+            Method::Sha512crypt => MethodRow {
+                name: b"sha512crypt",
+                alias: b"sha-512",
+                number: 6,
+                prefix: b"$6$",
+                salt_limit: SHACRYPT_SALT_LIMIT,
+                made_salt_length: SHACRYPT_SALT_LIMIT,
+                packed_len: SHA512CRYPT_PACKED_LEN,
+            },
+            Method::Scrypt => MethodRow {
+                name: b"scrypt",
+                alias: b"scrypt",
+                number: 7,
+                prefix: b"$7$",
+                salt_limit: SCRYPT_SALT_LIMIT,
+                made_salt_length: MADE_SALT_LIMIT,
+                packed_len: SCRYPT_PACKED_LEN,
+            },
+        }
+    }
+
+    // Whether the word is the method's name or its alias.
+    fn is_named(self, word: &[u8]) -> bool
+        ensures { result ≡ (bytes_eq word.now (method_row self).name || bytes_eq word.now (method_row self).alias) }
+    {
+        let row = self.row();
+        is_word(word, row.name) || is_word(word, row.alias)
+    }
+
     /// What a text of the method begins with.
     pub(crate) fn prefix(self) -> &'static [u8]
         ensures { result.now ≡ prefix self }
     {
-        match self {
-            Method::Md5crypt => b"$1$",
-            Method::Sha256crypt => b"$5$",
-            Method::Sha512crypt => b"$6$",
-            Method::Scrypt => b"$7$",
-        }
+        self.row().prefix
     }
 
     /// The most bytes of salt that the method keeps.
     pub(crate) fn salt_limit(self) -> usize
         ensures { result ≡ salt_limit self }
     {
-        match self {
-            Method::Md5crypt => MD5CRYPT_SALT_LIMIT,
-            Method::Sha256crypt | Method::Sha512crypt => SHACRYPT_SALT_LIMIT,
-            Method::Scrypt => SCRYPT_SALT_LIMIT,
-        }
+        self.row().salt_limit
     }
 }
 
@@ -78,6 +177,8 @@ fn is_word(word: &[u8], name: &[u8]) -> bool
 #[cfg(test)]
 mod tests {
     use super::*;
+    use crate::values::are_distinct;
+    use std::test::Fail;
 
     #[test]
     fn seven_words_name_methods(rt: HostRuntime) {
@@ -97,5 +198,33 @@ mod tests {
         for (word, method) in cases {
             assert_eq!(rt; Method::named(word.as_bytes()), method, "{word}");
         }
+    }
+
+    #[test]
+    fn four_numbers_stand_for_methods(rt: HostRuntime) {
+        let cases = [
+            (1, Some(Method::Md5crypt)),
+            (5, Some(Method::Sha256crypt)),
+            (6, Some(Method::Sha512crypt)),
+            (7, Some(Method::Scrypt)),
+            (0, None),
+            (2, None),
+            (8, None),
+            (u32::MAX, None),
+        ];
+        for (number, method) in cases {
+            assert_eq!(rt; Method::numbered(number), method, "{number}");
+        }
+    }
+
+    #[test]
+    fn each_method_equals_itself_alone(rt: HostRuntime) -> Result<(), Fail> {
+        let methods = [
+            Method::Md5crypt,
+            Method::Sha256crypt,
+            Method::Sha512crypt,
+            Method::Scrypt,
+        ];
+        are_distinct(&rt, &methods)
     }
 }

@@ -6,21 +6,11 @@ ghost use Rattle.crypt_core.specs.Packing.{group_number, groups_of, packed, pack
 ghost use Rattle.crypt_core.specs.Private.Tables.{groups_in, AreGroups, IsGroup};
 
 use crate::method::Method;
+pub use crate::method::{SCRYPT_PACKED_LEN, SHA512CRYPT_PACKED_LEN};
 use crate::setting::TEXT_CAPACITY;
 use arrayvec::ArrayVec;
 use prims_core::alphabet::put_group;
 use prims_core::buffer::buffer_of;
-
-// The characters of md5crypt's packed digest, and of sha256crypt's.
-const MD5CRYPT_PACKED_LEN: usize = 22;
-
-const SHA256CRYPT_PACKED_LEN: usize = 43;
-
-/// The characters of sha512crypt's packed digest. No other method's are more.
-pub const SHA512CRYPT_PACKED_LEN: usize = 86;
-
-/// The characters of scrypt's packed digest.
-pub const SCRYPT_PACKED_LEN: usize = 43;
 
 /// The places in the digest that each group takes, the first one highest in the group's number.
 const MD5CRYPT_GROUPS: [&[usize]; 6] = [
@@ -101,12 +91,7 @@ pub fn pack(method: Method, digest: &[u8]) -> ArrayVec<u8, SHA512CRYPT_PACKED_LE
 pub fn packed_len(method: Method) -> usize
     ensures { result ≡ packed_len method }
 {
-    match method {
-        Method::Md5crypt => MD5CRYPT_PACKED_LEN,
-        Method::Sha256crypt => SHA256CRYPT_PACKED_LEN,
-        Method::Sha512crypt => SHA512CRYPT_PACKED_LEN,
-        Method::Scrypt => SCRYPT_PACKED_LEN,
-    }
+    method.row().packed_len
 }
 
 // The table of the method's groups.

@@ -78,6 +78,7 @@ impl Password {
 #[cfg(test)]
 mod tests {
     use super::*;
+    use crate::values::are_distinct;
     use std::test::Fail;
 
     #[test]
@@ -97,14 +98,29 @@ mod tests {
             let bytes = vec![in alloc; byte; count]?;
             match Password::new(bytes.as_slice()) {
                 Ok(password) => {
-                    assert_eq!(rt; fault, None, "{count} bytes {byte}");
+                    assert!(rt; fault.is_none(), "{count} bytes {byte}");
                     assert_eq!(rt; password.bytes(), bytes.as_slice(), "{count} bytes {byte}");
                 }
-                Err(refusal) => assert_eq!(rt; Some(refusal), fault, "{count} bytes {byte}"),
+                Err(refusal) => {
+                    let wanted = fault.map(|fault| fault.text());
+                    assert_eq!(rt; Some(refusal.text()), wanted, "{count} bytes {byte}");
+                }
             }
         }
-        assert_eq!(rt; PasswordFault::TooLong.text(), "password too long");
-        assert_eq!(rt; PasswordFault::HasNul.text(), "password has a zero byte");
         Ok(())
+    }
+
+    #[test]
+    fn faults_in_words(rt: HostRuntime) -> Result<(), Fail> {
+        let rows = [
+            (PasswordFault::TooLong, "password too long"),
+            (PasswordFault::HasNul, "password has a zero byte"),
+        ];
+        for (fault, text) in rows {
+            let shown = format!(in rt.alloc(); "{fault}")?;
+            assert_eq!(rt; fault.text(), text);
+            assert_eq!(rt; shown.as_str(), text);
+        }
+        are_distinct(&rt, &rows.map(|(fault, _)| fault))
     }
 }

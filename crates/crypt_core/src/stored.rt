@@ -136,3 +136,6 @@ fn is_locked(field: &[u8]) -> bool
 {
     field.starts_with(b"!") || field.starts_with(b"*")
 }
+
+#[cfg(test)]
+mod tests;

@@ -4,8 +4,12 @@ ghost use Rattle.std.specs.Prelude.{◌≤◌, ◌^◌, length, IsTrue, IfSome};
 ghost use Rattle.prims_core.specs.Meter.{HasRoom};
 
 use super::*;
+use crate::hash::hash;
 use crate::hash::tests::counts;
+use crate::setting::Setting;
+use crate::values::are_distinct;
 use std::process::Abort;
+use std::test::Fail;
 
 const MD5CRYPT: &str = "$1$xxxxxxxx$UYCIxa628.9qXjpQCjM4a.";
 
@@ -78,6 +82,11 @@ fn password_of(rt: &impl Abort, text: &str) -> Password {
     Password::new(text.as_bytes()).expect(rt, "a password")
 }
 
+// A verdict, or the refusal in words.
+fn in_words(verdict: Result<bool, FitFault>) -> Result<bool, &'static str> {
+    verdict.map_err(|fault| fault.text())
+}
+
 // Whether each count is at most 2^120, so that there is room for another check.
 fn has_room(meter: &Meter) -> bool
     ensures { IsTrue result → HasRoom meter.now }
@@ -117,7 +126,7 @@ fn only_the_whole_text_fits(rt: HostRuntime) {
     for (text, stored, fitting) in VERDICTS {
         let password = password_of(&rt, text);
         let verdict = fits(rt.alloc(), &password, stored.as_bytes(), &mut Meter::new());
-        assert_eq!(rt; verdict, Ok(fitting), "{text} and {stored}");
+        assert_eq!(rt; in_words(verdict), Ok(fitting), "{text} and {stored}");
     }
 }
 
@@ -128,8 +137,8 @@ fn refused_settings_count_nothing(rt: HostRuntime) {
         let mut meter = Meter::new();
         let verdict = fits(rt.alloc(), &password, stored, &mut meter);
         assert_eq!(rt;
-            (verdict, counts(&meter)),
-            (Err(FitFault::Setting(fault)), [0; 5]),
+            (in_words(verdict), counts(&meter)),
+            (Err(fault.text()), [0; 5]),
             "{stored:?}"
         );
     }
@@ -155,12 +164,11 @@ fn a_check_counts_one_hash(rt: HostRuntime) {
 
 #[test]
 fn checks_count_on_one_meter(rt: HostRuntime) {
-    let refused = FitFault::Setting(SettingFault::BadCharacter);
     let both = [1012, 37187, 32, 2048, 384];
     let rows = [
         ("password", MD5CRYPT, Ok(true), [1002, 36239, 0, 0, 0]),
         ("", SCRYPT, Ok(true), both),
-        ("", "$1$a:b", Err(refused), both),
+        ("", "$1$a:b", Err("bad character"), both),
     ];
     let mut meter = Meter::new();
     for (text, stored, verdict, work) in rows {
@@ -171,7 +179,11 @@ fn checks_count_on_one_meter(rt: HostRuntime) {
             stored.as_bytes(),
             &mut meter,
         );
-        assert_eq!(rt; (told, counts(&meter)), (verdict, work), "{stored}");
+        assert_eq!(rt;
+            (in_words(told), counts(&meter)),
+            (verdict, work),
+            "{stored}"
+        );
     }
 }
 
@@ -203,8 +215,31 @@ fn a_password_fits_its_hash(rt: HostRuntime) {
 }
 
 #[test]
-fn faults_in_words(rt: HostRuntime) {
-    let refused = FitFault::Setting(SettingFault::BadCharacter);
-    assert_eq!(rt; refused.text(), "bad character");
-    assert_eq!(rt; FitFault::OutOfMemory.text(), "out of memory");
+fn faults_in_words(rt: HostRuntime) -> Result<(), Fail> {
+    let rows = [
+        (FitFault::Setting(SettingFault::TooLong), "setting too long"),
+        (
+            FitFault::Setting(SettingFault::BadCharacter),
+            "bad character",
+        ),
+        (
+            FitFault::Setting(SettingFault::UnknownScheme),
+            "unknown scheme",
+        ),
+        (FitFault::Setting(SettingFault::BadRounds), "bad rounds"),
+        (FitFault::Setting(SettingFault::BadCost), "bad cost"),
+        (FitFault::Setting(SettingFault::ScryptRange), "scrypt range"),
+        (
+            FitFault::Setting(SettingFault::AboveCeiling),
+            "above ceiling",
+        ),
+        (FitFault::Setting(SettingFault::BadSalt), "bad salt"),
+        (FitFault::OutOfMemory, "out of memory"),
+    ];
+    for (fault, text) in rows {
+        let shown = format!(in rt.alloc(); "{fault}")?;
+        assert_eq!(rt; fault.text(), text);
+        assert_eq!(rt; shown.as_str(), text);
+    }
+    are_distinct(&rt, &rows.map(|(fault, _)| fault))
 }

@@ -7,6 +7,7 @@ mod scrypt_tables;
 mod tables;
 
 use super::*;
+use crate::values::are_distinct;
 use scrypt_tables::{SCRYPT_COUNTS, SCRYPT_TEXTS};
 use std::process::Abort;
 use std::test::Fail;
@@ -127,5 +128,34 @@ fn a_hash_is_its_setting(rt: HostRuntime) {
         let again = again.expect(&rt, text);
         assert_eq!(rt; again.text().as_slice(), text.as_bytes(), "{text}");
     }
-    assert_eq!(rt; HashFault::OutOfMemory.text(), "out of memory");
+}
+
+// N = 2, r = 1 and p = 8193: many parts in little memory. Python's hashlib.scrypt gives the digest
+// 678d9a80ce0193d6d1da2d0e769a072422e233dfbcc04a772561dd7b23ca24dd, of which crypt(5) makes the text.
+#[test]
+fn hashes_many_parts(rt: HostRuntime) {
+    let password = Password::new(b"pw").expect(&rt, "a password");
+    let setting = setting_of(&rt, "$7$//..../.0..salt");
+    let hashed = hash(rt.alloc(), &password, &setting, &mut Meter::new()).expect(&rt, "a hash");
+    assert_eq!(rt;
+        hashed.text(),
+        b"$7$//..../.0..salt$bpca.uQ.HORoOrW1qdt/Y6WsnwBj.foRZ2KrvBWmYoB".as_slice()
+    );
+}
+
+// Three bytes of scrypt's prefix, 11 of its cost part and 86 of its salt; then a `$` and 43 of its digest.
+#[test]
+fn the_longest_texts(rt: HostRuntime) {
+    assert_eq!(rt; (CANONICAL_LIMIT, HASH_LIMIT), (100, 144));
+}
+
+#[test]
+fn the_fault_in_words(rt: HostRuntime) -> Result<(), Fail> {
+    let fault = HashFault::OutOfMemory;
+    let shown = format!(in rt.alloc(); "{fault}")?;
+    assert_eq!(rt;
+        (fault.text(), shown.as_str()),
+        ("out of memory", "out of memory")
+    );
+    are_distinct(&rt, &[fault])
 }

@@ -3,6 +3,9 @@
 ghost use Rattle.std.specs.Prelude.{◌≡◌};
 
 use super::*;
+use crate::scheme::Rounds;
+use crate::values::are_distinct;
+use kdf_core::params::Params;
 use std::process::Abort;
 use std::test::Fail;
 
@@ -11,6 +14,22 @@ fn read_again(setting: &Setting) -> Result<Setting, SettingFault>
     ensures { result ≡ Ok setting.now }
 {
     Setting::read(setting.text().as_slice())
+}
+
+// That a setting was read, or the refusal in words.
+fn read_in_words(read: Result<Setting, SettingFault>) -> Result<(), &'static str> {
+    match read {
+        Ok(_) => Ok(()),
+        Err(fault) => Err(fault.text()),
+    }
+}
+
+// That a setting was made, or the refusal in words.
+fn made_in_words(made: Result<Setting, MakeFault>) -> Result<(), &'static str> {
+    match made {
+        Ok(_) => Ok(()),
+        Err(fault) => Err(fault.text()),
+    }
 }
 
 // Reads a text and compares what is kept of it. The canonical text is read again as itself.
@@ -32,7 +51,7 @@ fn reads(rt: &impl Abort, text: &[u8], method: Method, salt: &[u8], canonical: &
 
 fn refuses(rt: &impl Abort, text: &[u8], wanted: SettingFault) {
     let found = Setting::read(text);
-    assert_eq!(rt; found.map(|_| ()), Err(wanted), "{text:?}");
+    assert_eq!(rt; read_in_words(found), Err(wanted.text()), "{text:?}");
 }
 
 #[test]
@@ -167,12 +186,12 @@ fn prefixes(rt: HostRuntime) {
     let scrypt = b"$7$C6..../....SodiumChloride";
     for len in 0..29 {
         let wanted = match len {
-            0..=2 => Err(SettingFault::UnknownScheme),
-            3..=13 => Err(SettingFault::BadCost),
+            0..=2 => Err("unknown scheme"),
+            3..=13 => Err("bad cost"),
             _ => Ok(()),
         };
         assert_eq!(rt;
-            Setting::read(&scrypt[..len]).map(|_| ()),
+            read_in_words(Setting::read(&scrypt[..len])),
             wanted,
             "{len} bytes of scrypt's text"
         );
@@ -180,12 +199,12 @@ fn prefixes(rt: HostRuntime) {
     let sha = b"$6$rounds=1000$ab";
     for len in 0..18 {
         let wanted = match len {
-            0..=2 => Err(SettingFault::UnknownScheme),
-            10..=14 => Err(SettingFault::BadRounds),
+            0..=2 => Err("unknown scheme"),
+            10..=14 => Err("bad rounds"),
             _ => Ok(()),
         };
         assert_eq!(rt;
-            Setting::read(&sha[..len]).map(|_| ()),
+            read_in_words(Setting::read(&sha[..len])),
             wanted,
             "{len} bytes of SHA-crypt's text"
         );
@@ -252,15 +271,97 @@ fn not_made(rt: HostRuntime) {
     ];
     for (method, cost, salt, fault) in rows {
         assert_eq!(rt;
-            Setting::make(method, cost, salt).map(|_| ()),
-            Err(fault),
+            made_in_words(Setting::make(method, cost, salt)),
+            Err(fault.text()),
             "cost {cost} and salt {salt:?}"
         );
     }
 }
 
+// N = 16, r = 1 and p = 1.
+fn small_scrypt(rt: &impl Abort) -> Scheme {
+    Scheme::Scrypt(Params::new(4, 1, 1).expect(rt, "parameters"))
+}
+
 #[test]
-fn fault_texts(rt: HostRuntime) {
+fn with_salts(rt: HostRuntime) {
+    let sha512crypt = Scheme::Sha512crypt(Rounds::written(5000));
+    let rows = [
+        (Scheme::Md5crypt, b"ab".as_slice(), b"$1$ab".as_slice()),
+        (Scheme::Md5crypt, b"xxxxxxxx", b"$1$xxxxxxxx"),
+        (Scheme::Sha256crypt(Rounds::unwritten()), b"z", b"$5$z"),
+        (
+            sha512crypt,
+            b"saltstringsaltst",
+            b"$6$rounds=5000$saltstringsaltst",
+        ),
+        (small_scrypt(&rt), b"./09AZaz", b"$7$2/..../...../09AZaz"),
+    ];
+    for (scheme, salt, text) in rows {
+        let setting = Setting::with_salt(scheme, salt).expect(&rt, "a setting");
+        let written = setting.text();
+        assert_eq!(rt; (setting.salt(), written.as_slice()), (salt, text));
+    }
+}
+
+#[test]
+fn without_a_salt_that_the_method_takes(rt: HostRuntime) {
+    let rows = [
+        (Scheme::Md5crypt, b"".as_slice(), MakeFault::SaltLength),
+        (Scheme::Md5crypt, b"123456789", MakeFault::SaltLength),
+        (
+            Scheme::Sha256crypt(Rounds::unwritten()),
+            &[b'a'; 17],
+            MakeFault::SaltLength,
+        ),
+        (small_scrypt(&rt), &[b'-'; 87], MakeFault::SaltLength),
+        (small_scrypt(&rt), b"", MakeFault::SaltLength),
+        (Scheme::Md5crypt, b"a-b", MakeFault::SaltCharacter),
+        (
+            Scheme::Sha256crypt(Rounds::unwritten()),
+            b"a$",
+            MakeFault::SaltCharacter,
+        ),
+        (small_scrypt(&rt), b"-", MakeFault::SaltCharacter),
+    ];
+    for (scheme, salt, fault) in rows {
+        assert_eq!(rt;
+            made_in_words(Setting::with_salt(scheme, salt)),
+            Err(fault.text()),
+            "salt {salt:?}"
+        );
+    }
+}
+
+// Three words give up to ten characters each, six bits for one, lowest bits first.
+#[test]
+fn salted_with_words(rt: HostRuntime) {
+    let rows = [
+        (Method::Md5crypt, [129, 0, 0], b"$1$/0......".as_slice()),
+        (Method::Sha256crypt, [129, 0, 0], b"$5$/0.............."),
+        (Method::Sha512crypt, [129, 0, 0], b"$6$/0.............."),
+        (
+            Method::Scrypt,
+            [129, 0, 0],
+            b"$7$CU..../..../0....................",
+        ),
+        (Method::Md5crypt, [1, 2, 3], b"$1$/......."),
+        (Method::Sha512crypt, [1, 2, 3], b"$6$/.........0....."),
+        (
+            Method::Scrypt,
+            [1, 2, 3],
+            b"$7$CU..../..../.........0.........1.",
+        ),
+    ];
+    for (method, words, text) in rows {
+        let scheme = Scheme::made(method, 0).expect(&rt, "a scheme");
+        let setting = Setting::salted(scheme, words);
+        assert_eq!(rt; setting.text().as_slice(), text, "{words:?}");
+    }
+}
+
+#[test]
+fn fault_texts(rt: HostRuntime) -> Result<(), Fail> {
     let faults = [
         (SettingFault::TooLong, "setting too long"),
         (SettingFault::BadCharacter, "bad character"),
@@ -272,16 +373,22 @@ fn fault_texts(rt: HostRuntime) {
         (SettingFault::BadSalt, "bad salt"),
     ];
     for (fault, text) in faults {
-        assert_eq!(rt; fault.text(), text, "{fault:?}");
+        let shown = format!(in rt.alloc(); "{fault}")?;
+        assert_eq!(rt; fault.text(), text);
+        assert_eq!(rt; shown.as_str(), text);
     }
+    are_distinct(&rt, &faults.map(|(fault, _)| fault))?;
     let make_faults = [
         (MakeFault::SaltLength, "salt length"),
         (MakeFault::SaltCharacter, "salt character"),
         (MakeFault::Cost, "cost"),
     ];
     for (fault, text) in make_faults {
-        assert_eq!(rt; fault.text(), text, "{fault:?}");
+        let shown = format!(in rt.alloc(); "{fault}")?;
+        assert_eq!(rt; fault.text(), text);
+        assert_eq!(rt; shown.as_str(), text);
     }
+    are_distinct(&rt, &make_faults.map(|(fault, _)| fault))
 }
 
 // A text of each method, and whether a hash by it is out of date where new ones are made by another: between methods
@@ -293,7 +400,8 @@ fn replaced_by_other_methods(rt: HostRuntime) -> Result<(), Fail> {
         for new in texts {
             let setting = Setting::read(old.as_bytes())?;
             let other = Setting::read(new.as_bytes())?;
-            assert_eq!(rt; setting.replaced_by(&other), old != new, "{old} by {new}");
+            let is_replaced = setting.replaced_by(&other);
+            assert_eq!(rt; is_replaced, old != new, "{setting:?} by {other:?}");
         }
     }
     Ok(())

@@ -121,7 +121,10 @@ const HASHED: [(&str, usize); 33] = [
 #[test]
 fn bounds(rt: HostRuntime) {
     for (text, len, counts) in BOUNDS {
-        let work = bound(&setting_of(&rt, text), len);
+        let setting = setting_of(&rt, text);
+        let work = bound(&setting, len);
+        let by_scheme = setting.scheme().bound(len, setting.salt().len());
+        assert_eq!(rt; by_scheme, work, "{len} bytes by {text}");
         assert_eq!(rt;
             [
                 work.digests,
@@ -139,9 +142,11 @@ fn bounds(rt: HostRuntime) {
 #[test]
 fn costs(rt: HostRuntime) {
     for (text, len, number) in COSTS {
+        let setting = setting_of(&rt, text);
+        let by_scheme = setting.scheme().cost(len, setting.salt().len());
         assert_eq!(rt;
-            cost(&setting_of(&rt, text), len),
-            number,
+            (cost(&setting, len), by_scheme),
+            (number, number),
             "{len} bytes by {text}"
         );
     }

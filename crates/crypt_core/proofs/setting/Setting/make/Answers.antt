@@ -1,4 +1,3 @@
-use Rattle.std.proofs.Common.{◌≡◌}
 use Rattle.crypt_core.proofs.Making.{taken_breaks_none}
 use Rattle.crypt_core.proofs.setting.Setting.make.Goals as goal
 

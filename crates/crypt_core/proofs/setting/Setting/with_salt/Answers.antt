@@ -1,4 +1,4 @@
-use Rattle.std.proofs.Common.{◌≡◌, ◌≤◌, ◌∙◌, ℕ, List, All, Contains, length, subst, sym, ap, arith}
+use Rattle.std.proofs.Common.{ℕ, List, subst, sym}
 use Rattle.crypt_core.specs.MadeSettings.{IsMakeRefused, TakesSalt}
 use Rattle.crypt_core.specs.Schemes.{method_of}
 use Rattle.crypt_core.specs.Settings.{IsSetting}

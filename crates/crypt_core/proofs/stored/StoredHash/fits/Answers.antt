@@ -2,7 +2,7 @@ use Rattle.std.proofs.Common.{◌≡◌, ◌∙◌, sym, ap, IsTrue}
 use Rattle.std.proofs.lemmas.Slice.Eq.{bytes_eq-Decides}
 use Rattle.crypt_core.specs.Crypt.{crypt}
 use Rattle.crypt_core.specs.Fits.{Fits}
-use Rattle.crypt_core.specs.Settings.{SettingValue, Spells}
+use Rattle.crypt_core.specs.Settings.{SettingValue}
 use Rattle.crypt_core.proofs.Readings.{setting_unique}
 use Rattle.crypt_core.proofs.stored.StoredHash.fits.Goals as goal
 
