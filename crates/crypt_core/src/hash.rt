@@ -21,7 +21,6 @@ use crate::shacrypt::shacrypt;
 use arrayvec::ArrayVec;
 use kdf_core::params::Params;
 use kdf_core::scrypt::scrypt;
-use prims_core::buffer::buffer_of;
 use prims_core::counted::{CountedSha256, CountedSha512};
 use prims_core::meter::Meter;
 use std::alloc::{AllocError, Global};
@@ -136,7 +135,9 @@ fn digest_of(
 {
     let salt = setting.salt();
     match setting.scheme() {
-        Scheme::Md5crypt => Ok(buffer_of(&md5crypt(password, salt, meter))),
+        Scheme::Md5crypt => Ok(ArrayVec::try_from(md5crypt(
+            password, salt, meter,
+        ).as_slice()).unwrap()),
         Scheme::Sha256crypt(rounds) => Ok(shacrypt::<CountedSha256>(
             password,
             salt,
@@ -171,7 +172,7 @@ fn scrypt_digest(
 {
     let mut digest = [0; 32];
     scrypt(alloc, password, salt, params, &mut digest, meter)?;
-    Ok(buffer_of(&digest))
+    Ok(ArrayVec::try_from(digest.as_slice()).unwrap())
 }
 
 // The text of a digest by the setting.
@@ -181,7 +182,7 @@ fn hash_text(setting: &Setting, digest: &[u8]) -> Hashed
         ≡ canonical_text setting.now ++ dollar ∷ packed (method_of setting.now.scheme) digest.now }
     ensures spells { Spells result setting.now }
 {
-    let packed = pack(setting.method(), digest);
+    let packed = pack(setting.scheme().method(), digest);
     let mut text = setting.text();
     text.push(b'$');
     text.try_extend_from_slice(packed.as_slice()).unwrap();

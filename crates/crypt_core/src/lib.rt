@@ -10,7 +10,6 @@ mod messages;
 pub mod method;
 pub mod pack;
 pub mod password;
-mod round;
 pub mod scheme;
 pub mod setting;
 pub mod shacrypt;

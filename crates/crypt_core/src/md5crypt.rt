@@ -12,10 +12,9 @@ ghost use Rattle.crypt_core.specs.RoundMessage.{alternate_message};
 ghost use Rattle.crypt_core.specs.Private.Counting.{with_digest};
 ghost use Rattle.crypt_core.specs.Work.{md5crypt_bytes, work_limit};
 
-use crate::messages::{alternate_digest, feed_cycle, feed_digits};
+use crate::messages::{RoundStrings, alternate_digest, feed_cycle, feed_digits, round};
 use crate::method::Method;
 use crate::password::Password;
-use crate::round::{RoundStrings, round};
 use arrayvec::ArrayVec;
 use prims_core::counted::{Counted, CountedMd5};
 use prims_core::meter::Meter;

@@ -150,7 +150,7 @@ impl Method {
         ensures { result ≡ (bytes_eq word.now (method_row self).name || bytes_eq word.now (method_row self).alias) }
     {
         let row = self.row();
-        is_word(word, row.name) || is_word(word, row.alias)
+        word == row.name || word == row.alias
     }
 
     /// What a text of the method begins with.
@@ -166,12 +166,6 @@ impl Method {
     {
         self.row().salt_limit
     }
-}
-
-fn is_word(word: &[u8], name: &[u8]) -> bool
-    ensures { result ≡ bytes_eq word.now name.now }
-{
-    word == name
 }
 
 #[cfg(test)]

@@ -10,7 +10,6 @@ pub use crate::method::{SCRYPT_PACKED_LEN, SHA512CRYPT_PACKED_LEN};
 use crate::setting::TEXT_CAPACITY;
 use arrayvec::ArrayVec;
 use prims_core::alphabet::put_group;
-use prims_core::buffer::buffer_of;
 
 /// The places in the digest that each group takes, the first one highest in the group's number.
 const MD5CRYPT_GROUPS: [&[usize]; 6] = [
@@ -84,7 +83,7 @@ pub fn pack(method: Method, digest: &[u8]) -> ArrayVec<u8, SHA512CRYPT_PACKED_LE
 {
     let mut text = ArrayVec::new();
     put_groups(&mut text, digest, groups(method));
-    buffer_of(text.as_slice())
+    ArrayVec::try_from(text.as_slice()).unwrap()
 }
 
 /// How many characters the text of the method's digest has.

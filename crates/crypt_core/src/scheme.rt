@@ -1,12 +1,14 @@
 //! Schemes: a method with its cost, and no salt. What depends on these two alone is asked of a scheme: the work of a
 //! hash ([`Scheme::bound`], [`Scheme::cost`]), and whether a newer scheme replaces it.
 
-ghost use Rattle.std.specs.Prelude.{◌≡◌, IsTrue, true, false};
+ghost use Rattle.std.specs.Prelude.{◌≡◌, ◌≤◌, ◌↔◌, IsOk, IfOk, IfErr, IsTrue, true, false};
+ghost use Rattle.crypt_core.specs.MadeSettings.{TakesCost, cost_at, made_rounds, made_scheme, max_cost, min_cost};
 ghost use Rattle.crypt_core.specs.Replacements.{is_replaced_by};
 ghost use Rattle.crypt_core.specs.Rounds.{IsRounds, default_rounds, clamped};
 ghost use Rattle.crypt_core.specs.Schemes.{IsScheme, method_of};
 
 use crate::method::Method;
+use crate::setting::MakeFault;
 use kdf_core::params::Params;
 use std::marker::Model;
 
@@ -18,6 +20,24 @@ pub const MIN_ROUNDS: u64 = 1000;
 
 /// The rounds of SHA-crypt where the setting has no `rounds=` field.
 pub const DEFAULT_ROUNDS: u32 = 5000;
+
+/// The least cost of scrypt that a setting is made of, but for 0.
+const MIN_COST: u32 = 6;
+
+/// The greatest.
+const MAX_COST: u32 = 11;
+
+/// The cost of scrypt that 0 stands for.
+const DEFAULT_COST: u32 = 7;
+
+/// What log2 N is above the cost.
+const LOG_ABOVE_COST: u32 = 7;
+
+/// The block size r of every made setting of scrypt.
+const BLOCK_SIZE: u32 = 32;
+
+/// The number p of parts of every made setting of scrypt.
+const PARTS: u32 = 1;
 
 /// The rounds of SHA-crypt, from 1000 to 999999999: those of a `rounds=` field, or 5000 without one.
 #[derive(Clone, Copy, Debug, PartialEq, Eq)]
@@ -59,6 +79,16 @@ impl Rounds {
         }
     }
 
+    // The rounds that a cost makes: 0 makes those without a field.
+    fn made(cost: u32) -> Rounds
+        ensures { result ≡ made_rounds cost }
+    {
+        if cost == 0 {
+            return Rounds::unwritten();
+        }
+        Rounds::written(u64::from(cost))
+    }
+
     /// Returns how many rounds they are.
     pub fn count(&self) -> u32
         ensures count { result ≡ self.now.count }
@@ -90,6 +120,30 @@ pub enum Scheme {
 }
 
 impl Scheme {
+    /// Makes the scheme of a method with a cost.
+    ///
+    /// Cost 0 is the method's default. SHA-crypt takes any other as a number of rounds, clamped to 1000 to 999999999,
+    /// with a `rounds=` field. scrypt takes a cost `c` from 6 to 11, for `N = 2^(c + 7)`, r = 32 and p = 1. md5crypt
+    /// ignores it.
+    ///
+    /// # Errors
+    ///
+    /// - `Cost`: the method is scrypt, and the cost neither 0 nor from 6 to 11.
+    pub fn made(method: Method, cost: u32) -> Result<Scheme, MakeFault>
+        ensures made { IfOk result (λ scheme. scheme ≡ made_scheme method cost) }
+        ensures accepted { IsOk result ↔ TakesCost method cost }
+        ensures refused { IfErr result (λ fault. fault ≡ MakeFault.Cost) }
+    {
+        match (method, cost) {
+            (Method::Md5crypt, _) => Ok(Scheme::Md5crypt),
+            (Method::Sha256crypt, _) => Ok(Scheme::Sha256crypt(Rounds::made(cost))),
+            (Method::Sha512crypt, _) => Ok(Scheme::Sha512crypt(Rounds::made(cost))),
+            (Method::Scrypt, 0) => Ok(Scheme::Scrypt(params_of(DEFAULT_COST))),
+            (Method::Scrypt, MIN_COST..=MAX_COST) => Ok(Scheme::Scrypt(params_of(cost))),
+            (Method::Scrypt, _) => Err(MakeFault::Cost),
+        }
+    }
+
     /// Returns the method of the scheme.
     pub fn method(&self) -> Method
         ensures { result ≡ method_of self.now }
@@ -134,3 +188,12 @@ impl Scheme {
 
 #[cfg(test)]
 mod tests;
+
+// N, r and p of a cost of scrypt.
+fn params_of(cost: u32) -> Params
+    requires from { min_cost ≤ cost }
+    requires to { cost ≤ max_cost }
+    ensures { result ≡ cost_at cost }
+{
+    Params::new((cost + LOG_ABOVE_COST) as u8, BLOCK_SIZE, PARTS).unwrap()
+}

@@ -13,9 +13,10 @@ ghost use Rattle.crypt_core.specs.ShaCrypt.{sha_opening_byte, sha_opening_digest
 ghost use Rattle.crypt_core.specs.Private.Counting.{with_digest};
 ghost use Rattle.crypt_core.specs.Work.{shacrypt_bytes, work_limit};
 
-use crate::messages::{alternate_digest, cycle_of, feed_cycle, feed_digits, feed_repeated};
+use crate::messages::{
+    RoundStrings, alternate_digest, cycle_of, feed_cycle, feed_digits, feed_repeated, round,
+};
 use crate::password::{PASSWORD_LIMIT, Password};
-use crate::round::{RoundStrings, round};
 use arrayvec::ArrayVec;
 use prims_core::counted::Counted;
 use prims_core::meter::Meter;

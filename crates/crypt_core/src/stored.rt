@@ -118,23 +118,15 @@ impl<'a> StoredField<'a> {
         ensures reading { IsFieldReading field.now result }
         ensures one_reading { IsReadOneWay field.now }
     {
-        if field.is_empty() {
-            return Ok(StoredField::Empty);
-        }
-        if is_locked(field) {
-            return Ok(StoredField::Locked);
-        }
-        match StoredHash::read(field) {
-            Ok(stored) => Ok(StoredField::Hash(stored)),
-            Err(fault) => Err(fault),
+        match field {
+            [] => Ok(StoredField::Empty),
+            [b'!' | b'*', ..] => Ok(StoredField::Locked),
+            _ => match StoredHash::read(field) {
+                Ok(stored) => Ok(StoredField::Hash(stored)),
+                Err(fault) => Err(fault),
+            },
         }
     }
-}
-
-fn is_locked(field: &[u8]) -> bool
-    ensures { IsTrue result ↔ IsLocked field.now }
-{
-    field.starts_with(b"!") || field.starts_with(b"*")
 }
 
 #[cfg(test)]

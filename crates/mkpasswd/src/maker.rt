@@ -15,7 +15,6 @@ use crypt_core::made_salt::{draw, made_salt_length};
 use crypt_core::method::{Method, SCRYPT_SALT_LIMIT};
 use crypt_core::scheme::Scheme;
 use crypt_core::setting::{MakeFault, Setting};
-use prims_core::buffer::buffer_of;
 use rand_core::Rng;
 use std::marker::Model;
 
@@ -57,7 +56,7 @@ impl Maker {
             Some(salt) => match Setting::make(method, cost, salt) {
                 Ok(setting) => Ok(Maker {
                     scheme: setting.scheme(),
-                    salt: Some(buffer_of(salt)),
+                    salt: Some(ArrayVec::try_from(salt).unwrap()),
                 }),
                 Err(fault) => Err(fault),
             },

@@ -3,7 +3,6 @@
 #![tactic(auto)]
 
 pub mod alphabet;
-pub mod buffer;
 pub mod counted;
 mod diagonals;
 #[cfg(test)]

@@ -21,7 +21,6 @@ use crate::scheme::{MAX_ROUNDS, Rounds, Scheme};
 use arrayvec::ArrayVec;
 use kdf_core::params::{ParamFault, Params};
 use prims_core::alphabet::{read_30, value_of};
-use prims_core::buffer::buffer_of;
 
 impl Setting {
     /// Reads what a text asks for, or answers the first fault, in the order of `SettingFault`.
@@ -206,12 +205,12 @@ fn salt_at(method: Method, after: &[u8]) -> Option<ArrayVec<u8, SCRYPT_SALT_LIMI
 {
     let field = field_at(after);
     if method != Method::Scrypt {
-        return Some(buffer_of(&field[..field.len().min(method.salt_limit())]));
+        return Some(ArrayVec::try_from(&field[..field.len().min(method.salt_limit())]).unwrap());
     }
     if !is_scrypt_salt(field) {
         return None;
     }
-    Some(buffer_of(field))
+    Some(ArrayVec::try_from(field).unwrap())
 }
 
 // The salt field: all before the first `$`.

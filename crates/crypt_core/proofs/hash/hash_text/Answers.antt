@@ -10,5 +10,5 @@ returns-clause-spells c =
     let kept = c.args.setting.now in
     let text_is : c.try_extend_from_slice.new.self.items ≡ canonical_text kept ++ dollar ∷ packed (method_of kept.scheme) c.args.digest.now =
     (rw c.unwrap.ensures at c.try_extend_from_slice.ensures.ok)
-    ∙ rw (c.as_slice.ensures.value, c.pack-packed.ensures.text, c.push.ensures.items, c.text-text.ensures.canonical, c.method.ensures) (append_assoc (canonical_text kept) (dollar ∷ []) (packed (method_of kept.scheme) c.args.digest.now)) in
+    ∙ rw (c.as_slice.ensures.value, c.pack-packed.ensures.text, c.push.ensures.items, c.text-text.ensures.canonical, c.method.ensures, c.scheme.ensures) (append_assoc (canonical_text kept) (dollar ∷ []) (packed (method_of kept.scheme) c.args.digest.now)) in
     subst (λ (t : List ℕ). Spells t kept) (sym text_is) (hashed_spells kept c.args.digest.now c.text-text.ensures.spelled)

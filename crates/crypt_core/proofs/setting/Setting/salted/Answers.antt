@@ -1,4 +1,4 @@
-use Rattle.std.proofs.Common.{◌≡◌, ◌≤◌, ◌∙◌, All, Contains, length, subst, ap, arith}
+use Rattle.std.proofs.Common.{◌≡◌, ◌≤◌, ◌∙◌, All, Contains, length, subst, ap, arith, rules}
 use Rattle.prims_core.specs.Alphabet.{alphabet}
 use Rattle.crypt_core.specs.MadeSalts.{made_salt_length}
 use Rattle.crypt_core.specs.Methods.{salt_limit}
@@ -10,10 +10,11 @@ use Rattle.crypt_core.proofs.setting.Setting.salted.Goals as goal
 
 pub invariant_of-result : goal.invariant_of-result
 invariant_of-result c =
-    let is : c.buffer_of.result.items ≡ c.salt_of-salt.result.items = c.buffer_of.ensures ∙ c.as_slice.ensures.value in
+    let copied : c.unwrap.result.items ≡ c.as_slice.result.now = search rules in
+    let is : c.unwrap.result.items ≡ c.salt_of-salt.result.items = copied ∙ c.as_slice.ensures.value in
     let len : length c.salt_of-salt.result.items ≡ made_salt_length c.method.result = c.salt_of-salt.ensures.length ∙ c.made_salt_length.ensures.length in
-    let few : length c.buffer_of.result.items ≤ salt_limit c.method.result = omega (arith, ap length is, len, made_short c.method.result) in
-    let short : length c.buffer_of.result.items ≤ salt_limit (method_of c.args.scheme) =
-    subst (λ (m : Method). length c.buffer_of.result.items ≤ salt_limit m) c.method.ensures few in
-    let characters : All (Contains alphabet) c.buffer_of.result.items = rw is c.salt_of-salt.ensures.characters in
-    spelled c.args.scheme c.buffer_of.result.items c.is_in_range.ensures.in_range short characters
+    let few : length c.unwrap.result.items ≤ salt_limit c.method.result = omega (arith, ap length is, len, made_short c.method.result) in
+    let short : length c.unwrap.result.items ≤ salt_limit (method_of c.args.scheme) =
+    subst (λ (m : Method). length c.unwrap.result.items ≤ salt_limit m) c.method.ensures few in
+    let characters : All (Contains alphabet) c.unwrap.result.items = rw is c.salt_of-salt.ensures.characters in
+    spelled c.args.scheme c.unwrap.result.items c.is_in_range.ensures.in_range short characters

@@ -1,4 +1,4 @@
-use Rattle.std.proofs.Common.{ℕ, List, subst, sym}
+use Rattle.std.proofs.Common.{◌≡◌, ℕ, List, subst, sym, rules}
 use Rattle.crypt_core.specs.MadeSettings.{IsMakeRefused, TakesSalt}
 use Rattle.crypt_core.specs.Schemes.{method_of}
 use Rattle.crypt_core.specs.Settings.{IsSetting}
@@ -9,7 +9,8 @@ use Rattle.crypt_core.proofs.setting.Setting.with_salt.Goals as goal
 pub invariant_of-result : goal.invariant_of-result
 invariant_of-result c =
     let takes : TakesSalt (method_of c.args.scheme) c.args.salt.now = subst (λ (m : Method). TakesSalt m c.args.salt.now) c.method.ensures c.in-Ok.ensures.ok in
-    subst (λ (xs : List ℕ). IsSetting (record { scheme = c.args.scheme; salt = xs })) (sym c.buffer_of.ensures)
+    let copied : c.unwrap.result.items ≡ c.args.salt.now = search rules in
+    subst (λ (xs : List ℕ). IsSetting (record { scheme = c.args.scheme; salt = xs })) (sym copied)
     (spelled c.args.scheme c.args.salt.now c.is_in_range.ensures.in_range takes.short takes.characters)
 
 pub returns-in-Err-clause-refused : goal.returns-in-Err-clause-refused

@@ -1,4 +1,4 @@
-use Rattle.std.proofs.Common.{◌≡◌, ℕ, List, ap, refl, subst, sym, ◌∙◌}
+use Rattle.std.proofs.Common.{◌≡◌, ℕ, List, ap, refl, subst, sym, ◌∙◌, rules}
 use Rattle.crypt_core.specs.MadeSettings.{TakesSalt, made_scheme}
 use Rattle.crypt_core.specs.Schemes.{method_of}
 use Rattle.crypt_core.specs.Settings.{SettingValue}
@@ -18,5 +18,6 @@ invariant_of-result c =
     let taken : TakesSalt c.args.method c.in-Some.salt.now = (c.in-Ok.ensures.accepted.0 refl).takes_salt in
     let scheme_is : c.scheme.result ≡ made_scheme c.args.method c.args.cost = c.scheme.ensures ∙ ap (λ (s : SettingValue). s.scheme) c.in-Ok.ensures.made in
     let method_is : method_of c.scheme.result ≡ c.args.method = ap (λ (s : Scheme). method_of s) scheme_is ∙ made_method c.args.method c.args.cost in
-    subst (λ (m : Method). TakesSalt m c.buffer_of.result.items) (sym method_is)
-    (subst (λ (xs : List ℕ). TakesSalt c.args.method xs) (sym c.buffer_of.ensures) taken)
+    let copied : c.unwrap.result.items ≡ c.in-Some.salt.now = search rules in
+    subst (λ (m : Method). TakesSalt m c.unwrap.result.items) (sym method_is)
+    (subst (λ (xs : List ℕ). TakesSalt c.args.method xs) (sym copied) taken)

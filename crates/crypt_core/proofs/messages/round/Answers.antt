@@ -3,7 +3,7 @@ use Rattle.std.proofs.lemmas.List.{length-append}
 use Rattle.crypt_core.specs.RoundMessage.{round_message}
 use Rattle.crypt_core.specs.Private.RoundStrings.{Strings}
 use Rattle.crypt_core.proofs.MessageLists.{length-round_message, round_length-small}
-use Rattle.crypt_core.proofs.round.round.Goals as goal
+use Rattle.crypt_core.proofs.messages.round.Goals as goal
 
 -- two pieces of a round's message have no more bytes than all that it may be made of
 pieces-small : (i : ℕ) (x : List ℕ) (strings : Strings) (first second : List ℕ)

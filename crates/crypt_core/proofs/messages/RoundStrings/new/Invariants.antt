@@ -1,5 +1,5 @@
 use Rattle.std.proofs.Common.{◌≡◌, flat_map, take}
-use Rattle.crypt_core.proofs.round.RoundStrings.new.Given as goal
+use Rattle.crypt_core.proofs.messages.RoundStrings.new.Given as goal
 
 -- the pieces so far
 abbrev pub invariant-loop-piece : goal.invariant-loop-piece
