@@ -157,7 +157,7 @@ return {
             'a hash that is not counted behind one that is',
             $exports => ["    verdict_number(answer)\n", "    let mut meter = Meter::new();\n    verdict_number(compare(alloc, password, stored, &mut meter))\n"],
         ],
-        ['counts that are not handed out', $exports => ["    *work = counts_of(&meter);\n    verdict_number(answer)", '    verdict_number(answer)']],
+        ['counts that are not handed out', $exports => ["    *work = meter.work_since(&before);\n    verdict_number(answer)", '    verdict_number(answer)']],
         ['a call for C that hashes and has no work', $exports => ['    verdict_number(is_replaced(stored, new))', "    let mut meter = Meter::new();\n    verdict_number(is_replaced(stored, new))"]],
         ['a call for C under another name', $exports => '#[unsafe(no_mangle)] pub extern "C" fn other() {}'],
         ['a call for C in a library', $hash => '#[unsafe(no_mangle)] pub extern "C" fn mkpasswd_other() {}'],

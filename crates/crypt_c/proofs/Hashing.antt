@@ -1,5 +1,6 @@
 -- The hash that is put into the caller's bytes.
-use Rattle.std.proofs.Common.{◌≡◌, ◌<◌, ℕ, List, length, IfOk, IfErr, Result, Ok, Err}
+use Rattle.std.proofs.Common.{◌≡◌, ◌<◌, ℕ, List, length, IfOk, IfErr, Result, Ok, Err, rules}
+use Rattle.prims_core.specs.Work.{no_work, raised_by}
 use Rattle.prims_core.specs.declared.meter.Work.{Work}
 use Rattle.crypt_core.specs.Crypt.{crypt}
 use Rattle.crypt_core.specs.Passwords.{IsPassword}
@@ -18,3 +19,7 @@ pub hashes : (password setting text old new : List ℕ) (kept : SettingValue) (d
 hashes password setting text old new kept done (Ok count) is spells text_is room done_is put few =
     (is, (kept, spells, rw text_is at put.0, rw text_is at put.1, done_is))
 hashes password setting text old new kept done (Err refusal) is spells text_is room done_is put few = absurd (few.1 room)
+
+-- the work since a meter that had counted nothing is all that it has counted
+pub all_work : (before counts told : Work) → before ≡ no_work → ((more : Work) → counts ≡ raised_by before more → told ≡ more) → told ≡ counts
+all_work before counts told none raised = raised counts (rw none (search rules))

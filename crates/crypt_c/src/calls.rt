@@ -1,14 +1,14 @@
 //! What the calls do, with refusals that are not yet numbers.
-ghost use Rattle.std.specs.Prelude.{◌≡◌, ◌<◌, ◌≤◌, ◌^◌, IfOk, IfErr};
+ghost use Rattle.std.specs.Prelude.{◌≡◌, ◌<◌, ◌≤◌, ◌^◌, length, IfOk, IfErr};
 ghost use Rattle.prims_core.specs.Work.{no_work};
 ghost use Rattle.crypt_core.specs.Work.{cost, work_bound};
 ghost use Rattle.crypt_core.specs.Passwords.{IsPassword, password_limit};
 ghost use Rattle.crypt_core.specs.Readings.{IsReadOneWay};
 ghost use Rattle.crypt_core.specs.Settings.{SettingValue, Spells};
-ghost use Rattle.crypt_c.specs.Calls.{Compares, Explains, Hashes, Makes, Replaces, Reports};
+ghost use Rattle.crypt_c.specs.Calls.{Compares, Explains, HasRoomFor, Hashes, IsPut, Makes, Replaces, Reports};
+ghost use Rattle.crypt_c.specs.declared.refusal.Refusal.TheVariants.{TooFewBytes};
 ghost use Rattle.crypt_c.specs.Private.Steps.{IsUntold, IsSmall};
 
-use crate::put::put;
 use crate::refusal::Refusal;
 use crypt_core::fits::fits;
 use crypt_core::hash::{hash, hash_len};
@@ -17,8 +17,7 @@ use crypt_core::password::{PASSWORD_LIMIT, Password, PasswordFault};
 use crypt_core::scheme::Scheme;
 use crypt_core::setting::Setting;
 use crypt_core::work::{bound, cost};
-use prims_core::meter::Meter;
-use prims_core::meter::Work;
+use prims_core::meter::{Meter, Work};
 use std::alloc::Global;
 
 /// Whether a password fits a stored text.
@@ -139,4 +138,17 @@ pub(crate) fn put_refusal(number: i32, out: &mut [u8]) -> Result<usize, Refusal>
         Some(refusal) => put(out, refusal.text().as_bytes()),
         None => Err(Refusal::UnknownNumber),
     }
+}
+
+// Writes a text and a byte 0 to the front of the bytes, and returns the text's length. Too few bytes are unchanged.
+fn put(out: &mut [u8], text: &[u8]) -> Result<usize, Refusal>
+    ensures put { IfOk result (λ count. (count ≡ length text.now) × IsPut text.now out.old out.new) }
+    ensures few { IfErr result (λ refusal. (refusal ≡ TooFewBytes) × (¬ HasRoomFor text.now out.old) × (out.new ≡ out.old)) }
+{
+    if text.len() >= out.len() {
+        return Err(Refusal::TooFewBytes);
+    }
+    out[..text.len()].copy_from_slice(text);
+    out[text.len()] = 0;
+    Ok(text.len())
 }

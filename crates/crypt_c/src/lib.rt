@@ -14,13 +14,11 @@ ghost use Rattle.crypt_c.specs.Private.Steps.{IsSmall};
 ghost use Rattle.crypt_c.specs.declared.refusal.Refusal.{Refusal as Refused};
 
 mod calls;
-mod put;
 mod refusal;
 
 use calls::{compare, is_replaced, put_hash, put_refusal, put_setting, tell_bound, tell_cost};
 use crypt_core::version::VERSION_NUMBER;
-use prims_core::meter::Meter;
-use prims_core::meter::Work;
+use prims_core::meter::{Meter, Work};
 use refusal::Refusal;
 use std::alloc::Global;
 
@@ -40,8 +38,9 @@ pub extern "C" fn mkpasswd_fits(
     ensures each { (done : Done) → TellsOrLacks verdict_told (Compares password.now stored.now done) result }
 {
     let mut meter = Meter::new();
+    let before = meter.reading();
     let answer = compare(alloc, password, stored, &mut meter);
-    *work = counts_of(&meter);
+    *work = meter.work_since(&before);
     verdict_number(answer)
 }
 
@@ -64,8 +63,9 @@ pub extern "C" fn mkpasswd_hash(
         → TellsOrLacks length_told (Hashes password.now setting.now out.old new done) result }
 {
     let mut meter = Meter::new();
+    let before = meter.reading();
     let answer = put_hash(alloc, password, setting, out, &mut meter);
-    *work = counts_of(&meter);
+    *work = meter.work_since(&before);
     length_number(answer)
 }
 
@@ -169,20 +169,6 @@ fn length_number(answer: Result<usize, Refusal>) -> i32
     match answer {
         Ok(count) => count as i32,
         Err(refused) => refused.number(),
-    }
-}
-
-// The counts of a meter that one call has raised.
-fn counts_of(meter: &Meter) -> Work
-    requires { IsSmall meter.now }
-    ensures { result ≡ meter.now }
-{
-    Work {
-        digests: meter.digests() as u64,
-        bytes: meter.bytes() as u64,
-        mixes: meter.mixes() as u64,
-        table: meter.table() as u64,
-        scratch: meter.scratch() as u64,
     }
 }
 
