@@ -8,7 +8,7 @@ use Rattle.mkpasswd.specs.Output.{Takes}
 use Rattle.mkpasswd.specs.Private.LineProgress.{AnswersOne, AreGiven, HasRoomIn, IsAt, IsInterrupted, IsSameRun, LooksThrough, OutputState, Position, Represents, TakesTurns}
 use Rattle.mkpasswd.specs.Tallies.{both_tallies}
 use Rattle.mkpasswd.specs.Texts.{HasNoLineFeed, line_feed}
-use Rattle.mkpasswd.specs.declared.lines.run.LineRun.{LineRun}
+use Rattle.mkpasswd.specs.declared.lines.LineRun.{LineRun}
 use Rattle.mkpasswd.specs.declared.fault.RunFault.{RunFault}
 use Rattle.mkpasswd.specs.declared.fault.RunFault.TheVariants.{Read, Write, OutOfMemory, Turns, Password}
 use Rattle.mkpasswd.specs.declared.job.Job.{Job}

@@ -28,7 +28,7 @@ new_device inner = record { inner = inner; failures = 0; calls = 0; bytes = 0; i
 
 -- 1 where it was seen, else 0
 abbrev pub as_count : Bool → ℕ
-as_count state_of = if state_of then 1 else 0
+as_count seen = if seen then 1 else 0
 
 -- a `give` fails where its call did, or where it took nothing of a piece that isn't empty
 abbrev pub is_failed_give : {E : Type 0} → Result ℕ E → List ℕ → Bool

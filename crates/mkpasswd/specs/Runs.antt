@@ -43,10 +43,10 @@ module _ {I O E : Type 0} where
 
   -- the calls that move bytes, and the bytes that they moved
   abbrev pub calls_of : RunState I O E → ℕ
-  calls_of run_state = run_state.input.calls + run_state.out.calls + run_state.faults.calls
+  calls_of state = state.input.calls + state.out.calls + state.faults.calls
 
   abbrev pub moved_of : RunState I O E → ℕ
-  moved_of run_state = run_state.input.bytes + run_state.out.bytes + run_state.faults.bytes
+  moved_of state = state.input.bytes + state.out.bytes + state.faults.bytes
 
   -- at most `turns` such calls were made, and at most two more than bytes were moved. Each moved a byte or
   -- failed, but for one of the input, which a run needs to find the end

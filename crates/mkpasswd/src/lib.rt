@@ -9,7 +9,6 @@ pub mod fault;
 pub mod job;
 pub mod line;
 pub mod lines;
-pub mod maker;
 pub mod methods;
 pub mod one;
 pub mod options;

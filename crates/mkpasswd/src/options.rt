@@ -11,9 +11,8 @@ ghost use Rattle.mkpasswd.specs.Options.{command, flag_rule, given_salt, hash_ru
 ghost use Rattle.mkpasswd.specs.Private.Options.{mode_of, values_of};
 
 use crate::fault::UsageFault;
-use crate::job::{Job, PasswordFrom, Plan};
+use crate::job::{Job, Maker, PasswordFrom, Plan};
 use crate::line::Kind;
-use crate::maker::Maker;
 use clap::error::ErrorKind;
 use clap::{Arg, ArgAction, ArgMatches, Command, value_parser};
 use crypt_core::method::Method;

@@ -78,12 +78,12 @@ Settles job password field stream before after new_stream result =
     × Makes hashings left before after new_stream result
 
 -- a line's answer is the decision, without its hashes
-pub record IsDecided (made : Decision) (answer : LineAnswer) : Type 0 where
+pub record IsDecisionOf (made : Decision) (answer : LineAnswer) : Type 0 where
   pub name : made.name ≡ answer.name.now
   pub outcome : made.outcome ≡ answer.outcome
 
 abbrev pub IsDecidedBy : Decision → Result LineAnswer HashFault → Type 0
-IsDecidedBy made (Ok answer) = IsDecided made answer
+IsDecidedBy made (Ok answer) = IsDecisionOf made answer
 IsDecidedBy made (Err fault) = Unit {0}
 
 -- a line is decided

@@ -20,7 +20,7 @@ use Rattle.mkpasswd.specs.declared.job.Job.{Job}
 use Rattle.mkpasswd.specs.declared.line.Kind.{Kind}
 use Rattle.mkpasswd.specs.declared.lines.buffer.LineBuffer.{LineBuffer}
 use Rattle.mkpasswd.specs.declared.lines.buffer.LineBuffer.TheVariants.{Bytes, TooLong}
-use Rattle.mkpasswd.specs.declared.lines.run.LineRun.{LineRun}
+use Rattle.mkpasswd.specs.declared.lines.LineRun.{LineRun}
 use Rattle.mkpasswd.specs.declared.tally.Tally.{Tally}
 
 -- ---- a run

@@ -5,7 +5,7 @@ use Rattle.crypt_core.specs.Settings.{SettingValue}
 use Rattle.crypt_core.specs.declared.method.Method.{Method}
 use Rattle.crypt_core.specs.declared.method.Method.TheVariants.{Md5crypt, Sha256crypt, Sha512crypt, Scrypt}
 use Rattle.crypt_core.specs.declared.scheme.Scheme.{Scheme}
-use Rattle.mkpasswd.proofs.maker.Maker.new.Goals as goal
+use Rattle.mkpasswd.proofs.job.Maker.new.Goals as goal
 
 made_method : (method : Method) (cost : ℕ) → method_of (made_scheme method cost) ≡ method
 made_method Md5crypt cost = refl

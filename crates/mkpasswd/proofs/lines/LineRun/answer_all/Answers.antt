@@ -4,7 +4,7 @@ use Rattle.mkpasswd.specs.Private.LineProgress.{position_of, state_of, with_inpu
 use Rattle.mkpasswd.specs.Runs.{device_bytes}
 use Rattle.mkpasswd.proofs.LineCalls.{turns-flushed, turns-last, within-turns}
 use Rattle.mkpasswd.proofs.LineEnding as ending
-use Rattle.mkpasswd.proofs.lines.run.LineRun.answer_all.Goals as goal
+use Rattle.mkpasswd.proofs.lines.LineRun.answer_all.Goals as goal
 
 pub returns-in_err-end-clause-ends : goal.returns-in_err-end-clause-ends
 returns-in_err-end-clause-ends g c =

@@ -1,7 +1,7 @@
 use Rattle.std.proofs.Common.{◌≡◌, ap, sym, ◌∙◌, rules}
 use Rattle.mkpasswd.specs.Makers.{made_cost_by}
 use Rattle.mkpasswd.proofs.Drawing.{made_cost}
-use Rattle.mkpasswd.proofs.maker.Maker.cost.Goals as goal
+use Rattle.mkpasswd.proofs.job.Maker.cost.Goals as goal
 
 pub returns-clause-number : goal.returns-clause-number
 returns-clause-number c = search rules

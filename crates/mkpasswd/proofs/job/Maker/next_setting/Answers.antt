@@ -1,8 +1,8 @@
 use Rattle.std.proofs.Common.{ap}
 use Rattle.mkpasswd.proofs.Drawing.{IsDrawn, is_drawn, is_not_drawn}
-use Rattle.mkpasswd.proofs.maker.Maker.next_setting.Given.{Over}
-use Rattle.mkpasswd.proofs.maker.Maker.next_setting.Goals as goal
-use Rattle.mkpasswd.proofs.maker.Maker.next_setting.Goals.{then-draws, else-draws}
+use Rattle.mkpasswd.proofs.job.Maker.next_setting.Given.{Over}
+use Rattle.mkpasswd.proofs.job.Maker.next_setting.Goals as goal
+use Rattle.mkpasswd.proofs.job.Maker.next_setting.Goals.{then-draws, else-draws}
 
 drawn : (g : Over) (c : goal.After-setting g)
     → IsDrawn c.args.self.now (g.R.Rng.stream c.args.rng.now) (g.R.Rng.stream c.if-draws.rng) c.setting.result

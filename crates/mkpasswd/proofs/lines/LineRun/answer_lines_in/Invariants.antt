@@ -1,7 +1,7 @@
 use Rattle.std.proofs.Common.{length}
 use Rattle.mkpasswd.specs.Private.LineProgress.{IsSameRun, position_of, state_of}
 use Rattle.mkpasswd.proofs.LookingThrough.{IsLooking}
-use Rattle.mkpasswd.proofs.lines.run.LineRun.answer_lines_in.Given as goal
+use Rattle.mkpasswd.proofs.lines.LineRun.answer_lines_in.Given as goal
 
 abbrev pub invariant-lines : goal.invariant-lines
 invariant-lines g l =

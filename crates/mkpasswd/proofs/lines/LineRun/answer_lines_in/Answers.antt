@@ -4,7 +4,7 @@ use Rattle.std.proofs.lemmas.List.{length-drop, take_rest}
 use Rattle.mkpasswd.specs.Private.LineProgress.{position_of, state_of}
 use Rattle.mkpasswd.proofs.LinesOf.{HasNoLineFeed-position, cut-at_feed}
 use Rattle.mkpasswd.proofs.LookingThrough.{looking-cut, looking-end, looking-start, looking-step}
-use Rattle.mkpasswd.proofs.lines.run.LineRun.answer_lines_in.Goals as goal
+use Rattle.mkpasswd.proofs.lines.LineRun.answer_lines_in.Goals as goal
 
 pub lines-init : goal.lines-init
 lines-init g c = (

@@ -9,7 +9,7 @@ use Rattle.mkpasswd.specs.declared.answer.Outcome.TheVariants.{Refused}
 use Rattle.mkpasswd.specs.declared.fault.RunFault.{RunFault}
 use Rattle.mkpasswd.specs.declared.fault.RunFault.TheVariants.{Read, Write, OutOfMemory, Turns, Password}
 use Rattle.mkpasswd.proofs.Sending.{takes-nothing}
-use Rattle.mkpasswd.proofs.lines.run.give.Goals as goal
+use Rattle.mkpasswd.proofs.lines.give.Goals as goal
 
 -- a text for the fault output alone is sent, or a first part of it
 sends_fault : {O E : Type 0} (contents : O → Option (List ℕ)) (fault_contents : E → Option (List ℕ)) (answer : Answer) (text : List ℕ) (out : Device O) (faults new_faults : Device E)

@@ -2,7 +2,7 @@ use Rattle.std.proofs.Common.{◌+◌, if◌then◌else◌}
 use Rattle.mkpasswd.specs.Private.LineProgress.{IsSameRun, position_of, state_of, with_input}
 use Rattle.mkpasswd.specs.Runs.{device_bytes}
 use Rattle.mkpasswd.proofs.LineEnding.{IsFetched}
-use Rattle.mkpasswd.proofs.lines.run.LineRun.read_all.Given as goal
+use Rattle.mkpasswd.proofs.lines.LineRun.read_all.Given as goal
 
 abbrev pub invariant-fetches : goal.invariant-fetches
 invariant-fetches g l = IsFetched (device_bytes g.I.Read.remaining g.O.Write.contents g.E.Write.contents) l.fn.self.kind l.fn.self.job.now l.fn.self.turns_left

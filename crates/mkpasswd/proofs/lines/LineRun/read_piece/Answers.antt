@@ -3,7 +3,7 @@ use Rattle.std.proofs.lemmas.Result.{err_from_is_err_and}
 use Rattle.mkpasswd.specs.Private.LineProgress.{output_state_of, position_of, state_of, with_input}
 use Rattle.mkpasswd.specs.Runs.{device_bytes}
 use Rattle.mkpasswd.proofs.LineEnding as ending
-use Rattle.mkpasswd.proofs.lines.run.LineRun.read_piece.Goals as goal
+use Rattle.mkpasswd.proofs.lines.LineRun.read_piece.Goals as goal
 
 pub returns-in_err-count-clause-reads : goal.returns-in_err-count-clause-reads
 returns-in_err-count-clause-reads g c start turns bytes before moved =

@@ -11,7 +11,7 @@ use Rattle.mkpasswd.specs.Tallies.{both_tallies}
 use Rattle.mkpasswd.specs.declared.answer.Outcome.{Outcome}
 use Rattle.mkpasswd.proofs.Answering.{answers-sent, room-after}
 use Rattle.mkpasswd.proofs.Counting.{after_hashings, small_rise}
-use Rattle.mkpasswd.proofs.lines.run.LineRun.answer_buffered.Goals as goal
+use Rattle.mkpasswd.proofs.lines.LineRun.answer_buffered.Goals as goal
 
 -- the work that is rendered is that of the hashes
 rendered_work : (before after reading told : Work) (hashings : List Hashing) → after ≡ after_work before hashings → reading ≡ before

@@ -1,7 +1,7 @@
 use Rattle.std.proofs.Common.{refl}
 use Rattle.mkpasswd.specs.Private.LineProgress.{position_of, state_of}
 use Rattle.mkpasswd.proofs.LastLine.{last-answered, last-none}
-use Rattle.mkpasswd.proofs.lines.run.LineRun.end.Goals as goal
+use Rattle.mkpasswd.proofs.lines.LineRun.end.Goals as goal
 
 pub returns-then-is_empty-clause-answers : goal.returns-then-is_empty-clause-answers
 returns-then-is_empty-clause-answers g c start bytes at =

@@ -5,7 +5,7 @@ use Rattle.mkpasswd.specs.Runs.{device_bytes}
 use Rattle.mkpasswd.proofs.LineEnding as ending
 use Rattle.mkpasswd.proofs.LookingThrough.{for-same, same-trans}
 use Rattle.mkpasswd.proofs.Moving.{moves-none}
-use Rattle.mkpasswd.proofs.lines.run.LineRun.read_all.Goals as goal
+use Rattle.mkpasswd.proofs.lines.LineRun.read_all.Goals as goal
 
 pub fetches-init : goal.fetches-init
 fetches-init g c = (
