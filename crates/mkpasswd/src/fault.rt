@@ -260,6 +260,57 @@ impl From<RunFault> for Fault {
 #[cfg(test)]
 mod tests {
     use super::*;
+    use std::test::Fail;
+
+    #[test]
+    fn shows_usage_faults(rt: HostRuntime) -> Result<(), Fail> {
+        let rows = [
+            (UsageFault::Method, "unknown method"),
+            (UsageFault::TwoSalts, "two salts"),
+            (UsageFault::TwoModes, "two modes"),
+            (UsageFault::Make(MakeFault::SaltLength), "salt length"),
+            (UsageFault::Make(MakeFault::SaltCharacter), "salt character"),
+            (UsageFault::Make(MakeFault::Cost), "cost"),
+            (UsageFault::OutOfMemory, "out of memory"),
+        ];
+        for (fault, text) in rows {
+            let shown = format!(in rt.alloc(); "{fault}")?;
+            assert_eq!(rt; shown.as_str(), text);
+            assert_eq!(rt; fault.text(), text);
+        }
+        Ok(())
+    }
+
+    #[test]
+    fn shows_faults_of_runs(rt: HostRuntime) -> Result<(), Fail> {
+        let rows = [
+            (RunFault::Read, "read fault"),
+            (RunFault::Write, "write fault"),
+            (RunFault::OutOfMemory, "out of memory"),
+            (RunFault::Turns, "too many turns"),
+            (
+                RunFault::Password(PasswordFault::TooLong),
+                "password too long",
+            ),
+            (
+                RunFault::Password(PasswordFault::HasNul),
+                "password has a zero byte",
+            ),
+        ];
+        for (fault, text) in rows {
+            let shown = format!(in rt.alloc(); "{fault}")?;
+            assert_eq!(rt; shown.as_str(), text);
+            assert_eq!(rt; fault.text(), text);
+        }
+        Ok(())
+    }
+
+    #[test]
+    fn tells_faults_of_runs_apart(rt: HostRuntime) {
+        let too_long = RunFault::Password(PasswordFault::TooLong);
+        assert!(rt; RunFault::Read != RunFault::Write);
+        assert!(rt; too_long != RunFault::Password(PasswordFault::HasNul));
+    }
 
     #[test]
     fn tells_faults(rt: HostRuntime) {

@@ -35,6 +35,7 @@ mod tests {
     use crate::test_devices::MemoryWriter;
     use crate::test_devices::calls::Call::{Flush, Write};
     use crate::test_devices::calls::{Device, FAILURE, Step, bytes_taken, calls_of};
+    use crate::test_given::told;
     use std::alloc::Global;
     use std::process::Abort;
     use std::test::Fail;
@@ -68,9 +69,9 @@ mod tests {
         let writer = out.into_inner();
         let calls = calls_of(alloc, steps, whole, Device::Output)?;
         assert_eq!(rt;
-            (ended, writer.calls(), Some(writer.taken())),
+            (told(ended), writer.calls(), Some(writer.taken())),
             (
-                outcome,
+                told(outcome),
                 calls.as_slice(),
                 LIST.get(..bytes_taken(calls.as_slice()))
             ),

@@ -58,4 +58,16 @@ mod tests {
             );
         }
     }
+
+    #[test]
+    fn tells_tallies_apart(rt: HostRuntime) {
+        for (lines, refused, misfits) in [(1, 0, 0), (0, 1, 0), (0, 0, 1)] {
+            let tally = Tally {
+                lines,
+                refused,
+                misfits,
+            };
+            assert!(rt; tally != Tally::new(), "{tally:?}");
+        }
+    }
 }

@@ -83,11 +83,16 @@ impl<'a> Left<'a> {
         faults: &[u8],
     ) {
         assert_eq!(rt;
-            (self.outcome, self.out.taken(), self.faults.taken()),
-            (outcome, out, faults),
+            (told(self.outcome), self.out.taken(), self.faults.taken()),
+            (told(outcome), out, faults),
             "{what}"
         );
     }
+}
+
+/// An outcome, with the text of its fault, which no other fault has.
+pub fn told(outcome: Result<Tally, RunFault>) -> Result<Tally, &'static str> {
+    outcome.map_err(|fault| fault.text())
 }
 
 /// The five counts of a meter.

@@ -135,7 +135,7 @@ const COUNTS: [u128; 5] = [1002, 36239, 0, 0, 0];
 
 #[test]
 fn serves_one_password(rt: HostRuntime) -> Result<(), Fail> {
-    let rows: [(&[&str], &str, u8, (&str, &str), [u128; 5]); 7] = [
+    let rows: [(&[&str], &str, u8, (&str, &str), [u128; 5]); 8] = [
         (&BY_WORD, "other\n", 0, (ANSWER, ""), COUNTS),
         (
             &["-m", "md5", "-S", "xxxxxxxx"],
@@ -154,6 +154,13 @@ fn serves_one_password(rt: HostRuntime) -> Result<(), Fail> {
         (&["-m", "help"], "x\n", 0, (LIST, ""), [0; 5]),
         (
             &["-m", "help", "--check", "x", "ab"],
+            "",
+            0,
+            (LIST, ""),
+            [0; 5],
+        ),
+        (
+            &["-m", "help", "-S", "ab", "x", "cd"],
             "",
             0,
             (LIST, ""),
@@ -261,7 +268,7 @@ fn serves_new_hashes(rt: HostRuntime) -> Result<(), Fail> {
 }
 
 // Words that are refused, by their status and text, which is empty where `clap` has it.
-const REFUSED: [(&[&str], u8, &str); 24] = [
+const REFUSED: [(&[&str], u8, &str); 28] = [
     (&["--help"], 0, ""),
     (&["-V"], 0, ""),
     (&["-Q"], 2, ""),
@@ -271,6 +278,8 @@ const REFUSED: [(&[&str], u8, &str); 24] = [
     (&["--budget", "few"], 2, ""),
     (&["-m", "sha1", "x"], 2, "unknown method"),
     (&["-m", "sha1", "-s", "x"], 2, "unknown method"),
+    (&["-m", "sha1", "-S", "ab", "x"], 2, "unknown method"),
+    (&["-m", "sha1", "-S", "ab", "x", "cd"], 2, "unknown method"),
     (&["-m", "sha1", "-S", "a-b", "x"], 2, "unknown method"),
     (&["-S", "ab", "x", "cd"], 2, "two salts"),
     (&["-S", "ab", "-s", "x", "cd"], 2, "two salts"),
@@ -280,6 +289,8 @@ const REFUSED: [(&[&str], u8, &str); 24] = [
     (&["--batch", "x"], 2, "two modes"),
     (&["--batch", "--check", "-s", "x"], 2, "two modes"),
     (&["-m", "md5", "x", "1234-6789"], 2, "salt length"),
+    (&["-m", "md5", "-S", "123456789", "x"], 2, "salt length"),
+    (&["-m", "md5", "-S", "a-b", "x"], 2, "salt character"),
     (&["-S", "seventeen.letters", "x"], 2, "salt length"),
     (&["-S", "", "x"], 2, "salt length"),
     (&["-S", "a-b", "x"], 2, "salt character"),
@@ -335,6 +346,16 @@ fn refuses_words(rt: HostRuntime) -> Result<(), Fail> {
     for (words, status, text) in REFUSED {
         want_refused(&rt, rt.alloc(), words, status, text)?;
     }
+    Ok(())
+}
+
+#[test]
+fn refuses_a_long_password(rt: HostRuntime) -> Result<(), Fail> {
+    let alloc = rt.alloc();
+    let given = Given::new(alloc).reading(MemoryReader::new(alloc, &[b'a'; 1025]));
+    let served = serve(&rt, alloc, &["-s"], given, true)?;
+    let told = ("", "mkpasswd: password too long\n");
+    want(&rt, &["-s"], &served, 2, told);
     Ok(())
 }
 

@@ -4,7 +4,7 @@ use std::test::Fail;
 #[test]
 fn takes_what_settings_take(rt: HostRuntime) {
     let most = [b'z'; 86];
-    let rows: [(Method, u32, Option<&[u8]>, Option<MakeFault>); 13] = [
+    let rows: [(Method, u32, Option<&[u8]>, Option<MakeFault>); 14] = [
         (Method::Scrypt, 0, Some(b"ab"), None),
         (Method::Scrypt, 11, Some(&most), None),
         (Method::Scrypt, 5, Some(b"ab"), Some(MakeFault::Cost)),
@@ -16,6 +16,7 @@ fn takes_what_settings_take(rt: HostRuntime) {
             Some(MakeFault::SaltCharacter),
         ),
         (Method::Scrypt, 5, Some(b""), Some(MakeFault::SaltLength)),
+        (Method::Scrypt, 0, Some(b""), Some(MakeFault::SaltLength)),
         (Method::Scrypt, 5, None, Some(MakeFault::Cost)),
         (Method::Scrypt, 12, None, Some(MakeFault::Cost)),
         (Method::Scrypt, 6, None, None),
@@ -36,7 +37,11 @@ fn takes_what_settings_take(rt: HostRuntime) {
     ];
     for (method, cost, salt, fault) in rows {
         let made = Maker::new(method, cost, salt);
-        assert_eq!(rt; made.err(), fault, "{method:?}, {cost}, {salt:?}");
+        assert_eq!(rt;
+            made.err().map(|fault| fault.text()),
+            fault.map(|fault| fault.text()),
+            "{method:?}, {cost}, {salt:?}"
+        );
     }
 }
 

@@ -16,6 +16,11 @@ fn bad_setting(fault: SettingFault) -> Option<LineFault> {
     Some(LineFault::Setting(fault))
 }
 
+// The text of a fault, which no other fault has.
+fn text_of(fault: Option<LineFault>) -> Option<&'static str> {
+    fault.map(|fault| fault.text())
+}
+
 #[test]
 fn inspects_lines_to_check(rt: HostRuntime) {
     let bad_character = bad_setting(SettingFault::BadCharacter);
@@ -74,7 +79,11 @@ fn inspects_lines_to_check(rt: HostRuntime) {
         ),
     ];
     for (what, line, wanted) in rows {
-        assert_eq!(rt; inspect(Kind::Check, line), wanted, "{what}");
+        assert_eq!(rt;
+            text_of(inspect(Kind::Check, line)),
+            text_of(wanted),
+            "{what}"
+        );
     }
 }
 
@@ -92,7 +101,11 @@ fn inspects_lines_to_hash(rt: HostRuntime) {
         ("a byte 0 behind a colon", b"a:x:\0", HAS_NUL),
     ];
     for (what, line, wanted) in rows {
-        assert_eq!(rt; inspect(Kind::Batch, line), wanted, "{what}");
+        assert_eq!(rt;
+            text_of(inspect(Kind::Batch, line)),
+            text_of(wanted),
+            "{what}"
+        );
     }
 }
 
@@ -136,31 +149,62 @@ fn measures_lines(rt: HostRuntime) -> Result<(), Fail> {
     ];
     for (kind, pieces, wanted) in rows {
         let line = joined(rt.alloc(), pieces)?;
-        assert_eq!(rt; inspect(kind, line.as_slice()), wanted, "{pieces:?}");
+        assert_eq!(rt;
+            text_of(inspect(kind, line.as_slice())),
+            text_of(wanted),
+            "{pieces:?}"
+        );
     }
     Ok(())
 }
 
 #[test]
-fn tells_faults_in_words(rt: HostRuntime) {
+fn tells_faults_in_words(rt: HostRuntime) -> Result<(), Fail> {
+    let too_long = LineFault::Password(PasswordFault::TooLong);
+    let has_nul = LineFault::Password(PasswordFault::HasNul);
     let rows = [
-        (Some(LineFault::LineTooLong), "line too long"),
-        (NO_NAME, "no name"),
-        (NAME_TOO_LONG, "name too long"),
-        (NO_PASSWORD, "no password field"),
-        (PASSWORD_TOO_LONG, "password too long"),
-        (HAS_NUL, "password has a zero byte"),
-        (bad_setting(SettingFault::TooLong), "setting too long"),
-        (bad_setting(SettingFault::BadCharacter), "bad character"),
-        (bad_setting(SettingFault::UnknownScheme), "unknown scheme"),
-        (bad_setting(SettingFault::BadRounds), "bad rounds"),
-        (bad_setting(SettingFault::BadCost), "bad cost"),
-        (bad_setting(SettingFault::ScryptRange), "scrypt range"),
-        (bad_setting(SettingFault::AboveCeiling), "above ceiling"),
-        (bad_setting(SettingFault::BadSalt), "bad salt"),
-        (Some(LineFault::OverBudget), "over budget"),
+        (LineFault::LineTooLong, "line too long"),
+        (LineFault::NoName, "no name"),
+        (LineFault::NameTooLong, "name too long"),
+        (LineFault::NoPassword, "no password field"),
+        (too_long, "password too long"),
+        (has_nul, "password has a zero byte"),
+        (
+            LineFault::Setting(SettingFault::TooLong),
+            "setting too long",
+        ),
+        (
+            LineFault::Setting(SettingFault::BadCharacter),
+            "bad character",
+        ),
+        (
+            LineFault::Setting(SettingFault::UnknownScheme),
+            "unknown scheme",
+        ),
+        (LineFault::Setting(SettingFault::BadRounds), "bad rounds"),
+        (LineFault::Setting(SettingFault::BadCost), "bad cost"),
+        (
+            LineFault::Setting(SettingFault::ScryptRange),
+            "scrypt range",
+        ),
+        (
+            LineFault::Setting(SettingFault::AboveCeiling),
+            "above ceiling",
+        ),
+        (LineFault::Setting(SettingFault::BadSalt), "bad salt"),
+        (LineFault::OverBudget, "over budget"),
     ];
     for (fault, text) in rows {
-        assert_eq!(rt; fault.map(|fault| fault.text()), Some(text), "{text}");
+        let shown = format!(in rt.alloc(); "{fault}")?;
+        assert_eq!(rt; shown.as_str(), text);
+        assert_eq!(rt; fault.text(), text);
     }
+    Ok(())
+}
+
+#[test]
+fn tells_faults_and_kinds_apart(rt: HostRuntime) {
+    assert!(rt; LineFault::NoName != LineFault::NameTooLong);
+    assert!(rt; PASSWORD_TOO_LONG != HAS_NUL);
+    assert!(rt; Kind::Batch != Kind::Check);
 }

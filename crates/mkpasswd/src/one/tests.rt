@@ -104,29 +104,61 @@ fn want(
     Ok(())
 }
 
+// The second text is libxcrypt's.
 #[test]
 fn has_no_budget(rt: HostRuntime) -> Result<(), Fail> {
-    let words = [
+    let md5crypt: &[&str] = &[
         "--budget", "0", "-m", "md5crypt", "-S", "xxxxxxxx", "password",
     ];
-    let given = Given::new(rt.alloc());
+    let scrypt: &[&str] = &["--budget", "0", "-m", "scrypt", "-S", "ab", "x"];
+    let rows = [
+        (md5crypt, ANSWER),
+        (
+            scrypt,
+            "$7$CU..../....ab$TioQ/OazCAbGpb/E7e054xV/7lAamSWFPOGclTgvmt0\n",
+        ),
+    ];
+    for (words, line) in rows {
+        let given = Given::new(rt.alloc());
+        let outcome = Ok(ONE_LINE);
+        want(
+            &rt,
+            rt.alloc(),
+            "a budget",
+            words,
+            given,
+            outcome,
+            line.as_bytes(),
+        )?;
+    }
+    Ok(())
+}
+
+// The line feed is fetched after a whole piece. The text is that of md5crypt's definition over Python's hashlib.
+#[test]
+fn takes_a_line_of_two_fetches(rt: HostRuntime) -> Result<(), Fail> {
+    let alloc = rt.alloc();
+    let mut bytes = [b'a'; 514];
+    bytes[512] = b'\n';
+    bytes[513] = b'b';
+    let given = Given::new(alloc).reading(MemoryReader::new(alloc, &bytes).by(512));
     want(
         &rt,
-        rt.alloc(),
-        "a budget",
-        &words,
+        alloc,
+        "512 bytes",
+        &BY_INPUT,
         given,
         Ok(ONE_LINE),
-        ANSWER.as_bytes(),
+        b"$1$xxxxxxxx$R4nSp8/dYlM67sUCn38xE1\n",
     )
 }
 
 // Published texts: of openssl-passwd(1), of Drepper's specification, also with its own number of rounds,
-// and of libxcrypt.
+// and of libxcrypt. The counts are those of its steps over Python's hashlib.
 #[test]
 fn answers_with_the_hash(rt: HostRuntime) -> Result<(), Fail> {
     let low: &[u8] = b"the minimum number is still observed";
-    let rows: [(&[&str], &[u8], &str); 8] = [
+    let rows: [(&[&str], &[u8], &str); 9] = [
         (&BY_WORD, b"", ANSWER),
         (&["-m", "md5", "password", "xxxxxxxx"], b"", ANSWER),
         (&BY_INPUT, b"password\nmore", ANSWER),
@@ -149,6 +181,11 @@ fn answers_with_the_hash(rt: HostRuntime) -> Result<(), Fail> {
             &["-R", "10", "-S", "roundstoolow", "-s"],
             low,
             "$6$rounds=1000$roundstoolow$kUMsbe306n21p9R.FRkW3IGn.S9NPN0x50YhH1xhLsPuWGsUSklZt58jaTfF4ZEQpyUNGc0dqbpBYYBaHHrsX.\n",
+        ),
+        (
+            &["-R", "10", "-S", "roundstoolow", "-s", "--work"],
+            low,
+            "$6$rounds=1000$roundstoolow$kUMsbe306n21p9R.FRkW3IGn.S9NPN0x50YhH1xhLsPuWGsUSklZt58jaTfF4ZEQpyUNGc0dqbpBYYBaHHrsX.:1004:142068:0:0\n",
         ),
         (
             &["-m", "scrypt", "-S", "ab", "x"],
@@ -220,14 +257,7 @@ fn draws_nothing_for_a_long_password(rt: HostRuntime) -> Result<(), Fail> {
     let alloc = rt.alloc();
     let given = Given::new(alloc).reading(MemoryReader::new(alloc, &[b'a'; 1025]));
     let left = run_words(&rt, alloc, &["-m", "md5crypt", "-s"], given)?;
-    assert_eq!(rt;
-        (
-            left.outcome,
-            left.out.taken(),
-            left.next_word,
-            left.meter.digests()
-        ),
-        (Err(TOO_LONG), b"".as_slice(), 129, 0)
-    );
+    left.want(&rt, "a long password", Err(TOO_LONG), b"", b"");
+    assert_eq!(rt; (left.next_word, left.meter.digests()), (129, 0));
     Ok(())
 }

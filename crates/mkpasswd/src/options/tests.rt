@@ -135,3 +135,66 @@ fn lists_methods_whatever_else_is_given(rt: HostRuntime) -> Result<(), Fail> {
     }
     Ok(())
 }
+
+// What is planned, or the text of the refusal, and the options of the job.
+fn planned(plan: &Result<Plan, UsageFault>) -> (&'static str, bool, bool, Option<u64>) {
+    match plan {
+        Ok(Plan::Methods) => ("methods", false, false, None),
+        Ok(Plan::One(job, PasswordFrom::Word(_))) => ("word", job.rehash, job.work, job.budget),
+        Ok(Plan::One(job, PasswordFrom::Input)) => ("input", job.rehash, job.work, job.budget),
+        Ok(Plan::Batch(job)) => ("batch", job.rehash, job.work, job.budget),
+        Ok(Plan::Check(job)) => ("check", job.rehash, job.work, job.budget),
+        Err(fault) => (fault.text(), false, false, None),
+    }
+}
+
+#[test]
+fn plans_by_all_flags(rt: HostRuntime) -> Result<(), Fail> {
+    for number in 0..64u32 {
+        let flags = [
+            (number & 1 != 0, "--stdin"),
+            (number & 2 != 0, "--batch"),
+            (number & 4 != 0, "--check"),
+            (number & 8 != 0, "--rehash"),
+            (number & 16 != 0, "--work"),
+            (number & 32 != 0, "--budget=7"),
+        ];
+        want_mode(&rt, rt.alloc(), flags)?;
+    }
+    Ok(())
+}
+
+// Wants the plan of the flags that are given, of which one at most tells a mode.
+fn want_mode(rt: &impl Abort, alloc: Global, flags: [(bool, &str); 6]) -> Result<(), Fail> {
+    let mut given = Vec::new(alloc);
+    for (is_given, flag) in flags {
+        if is_given {
+            given.push(flag)?;
+        }
+    }
+    let words = words_of(alloc, given.as_slice())?;
+    let [
+        (stdin, _),
+        (batch, _),
+        (check, _),
+        (rehash, _),
+        (work, _),
+        (has_budget, _),
+    ] = flags;
+    let budget = if has_budget { Some(7) } else { None };
+    let mode = if batch {
+        "batch"
+    } else if check {
+        "check"
+    } else {
+        "input"
+    };
+    let wanted = if u32::from(stdin) + u32::from(batch) + u32::from(check) > 1 {
+        ("two modes", false, false, None)
+    } else {
+        (mode, rehash, work, budget)
+    };
+    let plan = plan(alloc, words.as_slice());
+    assert_eq!(rt; planned(&plan), wanted, "{flags:?}");
+    Ok(())
+}

@@ -75,3 +75,20 @@ pub fn bytes_taken(calls: &[Call]) -> usize {
     }
     taken
 }
+
+mod tests {
+    use super::*;
+
+    #[test]
+    fn tells_calls_apart(rt: HostRuntime) {
+        let call = Call::Read(1, Ok(1));
+        for other in [
+            Call::Read(2, Ok(1)),
+            Call::Read(1, Ok(0)),
+            Call::Write(1, Ok(1)),
+        ] {
+            assert!(rt; call != other, "{other:?}");
+        }
+        assert!(rt; Device::Output != Device::Faults);
+    }
+}

@@ -32,23 +32,25 @@ fn takes_a_turn_a_call(rt: HostRuntime) -> Result<(), Fail> {
     let rows = [
         ("whole", usize::MAX, 9, None, 10, 8),
         ("one turn", usize::MAX, 1, None, 10, 0),
-        ("no turn", usize::MAX, 0, Some(RunFault::Turns), 0, 0),
+        ("no turn", usize::MAX, 0, Some("too many turns"), 0, 0),
         ("a turn a byte", 1, 10, None, 10, 0),
-        ("one turn too few", 1, 9, Some(RunFault::Turns), 9, 0),
+        ("one turn too few", 1, 9, Some("too many turns"), 9, 0),
         ("four at a time", 4, 9, None, 10, 6),
-        ("no byte taken", 0, 9, Some(RunFault::Write), 0, 8),
+        ("no byte taken", 0, 9, Some("write fault"), 0, 8),
     ];
     for (what, most, turns, fault, taken, left_after) in rows {
         assert!(rt; turns <= 1 << 40);
         let writer = MemoryWriter::new(rt.alloc()).by(most);
         let (outcome, left, writer) = send_to(writer, TEXT.as_bytes(), turns);
+        let ended = outcome.err().map(|fault| fault.text());
+        assert_eq!(rt; ended, fault, "{what}");
         assert_eq!(rt;
-            (outcome.err(), left, Some(writer.taken())),
-            (fault, left_after, TEXT.as_bytes().get(..taken)),
+            (left, Some(writer.taken())),
+            (left_after, TEXT.as_bytes().get(..taken)),
             "{what}"
         );
     }
     let (outcome, _, _) = send_to(MemoryWriter::new(rt.alloc()), b"", 0);
-    assert_eq!(rt; outcome, Ok(()), "an empty text takes no turn");
+    assert!(rt; outcome.is_ok(), "an empty text takes no turn");
     Ok(())
 }

@@ -6,7 +6,7 @@ use crate::line::tests::{Pieces, joined};
 // Behind a first line that is answered, so that they have the number 2.
 #[test]
 fn answers_hostile_lines_to_check(rt: HostRuntime) -> Result<(), Fail> {
-    let rows: [(Pieces<'_>, &str, &str); 10] = [
+    let rows: [(Pieces<'_>, &str, &str); 13] = [
         (
             (b"c::\n:", (2048, b'a'), b""),
             "c:none\n",
@@ -40,6 +40,21 @@ fn answers_hostile_lines_to_check(rt: HostRuntime) -> Result<(), Fail> {
             "mkpasswd: line 2: bad character\n",
         ),
         (
+            (b"c::\na:$9$a b:", (1, b'x'), b""),
+            "c:none\n",
+            "mkpasswd: line 2: bad character\n",
+        ),
+        (
+            (b"c::\na:$7$A:", (1, b'x'), b""),
+            "c:none\n",
+            "mkpasswd: line 2: bad cost\n",
+        ),
+        (
+            (b"c::\na:$7$E/..../....a_b:", (1, b'x'), b""),
+            "c:none\n",
+            "mkpasswd: line 2: scrypt range\n",
+        ),
+        (
             (b"c::\na:", (385, b'$'), b":x"),
             "c:none\n",
             "mkpasswd: line 2: setting too long\n",
@@ -51,7 +66,7 @@ fn answers_hostile_lines_to_check(rt: HostRuntime) -> Result<(), Fail> {
         ),
     ];
     for (pieces, out, faults) in rows {
-        want_lines(&rt, rt.alloc(), CHECK, pieces, (out, faults))?;
+        want_lines(&rt, rt.alloc(), CHECK, 2, pieces, (out, faults))?;
     }
     Ok(())
 }
@@ -73,23 +88,34 @@ fn answers_hostile_lines_to_hash(rt: HostRuntime) -> Result<(), Fail> {
         ),
     ];
     for (pieces, faults) in rows {
-        want_lines(&rt, rt.alloc(), &BATCH, pieces, (ANN, faults))?;
+        want_lines(&rt, rt.alloc(), &BATCH, 2, pieces, (ANN, faults))?;
     }
     Ok(())
 }
 
-// Wants these texts for two lines, one of which is refused where something is told on the fault output.
+#[test]
+fn refuses_a_long_name_alone(rt: HostRuntime) -> Result<(), Fail> {
+    let told = ("", "mkpasswd: line 1: name too long\n");
+    for len in [65, 1024] {
+        let pieces: Pieces<'_> = (b"", (len, b'a'), b"");
+        want_lines(&rt, rt.alloc(), &BATCH, 1, pieces, told)?;
+    }
+    Ok(())
+}
+
+// Wants these texts for so many lines, one of which is refused where something is told on the fault output.
 fn want_lines(
     rt: &impl Abort,
     alloc: Global,
     words: &[&str],
+    lines: u64,
     pieces: Pieces<'_>,
     told: (&str, &str),
 ) -> Result<(), Fail> {
     let input = joined(alloc, pieces)?;
     let given = Given::new(alloc).reading(MemoryReader::new(alloc, input.as_slice()));
-    let outcome = Ok(tally(2, u64::from(!told.1.is_empty()), 0));
-    want(rt, alloc, "the second line", words, given, outcome, told)
+    let outcome = Ok(tally(lines, u64::from(!told.1.is_empty()), 0));
+    want(rt, alloc, "the last line", words, given, outcome, told)
 }
 
 #[test]

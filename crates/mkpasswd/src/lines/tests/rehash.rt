@@ -24,12 +24,23 @@ fn hashes_anew_what_is_out_of_date(rt: HostRuntime) -> Result<(), Fail> {
     let counted: &[&str] = &[
         "--check", "--rehash", "--work", "-m", "md5crypt", "-S", "xxxxxxxx",
     ];
+    let within: &[&str] = &[
+        "--check",
+        "--rehash",
+        "--work",
+        "--budget",
+        "1000000",
+        "-m",
+        "sha256crypt",
+        "-R",
+        "1000",
+    ];
     let default: &[&str] = &["--check", "--rehash"];
     let recent =
         "b:$6$rounds=5000$toolongsaltstrin$lQ8jolhgVRVhY4b5pZKaysCLi0QBxGoNeKQzQ3glMhwllF7oGDZxUhx1yxdYcz/e1JSbq3y6JMxxl8audkUEm0:This is just a test";
     let ann = "ann:$1$xxxxxxxx$UYCIxa628.9qXjpQCjM4a.:password";
     // The words, the line, what is told, the word that is drawn next, and the digests.
-    let rows: [(&[&str], &str, (&str, &str), u64, u128); 9] = [
+    let rows: [(&[&str], &str, (&str, &str), u64, u128); 10] = [
         (
             costlier,
             "a:$5$saltstring$5B8vYYiY.CVt1RlTTf8KbXBH3hsxY/GNooZaBBGWEc5:Hello world!",
@@ -56,6 +67,13 @@ fn hashes_anew_what_is_out_of_date(rt: HostRuntime) -> Result<(), Fail> {
             ("z:no:1026:102564:32768:1048576\n", ""),
             129,
             1026,
+        ),
+        (
+            within,
+            "ann:$1$xxxxxxxx$UYCIxa628.9qXjpQCjM4a.:Password",
+            ("ann:no:1002:36239:0:0\n", ""),
+            129,
+            1002,
         ),
         (default, recent, ("b:ok\n", ""), 129, 5004),
         (&MD5CRYPT, ann, ("ann:ok\n", ""), 129, 1002),

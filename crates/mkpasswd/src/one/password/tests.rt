@@ -34,11 +34,11 @@ fn want(
     let outcome = read_from(reader, &mut left);
     let read = match &outcome {
         Ok(password) => Ok(password.bytes()),
-        Err(fault) => Err(*fault),
+        Err(fault) => Err(fault.text()),
     };
     assert_eq!(rt;
         (read, turns.checked_sub(left)),
-        (wanted, Some(taken)),
+        (wanted.map_err(|fault| fault.text()), Some(taken)),
         "{what}"
     );
 }
