@@ -424,6 +424,32 @@ static void check_growths(const struct row *row)
     }
 }
 
+/* With N = 2^14, r = 8 and p = 1 the table has 128 * N * r bytes, and the first scratch memory 128 * r * p. */
+static void check_counts(void)
+{
+    static const uint64_t got[3][2] = {{0, 0}, {16777216, 0}, {16777216, 1024}};
+    static const char password[] = "pleaseletmein";
+    struct mkpasswd_work wanted = no_work;
+    size_t refused;
+    int32_t answer;
+
+    about = "$7$C6..../....SodiumChloride";
+    for (refused = 1; refused <= 3; refused++) {
+        count_growths(refused);
+        answer = hash((const uint8_t *)password, strlen(password), about, MKPASSWD_TEXT_SIZE);
+        want_growths("mkpasswd_hash, refused a growth", refused);
+        wanted.table = got[refused - 1][0];
+        wanted.scratch = got[refused - 1][1];
+        want_work("mkpasswd_hash, refused a growth", &wanted, work);
+        want_refused("mkpasswd_hash", MKPASSWD_REFUSED_OUT_OF_MEMORY, answer, MKPASSWD_TEXT_SIZE);
+    }
+    count_growths(4);
+    hash((const uint8_t *)password, strlen(password), about, MKPASSWD_TEXT_SIZE);
+    want_growths("mkpasswd_hash, with a fourth growth to be refused", 3);
+    want_out("mkpasswd_hash", MKPASSWD_TEXT_SIZE,
+             "$7$C6..../....SodiumChloride$kBGj9fHznVYFQMEn/qDCfrDevf9YDtcDdKvEqHJLV8D");
+}
+
 int main(void)
 {
     size_t place;
@@ -432,6 +458,7 @@ int main(void)
     read_rows();
     for (place = 0; place < row_count; place++)
         check_growths(&rows[place]);
+    check_counts();
     about = "the rows";
     want_number("refusals for want of memory", 1, given[-MKPASSWD_REFUSED_OUT_OF_MEMORY - 1]);
     return end();

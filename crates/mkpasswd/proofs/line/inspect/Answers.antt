@@ -1,1 +1,0 @@
-use Rattle.mkpasswd.proofs.line.inspect.Goals as goal
