@@ -1,0 +1,95 @@
+package Suite;
+
+# What the tests share: where things are, how a command is run, and what a missing tool means.
+#
+# A test finds the tree by its own place. So a copy of the tree in which something was changed, documents or programs,
+# is tested by running its own tests.
+
+use strict;
+use warnings;
+use Cwd qw(abs_path);
+use Exporter qw(import);
+use File::Basename qw(dirname);
+use File::Temp qw(tempdir);
+use POSIX ();
+use Test::More;
+
+our @EXPORT = qw($root $scratch program run slurp spew needs is_run);
+
+# The top of the tree.
+our $root = abs_path(dirname(__FILE__) . '/../..');
+
+# A folder of the test's own.
+our $scratch = tempdir(CLEANUP => 1);
+
+$ENV{LC_ALL} = 'C';
+
+# The built program. Without one there is nothing to test.
+sub program {
+    my $path = "$root/mkpasswd";
+    -x $path or BAIL_OUT("$path is not built: run make");
+    return $path;
+}
+
+# Runs a command; its first argument may be a hash with `stdin` (the bytes that it reads; none by default), `dir`, `env`
+# (names and values, undef to unset) and `timeout` (seconds, 60 by default). Returns a hash: `status`, the exit status or
+# 128 + the signal; `out` and `err`; `timed_out`.
+sub run {
+    my %with = ref $_[0] ? %{ +shift } : ();
+    my @command = @_;
+    my ($in, $out, $err) = map { "$scratch/run.$_" } qw(in out err);
+    spew($in, $with{stdin} // '');
+    my $pid = fork // die "can't fork: $!";
+    if (!$pid) {
+        setpgrp;
+        for (keys %{ $with{env} // {} }) {
+            if (defined $with{env}{$_}) { $ENV{$_} = $with{env}{$_} } else { delete $ENV{$_} }
+        }
+        chdir $with{dir} or die "$with{dir}: $!" if $with{dir};
+        open STDIN, '<', $in or die;
+        open STDOUT, '>', $out or die;
+        open STDERR, '>', $err or die;
+        exec { $command[0] } @command or do { print STDERR "$command[0]: $!\n"; POSIX::_exit(127) };
+    }
+    my $timed_out = 0;
+    local $SIG{ALRM} = sub { $timed_out = 1; kill KILL => -$pid };
+    alarm($with{timeout} // 60);
+    waitpid $pid, 0;
+    my $status = $? & 127 ? 128 + ($? & 127) : $? >> 8;
+    alarm 0;
+    return { status => $status, out => slurp($out), err => slurp($err), timed_out => $timed_out };
+}
+
+# Tests that a run printed and ended with exactly this.
+sub is_run {
+    my ($run, $status, $out, $err, $name) = @_;
+    return is_deeply([@$run{qw(status out err)}], [$status, $out, $err], $name);
+}
+
+sub slurp {
+    my ($path) = @_;
+    open my $file, '<:raw', $path or die "$path: $!";
+    local $/;
+    return scalar <$file> // '';
+}
+
+sub spew {
+    my ($path, $bytes) = @_;
+    open my $file, '>:raw', $path or die "$path: $!";
+    print $file $bytes or die "$path: $!";
+    close $file or die "$path: $!";
+}
+
+# Whether a tool is there. Where it is missing, a skipped test says so with Debian's package, or with STRICT=1 a failed
+# one. In a subtest: `needs(zsh => 'zsh') or return;`.
+sub needs {
+    my ($tool, $package, $is_there) = @_;
+    return 1 if $is_there // grep { -x "$_/$tool" } split /:/, $ENV{PATH};
+    if (($ENV{STRICT} // 0) eq '1') { fail("$tool is there (Debian package $package)") }
+    else {
+      SKIP: { skip "$tool is missing (Debian package $package)", 1 }
+    }
+    return 0;
+}
+
+1;
