@@ -1,8 +1,15 @@
--- What follows a front.
-use Rattle.std.proofs.Common.{◌≡◌, ◌≢◌, ℕ, List, ◌++◌, Option, Some, None, Bor}
-use Rattle.std.specs.Prelude.{MatchOption}
+-- What `strip_prefix` says of a text and a front.
+use Rattle.std.proofs.Common.{◌≡◌, ℕ, ◌+◌, true, false, List, ◌++◌, length, take, drop, eqb, Some, None}
+use Rattle.std.specs.Borrow.{Bor}
+use Rattle.std.specs.Cmp.Lexicographic.{pointwise}
+use Rattle.std.proofs.lemmas.Bool.Decides.{Decides-eqb}
+use Rattle.std.proofs.lemmas.Slice.Eq.{strip_prefix_is}
 use Rattle.crypt_core.specs.Settings.{BeginsWith}
 
-pub begins_or_not : (text front : List ℕ) (r : Option (Bor (List ℕ))) → MatchOption r ((rest : List ℕ) → text ≢ front ++ rest) (λ x. text ≡ front ++ x.now) → MatchOption r (¬ BeginsWith text front) (λ x. text ≡ front ++ x.now)
-begins_or_not text front None h = λ b. h b.0 b.1
-begins_or_not text front (Some x) h = h
+-- it begins with it
+pub begins : (text front : List ℕ) (x : Bor (List ℕ)) → (pointwise eqb (take (length front) text) front ≡ true) × (x.now ≡ drop (length front) text) × (length x.now + length front ≡ length text) → text ≡ front ++ x.now
+begins text front x h = strip_prefix_is Decides-eqb text front (Some x) h
+
+-- or it doesn't
+pub begins_otherwise : (text front : List ℕ) → pointwise eqb (take (length front) text) front ≡ false → ¬ BeginsWith text front
+begins_otherwise text front h = λ b. strip_prefix_is Decides-eqb text front None h b.0 b.1

@@ -1,5 +1,5 @@
 -- What a method, a cost and a salt make is a setting.
-use Rattle.std.proofs.Common.{◌≡◌, ◌≢◌, ℕ, ◌+◌, ◌≤◌, ◌<◌, ◌^◌, ◌*◌, Bool, true, false, not, eqb, inl, inr, ◌&&◌, List, [], ◌++◌, length, get_or, All, length-append, append-nil, refl, sym, ap, ◌∙◌, arith}
+use Rattle.std.proofs.Common.{◌≡◌, ◌≢◌, ℕ, ◌+◌, ◌≤◌, ◌<◌, ◌^◌, ◌*◌, Bool, true, false, not, eqb, inl, inr, ◌&&◌, List, [], ◌++◌, length, get_or, All, length-append, append-nil, refl, sym, ap, subst, ◌∙◌, arith}
 use Rattle.std.specs.Prelude.{Contains, decimal, codes, nat_le, Result, Ok, Err, OnOk, IfErr, IsOk}
 use Rattle.std.specs.List.{list_all}
 use Rattle.std.proofs.Math.Nat.{le-mul_of_pos_right, lt_of_not-le, mul-le-mul_right, one-le-mul}
@@ -160,6 +160,11 @@ spelled scheme salt c short all =
         salt = salt_kept (method_of scheme) salt short all;
       },
     )
+
+-- what is kept of a salt that the scheme's method takes
+pub given : (scheme : Scheme) (kept salt : List ℕ) → IsScheme scheme → TakesSalt (method_of scheme) salt → kept ≡ salt → IsSetting (record { scheme = scheme; salt = kept })
+given scheme kept salt c takes is =
+    subst (λ (xs : List ℕ). IsSetting (record { scheme = scheme; salt = xs })) (sym is) (spelled scheme salt c takes.short takes.characters)
 
 -- What is made
 

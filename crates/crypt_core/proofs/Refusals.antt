@@ -130,6 +130,15 @@ one_reading text (Err fault) (Ok kept) refused spelled = absurd (spelled_breaks_
 one_reading text (Err fault) (Err other) refused r = ap (λ (f : SettingFault). Err f) (refusal_unique text fault other refused r)
 
 -- an answer that is right
-pub reading_is : (text : List ℕ) (r : Result SettingValue SettingFault) → IfOk r (Spells text) → IfErr r (IsRefused text) → IsReading text r
+reading_is : (text : List ℕ) (r : Result SettingValue SettingFault) → IfOk r (Spells text) → IfErr r (IsRefused text) → IsReading text r
 reading_is text (Ok kept) spelled refused = spelled
 reading_is text (Err fault) spelled refused = refused
+
+-- is the only right one
+pub only_setting : (text : List ℕ) (r : Result SettingValue SettingFault) → IfOk r (Spells text) → IfErr r (IsRefused text) → (kept : SettingValue) → Spells text kept → r ≡ Ok kept
+unfolding IsReadOneWay
+only_setting text r spelled refused kept s = one_reading text r (Ok kept) (reading_is text r spelled refused) s
+
+pub only_refusal : (text : List ℕ) (r : Result SettingValue SettingFault) → IfOk r (Spells text) → IfErr r (IsRefused text) → (fault : SettingFault) → IsRefused text fault → r ≡ Err fault
+unfolding IsReadOneWay
+only_refusal text r spelled refused fault s = one_reading text r (Err fault) (reading_is text r spelled refused) s

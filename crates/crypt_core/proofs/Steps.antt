@@ -1,19 +1,20 @@
 -- What the steps of reading find: a field, a number of rounds, the characters of scrypt's cost part.
-use Rattle.std.proofs.Common.{◌≡◌, ◌≢◌, ℕ, zero, suc, ◌+◌, ◌-◌, ◌*◌, ◌≤◌, ◌<◌, ◌^◌, Bool, true, false, cond, eqb, List, [], ◌∷◌, ◌++◌, length, take, drop, get_or, All, Contains, Option, Some, None, refl, sym, ap, subst, ◌∙◌, append_assoc, add-one, arith}
+use Rattle.std.proofs.Common.{◌≡◌, ◌≢◌, ℕ, zero, suc, ◌+◌, ◌-◌, ◌*◌, ◌≤◌, ◌<◌, ◌^◌, Bool, true, false, cond, not, eqb, nat_lt, List, [], ◌∷◌, ◌++◌, length, take, drop, get_or, All, Contains, Option, Some, None, refl, sym, ap, subst, ◌∙◌, append_assoc, add-one, arith}
 use Rattle.std.specs.Prelude.{IfNone, min}
 use Rattle.std.specs.List.{position, position_or_len}
+use Rattle.std.specs.Option.{unwrap_or}
 use Rattle.std.specs.Str.Parse.{digits_value}
-use Rattle.std.proofs.Math.Seq.{drop-cons, take-length}
+use Rattle.std.proofs.Math.Seq.{drop-cons, drop-nil, take-length}
 use Rattle.std.proofs.lemmas.Bool.{eqb-true, eqb-false, ltb-false}
-use Rattle.std.proofs.lemmas.List.{append-nil, take-append-drop, take-append-le, drop-append-le, get_or-take, get_or_append_left, length-append, length-take, length-drop}
-use Rattle.std.proofs.lemmas.List.Sums.{fails_before_first}
-use Rattle.std.proofs.lemmas.List.Quantifiers.{position-Some}
+use Rattle.std.proofs.lemmas.List.{append_cancel_left, append-nil, take-append-drop, take-append-le, drop-append-le, get_or-take, get_or_append_left, length-append, length-take, length-drop}
+use Rattle.std.proofs.lemmas.List.Sums.{fails_before_first, passes_at_first, prefix_len-le-length}
 use Rattle.std.proofs.lemmas.List.Elements.{All-from_get_or, All-get_or, All-take, All-drop}
 use Rattle.std.proofs.lemmas.Int.Digits.{digits_value_more}
 use Rattle.std.proofs.lemmas.Str.{digit_value_digit}
 use Rattle.prims_core.specs.Alphabet.{alphabet, character_of, numerals}
 use Rattle.kdf_core.specs.Params.{cost_of}
-use Rattle.crypt_core.specs.Refusals.{LacksCost}
+use Rattle.crypt_core.specs.Refusals.{LacksCost, LacksNumber}
+use Rattle.crypt_core.specs.Private.Parts.{HasField}
 use Rattle.crypt_core.specs.Settings.{dollar, IsEndOfField, IsField, IsRoundsNumber, scrypt_part, HasNumerals, scrypt_part_len}
 use Rattle.crypt_core.specs.Rounds.{max_rounds}
 use Rattle.crypt_core.proofs.Fields.{field_unique}
@@ -25,62 +26,62 @@ on_none (Some x) P h = tt
 
 -- Fields
 
--- what stands before the first `$`, and what stands from it on
-pub record SplitsAt (xs : List ℕ) (n : ℕ) : Type 0 where
-  pub below : n < length xs
-  pub field : IsField (take n xs) (drop n xs)
-  pub rest : drop n xs ≡ dollar ∷ drop (n + 1) xs
+abbrev pub is_dollar : ℕ → Bool
+is_dollar b = eqb b dollar
 
-pub field_some : (xs : List ℕ) (n : ℕ) → position (λ b. eqb b dollar) xs ≡ Some n → SplitsAt xs n
-field_some xs n e =
-    let first = position-Some (λ b. eqb b dollar) xs n 0 e in
-    let here : get_or xs n 0 ≡ dollar = eqb-true _ _ first.1 in
-    let rest : drop n xs ≡ dollar ∷ drop (n + 1) xs = drop-cons xs n 0 first.0 ∙ ap (λ (b : ℕ). b ∷ drop (suc n) xs) here ∙ ap (λ (k : ℕ). dollar ∷ drop k xs) (sym (add-one n)) in
-    let length_is : length (take n xs) ≡ n = rw length-take (omega (arith, first.0)) in
-    record {
-      below = first.0;
-      field = record {
+-- the first place, or the length where there is none
+first_or_length : (p : ℕ → Bool) (xs : List ℕ) → unwrap_or (position p xs) (length xs) ≡ position_or_len p xs
+first_or_length p xs = by_test (nat_lt (position_or_len p xs) (length xs)) refl
+  where
+    by_test : (b : Bool) → nat_lt (position_or_len p xs) (length xs) ≡ b → unwrap_or (cond b (Some (position_or_len p xs)) None) (length xs) ≡ position_or_len p xs
+    by_test true e = refl
+    by_test false e = omega (arith, ltb-false _ _ e, prefix_len-le-length (λ x. not (p x)) xs)
+
+-- what stands before the first `$` is a field
+ended : (xs : List ℕ) (n : ℕ) → (n < length xs → get_or xs n 0 ≡ dollar) → IsEndOfField (drop n xs)
+ended [] n here = subst IsEndOfField (sym (drop-nil n)) tt
+ended (x ∷ xs) zero here = here (omega arith)
+ended (x ∷ xs) (suc n) here = ended xs n (λ below. here (omega arith))
+
+pub field_to : (xs : List ℕ) (n : ℕ) → n ≡ unwrap_or (position is_dollar xs) (length xs) → HasField xs (take n xs)
+field_to xs n found =
+    let is : n ≡ position_or_len is_dollar xs = found ∙ first_or_length is_dollar xs in (
+      drop n xs,
+      sym (take-append-drop n xs),
+      record {
         no_dollar = All-from_get_or (λ b. b ≢ dollar) (take n xs) 0 (λ i lt same.
-            eqb-false _ _ (first.2 i (omega arith)) (sym (get_or-take n xs i 0 (omega arith)) ∙ same));
-        ended = subst IsEndOfField (sym rest) refl;
-      };
-      rest = rest;
-    }
-
-none_from : (b : Bool) (n : ℕ) → cond b (Some n) None ≡ None → b ≡ false
-none_from true n e = cc
-none_from false n e = refl
-
-pub field_none : (xs : List ℕ) → position (λ b. eqb b dollar) xs ≡ None → IsField xs []
-field_none xs e =
-    let all : length xs ≤ position_or_len (λ b. eqb b dollar) xs = ltb-false _ _ (none_from _ _ e) in
-    record {
-      no_dollar = All-from_get_or (λ b. b ≢ dollar) xs 0 (λ i lt. eqb-false _ _ (fails_before_first (λ b. eqb b dollar) xs i 0 (omega arith)));
-      ended = tt;
-    }
+            let below : i < n = omega (arith, lt, length-take n xs) in
+            eqb-false _ _ (fails_before_first is_dollar xs i 0 (omega (arith, below, is))) (sym (get_or-take n xs i 0 below) ∙ same));
+        ended = ended xs n (λ below. eqb-true _ _ (ap (λ (k : ℕ). is_dollar (get_or xs k 0)) is ∙ passes_at_first is_dollar xs 0 (omega (arith, below, is))));
+      },
+    )
 
 -- Numbers of rounds
 
--- no `$`, no field
-pub no_number : (xs : List ℕ) → position (λ b. eqb b dollar) xs ≡ None → (digits rest : List ℕ) → IsRoundsNumber digits → xs ≡ digits ++ (dollar ∷ rest) → ⊥
-no_number xs e digits rest number parts =
-    let same = field_unique xs digits [] (dollar ∷ rest) (field_none xs e) (digits_are_field digits rest number) (append-nil xs ∙ parts) in
-    cc (same.1)
-
--- what stands before the first `$` is the only number there may be
-pub only_number : (xs : List ℕ) (n : ℕ) → position (λ b. eqb b dollar) xs ≡ Some n → (IsRoundsNumber (take n xs) → ⊥) → (digits rest : List ℕ) → IsRoundsNumber digits → xs ≡ digits ++ (dollar ∷ rest) → ⊥
-only_number xs n e not_number digits rest number parts =
-    let split = field_some xs n e in
-    let same = field_unique (take n xs) digits (drop n xs) (dollar ∷ rest) split.field (digits_are_field digits rest number) (take-append-drop n xs ∙ parts) in
+-- the field is the only number there may be
+pub only_number : (xs : List ℕ) (n : ℕ) → HasField xs (take n xs) → (IsRoundsNumber (take n xs) → ⊥) → LacksNumber xs
+only_number xs n h not_number other rest number parts =
+    let same = field_unique (take n xs) other h.0 (dollar ∷ rest) h.2 (digits_are_field other rest number) (sym h.1 ∙ parts) in
     not_number (subst IsRoundsNumber (sym same.0) number)
+
+-- and none where nothing follows it
+pub no_number : (xs : List ℕ) (n : ℕ) → HasField xs (take n xs) → n ≡ length xs → LacksNumber xs
+no_number xs n h whole other rest number parts =
+    let same = field_unique (take n xs) other h.0 (dollar ∷ rest) h.2 (digits_are_field other rest number) (sym h.1 ∙ parts) in
+    omega (arith, whole, ap length h.1, length-append (take n xs) h.0, length-take n xs, ap length same.1)
 
 pub rest_all : (xs : List ℕ) (k : ℕ) → take (length xs - k) (drop k xs) ≡ drop k xs
 rest_all xs k = ap (λ (n : ℕ). take n (drop k xs)) (sym (length-drop k xs)) ∙ take-length (drop k xs)
 
-pub number_parts : (xs : List ℕ) (n : ℕ) → position (λ b. eqb b dollar) xs ≡ Some n → xs ≡ take n xs ++ (dollar ∷ take (length xs - (n + 1)) (drop (n + 1) xs))
-number_parts xs n e =
-    sym (take-append-drop n xs) ∙ ap (λ (r : List ℕ). take n xs ++ r) (field_some xs n e).rest
-    ∙ ap (λ (r : List ℕ). take n xs ++ (dollar ∷ r)) (sym (rest_all xs (n + 1)))
+-- a field, its `$`, and what follows that
+pub number_parts : (xs : List ℕ) (n : ℕ) → HasField xs (take n xs) → n < length xs → xs ≡ take n xs ++ (dollar ∷ take (length xs - (n + 1)) (drop (n + 1) xs))
+number_parts xs n h below =
+    let rest : h.0 ≡ drop n xs = append_cancel_left (take n xs) h.0 (drop n xs) (sym h.1 ∙ sym (take-append-drop n xs)) in
+    let next : drop n xs ≡ get_or xs n 0 ∷ drop (suc n) xs = drop-cons xs n 0 below in
+    let here : get_or xs n 0 ≡ dollar = subst IsEndOfField (rest ∙ next) h.2.ended in
+    sym (take-append-drop n xs)
+    ∙ ap (λ (t : List ℕ). take n xs ++ t)
+    (next ∙ ap (λ (c : ℕ). c ∷ drop (suc n) xs) here ∙ ap (λ (k : ℕ). dollar ∷ drop k xs) (sym (add-one n)) ∙ ap (λ (t : List ℕ). dollar ∷ t) (sym (rest_all xs (n + 1))))
 
 pub digit_range : (ds : List ℕ) (i : ℕ) → IsRoundsNumber ds → i < length ds → (48 ≤ get_or ds i 0) × (get_or ds i 0 ≤ 57)
 digit_range [] i number lt = absurd number

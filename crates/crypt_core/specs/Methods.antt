@@ -1,6 +1,5 @@
 -- The methods of crypt(5): one table of what is fixed for each.
-use Rattle.std.specs.Prelude.{ℕ, ◌==◌, List, [], ◌∷◌, Option, codes, find, flat_map}
-use Rattle.std.specs.Map.{lookup}
+use Rattle.std.specs.Prelude.{ℕ, ◌==◌, ◌||◌, List, [], ◌∷◌, Option, codes, find}
 use Rattle.std.specs.Str.{bytes_eq}
 use Rattle.crypt_core.specs.declared.method.Method.{Method}
 use Rattle.crypt_core.specs.declared.method.Method.TheVariants.{Md5crypt, Sha256crypt, Sha512crypt, Scrypt}
@@ -82,13 +81,9 @@ method_row Scrypt = record {
 abbrev pub methods : List Method
 methods = Md5crypt ∷ Sha256crypt ∷ Sha512crypt ∷ Scrypt ∷ []
 
--- each word with its method
-abbrev pub names : List (List ℕ × Method)
-names = flat_map (λ m. ((method_row m).name, m) ∷ ((method_row m).alias, m) ∷ []) methods
-
--- the method that a word names, if it is one of these
+-- the method of which a word is the name or the alias
 abbrev pub method_named : List ℕ → Option Method
-method_named word = lookup (bytes_eq word) names
+method_named word = find (λ m. bytes_eq word (method_row m).name || bytes_eq word (method_row m).alias) methods
 
 -- the method of a number, which stands in its prefix
 abbrev pub method_numbered : ℕ → Option Method

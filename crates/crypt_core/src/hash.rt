@@ -107,7 +107,11 @@ pub fn hash(
     ensures refused { OnErr result (IsAfterRefusedGrowth meter.old setting.now.scheme meter.new) }
 {
     let digest = digest_of(alloc, password, setting, meter)?;
-    Ok(hash_text(setting, digest.as_slice()))
+    let packed = pack(setting.method(), digest.as_slice());
+    let mut text = setting.text();
+    text.push(b'$');
+    text.try_extend_from_slice(packed.as_slice()).unwrap();
+    Ok(Hashed { text })
 }
 
 /// How many bytes each hash by the setting has, known before hashing: at most [`HASH_LIMIT`].
@@ -173,20 +177,6 @@ fn scrypt_digest(
     let mut digest = [0; 32];
     scrypt(alloc, password, salt, params, &mut digest, meter)?;
     Ok(ArrayVec::try_from(digest.as_slice()).unwrap())
-}
-
-// The text of a digest by the setting.
-fn hash_text(setting: &Setting, digest: &[u8]) -> Hashed
-    requires { length digest.now ≡ digest_len (method_of setting.now.scheme) }
-    ensures text { result
-        ≡ canonical_text setting.now ++ dollar ∷ packed (method_of setting.now.scheme) digest.now }
-    ensures spells { Spells result setting.now }
-{
-    let packed = pack(setting.scheme().method(), digest);
-    let mut text = setting.text();
-    text.push(b'$');
-    text.try_extend_from_slice(packed.as_slice()).unwrap();
-    Hashed { text }
 }
 
 #[cfg(test)]

@@ -61,7 +61,7 @@ fn opening(password: &[u8], salt: &[u8], meter: &mut Meter) -> ArrayVec<u8, 64>
     let alternate = alternate_digest::<CountedMd5>(password, salt, meter);
     let mut running = CountedMd5::begin();
     running.feed(meter, password);
-    running.feed(meter, Method::Md5crypt.prefix());
+    running.feed(meter, Method::Md5crypt.row().prefix);
     running.feed(meter, salt);
     feed_cycle(&mut running, meter, alternate.as_slice(), password.len());
     let first = &password[..password.len().min(1)];

@@ -4,7 +4,7 @@
 ghost use Rattle.std.specs.Prelude.{◌≡◌, ℕ, ◌+◌, ◌*◌, ◌^◌, ◌<◌, ◌≤◌, List, ◌++◌, length};
 ghost use Rattle.std.specs.List.{repeat};
 ghost use Rattle.prims_core.specs.Meter.{HasDigestRoom};
-ghost use Rattle.crypt_core.specs.Cycle.{by_digit, cycle, digit_pieces};
+ghost use Rattle.crypt_core.specs.Cycle.{cycle, digit_pieces};
 ghost use Rattle.crypt_core.specs.Methods.{shacrypt_salt_limit};
 ghost use Rattle.crypt_core.specs.Passwords.{password_limit};
 ghost use Rattle.crypt_core.specs.RoundMessage.{alternate_message, round_message};
@@ -97,16 +97,10 @@ pub(crate) fn feed_digits<C: Counted>(
 {
     let mut rest = number;
     'digits: while rest > 0 {
-        running.feed(meter, digit_piece(rest % 2, one, other));
+        let piece = if rest % 2 == 1 { one } else { other };
+        running.feed(meter, piece);
         rest /= 2;
     }
-}
-
-// The piece for a binary digit.
-fn digit_piece<'a>(digit: usize, one: &'a [u8], other: &'a [u8]) -> &'a [u8]
-    ensures { result.now ≡ by_digit one.now other.now digit }
-{
-    if digit == 1 { one } else { other }
 }
 
 /// What stands for the password and the salt in every round. A contract sees it as these two.

@@ -1,7 +1,6 @@
 //! The methods by which a password is hashed, and the words that name them.
 
-ghost use Rattle.std.specs.Prelude.{◌≡◌, ◌||◌};
-ghost use Rattle.std.specs.Str.{bytes_eq};
+ghost use Rattle.std.specs.Prelude.{◌≡◌};
 ghost use Rattle.crypt_core.specs.Methods.{made_salt_length, method_named, method_numbered, method_row, packed_len, prefix, salt_limit};
 
 /// The most bytes of salt that md5crypt keeps.
@@ -40,6 +39,14 @@ pub enum Method {
     Scrypt,
 }
 
+/// All methods.
+const METHODS: [Method; 4] = [
+    Method::Md5crypt,
+    Method::Sha256crypt,
+    Method::Sha512crypt,
+    Method::Scrypt,
+];
+
 /// What is fixed for a method: its row of the table.
 #[derive(Clone, Copy)]
 pub(crate) struct MethodRow {
@@ -65,34 +72,20 @@ impl Method {
     pub fn named(word: &[u8]) -> Option<Method>
         ensures { result ≡ method_named word.now }
     {
-        if Method::Md5crypt.is_named(word) {
-            Some(Method::Md5crypt)
-        } else if Method::Sha256crypt.is_named(word) {
-            Some(Method::Sha256crypt)
-        } else if Method::Sha512crypt.is_named(word) {
-            Some(Method::Sha512crypt)
-        } else if Method::Scrypt.is_named(word) {
-            Some(Method::Scrypt)
-        } else {
-            None
-        }
+        METHODS.iter().copied().find(|method| {
+            let row = method.row();
+            word == row.name || word == row.alias
+        })
     }
 
     /// Returns the method of a number, 1, 5, 6 or 7, as in its prefix, or `None` for any other number.
     pub fn numbered(number: u32) -> Option<Method>
         ensures { result ≡ method_numbered number }
     {
-        if number == Method::Md5crypt.row().number {
-            Some(Method::Md5crypt)
-        } else if number == Method::Sha256crypt.row().number {
-            Some(Method::Sha256crypt)
-        } else if number == Method::Sha512crypt.row().number {
-            Some(Method::Sha512crypt)
-        } else if number == Method::Scrypt.row().number {
-            Some(Method::Scrypt)
-        } else {
-            None
-        }
+        METHODS
+            .iter()
+            .copied()
+            .find(|method| number == method.row().number)
     }
 
     /// Returns the method's row of the table.
@@ -144,28 +137,6 @@ impl Method {
             },
         }
     }
-
-    // Whether the word is the method's name or its alias.
-    fn is_named(self, word: &[u8]) -> bool
-        ensures { result ≡ (bytes_eq word.now (method_row self).name || bytes_eq word.now (method_row self).alias) }
-    {
-        let row = self.row();
-        word == row.name || word == row.alias
-    }
-
-    /// What a text of the method begins with.
-    pub(crate) fn prefix(self) -> &'static [u8]
-        ensures { result.now ≡ prefix self }
-    {
-        self.row().prefix
-    }
-
-    /// The most bytes of salt that the method keeps.
-    pub(crate) fn salt_limit(self) -> usize
-        ensures { result ≡ salt_limit self }
-    {
-        self.row().salt_limit
-    }
 }
 
 #[cfg(test)]
@@ -213,12 +184,6 @@ mod tests {
 
     #[test]
     fn each_method_equals_itself_alone(rt: HostRuntime) -> Result<(), Fail> {
-        let methods = [
-            Method::Md5crypt,
-            Method::Sha256crypt,
-            Method::Sha512crypt,
-            Method::Scrypt,
-        ];
-        are_distinct(&rt, &methods)
+        are_distinct(&rt, &METHODS)
     }
 }

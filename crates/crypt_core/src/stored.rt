@@ -55,7 +55,7 @@ impl<'a> StoredHash<'a> {
     }
 
     /// Returns the text.
-    pub fn text(&self) -> &[u8]
+    pub fn text(&self) -> &'a [u8]
         ensures { result.now ≡ self.now.text }
     {
         self.text

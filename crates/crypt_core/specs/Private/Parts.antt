@@ -36,8 +36,8 @@ abbrev pub HasField : List ℕ → List ℕ → Type 0
 HasField after field = (rest : List ℕ) × (after ≡ field ++ rest) × IsField field rest
 
 -- this is kept of the field of the salt
-abbrev pub HasSalt : Method → List ℕ → List ℕ → Type 0
-HasSalt method after salt = (field : List ℕ) × HasField after field × KeepsSalt method field salt
+abbrev pub SpellsSalt : Method → List ℕ → List ℕ → Type 0
+SpellsSalt method after salt = (field : List ℕ) × HasField after field × KeepsSalt method field salt
 
 -- the field is no salt of scrypt, which is the method
 abbrev pub LacksSalt : Method → List ℕ → Type 0

@@ -8,7 +8,7 @@ ghost use Rattle.crypt_core.specs.MadeSettings.{TakesSalt, IsMakeable, IsMakeRef
 use super::fault::MakeFault;
 use super::{Setting, in_alphabet};
 use crate::made_salt::{made_salt_length, salt_of};
-use crate::method::Method;
+use crate::method::{Method, SCRYPT_SALT_LIMIT};
 use crate::scheme::Scheme;
 use arrayvec::ArrayVec;
 
@@ -30,8 +30,12 @@ impl Setting {
         ensures refused { IfErr result (IsMakeRefused method cost salt.now) }
         ensures each_refusal { (fault : Fault) → IsMakeRefused method cost salt.now fault → result ≡ Err fault }
     {
-        match check_salt(method, salt) {
-            Ok(()) => Setting::with_salt(Scheme::made(method, cost)?, salt),
+        match given_salt(method, salt) {
+            Ok(salt) => {
+                let scheme = Scheme::made(method, cost)?;
+                prove!(scheme.is_in_range());
+                Ok(Setting { scheme, salt })
+            }
             Err(fault) => Err(fault),
         }
     }
@@ -47,13 +51,10 @@ impl Setting {
         ensures accepted { IsOk result ↔ TakesSalt (method_of scheme) salt.now }
         ensures refused { IfErr result (λ fault. (cost : ℕ) → IsMakeRefused (method_of scheme) cost salt.now fault) }
     {
-        match check_salt(scheme.method(), salt) {
-            Ok(()) => {
+        match given_salt(scheme.method(), salt) {
+            Ok(salt) => {
                 prove!(scheme.is_in_range());
-                Ok(Setting {
-                    scheme,
-                    salt: ArrayVec::try_from(salt).unwrap(),
-                })
+                Ok(Setting { scheme, salt })
             }
             Err(fault) => Err(fault),
         }
@@ -73,16 +74,17 @@ impl Setting {
     }
 }
 
-// The rules on a salt.
-fn check_salt(method: Method, salt: &[u8]) -> Result<(), MakeFault>
+// What is kept of a given salt, which is all of it, or the first rule that it breaks.
+fn given_salt(method: Method, salt: &[u8]) -> Result<ArrayVec<u8, SCRYPT_SALT_LIMIT>, MakeFault>
+    ensures kept { IfOk result (λ kept. kept.items ≡ salt.now) }
     ensures ok { OnOk result (TakesSalt method salt.now) }
     ensures err { IfErr result (λ fault. (cost : ℕ) → IsMakeRefused method cost salt.now fault) }
 {
-    if salt.is_empty() || salt.len() > method.salt_limit() {
+    if salt.is_empty() || salt.len() > method.row().salt_limit {
         return Err(MakeFault::SaltLength);
     }
     if !in_alphabet(salt) {
         return Err(MakeFault::SaltCharacter);
     }
-    Ok(())
+    Ok(ArrayVec::try_from(salt).unwrap())
 }

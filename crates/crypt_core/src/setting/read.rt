@@ -3,15 +3,15 @@
 //! The prefix, the cost part and the salt are taken off the front, one after another. It takes no
 //! memory and no meter, and a number of any length is held while it is read.
 
-ghost use Rattle.std.specs.Prelude.{◌≡◌, ◌≤◌, ◌↔◌, length, ◌++◌, ◌==◌, min, position, IsTrue, IfOk, IfErr, OnOk, OnSome, IfSome, IfNone, MatchOption};
+ghost use Rattle.std.specs.Prelude.{◌≡◌, ◌≤◌, ◌↔◌, length, ◌++◌, min, take, IsTrue, IfOk, IfErr, OnOk, OnSome, IfSome, IfNone};
 ghost use Rattle.std.specs.Str.Parse.{digits_value};
 ghost use Rattle.kdf_core.specs.Params.{cost_of, IsAccepted};
 ghost use Rattle.crypt_core.specs.declared.setting.fault.SettingFault.{SettingFault as Refusal};
 ghost use Rattle.crypt_core.specs.Methods.{prefix};
-ghost use Rattle.crypt_core.specs.Private.Parts.{AllRefused, HasField, HasNumber, HasNumbers, HasRounds, HasSalt, LacksSalt, field_rounds};
+ghost use Rattle.crypt_core.specs.Private.Parts.{AllRefused, HasField, HasNumber, HasNumbers, HasRounds, SpellsSalt, LacksSalt, field_rounds};
 ghost use Rattle.crypt_core.specs.Readings.{IsReadOneWay};
 ghost use Rattle.crypt_core.specs.Refusals.{IsRefused, IsShaText, LacksCost, LacksNumber};
-ghost use Rattle.crypt_core.specs.Settings.{SettingValue, IsSettingByte, IsSettingText, dollar, BeginsWith, IsRoundsNumber, scrypt_part_len, IsScryptSalt, SpellsScheme, Spells};
+ghost use Rattle.crypt_core.specs.Settings.{SettingValue, IsSettingByte, IsSettingText, IsRoundsNumber, scrypt_part_len, IsScryptSalt, SpellsScheme, Spells};
 ghost use Rattle.crypt_core.specs.Rounds.{max_rounds};
 
 use super::fault::SettingFault;
@@ -36,21 +36,14 @@ impl Setting {
 
         ensures one_reading { IsReadOneWay text.now }
     {
-        parse(text)
-    }
-}
-
-fn parse(text: &[u8]) -> Result<Setting, SettingFault>
-    ensures spelled { IfOk result (Spells text.now) }
-    ensures refused { IfErr result (IsRefused text.now) }
-{
-    check_bytes(text)?;
-    match scheme_at(text) {
-        Ok((scheme, after)) => match salt_at(scheme.method(), after) {
-            Some(salt) => Ok(Setting { scheme, salt }),
-            None => Err(SettingFault::BadSalt),
-        },
-        Err(fault) => Err(fault),
+        check_bytes(text)?;
+        match scheme_at(text) {
+            Ok((scheme, after)) => match salt_at(scheme.method(), after) {
+                Some(salt) => Ok(Setting { scheme, salt }),
+                None => Err(SettingFault::BadSalt),
+            },
+            Err(fault) => Err(fault),
+        }
     }
 }
 
@@ -80,29 +73,22 @@ fn scheme_at(text: &[u8]) -> Result<(Scheme, &[u8]), SettingFault>
     ensures ok { IfOk result (λ x. SpellsScheme text.now x.0 x.1.now) }
     ensures err { IfErr result (IsRefused text.now) }
 {
-    if let Some(after) = after_front(text, Method::Md5crypt.prefix()) {
+    if let Some(after) = text.strip_prefix(Method::Md5crypt.row().prefix) {
         return Ok((Scheme::Md5crypt, after));
     }
-    if let Some(after) = after_front(text, Method::Sha256crypt.prefix()) {
+    if let Some(after) = text.strip_prefix(Method::Sha256crypt.row().prefix) {
         let (number, rest) = rounds_at(after)?;
         return Ok((Scheme::Sha256crypt(rounds_of(number)), rest));
     }
-    if let Some(after) = after_front(text, Method::Sha512crypt.prefix()) {
+    if let Some(after) = text.strip_prefix(Method::Sha512crypt.row().prefix) {
         let (number, rest) = rounds_at(after)?;
         return Ok((Scheme::Sha512crypt(rounds_of(number)), rest));
     }
-    if let Some(after) = after_front(text, Method::Scrypt.prefix()) {
+    if let Some(after) = text.strip_prefix(Method::Scrypt.row().prefix) {
         let params = params_at(after)?;
         return Ok((Scheme::Scrypt(params), &after[COST_CHARACTERS..]));
     }
     Err(SettingFault::UnknownScheme)
-}
-
-// What follows the front, or `None` where the text doesn't begin with it.
-fn after_front<'a>(text: &'a [u8], front: &[u8]) -> Option<&'a [u8]>
-    ensures { MatchOption result (¬ BeginsWith text.now front.now) (λ rest. text.now ≡ front.now ++ rest.now) }
-{
-    text.strip_prefix(front)
 }
 
 // The number of the field for SHA-crypt's rounds, if there is one, and what comes after it.
@@ -110,7 +96,7 @@ fn rounds_at(after: &[u8]) -> Result<(Option<u64>, &[u8]), SettingFault>
     ensures ok { IfOk result (λ x. HasRounds after.now (field_rounds x.0) x.1.now) }
     ensures err { IfErr result (AllRefused (λ text. IsShaText text after.now)) }
 {
-    let Some(field) = after_front(after, ROUNDS_WORD) else {
+    let Some(field) = after.strip_prefix(ROUNDS_WORD) else {
         return Ok((None, after));
     };
     let Some((number, rest)) = number_at(field) else {
@@ -134,9 +120,9 @@ fn number_at(field: &[u8]) -> Option<(u64, &[u8])>
     ensures none { IfNone result (LacksNumber field.now) }
     ensures some { IfSome result (λ x. HasNumber field.now x.0 x.1.now) }
 {
-    let end = dollar_at(field)?;
+    let end = field_len(field);
     let digits = &field[..end];
-    if !is_rounds_number(digits) {
+    if end == field.len() || !is_rounds_number(digits) {
         return None;
     }
     Some((capped_number(digits), &field[end + 1..]))
@@ -201,11 +187,13 @@ fn numbers_at(after: &[u8]) -> Option<(u8, u32, u32)>
 // What is kept of the salt's field, or `None` where scrypt doesn't take it.
 fn salt_at(method: Method, after: &[u8]) -> Option<ArrayVec<u8, SCRYPT_SALT_LIMIT>>
     ensures none { IfNone result (LacksSalt method after.now) }
-    ensures some { IfSome result (λ salt. HasSalt method after.now salt.items) }
+    ensures some { IfSome result (λ salt. SpellsSalt method after.now salt.items) }
 {
-    let field = field_at(after);
+    let field = &after[..field_len(after)];
     if method != Method::Scrypt {
-        return Some(ArrayVec::try_from(&field[..field.len().min(method.salt_limit())]).unwrap());
+        return Some(ArrayVec::try_from(
+            &field[..field.len().min(method.row().salt_limit)],
+        ).unwrap());
     }
     if !is_scrypt_salt(field) {
         return None;
@@ -213,25 +201,19 @@ fn salt_at(method: Method, after: &[u8]) -> Option<ArrayVec<u8, SCRYPT_SALT_LIMI
     Some(ArrayVec::try_from(field).unwrap())
 }
 
-// The salt field: all before the first `$`.
-fn field_at(after: &[u8]) -> &[u8]
-    ensures { HasField after.now result.now }
+// How long the field is that begins there, which ends before the first `$`.
+fn field_len(after: &[u8]) -> usize
+    ensures field { HasField after.now (take result after.now) }
+    ensures within { result ≤ length after.now }
 {
-    match dollar_at(after) {
-        Some(end) => &after[..end],
-        None => after,
-    }
-}
-
-// Where the first `$` stands.
-fn dollar_at(bytes: &[u8]) -> Option<usize>
-    ensures { result ≡ position (λ b. b == dollar) bytes.now }
-{
-    bytes.iter().position(|byte| *byte == b'$')
+    after
+        .iter()
+        .position(|byte| *byte == b'$')
+        .unwrap_or(after.len())
 }
 
 fn is_scrypt_salt(salt: &[u8]) -> bool
     ensures { IsTrue result ↔ IsScryptSalt salt.now }
 {
-    salt.len() <= Method::Scrypt.salt_limit() && in_alphabet(salt)
+    salt.len() <= SCRYPT_SALT_LIMIT && in_alphabet(salt)
 }

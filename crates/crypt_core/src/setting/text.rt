@@ -24,10 +24,9 @@ impl Setting {
         ensures short { array_vec_len result ≤ canonical_limit }
         ensures room { array_vec_len result + packed_len (method_of self.now.scheme) < hash_limit }
     {
-        let mut text = ArrayVec::new();
-        append(&mut text, self.scheme.method().prefix());
+        let mut text = ArrayVec::try_from(self.scheme.method().row().prefix).unwrap();
         append_cost(&mut text, &self.scheme);
-        append(&mut text, self.salt.as_slice());
+        text.try_extend_from_slice(self.salt.as_slice()).unwrap();
         text
     }
 }
@@ -41,9 +40,9 @@ fn append_cost(text: &mut ArrayVec<u8, TEXT_CAPACITY>, scheme: &Scheme)
         Scheme::Md5crypt => {}
         Scheme::Sha256crypt(rounds) | Scheme::Sha512crypt(rounds) => {
             if rounds.is_written() {
-                append(text, ROUNDS_WORD);
+                text.try_extend_from_slice(ROUNDS_WORD).unwrap();
                 append_decimal(text, rounds.count());
-                append(text, b"$");
+                text.push(b'$');
             }
         }
         Scheme::Scrypt(params) => {
@@ -65,11 +64,4 @@ fn append_decimal(text: &mut ArrayVec<u8, TEXT_CAPACITY>, number: u32)
     }
     append_decimal(text, number / 10);
     text.push(b'0' + (number % 10) as u8);
-}
-
-fn append(text: &mut ArrayVec<u8, TEXT_CAPACITY>, piece: &[u8])
-    requires room { array_vec_len text.old + length piece.now ≤ TEXT_CAPACITY }
-    ensures { text.new.items ≡ text.old.items ++ piece.now }
-{
-    text.try_extend_from_slice(piece).unwrap();
 }

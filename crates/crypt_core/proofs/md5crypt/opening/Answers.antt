@@ -33,7 +33,7 @@ feed_digits-requires c =
       ap (λ other. length (digit_pieces (0 ∷ []) other (length p))) first,
       length-digits p,
       digit_bytes-few 1 1 1 (length p) (omega arith) (omega arith),
-      ap length c.prefix.ensures,
+      ap length c.row.ensures.prefix,
     )
 
 pub returns-clause-count : goal.returns-clause-count
@@ -47,5 +47,5 @@ returns-clause-count c =
     let four = bytes_more before _ c.feed_cycle.new.meter _ _ _ three c.feed_cycle.ensures.count refl in
     let five = bytes_more before _ c.feed_digits.new.meter _ _ _ four last refl in
     digest_after before c.feed_digits.new.meter c.finish.new.meter (opening_message p s) _ five c.finish.ensures.count
-    (omega (arith, length-opening p s, length-digits p, ap length c.prefix.ensures))
+    (omega (arith, length-opening p s, length-digits p, ap length c.row.ensures.prefix))
     ∙ ap (λ m. with_digest m (opening_message p s)) c.alternate_digest-alternate.ensures.count

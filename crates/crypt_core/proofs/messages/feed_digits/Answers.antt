@@ -1,8 +1,9 @@
-use Rattle.std.proofs.Common.{◌≡◌, ℕ, ◌/◌, ◌%◌, List, [], ◌++◌, length, arith, refl, sym, ◌∙◌, ap, append_assoc}
+use Rattle.std.proofs.Common.{◌≡◌, ℕ, ◌/◌, ◌%◌, List, [], ◌++◌, length, arith, refl, sym, ◌∙◌, ap, append_assoc, rules}
 use Rattle.std.proofs.lemmas.List.{append-nil, length-append}
 use Rattle.crypt_core.specs.Cycle.{by_digit, digit_pieces}
 use Rattle.crypt_core.proofs.CycleLemmas.{digit_pieces-step, no_pieces}
 use Rattle.crypt_core.proofs.Metering.{bytes_more, bytes_none}
+use Rattle.crypt_core.proofs.messages.feed_digits.Goals.{then-rest-eq1, else-rest-eq1}
 use Rattle.crypt_core.proofs.messages.feed_digits.Goals as goal
 
 pub digits-init : goal.digits-init
@@ -18,7 +19,11 @@ feed-requires g c =
     let fed = c.digits.invariant.0 in
     let bytes = ap (λ m. m.bytes) c.digits.invariant.3 in
     let all = ap length (rw (digit_pieces-step one other n c.digits-test.true) at c.digits.invariant.2) in
-    rw c.digit_piece.ensures (omega (arith, bytes, all, c.requires, length-append fed (piece ++ half), length-append piece half))
+    let piece_is : c.if-rest-eq1.piece.now ≡ piece = elim c.if-rest-eq1.branch [
+      | then-rest-eq1 w ↦ search rules
+      | else-rest-eq1 w ↦ search rules
+    ] in
+    rw piece_is (omega (arith, bytes, all, c.requires, length-append fed (piece ++ half), length-append piece half))
 
 pub digits-preserved : goal.digits-preserved
 digits-preserved g c =
@@ -26,9 +31,13 @@ digits-preserved g c =
     let other = c.args.other.now in
     let n = c.digits.rest in
     let fed = c.digits.invariant.0 in
-    let piece = c.digit_piece.result.now in
+    let piece = c.if-rest-eq1.piece.now in
+    let piece_is : piece ≡ by_digit one other (n % 2) = elim c.if-rest-eq1.branch [
+      | then-rest-eq1 w ↦ search rules
+      | else-rest-eq1 w ↦ search rules
+    ] in
     let half = digit_pieces one other (n / 2) in
-    let split = rw (digit_pieces-step one other n c.digits-test.true, ← c.digit_piece.ensures) at c.digits.invariant.2 in (
+    let split = rw (digit_pieces-step one other n c.digits-test.true, ← piece_is) at c.digits.invariant.2 in (
       fed ++ piece,
       (λ m h. rw (← append_assoc) (c.feed.ensures.message _ (c.digits.invariant.1 m h))),
       append_assoc fed piece half ∙ split,

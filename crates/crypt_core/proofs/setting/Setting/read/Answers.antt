@@ -1,17 +1,46 @@
 use Rattle.std.specs.Prelude.{Ok, Err}
-use Rattle.crypt_core.specs.Readings.{IsReadOneWay}
-use Rattle.crypt_core.proofs.Refusals.{one_reading, reading_is}
+use Rattle.std.proofs.Common.{sym, subst, ◌∙◌, rules}
+use Rattle.crypt_core.specs.Refusals.{IsRefused}
+use Rattle.crypt_core.specs.Settings.{SpellsScheme}
+use Rattle.crypt_core.specs.declared.setting.fault.SettingFault.TheVariants.{BadSalt}
+use Rattle.crypt_core.proofs.First.{refused_salt}
+use Rattle.crypt_core.proofs.Refusals.{one_reading, only_refusal, only_setting}
 use Rattle.crypt_core.proofs.setting.Setting.read.Goals as goal
 
-pub returns-clause-each_setting : goal.returns-clause-each_setting
-unfolding IsReadOneWay
-returns-clause-each_setting c = λ kept spelled.
-    one_reading c.args.text.now c.parse.result (Ok kept) (reading_is c.args.text.now c.parse.result c.parse.ensures.spelled c.parse.ensures.refused) spelled
+pub returns-in_err-check_bytes-clause-each_setting : goal.returns-in_err-check_bytes-clause-each_setting
+returns-in_err-check_bytes-clause-each_setting c =
+    only_setting c.args.text.now c.from_residual.result (search rules) (search rules)
 
-pub returns-clause-each_refusal : goal.returns-clause-each_refusal
-unfolding IsReadOneWay
-returns-clause-each_refusal c = λ fault refused.
-    one_reading c.args.text.now c.parse.result (Err fault) (reading_is c.args.text.now c.parse.result c.parse.ensures.spelled c.parse.ensures.refused) refused
+pub returns-in_err-check_bytes-clause-one_reading : goal.returns-in_err-check_bytes-clause-one_reading
+returns-in_err-check_bytes-clause-one_reading c = one_reading c.args.text.now
 
-pub returns-clause-one_reading : goal.returns-clause-one_reading
-returns-clause-one_reading c = one_reading c.args.text.now
+pub returns-in-Some-clause-each_setting : goal.returns-in-Some-clause-each_setting
+returns-in-Some-clause-each_setting c = only_setting c.args.text.now _ (search rules) (search rules)
+
+pub returns-in-Some-clause-each_refusal : goal.returns-in-Some-clause-each_refusal
+returns-in-Some-clause-each_refusal c = only_refusal c.args.text.now _ (search rules) (search rules)
+
+pub returns-in-Some-clause-one_reading : goal.returns-in-Some-clause-one_reading
+returns-in-Some-clause-one_reading c = one_reading c.args.text.now
+
+pub returns-in-None-clause-refused : goal.returns-in-None-clause-refused
+returns-in-None-clause-refused c =
+    let bad = c.in-None.ensures.none in
+    let field = bad.2 in
+    refused_salt c.args.text.now c.in-Ok.scheme bad.1 field.0 c.in_ok-check_bytes.ensures.ok
+    (subst (SpellsScheme c.args.text.now c.in-Ok.scheme) field.1 c.in-Ok.ensures.ok) (sym c.method.ensures ∙ bad.0) field.2 bad.3
+
+pub returns-in-None-clause-each_setting : goal.returns-in-None-clause-each_setting
+returns-in-None-clause-each_setting c = only_setting c.args.text.now (Err BadSalt) tt (returns-in-None-clause-refused c)
+
+pub returns-in-None-clause-each_refusal : goal.returns-in-None-clause-each_refusal
+returns-in-None-clause-each_refusal c = only_refusal c.args.text.now (Err BadSalt) tt (returns-in-None-clause-refused c)
+
+pub returns-in-None-clause-one_reading : goal.returns-in-None-clause-one_reading
+returns-in-None-clause-one_reading c = one_reading c.args.text.now
+
+pub returns-in-Err-clause-each_setting : goal.returns-in-Err-clause-each_setting
+returns-in-Err-clause-each_setting c = only_setting c.args.text.now (Err c.in-Err.fault) tt c.in-Err.ensures.err
+
+pub returns-in-Err-clause-one_reading : goal.returns-in-Err-clause-one_reading
+returns-in-Err-clause-one_reading c = one_reading c.args.text.now

@@ -1,26 +1,32 @@
 use Rattle.crypt_core.specs.Crypt.{hash_limit}
-use Rattle.std.proofs.Common.{◌≡◌, ◌+◌, ◌<◌, length, ap, subst, ◌∙◌, length-append, arith}
+use Rattle.std.proofs.Common.{◌≡◌, ◌+◌, ◌<◌, List, ℕ, ◌++◌, length, ap, subst, ◌∙◌, length-append, arith}
 use Rattle.crypt_core.specs.declared.method.Method.{Method}
 use Rattle.crypt_core.specs.Methods.{prefix}
 use Rattle.crypt_core.specs.Packing.{packed_len}
-use Rattle.crypt_core.specs.Settings.{SettingValue, Spells, cost_part, canonical_text}
+use Rattle.crypt_core.specs.Settings.{SettingValue, Spells, canonical_text, cost_part}
 use Rattle.crypt_core.specs.Schemes.{method_of}
 use Rattle.crypt_core.proofs.Canonical.{setting_bounded, canonical_short, canonical_spells, packed_short}
 use Rattle.crypt_core.proofs.setting.Setting.text.Goals as goal
 
+-- how long the text is with each part
+lengths : (front cost salt begun costed salted whole : List ℕ) → length begun ≡ length front → costed ≡ begun ++ cost → salted ≡ salt → whole ≡ costed ++ salted → length whole ≡ length front + length cost + length salt
+lengths front cost salt begun costed salted whole begins with_cost is_salt with_salt =
+    omega (arith, begins, ap length with_cost, ap length is_salt, ap length with_salt, length-append begun cost, length-append costed salted)
+
 pub append_cost-requires : goal.append_cost-requires
 append_cost-requires c =
-    let kept : SettingValue = record { scheme = c.self.inside.scheme; salt = c.self.inside.salt.items } in
-    let bounded = setting_bounded kept c.self.invariant in
-    let front : length c.prefix.result.now ≡ length (prefix (method_of c.self.inside.scheme)) = ap length c.prefix.ensures ∙ ap (λ (m : Method). length (prefix m)) c.method.ensures in
-    omega (arith, canonical_short kept.scheme kept.salt bounded.0 bounded.1, front, ap length c.append.ensures, length-append c.new-text.result.items c.prefix.result.now, ap length c.new-text.ensures)
+    let bounded = setting_bounded (record { scheme = c.self.inside.scheme; salt = c.self.inside.salt.items }) c.self.invariant in
+    let front : length c.unwrap-text.result.items ≡ length (prefix (method_of c.self.inside.scheme)) =
+    ap length ((rw c.unwrap-text.ensures at c.try_from.ensures).0 ∙ c.row.ensures.prefix) ∙ ap (λ (m : Method). length (prefix m)) c.method.ensures in
+    record { room = omega (arith, canonical_short c.self.inside.scheme c.self.inside.salt.items bounded.0 bounded.1, front) }
 
-pub append-requires-2 : goal.append-requires-2
-append-requires-2 c =
-    let kept : SettingValue = record { scheme = c.self.inside.scheme; salt = c.self.inside.salt.items } in
-    let bounded = setting_bounded kept c.self.invariant in
-    let front : length c.prefix.result.now ≡ length (prefix (method_of c.self.inside.scheme)) = ap length c.prefix.ensures ∙ ap (λ (m : Method). length (prefix m)) c.method.ensures in
-    record { room = omega (arith, canonical_short kept.scheme kept.salt bounded.0 bounded.1, front, ap length c.append.ensures, length-append c.new-text.result.items c.prefix.result.now, ap length c.new-text.ensures, ap length c.append_cost.ensures, length-append c.append.new.text.items (cost_part c.self.inside.scheme), ap length c.as_slice.ensures.value) }
+pub unwrap-requires : goal.unwrap-requires
+unwrap-requires c =
+    let bounded = setting_bounded (record { scheme = c.self.inside.scheme; salt = c.self.inside.salt.items }) c.self.invariant in
+    let front : length c.unwrap-text.result.items ≡ length (prefix (method_of c.self.inside.scheme)) =
+    ap length ((rw c.unwrap-text.ensures at c.try_from.ensures).0 ∙ c.row.ensures.prefix) ∙ ap (λ (m : Method). length (prefix m)) c.method.ensures in
+    c.try_extend_from_slice.ensures.variant.1
+    (omega (arith, canonical_short c.self.inside.scheme c.self.inside.salt.items bounded.0 bounded.1, front, ap length c.append_cost.ensures, length-append c.unwrap-text.result.items (cost_part c.self.inside.scheme), ap length c.as_slice.ensures.value))
 
 pub returns-clause-spelled : goal.returns-clause-spelled
 returns-clause-spelled c =
@@ -28,15 +34,21 @@ returns-clause-spelled c =
 
 pub returns-clause-short : goal.returns-clause-short
 returns-clause-short c =
-    let kept : SettingValue = record { scheme = c.self.inside.scheme; salt = c.self.inside.salt.items } in
-    let bounded = setting_bounded kept c.self.invariant in
-    let front : length c.prefix.result.now ≡ length (prefix (method_of c.self.inside.scheme)) = ap length c.prefix.ensures ∙ ap (λ (m : Method). length (prefix m)) c.method.ensures in
-    omega (arith, canonical_short kept.scheme kept.salt bounded.0 bounded.1, front, ap length c.append.ensures, length-append c.new-text.result.items c.prefix.result.now, ap length c.new-text.ensures, ap length c.append_cost.ensures, length-append c.append.new.text.items (cost_part c.self.inside.scheme), ap length c.append-2.ensures, length-append c.append_cost.new.text.items c.as_slice.result.now, ap length c.as_slice.ensures.value)
+    let scheme = c.self.inside.scheme in
+    let salt = c.self.inside.salt.items in
+    let bounded = setting_bounded (record { scheme = scheme; salt = salt }) c.self.invariant in
+    let front : length c.unwrap-text.result.items ≡ length (prefix (method_of c.self.inside.scheme)) =
+    ap length ((rw c.unwrap-text.ensures at c.try_from.ensures).0 ∙ c.row.ensures.prefix) ∙ ap (λ (m : Method). length (prefix m)) c.method.ensures in
+    let whole = lengths (prefix (method_of scheme)) (cost_part scheme) salt c.unwrap-text.result.items c.append_cost.new.text.items c.as_slice.result.now c.try_extend_from_slice.new.self.items front c.append_cost.ensures c.as_slice.ensures.value (rw c.unwrap.ensures at c.try_extend_from_slice.ensures.ok) in
+    omega (arith, canonical_short scheme salt bounded.0 bounded.1, whole)
 
 pub returns-clause-room : goal.returns-clause-room
 returns-clause-room c =
-    let kept : SettingValue = record { scheme = c.self.inside.scheme; salt = c.self.inside.salt.items } in
-    let bounded = setting_bounded kept c.self.invariant in
-    let front : length c.prefix.result.now ≡ length (prefix (method_of c.self.inside.scheme)) = ap length c.prefix.ensures ∙ ap (λ (m : Method). length (prefix m)) c.method.ensures in
-    subst (λ (k : SettingValue). length c.append-2.new.text.items + packed_len (method_of k.scheme) < hash_limit) c.self.view_is
-    (omega (arith, packed_short kept.scheme kept.salt bounded.0 bounded.1, front, ap length c.append.ensures, length-append c.new-text.result.items c.prefix.result.now, ap length c.new-text.ensures, ap length c.append_cost.ensures, length-append c.append.new.text.items (cost_part c.self.inside.scheme), ap length c.append-2.ensures, length-append c.append_cost.new.text.items c.as_slice.result.now, ap length c.as_slice.ensures.value))
+    let scheme = c.self.inside.scheme in
+    let salt = c.self.inside.salt.items in
+    let bounded = setting_bounded (record { scheme = scheme; salt = salt }) c.self.invariant in
+    let front : length c.unwrap-text.result.items ≡ length (prefix (method_of c.self.inside.scheme)) =
+    ap length ((rw c.unwrap-text.ensures at c.try_from.ensures).0 ∙ c.row.ensures.prefix) ∙ ap (λ (m : Method). length (prefix m)) c.method.ensures in
+    let whole = lengths (prefix (method_of scheme)) (cost_part scheme) salt c.unwrap-text.result.items c.append_cost.new.text.items c.as_slice.result.now c.try_extend_from_slice.new.self.items front c.append_cost.ensures c.as_slice.ensures.value (rw c.unwrap.ensures at c.try_extend_from_slice.ensures.ok) in
+    subst (λ (k : SettingValue). length c.try_extend_from_slice.new.self.items + packed_len (method_of k.scheme) < hash_limit) c.self.view_is
+    (omega (arith, packed_short scheme salt bounded.0 bounded.1, whole))

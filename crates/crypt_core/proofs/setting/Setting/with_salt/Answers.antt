@@ -1,17 +1,14 @@
-use Rattle.std.proofs.Common.{◌≡◌, ℕ, List, subst, sym, rules}
+use Rattle.std.proofs.Common.{subst}
 use Rattle.crypt_core.specs.MadeSettings.{IsMakeRefused, TakesSalt}
 use Rattle.crypt_core.specs.Schemes.{method_of}
-use Rattle.crypt_core.specs.Settings.{IsSetting}
 use Rattle.crypt_core.specs.declared.method.Method.{Method}
-use Rattle.crypt_core.proofs.Making.{spelled, taken_breaks_none}
+use Rattle.crypt_core.proofs.Making.{given, taken_breaks_none}
 use Rattle.crypt_core.proofs.setting.Setting.with_salt.Goals as goal
 
 pub invariant_of-result : goal.invariant_of-result
 invariant_of-result c =
     let takes : TakesSalt (method_of c.args.scheme) c.args.salt.now = subst (λ (m : Method). TakesSalt m c.args.salt.now) c.method.ensures c.in-Ok.ensures.ok in
-    let copied : c.unwrap.result.items ≡ c.args.salt.now = search rules in
-    subst (λ (xs : List ℕ). IsSetting (record { scheme = c.args.scheme; salt = xs })) (sym copied)
-    (spelled c.args.scheme c.args.salt.now c.is_in_range.ensures.in_range takes.short takes.characters)
+    given c.args.scheme c.in-Ok.salt.items c.args.salt.now c.is_in_range.ensures.in_range takes c.in-Ok.ensures.kept
 
 pub returns-in-Err-clause-refused : goal.returns-in-Err-clause-refused
 returns-in-Err-clause-refused c = λ cost.

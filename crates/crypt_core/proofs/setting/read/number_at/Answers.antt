@@ -1,14 +1,21 @@
-use Rattle.std.proofs.Common.{take, sym, refl}
-use Rattle.crypt_core.proofs.Steps.{on_none, no_number, only_number, number_parts}
+use Rattle.std.proofs.Common.{◌≡◌, true, take, arith, rules}
+use Rattle.crypt_core.proofs.Steps.{no_number, only_number, number_parts}
+use Rattle.crypt_core.proofs.setting.read.number_at.Goals.{then-end-field-via-then-end-field, then-end-field-via-else-end-field+then-not-is_rounds_number}
 use Rattle.crypt_core.proofs.setting.read.number_at.Goals as goal
 
-pub returns-in_err-end-clause-none : goal.returns-in_err-end-clause-none
-returns-in_err-end-clause-none c = on_none c.from_residual.result _ (no_number c.args.field.now (sym c.in_err-end.ensures))
-
-pub returns-then-not-is_rounds_number-clause-none : goal.returns-then-not-is_rounds_number-clause-none
-returns-then-not-is_rounds_number-clause-none c =
-    only_number c.args.field.now c.in_ok-end.end (sym c.in_ok-end.ensures) (λ h. absurd (cc (c.if-not-is_rounds_number.ensures.1 h)))
+pub returns-then-end-field-clause-none : goal.returns-then-end-field-clause-none
+returns-then-end-field-clause-none c =
+    let at = c.field_len-end.ensures.field in
+    elim c.then-end-field.branch [
+      | then-end-field-via-then-end-field w ↦ no_number c.args.field.now c.field_len-end.result at (omega arith)
+      | then-end-field-via-else-end-field+then-not-is_rounds_number w ↦ only_number c.args.field.now c.field_len-end.result at (λ h. absurd (cc (w.if-not-is_rounds_number.ensures.1 h)))
+    ]
 
 pub returns-clause-some : goal.returns-clause-some
 returns-clause-some c =
-    (take c.in_ok-end.end c.args.field.now, c.if-not-is_rounds_number.ensures.0 refl, number_parts c.args.field.now c.in_ok-end.end (sym c.in_ok-end.ensures), c.capped_number.ensures)
+    let proper : c.is_rounds_number.result ≡ true = search rules in (
+      take c.field_len-end.result c.args.field.now,
+      c.is_rounds_number.ensures.0 proper,
+      number_parts c.args.field.now c.field_len-end.result c.field_len-end.ensures.field (omega arith),
+      c.capped_number.ensures,
+    )
