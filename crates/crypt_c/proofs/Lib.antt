@@ -1,2 +1,6 @@
-pub mod Hashing
-pub mod OneAnswer
+pub mod Anew
+pub mod NewHashes
+pub mod Putting
+pub mod ReasonNumbers
+pub mod Reading
+pub mod Verdicts
