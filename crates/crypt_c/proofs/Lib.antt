@@ -1,4 +1,3 @@
-pub mod Anew
 pub mod NewHashes
 pub mod Putting
 pub mod ReasonNumbers

@@ -1,5 +1,5 @@
 -- What each call reads, and what it reports.
-use Rattle.std.specs.Prelude.{◌≡◌, ◌⊎◌, ◌^◌, ◌<◌, ◌≤◌, if◌then◌else◌, ℕ, nat_lt, MatchBool, MatchResult, All, List, [], length, Some, None, Result, Ok, Err}
+use Rattle.std.specs.Prelude.{◌≡◌, ◌⊎◌, ◌<◌, ◌≤◌, ◌==◌, if◌then◌else◌, ℕ, nat_lt, MatchBool, MatchResult, List, [], ◌∷◌, length, Some, None, Result, Ok, Err}
 use Rattle.std.specs.Str.{bytes_eq}
 use Rattle.prims_core.specs.Work.{no_work}
 use Rattle.crypt_core.specs.Crypt.{crypt}
@@ -91,19 +91,16 @@ Hashes budget lock old (Ok (password, kept)) report new =
     (λ most. PutsHash password kept most lock old report new)
     (λ refusal. Leaves refusal lock old report new)
 
--- three words of 64 bits
-abbrev pub AreThreeWords : List ℕ → Type 0
-AreThreeWords words = (length words ≡ 3) × All (λ word. word < 2 ^ 64) words
-
--- the hash by a setting that three words make, whatever they are; or where the system gave none, though the budget and
--- the room allow the hash, the token is put
-abbrev pub HashesAnew : ℕ → List ℕ → Result (List ℕ × Scheme) Refusal → Report → List ℕ → Type 0
-HashesAnew budget old (Err refusal) report new = Leaves (refused refusal 0) (token []) old report new
-HashesAnew budget old (Ok (password, scheme)) report new =
-    (words : List ℕ) × AreThreeWords words
-    × (Hashes budget (token []) old (Ok (password, salted scheme words)) report new
-    ⊎ ((most : ℕ) × (admission budget (length old) password (salted scheme words) ≡ Ok most)
-    × Leaves (refused NoRandomWords most) (token []) old report new))
+-- the hash by the setting that three words make. Without them it is refused, as the hash by another three would be, or
+-- where that is not, because there are none
+abbrev pub HashesAnew : List ℕ → ℕ → List ℕ → Result (List ℕ × Scheme) Refusal → Report → List ℕ → Type 0
+HashesAnew words budget old (Err refusal) report new = Leaves (refused refusal 0) (token []) old report new
+HashesAnew words budget old (Ok (password, scheme)) report new =
+    MatchBool (length words == 3)
+    (Hashes budget (token []) old (Ok (password, salted scheme words)) report new)
+    (MatchResult (admission budget (length old) password (salted scheme (0 ∷ 0 ∷ 0 ∷ [])))
+    (λ most. Leaves (refused NoRandomWords most) (token []) old report new)
+    (λ refusal. Leaves refusal (token []) old report new))
 
 -- ---- What a hash will cost
 

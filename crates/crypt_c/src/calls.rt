@@ -6,7 +6,7 @@ ghost use Rattle.crypt_core.specs.Passwords.{password_limit};
 ghost use Rattle.crypt_core.specs.Settings.{SettingValue};
 ghost use Rattle.crypt_core.specs.Work.{cost};
 ghost use Rattle.crypt_core.specs.declared.scheme.Scheme.{Scheme as Made};
-ghost use Rattle.crypt_c.specs.Calls.{AreThreeWords, Both, Hashes, HashesAnew, IsLengthRead, IsPasswordRead, IsSchemeMade, IsSettingRead, Makes, PutsHash, Verifies, admission, bounded, rehashed};
+ghost use Rattle.crypt_c.specs.Calls.{Both, Hashes, HashesAnew, IsLengthRead, IsPasswordRead, IsSchemeMade, IsSettingRead, Makes, PutsHash, Verifies, admission, bounded, rehashed};
 ghost use Rattle.crypt_c.specs.Private.Steps.{IsHashPut};
 ghost use Rattle.crypt_c.specs.Reports.{Leaves, refused, token};
 ghost use Rattle.crypt_c.specs.declared.reason.Refusal.{Refusal as Refused};
@@ -19,7 +19,6 @@ use crypt_core::password::{PASSWORD_LIMIT, Password, PasswordFault};
 use crypt_core::scheme::Scheme;
 use crypt_core::setting::Setting;
 use crypt_core::work::{bound, cost};
-use libc::getentropy;
 use prims_core::meter::Meter;
 use std::alloc::Global;
 
@@ -163,14 +162,16 @@ pub(crate) fn put_hash(
     }
 }
 
-/// Puts the hash of a password by a new setting, which random words make, within a budget; or after a refusal the token.
+/// Puts the hash of a password by a new setting, which three words make, within a budget; or after a refusal, and without
+/// words, the token.
 pub(crate) fn put_new_hash(
     alloc: Global,
     given: Result<(Password, Scheme), Refusal>,
+    words: &[u64],
     budget: u64,
     out: &mut [u8],
 ) -> Report
-    ensures hashes { HashesAnew budget out.old given result out.new }
+    ensures hashes { HashesAnew words.now budget out.old given result out.new }
     ensures within { pos 0 <ℤ result.reason → result.cost ≤ budget }
     ensures put { pos 0 <ℤ result.reason → IsOkAnd given (λ both. IsHashPut both.0 both.1 result out.new) }
 {
@@ -178,12 +179,21 @@ pub(crate) fn put_new_hash(
         Ok(both) => both,
         Err(refusal) => return leave(Report::refused(refusal, 0), out, token(b"")),
     };
-    // Neither the cost nor the length of a hash depends on the words.
-    let trial = Setting::salted(scheme, [0; 3]);
-    match admit(&password, &trial, budget, out.len()) {
-        Ok(most) => put_salted(alloc, password, trial.scheme(), most, budget, draw(), out),
-        Err(refused) => leave(refused, out, token(b"")),
+    if words.len() == 3 {
+        let setting = Setting::salted(scheme, [words[0], words[1], words[2]]);
+        return put_hash(alloc, Ok((password, setting)), budget, token(b""), out);
     }
+    // Neither the cost nor the length of a hash depends on the words.
+    let refused = match admit(
+        &password,
+        &Setting::salted(scheme, [0; 3]),
+        budget,
+        out.len(),
+    ) {
+        Ok(most) => Report::refused(Refusal::NoRandomWords, most),
+        Err(refused) => refused,
+    };
+    leave(refused, out, token(b""))
 }
 
 // The cost, if the budget and the room allow the hash, or else the report of the refusal.
@@ -229,52 +239,6 @@ fn put_admitted(
             leave(report, out, lock)
         }
     }
-}
-
-// Puts the hash by the setting that the words make, if there are any.
-fn put_salted(
-    alloc: Global,
-    password: Password,
-    scheme: Scheme,
-    most: u64,
-    budget: u64,
-    words: Option<[u64; 3]>,
-    out: &mut [u8],
-) -> Report
-    ensures some { IfSome words (λ words. Hashes budget (token []) out.old (Result.Ok (password, salted scheme words)) result out.new) }
-    ensures none { IfNone words (Leaves (refused Refusal.NoRandomWords most) (token []) out.old result out.new) }
-    ensures within { pos 0 <ℤ result.reason → result.cost ≤ budget }
-    ensures put { pos 0 <ℤ result.reason → IsHashPut password scheme result out.new }
-{
-    match words {
-        Some(words) => {
-            let setting = Setting::salted(scheme, words);
-            put_hash(alloc, Ok((password, setting)), budget, token(b""), out)
-        }
-        None => leave(
-            Report::refused(Refusal::NoRandomWords, most),
-            out,
-            token(b""),
-        ),
-    }
-}
-
-// Three random words from the system, or `None` where it gives none.
-fn draw() -> Option<[u64; 3]>
-    ensures { IfSome result AreThreeWords }
-{
-    let mut bytes = [0; 24];
-    if getentropy(&mut bytes) != 0 {
-        return None;
-    }
-    Some([word(&bytes[..8]), word(&bytes[8..16]), word(&bytes[16..])])
-}
-
-// The word of eight bytes, lowest first.
-fn word(bytes: &[u8]) -> u64
-    requires { length bytes.now ≡ 8 }
-{
-    u64::from_le_bytes(bytes.try_into().unwrap())
 }
 
 // What hashes nothing

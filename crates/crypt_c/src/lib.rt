@@ -57,12 +57,13 @@ pub extern "C" fn mkpasswd_verify(
 
 /// Hashes a password by a new setting.
 #[unsafe(no_mangle)]
-pub extern "C" fn mkpasswd_new(
+pub extern "C" fn mkpasswd_new_from(
     alloc: Global,
     password: &[u8],
     method: u32,
     cost: u32,
     budget: u64,
+    words: &[u64],
     out: &mut [u8],
     report: &mut Report,
 ) -> i32
@@ -72,13 +73,19 @@ pub extern "C" fn mkpasswd_new(
         × Both (IsPasswordRead password.now) (IsSchemeMade method cost) given }
     ensures each { (given : Result (List ℕ × Scheme) Refusal)
         → Both (IsPasswordRead password.now) (IsSchemeMade method cost) given
-        → HashesAnew budget out.old given report.new out.new }
+        → HashesAnew words.now budget out.old given report.new out.new }
     ensures then_opens { result ≡ pos 1 → Opens password.now (take report.new.length out.new) budget }
     ensures then_current { result ≡ pos 1 → (given : Result (SettingValue × Scheme) Refusal)
         × Both (IsSettingRead (take report.new.length out.new)) (IsSchemeMade method cost) given
         × (rehashed given ≡ refused Current 0) }
 {
-    *report = put_new_hash(alloc, read_for_scheme(password, method, cost), budget, out);
+    *report = put_new_hash(
+        alloc,
+        read_for_scheme(password, method, cost),
+        words,
+        budget,
+        out,
+    );
     report.answer()
 }
 

@@ -1,6 +1,6 @@
 use Rattle.std.proofs.Common.{◌<ℤ◌, pos, rules}
 use Rattle.crypt_c.proofs.NewHashes.{new_current, new_opens}
-use Rattle.crypt_c.proofs.mkpasswd_new.Goals as goal
+use Rattle.crypt_c.proofs.mkpasswd_new_from.Goals as goal
 
 pub returns-clause-then_opens : goal.returns-clause-then_opens
 returns-clause-then_opens c = λ one.
