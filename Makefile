@@ -68,9 +68,9 @@ libmkpasswd.so.2: build/mkpasswd.o libmkpasswd.map
 # The targets keep what they found in build/fuzz, from where the next run begins.
 FUZZERS := $(patsubst tests/c/fuzz_%.c,build/fuzz/%,$(wildcard tests/c/fuzz_*.c))
 
-build/fuzz/%: tests/c/fuzz_%.c include/mkpasswd.h libmkpasswd.a
+build/fuzz/%: tests/c/fuzz_%.c tests/c/fuzz.h include/mkpasswd.h libmkpasswd.a
 	@mkdir -p $@.corpus
-	clang -std=c11 -Wall -Wextra -Werror -g -O1 -fsanitize=fuzzer,address,undefined -fno-sanitize-recover=all \
+	clang -std=gnu11 -Wall -Wextra -Werror -g -O1 -fsanitize=fuzzer,address,undefined -fno-sanitize-recover=all \
 		-Iinclude $< libmkpasswd.a -lcrypt -o $@
 
 fuzz: $(FUZZERS)
