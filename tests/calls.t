@@ -1,0 +1,485 @@
+#!/usr/bin/env perl
+# Tests the C libraries as they are installed. tests/c/calls.c makes the calls. What each must do is said here, by the
+# rules of docs/FORMATS.md (Model.pm) over perl's crypt.
+use strict;
+use warnings;
+use FindBin qw($Bin);
+use lib "$Bin/lib";
+use Model;
+use Suite;
+use Test::More;
+
+my $installed = "$scratch/installed";
+my ($include, $libs) = ("$installed/usr/include", "$installed/usr/lib/x86_64-linux-gnu");
+my %places = (DESTDIR => $installed, PREFIX => '/usr', LIBDIR => '/usr/lib/x86_64-linux-gnu');
+my $install = run({ dir => $root, env => \%places }, 'tools/install');
+BAIL_OUT("nothing is installed: $install->{err}") if $install->{status};
+my $header = slurp("$include/mkpasswd.h");
+my %defined = $header =~ /^#define MKPASSWD_(\w+) \(?(-?\d+)\)?/mg;
+my @declared = sort $header =~ /^MKPASSWD_EXPORT.*?int32_t (mkpasswd_\w+)\(/mg;
+my ($cc, $most, $budget) = ($ENV{CC} || 'cc', 18446744073709551615, $defined{BUDGET});
+my @static = ("-I$include", "$libs/libmkpasswd.a");
+my @shared = ("-I$include", "-L$libs", "-Wl,-rpath,$libs", '-lmkpasswd');
+my @strict = qw(-Wall -Wextra -Werror -pedantic -pthread);
+
+# Builds a program without a word of the compiler.
+sub build {
+    my ($name, @command) = @_;
+    is_run(run({ timeout => 300 }, @command, '-o', "$scratch/$name"), 0, '', '', "$name is built") && "$scratch/$name";
+}
+
+my $driver = build('driver', $cc, '-std=c99', @strict, '-DWRAP', (map { "-Wl,--wrap=$_" } qw(malloc realloc free getentropy)),
+    "$root/tests/c/calls.c", @static);
+
+# The lines that a driver prints for rows.
+sub printed {
+    my ($path, @rows) = @_;
+    my $run = run({ timeout => 600, stdin => join('', map { "$_\n" } @rows) }, $path);
+    return (split(/\n/, $run->{out}), $run->{status} || $run->{err} ne '' ? "status $run->{status}: $run->{err}" : ());
+}
+
+# ---- what each call must do
+
+my @reasons = ('done', 'outdated', 'fits', '', 'password too long', 'password has a zero byte', @setting_refusals,
+    'out of memory', 'too few bytes', 'unknown method', 'cost', '', 'over budget', 'differs', 'current', 'no random words');
+my %number = map { $reasons[$_] => 3 - $_ } grep { $reasons[$_] ne '' } 0 .. $#reasons;
+my %steps = (
+    verify => 'password setting budget memory compare', needs_rehash => 'setting made replace', setting => 'made room',
+    new => 'password made budget room draw memory', hash => 'password setting budget room memory', bound => 'length setting',
+);
+my ($refused, @words) = (0);    # which allocation is refused, from 1; the words that the system draws, if it does
+
+sub salt_of {
+    my ($length, @of) = @_;
+    return join '', map { $characters[$of[$_ / 10] >> 6 * ($_ % 10) & 63] } 0 .. $length - 1;
+}
+
+# The line for a call. A null password counts as a byte 0, a null text as an empty one, a null `out` as one without room.
+sub line {
+    my ($call, $password, $text, $room, @n) = @_;
+    my $name = $call =~ s/_str$//r;
+    ($password, $text, $room) = ($password // "\0", $text // '', $room // 0);
+    my ($setting, $made, $hash, $refusal);
+    my ($cost, $allocations, $drawn, @work) = (0, 0, 0, (0) x 5);
+    my $memory = sub { my ($r, $p) = @{ $_[0] }{qw(r p)}; $r ? (128 * $r * $p, 256 * $r) : () };
+    my %step = (
+        password => sub { length $password > 1024 ? 'password too long' : $password =~ /\0/ ? 'password has a zero byte' : '' },
+        length => sub { $n[0] > 1024 ? 'password too long' : '' },
+        setting => sub { ref($setting = read_setting($text)) ? '' : $setting },
+        made => sub {
+            return 'unknown method' if $n[0] !~ /^[1567]$/;
+            return 'cost' if $n[0] == 7 && $n[1] !~ /^([06-9]|1[01])$/;
+            $made = made_setting(@n[0, 1], salt_of($made_salt{ $n[0] }, $name eq 'setting' ? @n[2 .. 4] : @words ? @words : (0) x 3));
+            return '';
+        },
+        replace => sub { is_replaced($setting, $made) ? '' : 'current' },
+        budget => sub { ($cost = cost($setting // $made, length $password)) > $n[-1] ? 'over budget' : '' },
+        room => sub {
+            my ($kind, $front) = @{ $setting // $made }{qw(kind front)};
+            return $room > length($front) + ($name eq 'setting' ? 0 : 1 + $packed_length{$kind}) ? '' : 'too few bytes';
+        },
+        draw => sub { $drawn = 24; @words ? '' : 'no random words' },
+        memory => sub {
+            my $by = $setting // $made;
+            my @scratch = $memory->($by);
+            if ($refused && @scratch && $refused <= 3) {
+                @work[3, 4] = ($refused > 1 && 128 * 2 ** $by->{log} * $by->{r}, $refused > 2 && $scratch[0]);
+                $allocations = $refused;
+                return 'out of memory';
+            }
+            ($hash, $allocations) = (hash_of($by, $password), @scratch && 3);
+            @work = (Model::work_of($by, $password), @scratch && $scratch[0] + $scratch[1]);
+            return '';
+        },
+        compare => sub { $hash eq $text ? '' : 'differs' },
+    );
+    $refusal ||= $step{$_}->() for split / /, $steps{$name};
+    if ($name eq 'bound' && !$refusal) {
+        my @scratch = $memory->($setting);
+        ($cost, @work) = (cost($setting, $n[0]), counts($setting, $n[0], 255), @scratch && $scratch[0] + $scratch[1]);
+    }
+    my ($out, $length) = ('unchanged', 0);
+    if ($name =~ /^(new|hash|setting)$/ && $room) {
+        $out = $refusal ? substr $name eq 'hash' && $text =~ /^\*0/ ? '*1' : '*0', 0, $room - 1 : $hash // $made->{front};
+        $length = length $out if !$refusal;
+    }
+    my $reason = $number{ $refusal || { verify => 'fits', needs_rehash => 'outdated' }->{$name} || 'done' };
+    return join ' ', $refusal ? 0 : 1, $reason, $length, $cost, (map { $_ || 0 } @work), 0, $allocations, 0, $drawn, $out;
+}
+
+sub hex_of { !defined $_[0] ? 'null' : $_[0] eq '' ? '-' : unpack 'H*', $_[0] }
+
+# The row of a call, which is a list as line takes it.
+sub row {
+    my ($call, $password, $text, $room, @n) = @_;
+    return join ' ', $call, hex_of($password), hex_of($text), $room // 'null', @n;
+}
+
+# Tests that the rows of calls, after the given ones, get just their lines.
+sub are_made {
+    my ($name, $rows, @calls) = @_;
+    my @got = printed($driver, @$rows, map { row(@$_) } @calls);
+    my @wanted = map { line(@$_) } @calls;
+    my ($at) = grep { ($got[$_] // '') ne ($wanted[$_] // '') } 0 .. (@got > @wanted ? $#got : $#wanted);
+    ok(@calls && !defined $at, $name)
+        or diag('row ' . substr(row(@{ $calls[$at] // [] }), 0, 400) . "\nwanted: " . ($wanted[$at] // '') . "\ngot:    " . ($got[$at] // ''));
+}
+
+# The same with each allocation refused in turn.
+sub are_refused {
+    my ($rows, @calls) = @_;
+    for my $number (1 .. 3) {
+        $refused = $number;
+        are_made("allocation $number refused", [@$rows, "refuse $number"], @calls);
+    }
+    $refused = 0;
+}
+
+# ---- the calls
+
+my ($fixed, $empty) = ('$1$xxxxxxxx$UYCIxa628.9qXjpQCjM4a.', '$7$2/..../....$rNxJWVHNv/mCNcgE/f6/L4zO6Fos5c2uTzhyzoisI62');
+my $long_salt = '$7$2/..../....' . 'a' x 86;
+
+# Passwords and their hashes as openssl-passwd(1), Drepper's text and libxcrypt print them, and of 1,024 bytes as they are
+# made over Python's hashlib by Drepper's text, and by passlib.
+my @known = (
+    ['password', $fixed],
+    ['Hello world!', '$5$saltstring$5B8vYYiY.CVt1RlTTf8KbXBH3hsxY/GNooZaBBGWEc5'],
+    ['Hello world!', '$6$rounds=10000$saltstringsaltst$OW1/O6BYHV6BcXZu8QVeXbDWra3Oeqh0sbHbbMCVNSnCM/UrjmM0Dp8vOuZeHBy/YTBmSK6H9qs/y3RnOaw5v.'],
+    ['', $empty],
+    ['password', '$7$86....E....NaCl$xffjQo7Bm/.SKRS4B2EuynbOLjAmXU5AbDbRXhoBl64'],
+    ['a' x 1024, '$6$rounds=1000$saltstringsaltst$UITgQYibhtrcIyhgNAv/DDO8/OQE6EKx5rkYTPL4qIsMeLcMgWAzj5DYNJhQQ0ExOfR41/mJ0EqVZGWUDvrmO1'],
+    ['a' x 1024, '$1$xxxxxxxx$K/D5CvaOI4iV5zX0cnQoW0'],
+);
+my @methods = ([1, 0], [1, 5], [5, 0], [5, 5000], [6, 0], [6, 10], [6, 4294967295], [7, 0], [7, 6], [7, 11]);
+my @no_methods = ([0, 0], [2, 0], [3, 5], [4, 0], [8, 0], [4294967295, 7], [7, 1], [7, 5], [7, 12], [7, 4294967295]);
+
+# Fields that have no setting.
+my @no_settings = ('', '!', '*', '!!', 'x', '*0', '*1', '*0abc', "!$fixed", "*$fixed", 'password', 'abJnggxhB/yWI', '$1', '$2$ab',
+    '$2b$05$abcdefghijklmnopqrstuu', '$y$j9T$salt$hash', '$sha1$1$a$b', '$argon2id$v=19$m=8,t=1,p=1$YWI$YWI', '{SSHA}abc',
+    '$1$a:b', 'a:c', '$6$rounds=:$ab', '$7$C:', "\$5\$ab\n", "\$5\$ab\$\x7f", "\$6\$\xc3\xa9", "$fixed\n", "$fixed\0", "\0$fixed",
+    "$fixed:", "$fixed\xff", '$5$rounds=$ab', '$6$rounds=01000$ab', '$6$rounds=1000', '$7$C', '$7$20....0...', '$7$./..../....ab',
+    '$7$6...../....ab', '$7$6/.........a_b', '$7$E/..../....ab', '$7$GU....0....ab', '$7$HU..../....a_b', '$7$20....0....a_b',
+    "${long_salt}a", '$1$a' . 'a' x 381, '$1$:' . 'a' x 381, 'a' x 385, $fixed . 'a' x 400);
+
+# Fields that have one, and are no hash of "password" or cost too much.
+my @other_fields = (substr($fixed, 0, -1), "$fixed.", "$fixed\$", '$1$', '$1$xxxxxxxx', '$1$xxxxxxxx$', '$6$rounds=10$ab$x',
+    '$7$GU..../....ab$x', '$6$rounds=999999999$saltstringsaltst$x', '$1$' . 'a' x 381);
+
+subtest 'hashes' => sub {
+    srand 26;
+    my $salt = sub { join '', map { $characters[rand 64] } 1 .. $_[0] };
+    my @settings = ('$1$a_b~c', '$1$#%&()+', '$6$rounds=1000$(-=-)', '$5$rounds=1001$~', $long_salt, map { '$1$' . $salt->($_ % 13) } 0 .. 110);
+    for my $front ('$5$', '$6$') {
+        push @settings, (map { $front . $salt->($_) } 0, 7, 16), map { $front . 'rounds=' . (1000 + $_ * $_) . '$' . $salt->($_) } 0 .. 18;
+    }
+    push @settings, map { '$7$' . scrypt_cost(2 + $_ % 7, 1 + $_ % 5, 1 + $_ % 3) . $salt->($_) } 0 .. 86;
+    my @rows = (@known, map { ['a' x 1024, hash_of(read_setting($_), 'a' x 1024)] } '$5$rounds=1000$saltstringsaltst', '$7$20....0....NaCl');
+    my @lengths = (0, 1, 7, 8, 15, 16, 17, 31, 32, 33, 55, 56, 63, 64, 65, 111, 112, 127, 128, 129, 200);
+    for my $number (0 .. $#settings) {
+        my $password = join '', map { chr(1 + rand 255) } 1 .. ($number % 2 ? int rand 201 : $lengths[$number / 2 % @lengths]);
+        push @rows, [$password, crypt $password, $settings[$number]];
+    }
+    ok(!(grep { index($_->[1], '$') } @rows), 'perl has the crypt of libxcrypt');
+    ok(!(grep { hash_of(read_setting($_->[1]), $_->[0]) ne $_->[1] } @known), 'known hashes');
+    my @calls;
+    for my $number (0 .. $#rows) {
+        my ($password, $hash) = @{ $rows[$number] };
+        my ($setting, $room, $other) = ($hash =~ s/\$[^\$]*$//r, 1 + length $hash, $password);
+        my $place = $number % (length $password || 1);
+        substr($other, $place, 1) = $password eq '' ? 'x' : substr($password, $place, 1) ^ (substr($password, $place, 1) eq ' ' ? "\1" : ' ');
+        push @calls, map { ["verify$_->[0]", $_->[1], $hash, 0, $budget] } ['', $password], ['_str', $password], ['', $other];
+        push @calls, ['hash', $password, $setting, $room + 49, $budget], ['hash', $password, $hash, $room, $budget],
+            ['hash', $password, $setting, $room - 1, $budget], ['hash_str', $password, $hash, 145, $budget],
+            ['bound', '', $setting, 0, length $password], ['needs_rehash', '', $hash, 0, @{ $methods[$number % 10] }];
+        push @calls, map { ['verify', $password, substr($hash, 0, -1) . $_, 0, $budget] } '', $hash =~ /\.$/ ? '/' : '.' if $number % 3 == 0;
+    }
+    are_made('each setting', [], @calls);
+    my @cheap = grep { $_->[0] =~ /^(hash|verify)/ && cost(read_setting($_->[2]), length $_->[1]) < 500_000 } @calls;
+    are_made('in eight threads', ['threads 8'], (grep { length $_->[1] == 1024 } @calls), @cheap[map { 7 * $_ } 0 .. $#cheap / 7]);
+    are_refused([], ['hash', 'pleaseletmein', '$7$C6..../....SodiumChloride', 145, $budget], (grep { $_->[2] =~ /^\$7/ } @cheap), @calls[0 .. 9]);
+    $refused = 4;
+    are_made('no fourth allocation', ['refuse 4'], grep { $_->[2] =~ /^\$7/ } @cheap);
+    $refused = 0;
+};
+
+sub careless {
+    my $cost = cost(read_setting($fixed), 8);
+    my @calls = map { ['verify', 'password', $_, 0, $budget] } @no_settings, @other_fields, $fixed, $known[4][1];
+    push @calls, map { ['verify', 'password', $fixed, 0, $_] } 0, $cost - 1, $cost, $most;
+    push @calls, map { ['verify', $_, $fixed, 0, $budget] } '', 'Password', "password\0", 'password ', 'a' x 1024, 'a' x 1025;
+    return (@calls, map { ['verify_str', @$_[1 .. 4]] } grep { "$_->[1]$_->[2]" !~ /\0/ } @calls);
+}
+
+subtest 'a careless login' => sub {
+    my @calls = careless();
+    is(scalar(grep { line(@$_) =~ /^1/ } @calls), 8, 'may open for the right password within the budget');
+    are_made('each field', [], @calls);
+    are_made('null strings', [], map { ['verify_str', @$_] } [undef, $fixed, 0, $budget], ['a', undef, 0, $budget], [undef, undef, 0, $most]);
+    are_made('in eight threads', ['threads 8'], @calls);
+    are_refused([], @calls);
+};
+
+# Each refusal together with each other one.
+subtest 'refusals' => sub {
+    my @calls = map { ['hash_str', @$_, $budget] } [undef, $fixed, 145], ['a', undef, 145], [undef, undef, 145], ['a', '$1$a', undef], ['a', '*0', undef];
+    push @calls, ['needs_rehash_str', '', undef, 0, 6, 0], ['bound_str', '', undef, 0, 8];
+    for my $text ($fixed, $known[4][1], $long_salt, @no_settings) {
+        my $setting = read_setting($text);
+        my ($length, $cost) = ref $setting ? (length($setting->{front}) + 1 + $packed_length{ $setting->{kind} }, cost($setting, 8)) : (3, 9);
+        for my $password ('password', 'a' x 1025, "pass\0word", "\0" . 'a' x 1024) {
+            for my $room (0 .. 3, $length, $length + 1, 145) {
+                push @calls, map { ['hash', $password, $text, $room, $_] } 0, $cost - 1, $cost, $most;
+                push @calls, ['hash_str', $password, $text, $room, $cost] if "$password$text" !~ /\0/;
+            }
+        }
+        push @calls, (map { ['bound', '', $text, 0, $_] } 0, 1024, 1025, $most), map { ['needs_rehash', '', $text, 0, @$_] } @methods, @no_methods;
+        push @calls, ['bound_str', '', $text, 0, 8], ['needs_rehash_str', '', $text, 0, 6, 0] if $text !~ /\0/;
+    }
+    are_made('of mkpasswd_hash, mkpasswd_bound and mkpasswd_needs_rehash', [], @calls);
+};
+
+subtest 'new hashes and settings' => sub {
+    for my $bytes ("\x81" . "\0" x 23, join '', map { chr(($_ * 37 + 1) % 256) } 0 .. 23) {
+        @words = unpack 'Q<3', $bytes;
+        is(salt_of(8, 129, 0, 0), '/0......', 'a salt is made of the lowest bits first');
+        my (@calls, @settings);
+        for my $row ((map { [@$_, made_setting(@$_)] } @methods), @no_methods) {
+            my ($method, $cost, $setting) = @$row;
+            my ($length, $price) = $setting ? (length $setting->{front}, cost($setting, 8)) : (3, 9);
+            for my $room (0 .. 3, $length, $length + 1, $length + 20) {
+                push @settings, map { ["setting$_", '', '', $room, $method, $cost, @words] } '', '_str';
+            }
+            push @settings, ['setting_str', '', '', undef, $method, $cost, @words];
+            next if $price > $budget;
+            $length += 1 + $packed_length{$method} if $setting;
+            for my $room (0 .. 3, $length, $length + 1, 145) {
+                my @budgets = $method == 7 && $room > $length ? (0, $price - 1) : (0, $price - 1, $price, $most);
+                push @calls, map { my $password = $_; map { ['new', $password, '', $room, $method, $cost, $_] } @budgets } 'password', 'a' x 1025, "pass\0";
+            }
+            push @calls, map { ['new_str', @$_, $method, $cost, $price] } ['password', '', 145], ['password', '', undef], [undef, '', 145];
+        }
+        my $drawn = 'entropy ' . unpack 'H*', $bytes;
+        are_made('mkpasswd_setting', [], @settings);
+        are_made('mkpasswd_new draws these words', [$drawn], @calls);
+        are_refused([$drawn], map { ['new', $_, '', 145, 7, 0, $budget] } 'password', "a\0");
+        are_made('the longest password', [$drawn], map { ['new', 'a' x 1024, '', 145, $_, 0, $budget] } 1, 5, 6);
+        @words = ();
+        are_made('no random words', ['entropy none'], @calls);
+    }
+    my @lines = printed($driver, map { "new 61 - 145 1 0 $budget" } 1 .. 10_000);
+    my %salts = map { /^1 3 34 .* 0 0 24 (\$1\$[^\$]{8})\$/ ? ($1 => 1) : () } @lines;
+    is(keys %salts, 10_000, '10,000 salts of the system differ');
+    my ($hash) = $lines[0] =~ /(\S+)$/;
+    is(crypt('a', $hash), $hash, 'libxcrypt agrees');
+};
+
+subtest 'messages' => sub {
+    my (@rows, @wanted);
+    for my $reason (-25 .. 8, 2147483647, -2147483648) {
+        my ($words) = grep { $number{$_} == $reason } keys %number;
+        my $text = $words // 'unknown reason';
+        for my $room (0 .. 3, length $text, 1 + length $text, 145) {
+            push @rows, map { "$_ - - $room $reason" } qw(words words_str);
+            push @wanted, (($words && $room > length $text ? 1 : 0) . ' ' . ($room ? substr $text, 0, $room - 1 : 'unchanged')) x 2;
+        }
+        push @rows, "words_str - - null $reason";
+        push @wanted, '0 unchanged';
+    }
+    is_deeply([map { s/^(\d)( 0){12} /$1 /r } printed($driver, @rows)], \@wanted, 'mkpasswd_words');
+    my %named;
+    $named{$2} = "$1: $3" while $header =~ m{^#define MKPASSWD_(?:REFUSED_)?(\w+) \(?(-?\d+)\)? +/\* ([^:,*]*?)(?:[:,].*)? \*/$}mg;
+    is_deeply(\%named, { map { $number{$_} => uc(s/ has a//r =~ tr/ /_/r) . ": $_" } keys %number }, "the header's reasons");
+    is_deeply([@defined{qw(MD5CRYPT SHA256CRYPT SHA512CRYPT SCRYPT PASSWORD_LIMIT TEXT_SIZE)}],
+        [1, 5, 6, 7, $limits{password}, 1 + length hash_of(read_setting($long_salt), 'x')], "the header's methods and limits");
+    like($header, qr/ABOVE_CEILING .* above $limits{ceiling} /, 'its ceiling');
+    like($header, qr/SETTING_TOO_LONG .* more than $limits{setting} bytes/, 'its longest setting');
+};
+
+subtest 'costs' => sub {
+    my @costs = (['$1$xxxxxxxx', 8, 36239], ['$5$saltstring', 12, 307760], ['$6$rounds=5000$saltstringsaltst', 8, 452160],
+        ['$6$rounds=999999999$saltstringsaltst', 1024, 1976382017456], ['$7$2/..../....', 0, 5044],
+        ['$7$86....E....NaCl', 8, 33656996], ['$7$C6..../....SodiumChloride', 13, 33561316]);
+    is_deeply([map { (split / /)[3] } printed($driver, map { row('bound', '', $_->[0], 0, $_->[1]) } @costs)], [map { $_->[2] } @costs], 'as docs/FORMATS.md has them');
+    is_deeply([printed($driver, row('bound', '', $known[4][1], 0, 8), row('verify', 'password', $fixed, 0, $most))],
+        ['1 3 0 33656996 1026 102564 32768 1048576 18432 0 0 0 0 unchanged', '1 1 0 36239 1002 36239 0 0 0 0 0 0 0 unchanged'], 'works');
+    my @within = ((map { [$_, 1024] } '$1$xxxxxxxx', '$5$rounds=75000$saltstringsaltst', '$6$rounds=75000$saltstringsaltst', '$7$CU..../....' . 'a' x 86),
+        map { [$_, 40] } '$5$rounds=1000000$saltstringsaltst', '$6$rounds=1000000$saltstringsaltst');
+    my @calls = map { my ($text, $longest) = @$_; map { ['bound', '', $text, 0, $_] } 0 .. $longest } @within;
+    are_made('of each length', [], @calls);
+    ok(!(grep { cost(read_setting($_->[2]), $_->[4]) > $budget } @calls), 'are within MKPASSWD_BUDGET, as the header says');
+};
+
+# ---- compilers, linkers and what is installed
+
+subtest 'compilers' => sub {
+    my @calls = grep { $_->[0] eq 'verify_str' || $_->[2] eq $fixed } careless();
+    @words = (1, 2, 3);
+    push @calls, ['bound_str', '', $fixed, 0, 8], ['setting_str', '', '', 145, 6, 0, @words], ['hash_str', 'password', '!', 145, $budget];
+    my $wanted = join "\n", (map { line(@$_) =~ s/ 3 0 0 unchanged$/ 0 0 0 unchanged/r } @calls), '1' . ' 0' x 12 . ' differs';
+    my (@builds, %child);
+    for (['gcc', 'gcc', 'c', qw(c99 c11 c17 c2x)], ['clang', 'clang', 'c', qw(c99 c11 c17 c2x)],
+        ['g++', 'g++', 'c++', qw(c++98 c++11 c++17 c++20)], ['clang++', 'clang', 'c++', qw(c++98 c++11 c++17 c++20)])
+    {
+        my ($compiler, $package, $language, @standards) = @$_;
+        push @builds, map { [$compiler, $_, $language] } @standards if needs($compiler => $package);
+    }
+    my @sanitize = qw(-g -O1 -DSANITIZED -fsanitize=address,undefined -fno-sanitize-recover=all);
+    my @kinds = (['static', '-O2', @static], ['shared', '-O0', @shared], ['sanitized', @sanitize, @static]);
+    for (@builds) {
+        my ($compiler, $standard, $language) = @$_;
+        delete $child{ wait() } if keys %child == 4;
+        my $child = fork // die;
+        if ($child) { $child{$child} = 1; next }
+        for (@kinds) {
+            my ($kind, @rest) = @$_;
+            my $path = "$scratch/$compiler-$standard-$kind";
+            my $run = run({ timeout => 300 }, $compiler, "-std=$standard", @strict, '-Wno-long-long', '-x', $language,
+                "$root/tests/c/calls.c", '-x', 'none', @rest, '-o', $path);
+            my @got = printed($path, (map { row(@$_) } @calls), "words_str - - 145 $number{differs}") if !$run->{status};
+            spew("$path.got", $run->{err} . join "\n", @got);
+        }
+        POSIX::_exit(0);
+    }
+    1 while wait != -1;
+    for (@builds) {
+        my ($compiler, $standard) = @$_;
+        is(slurp("$scratch/$compiler-$standard-$_->[0].got"), $wanted, "$compiler $standard, $_->[0]") for @kinds;
+    }
+};
+
+# What a compiler says of the C text of a program's body.
+sub told {
+    my ($compiler, $body, @rest) = @_;
+    spew("$scratch/told.c", "#include <mkpasswd.h>\nint main(void)\n{\nstruct mkpasswd_report report;\nuint8_t out[145], *bytes = out;\n"
+            . "(void)report, (void)bytes;\n$body\nreturn 0;\n}\n");
+    return run({ timeout => 100 }, $compiler, '-Wall', '-Wextra', '-O1', "$scratch/told.c", @rest, '-o', "$scratch/told")->{err};
+}
+
+subtest 'warnings' => sub {
+    my @calls = ('verify(bytes, 1, bytes, 1, 1, &report)', 'new(bytes, 1, 6, 0, 1, out, 145, &report)', 'needs_rehash(bytes, 1, 6, 0, &report)',
+        'bound(bytes, 1, 1, &report)', 'hash(bytes, 1, bytes, 1, 1, out, 145, &report)', 'setting(6, 0, 1, 2, 3, out, 145, &report)');
+    my @strings = ('verify_str(0, 0, 1, 0)', 'new_str(0, 6, 0, 1, 0, 145, 0)', 'needs_rehash_str(0, 6, 0, 0)', 'bound_str(0, 1, 0)',
+        'hash_str(0, 0, 1, 0, 145, 0)', 'setting_str(6, 0, 1, 2, 3, 0, 145, 0)');
+    for my $compiler (qw(gcc clang)) {
+        needs($compiler => $compiler) or next;
+        for my $call (@calls, @strings, 'words(-1, out, 145)') {
+            my ($name, @arguments) = split /[(),] ?/, $call;
+            like(told($compiler, "mkpasswd_$call;", @static), qr/unused-result/, "$compiler: $name is ignored") if $name ne 'words';
+            for my $place (grep { $arguments[$_] =~ /^[a-z&]/ } 0 .. $#arguments) {
+                my $null = join ', ', map { $_ == $place ? 'NULL' : $arguments[$_] } 0 .. $#arguments;
+                like(told($compiler, "if (mkpasswd_$name($null)) return 1;", @static), qr/nonnull/, "$compiler: $name($null)");
+            }
+        }
+        my $all = join '', map { "if (mkpasswd_$_) return 1;\n" } @strings, 'words_str(-1, NULL, 3)';
+        is(told($compiler, $all, @static), '', "$compiler: strings may be null");
+        is(run("$scratch/told")->{status}, 0, "$compiler: and then no call does anything");
+        for my $old (qw(fits cost replaced refusal)) {
+            for (['static', "$libs/libmkpasswd.a"], ['shared', "$libs/libmkpasswd.so"]) {
+                my ($kind, $library) = @$_;
+                my $told = told($compiler, "extern int mkpasswd_$old(void); return mkpasswd_$old();", "-I$include", $library);
+                like($told, qr/undefined reference to [`']mkpasswd_$old'/, "$compiler, $kind: mkpasswd_$old is gone");
+            }
+        }
+    }
+};
+
+# The last block in a language of README.md's section on C.
+sub readme_block {
+    my ($language) = @_;
+    my ($section) = slurp("$root/README.md") =~ /^### Services in C\n(.*?)^### /ms;
+    return ((($section // '') =~ /^```$language\n(.*?)^```$/msg)[-1] // '');
+}
+
+subtest 'what is installed' => sub {
+    is(@declared, 8, 'the header declares eight calls');
+    if (needs(objdump => 'binutils')) {
+        my ($symbols, $parts, $names) = map { run(@$_)->{out} } ['objdump', '-T', "$libs/libmkpasswd.so"],
+            ['objdump', '-p', "$libs/libmkpasswd.so"], ['nm', '-g', '--defined-only', "$libs/libmkpasswd.a"];
+        is_deeply([sort $symbols =~ /^\S+ g +DF .text\s+\S+ +(.*)$/mg], [map { "MKPASSWD_2  $_" } @declared], 'the shared library has just these');
+        is_deeply([sort $names =~ /^\S+ \w (\S+)$/mg], \@declared, 'the static library has just these');
+        is_deeply([$parts =~ /(?:SONAME|NEEDED) +(\S+)/g], ['libc.so.6', 'libmkpasswd.so.2'], 'the soname, and the C library alone is needed');
+    }
+    my ($version) = slurp("$libs/pkgconfig/mkpasswd.pc") =~ /^Version: (.*)$/m;
+    my ($major, $minor, $patch) = split /\./, $version;
+    my $number = 10000 * $major + 100 * $minor + $patch;
+    is($defined{VERSION}, $number, 'the header has the version of mkpasswd.pc');
+    is_deeply([printed($driver, 'version - - 0')], [$number . ' 0' x 12 . ' unchanged'], 'the library has it');
+    is(run("$installed/usr/bin/mkpasswd", '-V')->{out}, "mkpasswd $version\n", 'the program has it');
+    if (needs('pkg-config' => 'pkgconf')) {
+        my %env = (PKG_CONFIG_SYSROOT_DIR => $installed, PKG_CONFIG_LIBDIR => "$libs/pkgconfig", PKG_CONFIG_ALLOW_SYSTEM_CFLAGS => 1,
+            PKG_CONFIG_ALLOW_SYSTEM_LIBS => 1, CC => $cc, LD_LIBRARY_PATH => $libs);
+        my $told = run({ env => \%env }, qw(pkg-config --cflags --libs mkpasswd))->{out} =~ s/\s+$//r;
+        is($told, "-I$include -L$libs -lmkpasswd", 'pkg-config');
+        mkdir "$scratch/commands";
+        symlink "$root/examples", "$scratch/commands/examples";
+        my $commands = 'ldconfig() { :; }; cc() { command "$CC" "$@"; }' . "\n" . readme_block('sh') . 'test -x login';
+        is_run(run({ dir => "$scratch/commands", env => \%env }, 'bash', '-euc', $commands), 0, '', '', 'the commands of README.md');
+    }
+    for my $path ("$include/mkpasswd.h", glob "$root/*.md $root/docs/*.md $root/examples/* $root/man/* $root/dist/*") {
+        next if $path =~ /CHANGELOG/;
+        my @old = slurp($path) =~ /\b(mkpasswd_(?:fits|cost|replaced|refusal)|REFUSED_UNKNOWN_REFUSAL|libmkpasswd\.so\.1)\b/g;
+        is("@old", '', 'no old name in ' . ($path =~ s{\Q$root\E/|\Q$installed\E}{}r));
+    }
+};
+
+# ---- examples and manuals
+
+# Tests a login, whose command is $0 and $@ of each script.
+sub are_logins {
+    my ($name, @command) = @_;
+    my $it = '"$0" "$@"';
+    my @rows = ([0, '', "printf password | $it", $fixed, 'no line feed'], [0, '', "(printf pass; sleep 0.2; echo word) | $it", $fixed, 'in pieces'],
+        [0, '', "echo | $it", $empty, 'an empty line'], [2, 'login: ', "$it < /dev/null", $empty, 'nothing to read'],
+        [2, 'login: ', "$it <&-", $empty, 'a closed input'], [2, 'login: ', "$it 0> in", $empty, "an input that can't be read"],
+        [2, 'over budget', "echo password | $it", '$6$rounds=999999999$ab$x', 'over budget'],
+        [2, 'bad character', "echo password | $it", "!$fixed", 'a locked account'],
+        [2, 'unknown scheme', "echo password | $it", 'abc', 'no scheme'], [2, 'bad character', "echo password | $it", "$fixed\xff", 'not UTF-8'],
+        [2, 'password too long', "printf 'a%.0s' {1..1025} | $it", $fixed, 'a long password'],
+        [2, 'password too long', "ulimit -v 1000000; $it < /dev/zero", $fixed, 'an endless line'], [2, 'usage: ', "echo password | $it"]);
+    for (@known[0, 1, 4]) {
+        push @rows, [0, '', "printf '%s\\nmore\\n' '$_->[0]' | $it", $_->[1], 'right'], [1, '', "printf '%s \\nmore\\n' '$_->[0]' | $it", $_->[1], 'wrong'];
+    }
+    push @rows, [2, 'login: ', "$it < .", $empty, 'a folder'] if $name ne 'python';    # whose own start ends with 1
+    push @rows, [2, 'libmkpasswd.so.2', "echo password | LD_LIBRARY_PATH=broken $it", $fixed, 'a broken library'] if $name eq 'python';
+    for (@rows) {
+        my ($status, $err, $script, $stored, $what) = @$_;
+        my $run = run({ env => { LD_LIBRARY_PATH => $libs }, dir => $scratch }, 'bash', '-c', $script, @command, $stored // ());
+        my $is_told = $err eq '' ? $run->{err} eq '' : index($run->{err}, $err) >= 0;
+        is_deeply([@$run{qw(status out)}, $is_told], [$status, '', 1 == 1], "$name: " . ($what // 'no stored hash')) or diag($run->{err});
+    }
+}
+
+subtest 'examples' => sub {
+    for (['static', @static], ['shared', @shared]) {
+        my ($name, @rest) = @$_;
+        my $login = build("login-$name", $cc, '-std=c99', @strict, "$root/examples/login.c", @rest);
+        are_logins($name, $login) if $login;
+    }
+    my $shown = readme_block('c');
+    ok($shown ne '' && index(slurp("$root/examples/login.c"), "\n$shown") > 0, 'README.md shows a part of login.c');
+    needs(python3 => 'python3') or return;
+    mkdir "$scratch/broken";
+    spew("$scratch/broken/libmkpasswd.so.2", '');
+    are_logins('python', 'python3', '-B', "$root/examples/login.py");
+    my %numbers = slurp("$root/examples/login.py") =~ /^([A-Z_]+) = (\S+)$/mg;
+    is_deeply(\%numbers, { map { $_ => $defined{$_} } qw(BUDGET TEXT_SIZE PASSWORD_LIMIT DIFFERS) }, "login.py has the header's numbers");
+};
+
+subtest 'manuals' => sub {
+    my @pages = glob "$installed/usr/share/man/man3/*.3";
+    is_deeply([map { m{/(\w+)\.3$} } @pages], ['libmkpasswd', @declared], 'one for each call');
+    for my $page (@pages) {
+        my ($name) = $page =~ m{/(\w+)\.3$};
+        my $text = slurp($page);
+        is_run(run('mandoc', '-T', 'lint', '-W', 'warning', $page), 0, '', '', "$name: mandoc") if needs(mandoc => 'mandoc');
+        is_deeply([grep { $text !~ /^\.Sh $_$/m } 'SYNOPSIS', 'RETURN VALUES', 'ERRORS', 'EXAMPLES', 'SECURITY CONSIDERATIONS'], [], "$name: its sections");
+        my ($wanted, $code) = $text =~ /^\.Sh EXAMPLES\n.*?^\.\\" prints: (.*?)\n\.Bd -literal.*?\n(.*?)^\.Ed$/ms;
+        spew("$scratch/example.c", ($code // '') =~ s/\\e/\\/gr =~ s/\\&//gr);
+        my $program = build("$name.example", $cc, '-std=c99', @strict, "$scratch/example.c", @static) or next;
+        my $run = run($program);
+        ok($run->{status} == 0 && $run->{err} eq '' && $run->{out} =~ /\A$wanted\z/, "$name: what its example prints") or diag($run->{out});
+    }
+};
+
+done_testing;
