@@ -96,7 +96,7 @@ subtest 'limits' => sub {
         ['mkpasswd.h', $header, 'password', qr/MKPASSWD_PASSWORD_LIMIT (\d+)/],
         ['mkpasswd.h', $header, 'setting', qr/setting too long: more than (\d+) bytes/],
         ['mkpasswd.h', $header, 'scrypt product', qr/N \* r \* p is above (\d+)/],
-        ['login.py', slurp("$root/examples/login.py"), 'password', qr/^\w*LIMIT\w* = (1\d+)$/m],
+        ['login.py', slurp("$root/examples/login.py"), 'password', qr/PASSWORD_LIMIT = (\d+)/],
         ['mkpasswd-parallel', $parallel, 'line', qr/longest_line = (\d+)/],
         ['manual', $manual, 'password', qr/A password has at most ([\d,]+) bytes/],
         ['manual', $manual, 'line', qr/line too long Ta it has more than ([\d,]+) bytes/],
