@@ -79,7 +79,7 @@ subtest 'methods' => sub {
                 "$type takes no longer one");
         }
         my $salt = run(program(), '-m', $name, '-R', $name eq 'scrypt' ? 6 : 0, 'x')->{out} =~ m{\$([./\w]+)\$[./\w]+$} ? $1 : '';
-        is(length $salt, $new, "$name: a new salt has $new characters");
+        is(length($salt) - ($name eq 'scrypt' ? 11 : 0), $new, "$name: a new salt has $new characters");
     }
     is_deeply({ $header =~ /^#define MKPASSWD_(\w+CRYPT) (\d)$/mg },
         { map { uc($_->[0]) => $_->[2] =~ tr/$//dr } @methods }, 'mkpasswd.h: numbers of methods');

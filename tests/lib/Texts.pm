@@ -106,7 +106,7 @@ sub examples_of {
     my ($text) = @_;
     my @examples;
     for (map { /^\$ (.*?\n)(?=\$ |\z)/msg } blocks_of($text, 'console')) {
-        my ($first, $more, $printed) = /^(.*\n)((?:> .*\n)*)(.*)\z/s ? ($1, $2, $3) : die;
+        my ($first, $more, $printed) = /^([^\n]*\n)((?:> [^\n]*\n)*)(.*)\z/s;
         push @examples, [$first . $more =~ s/^> //mgr, $printed];
     }
     return @examples;
