@@ -161,7 +161,7 @@ sub try {
     push @{ $got{$1} }, $2 while $run->{out} =~ /^(\d+) (.*)$/mg;
     like($run->{out}, qr/^end\n\z/m, "$shell: all lines are tried");
     for (0 .. $#lines) {
-        is_deeply([sort @{ $got{$_} // [] }], [sort @{ $lines[$_][1] }], "$shell: mkpasswd $lines[$_][0]");
+        is_deeply([sort @{ $got{$_} // [] }], [sort @{ $lines[$_][1] }], "$shell: 'mkpasswd $lines[$_][0]'");
     }
     my %taken = map { $_ => run(program(), '-m', $_, '-S', 'ab', 'password')->{status} } @{ $got{0} };
     is_deeply([grep { $taken{$_} } sort keys %taken], [], "$shell: the program takes each method that is offered");

@@ -48,11 +48,12 @@ subtest 'archive' => sub {
     is(slurp($archive), slurp($second), 'a second one has the same bytes');
     my @listed = map { [split ' ', $_, 6] }
         split /\n/, run(qw(tar --list --verbose --numeric-owner --full-time --file), $archive)->{out};
-    is_deeply([map { $_->[5] =~ s/^\Q$name\E\/| -> .*//gr } @listed], \@files, 'the files of dist/files, each once and in order');
+    $_->[5] =~ s/^\Q$name\E\/// for @listed;
+    is_deeply([map { $_->[5] =~ s/ -> .*//r } @listed], \@files, 'the files of dist/files, each once and in order');
     is_deeply([map { "$_->[1] $_->[3] $_->[4]" } @listed], [("0/0 $listed[0][3] $listed[0][4]") x @listed], 'one owner and one time');
     for (@listed) {
         my ($mode, $file) = @$_[0, 5];
-        my $wanted = $file =~ m{/bin/} ? '-rwxr-xr-x' : $file =~ /\.so -> \Q$library\E\z/ ? 'lrwxr-xr-x' : '-rw-r--r--';
+        my $wanted = $file =~ m{^bin/} ? '-rwxr-xr-x' : $file =~ /\.so -> \Q$library\E\z/ ? 'lrwxr-xr-x' : '-rw-r--r--';
         is($mode, $wanted, "mode of $file");
         ok($_->[2] > 0 || $mode =~ /^l/, "$file is not empty");
     }
