@@ -65,6 +65,11 @@ for (
             for my $number (1 .. $calls{$kind} // 0) {
                 my $run = with_fault("$kind $number", $input, @$words);
                 my ($failed) = grep { $_->[2] } @{ $run->{calls} };
+                # Random words are missed only where something is hashed.
+                if ($kind eq 'random' && $mode =~ /methods|version|help|refusal/) {
+                    is_run($run, $status, $right->{out}, $err, "$kind $number fails, and is not missed");
+                    next;
+                }
                 if ($kind eq 'memory' && $run->{status} == $status && $run->{err} eq $err && @$words && !$unheard++) {
                     ok(length $run->{out} == length $right->{out}, "$kind $number fails unheard");
                     next;

@@ -128,12 +128,14 @@ subtest 'costs and budgets' => sub {
     # One below its cost a batch and a check of its answer are refused, and at the cost, which may have a sign and zeros, not.
     while (my ($words, $cost) = splice @costs, 0, 2) {
         my @words = split / /, $words;
-        fault(1, 'line 1: over budget', \"x:password\n", '--batch', '--budget', $cost - 1, @words);
-        my $hashed = run({ stdin => "x:password\n" }, program(), '--batch', '--budget', $cost, @words);
-        is("$hashed->{status}$hashed->{err}", 0, "a hash for $cost: $words");
+        my $at = sub { my ($budget, $input, @mode) = @_; run({ stdin => $input }, program(), @mode, "--budget=$budget") };
+        my @over = (1, '', "mkpasswd: line 1: over budget\n");
+        is_run($at->($cost - 1, "x:password\n", '--batch', @words), @over, "a batch below its cost: $words");
+        my $hashed = $at->("+00$cost", "x:password\n", '--batch', @words);
+        is("$hashed->{status}$hashed->{err}", 0, "a batch at its cost: $words");
         my $line = $hashed->{out} =~ s/\n/:password\n/r;
-        fault(1, 'line 1: over budget', \$line, '--check', '--budget', $cost - 1);
-        answer('x:ok', \$line, '--check', "--budget=+00$cost");
+        is_run($at->($cost - 1, $line, '--check'), @over, "a check below its cost: $words");
+        is_run($at->("+00$cost", $line, '--check'), 0, "x:ok\n", '', "a check at its cost: $words");
     }
 };
 
