@@ -1,4 +1,4 @@
-# What `tools/check-layers --selftest` plants in a copy of the tree, one at a time: what it is, and for each file that
+# What tests/layers.t plants in a copy of the tree, one at a time: what it is, and for each file that
 # it changes either text that is added behind it (a new file where there is none), or an array of a text that stands
 # there once and the text in its place, or undef where the file goes. The first file of a breach has to be named.
 use strict;
