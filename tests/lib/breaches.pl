@@ -17,7 +17,9 @@ my $password = 'crates/crypt_core/src/password.rt';
 my $salsa = 'crates/prims_core/src/salsa.rt';
 my $mix = 'crates/prims_core/src/mix.rt';
 my $exports = 'crates/crypt_c/src/lib.rt';
-my $lines = 'crates/mkpasswd/src/lines';
+my $calls = 'crates/crypt_c/src/calls.rt';
+my $runs = -d "$Suite::root/crates/run_core" ? 'run_core' : 'mkpasswd';
+my $lines = "crates/$runs/src/lines";
 my $import = 'use prims_core::meter::Meter;';
 my $makes = 'fn f() { let mut meter = Meter::new(); }';
 
@@ -90,13 +92,15 @@ return {
         ['a count that is raised without work', $words => "pub fn raise(meter: &mut Meter) {\n    meter.count_bytes(1);\n}"],
         ['a table that is counted in another room', 'crates/prims_core/src/scratch.rt' => 'fn f(meter: &mut Meter) { meter.count_table(1); }'],
         ['a meter made in a library', $hash => $makes],
-        ['a meter made in the library of the runs', 'crates/mkpasswd/src/lib.rt' => "$import\n$makes"],
+        ['a meter made in the library of the runs', "crates/$runs/src/lib.rt" => "$import\n$makes"],
         ['a meter made in another room of the program', 'crates/program/src/other.rt' => "$import\n$makes", $main => 'mod other;'],
-        ['a meter made in another room of the calls for C', 'crates/crypt_c/src/calls.rt' => 'fn f() { let mut meter = Meter::new(); }'],
-        ['a hash that is not counted before one that is', $exports => ['    let answer = compare(', "    let _ = compare(alloc, password, stored, &mut Meter::new());\n    let answer = compare("]],
-        ['a hash that is not counted behind one that is', $exports => ["    verdict_number(answer)\n", "    let mut meter = Meter::new();\n    verdict_number(compare(alloc, password, stored, &mut meter))\n"]],
-        ['counts that are not handed out', $exports => ["    *work = meter.work_since(&before);\n    verdict_number(answer)", '    verdict_number(answer)']],
-        ['a call for C that hashes and has no work', $exports => ['    verdict_number(is_replaced(stored, new))', "    let mut meter = Meter::new();\n    verdict_number(is_replaced(stored, new))"]],
+        ['a meter made in another room of the calls for C', 'crates/crypt_c/src/report.rt' => 'fn f() { let mut meter = Meter::new(); }'],
+        ['a meter made in a call for C', $exports => 'fn f() { let mut meter = Meter::new(); }'],
+        ['a second meter among the calls for C', $calls => 'fn f() { let mut meter = Meter::new(); }'],
+        ['a hash that is not counted before one that is', $calls => ['    let hashed = hash(', "    let _ = hash(alloc, password, setting, &mut Meter::new());\n    let hashed = hash("]],
+        ['a hash that is not counted after one that is', $calls => ["    (hashed, work)\n", "    let mut meter = Meter::new();\n    (hash(alloc, password, setting, &mut meter), work)\n"]],
+        ['counts that are not handed out', $calls => ["    (hashed, work)\n", "    (hashed, NONE)\n"]],
+        ['a hash by the meter of another one', $calls => ['    let hashed = hash(', "    let _ = hash(alloc, password, setting, &mut meter);\n    let hashed = hash("]],
         ['a call for C under another name', $exports => '#[unsafe(no_mangle)] pub extern "C" fn other() {}'],
         ['a call for C in a library', $hash => '#[unsafe(no_mangle)] pub extern "C" fn mkpasswd_other() {}'],
         ['what is unsafe among the calls for C', $exports => 'fn f() { unsafe { g() }; }'],
