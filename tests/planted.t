@@ -98,7 +98,10 @@ sub plant {
         elsif ($key eq 'gone') { unlink $path or die "$file: $!\n" }
         elsif ($key =~ /^(wrap|before|after)$/) { $code{$key} = $text }
         elsif ($key eq 'only') { $only = $text }
-        elsif ($key eq 'sees') { push @sees, $text =~ /^(\w+\.t): (.+)$/ ? [$1, $2] : die "sees: $text\n" }
+        elsif ($key eq 'sees') {
+            my ($test, $names) = $text =~ /^(\w+\.t): (.+)$/ or die "sees: $text\n";
+            push @sees, map { [$test, $_] } split / & /, $names;
+        }
         elsif ($key ne 'fault') { die "planted: no key $key\n" }
     }
     wrap($path, %code) if %code;
