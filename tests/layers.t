@@ -1,20 +1,19 @@
 #!/usr/bin/env perl
-# Holds that no digest and no mixing passes the meter by, that no count comes from a meter that nobody reads, and that no
-# text shows a password. What is allowed stands here in lists, as the tree has it, and whatever is beside these is named,
-# with its file and line. So a change that is all right can be named too: then a list has to grow.
+# No digest and no mixing passes the meter by, no count comes from a meter that nobody reads, and no text shows a password.
+# What is allowed is in lists here, as the tree has it, and a test fails for whatever else there is. So a change that is all
+# right can fail too: then a list has to grow. Each breach that tests/lib/breaches.pl plants has to be found.
 #
-# Sources are read without comments, strings and `ghost use`. Tests are what `#[cfg(test)] mod` leaves out of the
-# program: such a block, such a file, and the modules below it. A file that no module names is no test.
-#
-# usage: tools/check-layers [REPOSITORY]
-#        tools/check-layers --selftest [REPOSITORY]   plants breaches in a copy, and wants each one found
+# Sources are read without comments, strings and `ghost use`. Tests are what `#[cfg(test)] mod` leaves out of the program:
+# such a block, such a file, and the modules below it. A file that no module names is no test.
 use strict;
 use warnings;
 use File::Basename qw(dirname);
 use File::Find ();
-use File::Temp qw(tempdir);
 use FindBin qw($Bin);
+use lib "$Bin/lib";
 use List::Util qw(uniq);
+use Suite;
+use Test::More;
 
 # The crates, and what each may depend on: only prims_core has digests.
 my %dependencies = (
@@ -71,22 +70,15 @@ my %makes_meter = ('crates/program/src/main.rt' => qr/\bMeter::new\(\)/, $export
 # Reading.
 
 # crates.txt and the sources of each crate, by their paths, and lists of dependencies for Bazel, which rt reads too.
-sub tree_of {
-    my ($repository) = @_;
+sub tree {
+    my @paths = ('crates.txt', map { substr $_, 1 + length $root } glob "'$root'/{,crates/*/}{BUILD,MODULE}*");
+    File::Find::find({ no_chdir => 1, wanted => sub { push @paths, substr $_, 1 + length $root if /\.rt\z/ } },
+        grep { -d } glob "'$root'/crates/*/src");
     my %tree;
-    my $take = sub {
-        my ($path) = @_;
-        open my $from, '<:encoding(UTF-8)', "$repository/$path" or die "check-layers: $path: $!\n";
-        $tree{$path} = do { local $/; <$from> };
-    };
-    my @folders = grep { -d } glob "'$repository'/crates/*/src";
-    die "check-layers: $repository has no crates.txt or no sources\n" unless -f "$repository/crates.txt" && @folders;
-    $take->('crates.txt');
-    $take->(substr $_, 1 + length $repository) for glob "'$repository'/{,crates/*/}{BUILD,MODULE}*";
-    File::Find::find({
-        no_chdir => 1,
-        wanted => sub { $take->(substr $_, 1 + length $repository) if /\.rt\z/ },
-    }, @folders);
+    for my $path (@paths) {
+        $tree{$path} = slurp("$root/$path");
+        utf8::decode($tree{$path});
+    }
     return \%tree;
 }
 
@@ -395,15 +387,7 @@ sub breaches {
     );
 }
 
-sub check {
-    my ($repository) = @_;
-    my @breaches = breaches(tree_of($repository));
-    print map { "check-layers: $_\n" }
-        @breaches ? @breaches : 'digests are reached through Counted alone, mixings are counted, meters are handed on, and no text shows a password';
-    return @breaches ? 1 : 0;
-}
-
-# The breaches of the tree with the changes of a row of planted_breaches.pl.
+# The breaches of the tree with the changes of a row of breaches.pl.
 sub breaches_with {
     my ($tree, @changes) = @_;
     my %changed = %$tree;
@@ -414,36 +398,27 @@ sub breaches_with {
         }
         my ($old, $new) = ref $change ? @$change : ();
         my $found = defined $old ? () = $changed{$path} =~ /\Q$old\E/g : 1;
-        die "check-layers: stands $found times in $path: $old\n" if $found != 1;
+        return "$old: stands $found times in $path" if $found != 1;
         $changed{$path} = defined $old ? $changed{$path} =~ s/\Q$old\E/$new/r : ($changed{$path} // '') . "$change\n";
     }
     return breaches(\%changed);
 }
 
-sub selftest {
-    my ($repository) = @_;
-    my $tree = tree_of($repository);
-    my $planted = do("$Bin/planted_breaches.pl") // die "check-layers: no planted breaches: $@$!\n";
-    my ($breaches, $passed) = @$planted{qw(breaches passed)};
-    my @missed = map { "not found: $_->[0]" } grep {
-        my (undef, $named) = @$_;
-        !grep { /^\Q$named\E:/ } breaches_with($tree, @$_[1 .. $#$_])
-    } @$breaches;
-    my @refused = map {
-        my ($what, @changes) = @$_;
-        map { "in $what: $_" } breaches_with($tree, @changes);
-    } @$passed;
-    my @empty = eval { tree_of(tempdir(CLEANUP => 1)) } ? 'a folder without crates.txt was passed' : ();
-    my @told = (breaches($tree), @missed, @refused, @empty);
-    my $count = @$breaches;
-    print map { "check-layers: $_\n" }
-        @told ? @told : "each of $count planted breaches was found, and what is allowed passed";
-    return @told ? 1 : 0;
-}
+my $tree = tree();
+binmode Test::More->builder->$_, ':encoding(UTF-8)' for qw(output failure_output);
+cmp_ok(keys %$tree, '>', 40, 'the sources are read');
+is_deeply([breaches($tree)], [], 'the layers hold');
 
-$| = 1;
-binmode STDOUT, ':encoding(UTF-8)';
-my $is_selftest = @ARGV && $ARGV[0] eq '--selftest' && shift @ARGV;
-my $repository = shift @ARGV // "$Bin/..";
-die "usage: tools/check-layers [--selftest] [REPOSITORY]\n" if @ARGV || $repository =~ /^-/;
-exit($is_selftest ? selftest($repository) : check($repository));
+my $planted = do "$Bin/lib/breaches.pl" or die "breaches.pl: $@$!\n";
+subtest 'planted breaches' => sub {
+    for (@{ $planted->{breaches} }) {
+        my ($what, @changes) = @$_;
+        my @found = breaches_with($tree, @changes);
+        ok((grep { /^\Q$changes[0]\E:/ } @found), $what) or diag(@found);
+    }
+};
+subtest 'what is allowed' => sub {
+    is_deeply([breaches_with($tree, @$_[1 .. $#$_])], [], $_->[0]) for @{ $planted->{passed} };
+};
+
+done_testing;
