@@ -16,13 +16,15 @@ my $jobs = $ENV{JOBS} || 2;
 sub rows {
     my @rows;
     for my $block (split /\n{2,}/, slurp("$root/tests/lib/planted")) {
-        my @pairs;
+        my (@shared, @faults);
         for (grep { !/^#/ } split /\n/, $block) {
             my ($key, $text) = /^(\w+): ?(.*)$/ or die "planted: $_\n";
-            if ($key eq 'more') { $pairs[-1][1] .= "\n$text" }
-            else { push @pairs, [$key, $text] }
+            push @faults, [] if $key eq 'fault';
+            my $pairs = @faults ? $faults[-1] : \@shared;
+            if ($key eq 'more') { $pairs->[-1][1] .= "\n$text" }
+            else { push @$pairs, [$key, $text] }
         }
-        push @rows, \@pairs if @pairs;
+        push @rows, map { [$_->[0], @shared, @$_[1 .. $#$_]] } @faults;
     }
     return @rows;
 }
