@@ -16,13 +16,15 @@ my $jobs = $ENV{JOBS} || 2;
 sub rows {
     my @rows;
     for my $block (split /\n{2,}/, slurp("$root/tests/lib/planted")) {
-        my @pairs;
+        my (@shared, @faults);
         for (grep { !/^#/ } split /\n/, $block) {
             my ($key, $text) = /^(\w+): ?(.*)$/ or die "planted: $_\n";
-            if ($key eq 'more') { $pairs[-1][1] .= "\n$text" }
-            else { push @pairs, [$key, $text] }
+            push @faults, [] if $key eq 'fault';
+            my $pairs = @faults ? $faults[-1] : \@shared;
+            if ($key eq 'more') { $pairs->[-1][1] .= "\n$text" }
+            else { push @$pairs, [$key, $text] }
         }
-        push @rows, \@pairs if @pairs;
+        push @rows, map { [$_->[0], @shared, @$_[1 .. $#$_]] } @faults;
     }
     return @rows;
 }
@@ -80,10 +82,10 @@ END
     chmod 0755, $path or die "$path: $!";
 }
 
-# Does to the copy what a row says. Returns the test that has to fail, with the subtests that are enough for it.
+# Does to the copy what a row says. Returns the tests that have to fail, and the subtests that are enough for them.
 sub plant {
     my ($copy, @pairs) = @_;
-    my ($path, $file, $old, $test, $name, $only, %code);
+    my ($path, $file, $old, $only, %code, @sees);
     for (@pairs) {
         my ($key, $text) = @$_;
         if ($key eq 'file') { ($file, $path) = ($text, "$copy/$text") }
@@ -98,11 +100,14 @@ sub plant {
         elsif ($key eq 'gone') { unlink $path or die "$file: $!\n" }
         elsif ($key =~ /^(wrap|before|after)$/) { $code{$key} = $text }
         elsif ($key eq 'only') { $only = $text }
-        elsif ($key eq 'sees') { ($test, $name) = $text =~ /^(\w+\.t): (.+)$/ or die "sees: $text\n" }
+        elsif ($key eq 'sees') {
+            my ($test, $names) = $text =~ /^(\w+\.t): (.+)$/ or die "sees: $text\n";
+            push @sees, map { [$test, $_] } split / & /, $names;
+        }
         elsif ($key ne 'fault') { die "planted: no key $key\n" }
     }
     wrap($path, %code) if %code;
-    return ($test, $name, $only);
+    return ($only, @sees);
 }
 
 # A file of the copy gets this text, and keeps its mode.
@@ -112,16 +117,22 @@ sub changed {
     spew($path, $text);
 }
 
-# Tries one row: returns nothing where the test saw it, or else what went otherwise.
+# Tries one row: returns nothing where its tests saw it, or else what went otherwise.
 sub tried {
     my ($copy, @pairs) = @_;
     make_path($copy);
     copy_tree($copy, map { $_->[0] eq 'file' ? $_->[1] : () } @pairs);
-    my ($test, $name, $only) = plant($copy, @pairs);
-    my $run = run({ env => { T_ONLY => $only, HARNESS_ACTIVE => undef }, timeout => 300 }, $^X, "$copy/tests/$test");
-    my $escaped = $name =~ s/#/\\#/gr;
-    return if $run->{out} =~ /^ *not ok \d+ - \Q$escaped\E$/m && $run->{status};
-    return "$test ended with $run->{status}, and printed:\n" . join "\n", grep { !/^ *ok / } split /\n/, "$run->{out}$run->{err}";
+    my ($only, @sees) = plant($copy, @pairs);
+    my %run;
+    for (@sees) {
+        my ($test, $name) = @$_;
+        my $run = $run{$test} //= run({ env => { T_ONLY => $only, HARNESS_ACTIVE => undef }, timeout => 300 }, $^X, "$copy/tests/$test");
+        my $escaped = $name =~ s/#/\\#/gr;
+        next if $run->{out} =~ /^ *not ok \d+ - \Q$escaped\E$/m && $run->{status};
+        return "$test passed '$name', ended with $run->{status}, and printed:\n"
+            . join "\n", grep { !/^ *ok / } split /\n/, "$run->{out}$run->{err}";
+    }
+    return;
 }
 
 my $wanted = $ENV{FAULTS} // '';
@@ -145,7 +156,7 @@ for my $number (0 .. $#rows) {
 }
 $gather->() while %number;
 for my $number (0 .. $#rows) {
-    my ($fault, $sees) = map { my $key = $_; map { $_->[0] eq $key ? $_->[1] : () } @{ $rows[$number] } } qw(fault sees);
+    my ($fault, $sees) = map { my $key = $_; join ', ', map { $_->[0] eq $key ? $_->[1] : () } @{ $rows[$number] } } qw(fault sees);
     is($result{$number}, '', "$fault: seen by $sees");
 }
 done_testing;

@@ -115,7 +115,7 @@ subtest 'devices' => sub {
     }
 };
 
-subtest 'costs and budgets' => sub {
+subtest 'budgets' => sub {
     answer($md5, qw(-m md5 --budget 0 password xxxxxxxx));
     fault(1, 'line 1: over budget', \"h:\$6\$rounds=999999999\$saltstringsaltst\$:password\n", qw(--check --budget 89523813983));
     my $small = "s:\$7\$2/..../....\$rNxJWVHNv/mCNcgE/f6/L4zO6Fos5c2uTzhyzoisI62:\n";
@@ -123,18 +123,6 @@ subtest 'costs and budgets' => sub {
     answer('s:ok', \$small, qw(--check --budget 5044));
     answer('b:locked', \"b:!:x\n", qw(--check --budget 0));
     fault(1, 'line 1: over budget', \"h:\$7\$J2..../....\$:\n", qw(--check --budget 2147486947));
-    my @costs = slurp("$root/README.md") =~ /^\| .* \| `(-m [^`]*)` \| ([0-9]*) \| /gm;
-    is(@costs / 2, 8, 'README.md tells the costs of 8 settings');
-    # One below its cost a batch and a check of its answer are refused, and at the cost, which may have a sign and zeros, not.
-    while (my ($words, $cost) = splice @costs, 0, 2) {
-        my @words = split / /, $words;
-        fault(1, 'line 1: over budget', \"x:password\n", '--batch', '--budget', $cost - 1, @words);
-        my $hashed = run({ stdin => "x:password\n" }, program(), '--batch', '--budget', $cost, @words);
-        is("$hashed->{status}$hashed->{err}", 0, "a hash for $cost: $words");
-        my $line = $hashed->{out} =~ s/\n/:password\n/r;
-        fault(1, 'line 1: over budget', \$line, '--check', '--budget', $cost - 1);
-        answer('x:ok', \$line, '--check', "--budget=+00$cost");
-    }
 };
 
 subtest 'new hashes' => sub {

@@ -15,7 +15,7 @@ use List::Util qw(max min sum0);
 
 our @EXPORT = qw(%limits %kinds %most_salt %made_salt %packed_length @characters @setting_refusals @line_refusals @verdicts %seen
     saw forget shown numeral scrypt_cost setting read_setting made_setting is_replaced counts cost hash_of made_by_hand
-    block_mix rom_mix salsa job judged differences);
+    rom_mix job judged differences);
 
 our %limits = (
     password => 1024, setting => 384, line => 2048, name => 64, least_rounds => 1000, most_rounds => 999999999, ceiling => 8388608,

@@ -1,4 +1,4 @@
-# What `tools/check-layers --selftest` plants in a copy of the tree, one at a time: what it is, and for each file that
+# What tests/layers.t plants in a copy of the tree, one at a time: what it is, and for each file that
 # it changes either text that is added behind it (a new file where there is none), or an array of a text that stands
 # there once and the text in its place, or undef where the file goes. The first file of a breach has to be named.
 use strict;
@@ -17,7 +17,9 @@ my $password = 'crates/crypt_core/src/password.rt';
 my $salsa = 'crates/prims_core/src/salsa.rt';
 my $mix = 'crates/prims_core/src/mix.rt';
 my $exports = 'crates/crypt_c/src/lib.rt';
-my $lines = 'crates/mkpasswd/src/lines';
+my $calls = 'crates/crypt_c/src/calls.rt';
+my $runs = -d "$Suite::root/crates/run_core" ? 'run_core' : 'mkpasswd';
+my $lines = "crates/$runs/src/lines";
 my $import = 'use prims_core::meter::Meter;';
 my $makes = 'fn f() { let mut meter = Meter::new(); }';
 
@@ -30,7 +32,6 @@ return {
         ['a crate that is not known', 'crates.txt' => 'hashes: arrayvec'],
         ['a generator for the library', 'crates.txt' => ['mkpasswd: arrayvec', 'mkpasswd: rand arrayvec']],
         ['another list of dependencies', 'crates/kdf_core/BUILD.bazel' => 'deps = ["md5"]'],
-
         ['a source that uses sha2', $main => 'use sha2::{Digest, Sha256};'],
         ['a source that uses a whole crate', $main => 'use md5;'],
         ['a source that uses a crate in braces', $main => 'use {md5, std::env};'],
@@ -46,74 +47,30 @@ return {
         ['a digest crate that is handed on', $lib => 'pub use md5;'],
         ['a digest crate that an implementation hands on', $md5 => 'pub use md5::Md5;'],
         ['a digest crate that is used twice', $md5 => 'use md5;'],
-
-        [
-            'a public digest beside an implementation',
-            $md5 => 'pub fn plain(text: &[u8]) -> [u8; 16] { Md5::digest(text) }',
-        ],
-        [
-            'a private digest beside an implementation',
-            $md5 => 'fn plain(text: &[u8]) -> [u8; 16] { Md5::digest(text) }',
-        ],
+        ['a public digest beside an implementation', $md5 => 'pub fn plain(text: &[u8]) -> [u8; 16] { Md5::digest(text) }'],
+        ['a private digest beside an implementation', $md5 => 'fn plain(text: &[u8]) -> [u8; 16] { Md5::digest(text) }'],
         ['a digest of the type itself', $sha256 => 'impl CountedSha256 { fn plain(self) {} }'],
         ['a trait that reaches the digest', $md5 => 'impl Deref for CountedMd5 {}'],
         ['a running digest that is public', $md5 => ['    running: Md5,', '    pub running: Md5,']],
         ['a running digest that can be copied', $md5 => ['derive(Debug, Drop)', 'derive(Clone, Debug, Drop)']],
-        [
-            'a second digest where one is finished',
-            $md5 => ['meter.count_digest();', 'meter.count_digest(); Md5::digest(b"x");'],
-        ],
-        [
-            'a second digest made and kept by its name',
-            $md5 => ['meter.count_digest();', 'let f = Md5::digest; f(b"x"); meter.count_digest();'],
-        ],
-        [
-            'a second digest by the same calls',
-            $sha256 => ['meter.count_digest();', 'Sha256::new().finalize(); meter.count_digest();'],
-        ],
-        [
-            'a piece that is fed twice',
-            $sha256 => ['self.running.update(piece);', 'self.running.update(piece); self.running.update(piece);'],
-        ],
-        [
-            'a piece that is fed by the trait',
-            $md5 => [
-                'self.running.update(piece);',
-                'Digest::update::<&[u8]>(&mut self.running, piece); self.running.update(piece);',
-            ],
-        ],
-        [
-            'a digest that is a constant',
-            $md5 => ['const LEN: usize = 16;', 'const LEN: usize = 16; const PLAIN: Plain = Md5::digest;'],
-        ],
-        [
-            'a running digest that is moved',
-            $md5 => ['self.running.update', 'let running = self.running; self.running.update'],
-        ],
+        ['a second digest where one is finished', $md5 => ['meter.count_digest();', 'meter.count_digest(); Md5::digest(b"x");']],
+        ['a second digest made and kept by its name', $md5 => ['meter.count_digest();', 'let f = Md5::digest; f(b"x"); meter.count_digest();']],
+        ['a second digest by the same calls', $sha256 => ['meter.count_digest();', 'Sha256::new().finalize(); meter.count_digest();']],
+        ['a piece that is fed twice', $sha256 => ['self.running.update(piece);', 'self.running.update(piece); self.running.update(piece);']],
+        ['a piece that is fed by the trait', $md5 => ['self.running.update(piece);', 'Digest::update::<&[u8]>(&mut self.running, piece); self.running.update(piece);']],
+        ['a digest that is a constant', $md5 => ['const LEN: usize = 16;', 'const LEN: usize = 16; const PLAIN: Plain = Md5::digest;']],
+        ['a running digest that is moved', $md5 => ['self.running.update', 'let running = self.running; self.running.update']],
         ['a digest that is not counted', $md5 => ['        meter.count_digest();', '']],
         ['a digest by a macro', $md5 => ['meter.count_digest();', 'meter.count_digest(); plain!{self};']],
-        [
-            'a public function beside Counted',
-            "$counted.rt" => 'pub fn plain(text: &[u8]) -> [u8; 16] { counted_md5::plain(text) }',
-        ],
-        [
-            'a type that is offered by another name',
-            "$counted.rt" => ['pub use counted_md5::CountedMd5;', 'pub use counted_md5::CountedMd5 as Md5;'],
-        ],
+        ['a public function beside Counted', "$counted.rt" => 'pub fn plain(text: &[u8]) -> [u8; 16] { counted_md5::plain(text) }'],
+        ['a type that is offered by another name', "$counted.rt" => ['pub use counted_md5::CountedMd5;', 'pub use counted_md5::CountedMd5 as Md5;']],
         ['a module that is offered as a whole', "$counted.rt" => ["\nmod counted_md5;", "\npub mod counted_md5;"]],
         ['a module beside Counted', "$counted.rt" => "mod plain {\n    fn plain() {}\n}"],
         ['a digest of a type that is offered', "$counted.rt" => 'impl CountedMd5 { fn plain(text: &[u8]) {} }'],
         ['a fourth implementation', "$counted/plain.rt" => 'pub fn plain() {}', "$counted.rt" => 'mod plain;'],
-
         (map { ["$_ made public", $meter => ["pub(crate) fn $_", "pub fn $_"]] }
             qw(count_bytes count_digest count_mix count_table count_scratch)),
-        [
-            'a second call that makes a meter',
-            $meter => [
-                '    /// How many bytes were',
-                "    pub fn fresh() -> Self { Self::new() }\n    /// How many bytes were",
-            ],
-        ],
+        ['a second call that makes a meter', $meter => ['    /// How many bytes were', "    pub fn fresh() -> Self { Self::new() }\n    /// How many bytes were"]],
         ['a function of the meter that makes one', $meter => 'pub fn fresh() -> Meter { Meter::new() }'],
         ['a meter that is a constant', $meter => 'const FRESH: Meter = Meter { digests: 0 };'],
         ['a meter by a trait of its own', $meter => 'impl Fresh for Meter {}'],
@@ -132,33 +89,18 @@ return {
         ['a meter made in prims_core', $words => "use crate::meter::Meter;\n$makes"],
         ['another name that prims_core gives', $lib => 'pub type Plain = crate::meter::Meter;'],
         ['the module under another name', $lib => 'pub use meter as counts;'],
-        [
-            'a count that is raised without work',
-            $words => "pub fn raise(meter: &mut Meter) {\n    meter.count_bytes(1);\n}",
-        ],
-        [
-            'a table that is counted in another room',
-            'crates/prims_core/src/scratch.rt' => 'fn f(meter: &mut Meter) { meter.count_table(1); }',
-        ],
-
+        ['a count that is raised without work', $words => "pub fn raise(meter: &mut Meter) {\n    meter.count_bytes(1);\n}"],
+        ['a table that is counted in another room', 'crates/prims_core/src/scratch.rt' => 'fn f(meter: &mut Meter) { meter.count_table(1); }'],
         ['a meter made in a library', $hash => $makes],
-        ['a meter made in the library of the runs', 'crates/mkpasswd/src/lib.rt' => "$import\n$makes"],
-        [
-            'a meter made in another room of the program',
-            'crates/program/src/other.rt' => "$import\n$makes",
-            $main => 'mod other;',
-        ],
-        ['a meter made in another room of the calls for C', 'crates/crypt_c/src/calls.rt' => 'fn f() { let mut meter = Meter::new(); }'],
-        [
-            'a hash that is not counted before one that is',
-            $exports => ['    let answer = compare(', "    let _ = compare(alloc, password, stored, &mut Meter::new());\n    let answer = compare("],
-        ],
-        [
-            'a hash that is not counted behind one that is',
-            $exports => ["    verdict_number(answer)\n", "    let mut meter = Meter::new();\n    verdict_number(compare(alloc, password, stored, &mut meter))\n"],
-        ],
-        ['counts that are not handed out', $exports => ["    *work = meter.work_since(&before);\n    verdict_number(answer)", '    verdict_number(answer)']],
-        ['a call for C that hashes and has no work', $exports => ['    verdict_number(is_replaced(stored, new))', "    let mut meter = Meter::new();\n    verdict_number(is_replaced(stored, new))"]],
+        ['a meter made in the library of the runs', "crates/$runs/src/lib.rt" => "$import\n$makes"],
+        ['a meter made in another room of the program', 'crates/program/src/other.rt' => "$import\n$makes", $main => 'mod other;'],
+        ['a meter made in another room of the calls for C', 'crates/crypt_c/src/report.rt' => 'fn f() { let mut meter = Meter::new(); }'],
+        ['a meter made in a call for C', $exports => 'fn f() { let mut meter = Meter::new(); }'],
+        ['a second meter among the calls for C', $calls => 'fn f() { let mut meter = Meter::new(); }'],
+        ['a hash that is not counted before one that is', $calls => ['    let hashed = hash(', "    let _ = hash(alloc, password, setting, &mut Meter::new());\n    let hashed = hash("]],
+        ['a hash that is not counted after one that is', $calls => ["    (hashed, work)\n", "    let mut meter = Meter::new();\n    (hash(alloc, password, setting, &mut meter), work)\n"]],
+        ['counts that are not handed out', $calls => ["    (hashed, work)\n", "    (hashed, NONE)\n"]],
+        ['a hash by the meter of another one', $calls => ['    let hashed = hash(', "    let _ = hash(alloc, password, setting, &mut meter);\n    let hashed = hash("]],
         ['a call for C under another name', $exports => '#[unsafe(no_mangle)] pub extern "C" fn other() {}'],
         ['a call for C in a library', $hash => '#[unsafe(no_mangle)] pub extern "C" fn mkpasswd_other() {}'],
         ['what is unsafe among the calls for C', $exports => 'fn f() { unsafe { g() }; }'],
@@ -182,37 +124,16 @@ return {
         ['a meter that is handed on', $hash => [$import, 'pub use prims_core::meter::Meter;']],
         ['all that stands beside the meter', $hash => [$import, 'use prims_core::meter::*;']],
         ['the meter as a module', $hash => [$import, "use prims_core::meter;\nfn f() { meter::Meter::new(); }"]],
-        [
-            'the module by another name',
-            $hash => [$import, "use prims_core::meter as m;\nfn f() { m::Meter::new(); }"],
-        ],
+        ['the module by another name', $hash => [$import, "use prims_core::meter as m;\nfn f() { m::Meter::new(); }"]],
         ['all of prims_core', $hash => [$import, "use prims_core::*;\nfn f() { meter::Meter::new(); }"]],
-
         ['tests that are none, in a block', $scheme => ["#[cfg(test)]\nmod tests {", 'mod tests {']],
-        [
-            'tests that are none, in a file',
-            'crates/crypt_core/src/hash/tests.rt' => '',
-            $hash => ["#[cfg(test)]\npub(crate) mod tests;", 'pub(crate) mod tests;'],
-        ],
-        [
-            'tests that are none, below',
-            "$lines/tests/cut_short.rt" => $makes, "$lines.rt" => ["#[cfg(test)]\nmod tests;", 'mod tests;'],
-        ],
-        [
-            'a comment in place of the attribute',
-            $scheme => ["#[cfg(test)]\nmod tests {", "// #[cfg(test)]\nmod tests {"],
-        ],
+        ['tests that are none, in a file', 'crates/crypt_core/src/hash/tests.rt' => '', $hash => ["#[cfg(test)]\npub(crate) mod tests;", 'pub(crate) mod tests;']],
+        ['tests that are none, below', "$lines/tests/cut_short.rt" => $makes, "$lines.rt" => ["#[cfg(test)]\nmod tests;", 'mod tests;']],
+        ['a comment in place of the attribute', $scheme => ["#[cfg(test)]\nmod tests {", "// #[cfg(test)]\nmod tests {"]],
         ['what is no test', $scheme => ["#[cfg(test)]\nmod tests {", "#[cfg(not(test))]\nmod tests {"]],
         ['what may be no test', $scheme => ["#[cfg(test)]\nmod tests {", "#[cfg(any(test, unix))]\nmod tests {"]],
-        [
-            'an attribute of what stands before',
-            $scheme => ["#[cfg(test)]\nmod tests {", "#[cfg(test)]\nfn helper() {}\nmod tests {"],
-        ],
-        [
-            'a test that is the program too',
-            'crates/crypt_core/src/hash/tests.rt' => '',
-            $hash => "#[cfg(not(test))]\nmod tests;",
-        ],
+        ['an attribute of what stands before', $scheme => ["#[cfg(test)]\nmod tests {", "#[cfg(test)]\nfn helper() {}\nmod tests {"]],
+        ['a test that is the program too', 'crates/crypt_core/src/hash/tests.rt' => '', $hash => "#[cfg(not(test))]\nmod tests;"],
         ['a file of tests that nothing names', 'crates/crypt_core/src/pack/tests.rt' => "$import\n$makes"],
         ['a block of tests in the program', $hash => "mod more {\n    #[cfg(test)]\n    mod tests {}\n    $makes\n}"],
         ['a meter made behind the tests of a file', $scheme => $makes],
@@ -223,10 +144,7 @@ return {
         ['a block that is mixed aside', 'crates/kdf_core/src/scrypt.rt' => 'fn f(block: &mut [u32; 16]) { prims_core::salsa::salsa8(block); }'],
         ['a mixing that calls it', $mix => 'use crate::salsa::salsa8;'],
         ['a second caller in its file', $salsa => 'pub fn twice(block: &mut [u32; 16]) { salsa8(block); salsa8(block); }'],
-        [
-            'a block that is mixed aside where blocks are mixed',
-            $mix => ["    meter.count_mix();\n}\n\n/// Makes the 2r", "    let _ = mixed_block(&x, &x);\n    meter.count_mix();\n}\n\n/// Makes the 2r"],
-        ],
+        ['a block that is mixed aside where blocks are mixed', $mix => ["    meter.count_mix();\n}\n\n/// Makes the 2r", "    let _ = mixed_block(&x, &x);\n    meter.count_mix();\n}\n\n/// Makes the 2r"]],
         ['a third caller of the mixing', $mix => 'pub fn mix_aside(x: &Diagonals) { let _ = mixed_block(x, x); }'],
         ['the mixing of a block by another name', $mix => 'fn f() { let g = mixed_block; }'],
         ['a block in lanes that is mixed aside', $mix => ['    salsa8_of(&x.xor(block))', '    let _ = salsa8_of(x); salsa8_of(&x.xor(block))']],
@@ -242,17 +160,11 @@ return {
 
     # What has to be passed.
     passed => [
-        [
-            'a comment and a string',
-            $hash => "// Meter::new() and md5::Md5\nfn f() { g(\"Meter::new()\", r#\"\"md5::Md5\"#); }",
-        ],
+        ['a comment and a string', $hash => "// Meter::new() and md5::Md5\nfn f() { g(\"Meter::new()\", r#\"\"md5::Md5\"#); }"],
         ['a function with a meter', $hash => 'fn f(meter: &mut Meter, other: &Meter) {}'],
         ['a meter that is lent to a struct', $hash => "struct Run<'a> {\n    meter: &'a mut Meter,\n}"],
         ['a meter in tests', "$lines/tests/cut_short.rt" => "$makes\nstruct Kept { meter: Meter }"],
-        [
-            'a second module of tests',
-            $hash => "#[cfg(test)]\n#[allow(unused)]\nmod more {\n    mod below {\n        $makes\n    }\n}",
-        ],
+        ['a second module of tests', $hash => "#[cfg(test)]\n#[allow(unused)]\nmod more {\n    mod below {\n        $makes\n    }\n}"],
         ['a fault of a password that is shown', $password => 'impl Debug for PasswordFault {}'],
         ['a remark behind a crate', 'crates.txt' => ['program: mkpasswd', "# md5\nprogram: mkpasswd"]],
     ],
