@@ -1,6 +1,7 @@
 pub mod AfterFront
 pub mod Canonical
 pub mod CycleLemmas
+pub mod EachMethod
 pub mod Fields
 pub mod First
 pub mod HashedTexts

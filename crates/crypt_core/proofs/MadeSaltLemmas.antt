@@ -1,15 +1,16 @@
 -- Lemmas on salts made of random words.
-use Rattle.std.proofs.Common.{◌≡◌, ◌≤◌, ℕ, ◌+◌, List, [], ◌∷◌, ◌++◌, All, arith}
+use Rattle.std.proofs.Common.{◌≡◌, ◌≤◌, ℕ, ◌+◌, List, [], ◌∷◌, ◌++◌, All, arith, refl}
 use Rattle.std.specs.List.{range_with_len}
+use Rattle.std.proofs.lemmas.Bool.{leb-true}
 use Rattle.std.proofs.lemmas.List.FromFn.{map-range_with_len_more}
 use Rattle.std.proofs.lemmas.List.Elements.{All-map}
 use Rattle.prims_core.specs.Alphabet.{alphabet}
-use Rattle.std.specs.Prelude.{Contains}
+use Rattle.std.specs.Prelude.{Contains, nat_le}
 use Rattle.crypt_core.proofs.Numerals.{in_alphabet}
 use Rattle.crypt_core.specs.MadeSalts.{made_character, made_salt, made_salt_length}
 use Rattle.crypt_core.specs.Methods.{salt_limit}
 use Rattle.crypt_core.specs.declared.method.Method.{Method}
-use Rattle.crypt_core.specs.declared.method.Method.TheVariants.{Md5crypt, Sha256crypt, Sha512crypt, Scrypt}
+use Rattle.crypt_core.proofs.EachMethod.{each_method}
 
 -- one character more
 pub made_salt-more : (words : List ℕ) (n : ℕ) → made_salt words (n + 1) ≡ made_salt words n ++ made_character words n ∷ []
@@ -22,7 +23,4 @@ all_made_salt words n = All-map (Contains alphabet) (made_character words) (rang
 
 -- as many characters as a made salt has, the method keeps
 pub made_short : (m : Method) → made_salt_length m ≤ salt_limit m
-made_short Md5crypt = omega arith
-made_short Sha256crypt = omega arith
-made_short Sha512crypt = omega arith
-made_short Scrypt = omega arith
+made_short m = leb-true _ _ (each_method (λ n. nat_le (made_salt_length n) (salt_limit n)) refl m)

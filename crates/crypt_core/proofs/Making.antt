@@ -22,6 +22,7 @@ use Rattle.crypt_core.specs.MadeSettings.{made_scheme, TakesCost, TakesSalt, IsM
 use Rattle.crypt_core.specs.Schemes.{IsScheme, method_of}
 use Rattle.crypt_core.specs.Settings.{SettingValue, HasNumerals, IsSettingByte, dollar, BeginsWith, rounds_word, rounds_field, IsRoundsNumber, SpellsRounds, scrypt_part, SpellsCost, KeepsSalt, IsSetting, cost_part, canonical_text}
 use Rattle.crypt_core.specs.Rounds.{clamped, min_rounds, max_rounds, default_rounds}
+use Rattle.crypt_core.proofs.EachMethod.{each_method}
 use Rattle.crypt_core.proofs.Numerals.{all_scrypt_part}
 use Rattle.crypt_core.proofs.Canonical.{canonical_short, decimal_is_number, number_bytes, held_again}
 
@@ -79,10 +80,7 @@ not_equals c h e = differs_means 61 c (character_passes (differs 61) refl c h) (
 
 prefix_bytes : (m : Method) → All IsSettingByte (prefix m)
 unfolding is_byte differs
-prefix_bytes methods.Md5crypt = bytes_mean (codes "$1$") refl
-prefix_bytes methods.Sha256crypt = bytes_mean (codes "$5$") refl
-prefix_bytes methods.Sha512crypt = bytes_mean (codes "$6$") refl
-prefix_bytes methods.Scrypt = bytes_mean (codes "$7$") refl
+prefix_bytes m = bytes_mean (prefix m) (each_method (λ n. list_all is_byte (prefix n)) refl m)
 
 field_bytes : (ds : List ℕ) → IsRoundsNumber ds → All IsSettingByte (rounds_field ds)
 unfolding is_byte differs
@@ -184,10 +182,7 @@ made_method methods.Sha512crypt cost = refl
 made_method methods.Scrypt cost = refl
 
 pub limit_below : (m : Method) → salt_limit m ≤ scrypt_salt_limit
-limit_below methods.Md5crypt = omega arith
-limit_below methods.Sha256crypt = omega arith
-limit_below methods.Sha512crypt = omega arith
-limit_below methods.Scrypt = omega arith
+limit_below m = leb-true _ _ (each_method (λ n. nat_le (salt_limit n) scrypt_salt_limit) refl m)
 
 -- Refusals
 

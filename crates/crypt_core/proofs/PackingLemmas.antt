@@ -1,17 +1,18 @@
 -- Lemmas on numerals and on groups of a digest's bytes.
-use Rattle.std.proofs.Common.{◌≡◌, ℕ, zero, suc, ◌+◌, ◌^◌, ◌<◌, ◌≤◌, List, [], ◌∷◌, ◌++◌, length, drop, get_or, nat_lt, arith, refl, Bor}
+use Rattle.std.proofs.Common.{◌≡◌, ℕ, zero, suc, ◌+◌, ◌^◌, ◌<◌, ◌≤◌, List, [], ◌∷◌, ◌++◌, length, drop, get_or, nat_lt, eqb, arith, refl, sym, ap, ◌∙◌, Bor}
 use Rattle.std.proofs.lemmas.List.Sums.{sum_by-cons}
-use Rattle.std.proofs.lemmas.Bool.{and_parts, ltb-true}
-use Rattle.std.proofs.lemmas.List.{length-append}
+use Rattle.std.proofs.lemmas.Bool.{and_parts, eqb-true, leb-true, ltb-true}
+use Rattle.std.proofs.lemmas.List.{append-nil, drop_all, length-append}
 use Rattle.std.proofs.lemmas.List.Elements.{All-nil, All-append}
-use Rattle.std.specs.Prelude.{All, Contains, sum_by}
+use Rattle.std.specs.Prelude.{All, Contains, nat_le, sum_by}
 use Rattle.std.proofs.Math.Seq.{drop-cons}
 use Rattle.std.specs.List.{list_all}
 use Rattle.crypt_core.specs.declared.method.Method.{Method}
-use Rattle.crypt_core.specs.declared.method.Method.TheVariants.{Md5crypt, Sha256crypt, Sha512crypt, Scrypt}
+use Rattle.crypt_core.specs.declared.method.Method.TheVariants.{Sha512crypt}
 use Rattle.prims_core.specs.Alphabet.{alphabet}
 use Rattle.crypt_core.specs.Methods.{digest_len}
-use Rattle.crypt_core.specs.Packing.{packed, packed_by, packed_group, group_number, groups_of, md5crypt_groups, sha256crypt_groups, sha512crypt_groups, scrypt_groups, packed_len}
+use Rattle.crypt_core.specs.Packing.{packed, packed_by, packed_group, group_number, groups_of, packed_len}
+use Rattle.crypt_core.proofs.EachMethod.{each_method}
 use Rattle.crypt_core.proofs.Numerals.{all_numerals, length-numerals}
 use Rattle.crypt_core.specs.Private.Tables.{groups_in, is_group, AreGroups, IsGroup}
 
@@ -38,6 +39,13 @@ packed-drop digest table i d below =
     let next : i + 1 ≡ suc i = omega arith in
     rw (next, drop-cons table i d below) refl
 
+-- where no group is left, the text has all of them
+pub all_groups : (digest : List ℕ) (table : List (Bor (List ℕ))) (i : ℕ) (text : List ℕ) → length table ≤ i
+    → text ++ packed_by (groups_in (drop i table)) digest ≡ packed_by (groups_in table) digest
+    → text ≡ packed_by (groups_in table) digest
+all_groups digest table i text done e =
+    sym (append-nil text) ∙ ap (λ (rest : List (Bor (List ℕ))). text ++ packed_by (groups_in rest) digest) (sym (drop_all i table done)) ∙ e
+
 -- the number of up to two bytes leaves room for one more
 pub bytes_fit : (k number : ℕ) → k < 3 → number < 256 ^ k → number < 65536
 bytes_fit zero number h below = omega arith
@@ -53,24 +61,17 @@ length-packed_by (places ∷ groups) digest =
     let rest = packed_by groups digest in
     rw (length-append front rest, length-numerals (length places + 1) (group_number digest places), length-packed_by groups digest, sum_by-cons (λ places. length places + 1) places groups) refl
 
-pub length-packed : (method : Method) (digest : List ℕ) → length (packed_by (groups_of method) digest) ≡ packed_len method
-length-packed Md5crypt digest = length-packed_by md5crypt_groups digest
-length-packed Sha256crypt digest = length-packed_by sha256crypt_groups digest
-length-packed Sha512crypt digest = length-packed_by sha512crypt_groups digest
-length-packed Scrypt digest = length-packed_by scrypt_groups digest
+pub length-packed : (m : Method) (digest : List ℕ) → length (packed_by (groups_of m) digest) ≡ packed_len m
+length-packed m digest =
+    length-packed_by (groups_of m) digest
+    ∙ eqb-true _ _ (each_method (λ n. eqb (sum_by (λ places. length places + 1) (groups_of n)) (packed_len n)) refl m)
 
 -- each method's groups are places of its digest
-pub groups_fit : (method : Method) → AreGroups (digest_len method) (groups_of method)
-groups_fit Md5crypt = refl
-groups_fit Sha256crypt = refl
-groups_fit Sha512crypt = refl
-groups_fit Scrypt = refl
+pub groups_fit : (m : Method) → AreGroups (digest_len m) (groups_of m)
+groups_fit m = each_method (λ n. list_all (is_group (digest_len n)) (groups_of n)) refl m
 
-pub packed_len-small : (method : Method) → packed_len method ≤ packed_len Sha512crypt
-packed_len-small Md5crypt = omega arith
-packed_len-small Sha256crypt = omega arith
-packed_len-small Sha512crypt = omega arith
-packed_len-small Scrypt = omega arith
+pub packed_len-small : (m : Method) → packed_len m ≤ packed_len Sha512crypt
+packed_len-small m = leb-true _ _ (each_method (λ n. nat_le (packed_len n) (packed_len Sha512crypt)) refl m)
 
 all_packed_by : (groups : List (List ℕ)) (digest : List ℕ) → All (Contains alphabet) (packed_by groups digest)
 all_packed_by [] digest = All-nil (Contains alphabet)

@@ -6,7 +6,7 @@ use Rattle.std.specs.Option.{unwrap_or}
 use Rattle.std.specs.Str.Parse.{digits_value}
 use Rattle.std.proofs.Math.Seq.{drop-cons, drop-nil, take-length}
 use Rattle.std.proofs.lemmas.Bool.{eqb-true, eqb-false, ltb-false}
-use Rattle.std.proofs.lemmas.List.{append_cancel_left, append-nil, take-append-drop, take-append-le, drop-append-le, get_or-take, get_or_append_left, length-append, length-take, length-drop}
+use Rattle.std.proofs.lemmas.List.{append_cancel_left, take-append-drop, take-append-le, drop-append-le, get_or-take, get_or_append_left, length-append, length-take, length-drop}
 use Rattle.std.proofs.lemmas.List.Sums.{fails_before_first, passes_at_first, prefix_len-le-length}
 use Rattle.std.proofs.lemmas.List.Elements.{All-from_get_or, All-get_or, All-take, All-drop}
 use Rattle.std.proofs.lemmas.Int.Digits.{digits_value_more}
@@ -15,7 +15,7 @@ use Rattle.prims_core.specs.Alphabet.{alphabet, character_of, numerals}
 use Rattle.kdf_core.specs.Params.{cost_of}
 use Rattle.crypt_core.specs.Refusals.{LacksCost, LacksNumber}
 use Rattle.crypt_core.specs.Private.Parts.{HasField}
-use Rattle.crypt_core.specs.Settings.{dollar, IsEndOfField, IsField, IsRoundsNumber, scrypt_part, HasNumerals, scrypt_part_len}
+use Rattle.crypt_core.specs.Settings.{dollar, IsEndOfField, IsRoundsNumber, scrypt_part, HasNumerals, scrypt_part_len}
 use Rattle.crypt_core.specs.Rounds.{max_rounds}
 use Rattle.crypt_core.proofs.Fields.{field_unique}
 use Rattle.crypt_core.proofs.Rounds.{digits_are_field}

@@ -2,6 +2,10 @@
 
 ghost use Rattle.std.specs.Prelude.{◌≡◌};
 ghost use Rattle.crypt_core.specs.Methods.{made_salt_length, method_named, method_numbered, method_row, packed_len, prefix, salt_limit};
+ghost use Rattle.crypt_core.specs.Packing.{groups_of};
+ghost use Rattle.crypt_core.specs.Private.Tables.{groups_in};
+
+use crate::pack::{MD5CRYPT_GROUPS, SCRYPT_GROUPS, SHA256CRYPT_GROUPS, SHA512CRYPT_GROUPS};
 
 /// The most bytes of salt that md5crypt keeps.
 pub const MD5CRYPT_SALT_LIMIT: usize = 8;
@@ -64,6 +68,8 @@ pub(crate) struct MethodRow {
     pub(crate) made_salt_length: usize,
     /// The characters of its packed digest.
     pub(crate) packed_len: usize,
+    /// The places in the digest that each group of its text takes.
+    pub(crate) groups: &'static [&'static [usize]],
 }
 
 impl Method {
@@ -97,6 +103,7 @@ impl Method {
         ensures kept { result.salt_limit ≡ salt_limit self }
         ensures made { result.made_salt_length ≡ made_salt_length self }
         ensures packed { result.packed_len ≡ packed_len self }
+        ensures groups { groups_in result.groups.now ≡ groups_of self }
     {
         match self {
             Method::Md5crypt => MethodRow {
@@ -107,6 +114,7 @@ impl Method {
                 salt_limit: MD5CRYPT_SALT_LIMIT,
                 made_salt_length: MD5CRYPT_SALT_LIMIT,
                 packed_len: MD5CRYPT_PACKED_LEN,
+                groups: &MD5CRYPT_GROUPS,
             },
             Method::Sha256crypt => MethodRow {
                 name: b"sha256crypt",
@@ -116,6 +124,7 @@ impl Method {
                 salt_limit: SHACRYPT_SALT_LIMIT,
                 made_salt_length: SHACRYPT_SALT_LIMIT,
                 packed_len: SHA256CRYPT_PACKED_LEN,
+                groups: &SHA256CRYPT_GROUPS,
             },
             Method::Sha512crypt => MethodRow {
                 name: b"sha512crypt",
@@ -125,6 +134,7 @@ impl Method {
                 salt_limit: SHACRYPT_SALT_LIMIT,
                 made_salt_length: SHACRYPT_SALT_LIMIT,
                 packed_len: SHA512CRYPT_PACKED_LEN,
+                groups: &SHA512CRYPT_GROUPS,
             },
             Method::Scrypt => MethodRow {
                 name: b"scrypt",
@@ -134,6 +144,7 @@ impl Method {
                 salt_limit: SCRYPT_SALT_LIMIT,
                 made_salt_length: MADE_SALT_LIMIT,
                 packed_len: SCRYPT_PACKED_LEN,
+                groups: &SCRYPT_GROUPS,
             },
         }
     }

@@ -1,9 +1,8 @@
 //! The text of a digest: its bytes in the method's own groups, each as base-64 numerals.
-ghost use Rattle.std.specs.Prelude.{◌≡◌, ◌+◌, ◌^◌, ◌<◌, ◌≤◌, ◌++◌, length};
-ghost use Rattle.arrayvec.specs.ArrayVec.{array_vec_len};
+ghost use Rattle.std.specs.Prelude.{◌≡◌, ◌+◌, ◌^◌, ◌<◌, length};
 ghost use Rattle.crypt_core.specs.Methods.{digest_len};
-ghost use Rattle.crypt_core.specs.Packing.{group_number, groups_of, packed, packed_by, packed_len};
-ghost use Rattle.crypt_core.specs.Private.Tables.{groups_in, AreGroups, IsGroup};
+ghost use Rattle.crypt_core.specs.Packing.{group_number, packed, packed_len};
+ghost use Rattle.crypt_core.specs.Private.Tables.{IsGroup};
 
 use crate::method::Method;
 pub use crate::method::{SCRYPT_PACKED_LEN, SHA512CRYPT_PACKED_LEN};
@@ -12,7 +11,7 @@ use arrayvec::ArrayVec;
 use prims_core::alphabet::put_group;
 
 /// The places in the digest that each group takes, the first one highest in the group's number.
-const MD5CRYPT_GROUPS: [&[usize]; 6] = [
+pub(crate) const MD5CRYPT_GROUPS: [&[usize]; 6] = [
     &[0, 6, 12],
     &[1, 7, 13],
     &[2, 8, 14],
@@ -21,7 +20,7 @@ const MD5CRYPT_GROUPS: [&[usize]; 6] = [
     &[11],
 ];
 
-const SHA256CRYPT_GROUPS: [&[usize]; 11] = [
+pub(crate) const SHA256CRYPT_GROUPS: [&[usize]; 11] = [
     &[0, 10, 20],
     &[21, 1, 11],
     &[12, 22, 2],
@@ -35,7 +34,7 @@ const SHA256CRYPT_GROUPS: [&[usize]; 11] = [
     &[31, 30],
 ];
 
-const SHA512CRYPT_GROUPS: [&[usize]; 22] = [
+pub(crate) const SHA512CRYPT_GROUPS: [&[usize]; 22] = [
     &[0, 21, 42],
     &[22, 43, 1],
     &[44, 2, 23],
@@ -60,7 +59,7 @@ const SHA512CRYPT_GROUPS: [&[usize]; 22] = [
     &[63],
 ];
 
-const SCRYPT_GROUPS: [&[usize]; 11] = [
+pub(crate) const SCRYPT_GROUPS: [&[usize]; 11] = [
     &[2, 1, 0],
     &[5, 4, 3],
     &[8, 7, 6],
@@ -81,8 +80,11 @@ pub fn pack(method: Method, digest: &[u8]) -> ArrayVec<u8, SHA512CRYPT_PACKED_LE
     ensures text { result.items ≡ packed method digest.now }
     ensures length { length result.items ≡ packed_len method }
 {
-    let mut text = ArrayVec::new();
-    put_groups(&mut text, digest, groups(method));
+    let groups = method.row().groups;
+    let mut text: ArrayVec<u8, TEXT_CAPACITY> = ArrayVec::new();
+    'groups: for places in groups {
+        put_group(&mut text, number_of(digest, places), places.len() + 1);
+    }
     ArrayVec::try_from(text.as_slice()).unwrap()
 }
 
@@ -91,29 +93,6 @@ pub fn packed_len(method: Method) -> usize
     ensures { result ≡ packed_len method }
 {
     method.row().packed_len
-}
-
-// The table of the method's groups.
-fn groups(method: Method) -> &'static [&'static [usize]]
-    ensures { groups_in result.now ≡ groups_of method }
-{
-    match method {
-        Method::Md5crypt => &MD5CRYPT_GROUPS,
-        Method::Sha256crypt => &SHA256CRYPT_GROUPS,
-        Method::Sha512crypt => &SHA512CRYPT_GROUPS,
-        Method::Scrypt => &SCRYPT_GROUPS,
-    }
-}
-
-// Appends the digest's groups in turn.
-fn put_groups(out: &mut ArrayVec<u8, TEXT_CAPACITY>, digest: &[u8], groups: &[&[usize]])
-    requires groups { AreGroups (length digest.now) (groups_in groups.now) }
-    requires room { array_vec_len out.old + length (packed_by (groups_in groups.now) digest.now) ≤ TEXT_CAPACITY }
-    ensures { out.new.items ≡ out.old.items ++ packed_by (groups_in groups.now) digest.now }
-{
-    'groups: for places in groups {
-        put_group(out, number_of(digest, places), places.len() + 1);
-    }
 }
 
 // The number of the bytes at the places, the first place highest.

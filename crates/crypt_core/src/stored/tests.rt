@@ -5,8 +5,6 @@ use crate::hash::tests::counts;
 
 const MD5CRYPT: &str = "$1$xxxxxxxx$UYCIxa628.9qXjpQCjM4a.";
 
-const SHA256CRYPT: &str = "$5$saltstring$5B8vYYiY.CVt1RlTTf8KbXBH3hsxY/GNooZaBBGWEc5";
-
 const SCRYPT: &str = "$7$2/..../....$rNxJWVHNv/mCNcgE/f6/L4zO6Fos5c2uTzhyzoisI62";
 
 #[test]
@@ -64,7 +62,7 @@ fn fields(rt: HostRuntime) {
         (b"*LK*$1$ab", "locked"),
         (&[b'!'; 385], "locked"),
         (MD5CRYPT.as_bytes(), MD5CRYPT),
-        (SHA256CRYPT.as_bytes(), SHA256CRYPT),
+        (b"$5$ab$x", "$5$ab$x"),
         (SCRYPT.as_bytes(), SCRYPT),
         (b"$6$ab", "$6$ab"),
         (&[b'$'; 385], "setting too long"),

@@ -171,8 +171,8 @@ fn hashes_stay_within(rt: HostRuntime) -> Result<(), Fail> {
         let hashed = hash(rt.alloc(), &password, &setting, &mut meter);
         let work = bound(&setting, len);
         let slack = match setting.method() {
-            Method::Sha256crypt | Method::Sha512crypt => 255 * setting.salt().len() as u128,
             Method::Md5crypt | Method::Scrypt => 0,
+            _ => 255 * setting.salt().len() as u128,
         };
         let most = u128::from(work.bytes);
         let within = meter.bytes() <= most && most <= meter.bytes().saturating_add(slack);

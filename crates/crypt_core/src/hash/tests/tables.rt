@@ -1,7 +1,7 @@
 //! Texts of md5crypt and SHA-crypt by perl's `crypt`, which is libxcrypt, and counts of an independent list of whole messages.
 
 // By length of the patterned password: a setting, and the text of md5crypt.
-pub const MD5CRYPT_TEXTS: [(usize, &str, &str); 21] = [
+const MD5CRYPT_TEXTS: [(usize, &str, &str); 21] = [
     (0, "$1$", "$1$$qRPK7m23GJusamGpoGLby/"),
     (1, "$1$R", "$1$R$3PO.qyEPPJaJW47aGj1DL0"),
     (15, "$1$2c", "$1$2c$N9Y5iXmkOPW0wT82BZbPf/"),
@@ -27,7 +27,7 @@ pub const MD5CRYPT_TEXTS: [(usize, &str, &str); 21] = [
 ];
 
 // By length of the patterned password: a setting, and the text of sha256crypt.
-pub const SHA256CRYPT_TEXTS: [(usize, &str, &str); 25] = [
+const SHA256CRYPT_TEXTS: [(usize, &str, &str); 25] = [
     (0, "$5$", "$5$$3c2QQ0KjIU1OLtB29cl8Fplc2WN7X89bnoEjaR7tWu."),
     (
         0,
@@ -153,7 +153,7 @@ pub const SHA256CRYPT_TEXTS: [(usize, &str, &str); 25] = [
 ];
 
 // By length of the patterned password: a setting, and the text of sha512crypt.
-pub const SHA512CRYPT_TEXTS: [(usize, &str, &str); 25] = [
+const SHA512CRYPT_TEXTS: [(usize, &str, &str); 25] = [
     (
         0,
         "$6$",
@@ -280,6 +280,13 @@ pub const SHA512CRYPT_TEXTS: [(usize, &str, &str); 25] = [
         "$6$rounds=1000$zzzzzzzzzzzzzzzz",
         "$6$rounds=1000$zzzzzzzzzzzzzzzz$WRNe5Pn35hadSz6/aozDaVOyv42utX8zH2sLr0O8qqWngfpfGJ6xfb/lJ2rq7SEBfw8JAyjEROCOWjplfvKsC/",
     ),
+];
+
+// The three tables.
+pub const TEXTS: [&[(usize, &str, &str)]; 3] = [
+    &MD5CRYPT_TEXTS,
+    &SHA256CRYPT_TEXTS,
+    &SHA512CRYPT_TEXTS,
 ];
 
 // By length of the patterned password: a setting, the digests and their bytes.

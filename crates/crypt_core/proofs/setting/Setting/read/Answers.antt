@@ -1,6 +1,5 @@
-use Rattle.std.specs.Prelude.{Ok, Err}
+use Rattle.std.specs.Prelude.{Err}
 use Rattle.std.proofs.Common.{sym, subst, ◌∙◌, rules}
-use Rattle.crypt_core.specs.Refusals.{IsRefused}
 use Rattle.crypt_core.specs.Settings.{SpellsScheme}
 use Rattle.crypt_core.specs.declared.setting.fault.SettingFault.TheVariants.{BadSalt}
 use Rattle.crypt_core.proofs.First.{refused_salt}
