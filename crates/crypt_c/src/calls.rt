@@ -1,25 +1,26 @@
 //! What the calls do once what was handed in is read, and how it is read.
-ghost use Rattle.std.specs.Prelude.{◌≡◌, ◌<◌, ◌≤◌, ◌^◌, ◌<ℤ◌, pos, ℕ, List, [], Result, length, IfOk, IfSome, IfNone, IsOkAnd};
-ghost use Rattle.crypt_core.specs.Crypt.{crypt};
-ghost use Rattle.crypt_core.specs.MadeSettings.{salted};
+ghost use Rattle.std.specs.Prelude.{◌≡◌, ◌↔◌, IsTrue, ◌<◌, ◌≤◌, ◌^◌, ◌<ℤ◌, pos, ℕ, List, [], Result, length, IfOk, IfErr, IsOkAnd, OnErr, OnOk};
+ghost use Rattle.crypt_core.specs.Crypt.{IsAfterRefusedGrowth, crypt};
 ghost use Rattle.crypt_core.specs.Passwords.{password_limit};
-ghost use Rattle.crypt_core.specs.Settings.{SettingValue};
-ghost use Rattle.crypt_core.specs.Work.{cost};
+ghost use Rattle.crypt_core.specs.Replacements.{is_replaced_by};
+ghost use Rattle.crypt_core.specs.Settings.{SettingValue, Spells};
+ghost use Rattle.crypt_core.specs.Work.{cost, work};
 ghost use Rattle.crypt_core.specs.declared.scheme.Scheme.{Scheme as Made};
 ghost use Rattle.crypt_c.specs.Calls.{Both, Hashes, HashesAnew, IsLengthRead, IsPasswordRead, IsSchemeMade, IsSettingRead, Makes, PutsHash, Verifies, admission, bounded, rehashed};
 ghost use Rattle.crypt_c.specs.Private.Steps.{IsHashPut};
-ghost use Rattle.crypt_c.specs.Reports.{Leaves, refused, token};
+ghost use Rattle.crypt_c.specs.Reports.{put, refused, token};
+ghost use Rattle.prims_core.specs.Work.{no_work};
 ghost use Rattle.crypt_c.specs.declared.reason.Refusal.{Refusal as Refused};
 
 use crate::reason::{Reason, Refusal};
 use crate::report::{Report, leave, token};
-use crypt_core::hash::{hash, hash_len};
+use crypt_core::hash::{HashFault, Hashed, hash, hash_len};
 use crypt_core::method::Method;
 use crypt_core::password::{PASSWORD_LIMIT, Password, PasswordFault};
 use crypt_core::scheme::Scheme;
 use crypt_core::setting::Setting;
 use crypt_core::work::{bound, cost};
-use prims_core::meter::Meter;
+use prims_core::meter::{Meter, Work};
 use std::alloc::Global;
 
 // Reading
@@ -118,20 +119,18 @@ pub(crate) fn verify(
     stored: &[u8],
     budget: u64,
 ) -> Report
-    ensures { Verifies stored.now budget given result }
+    ensures verifies { Verifies stored.now budget given result }
+    ensures reserved { result.reserved ≡ 0 }
 {
     let (password, setting) = match given {
         Ok(both) => both,
         Err(refusal) => return Report::refused(refusal, 0),
     };
-    let most = cost(&setting, password.bytes().len());
-    if most > budget {
-        return Report::refused(Refusal::OverBudget, most);
-    }
-    let mut meter = Meter::new();
-    let before = meter.reading();
-    let hashed = hash(alloc, &password, &setting, &mut meter);
-    let work = meter.work_since(&before);
+    let most = match cost_within(&password, &setting, budget) {
+        Ok(most) => most,
+        Err(refused) => return refused,
+    };
+    let (hashed, work) = counted_hash(alloc, &password, &setting);
     let reason = match hashed {
         Ok(hashed) if hashed.text() == stored => Reason::Fits,
         Ok(_) => Reason::Refused(Refusal::Differs),
@@ -149,6 +148,8 @@ pub(crate) fn put_hash(
     out: &mut [u8],
 ) -> Report
     ensures hashes { Hashes budget lock.now out.old given result out.new }
+    ensures locked { ¬ (pos 0 <ℤ result.reason) → out.new ≡ put lock.now out.old }
+    ensures reserved { result.reserved ≡ 0 }
     ensures within { pos 0 <ℤ result.reason → result.cost ≤ budget }
     ensures put { pos 0 <ℤ result.reason → IsOkAnd given (λ both. IsHashPut both.0 both.1.scheme result out.new) }
 {
@@ -172,6 +173,8 @@ pub(crate) fn put_new_hash(
     out: &mut [u8],
 ) -> Report
     ensures hashes { HashesAnew words.now budget out.old given result out.new }
+    ensures locked { ¬ (pos 0 <ℤ result.reason) → out.new ≡ put (token []) out.old }
+    ensures reserved { result.reserved ≡ 0 }
     ensures within { pos 0 <ℤ result.reason → result.cost ≤ budget }
     ensures put { pos 0 <ℤ result.reason → IsOkAnd given (λ both. IsHashPut both.0 both.1 result out.new) }
 {
@@ -200,12 +203,25 @@ pub(crate) fn put_new_hash(
 fn admit(password: &Password, setting: &Setting, budget: u64, room: usize) -> Result<u64, Report>
     ensures { result ≡ admission budget room password.now setting.now }
 {
+    let most = match cost_within(password, setting, budget) {
+        Ok(most) => most,
+        Err(refused) => return Err(refused),
+    };
+    if hash_len(setting) >= room {
+        return Err(Report::refused(Refusal::TooFewBytes, most));
+    }
+    Ok(most)
+}
+
+// The cost, if the budget allows the hash, or else the report of the refusal.
+fn cost_within(password: &Password, setting: &Setting, budget: u64) -> Result<u64, Report>
+    ensures within { IfOk result (λ most. (most ≡ cost setting.now (length password.now)) × (most ≤ budget)) }
+    ensures above { IfErr result (λ report. (budget < cost setting.now (length password.now))
+        × (report ≡ refused Refusal.OverBudget (cost setting.now (length password.now)))) }
+{
     let most = cost(setting, password.bytes().len());
     if most > budget {
         return Err(Report::refused(Refusal::OverBudget, most));
-    }
-    if hash_len(setting) >= room {
-        return Err(Report::refused(Refusal::TooFewBytes, most));
     }
     Ok(most)
 }
@@ -221,14 +237,13 @@ fn put_admitted(
 ) -> Report
     requires room { length (crypt password.now setting.now) < length out.old }
     ensures puts { PutsHash password.now setting.now most lock.now out.old result out.new }
+    ensures locked { ¬ (pos 0 <ℤ result.reason) → out.new ≡ put lock.now out.old }
+    ensures reserved { result.reserved ≡ 0 }
     ensures put { pos 0 <ℤ result.reason → most ≡ cost setting.now (length password.now)
         → IsHashPut password.now setting.now.scheme result out.new }
     ensures cost { result.cost ≡ most }
 {
-    let mut meter = Meter::new();
-    let before = meter.reading();
-    let hashed = hash(alloc, password, setting, &mut meter);
-    let work = meter.work_since(&before);
+    let (hashed, work) = counted_hash(alloc, password, setting);
     match hashed {
         Ok(hashed) => {
             let report = Report::new(Reason::Done, hashed.text().len() as u32, most, work);
@@ -241,12 +256,31 @@ fn put_admitted(
     }
 }
 
+// The hash of a password, and what it took on a meter of its own.
+fn counted_hash(
+    alloc: Global,
+    password: &Password,
+    setting: &Setting,
+) -> (Result<Hashed, HashFault>, Work)
+    ensures text { IfOk result.0 (λ hashed. hashed ≡ crypt password.now setting.now) }
+    ensures spells { IfOk result.0 (λ hashed. Spells hashed setting.now) }
+    ensures work { OnOk result.0 (result.1 ≡ work password.now setting.now) }
+    ensures refused { OnErr result.0 (IsAfterRefusedGrowth no_work setting.now.scheme result.1) }
+{
+    let mut meter = Meter::new();
+    let before = meter.reading();
+    let hashed = hash(alloc, password, setting, &mut meter);
+    let work = meter.work_since(&before);
+    (hashed, work)
+}
+
 // What hashes nothing
 
 /// Reports what a hash takes at most.
 pub(crate) fn tell_bound(given: Result<(usize, Setting), Refusal>) -> Report
     requires { IfOk given (λ both. both.0 ≤ password_limit) }
-    ensures { result ≡ bounded given }
+    ensures bounded { result ≡ bounded given }
+    ensures reserved { result.reserved ≡ 0 }
 {
     match given {
         Ok((len, setting)) => Report::new(
@@ -261,7 +295,10 @@ pub(crate) fn tell_bound(given: Result<(usize, Setting), Refusal>) -> Report
 
 /// Reports whether a hash of the scheme would replace one by the setting.
 pub(crate) fn tell_rehash(given: Result<(Setting, Scheme), Refusal>) -> Report
-    ensures { result ≡ rehashed given }
+    ensures rehashed { result ≡ rehashed given }
+    ensures outdated { pos 0 <ℤ result.reason
+        ↔ IsOkAnd given (λ both. IsTrue (is_replaced_by both.0.scheme both.1)) }
+    ensures reserved { result.reserved ≡ 0 }
 {
     match given {
         Ok((setting, scheme)) => if setting.scheme().is_replaced_by(&scheme) {
@@ -275,7 +312,9 @@ pub(crate) fn tell_rehash(given: Result<(Setting, Scheme), Refusal>) -> Report
 
 /// Puts the text of the setting that three words make; or after a refusal the token.
 pub(crate) fn put_setting(made: Result<Scheme, Refusal>, words: [u64; 3], out: &mut [u8]) -> Report
-    ensures { Makes words out.old made result out.new }
+    ensures makes { Makes words out.old made result out.new }
+    ensures locked { ¬ (pos 0 <ℤ result.reason) → out.new ≡ put (token []) out.old }
+    ensures reserved { result.reserved ≡ 0 }
 {
     let scheme = match made {
         Ok(scheme) => scheme,
