@@ -1,14 +1,17 @@
 -- The canonical text of a setting spells it.
 use Rattle.crypt_core.specs.Crypt.{hash_limit}
-use Rattle.std.proofs.Common.{◌≡◌, ◌≢◌, ℕ, ◌+◌, ◌≤◌, ◌<◌, ◌^◌, Bool, true, false, ◌⊎◌, inl, inr, List, [], ◌∷◌, ◌++◌, length, take, drop, get_or, All, length-append, append-nil, refl, sym, ap, subst, ◌∙◌, append_assoc, arith}
-use Rattle.std.specs.Prelude.{decimal, codes}
-use Rattle.std.specs.List.{AllByRecursion}
+use Rattle.std.proofs.Common.{◌≡◌, ◌≢◌, ℕ, ◌+◌, ◌≤◌, ◌<◌, ◌^◌, Bool, true, false, not, eqb, ◌&&◌, ◌⊎◌, inl, inr, List, [], ◌∷◌, ◌++◌, length, take, drop, get_or, All, length-append, append-nil, refl, sym, ap, subst, ◌∙◌, append_assoc, arith}
+use Rattle.std.specs.Prelude.{Contains, decimal, codes, nat_le}
+use Rattle.std.specs.List.{AllByRecursion, list_all}
 use Rattle.std.specs.Str.Parse.{AllDigits, digits_value}
 use Rattle.std.proofs.Math.Seq.{take-append_seam, drop-append_seam}
+use Rattle.std.proofs.lemmas.Bool.{and_parts, eqb-false, leb-true, not-true}
+use Rattle.std.proofs.lemmas.List.Sums.{AllPass-from_list_all}
 use Rattle.std.proofs.lemmas.List.{take-append-drop, length-take, take_all}
 use Rattle.std.proofs.lemmas.List.Elements.{All-nil, All-cons, All-from_get_or, All-take, All-drop, All-append, All-from_recursion, All-contains, All-weaker}
 use Rattle.std.proofs.lemmas.Fmt.{decimal_is_IsNumeral, first_decimal, length-decimal-le}
 use Rattle.std.proofs.lemmas.Str.Parse.{digit_at}
+use Rattle.prims_core.specs.Alphabet.{alphabet}
 use Rattle.crypt_core.specs.declared.method.Method.{Method}
 use Rattle.crypt_core.specs.declared.method.Method.TheVariants as methods
 use Rattle.crypt_core.specs.declared.scheme.Scheme.{Scheme}
@@ -16,9 +19,10 @@ use Rattle.crypt_core.specs.declared.scheme.Scheme.TheVariants.{Md5crypt, Sha256
 use Rattle.crypt_core.specs.Methods.{prefix, salt_limit, md5crypt_salt_limit, shacrypt_salt_limit, scrypt_salt_limit}
 use Rattle.crypt_core.specs.Packing.{packed_len}
 use Rattle.crypt_core.specs.Schemes.{IsScheme, method_of}
-use Rattle.crypt_core.specs.Settings.{SettingValue, IsSettingByte, dollar, IsEndOfField, IsField, BeginsWith, rounds_word, rounds_field, IsRoundsNumber, SpellsRounds, SpellsCost, IsScryptSalt, KeepsSalt, Spells, IsSetting, cost_part, canonical_text, setting_limit, canonical_limit}
+use Rattle.crypt_core.specs.Settings.{SettingValue, IsSettingByte, dollar, IsEndOfField, IsField, BeginsWith, rounds_word, rounds_field, IsRoundsNumber, scrypt_part, SpellsRounds, SpellsCost, IsScryptSalt, KeepsSalt, Spells, IsSetting, cost_part, canonical_text, setting_limit, canonical_limit}
 use Rattle.crypt_core.specs.Rounds.{IsRounds, default_rounds, rounds, clamped, min_rounds, max_rounds}
-use Rattle.crypt_core.proofs.Numerals.{length-scrypt_part}
+use Rattle.crypt_core.proofs.EachMethod.{each_method}
+use Rattle.crypt_core.proofs.Numerals.{all_scrypt_part, length-scrypt_part}
 
 -- What a setting keeps is bounded
 
@@ -109,6 +113,76 @@ pub number_bytes : (ds : List ℕ) → IsRoundsNumber ds → All IsSettingByte d
 number_bytes [] n = absurd n
 number_bytes (d ∷ ds) n = All-cons IsSettingByte d ds (digit_is_byte d (omega (arith, n.0), n.1)) (All-weaker (λ c. (48 ≤ c) × (c ≤ 57)) IsSettingByte digit_is_byte ds n.2)
 
+-- Characters
+
+-- a test that each character of the alphabet passes
+character_passes : (p : ℕ → Bool) → list_all p alphabet ≡ true → (c : ℕ) → Contains alphabet c → p c ≡ true
+character_passes p all c h = All-contains (λ x. p x ≡ true) alphabet c (AllPass-from_list_all p alphabet all) h
+
+differs : ℕ → ℕ → Bool
+differs a b = not (eqb a b)
+
+is_byte : ℕ → Bool
+is_byte b = nat_le 33 b && (nat_le b 126 && (differs 58 b && (differs 59 b && (differs 42 b && (differs 33 b && differs 92 b)))))
+
+differs_means : (a b : ℕ) → differs a b ≡ true → a ≡ b → ⊥
+unfolding differs
+differs_means a b h = eqb-false a b (not-true _ h)
+
+byte_means : (b : ℕ) → is_byte b ≡ true → IsSettingByte b
+unfolding is_byte
+byte_means b h =
+    let t1 = and_parts _ _ h in
+    let t2 = and_parts _ _ t1.1 in
+    let t3 = and_parts _ _ t2.1 in
+    let t4 = and_parts _ _ t3.1 in
+    let t5 = and_parts _ _ t4.1 in
+    let t6 = and_parts _ _ t5.1 in
+    record {
+      from = leb-true 33 b t1.0;
+      to = leb-true b 126 t2.0;
+      apart = λ inside. All-contains (λ x. x ≡ b → ⊥) (codes ":;*!\\") b
+          (All-from_recursion (λ x. x ≡ b → ⊥) (codes ":;*!\\")
+          (differs_means 58 b t3.0, (differs_means 59 b t4.0, (differs_means 42 b t5.0, (differs_means 33 b t6.0, (differs_means 92 b t6.1, tt))))))
+          inside refl;
+    }
+
+bytes_mean : (xs : List ℕ) → list_all is_byte xs ≡ true → All IsSettingByte xs
+bytes_mean xs all = All-weaker (λ x. is_byte x ≡ true) IsSettingByte byte_means xs (AllPass-from_list_all is_byte xs all)
+
+pub character_is_byte : (c : ℕ) → Contains alphabet c → IsSettingByte c
+unfolding is_byte differs alphabet
+character_is_byte c h = byte_means c (character_passes is_byte refl c h)
+
+-- neither `$` nor `=` is a character
+pub not_dollar : (c : ℕ) → Contains alphabet c → c ≢ dollar
+unfolding differs alphabet
+not_dollar c h e = differs_means 36 c (character_passes (differs 36) refl c h) (sym e)
+
+pub not_equals : (c : ℕ) → Contains alphabet c → c ≢ 61
+unfolding differs alphabet
+not_equals c h e = differs_means 61 c (character_passes (differs 61) refl c h) (sym e)
+
+-- Bytes of the canonical text
+
+pub prefix_bytes : (m : Method) → All IsSettingByte (prefix m)
+unfolding is_byte differs
+prefix_bytes m = bytes_mean (prefix m) (each_method (λ n. list_all is_byte (prefix n)) refl m)
+
+field_bytes : (ds : List ℕ) → IsRoundsNumber ds → All IsSettingByte (rounds_field ds)
+unfolding is_byte differs
+field_bytes ds n = All-append IsSettingByte rounds_word (ds ++ codes "$") (bytes_mean rounds_word refl) (All-append IsSettingByte ds (codes "$") (number_bytes ds n) (bytes_mean (codes "$") refl))
+
+rounds_bytes : (count : ℕ) (flag : Bool) → min_rounds ≤ count → count ≤ max_rounds → All IsSettingByte (cost_part (Sha256crypt (record { count = count; is_written = flag })))
+rounds_bytes count true low high = field_bytes (decimal count) (decimal_is_number count (omega arith) (omega arith))
+rounds_bytes count false low high = All-nil IsSettingByte
+
+pub cost_bytes : (scheme : Scheme) → IsScheme scheme → All IsSettingByte (cost_part scheme)
+cost_bytes Md5crypt c = All-nil IsSettingByte
+cost_bytes (Sha256crypt r) c = rounds_bytes r.count r.is_written c.from c.to
+cost_bytes (Sha512crypt r) c = rounds_bytes r.count r.is_written c.from c.to
+cost_bytes (Scrypt n) c = All-weaker (Contains alphabet) IsSettingByte character_is_byte (scrypt_part n) (all_scrypt_part n)
+
 -- Bytes
 
 all_left : (xs ys : List ℕ) → All IsSettingByte (xs ++ ys) → All IsSettingByte xs
@@ -116,23 +190,6 @@ all_left xs ys all = subst (All IsSettingByte) (take-append_seam xs ys) (All-tak
 
 all_right : (xs ys : List ℕ) → All IsSettingByte (xs ++ ys) → All IsSettingByte ys
 all_right xs ys all = subst (All IsSettingByte) (drop-append_seam xs ys) (All-drop IsSettingByte (length xs) (xs ++ ys) all)
-
-field_bytes : (digits ds : List ℕ) → All IsSettingByte (rounds_field digits) → IsRoundsNumber ds → All IsSettingByte (rounds_field ds)
-field_bytes digits ds all n =
-    let tail = all_right digits (codes "$") (all_right rounds_word (digits ++ codes "$") all) in
-    All-append IsSettingByte rounds_word (ds ++ codes "$") (all_left rounds_word (digits ++ codes "$") all) (All-append IsSettingByte ds (codes "$") (number_bytes ds n) tail)
-
-rounds_bytes : (count : ℕ) (flag : Bool) (part after : List ℕ) → SpellsRounds (record { count = count; is_written = flag }) part after → All IsSettingByte part → All IsSettingByte (cost_part (Sha256crypt (record { count = count; is_written = flag })))
-rounds_bytes count true part after s all =
-    let range = rounds_range count true part after s in
-    field_bytes s.0 (decimal count) (subst (All IsSettingByte) s.2 all) (decimal_is_number count (omega (arith, range)) (omega (arith, range)))
-rounds_bytes count false part after s all = All-nil IsSettingByte
-
-cost_bytes : (scheme : Scheme) (part after : List ℕ) → SpellsCost scheme part after → All IsSettingByte part → All IsSettingByte (cost_part scheme)
-cost_bytes Md5crypt part after s all = All-nil IsSettingByte
-cost_bytes (Sha256crypt r) part after s all = rounds_bytes r.count r.is_written part after s all
-cost_bytes (Sha512crypt r) part after s all = rounds_bytes r.count r.is_written part after s all
-cost_bytes (Scrypt n) part after s all = subst (All IsSettingByte) s.0 all
 
 -- The salt
 
@@ -217,7 +274,7 @@ canonical_spells_before text kept tail s end tail_bytes short =
         short = omega (arith, canonical_short kept.scheme kept.salt bounded.0 bounded.1, length-append (canonical_text kept) tail, length-append (prefix m) (part ++ kept.salt), length-append part kept.salt, short);
         bytes = All-append IsSettingByte (canonical_text kept) tail
             (All-append IsSettingByte (prefix m) (part ++ kept.salt) (all_left (prefix m) (s.scheme.part ++ (s.field ++ s.rest)) all)
-            (All-append IsSettingByte part kept.salt (cost_bytes kept.scheme s.scheme.part (s.field ++ s.rest) s.scheme.cost (all_left s.scheme.part (s.field ++ s.rest) after)) salt))
+            (All-append IsSettingByte part kept.salt (cost_bytes kept.scheme (cost_bounded kept.scheme s.scheme.part (s.field ++ s.rest) s.scheme.cost)) salt))
             tail_bytes;
       };
       field = kept.salt;

@@ -1,14 +1,12 @@
 -- What a method, a cost and a salt make is a setting.
-use Rattle.std.proofs.Common.{◌≡◌, ◌≢◌, ℕ, ◌+◌, ◌≤◌, ◌<◌, ◌^◌, ◌*◌, Bool, true, false, not, eqb, inl, inr, ◌&&◌, List, [], ◌++◌, length, get_or, All, length-append, append-nil, refl, sym, ap, subst, ◌∙◌, arith}
-use Rattle.std.specs.Prelude.{Contains, decimal, codes, nat_le, Result, Ok, Err, OnOk, IfErr, IsOk}
-use Rattle.std.specs.List.{list_all}
+use Rattle.std.proofs.Common.{◌≡◌, ◌≢◌, ℕ, ◌+◌, ◌≤◌, ◌<◌, ◌^◌, ◌*◌, Bool, true, false, inl, inr, List, [], ◌++◌, length, get_or, All, length-append, append-nil, refl, sym, ap, subst, ◌∙◌, arith}
+use Rattle.std.specs.Prelude.{Contains, decimal, nat_le, Result, Ok, Err, OnOk, IfErr, IsOk}
 use Rattle.std.proofs.Math.Nat.{le-mul_of_pos_right, lt_of_not-le, mul-le-mul_right, one-le-mul}
 use Rattle.std.proofs.Math.Pow.{pow_mono}
 use Rattle.kdf_core.specs.Params.{ScryptCost, row_count, IsAccepted}
-use Rattle.std.proofs.lemmas.Bool.{and_parts, not-true, eqb-false, leb-true, cases_order}
+use Rattle.std.proofs.lemmas.Bool.{leb-true, cases_order}
 use Rattle.std.proofs.lemmas.List.{take_all}
-use Rattle.std.proofs.lemmas.List.Sums.{AllPass-from_list_all}
-use Rattle.std.proofs.lemmas.List.Elements.{All-nil, All-append, All-from_recursion, All-contains, All-weaker, All-get_or}
+use Rattle.std.proofs.lemmas.List.Elements.{All-append, All-weaker, All-get_or}
 use Rattle.std.proofs.lemmas.Fmt.{decimal_is_IsNumeral}
 use Rattle.prims_core.specs.Alphabet.{alphabet}
 use Rattle.crypt_core.specs.declared.method.Method.{Method}
@@ -20,81 +18,10 @@ use Rattle.crypt_core.specs.declared.setting.fault.MakeFault.TheVariants.{SaltLe
 use Rattle.crypt_core.specs.Methods.{prefix, salt_limit, md5crypt_salt_limit, shacrypt_salt_limit, scrypt_salt_limit}
 use Rattle.crypt_core.specs.MadeSettings.{made_scheme, TakesCost, TakesSalt, IsMakeable, BreaksMake, IsMakeRefused, make_rule_number, max_cost, cost_at}
 use Rattle.crypt_core.specs.Schemes.{IsScheme, method_of}
-use Rattle.crypt_core.specs.Settings.{SettingValue, HasNumerals, IsSettingByte, dollar, BeginsWith, rounds_word, rounds_field, IsRoundsNumber, SpellsRounds, scrypt_part, SpellsCost, KeepsSalt, IsSetting, cost_part, canonical_text}
+use Rattle.crypt_core.specs.Settings.{SettingValue, HasNumerals, IsSettingByte, dollar, BeginsWith, rounds_word, SpellsRounds, SpellsCost, KeepsSalt, IsSetting, cost_part, canonical_text}
 use Rattle.crypt_core.specs.Rounds.{clamped, min_rounds, max_rounds, default_rounds}
 use Rattle.crypt_core.proofs.EachMethod.{each_method}
-use Rattle.crypt_core.proofs.Numerals.{all_scrypt_part}
-use Rattle.crypt_core.proofs.Canonical.{canonical_short, decimal_is_number, number_bytes, held_again}
-
--- Characters
-
--- a test that each character of the alphabet passes
-character_passes : (p : ℕ → Bool) → list_all p alphabet ≡ true → (c : ℕ) → Contains alphabet c → p c ≡ true
-character_passes p all c h = All-contains (λ x. p x ≡ true) alphabet c (AllPass-from_list_all p alphabet all) h
-
-differs : ℕ → ℕ → Bool
-differs a b = not (eqb a b)
-
-is_byte : ℕ → Bool
-is_byte b = nat_le 33 b && (nat_le b 126 && (differs 58 b && (differs 59 b && (differs 42 b && (differs 33 b && differs 92 b)))))
-
-differs_means : (a b : ℕ) → differs a b ≡ true → a ≡ b → ⊥
-unfolding differs
-differs_means a b h = eqb-false a b (not-true _ h)
-
-byte_means : (b : ℕ) → is_byte b ≡ true → IsSettingByte b
-unfolding is_byte
-byte_means b h =
-    let t1 = and_parts _ _ h in
-    let t2 = and_parts _ _ t1.1 in
-    let t3 = and_parts _ _ t2.1 in
-    let t4 = and_parts _ _ t3.1 in
-    let t5 = and_parts _ _ t4.1 in
-    let t6 = and_parts _ _ t5.1 in
-    record {
-      from = leb-true 33 b t1.0;
-      to = leb-true b 126 t2.0;
-      apart = λ inside. All-contains (λ x. x ≡ b → ⊥) (codes ":;*!\\") b
-          (All-from_recursion (λ x. x ≡ b → ⊥) (codes ":;*!\\")
-          (differs_means 58 b t3.0, (differs_means 59 b t4.0, (differs_means 42 b t5.0, (differs_means 33 b t6.0, (differs_means 92 b t6.1, tt))))))
-          inside refl;
-    }
-
-bytes_mean : (xs : List ℕ) → list_all is_byte xs ≡ true → All IsSettingByte xs
-bytes_mean xs all = All-weaker (λ x. is_byte x ≡ true) IsSettingByte byte_means xs (AllPass-from_list_all is_byte xs all)
-
-pub character_is_byte : (c : ℕ) → Contains alphabet c → IsSettingByte c
-unfolding is_byte differs alphabet
-character_is_byte c h = byte_means c (character_passes is_byte refl c h)
-
--- neither `$` nor `=` is a character
-not_dollar : (c : ℕ) → Contains alphabet c → c ≢ dollar
-unfolding differs alphabet
-not_dollar c h e = differs_means 36 c (character_passes (differs 36) refl c h) (sym e)
-
-not_equals : (c : ℕ) → Contains alphabet c → c ≢ 61
-unfolding differs alphabet
-not_equals c h e = differs_means 61 c (character_passes (differs 61) refl c h) (sym e)
-
--- Bytes of the canonical text
-
-prefix_bytes : (m : Method) → All IsSettingByte (prefix m)
-unfolding is_byte differs
-prefix_bytes m = bytes_mean (prefix m) (each_method (λ n. list_all is_byte (prefix n)) refl m)
-
-field_bytes : (ds : List ℕ) → IsRoundsNumber ds → All IsSettingByte (rounds_field ds)
-unfolding is_byte differs
-field_bytes ds n = All-append IsSettingByte rounds_word (ds ++ codes "$") (bytes_mean rounds_word refl) (All-append IsSettingByte ds (codes "$") (number_bytes ds n) (bytes_mean (codes "$") refl))
-
-rounds_bytes : (count : ℕ) (flag : Bool) → min_rounds ≤ count → count ≤ max_rounds → All IsSettingByte (cost_part (Sha256crypt (record { count = count; is_written = flag })))
-rounds_bytes count true low high = field_bytes (decimal count) (decimal_is_number count (omega arith) (omega arith))
-rounds_bytes count false low high = All-nil IsSettingByte
-
-cost_bytes : (scheme : Scheme) → IsScheme scheme → All IsSettingByte (cost_part scheme)
-cost_bytes Md5crypt c = All-nil IsSettingByte
-cost_bytes (Sha256crypt r) c = rounds_bytes r.count r.is_written c.from c.to
-cost_bytes (Sha512crypt r) c = rounds_bytes r.count r.is_written c.from c.to
-cost_bytes (Scrypt n) c = All-weaker (Contains alphabet) IsSettingByte character_is_byte (scrypt_part n) (all_scrypt_part n)
+use Rattle.crypt_core.proofs.Canonical.{canonical_short, character_is_byte, cost_bytes, decimal_is_number, held_again, not_dollar, not_equals, prefix_bytes}
 
 -- The cost part
 
