@@ -17,7 +17,7 @@ my $password = 'crates/crypt_core/src/password.rt';
 my $salsa = 'crates/prims_core/src/salsa.rt';
 my $mix = 'crates/prims_core/src/mix.rt';
 my $exports = 'crates/crypt_c/src/lib.rt';
-my $lines = 'crates/mkpasswd/src/lines';
+my $lines = 'crates/run_core/src/lines';
 my $import = 'use prims_core::meter::Meter;';
 my $makes = 'fn f() { let mut meter = Meter::new(); }';
 
@@ -142,7 +142,7 @@ return {
         ],
 
         ['a meter made in a library', $hash => $makes],
-        ['a meter made in the library of the runs', 'crates/mkpasswd/src/lib.rt' => "$import\n$makes"],
+        ['a meter made in the library of the runs', 'crates/run_core/src/lib.rt' => "$import\n$makes"],
         [
             'a meter made in another room of the program',
             'crates/program/src/other.rt' => "$import\n$makes",
