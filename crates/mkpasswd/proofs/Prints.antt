@@ -8,15 +8,15 @@ use Rattle.crypt_core.specs.MadeSettings.{made_scheme, made_setting}
 use Rattle.crypt_core.specs.Methods.{method_named}
 use Rattle.crypt_core.specs.Settings.{BeginsWith}
 use Rattle.crypt_core.specs.declared.method.Method.{Method}
-use Rattle.mkpasswd.specs.Answers.{password_answer}
+use Rattle.run_core.specs.Answers.{password_answer}
 use Rattle.mkpasswd.specs.Commands.{IsNoOption, IsWhole, PrintsHash, hash_words}
 use Rattle.mkpasswd.specs.Options.{Gives, HasMode, IsJob, Mode, Values, command, input, lines, values_in, word}
-use Rattle.mkpasswd.specs.Runs.{RunState, DeviceBytes}
-use Rattle.mkpasswd.specs.Texts.{as_line}
-use Rattle.mkpasswd.specs.declared.job.Job.{Job}
-use Rattle.mkpasswd.specs.declared.job.PasswordFrom.TheVariants.{Word, Input}
+use Rattle.run_core.specs.Runs.{RunState, DeviceBytes}
+use Rattle.run_core.specs.Texts.{as_line}
+use Rattle.run_core.specs.declared.job.Job.{Job}
+use Rattle.run_core.specs.declared.job.PasswordFrom.TheVariants.{Word, Input}
 use Rattle.mkpasswd.specs.declared.job.Plan.TheVariants.{Methods, One, Batch, Check}
-use Rattle.mkpasswd.specs.declared.line.Kind.TheVariants as kinds
+use Rattle.run_core.specs.declared.line.Kind.TheVariants as kinds
 use Rattle.mkpasswd.proofs.GivenWords.{given, given_fault, given_values}
 
 -- ---- a name is no option

@@ -5,43 +5,29 @@ use Rattle.clap.specs.declared.error.kind.ErrorKind.{ErrorKind}
 use Rattle.clap.specs.declared.error.kind.ErrorKind.TheVariants as kind
 use Rattle.crypt_core.specs.declared.setting.fault.MakeFault.{MakeFault}
 use Rattle.mkpasswd.specs.Commands.{IsTold, RefusalShown, RunsOrLacks, Serves, ShowsError, ShowsHelp, ShowsMistake, TellsFault, fault_line}
-use Rattle.mkpasswd.specs.Devices.{Device}
+use Rattle.run_core.specs.Devices.{Device}
 use Rattle.mkpasswd.specs.Faults.{fault_status, parse_status}
 use Rattle.mkpasswd.specs.Options.{Plans}
-use Rattle.mkpasswd.specs.Output.{Shows}
-use Rattle.mkpasswd.specs.Runs.{RunState, DeviceBytes}
-use Rattle.mkpasswd.specs.Tallies.{no_line, tally_status}
+use Rattle.run_core.specs.Output.{Shows}
+use Rattle.run_core.specs.Runs.{RunState, DeviceBytes}
+use Rattle.run_core.specs.Tallies.{no_line, tally_status}
 use Rattle.mkpasswd.specs.declared.fault.Fault.{Fault}
 use Rattle.mkpasswd.specs.declared.fault.Fault.TheVariants.{Start, Usage, Run}
-use Rattle.mkpasswd.specs.declared.fault.RunFault.{RunFault}
-use Rattle.mkpasswd.specs.declared.fault.RunFault.TheVariants.{Read, Write, OutOfMemory, Turns, Password}
+use Rattle.run_core.specs.declared.fault.RunFault.{RunFault}
 use Rattle.mkpasswd.specs.declared.fault.UsageFault.{UsageFault}
 use Rattle.mkpasswd.specs.declared.fault.UsageFault.TheVariants.{Parse, Method as UnknownMethod, TwoSalts, TwoModes, Make, OutOfMemory as NoMemory}
+use Rattle.run_core.proofs.Showing.{as_tally, shows-tally}
 use Rattle.mkpasswd.specs.declared.job.Plan.{Plan}
-use Rattle.mkpasswd.specs.declared.tally.Tally.{Tally}
+use Rattle.run_core.specs.declared.tally.Tally.{Tally}
 
 -- ---- a text that was shown
 
--- the same outcome with a tally
-abbrev pub as_tally : {A : Type 0} → Result A RunFault → Result Tally RunFault
-as_tally (Ok done) = Ok no_line
-as_tally (Err fault) = Err fault
-
 module _ {T : Type 0} (contents : T → Option (List ℕ)) where
-  pub shows-tally : {A : Type 0} (turns : ℕ) (old new : Device T) (text : List ℕ) (result : Result A RunFault)
-      → Shows contents turns old new text result → Shows contents turns old new text (as_tally result)
-  shows-tally turns old new text (Ok done) s = record { gives = s.gives; outcome = s.outcome; turns_taken = s.turns_taken; moves = s.moves }
-  shows-tally turns old new text (Err Read) s = record { gives = s.gives; outcome = s.outcome; turns_taken = s.turns_taken; moves = s.moves }
-  shows-tally turns old new text (Err Write) s = record { gives = s.gives; outcome = s.outcome; turns_taken = s.turns_taken; moves = s.moves }
-  shows-tally turns old new text (Err OutOfMemory) s = record { gives = s.gives; outcome = s.outcome; turns_taken = s.turns_taken; moves = s.moves }
-  shows-tally turns old new text (Err Turns) s = record { gives = s.gives; outcome = s.outcome; turns_taken = s.turns_taken; moves = s.moves }
-  shows-tally turns old new text (Err (Password fault)) s = record { gives = s.gives; outcome = s.outcome; turns_taken = s.turns_taken; moves = s.moves }
-
   -- the line of a fault was shown, in as many calls as it has bytes at most
   pub is_told : {A : Type 0} (fault : Fault) (old new : Device T) (line : List ℕ) (turns : ℕ) (result : Result A RunFault)
       → line ≡ fault_line fault → turns ≡ length line → Shows contents turns old new line result → IsTold contents fault old new
   is_told {A} fault old new line turns result line_is turns_is shows =
-      let tallied : Shows contents turns old new line (as_tally result) = shows-tally turns old new line result shows in
+      let tallied : Shows contents turns old new line (as_tally result) = shows-tally contents turns old new line result shows in
       let shown : Shows contents (length line) old new line (as_tally result) = rw turns_is at tallied in
       (as_tally result, rw line_is at shown)
 

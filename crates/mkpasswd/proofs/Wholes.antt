@@ -3,25 +3,25 @@ use Rattle.std.proofs.Common.{◌≡◌, ℕ, Bool, true, false, List, [], Optio
 use Rattle.std.specs.Io.KnownBytes.{Consumes}
 use Rattle.clap.specs.Words.{Text, kind_of}
 use Rattle.clap.specs.declared.error.Error.{Error}
-use Rattle.mkpasswd.specs.Answers.{Answer}
+use Rattle.run_core.specs.Answers.{Answer}
 use Rattle.mkpasswd.specs.Commands.{Ends, InOutputs, IsDone, IsWhole, RunsPlan, Serves, ShowsError, Succeeds, SucceedsByLines, lacks_generator}
-use Rattle.mkpasswd.specs.Devices.{Device}
+use Rattle.run_core.specs.Devices.{Device}
 use Rattle.mkpasswd.specs.Faults.{parse_status, run_status}
-use Rattle.mkpasswd.specs.Input.{Reads}
-use Rattle.mkpasswd.specs.LineRuns.{EndsWhole}
+use Rattle.run_core.specs.Input.{Reads}
+use Rattle.run_core.specs.LineRuns.{EndsWhole}
 use Rattle.mkpasswd.specs.Options.{Plans}
-use Rattle.mkpasswd.specs.Runs.{Finishes, RunState, DeviceBytes}
-use Rattle.mkpasswd.specs.Tallies.{tally_status}
-use Rattle.mkpasswd.specs.declared.fault.RunFault.{RunFault}
-use Rattle.mkpasswd.specs.declared.fault.RunFault.TheVariants.{Read, Write, OutOfMemory, Turns, Password}
+use Rattle.run_core.specs.Runs.{Finishes, RunState, DeviceBytes}
+use Rattle.run_core.specs.Tallies.{tally_status}
+use Rattle.run_core.specs.declared.fault.RunFault.{RunFault}
+use Rattle.run_core.specs.declared.fault.RunFault.TheVariants.{Read, Write, OutOfMemory, Turns, Password}
 use Rattle.mkpasswd.specs.declared.fault.UsageFault.TheVariants.{Parse, Method as UnknownMethod, TwoSalts, TwoModes, Make, OutOfMemory as NoMemory}
-use Rattle.mkpasswd.specs.declared.job.Job.{Job}
-use Rattle.mkpasswd.specs.declared.job.PasswordFrom.TheVariants.{Word, Input}
+use Rattle.run_core.specs.declared.job.Job.{Job}
+use Rattle.run_core.specs.declared.job.PasswordFrom.TheVariants.{Word, Input}
 use Rattle.mkpasswd.specs.declared.job.Plan.{Plan}
 use Rattle.mkpasswd.specs.declared.job.Plan.TheVariants.{Methods, One, Batch, Check}
-use Rattle.mkpasswd.specs.declared.line.Kind.{Kind}
-use Rattle.mkpasswd.specs.declared.line.Kind.TheVariants as kinds
-use Rattle.mkpasswd.specs.declared.tally.Tally.{Tally}
+use Rattle.run_core.specs.declared.line.Kind.{Kind}
+use Rattle.run_core.specs.declared.line.Kind.TheVariants as kinds
+use Rattle.run_core.specs.declared.tally.Tally.{Tally}
 
 -- ---- no fault has the status 0
 

@@ -9,30 +9,30 @@ use Rattle.crypt_core.specs.MadeSettings.{made_setting}
 use Rattle.crypt_core.specs.Passwords.{IsPassword}
 use Rattle.crypt_core.specs.Settings.{BeginsWith}
 use Rattle.crypt_core.specs.declared.method.Method.{Method}
-use Rattle.mkpasswd.specs.Answers.{Answer, password_answer}
-use Rattle.mkpasswd.specs.Devices.{Device, IsUnfailed}
+use Rattle.run_core.specs.Answers.{Answer, password_answer}
+use Rattle.run_core.specs.Devices.{Device, IsUnfailed}
 use Rattle.mkpasswd.specs.Faults.{fault_status, fault_text, parse_status}
-use Rattle.mkpasswd.specs.Input.{IsDecided, Reads, first_line}
-use Rattle.mkpasswd.specs.LineRuns.{AreAnswers, EndsLines, IsReadOut, lines_of}
-use Rattle.mkpasswd.specs.Methods.{methods_text}
-use Rattle.mkpasswd.specs.One.{EndsOne}
+use Rattle.run_core.specs.Input.{IsDecided, Reads, first_line}
+use Rattle.run_core.specs.LineRuns.{AreAnswers, EndsLines, IsReadOut, lines_of}
+use Rattle.run_core.specs.Methods.{methods_text}
+use Rattle.run_core.specs.One.{EndsOne}
 use Rattle.mkpasswd.specs.Options.{Plans}
-use Rattle.mkpasswd.specs.Output.{Shows, TakesAndFlushes}
-use Rattle.mkpasswd.specs.Runs.{Finishes, RunState, IsWithinTurns, DeviceBytes}
-use Rattle.mkpasswd.specs.Tallies.{no_line, tally_status}
-use Rattle.mkpasswd.specs.Texts.{as_line, program_front}
+use Rattle.run_core.specs.Output.{Shows, TakesAndFlushes}
+use Rattle.run_core.specs.Runs.{Finishes, RunState, IsWithinTurns, DeviceBytes}
+use Rattle.run_core.specs.Tallies.{no_line, tally_status}
+use Rattle.run_core.specs.Texts.{as_line, program_front}
 use Rattle.mkpasswd.specs.declared.fault.Fault.{Fault}
 use Rattle.mkpasswd.specs.declared.fault.Fault.TheVariants.{Start, Usage, Run}
-use Rattle.mkpasswd.specs.declared.fault.RunFault.{RunFault}
+use Rattle.run_core.specs.declared.fault.RunFault.{RunFault}
 use Rattle.mkpasswd.specs.declared.fault.UsageFault.{UsageFault}
 use Rattle.mkpasswd.specs.declared.fault.UsageFault.TheVariants.{Parse, OutOfMemory}
-use Rattle.mkpasswd.specs.declared.job.Job.{Job}
-use Rattle.mkpasswd.specs.declared.job.PasswordFrom.TheVariants.{Word, Input}
+use Rattle.run_core.specs.declared.job.Job.{Job}
+use Rattle.run_core.specs.declared.job.PasswordFrom.TheVariants.{Word, Input}
 use Rattle.mkpasswd.specs.declared.job.Plan.{Plan}
 use Rattle.mkpasswd.specs.declared.job.Plan.TheVariants.{Methods, One, Batch, Check}
-use Rattle.mkpasswd.specs.declared.line.Kind.{Kind}
-use Rattle.mkpasswd.specs.declared.line.Kind.TheVariants as kinds
-use Rattle.mkpasswd.specs.declared.tally.Tally.{Tally}
+use Rattle.run_core.specs.declared.line.Kind.{Kind}
+use Rattle.run_core.specs.declared.line.Kind.TheVariants as kinds
+use Rattle.run_core.specs.declared.tally.Tally.{Tally}
 
 -- ---- the generator
 

@@ -3,14 +3,12 @@ use Rattle.std.specs.Prelude.{ℕ, List, [], codes}
 use Rattle.clap.specs.Words.{kind_of}
 use Rattle.crypt_core.specs.HashFaults.{hash_fault_text}
 use Rattle.crypt_core.specs.declared.hash.HashFault.TheVariants.{OutOfMemory as HashOutOfMemory}
-use Rattle.crypt_core.specs.PasswordFaults.{password_fault_text}
 use Rattle.crypt_core.specs.SettingFaults.{make_fault_text}
 use Rattle.clap.specs.declared.error.kind.ErrorKind.{ErrorKind}
 use Rattle.clap.specs.declared.error.kind.ErrorKind.TheVariants.{DisplayHelp, DisplayVersion}
+pub use Rattle.run_core.specs.RunFaults.{run_status, run_text}
 use Rattle.mkpasswd.specs.declared.fault.Fault.{Fault}
 use Rattle.mkpasswd.specs.declared.fault.Fault.TheVariants.{Start, Usage, Run}
-use Rattle.mkpasswd.specs.declared.fault.RunFault.{RunFault}
-use Rattle.mkpasswd.specs.declared.fault.RunFault.TheVariants.{Read, Write, OutOfMemory as NoMemory, Turns, Password}
 use Rattle.mkpasswd.specs.declared.fault.UsageFault.{UsageFault}
 use Rattle.mkpasswd.specs.declared.fault.UsageFault.TheVariants.{Parse, Method, TwoSalts, TwoModes, Make, OutOfMemory}
 
@@ -37,23 +35,6 @@ usage_text TwoSalts = codes "two salts"
 usage_text TwoModes = codes "two modes"
 usage_text (Make fault) = make_fault_text fault
 usage_text OutOfMemory = hash_fault_text HashOutOfMemory
-
--- the exit status after a run that ended with a fault: 2 where the password is refused, 3 where the machine refused or
--- the turns ran out
-abbrev pub run_status : RunFault → ℕ
-run_status Read = 3
-run_status Write = 3
-run_status NoMemory = 3
-run_status Turns = 3
-run_status (Password fault) = 2
-
--- what a run ended with
-abbrev pub run_text : RunFault → List ℕ
-run_text Read = codes "read fault"
-run_text Write = codes "write fault"
-run_text NoMemory = hash_fault_text HashOutOfMemory
-run_text Turns = codes "too many turns"
-run_text (Password fault) = password_fault_text fault
 
 -- the exit status after any fault: 0 where the words ask for help or the version, 2 where they or the password are
 -- wrong, 3 where the machine refused or the turns ran out

@@ -14,16 +14,16 @@ use Rattle.clap.specs.declared.error.kind.ErrorKind.TheVariants as kind
 use Rattle.crypt_core.specs.MadeSettings.{made_scheme}
 use Rattle.crypt_core.specs.Methods.{method_named}
 use Rattle.crypt_core.specs.declared.method.Method.{Method}
-use Rattle.mkpasswd.specs.Makers.{IsRecipe, IsRecipeRefused}
+use Rattle.run_core.specs.Makers.{IsRecipe, IsRecipeRefused}
 use Rattle.mkpasswd.specs.declared.fault.UsageFault.{UsageFault}
 use Rattle.mkpasswd.specs.declared.fault.UsageFault.TheVariants.{Parse, Method as UnknownMethod, TwoSalts, TwoModes, Make, OutOfMemory}
-use Rattle.mkpasswd.specs.declared.job.Job.{Job}
-use Rattle.mkpasswd.specs.declared.job.PasswordFrom.{PasswordFrom}
-use Rattle.mkpasswd.specs.declared.job.PasswordFrom.TheVariants.{Word, Input}
+use Rattle.run_core.specs.declared.job.Job.{Job}
+use Rattle.run_core.specs.declared.job.PasswordFrom.{PasswordFrom}
+use Rattle.run_core.specs.declared.job.PasswordFrom.TheVariants.{Word, Input}
 use Rattle.mkpasswd.specs.declared.job.Plan.{Plan}
 use Rattle.mkpasswd.specs.declared.job.Plan.TheVariants.{Methods, One, Batch, Check}
-use Rattle.mkpasswd.specs.declared.line.Kind.{Kind}
-use Rattle.mkpasswd.specs.declared.line.Kind.TheVariants as kinds
+use Rattle.run_core.specs.declared.line.Kind.{Kind}
+use Rattle.run_core.specs.declared.line.Kind.TheVariants as kinds
 
 -- ---- the command, as `clap` reads it
 

@@ -1,8 +1,2 @@
 -- What only contracts of private functions cite. A reader of the public clauses needs none of it.
-pub mod Answers
-pub mod Deliveries
-pub mod Fetching
-pub mod Headroom
-pub mod LineProgress
-pub mod Lines
 pub mod Options

@@ -3,22 +3,22 @@ ghost use Rattle.std.specs.Prelude.{◌≡◌, ℕ, ◌<◌, ◌≤◌, List, So
 ghost use Rattle.crypt_core.specs.Methods.{method_named};
 ghost use Rattle.crypt_core.specs.declared.method.Method.{Method};
 ghost use Rattle.mkpasswd.specs.Commands.{ErrorShown, IsNoOption, IsTold, IsWhole, PrintsHash, RefusalShown, RunsOrLacks, Serves, fault_line, hash_words, stream_in};
-ghost use Rattle.mkpasswd.specs.Devices.{HasRoomWithinRun, HaveRoomBeforeRun, turns_limit};
+ghost use Rattle.run_core.specs.Devices.{HasRoomWithinRun, HaveRoomBeforeRun, turns_limit};
 ghost use Rattle.mkpasswd.specs.Faults.{fault_status};
-ghost use Rattle.mkpasswd.specs.Runs.{HasCountsForRun, run_state, device_bytes};
+ghost use Rattle.run_core.specs.Runs.{HasCountsForRun, run_state, device_bytes};
 
-use crate::device::{Input, Output};
 use crate::fault::{Fault, UsageFault};
 use crate::job::Plan;
-use crate::lines::{run_batch, run_check};
-use crate::methods::run_methods;
-use crate::one::run_one;
 use crate::options::plan;
-use crate::tally::Tally;
-use crate::transfer::show;
 use arrayvec::ArrayVec;
 use prims_core::meter::Meter;
 use rand_core::Rng;
+use run_core::device::{Input, Output};
+use run_core::lines::{run_batch, run_check};
+use run_core::methods::run_methods;
+use run_core::one::run_one;
+use run_core::tally::Tally;
+use run_core::transfer::show;
 use std::alloc::Global;
 use std::io::{Read, Write};
 

@@ -2,19 +2,9 @@
 //! texts. A plan is made of the program's words, and run over any devices, generator and meter.
 #![tactic(auto)]
 
-mod answer;
 pub mod command;
-pub mod device;
 pub mod fault;
 pub mod job;
-pub mod line;
-pub mod lines;
-pub mod methods;
-pub mod one;
 pub mod options;
-pub mod tally;
-#[cfg(test)]
-mod test_devices;
-#[cfg(test)]
-mod test_given;
-mod transfer;
+
+pub use run_core::{device, line, lines, methods, one, tally};

@@ -5,18 +5,18 @@ ghost use Rattle.std.specs.Prelude.{IfErr, IfOk, MatchOption};
 ghost use Rattle.std.specs.List.{slice_index_or};
 ghost use Rattle.clap.specs.Words.{app_of, found_of, kind_of, rows_of, rule_of, with_rule};
 ghost use Rattle.crypt_core.specs.Methods.{method_named};
-ghost use Rattle.mkpasswd.specs.Makers.{bytes_of};
+ghost use Rattle.run_core.specs.Makers.{bytes_of};
 ghost use Rattle.mkpasswd.specs.Options.{AsksForMethods, Gives, HasTwoSalts, Names, Plans, Refuses};
 ghost use Rattle.mkpasswd.specs.Options.{command, flag_rule, given_salt, hash_rules, input, is_set, line_rules, modes_of, type_of, value_rule};
 ghost use Rattle.mkpasswd.specs.Private.Options.{mode_of, values_of};
 
 use crate::fault::UsageFault;
 use crate::job::{Job, Maker, PasswordFrom, Plan};
-use crate::line::Kind;
 use clap::error::ErrorKind;
 use clap::{Arg, ArgAction, ArgMatches, Command, value_parser};
 use crypt_core::method::Method;
 use crypt_core::version::VERSION;
+use run_core::line::Kind;
 use std::alloc::{AllocError, Global};
 
 // The TYPE of words without `-m`.

@@ -1,5 +1,5 @@
 -- What the program keeps of the matches, beside the values that they stand for.
-use Rattle.mkpasswd.specs.Makers.{bytes_of}
+use Rattle.run_core.specs.Makers.{bytes_of}
 use Rattle.mkpasswd.specs.Options.{Mode, Values, input, lines, word}
 use Rattle.mkpasswd.specs.declared.options.Arguments.{Arguments}
 use Rattle.mkpasswd.specs.declared.options.Mode.{Mode as KeptMode}

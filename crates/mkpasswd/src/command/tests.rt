@@ -4,17 +4,15 @@ ghost use Rattle.crypt_core.specs.MadeSettings.{made_setting};
 ghost use Rattle.crypt_core.specs.Methods.{method_named};
 ghost use Rattle.crypt_core.specs.declared.method.Method.{Method};
 ghost use Rattle.mkpasswd.specs.Commands.{IsNoOption, hash_words};
-ghost use Rattle.mkpasswd.specs.Runs.{HasCountsForRun};
-ghost use Rattle.mkpasswd.specs.Texts.{as_line};
+ghost use Rattle.run_core.specs.Runs.{HasCountsForRun};
+ghost use Rattle.run_core.specs.Texts.{as_line};
 
+mod devices;
 mod faults;
 
 use super::*;
 use crate::options::tests::words_of;
-use crate::test_devices::calls::Call::{Flush, Write};
-use crate::test_devices::calls::FAILURE;
-use crate::test_devices::{ListedWords, MemoryReader, MemoryWriter};
-use crate::test_given::{Given, counted};
+use devices::{Given, ListedWords, MemoryReader, MemoryWriter, counted};
 use std::process::Abort;
 use std::test::Fail;
 
@@ -119,7 +117,7 @@ fn want_run(
     told: (&str, &str),
     counts: [u128; 5],
 ) -> Result<(), Fail> {
-    let given = Given::new(alloc).reading(MemoryReader::new(alloc, input.as_bytes()));
+    let given = Given::new(alloc).reading(MemoryReader::new(input.as_bytes()));
     let served = serve(rt, alloc, words, given, true)?;
     want(rt, words, &served, status, told);
     assert_eq!(rt;
@@ -261,7 +259,7 @@ fn serves_new_hashes(rt: HostRuntime) -> Result<(), Fail> {
         "-S",
         "ab",
     ];
-    let given = Given::new(alloc).reading(MemoryReader::new(alloc, line));
+    let given = Given::new(alloc).reading(MemoryReader::new(line));
     let served = serve(&rt, alloc, &words, given, true)?;
     want(&rt, &words, &served, 0, (RENEWED, ""));
     Ok(())
@@ -311,7 +309,7 @@ fn want_refused(
     status: u8,
     text: &str,
 ) -> Result<(), Fail> {
-    let given = Given::new(alloc).reading(MemoryReader::new(alloc, b"x\n"));
+    let given = Given::new(alloc).reading(MemoryReader::new(b"x\n"));
     let served = serve(rt, alloc, words, given, true)?;
     let (answered, out, faults, input) = &served.ran;
     let (told, untold) = if status == 0 {
@@ -320,12 +318,7 @@ fn want_refused(
         (faults, out)
     };
     assert_eq!(rt;
-        (
-            *answered,
-            told.calls().len(),
-            untold.calls().len(),
-            input.calls().len()
-        ),
+        (*answered, told.calls(), untold.calls(), input.calls()),
         (status, 2, 0, 0),
         "{words:?}"
     );
@@ -352,7 +345,7 @@ fn refuses_words(rt: HostRuntime) -> Result<(), Fail> {
 #[test]
 fn refuses_a_long_password(rt: HostRuntime) -> Result<(), Fail> {
     let alloc = rt.alloc();
-    let given = Given::new(alloc).reading(MemoryReader::new(alloc, &[b'a'; 1025]));
+    let given = Given::new(alloc).reading(MemoryReader::new(&[b'a'; 1025]));
     let served = serve(&rt, alloc, &["-s"], given, true)?;
     let told = ("", "mkpasswd: password too long\n");
     want(&rt, &["-s"], &served, 2, told);
@@ -366,11 +359,7 @@ fn helps_without_a_generator(rt: HostRuntime) -> Result<(), Fail> {
     let (status, out, faults, _) = &served.ran;
     let front = b"Prints the crypt(5) hash of a password";
     assert_eq!(rt;
-        (
-            *status,
-            out.taken().starts_with(front),
-            faults.calls().len()
-        ),
+        (*status, out.taken().starts_with(front), faults.calls()),
         (0, true, 0)
     );
     Ok(())
@@ -385,9 +374,9 @@ fn refuses_without_a_generator(rt: HostRuntime) -> Result<(), Fail> {
     assert_eq!(rt;
         (
             *status,
-            out.calls().len(),
+            out.calls(),
             faults.taken().starts_with(front),
-            input.calls().len()
+            input.calls()
         ),
         (2, 0, true, 0)
     );
@@ -415,18 +404,18 @@ fn wants_a_generator(rt: HostRuntime) -> Result<(), Fail> {
     let alloc = rt.alloc();
     let needing: [&[&str]; 4] = [&BY_WORD, &["-s"], &["--batch"], &["--check"]];
     for words in needing {
-        let given = Given::new(alloc).reading(MemoryReader::new(alloc, b"x\n"));
+        let given = Given::new(alloc).reading(MemoryReader::new(b"x\n"));
         let served = serve(&rt, alloc, words, given, false)?;
         want(&rt, words, &served, 3, ("", "mkpasswd: start fault\n"));
         let (_, out, faults, input) = &served.ran;
         assert_eq!(rt;
             (
-                input.calls().len(),
-                out.calls().len(),
+                input.calls(),
+                out.calls(),
                 faults.calls(),
                 counted(&served.meter)
             ),
-            (0, 0, [Write(22, Ok(22)), Flush(Ok(()))].as_slice(), [0; 5]),
+            (0, 0, 2, [0; 5]),
             "{words:?}"
         );
     }

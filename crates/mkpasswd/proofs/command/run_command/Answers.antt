@@ -1,4 +1,4 @@
-use Rattle.mkpasswd.specs.Runs.{device_bytes}
+use Rattle.run_core.specs.Runs.{device_bytes}
 use Rattle.mkpasswd.proofs.Prints.{prints_hash}
 use Rattle.mkpasswd.proofs.Serving.{serves_fault, serves_refusal, serves_run}
 use Rattle.mkpasswd.proofs.Wholes.{is_whole}

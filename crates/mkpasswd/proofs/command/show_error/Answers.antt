@@ -1,8 +1,9 @@
 use Rattle.std.proofs.Common.{◌≢◌, ◌∙◌, true≢false, Ok, Err, inl, refl, sym}
 use Rattle.clap.specs.Words.{kind_of}
 use Rattle.clap.specs.declared.error.kind.ErrorKind.TheVariants as kind
-use Rattle.mkpasswd.specs.Tallies.{no_line}
-use Rattle.mkpasswd.proofs.Serving.{as_tally, help_shown, mistake_shown, shows-tally}
+use Rattle.run_core.specs.Tallies.{no_line}
+use Rattle.run_core.proofs.Showing.{as_tally, shows-tally}
+use Rattle.mkpasswd.proofs.Serving.{help_shown, mistake_shown}
 use Rattle.mkpasswd.proofs.command.show_error.Goals as goal
 
 pub returns-then-use_stderr : goal.returns-then-use_stderr

@@ -2,7 +2,7 @@ use Rattle.std.proofs.Common.{◌≡◌, ◌∙◌, ℕ, List, Option, Some, Non
 use Rattle.std.specs.Borrow.{Bor}
 use Rattle.std.proofs.lemmas.Slice.Eq.{bytes_eq-Decides}
 use Rattle.crypt_core.specs.Methods.{method_named}
-use Rattle.mkpasswd.specs.Makers.{bytes_of}
+use Rattle.run_core.specs.Makers.{bytes_of}
 use Rattle.mkpasswd.specs.Options.{type_of}
 use Rattle.mkpasswd.specs.Private.Options.{values_of}
 use Rattle.mkpasswd.proofs.options.one_method.Goals as goal

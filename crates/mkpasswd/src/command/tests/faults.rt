@@ -40,9 +40,9 @@ const NO_FLUSH: Takes = Takes {
 fn writer(alloc: Global, takes: Takes) -> MemoryWriter {
     let writer = MemoryWriter::new(alloc)
         .by(takes.most)
-        .failing_at(takes.fails_at, FAILURE);
+        .failing_at(takes.fails_at);
     if takes.flush_fails {
-        writer.failing_flush(FAILURE)
+        writer.failing_flush()
     } else {
         writer
     }
@@ -99,7 +99,7 @@ fn tells_a_failed_read(rt: HostRuntime) -> Result<(), Fail> {
     ];
     for (words, input, call, told) in rows {
         let alloc = rt.alloc();
-        let reader = MemoryReader::new(alloc, input).failing_at(call, FAILURE);
+        let reader = MemoryReader::new(input).failing_at(call);
         want_cut(&rt, alloc, words, reader, (WHOLE, WHOLE), 3, told)?;
     }
     Ok(())
@@ -137,7 +137,7 @@ fn tells_a_failed_write(rt: HostRuntime) -> Result<(), Fail> {
         (list, (NO_FLUSH, WHOLE), 3, (LIST, WRITE_FAULT)),
     ];
     for (words, outputs, status, told) in rows {
-        let reader = MemoryReader::new(rt.alloc(), b"e\n");
+        let reader = MemoryReader::new(b"e\n");
         want_cut(&rt, rt.alloc(), words, reader, outputs, status, told)?;
     }
     Ok(())

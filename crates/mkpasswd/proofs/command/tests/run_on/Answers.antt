@@ -1,5 +1,5 @@
 use Rattle.std.proofs.Common.{◌≡◌, ap}
-use Rattle.mkpasswd.specs.Devices.{Device}
+use Rattle.run_core.specs.Devices.{Device}
 use Rattle.mkpasswd.proofs.command.tests.run_on.Goals as goal
 
 pub returns : goal.returns

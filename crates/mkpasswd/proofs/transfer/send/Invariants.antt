@@ -1,9 +1,0 @@
-use Rattle.std.proofs.Common.{length}
-use Rattle.mkpasswd.proofs.Sending.{IsUnderWay}
-use Rattle.mkpasswd.proofs.transfer.send.Given as goal
-
-abbrev pub invariant-pieces : goal.invariant-pieces
-invariant-pieces g l = IsUnderWay g.O.Write.contents l.fn.out l.out l.text l.rest l.fn.left l.left
-
-abbrev pub decreases-pieces : goal.decreases-pieces
-decreases-pieces g l = length l.rest

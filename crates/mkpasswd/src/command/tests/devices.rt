@@ -1,0 +1,245 @@
+//! What the command is given in tests: devices over memory, which tell contracts their bytes, and a generator of listed
+//! words.
+ghost use Rattle.std.specs.Prelude.{◌≡◌, Some, drop, slice_index};
+ghost use Rattle.rand_core.specs.Steps.{stream_of, steps_u64_low};
+
+use prims_core::meter::Meter;
+use rand_core::Rng;
+use rand_core::utils::{NextWord, fill_bytes_via_u64};
+use std::alloc::Global;
+use std::io;
+use std::io::{ErrorKind, Read, Write};
+use std::marker::Model;
+
+// The error of a call that fails.
+fn failure() -> io::Error {
+    io::Error::from(ErrorKind::PermissionDenied)
+}
+
+/// A writer that takes at most so many bytes a call. It may fail at one call, counted from 1, and at its flushes.
+#[derive(Drop)]
+pub struct MemoryWriter {
+    taken: Vec<u8>,
+    calls: u64,
+    most: usize,
+    fails_at: u64,
+    flush_fails: bool,
+}
+
+impl MemoryWriter {
+    /// Takes all it is given.
+    pub fn new(alloc: Global) -> MemoryWriter {
+        MemoryWriter {
+            taken: Vec::new(alloc),
+            calls: 0,
+            most: usize::MAX,
+            fails_at: 0,
+            flush_fails: false,
+        }
+    }
+
+    /// Takes at most `most` bytes a call.
+    pub fn by(mut self, most: usize) -> MemoryWriter {
+        self.most = most;
+        self
+    }
+
+    /// Fails at this call, or at none if it is 0.
+    pub fn failing_at(mut self, call: u64) -> MemoryWriter {
+        self.fails_at = call;
+        self
+    }
+
+    /// Fails at a flush.
+    pub fn failing_flush(mut self) -> MemoryWriter {
+        self.flush_fails = true;
+        self
+    }
+
+    /// What it has taken.
+    pub fn taken(&self) -> &[u8] {
+        self.taken.as_slice()
+    }
+
+    /// How many calls it has seen, flushes among them.
+    pub fn calls(&self) -> u64 {
+        self.calls
+    }
+}
+
+impl Write for MemoryWriter {
+    ghost contents = { λ writer. Some writer.taken.items };
+
+    fn write(&mut self, buf: &[u8]) -> io::Result<usize> {
+        self.calls = self.calls.saturating_add(1);
+        if self.calls == self.fails_at {
+            return Err(failure());
+        }
+        let count = buf.len().min(self.most);
+        self.taken.extend_from_slice(&buf[..count])?;
+        Ok(count)
+    }
+
+    fn flush(&mut self) -> io::Result<()> {
+        self.calls = self.calls.saturating_add(1);
+        if self.flush_fails || self.calls == self.fails_at {
+            return Err(failure());
+        }
+        Ok(())
+    }
+}
+
+/// A reader of listed bytes, which may fail at one call, counted from 1.
+#[derive(Drop)]
+pub struct MemoryReader<'a> {
+    left: &'a [u8],
+    calls: u64,
+    fails_at: u64,
+}
+
+impl<'a> MemoryReader<'a> {
+    /// Gives these bytes, as many a call as fit.
+    pub fn new(bytes: &'a [u8]) -> MemoryReader<'a> {
+        MemoryReader {
+            left: bytes,
+            calls: 0,
+            fails_at: 0,
+        }
+    }
+
+    /// Fails at this call.
+    pub fn failing_at(mut self, call: u64) -> MemoryReader<'a> {
+        self.fails_at = call;
+        self
+    }
+
+    /// How many calls it has seen.
+    pub fn calls(&self) -> u64 {
+        self.calls
+    }
+}
+
+impl Read for MemoryReader<'_> {
+    ghost remaining = { λ reader. Some reader.left.now };
+
+    fn read(&mut self, buf: &mut [u8]) -> io::Result<usize> {
+        self.calls = self.calls.saturating_add(1);
+        if self.calls == self.fails_at {
+            return Err(failure());
+        }
+        self.left.read(buf)
+    }
+}
+
+/// A generator that draws listed words in order, and 0 after the last. To contracts it is the words
+/// that it has left.
+#[derive(Drop)]
+pub struct ListedWords<'a> {
+    left: &'a [u64],
+}
+
+impl<'a> Model for ListedWords<'a> {
+    ghost use Rattle.std.specs.Prelude.{ℕ, List};
+
+    ghost Value = { List ℕ };
+
+    ghost view = { λ w. w.left.now };
+}
+
+impl<'a> ListedWords<'a> {
+    /// Draws these words.
+    pub fn new(words: &'a [u64]) -> ListedWords<'a>
+        ensures { result ≡ words.now }
+    {
+        ListedWords { left: words }
+    }
+
+    /// Tells the next word, and leaves it to be drawn.
+    pub fn peek(&self) -> u64
+        ensures { result ≡ slice_index self.now 0 }
+    {
+        self.left.first().copied().unwrap_or(0)
+    }
+}
+
+impl NextWord<u64> for ListedWords<'_> {
+    ghost step = { λ words. (slice_index words 0, drop 1 words) };
+
+    fn next_word(&mut self) -> u64 {
+        match self.left.split_first() {
+            Some((word, left)) => {
+                self.left = left;
+                *word
+            }
+            None => 0,
+        }
+    }
+}
+
+impl Rng for ListedWords<'_> {
+    ghost stream = { stream_of (steps_u64_low (λ words. (slice_index words 0, drop 1 words))) };
+
+    fn next_u32(&mut self) -> u32 {
+        (self.next_word() % (1 << 32)) as u32
+    }
+
+    fn next_u64(&mut self) -> u64 {
+        self.next_word()
+    }
+
+    fn fill_bytes(&mut self, dst: &mut [u8]) {
+        fill_bytes_via_u64(self, dst)
+    }
+}
+
+/// What a run of the command is given: an empty input, outputs that take all, and as many turns as may be, where a test
+/// has no other.
+#[derive(Drop)]
+pub struct Given<'a> {
+    pub reader: MemoryReader<'a>,
+    pub writer: MemoryWriter,
+    pub fault_writer: MemoryWriter,
+    pub turns: u64,
+}
+
+impl<'a> Given<'a> {
+    pub fn new(alloc: Global) -> Given<'a> {
+        Given {
+            reader: MemoryReader::new(b""),
+            writer: MemoryWriter::new(alloc),
+            fault_writer: MemoryWriter::new(alloc),
+            turns: 1 << 40,
+        }
+    }
+
+    pub fn reading(mut self, reader: MemoryReader<'a>) -> Given<'a> {
+        self.reader = reader;
+        self
+    }
+
+    pub fn writing(mut self, writer: MemoryWriter) -> Given<'a> {
+        self.writer = writer;
+        self
+    }
+
+    pub fn telling(mut self, writer: MemoryWriter) -> Given<'a> {
+        self.fault_writer = writer;
+        self
+    }
+
+    pub fn within(mut self, turns: u64) -> Given<'a> {
+        self.turns = turns;
+        self
+    }
+}
+
+/// The five counts of a meter.
+pub fn counted(meter: &Meter) -> [u128; 5] {
+    [
+        meter.digests(),
+        meter.bytes(),
+        meter.mixes(),
+        meter.table(),
+        meter.scratch(),
+    ]
+}

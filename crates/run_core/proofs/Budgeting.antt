@@ -1,0 +1,153 @@
+-- What a budget changes of the answers to lines, and that options of lines change nothing for a single password.
+use Rattle.std.proofs.Common.{◌≡◌, ℕ, List, [], ◌++◌, Some, Result, Ok, Err, codes, slice_index, inl, inr, refl, sym, subst, ◌∙◌, ap, arith}
+use Rattle.std.proofs.lemmas.Option.{none-some}
+use Rattle.rand_core.specs.Stream.{Stream}
+use Rattle.crypt_core.specs.Methods.{prefix}
+use Rattle.crypt_core.specs.Settings.{BeginsWith, SettingValue, Spells}
+use Rattle.crypt_core.specs.Schemes.{method_of}
+use Rattle.crypt_core.specs.declared.method.Method.{Method}
+use Rattle.crypt_core.specs.declared.method.Method.TheVariants.{Md5crypt, Sha256crypt, Sha512crypt, Scrypt}
+use Rattle.run_core.specs.Answers.{Answer}
+use Rattle.run_core.specs.Budgets.{without_budget}
+use Rattle.run_core.specs.LineAnswers.{Decision, IsAnswer, IsCostly, IsDecision, decided_answer, refusal, refused_answer}
+use Rattle.run_core.specs.LineAnswers.IsDecision.{refused, over, hashed, none, locked, ok, rehashed, no}
+use Rattle.run_core.specs.LineOptions.{OnlyRefuses}
+use Rattle.crypt_core.specs.StoredFields.{IsStored}
+use Rattle.run_core.specs.Lines.{HasParts, Parts}
+use Rattle.run_core.specs.One.{EndsBy, EndsByInput, EndsOne}
+use Rattle.run_core.specs.Rehashes.{without_rehash}
+use Rattle.run_core.specs.Runs.{RunState, DeviceBytes}
+use Rattle.run_core.specs.declared.fault.RunFault.{RunFault}
+use Rattle.run_core.specs.declared.fault.RunFault.TheVariants.{Read, Write, OutOfMemory, Turns, Password}
+use Rattle.run_core.specs.declared.job.Job.{Job}
+use Rattle.run_core.specs.declared.job.PasswordFrom.{PasswordFrom}
+use Rattle.run_core.specs.declared.job.PasswordFrom.TheVariants.{Word, Input}
+use Rattle.run_core.specs.declared.line.Kind.{Kind}
+use Rattle.run_core.specs.declared.line.LineFault.TheVariants.{OverBudget}
+use Rattle.run_core.specs.declared.tally.Tally.{Tally}
+use Rattle.run_core.proofs.Cuts.{parts_unique}
+
+-- ---- lines
+
+-- without a budget no line is costly
+free : (kind : Kind) (job : Job) (line : List ℕ) → ¬ IsCostly kind (without_budget job) line
+free kind job line costly = costly.above
+
+-- so what another one comes to stands
+decision-without : (kind : Kind) (job : Job) (line : List ℕ) (stream : Stream) (made : Decision) → ¬ IsCostly kind job line
+    → IsDecision kind job line stream made → IsDecision kind (without_budget job) line stream made
+decision-without kind job line stream made cheap (refused fault breaks is) = refused fault breaks is
+decision-without kind job line stream made cheap (over costly is) = absurd (cheap costly)
+decision-without kind job line stream made cheap (hashed parts taken lacks within is) = hashed parts taken lacks (free kind job line) is
+decision-without kind job line stream made cheap (none parts taken empty is) = none parts taken empty is
+decision-without kind job line stream made cheap (locked parts field taken has is_locked is) = locked parts field taken has is_locked is
+decision-without kind job line stream made cheap (ok parts field kept stored within same recent is) =
+    ok parts field kept stored (free kind job line) same recent is
+decision-without kind job line stream made cheap (rehashed parts field kept stored within same outdated is) =
+    rehashed parts field kept stored (free kind job line) same outdated is
+decision-without kind job line stream made cheap (no parts field kept stored within differs is) =
+    no parts field kept stored (free kind job line) differs is
+
+-- and the other way round
+decision-within : (kind : Kind) (job : Job) (line : List ℕ) (stream : Stream) (made : Decision) → ¬ IsCostly kind job line
+    → IsDecision kind (without_budget job) line stream made → IsDecision kind job line stream made
+decision-within kind job line stream made cheap (refused fault breaks is) = refused fault breaks is
+decision-within kind job line stream made cheap (over costly is) = absurd costly.above
+decision-within kind job line stream made cheap (hashed parts taken lacks within is) = hashed parts taken lacks cheap is
+decision-within kind job line stream made cheap (none parts taken empty is) = none parts taken empty is
+decision-within kind job line stream made cheap (locked parts field taken has is_locked is) = locked parts field taken has is_locked is
+decision-within kind job line stream made cheap (ok parts field kept stored within same recent is) =
+    ok parts field kept stored cheap same recent is
+decision-within kind job line stream made cheap (rehashed parts field kept stored within same outdated is) =
+    rehashed parts field kept stored cheap same outdated is
+decision-within kind job line stream made cheap (no parts field kept stored within differs is) = no parts field kept stored cheap differs is
+
+-- a text that spells a setting begins with a `$`
+first_of_prefix : (method : Method) (rest : List ℕ) → slice_index (prefix method ++ rest) 0 ≡ 36
+first_of_prefix Md5crypt rest = refl
+first_of_prefix Sha256crypt rest = refl
+first_of_prefix Sha512crypt rest = refl
+first_of_prefix Scrypt rest = refl
+
+first_is_dollar : (field : List ℕ) (kept : SettingValue) → Spells field kept → slice_index field 0 ≡ 36
+first_is_dollar field kept spells =
+    ap (λ (text : List ℕ). slice_index text 0) spells.scheme.parts ∙ first_of_prefix (method_of kept.scheme) (spells.scheme.part ++ (spells.field ++ spells.rest))
+
+begins_with : (field front : List ℕ) (first : ℕ) → ((rest : List ℕ) → slice_index (front ++ rest) 0 ≡ first) → BeginsWith field front → slice_index field 0 ≡ first
+begins_with field front first starts begins = ap (λ (text : List ℕ). slice_index text 0) begins.1 ∙ starts begins.0
+
+spelled-stored : (field : List ℕ) (kept : SettingValue) → Spells field kept → IsStored field
+spelled-stored field kept spells =
+    let dollar = first_is_dollar field kept spells in
+    record {
+      some = λ empty. let no_byte = ap (λ (text : List ℕ). slice_index text 0) empty in absurd (omega (arith, dollar, no_byte));
+      unlocked = λ is_locked. elim is_locked [
+        | inl bang ↦ let other = begins_with field (codes "!") 33 (λ rest. refl) bang in absurd (omega (arith, dollar, other))
+        | inr star ↦ let other = begins_with field (codes "*") 42 (λ rest. refl) star in absurd (omega (arith, dollar, other))
+      ];
+    }
+
+-- and a field that spells none has no cost
+unstored-cheap : (kind : Kind) (job : Job) (line : List ℕ) (parts : Parts) (field : List ℕ) → HasParts kind line parts
+    → parts.field ≡ Some field → ¬ IsStored field → ¬ IsCostly kind job line
+unstored-cheap kind job line parts field has is unstored costly =
+    let same = ap (λ (p : Parts). p.field) (parts_unique kind line costly.parts parts costly.taken.cut has) in
+    elim costly.cost [
+      | inl made ↦ absurd (none-some field (sym made.0 ∙ (same ∙ is)))
+      | inr spelled ↦
+          let fields : spelled.0 ≡ field = cc (spelled.2, same, is) in
+          unstored (subst IsStored fields (spelled-stored spelled.0 spelled.1 spelled.3))
+    ]
+
+-- what breaks no rule and costs too much is refused
+costly-refused : (kind : Kind) (job : Job) (line : List ℕ) (stream : Stream) (made : Decision) → IsCostly kind job line
+    → IsDecision kind job line stream made → made ≡ refusal OverBudget stream
+costly-refused kind job line stream made costly (refused fault breaks is) = absurd (costly.taken.sound fault breaks.breaks)
+costly-refused kind job line stream made costly (over other is) = is
+costly-refused kind job line stream made costly (hashed parts taken lacks cheap is) = absurd (cheap costly)
+costly-refused kind job line stream made costly (none parts taken empty is) =
+    absurd (unstored-cheap kind job line parts [] taken.cut empty (λ stored. stored.some refl) costly)
+costly-refused kind job line stream made costly (locked parts field taken has is_locked is) =
+    absurd (unstored-cheap kind job line parts field taken.cut has (λ stored. stored.unlocked is_locked) costly)
+costly-refused kind job line stream made costly (ok parts field kept stored cheap same recent is) = absurd (cheap costly)
+costly-refused kind job line stream made costly (rehashed parts field kept stored cheap same outdated is) = absurd (cheap costly)
+costly-refused kind job line stream made costly (no parts field kept stored cheap differs is) = absurd (cheap costly)
+
+pub only_refuses : (kind : Kind) (job : Job) → OnlyRefuses kind job
+only_refuses kind job = record {
+  costly = λ number line stream answer costly is.
+      is.2 ∙ ap (decided_answer job number) (costly-refused kind job line stream is.0 costly is.1);
+  others = λ number line stream answer cheap. (
+    λ is. (is.0, decision-without kind job line stream is.0 cheap is.1, is.2),
+    λ is. (is.0, decision-within kind job line stream is.0 cheap is.1, is.2),
+  );
+  unhashed = unstored-cheap kind job;
+}
+
+-- ---- a single password
+
+module _ {I O E : Type 0} where
+  unoptioned-by : (device_bytes : DeviceBytes I O E) (turns : ℕ) (job : Job) (password : List ℕ) (old new : RunState I O E) (result : Result Tally RunFault)
+      → EndsBy device_bytes turns job password old new result → EndsBy device_bytes turns (without_rehash (without_budget job)) password old new result
+  unoptioned-by device_bytes turns job password old new (Ok tally) ends = ends
+  unoptioned-by device_bytes turns job password old new (Err Read) ends = ends
+  unoptioned-by device_bytes turns job password old new (Err Write) ends = ends
+  unoptioned-by device_bytes turns job password old new (Err OutOfMemory) ends = ends
+  unoptioned-by device_bytes turns job password old new (Err Turns) ends = ends
+  unoptioned-by device_bytes turns job password old new (Err (Password fault)) ends = ends
+
+  unoptioned-input : (device_bytes : DeviceBytes I O E) (turns : ℕ) (job : Job) (bytes : List ℕ) (old new : RunState I O E) (result : Result Tally RunFault)
+      → EndsByInput device_bytes turns job bytes old new result → EndsByInput device_bytes turns (without_rehash (without_budget job)) bytes old new result
+  unoptioned-input device_bytes turns job bytes old new (Ok tally) ends = ends
+  unoptioned-input device_bytes turns job bytes old new (Err Read) ends = ends
+  unoptioned-input device_bytes turns job bytes old new (Err Write) ends = ends
+  unoptioned-input device_bytes turns job bytes old new (Err OutOfMemory) ends = ends
+  unoptioned-input device_bytes turns job bytes old new (Err Turns) ends = ends
+  unoptioned-input device_bytes turns job bytes old new (Err (Password fault)) ends = ends
+
+  -- its run ends as without what only lines have
+  pub unoptioned : (device_bytes : DeviceBytes I O E) (turns : ℕ) (job : Job) (from : PasswordFrom) (old new : RunState I O E) (result : Result Tally RunFault)
+      → EndsOne device_bytes turns job from old new result → EndsOne device_bytes turns (without_rehash (without_budget job)) from old new result
+  unoptioned device_bytes turns job (Word bytes) old new result ends = (ends.0, unoptioned-by device_bytes turns job bytes.items old new result ends.1)
+  unoptioned device_bytes turns job Input old new result ends =
+      (ends.0, ends.1, unoptioned-input device_bytes turns job ends.0 old new result ends.2)

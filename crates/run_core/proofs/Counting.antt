@@ -1,0 +1,34 @@
+-- How the counts of an answer are told from a meter, and written.
+use Rattle.std.proofs.Common.{◌≡◌, ℕ, ◌+◌, ◌-◌, ◌<◌, ◌^◌, List, [], ◌∷◌, ◌++◌, ap, ◌∙◌, append_assoc, add_assoc, refl, sym, arith, rules}
+use Rattle.prims_core.specs.Work.{no_work, raised_by, work_between, IsBelow}
+use Rattle.prims_core.specs.declared.meter.Work.{Work}
+use Rattle.crypt_core.specs.Work.{work}
+use Rattle.run_core.specs.Answers.{Hashing, after_work, work_of}
+use Rattle.run_core.specs.Private.Answers.{IsRaisedBelow}
+
+-- a text behind a line, and then a text more
+pub joined-more : (line text more old new : List ℕ) → old ≡ line ++ text → new ≡ old ++ more → new ≡ line ++ (text ++ more)
+joined-more line text more old new p q = q ∙ (ap (λ (x : List ℕ). x ++ more) p ∙ append_assoc line text more)
+
+-- counts that are raised by nothing
+raised_by_none : (counts : Work) → counts ≡ raised_by counts no_work
+raised_by_none counts = search rules
+
+raised_twice : (counts one other : Work) → raised_by (raised_by counts one) other ≡ raised_by counts (raised_by one other)
+raised_twice counts one other = simp add_assoc
+
+-- the counts after hashes are raised by the sum of their work
+pub after_hashings : (counts : Work) (hashings : List Hashing) → after_work counts hashings ≡ raised_by counts (work_of hashings)
+after_hashings counts [] = raised_by_none counts
+after_hashings counts (next ∷ others) =
+    after_hashings (raised_by counts (work next.password next.setting)) others ∙ raised_twice counts (work next.password next.setting) (work_of others)
+
+-- a rise of less than a line's
+pub small_rise : (limit : ℕ) (before after : Work) → limit < 2 ^ 64 → IsRaisedBelow limit before after → IsBelow (work_between before after) (2 ^ 64)
+small_rise limit before after few small = record {
+  digests = (let raised = small.digests in omega arith);
+  bytes = (let raised = small.bytes in omega arith);
+  mixes = (let raised = small.mixes in omega arith);
+  table = (let raised = small.table in omega arith);
+  scratch = (let raised = small.scratch in omega arith);
+}

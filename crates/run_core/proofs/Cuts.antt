@@ -1,0 +1,56 @@
+-- A text is cut at its first colon in one way, so a line has one name and one list of parts.
+use Rattle.std.proofs.Common.{◌≡◌, ℕ, List, [], ◌∷◌, ◌++◌, Contains, Option, Some, inl, inr, refl, sym, ap, subst, ◌∙◌, arith}
+use Rattle.std.proofs.lemmas.List.Elements.{Contains-append_right}
+use Rattle.run_core.specs.Lines.{HasName, HasParts, IsCut, Parts}
+use Rattle.run_core.specs.Texts.{colon}
+use Rattle.run_core.specs.declared.line.Kind.{Kind}
+use Rattle.run_core.specs.declared.line.Kind.TheVariants.{Batch, Check}
+
+-- ---- cuts
+
+begins_with_colon : (b : ℕ) (bytes : List ℕ) → b ≡ colon → Contains (b ∷ bytes) colon
+begins_with_colon b bytes is = (0, omega arith, is)
+
+same_cut : (f g b d : List ℕ) → ¬ Contains f colon → ¬ Contains g colon → f ++ colon ∷ b ≡ g ++ colon ∷ d → (f ≡ g) × (b ≡ d)
+same_cut [] [] b d no_f no_g e = (refl, cc)
+same_cut [] (y ∷ g) b d no_f no_g e = absurd (no_g (begins_with_colon y g (cc)))
+same_cut (x ∷ f) [] b d no_f no_g e = absurd (no_f (begins_with_colon x f (cc)))
+same_cut (x ∷ f) (y ∷ g) b d no_f no_g e =
+    let heads : x ≡ y = cc in
+    let tails : f ++ colon ∷ b ≡ g ++ colon ∷ d = cc in
+    let rest = same_cut f g b d (λ h. no_f (Contains-append_right (x ∷ []) f colon h)) (λ h. no_g (Contains-append_right (y ∷ []) g colon h)) tails in
+    ((cc (heads, rest.0)), rest.1)
+
+pub cut_unique : {text f g b d : List ℕ} → IsCut text f b → IsCut text g d → (f ≡ g) × (b ≡ d)
+cut_unique {text} {f} {g} {b} {d} one two = same_cut f g b d one.first two.first (sym one.joined ∙ two.joined)
+
+pub cut_has_colon : {text front back : List ℕ} → IsCut text front back → Contains text colon
+cut_has_colon {text} {front} {back} cut =
+    subst (λ (bytes : List ℕ). Contains bytes colon) (sym cut.joined) (Contains-append_right front (colon ∷ back) colon (begins_with_colon colon back refl))
+
+-- ---- names
+
+pub name_unique : (line name other : List ℕ) → HasName line name → HasName line other → name ≡ other
+name_unique line name other (inl cut) (inl again) = (cut_unique cut.1 again.1).0
+name_unique line name other (inl cut) (inr whole) = absurd (whole.1 (subst (λ (bytes : List ℕ). Contains bytes colon) whole.0 (cut_has_colon cut.1)))
+name_unique line name other (inr whole) (inl cut) = absurd (whole.1 (subst (λ (bytes : List ℕ). Contains bytes colon) whole.0 (cut_has_colon cut.1)))
+name_unique line name other (inr whole) (inr again) = sym whole.0 ∙ again.0
+
+-- ---- parts
+
+same_parts : (p q : Parts) → p.name ≡ q.name → p.field ≡ q.field → p.password ≡ q.password → p ≡ q
+same_parts p q names fields passwords =
+    joined p.name q.name p.field q.field p.password q.password names fields passwords
+  where
+    joined : (n m : List ℕ) (f g : Option (List ℕ)) (v w : List ℕ) → n ≡ m → f ≡ g → v ≡ w
+        → ◌≡◌ {A = Parts} (record { name = n; field = f; password = v }) (record { name = m; field = g; password = w })
+    joined n m f g v w names fields passwords = cc
+
+pub parts_unique : (kind : Kind) (line : List ℕ) (p q : Parts) → HasParts kind line p → HasParts kind line q → p ≡ q
+parts_unique Batch line p q one two =
+    let cut = cut_unique one.0 two.0 in
+    same_parts p q cut.0 (one.1 ∙ sym two.1) cut.1
+parts_unique Check line p q one two =
+    let cut = cut_unique one.2 two.2 in
+    let behind = cut_unique one.3 (subst (λ (back : List ℕ). IsCut back two.0 q.password) (sym cut.1) two.3) in
+    same_parts p q cut.0 (one.4 ∙ (ap Some behind.0 ∙ sym two.4)) behind.1

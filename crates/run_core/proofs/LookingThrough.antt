@@ -1,0 +1,305 @@
+-- How far the looking through a piece of the input has come.
+use Rattle.std.proofs.Common.{◌≡◌, ℕ, ◌+◌, ◌<◌, ◌≤◌, List, [], ◌∷◌, ◌++◌, length, take, drop, Option, Result, Ok, Err, OnOk, refl, sym, ap, subst, ◌∙◌, append_assoc, append-nil, arith, inl, inr}
+use Rattle.std.proofs.lemmas.List.{length-append, length-drop}
+use Rattle.run_core.specs.Answers.{Answer, IsRefusedAmong, after_work}
+use Rattle.run_core.specs.LineAnswers.{IsAnswer}
+use Rattle.run_core.specs.LineRuns.{AreAnswers, both, piece_size, with_line_feeds}
+use Rattle.run_core.specs.Output.{Takes}
+use Rattle.run_core.specs.Private.LineProgress.{AnswersOne, AreGiven, HasRoomIn, IsAt, IsInterrupted, IsSameRun, LooksThrough, OutputState, Position, Represents, TakesTurns}
+use Rattle.run_core.specs.Tallies.{both_tallies}
+use Rattle.run_core.specs.Texts.{HasNoLineFeed, line_feed}
+use Rattle.run_core.specs.declared.lines.LineRun.{LineRun}
+use Rattle.run_core.specs.declared.fault.RunFault.{RunFault}
+use Rattle.run_core.specs.declared.fault.RunFault.TheVariants.{Read, Write, OutOfMemory, Turns, Password}
+use Rattle.run_core.specs.declared.job.Job.{Job}
+use Rattle.run_core.specs.declared.line.Kind.{Kind}
+use Rattle.run_core.specs.declared.lines.buffer.LineBuffer.{LineBuffer}
+use Rattle.run_core.specs.declared.tally.Tally.{Tally}
+use Rattle.run_core.proofs.LineAnswering.{AreAnswers-push, after_work-append, lines-of_answers}
+use Rattle.run_core.proofs.LinesOf.{AllByRecursion-push, HasNoLineFeed-append, HasNoLineFeed-nil, IsCutAtFeed, with_line_feeds-behind, with_line_feeds-behind_all}
+use Rattle.run_core.proofs.Moving.{moves-none, moves-trans}
+use Rattle.run_core.proofs.Sending.{Takes-trans, TakesFront-behind}
+
+-- a run after two steps
+pub same-trans : {O E R : Type 0} (old mid new : LineRun O E R) → IsSameRun old mid → IsSameRun mid new → IsSameRun old new
+same-trans old mid new before more = record {
+  kind = more.kind ∙ before.kind;
+  job = more.job ∙ before.job;
+  out = more.out ∙ before.out;
+  faults = more.faults ∙ before.faults;
+  rng = more.rng ∙ before.rng;
+  meter = more.meter ∙ before.meter;
+}
+
+-- what it says of its kind and its job
+pub for-same : {O E R : Type 0} (old new : LineRun O E R) (P : Kind → Job → Type 0) → IsSameRun old new → P new.kind new.job.now → P old.kind old.job.now
+for-same old new P same says = subst (λ kind. P kind old.job.now) same.kind (subst (λ job. P new.kind job) same.job says)
+
+module _ {O E : Type 0} (contents : O → Option (List ℕ)) (fault_contents : E → Option (List ℕ)) (kind : Kind) (job : Job) where
+  -- where the run is before the step for a line
+  pub record IsAtLine (start old : OutputState O E) (bytes front : List ℕ) (position : Position) (line : List ℕ) (next : Answer) : Type 0 where
+    pub at : IsAt contents fault_contents kind job start old bytes position
+    pub is_line : line ≡ at.rest ++ front
+    pub no_feed : HasNoLineFeed line
+    pub is_next : IsAnswer kind job (position.tally.lines + 1) line old.stream next
+
+  -- the next answer is given, behind those that were
+  pub given-both : (start old new : OutputState O E) (answers next : Answer) (left : ℕ) {A : Type 0} (done : A)
+      → AreGiven contents fault_contents answers start old
+      → AnswersOne contents fault_contents left next old new (Ok done)
+      → AreGiven contents fault_contents (both answers next) start new
+  given-both start old new answers next left done before given = record {
+    out_unfailed = given.2.0 ∙ before.out_unfailed;
+    faults_unfailed = given.2.1 ∙ before.faults_unfailed;
+    text = Takes-trans contents start.out old.out new.out answers.text next.text before.text given.2.2;
+    fault_text = Takes-trans fault_contents start.faults old.faults new.faults answers.fault_text next.fault_text before.fault_text given.2.3;
+    stream = given.0;
+    counts = given.1 ∙ (ap (λ c. after_work c next.hashings) before.counts ∙ sym (after_work-append start.counts answers.hashings next.hashings));
+  }
+
+  counts-after : (start old new : OutputState O E) (bytes front : List ℕ) (position : Position) (line : List ℕ) (next : Answer)
+      → (before : IsAtLine start old bytes front position line next) → new.counts ≡ after_work old.counts next.hashings
+      → new.counts ≡ after_work (after_work start.counts before.at.answers.hashings) next.hashings
+  counts-after start old new bytes front position line next before after = after ∙ ap (λ c. after_work c next.hashings) before.at.given.counts
+
+  pub at-answered : (start old new : OutputState O E) (bytes front : List ℕ) (position next_position : Position) (line : List ℕ) (next : Answer) {A : Type 0} (done : A)
+      → IsAtLine start old bytes front position line next
+      → AnswersOne contents fault_contents next_position.turns_left next old new (Ok done)
+      → next_position.tally ≡ both_tallies position.tally next.tally
+      → Represents next_position.buffer []
+      → IsAt contents fault_contents kind job start new (bytes ++ (front ++ line_feed ∷ [])) next_position
+  at-answered start old new bytes front position next_position line next done before given counted cleared =
+      let at = before.at in
+      let number : position.tally.lines + 1 ≡ 1 + length at.done = omega (arith, ap (λ t. t.lines) at.tally, at.numbers) in
+      let are : AreAnswers kind job 1 (at.done ++ line ∷ []) start.stream (both at.answers next) =
+      AreAnswers-push kind job 1 at.done line start.stream at.answers next at.are (rw (number, at.given.stream) at before.is_next) in
+      record {
+        done = at.done ++ line ∷ [];
+        rest = [];
+        answers = both at.answers next;
+        split = with_line_feeds-behind_all bytes at.done at.rest front line at.split before.is_line;
+        lines = AllByRecursion-push HasNoLineFeed at.done line at.lines before.no_feed;
+        no_feed = HasNoLineFeed-nil;
+        held = cleared;
+        are = are;
+        tally = counted ∙ ap (λ t. both_tallies t next.tally) at.tally;
+        numbers = lines-of_answers kind job 1 (at.done ++ line ∷ []) start.stream (both at.answers next) are;
+        given = given-both start old new at.answers next next_position.turns_left done at.given given;
+      }
+
+  -- how it is cut short
+  pub cut-answering : (start old new : OutputState O E) (bytes front : List ℕ) (position : Position) (left : ℕ) (line : List ℕ) (next : Answer) (A : Type 0) (fault : RunFault)
+      → (before : IsAtLine start old bytes front position line next)
+      → AnswersOne contents fault_contents left next old new {A = A} (Err fault)
+      → IsInterrupted contents fault_contents left before.at.answers next start new fault
+  cut-answering start old new bytes front position left line next A Write before given =
+      let at = before.at in
+      let done = at.answers in (
+        given.0,
+        counts-after start old new bytes front position line next before given.1,
+        elim given.2 [
+          | inl cut ↦ inl (
+            cut.0 ∙ ap (λ n. n + 1) at.given.out_unfailed,
+            cut.1 ∙ at.given.faults_unfailed,
+            TakesFront-behind contents start.out old.out new.out done.text next.text at.given.text cut.2,
+            Takes-trans fault_contents start.faults old.faults new.faults done.fault_text next.fault_text at.given.fault_text cut.3,
+          )
+          | inr cut ↦ inr (
+            cut.0 ∙ at.given.out_unfailed,
+            cut.1 ∙ ap (λ n. n + 1) at.given.faults_unfailed,
+            Takes-trans contents start.out old.out new.out done.text next.text at.given.text cut.2,
+            TakesFront-behind fault_contents start.faults old.faults new.faults done.fault_text next.fault_text at.given.fault_text cut.3,
+          )
+        ],
+      )
+  cut-answering start old new bytes front position left line next A Turns before given =
+      let at = before.at in
+      let done = at.answers in
+      let cut = given.2 in (
+        given.0,
+        counts-after start old new bytes front position line next before given.1,
+        (
+          cut.0 ∙ at.given.out_unfailed,
+          cut.1 ∙ at.given.faults_unfailed,
+          cut.2,
+          TakesFront-behind contents start.out old.out new.out done.text next.text at.given.text cut.3,
+          TakesFront-behind fault_contents start.faults old.faults new.faults done.fault_text next.fault_text at.given.fault_text cut.4,
+          (let taken = at.given.text.counted in let told = at.given.fault_text.counted in
+              omega (arith, cut.5, taken, told, length-append done.text next.text, length-append done.fault_text next.fault_text)),
+        ),
+      )
+  cut-answering start old new bytes front position left line next A OutOfMemory before given =
+      let at = before.at in (
+        subst (λ counts. IsRefusedAmong counts next.hashings new.counts new.stream) at.given.counts given.2,
+        ap (λ d. d.failures) given.0 ∙ at.given.out_unfailed,
+        ap (λ d. d.failures) given.1 ∙ at.given.faults_unfailed,
+        subst (λ d. Takes contents start.out d at.answers.text) (sym given.0) at.given.text,
+        subst (λ d. Takes fault_contents start.faults d at.answers.fault_text) (sym given.1) at.given.fault_text,
+      )
+  cut-answering start old new bytes front position left line next A Read before given = absurd given.2
+  cut-answering start old new bytes front position left line next A (Password fault) before given = absurd given.2
+
+  pub looks-cut : (start old new : OutputState O E) (bytes front behind : List ℕ) (position next_position : Position) (line : List ℕ) (next : Answer) (A : Type 0) (fault : RunFault)
+      → IsAtLine start old bytes front position line next
+      → AnswersOne contents fault_contents next_position.turns_left next old new {A = A} (Err fault)
+      → length behind < piece_size
+      → LooksThrough contents fault_contents kind job start new (bytes ++ (front ++ line_feed ∷ behind)) next_position {A = A} (Err fault)
+  looks-cut start old new bytes front behind position next_position line next A fault before given small =
+      let at = before.at in
+      let number : position.tally.lines + 1 ≡ length at.done + 1 = omega (arith, ap (λ t. t.lines) at.tally, at.numbers) in (
+        line,
+        behind,
+        small,
+        record {
+          done = at.done;
+          answers = at.answers;
+          next = next;
+          split = with_line_feeds-behind bytes at.done at.rest front line behind at.split before.is_line;
+          lines = at.lines;
+          no_feed = before.no_feed;
+          are = at.are;
+          is_next = rw (number, at.given.stream) at before.is_next;
+          cut = cut-answering start old new bytes front position next_position.turns_left line next A fault before given;
+        },
+      )
+
+  -- ---- a piece
+
+  -- the front of the piece was looked through, and each line that ends in it is answered
+  pub record IsLooking (old now : OutputState O E) (old_position position : Position) (piece rest : List ℕ) : Type 0 where
+    pub front : List ℕ
+    pub split : front ++ rest ≡ piece
+    pub lines : position.tally.lines + length rest ≤ old_position.tally.lines + length piece
+    pub room : HasRoomIn position.tally now
+    pub turns : TakesTurns old_position.turns_left position.turns_left old now
+    pub at : (start : OutputState O E) (bytes : List ℕ) → IsAt contents fault_contents kind job start old bytes old_position
+        → IsAt contents fault_contents kind job start now (bytes ++ front) position
+
+  pub looking-start : (old : OutputState O E) (position : Position) (piece : List ℕ) → HasRoomIn position.tally old → IsLooking old old position position piece piece
+  looking-start old position piece room = record {
+    front = [];
+    split = refl;
+    lines = omega arith;
+    room = room;
+    turns = record { turns = refl; fewer = omega arith; out_moves = moves-none old.out; faults_moves = moves-none old.faults };
+    at = λ start bytes is. subst (λ b. IsAt contents fault_contents kind job start old b position) (sym (append-nil bytes)) is;
+  }
+
+  -- what the answer to a line that is buffer leaves, as far as that can be told of any result
+  abbrev pub AnswersBuffered : OutputState O E → OutputState O E → Tally → LineBuffer → Position → {A : Type 0} → Result A RunFault → Type 0
+  AnswersBuffered old new tally buffer next_position result =
+      (line : List ℕ) → Represents buffer line
+      → (answer : Answer) × IsAnswer kind job (tally.lines + 1) line old.stream answer
+      × AnswersOne contents fault_contents next_position.turns_left answer old new result
+      × OnOk result (next_position.tally ≡ both_tallies tally answer.tally)
+
+  -- the step for one line of the piece, which ends at its first line feed
+  pub record IsStep (old mid new : OutputState O E) (old_position position next_position : Position) (buffer : LineBuffer) (piece rest : List ℕ) (end : ℕ) {A : Type 0} (result : Result A RunFault) : Type 0 where
+    pub before : IsLooking old mid old_position position piece rest
+    pub cut : IsCutAtFeed rest end
+    pub holds : (line : List ℕ) → Represents position.buffer line → Represents buffer (line ++ take end rest)
+    pub answers : AnswersBuffered mid new position.tally buffer next_position result
+
+  line-answered : (old mid new : OutputState O E) (old_position position next_position : Position) (buffer : LineBuffer) (piece rest : List ℕ) (end : ℕ) {A : Type 0} (result : Result A RunFault)
+      → (step : IsStep old mid new old_position position next_position buffer piece rest end result)
+      → (start : OutputState O E) (bytes : List ℕ) → IsAt contents fault_contents kind job start old bytes old_position
+      → (line : List ℕ) × (next : Answer)
+      × IsAtLine start mid (bytes ++ step.before.front) (take end rest) position line next
+      × AnswersOne contents fault_contents next_position.turns_left next mid new result
+      × OnOk result (next_position.tally ≡ both_tallies position.tally next.tally)
+  line-answered old mid new old_position position next_position buffer piece rest end result step start bytes is =
+      let at = step.before.at start bytes is in
+      let line = at.rest ++ take end rest in
+      let got = step.answers line (step.holds at.rest at.held) in (
+        line,
+        got.0,
+        record {
+          at = at;
+          is_line = refl;
+          no_feed = HasNoLineFeed-append at.rest (take end rest) at.no_feed step.cut.no_feed;
+          is_next = got.1;
+        },
+        got.2,
+        got.3,
+      )
+
+  -- the piece, from the front before the line, the end of the line, and what is behind it
+  piece-parts : (front rest piece : List ℕ) (end : ℕ) → front ++ rest ≡ piece → IsCutAtFeed rest end
+      → front ++ (take end rest ++ line_feed ∷ drop (end + 1) rest) ≡ piece
+  piece-parts front rest piece end split cut = ap (λ others. front ++ others) (sym cut.parts) ∙ split
+
+  pub looking-cut : (old mid new : OutputState O E) (old_position position next_position : Position) (buffer : LineBuffer) (piece rest : List ℕ) (end : ℕ) (A : Type 0) (fault : RunFault)
+      → IsStep old mid new old_position position next_position buffer piece rest end {A = A} (Err fault)
+      → length piece ≤ piece_size
+      → (start : OutputState O E) (bytes : List ℕ) → IsAt contents fault_contents kind job start old bytes old_position
+      → LooksThrough contents fault_contents kind job start new (bytes ++ piece) next_position {A = A} (Err fault)
+  looking-cut old mid new old_position position next_position buffer piece rest end A fault step small start bytes is =
+      let front = step.before.front in
+      let behind = drop (end + 1) rest in
+      let within = step.cut.within in
+      let few : length behind < piece_size = omega (arith, small, within, length-drop (end + 1) rest, length-append front rest, ap length step.before.split) in
+      let answered = line-answered old mid new old_position position next_position buffer piece rest end (Err fault) step start bytes is in
+      subst (λ b. LooksThrough contents fault_contents kind job start new b next_position {A = A} (Err fault))
+      (append_assoc bytes front (take end rest ++ line_feed ∷ behind)
+      ∙ ap (λ others. bytes ++ others) (piece-parts front rest piece end step.before.split step.cut))
+      (looks-cut start mid new (bytes ++ front) (take end rest) behind position next_position answered.0 answered.1 A fault answered.2 answered.3 few)
+
+  turns-trans : (old mid new : OutputState O E) (left mid_left new_left : ℕ) → TakesTurns left mid_left old mid → TakesTurns mid_left new_left mid new
+      → TakesTurns left new_left old new
+  turns-trans old mid new left mid_left new_left before more = record {
+    turns = more.turns ∙ before.turns;
+    fewer = omega (arith, more.fewer, before.fewer);
+    out_moves = moves-trans 0 old.out mid.out new.out before.out_moves more.out_moves;
+    faults_moves = moves-trans 0 old.faults mid.faults new.faults before.faults_moves more.faults_moves;
+  }
+
+  pub looking-step : (old mid new : OutputState O E) (old_position position next_position : Position) (buffer : LineBuffer) (piece rest behind : List ℕ) (end : ℕ) {A : Type 0} (done : A)
+      → IsStep old mid new old_position position next_position buffer piece rest end (Ok done)
+      → Represents next_position.buffer [] → HasRoomIn next_position.tally new → next_position.tally.lines ≤ position.tally.lines + 1
+      → TakesTurns position.turns_left next_position.turns_left mid new → behind ≡ drop (end + 1) rest
+      → IsLooking old new old_position next_position piece behind
+  looking-step old mid new old_position position next_position buffer piece rest behind end done step cleared room lines turns is_behind =
+      let before = step.before in
+      let front = before.front in
+      let line = take end rest ++ line_feed ∷ [] in
+      let within = step.cut.within in
+      record {
+        front = front ++ line;
+        split = ap (λ others. (front ++ line) ++ others) is_behind
+            ∙ append_assoc front line (drop (end + 1) rest)
+            ∙ (ap (λ others. front ++ others) (append_assoc (take end rest) (line_feed ∷ []) (drop (end + 1) rest))
+            ∙ piece-parts front rest piece end before.split step.cut);
+        lines = omega (arith, lines, before.lines, within, ap length is_behind, length-drop (end + 1) rest);
+        room = room;
+        turns = turns-trans old mid new old_position.turns_left position.turns_left next_position.turns_left before.turns turns;
+        at = λ start bytes is.
+            let answered = line-answered old mid new old_position position next_position buffer piece rest end (Ok done) step start bytes is in
+            subst (λ b. IsAt contents fault_contents kind job start new b next_position)
+            (append_assoc bytes front line)
+            (at-answered start mid new (bytes ++ front) (take end rest) position next_position answered.0 answered.1 done answered.2 answered.3 answered.4 cleared);
+      }
+
+  -- what is behind the last line feed is buffer
+  pub looking-end : (old now : OutputState O E) (old_position position : Position) (buffer : LineBuffer) (piece rest : List ℕ)
+      → IsLooking old now old_position position piece rest → HasNoLineFeed rest
+      → ((line : List ℕ) → Represents position.buffer line → Represents buffer (line ++ rest))
+      → (start : OutputState O E) (bytes : List ℕ) → IsAt contents fault_contents kind job start old bytes old_position
+      → IsAt contents fault_contents kind job start now (bytes ++ piece) (record { buffer = buffer; tally = position.tally; turns_left = position.turns_left })
+  looking-end old now old_position position buffer piece rest looking none holds start bytes is =
+      let at = looking.at start bytes is in
+      record {
+        done = at.done;
+        rest = at.rest ++ rest;
+        answers = at.answers;
+        split = ap (λ others. bytes ++ others) (sym looking.split)
+            ∙ (sym (append_assoc bytes looking.front rest)
+            ∙ (ap (λ b. b ++ rest) at.split
+            ∙ append_assoc (with_line_feeds at.done) at.rest rest));
+        lines = at.lines;
+        no_feed = HasNoLineFeed-append at.rest rest at.no_feed none;
+        held = holds at.rest at.held;
+        are = at.are;
+        tally = at.tally;
+        numbers = at.numbers;
+        given = at.given;
+      }

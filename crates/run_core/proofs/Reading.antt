@@ -1,0 +1,203 @@
+-- How far the reading of a first line has come.
+use Rattle.std.proofs.Common.{◌≡◌, ◌≢◌, ℕ, ◌+◌, ◌-◌, ◌≤◌, ◌<◌, List, [], ◌++◌, length, take, drop, eqb, Option, Some, None, Ok, Err, sym, ap, subst, ◌∙◌, append-nil, arith, inl, inr}
+use Rattle.std.specs.List.{position, slice_range}
+use Rattle.std.proofs.KnownBytes.{Consumes-trans}
+use Rattle.std.proofs.Math.Seq.{take-add}
+use Rattle.std.proofs.lemmas.List.{length-append, length-drop, length-take-le, take-take}
+use Rattle.run_core.specs.Devices.{Device, IsUnfailed, MovesBytes}
+use Rattle.run_core.specs.Input.{first_line, IsUndecided, Reads}
+use Rattle.run_core.specs.Private.Fetching.{Fetches, FindsLine, buffer_size}
+use Rattle.run_core.specs.declared.fault.RunFault.{RunFault}
+use Rattle.run_core.specs.declared.fault.RunFault.TheVariants.{Read, Write, OutOfMemory, Turns, Password}
+use Rattle.run_core.proofs.LineFeeds.{feed_at, feed_at-append, first_line-is, first_line-whole, has_feed, lacks_feed, position-feed, position-none}
+use Rattle.run_core.proofs.Moving.{moves-trans}
+
+module _ {I : Type 0} (remaining : I → Option (List ℕ)) where
+  -- the front of the buffer was read and has no line feed, in calls that did not fail and that each gave a
+  -- byte
+  pub record IsReading (old new : Device I) (buffer : List ℕ) (filled turns left : ℕ) : Type 0 where
+    pub size : length buffer ≡ buffer_size
+    pub within : filled ≤ buffer_size
+    pub reads : Reads remaining old new (take filled buffer)
+    pub no_line_feed : feed_at (take filled buffer) ≡ filled
+    pub unfailed : IsUnfailed old new
+    pub calls : new.calls + left ≡ old.calls + turns
+    pub fewer : left ≤ turns
+    pub moves : MovesBytes 0 old new
+
+  pub Reads-trans : (old mid new : Device I) (front piece : List ℕ) → Reads remaining old mid front → Reads remaining mid new piece
+      → Reads remaining old new (front ++ piece)
+  Reads-trans old mid new front piece before more =
+      let counted = before.counted in
+      let more_counted = more.counted in
+      record {
+        shown = Consumes-trans _ (remaining mid.inner) _ front piece before.shown more.shown;
+        counted = omega (arith, length-append front piece, counted, more_counted);
+      }
+
+  -- what a fetch gave behind the front
+  pub record HasFetched (old mid new : Device I) (buffer next : List ℕ) (filled count turns left : ℕ) : Type 0 where
+    pub before : IsReading old mid buffer filled turns left
+    pub room : filled < buffer_size
+    pub size : length next ≡ buffer_size
+    pub kept : take filled next ≡ take filled buffer
+    pub fetched : Fetches remaining left mid new (drop filled next) (Ok count)
+
+  -- all that was read by then
+  read_so_far : (old mid new : Device I) (buffer next : List ℕ) (filled count turns left : ℕ)
+      → HasFetched old mid new buffer next filled count turns left
+      → (filled + count ≤ buffer_size)
+      × (take (filled + count) next ≡ take filled next ++ take count (drop filled next))
+      × (length (take filled next) ≡ filled)
+      × (length (take count (drop filled next)) ≡ count)
+      × (feed_at (take filled next) ≡ filled)
+      × Reads remaining old new (take (filled + count) next)
+  read_so_far old mid new buffer next filled count turns left h =
+      let piece = take count (drop filled next) in
+      let size = h.size in
+      let room = h.room in
+      let rest : length (drop filled next) ≡ buffer_size - filled = omega (arith, length-drop filled next, size) in
+      let within : filled + count ≤ buffer_size = omega (arith, rest, h.fetched.0, room) in
+      let parts : take (filled + count) next ≡ take filled next ++ piece = take-add filled count next in
+      let front_reads : Reads remaining old mid (take filled next) = subst (Reads remaining old mid) (sym h.kept) h.before.reads in (
+        within,
+        parts,
+        length-take-le filled next (omega (arith, size, room)),
+        length-take-le count (drop filled next) h.fetched.0,
+        ap feed_at h.kept ∙ h.before.no_line_feed,
+        subst (Reads remaining old new) (sym parts) (Reads-trans old mid new _ piece front_reads h.fetched.2),
+      )
+
+  piece_is : (next : List ℕ) (filled count : ℕ) → slice_range next filled (filled + count) ≡ take count (drop filled next)
+  piece_is next filled count = ap (λ n. take n (drop filled next)) (omega arith)
+
+  -- a line feed is in the piece
+  pub reading-found : (old mid new : Device I) (buffer next : List ℕ) (filled count turns left left_new at : ℕ)
+      → HasFetched old mid new buffer next filled count turns left
+      → position (λ b. eqb b 10) (slice_range next filled (filled + count)) ≡ Some at
+      → (bytes : List ℕ) × Reads remaining old new bytes × FindsLine remaining old new bytes left_new next (Ok (filled + at))
+  reading-found old mid new buffer next filled count turns left left_new at h found =
+      let so_far = read_so_far old mid new buffer next filled count turns left h in
+      let bytes = take (filled + count) next in
+      let piece = take count (drop filled next) in
+      let place = position-feed piece at (rw piece_is at found) in
+      let feed : feed_at bytes ≡ filled + at =
+      ap feed_at so_far.1 ∙ feed_at-append (take filled next) piece (so_far.4 ∙ sym so_far.2) ∙ omega (arith, so_far.2, place.0) in
+      let below : filled + at < filled + count = omega (arith, place.1, so_far.3) in
+      let size : length bytes ≡ filled + count = length-take-le (filled + count) next (let long = h.size in omega (arith, long, so_far.0)) in (
+        bytes,
+        so_far.5,
+        (
+          h.fetched.1 ∙ h.before.unfailed,
+          inl (has_feed bytes (omega (arith, feed, below, size))),
+          (let long = h.size in omega (arith, long, so_far.0, below)),
+          sym (first_line-is bytes ∙ ap (λ n. take n bytes) feed ∙ take-take (filled + at) (filled + count) next (omega (arith, below))),
+        ),
+      )
+
+  -- no line feed is in the piece
+  still_none : (old mid new : Device I) (buffer next : List ℕ) (filled count turns left : ℕ)
+      → HasFetched old mid new buffer next filled count turns left
+      → position (λ b. eqb b 10) (slice_range next filled (filled + count)) ≡ None
+      → feed_at (take (filled + count) next) ≡ filled + count
+  still_none old mid new buffer next filled count turns left h none =
+      let so_far = read_so_far old mid new buffer next filled count turns left h in
+      let piece = take count (drop filled next) in
+      let in_piece = position-none piece (rw piece_is at none) in
+      ap feed_at so_far.1 ∙ feed_at-append (take filled next) piece (so_far.4 ∙ sym so_far.2) ∙ omega (arith, so_far.2, so_far.3, in_piece)
+
+  -- nothing is left to read
+  pub reading-end : (old mid new : Device I) (buffer next : List ℕ) (filled count turns left left_new : ℕ)
+      → HasFetched old mid new buffer next filled count turns left
+      → position (λ b. eqb b 10) (slice_range next filled (filled + count)) ≡ None → count ≡ 0
+      → (bytes : List ℕ) × Reads remaining old new bytes × FindsLine remaining old new bytes left_new next (Ok filled)
+  reading-end old mid new buffer next filled count turns left left_new h none ended =
+      let so_far = read_so_far old mid new buffer next filled count turns left h in
+      let bytes = take (filled + count) next in
+      let long = h.size in
+      let size : length bytes ≡ filled + count = length-take-le (filled + count) next (omega (arith, long, so_far.0)) in
+      let whole : first_line bytes ≡ bytes = first_line-whole bytes (still_none old mid new buffer next filled count turns left h none ∙ sym size) in (
+        bytes,
+        so_far.5,
+        (
+          h.fetched.1 ∙ h.before.unfailed,
+          inr (inl (h.fetched.3 ended)),
+          omega (arith, long, so_far.0),
+          ap (λ n. take n next) (omega (arith, ended)) ∙ sym whole,
+        ),
+      )
+
+  -- a piece without a line feed
+  pub reading-more : (old mid new : Device I) (buffer next : List ℕ) (filled count turns left left_new : ℕ)
+      → HasFetched old mid new buffer next filled count turns left
+      → position (λ b. eqb b 10) (slice_range next filled (filled + count)) ≡ None → count ≢ 0
+      → left_new ≡ left - 1 → new.calls + left_new ≡ mid.calls + left
+      → IsReading old new next (filled + count) turns left_new
+  reading-more old mid new buffer next filled count turns left left_new h none some took calls =
+      let so_far = read_so_far old mid new buffer next filled count turns left h in
+      let before_calls = h.before.calls in
+      record {
+        size = h.size;
+        within = so_far.0;
+        reads = so_far.5;
+        no_line_feed = still_none old mid new buffer next filled count turns left h none;
+        unfailed = h.fetched.1 ∙ h.before.unfailed;
+        calls = omega (arith, before_calls, calls);
+        fewer = (let were_fewer = h.before.fewer in omega (arith, were_fewer, took));
+        moves = moves-trans 0 old mid new h.before.moves (h.fetched.4 some);
+      }
+
+  undecided : (old mid : Device I) (buffer : List ℕ) (filled turns left : ℕ)
+      → IsReading old mid buffer filled turns left → filled < buffer_size → IsUndecided (take filled buffer)
+  undecided old mid buffer filled turns left before room =
+      let long = before.size in
+      let size : length (take filled buffer) ≡ filled = length-take-le filled buffer (omega (arith, long, room)) in
+      record { no_line_feed = lacks_feed _ (before.no_line_feed ∙ sym size); short = omega (arith, size, room) }
+
+  -- a fetch failed, or no turn was left for it
+  pub reading-cut : (old mid new : Device I) (buffer next : List ℕ) (filled turns left left_new : ℕ) (fault : RunFault)
+      → IsReading old mid buffer filled turns left → filled < buffer_size
+      → Fetches remaining left mid new (drop filled next) (Err fault) → left_new ≡ left - 1
+      → (bytes : List ℕ) × Reads remaining old new bytes × FindsLine remaining old new bytes left_new next (Err fault)
+  reading-cut old mid new buffer next filled turns left left_new Read before room fetched took = (
+    take filled buffer,
+    subst (Reads remaining old new) (append-nil _) (Reads-trans old mid new _ [] before.reads fetched.1),
+    (
+      (let unfailed = before.unfailed in omega (arith, unfailed, fetched.0)),
+      undecided old mid buffer filled turns left before room,
+      moves-trans 0 old mid new before.moves fetched.2,
+    ),
+  )
+  reading-cut old mid new buffer next filled turns left left_new Turns before room fetched took = (
+    take filled buffer,
+    subst (Reads remaining old new) (append-nil _) (Reads-trans old mid new _ [] before.reads fetched.1),
+    (
+      fetched.0 ∙ before.unfailed,
+      undecided old mid buffer filled turns left before room,
+      omega (arith, took, fetched.2),
+      moves-trans 0 old mid new before.moves fetched.3,
+    ),
+  )
+  reading-cut old mid new buffer next filled turns left left_new Write before room fetched took = absurd fetched
+  reading-cut old mid new buffer next filled turns left left_new OutOfMemory before room fetched took = absurd fetched
+  reading-cut old mid new buffer next filled turns left left_new (Password fault) before room fetched took = absurd fetched
+
+  -- the buffer is full
+  pub reading-full : (old mid : Device I) (buffer : List ℕ) (filled turns left : ℕ)
+      → IsReading old mid buffer filled turns left → buffer_size ≤ filled
+      → (bytes : List ℕ) × Reads remaining old mid bytes × FindsLine remaining old mid bytes left buffer (Ok filled)
+  reading-full old mid buffer filled turns left before full =
+      let bytes = take filled buffer in
+      let long = before.size in
+      let within = before.within in
+      let size : length bytes ≡ filled = length-take-le filled buffer (omega (arith, long, within)) in
+      let whole : first_line bytes ≡ bytes = first_line-whole bytes (before.no_line_feed ∙ sym size) in (
+        bytes,
+        before.reads,
+        (
+          before.unfailed,
+          inr (inr (omega (arith, ap length whole, size, full))),
+          omega (arith, long, within),
+          sym whole,
+        ),
+      )

@@ -1,0 +1,10 @@
+use Rattle.std.proofs.Common.{◌≡◌, ap, sym, ◌∙◌, rules}
+use Rattle.run_core.specs.Makers.{made_cost_by}
+use Rattle.run_core.proofs.Drawing.{made_cost}
+use Rattle.run_core.proofs.job.Maker.cost.Goals as goal
+
+pub returns-clause-number : goal.returns-clause-number
+returns-clause-number c = search rules
+
+pub returns-clause-each : goal.returns-clause-each
+returns-clause-each c = λ words. made_cost c.args.self.now words c.args.password_len ∙ sym (returns-clause-number c)

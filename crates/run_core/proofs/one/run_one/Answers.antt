@@ -1,0 +1,113 @@
+use Rattle.std.proofs.Common.{◌≡◌, ℕ, List, [], ◌∷◌, ◌++◌, ap, sym, ◌∙◌, arith}
+use Rattle.rand_core.specs.Stream.{Stream}
+use Rattle.prims_core.specs.declared.meter.Work.{Work}
+use Rattle.crypt_core.specs.Work.{raised_by, work, work_limit}
+use Rattle.run_core.specs.Answers.{new_hash, new_hashing, password_answer, wanted_text, work_of}
+use Rattle.run_core.specs.Makers.{next_setting}
+use Rattle.run_core.specs.Outcomes.{rendered}
+use Rattle.run_core.specs.Texts.{as_line}
+use Rattle.run_core.specs.declared.answer.Outcome.TheVariants.{Hashed}
+use Rattle.run_core.specs.declared.job.Job.{Job}
+use Rattle.std.proofs.lemmas.Result.{err_from_is_err_and}
+use Rattle.run_core.specs.Runs.{run_state, device_bytes}
+use Rattle.run_core.proofs.Budgeting.{unoptioned}
+use Rattle.run_core.proofs.Ending as ending
+use Rattle.run_core.proofs.Counting.{after_hashings, small_rise}
+use Rattle.run_core.proofs.one.run_one.Goals as goal
+
+-- the line that is rendered is the one of the hash
+the_line : (job : Job) (password : List ℕ) (stream : Stream) (hash : List ℕ) (before after reading told : Work) → hash ≡ new_hash job password stream
+    → after ≡ raised_by before (work password (next_setting job.maker stream)) → reading ≡ before
+    → ((more : Work) → after ≡ raised_by reading more → told ≡ more)
+    → as_line (rendered (Hashed hash) ++ wanted_text job.work told) ≡ (password_answer job password stream).text
+the_line job password stream hash before after reading told is counted read raised =
+    let more = work_of (new_hashing job password stream ∷ []) in
+    let risen : after ≡ raised_by reading more = counted ∙ (after_hashings before (new_hashing job password stream ∷ []) ∙ ap (λ (w : Work). raised_by w more) (sym read)) in
+    ap (λ (h : List ℕ). as_line (h ++ wanted_text job.work told)) is
+    ∙ ap (λ (w : Work). as_line (new_hash job password stream ++ wanted_text job.work w)) (raised more risen)
+
+pub send-requires-clause-turns : goal.send-requires-clause-turns
+send-requires-clause-turns g c = omega (arith, c.obtain.ensures.fewer, c.requires.turns)
+
+pub returns-in_err-password-clause-ends : goal.returns-in_err-password-clause-ends
+returns-in_err-password-clause-ends g c =
+    let p = err_from_is_err_and c.from_residual.result c.from_residual.ensures.1 in
+    rw (p.1, p.2) (ending.ends-without_password (device_bytes g.I.Read.remaining g.O.Write.contents g.E.Write.contents) c.args.turns c.args.job.now c.args.from.now
+    (run_state c.args.input.now c.args.out.now c.args.faults.now (g.R.Rng.stream c.args.rng.now) c.args.meter.now)
+    c.obtain.new.input c.obtain.new.left c.in_err-password.field-0.0 c.in_err-password.ensures.password c.obtain.ensures.turns)
+
+pub returns-in_err-hash-clause-ends : goal.returns-in_err-hash-clause-ends
+returns-in_err-hash-clause-ends g c =
+    let p = err_from_is_err_and c.from_residual-in_err-hash.result c.from_residual-in_err-hash.ensures.1 in
+    rw (p.1, p.2) (ending.ends-out_of_memory (device_bytes g.I.Read.remaining g.O.Write.contents g.E.Write.contents) c.args.turns c.args.job.now c.args.from.now c.in_ok-password.password
+    (run_state c.args.input.now c.args.out.now c.args.faults.now (g.R.Rng.stream c.args.rng.now) c.args.meter.now)
+    c.obtain.new.input (g.R.Rng.stream c.make_hash.new.rng) c.make_hash.new.meter c.obtain.new.left c.in_ok-password.ensures.password
+    c.make_hash.ensures.stream c.in_err-hash.ensures.refused)
+
+pub work_since-work-requires : goal.work_since-work-requires
+work_since-work-requires g c = record {
+  earlier = rw c.reading-before.ensures c.make_hash.ensures.rises;
+  small = rw c.reading-before.ensures (small_rise work_limit c.args.meter.now c.make_hash.new.meter (omega arith) c.make_hash.ensures.small);
+}
+
+pub returns-in_err-send-clause-ends : goal.returns-in_err-send-clause-ends
+returns-in_err-send-clause-ends g c =
+    let told = device_bytes g.I.Read.remaining g.O.Write.contents g.E.Write.contents in
+    let old = run_state c.args.input.now c.args.out.now c.args.faults.now (g.R.Rng.stream c.args.rng.now) c.args.meter.now in
+    let has = ending.has_hash told c.args.turns c.args.job.now c.args.from.now c.in_ok-password.password c.as_slice.result.now old c.obtain.new.input (g.R.Rng.stream c.make_hash.new.rng) c.make_hash.new.meter
+    c.obtain.new.left c.in_ok-password.ensures.password c.obtain.ensures.turns c.make_hash.ensures.stream
+    c.in_ok-hash.ensures.count (c.as_slice.ensures.value ∙ (c.render-line.ensures ∙ the_line c.args.job.now c.in_ok-password.password (g.R.Rng.stream c.args.rng.now) c.in_ok-hash.hash
+    c.args.meter.now c.make_hash.new.meter c.reading-before.result c.work_since-work.result c.in_ok-hash.ensures.hash c.in_ok-hash.ensures.count c.reading-before.ensures c.work_since-work.ensures.raised)) in
+    let p = err_from_is_err_and c.from_residual-in_err-send.result c.from_residual-in_err-send.ensures.1 in
+    rw (p.1, p.2) (ending.ends-sending told c.args.turns c.args.job.now c.args.from.now c.in_ok-password.password c.as_slice.result.now old
+    c.obtain.new.input c.send.new.out (g.R.Rng.stream c.make_hash.new.rng) c.make_hash.new.meter c.obtain.new.left c.in_err-send.field-0.0
+    has c.in_err-send.ensures.delivers c.in_err-send.ensures.outcome)
+
+pub returns-in_err-finish_both-clause-ends : goal.returns-in_err-finish_both-clause-ends
+returns-in_err-finish_both-clause-ends g c =
+    let told = device_bytes g.I.Read.remaining g.O.Write.contents g.E.Write.contents in
+    let old = run_state c.args.input.now c.args.out.now c.args.faults.now (g.R.Rng.stream c.args.rng.now) c.args.meter.now in
+    let has = ending.has_hash told c.args.turns c.args.job.now c.args.from.now c.in_ok-password.password c.as_slice.result.now old c.obtain.new.input (g.R.Rng.stream c.make_hash.new.rng) c.make_hash.new.meter
+    c.obtain.new.left c.in_ok-password.ensures.password c.obtain.ensures.turns c.make_hash.ensures.stream
+    c.in_ok-hash.ensures.count (c.as_slice.ensures.value ∙ (c.render-line.ensures ∙ the_line c.args.job.now c.in_ok-password.password (g.R.Rng.stream c.args.rng.now) c.in_ok-hash.hash
+    c.args.meter.now c.make_hash.new.meter c.reading-before.result c.work_since-work.result c.in_ok-hash.ensures.hash c.in_ok-hash.ensures.count c.reading-before.ensures c.work_since-work.ensures.raised)) in
+    let p = err_from_is_err_and c.from_residual-in_err-finish_both.result c.from_residual-in_err-finish_both.ensures.1 in
+    rw (p.1, p.2) (ending.ends-unfinished told c.args.turns c.args.job.now c.args.from.now c.in_ok-password.password c.as_slice.result.now old
+    c.obtain.new.input c.send.new.out c.finish_both.new.out c.finish_both.new.faults
+    (g.R.Rng.stream c.make_hash.new.rng) c.make_hash.new.meter c.obtain.new.left (Unit {0}) c.in_err-finish_both.field-0.0
+    has c.in_ok-send.ensures.delivers c.in_ok-send.ensures.outcome c.in_err-finish_both.ensures.finishes)
+
+pub returns-clause-ends : goal.returns-clause-ends
+returns-clause-ends g c =
+    let told = device_bytes g.I.Read.remaining g.O.Write.contents g.E.Write.contents in
+    let old = run_state c.args.input.now c.args.out.now c.args.faults.now (g.R.Rng.stream c.args.rng.now) c.args.meter.now in
+    let has = ending.has_hash told c.args.turns c.args.job.now c.args.from.now c.in_ok-password.password c.as_slice.result.now old c.obtain.new.input (g.R.Rng.stream c.make_hash.new.rng) c.make_hash.new.meter
+    c.obtain.new.left c.in_ok-password.ensures.password c.obtain.ensures.turns c.make_hash.ensures.stream
+    c.in_ok-hash.ensures.count (c.as_slice.ensures.value ∙ (c.render-line.ensures ∙ the_line c.args.job.now c.in_ok-password.password (g.R.Rng.stream c.args.rng.now) c.in_ok-hash.hash
+    c.args.meter.now c.make_hash.new.meter c.reading-before.result c.work_since-work.result c.in_ok-hash.ensures.hash c.in_ok-hash.ensures.count c.reading-before.ensures c.work_since-work.ensures.raised)) in
+    ending.ends-finished told c.args.turns c.args.job.now c.args.from.now c.in_ok-password.password c.as_slice.result.now old
+    c.obtain.new.input c.send.new.out c.finish_both.new.out c.finish_both.new.faults
+    (g.R.Rng.stream c.make_hash.new.rng) c.make_hash.new.meter c.obtain.new.left c.in_ok-finish_both.field-0
+    has c.in_ok-send.ensures.delivers c.in_ok-send.ensures.outcome c.in_ok-finish_both.ensures.finishes
+
+-- ---- what only lines have has no effect
+
+pub returns-in_err-password-clause-options : goal.returns-in_err-password-clause-options
+returns-in_err-password-clause-options g c =
+    unoptioned (device_bytes g.I.Read.remaining g.O.Write.contents g.E.Write.contents) c.args.turns c.args.job.now c.args.from.now _ _ c.from_residual.result (returns-in_err-password-clause-ends g c)
+
+pub returns-in_err-hash-clause-options : goal.returns-in_err-hash-clause-options
+returns-in_err-hash-clause-options g c =
+    unoptioned (device_bytes g.I.Read.remaining g.O.Write.contents g.E.Write.contents) c.args.turns c.args.job.now c.args.from.now _ _ c.from_residual-in_err-hash.result (returns-in_err-hash-clause-ends g c)
+
+pub returns-in_err-send-clause-options : goal.returns-in_err-send-clause-options
+returns-in_err-send-clause-options g c =
+    unoptioned (device_bytes g.I.Read.remaining g.O.Write.contents g.E.Write.contents) c.args.turns c.args.job.now c.args.from.now _ _ c.from_residual-in_err-send.result (returns-in_err-send-clause-ends g c)
+
+pub returns-in_err-finish_both-clause-options : goal.returns-in_err-finish_both-clause-options
+returns-in_err-finish_both-clause-options g c =
+    unoptioned (device_bytes g.I.Read.remaining g.O.Write.contents g.E.Write.contents) c.args.turns c.args.job.now c.args.from.now _ _ c.from_residual-in_err-finish_both.result (returns-in_err-finish_both-clause-ends g c)
+
+pub returns-clause-options : goal.returns-clause-options
+returns-clause-options g c =
+    unoptioned (device_bytes g.I.Read.remaining g.O.Write.contents g.E.Write.contents) c.args.turns c.args.job.now c.args.from.now _ _ _ (returns-clause-ends g c)

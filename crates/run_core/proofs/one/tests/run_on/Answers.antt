@@ -1,0 +1,22 @@
+use Rattle.std.proofs.Common.{◌≡◌, ℕ, List, OnOk, Result, Ok, Err, ap}
+use Rattle.std.specs.Io.KnownBytes.{Appends}
+use Rattle.run_core.specs.Answers.{password_answer}
+use Rattle.run_core.specs.Devices.{Device}
+use Rattle.run_core.specs.One.{EndsBy}
+use Rattle.run_core.specs.Runs.{RunState, DeviceBytes}
+use Rattle.run_core.specs.declared.fault.RunFault.{RunFault}
+use Rattle.run_core.specs.declared.job.Job.{Job}
+use Rattle.run_core.specs.declared.tally.Tally.{Tally}
+use Rattle.run_core.proofs.one.tests.run_on.Goals as goal
+
+-- what the output has after a tally
+has_answer : {I O E : Type 0} (device_bytes : DeviceBytes I O E) (turns : ℕ) (job : Job) (password : List ℕ) (old new : RunState I O E)
+    (result : Result Tally RunFault) → EndsBy device_bytes turns job password old new result
+    → OnOk result (Appends (device_bytes.contents old.out.inner) (device_bytes.contents new.out.inner) (password_answer job password old.stream).text)
+has_answer device_bytes turns job password old new (Ok tally) (ok, (is, fails, takes, after)) = takes.text.shown
+has_answer device_bytes turns job password old new (Err fault) ends = tt
+
+pub returns-in-Some : goal.returns-in-Some
+returns-in-Some g c =
+    let wrapped : c.new-out.result.inner ≡ c.args.given.writer = ap (λ (d : Device _). d.inner) c.new-out.ensures in
+    rw (c.into_inner.ensures, ← wrapped) (has_answer _ c.args.given.turns c.args.job.now c.in-Some.bytes.items _ _ c.run_one-outcome.result c.run_one-outcome.ensures.ends.1)

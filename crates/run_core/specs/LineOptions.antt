@@ -1,0 +1,48 @@
+-- What a budget and new hashes change of the answers to lines, and that they change no others.
+use Rattle.std.specs.Prelude.{◌≡◌, ℕ, ◌⊎◌, ◌↔◌, List, true, Some}
+use Rattle.rand_core.specs.Stream.{Stream}
+use Rattle.crypt_core.specs.Crypt.{crypt}
+use Rattle.crypt_core.specs.Settings.{SettingValue}
+use Rattle.crypt_core.specs.StoredFields.{IsStored}
+use Rattle.run_core.specs.Answers.{Answer}
+use Rattle.run_core.specs.Budgets.{without_budget}
+use Rattle.run_core.specs.LineAnswers.{HasSetting, IsAnswer, IsCostly, refused_answer}
+use Rattle.run_core.specs.Lines.{HasParts, Parts}
+use Rattle.run_core.specs.Rehashes.{is_outdated, without_rehash}
+use Rattle.run_core.specs.declared.job.Job.{Job}
+use Rattle.run_core.specs.declared.line.Kind.{Kind}
+use Rattle.run_core.specs.declared.line.LineFault.TheVariants.{OverBudget}
+
+-- ---- a budget
+
+-- A costly line gets this refusal, and each other line the answer without a budget. No line to check is costly whose
+-- field is empty or locked; a line of a batch has no field.
+pub record OnlyRefuses (kind : Kind) (job : Job) : Type 0 where
+  pub costly : (number : ℕ) → (line : List ℕ) → (stream : Stream) → (answer : Answer) → IsCostly kind job line
+      → IsAnswer kind job number line stream answer → answer ≡ refused_answer number OverBudget stream
+  pub others : (number : ℕ) → (line : List ℕ) → (stream : Stream) → (answer : Answer) → ¬ IsCostly kind job line
+      → IsAnswer kind job number line stream answer ↔ IsAnswer kind (without_budget job) number line stream answer
+  pub unhashed : (line : List ℕ) → (parts : Parts) → (field : List ℕ) → HasParts kind line parts
+      → parts.field ≡ Some field → ¬ IsStored field → ¬ IsCostly kind job line
+
+-- ---- new hashes
+
+-- A line to check that breaks no rule, and whose field spells a setting that is out of date. Its password fits, or it
+-- costs too much together with the new hash.
+pub record IsRenewable (kind : Kind) (job : Job) (line : List ℕ) : Type 0 where
+  pub parts : Parts
+  pub field : List ℕ
+  pub kept : SettingValue
+  pub stored : HasSetting kind line parts field kept
+  pub outdated : is_outdated job kept ≡ true
+  pub fits_or_costly : (crypt parts.password kept ≡ field) ⊎ IsCostly kind job line
+
+-- every other line gets the answers that it gets without them
+abbrev pub OnlyRenews : Kind → Job → Type 0
+OnlyRenews kind job = (number : ℕ) → (line : List ℕ) → (stream : Stream) → (answer : Answer) → ¬ IsRenewable kind job line
+    → IsAnswer kind job number line stream answer ↔ IsAnswer kind (without_rehash job) number line stream answer
+
+-- and so does each line of a batch
+abbrev pub RenewsNone : Kind → Job → Type 0
+RenewsNone kind job = (number : ℕ) → (line : List ℕ) → (stream : Stream) → (answer : Answer)
+    → IsAnswer kind job number line stream answer ↔ IsAnswer kind (without_rehash job) number line stream answer

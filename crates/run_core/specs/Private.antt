@@ -1,0 +1,7 @@
+-- What only contracts of private functions cite. A reader of the public clauses needs none of it.
+pub mod Answers
+pub mod Deliveries
+pub mod Fetching
+pub mod Headroom
+pub mod LineProgress
+pub mod Lines

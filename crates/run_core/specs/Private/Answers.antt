@@ -1,0 +1,98 @@
+-- How the steps that decide an answer can end.
+use Rattle.std.specs.Prelude.{◌≡◌, ◌≢◌, ℕ, ◌+◌, ◌<◌, ◌⊎◌, true, false, List, [], ◌∷◌, Option, Some, None, Result, Ok, Err}
+use Rattle.rand_core.specs.Stream.{Stream}
+use Rattle.prims_core.specs.declared.meter.Work.{Work}
+use Rattle.crypt_core.specs.Crypt.{crypt}
+use Rattle.crypt_core.specs.declared.hash.HashFault.{HashFault}
+use Rattle.crypt_core.specs.StoredFields.{StoredHash}
+use Rattle.crypt_core.specs.declared.stored.StoredField.{StoredField}
+use Rattle.crypt_core.specs.declared.stored.StoredField.TheVariants as fields
+use Rattle.run_core.specs.Answers.{Hashing, IsRefusedAmong, after_work, hashing, new_hash, new_hashing}
+use Rattle.run_core.specs.LineAnswers.{Decision, IsDecision, front_of}
+use Rattle.run_core.specs.Makers.{made_cost_by, stream_after}
+use Rattle.run_core.specs.Rehashes.{check_cost, is_outdated}
+use Rattle.run_core.specs.declared.answer.LineAnswer.{LineAnswer}
+use Rattle.run_core.specs.declared.answer.Outcome.{Outcome}
+use Rattle.run_core.specs.declared.answer.Outcome.TheVariants.{Hashed, Match, Rehashed, Mismatch, NoHash, Locked, Refused}
+use Rattle.run_core.specs.declared.job.Job.{Job}
+use Rattle.run_core.specs.declared.line.Kind.{Kind}
+
+-- each count has risen by less than a number
+pub record IsRaisedBelow (limit : ℕ) (before after : Work) : Type 0 where
+  pub digests : after.digests < before.digests + limit
+  pub bytes : after.bytes < before.bytes + limit
+  pub mixes : after.mixes < before.mixes + limit
+  pub table : after.table < before.table + limit
+  pub scratch : after.scratch < before.scratch + limit
+
+-- the greatest cost of the hashes for a password, by its field
+abbrev pub field_cost : Job → Option StoredField → ℕ → ℕ
+field_cost job None password_length = made_cost_by job.maker password_length
+field_cost job (Some (fields.Hash stored)) password_length = check_cost job stored.setting password_length
+field_cost job (Some other) password_length = 0
+
+-- hashes are made, in order, with their work and their words; or memory for one of them was refused
+abbrev pub Makes : List Hashing → Stream → Work → Work → Stream → {A : Type 0} → Result A HashFault → Type 0
+Makes hashings left before after stream (Ok made) = (after ≡ after_work before hashings) × (stream ≡ left)
+Makes hashings left before after stream (Err fault) = IsRefusedAmong before hashings after stream
+
+-- what the comparison of a password with its stored hash comes to; if memory was refused, what it would have come to
+abbrev pub IsChecked : Job → List ℕ → StoredHash → Stream → List Hashing → Stream → Outcome → Type 0
+IsChecked job password stored stream hashings left Mismatch =
+    (crypt password stored.setting ≢ stored.text)
+    × (hashings ≡ hashing password stored.setting stream ∷ []) × (left ≡ stream)
+IsChecked job password stored stream hashings left Match =
+    (crypt password stored.setting ≡ stored.text) × (is_outdated job stored.setting ≡ false)
+    × (hashings ≡ hashing password stored.setting stream ∷ []) × (left ≡ stream)
+IsChecked job password stored stream hashings left (Rehashed hash) =
+    (crypt password stored.setting ≡ stored.text) × (is_outdated job stored.setting ≡ true) × (hash ≡ new_hash job password stream)
+    × (hashings ≡ hashing password stored.setting stream ∷ new_hashing job password stream ∷ [])
+    × (left ≡ stream_after job.maker stream)
+IsChecked job password stored stream hashings left outcome = ⊥
+
+-- an outcome that is there, or that would have been if memory had not been refused
+abbrev pub IsResult : (Outcome → Type 0) → Result Outcome HashFault → Outcome → Type 0
+IsResult Is (Ok made) outcome = Is outcome × (made ≡ outcome)
+IsResult Is (Err fault) outcome = Is outcome
+
+abbrev pub Checks : Job → List ℕ → StoredHash → Stream → Work → Work → Stream → Result Outcome HashFault → Type 0
+Checks job password stored stream before after new_stream result =
+    (outcome : Outcome) × (hashings : List Hashing) × (left : Stream)
+    × IsResult (IsChecked job password stored stream hashings left) result outcome
+    × Makes hashings left before after new_stream result
+
+-- what a password comes to, by its field
+abbrev pub IsSettled : Job → List ℕ → Option StoredField → Stream → List Hashing → Stream → Outcome → Type 0
+IsSettled job password None stream hashings left outcome =
+    (outcome ≡ Hashed (new_hash job password stream)) × (hashings ≡ new_hashing job password stream ∷ [])
+    × (left ≡ stream_after job.maker stream)
+IsSettled job password (Some fields.Empty) stream hashings left outcome = (outcome ≡ NoHash) × (hashings ≡ []) × (left ≡ stream)
+IsSettled job password (Some fields.Locked) stream hashings left outcome = (outcome ≡ Locked) × (hashings ≡ []) × (left ≡ stream)
+IsSettled job password (Some (fields.Hash stored)) stream hashings left outcome =
+    IsChecked job password stored stream hashings left outcome
+
+abbrev pub Settles : Job → List ℕ → Option StoredField → Stream → Work → Work → Stream → Result Outcome HashFault → Type 0
+Settles job password field stream before after new_stream result =
+    (outcome : Outcome) × (hashings : List Hashing) × (left : Stream)
+    × IsResult (IsSettled job password field stream hashings left) result outcome
+    × Makes hashings left before after new_stream result
+
+-- a line's answer is the decision, without its hashes
+pub record IsDecisionOf (made : Decision) (answer : LineAnswer) : Type 0 where
+  pub name : made.name ≡ answer.name.now
+  pub outcome : made.outcome ≡ answer.outcome
+
+abbrev pub IsDecidedBy : Decision → Result LineAnswer HashFault → Type 0
+IsDecidedBy made (Ok answer) = IsDecisionOf made answer
+IsDecidedBy made (Err fault) = Unit {0}
+
+-- a line is decided
+abbrev pub Decides : Kind → Job → List ℕ → Stream → Work → Work → Stream → Result LineAnswer HashFault → Type 0
+Decides kind job line stream before after new_stream result =
+    (made : Decision) × IsDecision kind job line stream made × IsDecidedBy made result
+    × Makes made.hashings made.stream before after new_stream result
+
+-- what comes before the text of an outcome; a single password has no name
+abbrev pub front_by : Option (List ℕ) → List ℕ
+front_by None = []
+front_by (Some name) = front_of name

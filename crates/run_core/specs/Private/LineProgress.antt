@@ -1,0 +1,235 @@
+-- Where a run over lines is between two of its steps, and how a step can end.
+use Rattle.std.specs.Prelude.{◌≡◌, ◌≢◌, ℕ, ◌+◌, ◌*◌, ◌^◌, ◌<◌, ◌≤◌, Bool, true, false, List, [], ◌∷◌, ◌++◌, length, Option, Result, Ok, Err}
+use Rattle.std.specs.List.{AllByRecursion}
+use Rattle.rand_core.specs.Stream.{Stream}
+use Rattle.prims_core.specs.declared.meter.Work.{Work}
+use Rattle.run_core.specs.Answers.{Answer, IsRefusedAmong, after_work}
+use Rattle.run_core.specs.Devices.{Device, IsUnfailed, MovesBytes, calls_limit, turns_limit}
+use Rattle.run_core.specs.Input.{Reads}
+use Rattle.run_core.specs.LineAnswers.{IsAnswer}
+use Rattle.run_core.specs.LineRuns.{AreAnswers, EndsLines, IsReadOut, lines_of, piece_size, with_line_feeds}
+use Rattle.run_core.specs.Lines.{line_limit}
+use Rattle.run_core.specs.Output.{Takes}
+use Rattle.run_core.specs.Private.Deliveries.{IsSentInPart, Sends}
+use Rattle.run_core.specs.Private.Headroom.{HasCountsFor, HasRoomFor, IsTallied, lines_limit}
+use Rattle.run_core.specs.Runs.{RunState, DeviceBytes, calls_of, run_state}
+use Rattle.run_core.specs.Texts.{HasNoLineFeed, line_feed}
+use Rattle.run_core.specs.declared.fault.RunFault.{RunFault}
+use Rattle.run_core.specs.declared.fault.RunFault.TheVariants.{OutOfMemory}
+use Rattle.run_core.specs.declared.job.Job.{Job}
+use Rattle.run_core.specs.declared.line.Kind.{Kind}
+use Rattle.run_core.specs.declared.lines.buffer.LineBuffer.{LineBuffer}
+use Rattle.run_core.specs.declared.lines.buffer.LineBuffer.TheVariants.{Bytes, TooLong}
+use Rattle.run_core.specs.declared.lines.LineRun.{LineRun}
+use Rattle.run_core.specs.declared.tally.Tally.{Tally}
+
+-- ---- a run
+
+-- a buffer stands for the part of a line that was read: it has the same bytes, or both are too long
+abbrev pub Represents : LineBuffer → List ℕ → Type 0
+Represents (Bytes bytes) line = bytes.items ≡ line
+Represents TooLong line = line_limit < length line
+
+-- what the references of a run lead to: two outputs, a generator and a meter
+pub record OutputState (O E : Type 0) : Type 0 where
+  pub out : Device O
+  pub faults : Device E
+  pub stream : Stream
+  pub counts : Work
+
+-- how far a run is: the part of a line that it holds, what it counted of the lines that it answered, and the turns that
+-- are left
+pub record Position : Type 0 where
+  pub buffer : LineBuffer
+  pub tally : Tally
+  pub turns_left : ℕ
+
+module _ {O E R : Type 0} where
+  abbrev pub state_of : (R → Stream) → LineRun O E R → OutputState O E
+  state_of stream run =
+      record { out = run.out.now; faults = run.faults.now; stream = stream run.rng.now; counts = run.meter.now }
+
+  abbrev pub position_of : LineRun O E R → Position
+  position_of run = record { buffer = run.buffer; tally = run.tally; turns_left = run.turns_left }
+
+  -- a run does the same with each line, and has the same references
+  pub record IsSameRun (old new : LineRun O E R) : Type 0 where
+    pub kind : new.kind ≡ old.kind
+    pub job : new.job.now ≡ old.job.now
+    pub out : new.out.ghost_name ≡ old.out.ghost_name
+    pub faults : new.faults.ghost_name ≡ old.faults.ghost_name
+    pub rng : new.rng.ghost_name ≡ old.rng.ghost_name
+    pub meter : new.meter.ghost_name ≡ old.meter.ghost_name
+
+module _ {I O E : Type 0} where
+  -- with the input, and without it
+  abbrev pub with_input : Device I → OutputState O E → RunState I O E
+  with_input input outs = run_state input outs.out outs.faults outs.stream outs.counts
+
+  abbrev pub output_state_of : RunState I O E → OutputState O E
+  output_state_of now = record { out = now.out; faults = now.faults; stream = now.stream; counts = now.counts }
+
+module _ {O E : Type 0} where
+  -- ---- turns
+
+  -- each call of the outputs took one of the turns, and moved a byte or failed
+  pub record TakesTurns (left new_left : ℕ) (old new : OutputState O E) : Type 0 where
+    pub turns : new.out.calls + new.faults.calls + new_left ≡ old.out.calls + old.faults.calls + left
+    pub fewer : new_left ≤ left
+    pub out_moves : MovesBytes 0 old.out new.out
+    pub faults_moves : MovesBytes 0 old.faults new.faults
+
+  -- ---- room
+
+  -- for the next line
+  pub record HasRoomIn (tally : Tally) (now : OutputState O E) : Type 0 where
+    pub tallied : IsTallied tally
+    pub out : HasRoomFor tally.lines now.out
+    pub faults : HasRoomFor tally.lines now.faults
+    pub counts : HasCountsFor tally.lines now.counts
+
+  -- for at most so many lines
+  pub record HasRoomToAnswer (most : ℕ) (position : Position) (now : OutputState O E) : Type 0 where
+    pub turns : position.turns_left ≤ turns_limit
+    pub calls : now.out.calls + now.faults.calls + position.turns_left ≤ calls_limit
+    pub lines : position.tally.lines + most ≤ lines_limit
+    pub outs : HasRoomIn position.tally now
+
+  -- ---- one answer
+
+  -- it is made and given; or memory was refused before any of it was
+  abbrev pub AnswersOne : (O → Option (List ℕ)) → (E → Option (List ℕ)) → ℕ → Answer → OutputState O E → OutputState O E → {A : Type 0} → Result A RunFault → Type 0
+  AnswersOne contents fault_contents left answer old new (Err OutOfMemory) =
+      (new.out ≡ old.out) × (new.faults ≡ old.faults) × IsRefusedAmong old.counts answer.hashings new.counts new.stream
+  AnswersOne contents fault_contents left answer old new result =
+      (new.stream ≡ answer.stream) × (new.counts ≡ after_work old.counts answer.hashings)
+      × Sends contents fault_contents left answer old.out old.faults new.out new.faults result
+
+  -- ---- all answers so far
+
+  -- they are given, and nothing failed
+  pub record AreGiven (contents : O → Option (List ℕ)) (fault_contents : E → Option (List ℕ)) (answers : Answer) (start now : OutputState O E) : Type 0 where
+    pub out_unfailed : IsUnfailed start.out now.out
+    pub faults_unfailed : IsUnfailed start.faults now.faults
+    pub text : Takes contents start.out now.out answers.text
+    pub fault_text : Takes fault_contents start.faults now.faults answers.fault_text
+    pub stream : now.stream ≡ answers.stream
+    pub counts : now.counts ≡ after_work start.counts answers.hashings
+
+  -- Of these bytes, the lines with a line feed are answered; what follows them is held.
+  pub record IsAt (contents : O → Option (List ℕ)) (fault_contents : E → Option (List ℕ)) (kind : Kind) (job : Job)
+      (start now : OutputState O E) (bytes : List ℕ) (position : Position) : Type 0 where
+    pub done : List (List ℕ)
+    pub rest : List ℕ
+    pub answers : Answer
+    pub split : bytes ≡ with_line_feeds done ++ rest
+    pub lines : AllByRecursion HasNoLineFeed done
+    pub no_feed : HasNoLineFeed rest
+    pub held : Represents position.buffer rest
+    pub are : AreAnswers kind job 1 done start.stream answers
+    pub tally : position.tally ≡ answers.tally
+    pub numbers : answers.tally.lines ≡ length done
+    pub given : AreGiven contents fault_contents answers start now
+
+  -- how the outputs, the stream and the counts are left by a fault: after these answers, in the next one
+  abbrev pub IsInterrupted : (O → Option (List ℕ)) → (E → Option (List ℕ)) → ℕ → Answer → Answer → OutputState O E → OutputState O E → RunFault → Type 0
+  IsInterrupted contents fault_contents left done next start new OutOfMemory =
+      IsRefusedAmong (after_work start.counts done.hashings) next.hashings new.counts new.stream
+      × IsUnfailed start.out new.out × IsUnfailed start.faults new.faults
+      × Takes contents start.out new.out done.text × Takes fault_contents start.faults new.faults done.fault_text
+  IsInterrupted contents fault_contents left done next start new fault =
+      (new.stream ≡ next.stream) × (new.counts ≡ after_work (after_work start.counts done.hashings) next.hashings)
+      × IsSentInPart contents fault_contents left done next start.out start.faults new.out new.faults fault
+
+  -- some of the lines in these bytes are answered, and the next one, which begins the rest, was being answered
+  pub record IsCutAt (contents : O → Option (List ℕ)) (fault_contents : E → Option (List ℕ)) (kind : Kind) (job : Job)
+      (start new : OutputState O E) (bytes line rest : List ℕ) (left : ℕ) (fault : RunFault) : Type 0 where
+    pub done : List (List ℕ)
+    pub answers : Answer
+    pub next : Answer
+    pub split : bytes ≡ with_line_feeds done ++ rest
+    pub lines : AllByRecursion HasNoLineFeed done
+    pub no_feed : HasNoLineFeed line
+    pub are : AreAnswers kind job 1 done start.stream answers
+    pub is_next : IsAnswer kind job (length done + 1) line answers.stream next
+    pub cut : IsInterrupted contents fault_contents left answers next start new fault
+
+  -- a piece of the input was looked through
+  abbrev pub LooksThrough : (O → Option (List ℕ)) → (E → Option (List ℕ)) → Kind → Job → OutputState O E → OutputState O E → List ℕ → Position → {A : Type 0} → Result A RunFault → Type 0
+  LooksThrough contents fault_contents kind job start new bytes position (Ok done) =
+      IsAt contents fault_contents kind job start new bytes position
+  LooksThrough contents fault_contents kind job start new bytes position (Err fault) =
+      (line behind : List ℕ) × (length behind < piece_size)
+      × IsCutAt contents fault_contents kind job start new bytes line (line ++ line_feed ∷ behind) position.turns_left fault
+
+  -- ---- the last line
+
+  -- all lines in these bytes are answered
+  pub record IsAllAnswered (contents : O → Option (List ℕ)) (fault_contents : E → Option (List ℕ)) (kind : Kind) (job : Job)
+      (start now : OutputState O E) (bytes : List ℕ) (tally : Tally) : Type 0 where
+    pub answers : Answer
+    pub are : AreAnswers kind job 1 (lines_of bytes) start.stream answers
+    pub tally_is : tally ≡ answers.tally
+    pub given : AreGiven contents fault_contents answers start now
+
+  -- the last line is answered, where that has no line feed
+  abbrev pub AnswersLast : (O → Option (List ℕ)) → (E → Option (List ℕ)) → Kind → Job → OutputState O E → OutputState O E → List ℕ → Position → {A : Type 0} → Result A RunFault → Type 0
+  AnswersLast contents fault_contents kind job start new bytes position (Ok done) =
+      IsAllAnswered contents fault_contents kind job start new bytes position.tally
+  AnswersLast contents fault_contents kind job start new bytes position (Err fault) =
+      (line : List ℕ) × (line ≢ []) × IsCutAt contents fault_contents kind job start new bytes line line position.turns_left fault
+
+-- ---- between two fetches
+
+-- one fetch more than there were pieces finds the end of the input
+abbrev pub spare_fetch : Result Bool RunFault → ℕ
+spare_fetch (Ok true) = 0
+spare_fetch (Ok false) = 1
+spare_fetch (Err fault) = 0
+
+module _ {I O E : Type 0} where
+  -- room for as many fetches as turns are left, and for the answers to all lines that they can give
+  pub record HasRoomToRead (position : Position) (now : RunState I O E) : Type 0 where
+    pub failures : now.input.failures ≤ 2 ^ 62
+    pub bytes : now.input.bytes + piece_size * position.turns_left ≤ 2 ^ 62 + 2 ^ 49
+    pub calls : calls_of now + position.turns_left ≤ 2 ^ 62 + calls_limit
+    pub lines : position.tally.lines + piece_size * position.turns_left ≤ 2 ^ 49
+    pub outs : HasRoomToAnswer 1 position (output_state_of now)
+
+  -- each call took one of the turns, and moved a byte or failed, but for so many of the input
+  pub record TakesTurnsOf (spare left new_left : ℕ) (old new : RunState I O E) : Type 0 where
+    pub turns : calls_of new + new_left ≡ calls_of old + left
+    pub input_moves : MovesBytes spare old.input new.input
+    pub out_moves : MovesBytes 0 old.out new.out
+    pub faults_moves : MovesBytes 0 old.faults new.faults
+
+  -- These bytes were read. Of them the lines with a line feed are answered, and nothing failed; what follows
+  -- them is held.
+  pub record IsAtInput (device_bytes : DeviceBytes I O E) (turns : ℕ) (kind : Kind) (job : Job) (start now : RunState I O E)
+      (bytes : List ℕ) (position : Position) : Type 0 where
+    pub reads : Reads device_bytes.remaining start.input now.input bytes
+    pub unfailed : IsUnfailed start.input now.input
+    pub calls : calls_of now + position.turns_left ≡ calls_of start + turns
+    pub answered : IsAt device_bytes.contents device_bytes.fault_contents kind job (output_state_of start) (output_state_of now) bytes position
+
+  -- ---- steps
+
+  -- one fetch, and the answers to the lines that end in what it gave; or the run is over
+  abbrev pub GoesOn : DeviceBytes I O E → ℕ → Kind → Job → RunState I O E → RunState I O E → Position → Result Bool RunFault → Type 0
+  GoesOn device_bytes turns kind job start new position (Ok true) =
+      (bytes : List ℕ) × IsAtInput device_bytes turns kind job start new bytes position
+  GoesOn device_bytes turns kind job start new position (Ok false) =
+      (bytes : List ℕ) × IsAtInput device_bytes turns kind job start new bytes position × IsReadOut device_bytes new
+  GoesOn device_bytes turns kind job start new position (Err fault) = EndsLines device_bytes turns kind job start new (Err fault)
+
+  -- a step of a run that has come so far, wherever it began
+  abbrev pub ReadsPiece : DeviceBytes I O E → Kind → Job → RunState I O E → Position → RunState I O E → Position → Result Bool RunFault → Type 0
+  ReadsPiece device_bytes kind job old position new new_position result =
+      (start : RunState I O E) → (turns : ℕ) → (bytes : List ℕ) → IsAtInput device_bytes turns kind job start old bytes position
+      → MovesBytes 0 start.input old.input → GoesOn device_bytes turns kind job start new new_position result
+
+  -- the fetches to the end of the input
+  abbrev pub GoesToEnd : DeviceBytes I O E → ℕ → Kind → Job → RunState I O E → RunState I O E → Position → {A : Type 0} → Result A RunFault → Type 0
+  GoesToEnd device_bytes turns kind job start new position (Ok done) =
+      (bytes : List ℕ) × IsAtInput device_bytes turns kind job start new bytes position × IsReadOut device_bytes new
+  GoesToEnd device_bytes turns kind job start new position (Err fault) = EndsLines device_bytes turns kind job start new (Err fault)

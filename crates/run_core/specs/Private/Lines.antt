@@ -1,0 +1,51 @@
+-- What the steps that read a line know of it.
+use Rattle.std.specs.Prelude.{◌≡◌, ◌≢◌, ℕ, ◌≤◌, List, [], length, Contains, Option, Some, None, Ok}
+use Rattle.crypt_core.specs.FieldReadings.{IsFieldReading}
+use Rattle.crypt_core.specs.Readings.{IsReadOneWay}
+use Rattle.crypt_core.specs.declared.stored.StoredField.{StoredField}
+use Rattle.run_core.specs.LineAnswers.{HasSoundParts}
+use Rattle.run_core.specs.Lines.{IsCut, Parts, line_limit, name_limit}
+use Rattle.run_core.specs.Texts.{colon}
+use Rattle.run_core.specs.declared.line.Kind.{Kind}
+use Rattle.run_core.specs.declared.line.Kind.TheVariants.{Batch, Check}
+
+-- a name that a line may have
+pub record IsGoodName (name : List ℕ) : Type 0 where
+  pub some : name ≢ []
+  pub short : length name ≤ name_limit
+
+-- what stands before the first colon, and after it; or all of the line, which has none
+abbrev pub IsCutOrWhole : List ℕ → List ℕ → Option (List ℕ) → Type 0
+IsCutOrWhole line name (Some back) = IsCut line name back
+IsCutOrWhole line name None = (line ≡ name) × ¬ Contains name colon
+
+-- a line that isn't too long, with its name
+pub record IsNamed (line name : List ℕ) (back : Option (List ℕ)) : Type 0 where
+  pub short : length line ≤ line_limit
+  pub cut : IsCutOrWhole line name back
+  pub good : IsGoodName name
+
+-- what follows the colon of the name is the password; or the field, a colon and the password
+abbrev pub HasBehind : Kind → Option (List ℕ) → Option (List ℕ) → List ℕ → Type 0
+HasBehind Batch back field password = (back ≡ Some password) × (field ≡ None)
+HasBehind Check back field password =
+    (behind stored : List ℕ) × (back ≡ Some behind) × IsCut behind stored password × (field ≡ Some stored)
+
+-- there is no colon, or to check no second one
+abbrev pub LacksParts : Kind → Option (List ℕ) → Type 0
+LacksParts kind None = Unit {0}
+LacksParts Batch (Some back) = ⊥
+LacksParts Check (Some back) = ¬ Contains back colon
+
+-- what a field is read as, if there is one
+abbrev pub IsFieldOf : Option (List ℕ) → Option StoredField → Type 0
+IsFieldOf None None = Unit {0}
+IsFieldOf (Some field) (Some stored) = IsFieldReading field (Ok stored) × IsReadOneWay field
+IsFieldOf None (Some stored) = ⊥
+IsFieldOf (Some field) None = ⊥
+
+-- these are the name, the password and the field of a line that breaks no rule
+pub record IsLine (kind : Kind) (line name password : List ℕ) (stored : Option StoredField) : Type 0 where
+  pub field : Option (List ℕ)
+  pub taken : HasSoundParts kind line (record { name = name; field = field; password = password })
+  pub field_of : IsFieldOf field stored

@@ -1,0 +1,199 @@
+//! The program's devices. A wrapper passes each call on to the device, and keeps count of the calls, of the bytes that
+//! they moved, of the calls that moved none and didn't fail, of the flushes, and of the calls that failed, so that a
+//! contract can tell what was seen.
+ghost use Rattle.std.specs.Prelude.{◌≡◌, ◌+◌, ◌-◌, ◌^◌, ◌<◌, length, OnOk, OnErr};
+ghost use Rattle.std.specs.Result.{is_err};
+ghost use Rattle.std.specs.Io.{ReadsAtMost, WritesAtMost};
+ghost use Rattle.std.specs.Io.KnownBytes.{Keeps, ReadConsumes, WriteAppends};
+ghost use Rattle.run_core.specs.Devices.{FailsToFlush, IsFlushed, IsUnflushed, as_count, is_failed_give, is_idle_fetch, is_idle_give, moved_by, new_device};
+
+use std::io;
+use std::io::{Read, Write};
+use std::marker::Model;
+
+/// A reader, with the number of its failed calls, of its `fetch` calls, failed ones among them, of the
+/// bytes that these gave, and of the `fetch` calls that gave none and didn't fail. A new wrapper has seen
+/// nothing. It has no flushes.
+#[derive(Drop)]
+pub struct Input<I> {
+    inner: I,
+    failures: u64,
+    calls: u64,
+    bytes: u64,
+    idle: u64,
+}
+
+impl<I> Model for Input<I> {
+    ghost use Rattle.std.specs.Prelude.{◌≤◌};
+    ghost use Rattle.run_core.specs.Devices.{Device, device_code};
+
+    ghost Value = { Device I };
+
+    ghost coded = { device_code I.code };
+
+    ghost view = { λ i. record { inner = i.inner; failures = i.failures; calls = i.calls; bytes = i.bytes; idle = i.idle; flushes = 0; flushed = 0 } };
+
+    ghost invariant = { λ i. i.idle ≤ i.calls };
+}
+
+impl<I: Read> Input<I> {
+    /// Wraps a reader.
+    pub fn new(inner: I) -> Input<I>
+        ensures { result ≡ new_device inner }
+    {
+        Input {
+            inner,
+            failures: 0,
+            calls: 0,
+            bytes: 0,
+            idle: 0,
+        }
+    }
+
+    /// How many calls of the reader failed. Giving no byte is no failure.
+    pub fn failures(&self) -> u64
+        ensures { result ≡ self.now.failures }
+    {
+        self.failures
+    }
+
+    /// Gives the reader back.
+    pub fn into_inner(self) -> I
+        ensures { result ≡ self.inner }
+    {
+        self.inner
+    }
+
+    /// Passes one `read` into the buffer on, and answers what it answered: how many bytes were given,
+    /// which stand first in the buffer. None are given at the end, or into an empty buffer. The wrapper's numbers
+    /// have room, within 64 bits, for one more call and as many bytes as the buffer has.
+    pub fn fetch(&mut self, buffer: &mut [u8]) -> io::Result<usize>
+        requires failures_room { self.old.failures < 2 ^ 64 - 1 }
+        requires calls_room { self.old.calls < 2 ^ 64 - 1 }
+        requires bytes_room { self.old.bytes + length buffer.old < 2 ^ 64 }
+        ensures within { ReadsAtMost result buffer.new }
+        ensures gives { ReadConsumes (I.remaining self.old.inner) (I.remaining self.new.inner) result buffer.new }
+        ensures failures { self.new.failures ≡ self.old.failures + as_count (is_err result) }
+        ensures calls { self.new.calls ≡ self.old.calls + 1 }
+        ensures bytes { self.new.bytes ≡ self.old.bytes + moved_by result }
+        ensures idle { self.new.idle ≡ self.old.idle + as_count (is_idle_fetch result) }
+    {
+        self.calls += 1;
+        let answer = self.inner.read(buffer);
+        match &answer {
+            Ok(0) => self.idle += 1,
+            Ok(count) => self.bytes += *count as u64,
+            Err(_) => self.failures += 1,
+        }
+        answer
+    }
+}
+
+/// A writer, with the number of its failed calls, of its `give` calls, failed ones among them, of the
+/// bytes that these took, of the `give` calls of an empty piece that didn't fail, and of its flushes, failed
+/// ones among them, and how many bytes it had taken at the last flush that worked. A new wrapper has seen
+/// nothing.
+#[derive(Drop)]
+pub struct Output<O> {
+    inner: O,
+    failures: u64,
+    calls: u64,
+    bytes: u64,
+    idle: u64,
+    flushes: u64,
+    flushed: u64,
+}
+
+impl<O> Model for Output<O> {
+    ghost use Rattle.std.specs.Prelude.{◌≤◌};
+    ghost use Rattle.run_core.specs.Devices.{Device, device_code};
+
+    ghost Value = { Device O };
+
+    ghost coded = { device_code O.code };
+
+    ghost view = { λ o. record { inner = o.inner; failures = o.failures; calls = o.calls; bytes = o.bytes; idle = o.idle; flushes = o.flushes; flushed = o.flushed } };
+
+    ghost invariant = { λ o. o.idle ≤ o.calls };
+}
+
+impl<O: Write> Output<O> {
+    /// Wraps a writer.
+    pub fn new(inner: O) -> Output<O>
+        ensures { result ≡ new_device inner }
+    {
+        Output {
+            inner,
+            failures: 0,
+            calls: 0,
+            bytes: 0,
+            idle: 0,
+            flushes: 0,
+            flushed: 0,
+        }
+    }
+
+    /// How many calls of the writer failed, or took no byte of a piece that had some.
+    pub fn failures(&self) -> u64
+        ensures { result ≡ self.now.failures }
+    {
+        self.failures
+    }
+
+    /// Gives the writer back.
+    pub fn into_inner(self) -> O
+        ensures { result ≡ self.inner }
+    {
+        self.inner
+    }
+
+    /// Passes one `write` of the piece on, and answers what it answered: how many of the piece's
+    /// first bytes were taken. The wrapper's numbers have room, within 64 bits, for one more call and as many bytes
+    /// as the piece has.
+    pub fn give(&mut self, piece: &[u8]) -> io::Result<usize>
+        requires failures_room { self.old.failures < 2 ^ 64 - 1 }
+        requires calls_room { self.old.calls < 2 ^ 64 - 1 }
+        requires bytes_room { self.old.bytes + length piece.now < 2 ^ 64 }
+        ensures within { WritesAtMost result piece.now }
+        ensures takes { WriteAppends (O.contents self.old.inner) (O.contents self.new.inner) result piece.now }
+        ensures failures { self.new.failures ≡ self.old.failures + as_count (is_failed_give result piece.now) }
+        ensures calls { self.new.calls ≡ self.old.calls + 1 }
+        ensures bytes { self.new.bytes ≡ self.old.bytes + moved_by result }
+        ensures idle { self.new.idle ≡ self.old.idle + as_count (is_idle_give result piece.now) }
+        ensures unflushed { IsUnflushed self.old self.new }
+    {
+        self.calls += 1;
+        let answer = self.inner.write(piece);
+        match &answer {
+            Ok(0) if piece.is_empty() => self.idle += 1,
+            Ok(0) | Err(_) => self.failures += 1,
+            Ok(count) => self.bytes += *count as u64,
+        }
+        answer
+    }
+
+    /// Passes one `flush` on, and answers what it answered. It takes no byte. The wrapper's numbers have room, within
+    /// 64 bits, for one more flush.
+    pub fn flush(&mut self) -> io::Result<()>
+        requires failures_room { self.old.failures < 2 ^ 64 - 1 }
+        requires flushes_room { self.old.flushes < 2 ^ 64 - 1 }
+        ensures keeps { Keeps (O.contents self.old.inner) (O.contents self.new.inner) }
+        ensures failures { self.new.failures ≡ self.old.failures + as_count (is_err result) }
+        ensures calls { self.new.calls ≡ self.old.calls }
+        ensures bytes { self.new.bytes ≡ self.old.bytes }
+        ensures idle { self.new.idle ≡ self.old.idle }
+        ensures flushed { OnOk result (IsFlushed self.old self.new) }
+        ensures flush_failed { OnErr result (FailsToFlush self.old self.new) }
+    {
+        self.flushes += 1;
+        let answer = self.inner.flush();
+        match &answer {
+            Ok(()) => self.flushed = self.bytes,
+            Err(_) => self.failures += 1,
+        }
+        answer
+    }
+}
+
+#[cfg(test)]
+mod tests;

@@ -1,0 +1,180 @@
+//! A line of an input: `name:password` to hash, or `name:field:password` to check, and the first thing that is
+//! wrong with it.
+ghost use Rattle.std.specs.Prelude.{◌≡◌, ◌<◌, ◌≤◌, length, Err, Some, IfSome, IfNone, MatchOption, IfOk, IfErr, Contains};
+ghost use Rattle.run_core.specs.Lines.{IsCut, IsLineRefused, IsSound, name_limit, rule_number};
+ghost use Rattle.run_core.specs.Texts.{colon};
+ghost use Rattle.run_core.specs.Makers.{bytes_of};
+ghost use Rattle.run_core.specs.Private.Lines.{HasBehind, IsLine, IsNamed, LacksParts};
+ghost use Rattle.run_core.specs.declared.line.Kind.{Kind as LineKind};
+ghost use Rattle.run_core.specs.declared.line.LineFault.{LineFault as Refusal};
+
+use crypt_core::password::{Password, PasswordFault};
+use crypt_core::setting::SettingFault;
+use crypt_core::stored::StoredField;
+use thiserror::Error;
+
+/// The most bytes of a line, without its line feed.
+pub const LINE_LIMIT: usize = 2048;
+
+/// The most bytes of a name.
+pub const NAME_LIMIT: usize = 64;
+
+/// What a run does with its lines.
+#[derive(Clone, Copy, Debug, PartialEq, Eq)]
+pub enum Kind {
+    /// It hashes the password of each: `name:password`.
+    Batch,
+    /// It checks the password of each against its field: `name:field:password`.
+    Check,
+}
+
+/// What is wrong with a line: the first of these that holds.
+#[derive(Clone, Copy, Debug, PartialEq, Eq, Error)]
+pub enum LineFault {
+    /// More than [`LINE_LIMIT`] bytes.
+    #[error("{}", self.text())]
+    LineTooLong,
+    /// Nothing stands before the first colon, or in the whole line.
+    #[error("{}", self.text())]
+    NoName,
+    /// More than [`NAME_LIMIT`] bytes stand before the first colon, or in the whole line without one.
+    #[error("{}", self.text())]
+    NameTooLong,
+    /// No colon, or to check fewer than two.
+    #[error("{}", self.text())]
+    NoPassword,
+    /// What follows the first colon, or to check the second, is no password.
+    #[error("{}", self.text())]
+    Password(PasswordFault),
+    /// The field to check isn't empty and not locked by a `!` or `*` at its front, and spells no setting.
+    #[error("{}", self.text())]
+    Setting(SettingFault),
+    /// The line can cost more than the budget. It is no fault of the line alone.
+    #[error("{}", self.text())]
+    OverBudget,
+}
+
+impl LineFault {
+    ghost use Rattle.run_core.specs.LineFaults.{line_fault_text};
+
+    /// What is wrong, in words for the user.
+    pub fn text(&self) -> &'static str
+        ensures { result.now ≡ line_fault_text self.now }
+    {
+        match self {
+            LineFault::LineTooLong => "line too long",
+            LineFault::NoName => "no name",
+            LineFault::NameTooLong => "name too long",
+            LineFault::NoPassword => "no password field",
+            LineFault::Password(fault) => fault.text(),
+            LineFault::Setting(fault) => fault.text(),
+            LineFault::OverBudget => "over budget",
+        }
+    }
+}
+
+/// Returns the first thing that is wrong with a line, given without its line feed, or `None` where it gets an answer.
+///
+/// A field that is empty or locked is right whatever else it has, and the password is looked at before the
+/// field. It takes no memory, and nothing is hashed. A budget is not looked at: it never returns `OverBudget`.
+pub fn inspect(kind: Kind, line: &[u8]) -> Option<LineFault>
+    ensures sound { IfNone result (IsSound kind line.now) }
+    ensures refused { IfSome result (IsLineRefused kind line.now) }
+    ensures each_refusal { (fault : Refusal) → IsLineRefused kind line.now fault → result ≡ Some fault }
+{
+    match read_line(kind, line) {
+        Ok(_) => None,
+        Err(fault) => Some(fault),
+    }
+}
+
+/// A line that breaks no rule, by its parts.
+#[derive(Drop)]
+pub(crate) struct Line<'a> {
+    pub(crate) name: &'a [u8],
+    pub(crate) password: Password,
+    /// What the password is checked against; only a line to check has it.
+    pub(crate) field: Option<StoredField<'a>>,
+}
+
+/// Reads a line, given without its line feed, or returns the first thing that is wrong with it.
+pub(crate) fn read_line(kind: Kind, bytes: &[u8]) -> Result<Line<'_>, LineFault>
+    ensures read { IfOk result (λ line. IsLine kind bytes.now line.name.now line.password line.field) }
+    ensures short { IfOk result (λ line. length line.name.now ≤ name_limit) }
+    ensures refused { IfErr result (IsLineRefused kind bytes.now) }
+    ensures each_refusal { (fault : Refusal) → IsLineRefused kind bytes.now fault → result ≡ Err fault }
+{
+    let (name, back) = match name_of(bytes) {
+        Ok(parts) => parts,
+        Err(fault) => return Err(fault),
+    };
+    let Some((field, password)) = fields_after_name(kind, back) else {
+        return Err(LineFault::NoPassword);
+    };
+    let password = match Password::new(password) {
+        Ok(password) => password,
+        Err(fault) => return Err(LineFault::Password(fault)),
+    };
+    let Some(field) = field else {
+        return Ok(Line {
+            name,
+            password,
+            field: None,
+        });
+    };
+    match StoredField::read(field) {
+        Ok(field) => Ok(Line {
+            name,
+            password,
+            field: Some(field),
+        }),
+        Err(fault) => Err(LineFault::Setting(fault)),
+    }
+}
+
+// The name, and what follows its colon, where there is one.
+fn name_of(line: &[u8]) -> Result<(&[u8], Option<&[u8]>), LineFault>
+    ensures named { IfOk result (λ x. IsNamed line.now x.0.now (bytes_of x.1)) }
+    ensures refused { IfErr result (λ fault. (kind : LineKind) → IsLineRefused kind line.now fault) }
+    ensures before_field { IfErr result (λ fault. rule_number fault < 6) }
+{
+    if line.len() > LINE_LIMIT {
+        return Err(LineFault::LineTooLong);
+    }
+    let (name, back) = match cut(line) {
+        Some((name, back)) => (name, Some(back)),
+        None => (line, None),
+    };
+    if name.is_empty() {
+        return Err(LineFault::NoName);
+    }
+    if name.len() > NAME_LIMIT {
+        return Err(LineFault::NameTooLong);
+    }
+    Ok((name, back))
+}
+
+// The field, which only a line to check has, and the password, in what follows the name's colon.
+fn fields_after_name(kind: Kind, back: Option<&[u8]>) -> Option<(Option<&[u8]>, &[u8])>
+    ensures { MatchOption result (LacksParts kind (bytes_of back.entry))
+        (λ x. HasBehind kind (bytes_of back.entry) (bytes_of x.0) x.1.now) }
+{
+    match kind {
+        Kind::Batch => Some((None, back?)),
+        Kind::Check => {
+            let (field, password) = cut(back?)?;
+            Some((Some(field), password))
+        }
+    }
+}
+
+// The text, cut at its first colon.
+fn cut(text: &[u8]) -> Option<(&[u8], &[u8])>
+    ensures { MatchOption result (¬ Contains text.now colon) (λ parts. IsCut text.now parts.0.now parts.1.now) }
+{
+    let end = text.iter().position(|byte| *byte == b':')?;
+    Some((&text[..end], &text[end + 1..]))
+}
+
+#[cfg(test)]
+pub(crate) mod tests;

@@ -1,0 +1,389 @@
+//! The runs over the lines of an input. Each line is answered once its end was read, before more is read, so
+//! that a run holds one line and one piece of its input, whatever that is.
+ghost use Rattle.std.specs.Prelude.{◌≡◌, ℕ, ◌+◌, ◌<◌, ◌≤◌, ◌++◌, [], List, length, OnOk};
+ghost use Rattle.run_core.specs.Answers.{Answer, work_of};
+ghost use Rattle.run_core.specs.Devices.{HasRoomWithinRun, HaveRoomBeforeRun, IsUnfailed, IsUnflushed, MovesBytes, turns_limit};
+ghost use Rattle.run_core.specs.LineAnswers.{Decision, IsAnswer, decided_answer};
+ghost use Rattle.run_core.specs.LineOptions.{OnlyRefuses, OnlyRenews, RenewsNone};
+ghost use Rattle.run_core.specs.LineRuns.{EndsLines, piece_size};
+ghost use Rattle.run_core.specs.Lines.{name_limit};
+ghost use Rattle.run_core.specs.Outcomes.{tally_of};
+ghost use Rattle.run_core.specs.Private.Answers.{IsDecisionOf};
+ghost use Rattle.run_core.specs.Private.Deliveries.{Sends};
+ghost use Rattle.run_core.specs.Private.Headroom.{answer_limit, lines_limit};
+ghost use Rattle.run_core.specs.Private.LineProgress.{AnswersLast, AnswersOne, GoesToEnd, HasRoomIn, HasRoomToAnswer, HasRoomToRead, IsAt, IsSameRun, LooksThrough, OutputState, ReadsPiece, Represents, TakesTurns, TakesTurnsOf, position_of, spare_fetch, state_of, with_input};
+ghost use Rattle.run_core.specs.Runs.{HasCountsForRun, IsWithinTurns, run_state, device_bytes};
+ghost use Rattle.run_core.specs.Tallies.{both_tallies, no_line};
+ghost use Rattle.run_core.specs.declared.line.Kind.TheVariants.{Batch, Check};
+
+mod buffer;
+
+use crate::answer::{LineAnswer, Outcome, render, render_refusal};
+use crate::device::{Input, Output};
+use crate::fault::RunFault;
+use crate::job::Job;
+use crate::line::Kind;
+use crate::tally::Tally;
+use crate::transfer::{fetch_piece, finish_both, line_feed_at, send};
+use buffer::LineBuffer;
+use prims_core::meter::{Meter, Work};
+use rand_core::Rng;
+use std::alloc::Global;
+use std::io::{Read, Write};
+
+// How many bytes are fetched at once.
+const PIECE_SIZE: usize = 512;
+
+/// Hashes the password of each line `name:password` of the input by the job's setting, and gives
+/// `name:HASH` to the output, or what is wrong with the line to the fault output.
+///
+/// The input is cut at its line feeds; what follows the last of them is a line only where it has a byte. Lines
+/// are numbered from 1. The password is all that follows the first colon. Three words are drawn for a salt, where
+/// that has to be made, for each line that is hashed and for no other. With the job's `work` each answer has the
+/// counts `:digests:bytes:mixes:table` of its own hash.
+///
+/// A line that is refused gets `mkpasswd: line NUMBER: TEXT`, with the text of its [`LineFault`], and the run
+/// goes on. Both outputs are flushed at the end, and the tally counts the lines and those that were refused.
+///
+/// With the job's `budget` a line is refused whose hash would cost more, by [`cost`](crypt_core::work::cost), once
+/// nothing else is wrong with it: nothing is hashed for it, no memory is asked for and no word is drawn. All other
+/// lines are answered as without a budget.
+///
+/// Conditions: `turns` is at most 2^40, each count of the meter at most 2^100, and the numbers of the devices at
+/// most 2^62. A run that can't go on answers a fault:
+///
+/// - `Read`: a read failed. The lines whose line feeds were read are answered whole, and nothing else is written.
+/// - `OutOfMemory`: the memory of scrypt for a line was refused. The lines before it are answered whole, and of
+///   it nothing is written.
+/// - `Write`: a write failed. The lines before the one that was being answered are answered whole, and of its answer
+///   a first part is given. Or a flush failed, after all lines were answered.
+/// - `Turns`: one more fetch or give than `turns` is needed. The lines before the one that was being answered, or
+///   read, are answered whole, and of its answer a first part is given.
+///
+/// [`LineFault`]: crate::line::LineFault
+#[tactic(auto, using(crate::proofs::Budgeting::only_refuses))]
+pub fn run_batch<I: Read, O: Write, E: Write, R: Rng>(
+    alloc: Global,
+    job: &Job,
+    input: &mut Input<I>,
+    out: &mut Output<O>,
+    faults: &mut Output<E>,
+    rng: &mut R,
+    meter: &mut Meter,
+    turns: u64,
+) -> Result<Tally, RunFault>
+    requires turns { turns ≤ turns_limit }
+    requires devices { HaveRoomBeforeRun input.old out.old faults.old }
+    requires counts { HasCountsForRun meter.old }
+    ensures ends { EndsLines (device_bytes I.remaining O.contents E.contents) turns Batch job.now
+        (run_state input.old out.old faults.old (R.stream rng.old) meter.old)
+        (run_state input.new out.new faults.new (R.stream rng.new) meter.new) result }
+    ensures within_turns { IsWithinTurns turns
+        (run_state input.old out.old faults.old (R.stream rng.old) meter.old)
+        (run_state input.new out.new faults.new (R.stream rng.new) meter.new) }
+    ensures fault_room { HasRoomWithinRun faults.new }
+    ensures budget { OnlyRefuses Batch job.now }
+    ensures rehash { RenewsNone Batch job.now }
+{
+    let mut run = LineRun::new(alloc, Kind::Batch, job, out, faults, rng, meter, turns);
+    run.answer_all(input)
+}
+
+/// Checks the password of each line `name:field:password` of the input against its field, and gives `name:ok`,
+/// `name:no`, `name:none` for an empty field or `name:locked` for one that begins with `!` or `*` to the output,
+/// or what is wrong with the line to the fault output.
+///
+/// The password is all that follows the second colon. For `none` and `locked` the counts are four zeros, and they are
+/// never over budget. The tally counts the answers `no` too.
+///
+/// With the job's `rehash` a line whose password fits gets `name:ok:NEWHASH` where its setting is replaced by the job's
+/// ([`Setting::replaced_by`]): the hash of the password by that, for which words are drawn after the verdict where its
+/// salt has to be made. Its counts are those of both hashes. A line whose setting is replaced costs what both hashes
+/// cost, also where the password doesn't fit. No other line has to do with the maker, and none but a renewed one draws a
+/// word. Otherwise as [`run_batch`], where `rehash` has no effect.
+///
+/// [`Setting::replaced_by`]: crypt_core::setting::Setting::replaced_by
+#[tactic(auto, using(crate::proofs::Budgeting::only_refuses))]
+pub fn run_check<I: Read, O: Write, E: Write, R: Rng>(
+    alloc: Global,
+    job: &Job,
+    input: &mut Input<I>,
+    out: &mut Output<O>,
+    faults: &mut Output<E>,
+    rng: &mut R,
+    meter: &mut Meter,
+    turns: u64,
+) -> Result<Tally, RunFault>
+    requires turns { turns ≤ turns_limit }
+    requires devices { HaveRoomBeforeRun input.old out.old faults.old }
+    requires counts { HasCountsForRun meter.old }
+    ensures ends { EndsLines (device_bytes I.remaining O.contents E.contents) turns Check job.now
+        (run_state input.old out.old faults.old (R.stream rng.old) meter.old)
+        (run_state input.new out.new faults.new (R.stream rng.new) meter.new) result }
+    ensures within_turns { IsWithinTurns turns
+        (run_state input.old out.old faults.old (R.stream rng.old) meter.old)
+        (run_state input.new out.new faults.new (R.stream rng.new) meter.new) }
+    ensures fault_room { HasRoomWithinRun faults.new }
+    ensures budget { OnlyRefuses Check job.now }
+    ensures rehash { OnlyRenews Check job.now }
+{
+    let mut run = LineRun::new(alloc, Kind::Check, job, out, faults, rng, meter, turns);
+    run.answer_all(input)
+}
+
+/// A run over lines: what it does with each line, what it works on beside its input, and how far it is.
+#[derive(Drop)]
+struct LineRun<'j, 'o, 'e, 'r, 'm, O, E, R> {
+    /// Gives the memory of scrypt.
+    alloc: Global,
+    kind: Kind,
+    job: &'j Job,
+    /// Takes the answers.
+    out: &'o mut Output<O>,
+    /// Takes the refusals of lines.
+    faults: &'e mut Output<E>,
+    /// Gives the random words for salts.
+    rng: &'r mut R,
+    /// Counts the work of each hash.
+    meter: &'m mut Meter,
+    /// The part of the current line that was read.
+    buffer: LineBuffer,
+    /// Counts the lines that were answered.
+    tally: Tally,
+    /// How many more calls of the devices the run may make.
+    turns_left: u64,
+}
+
+impl<'j, 'o, 'e, 'r, 'm, O, E, R> LineRun<'j, 'o, 'e, 'r, 'm, O, E, R> {
+    /// A run that has read and answered nothing.
+    fn new(
+        alloc: Global,
+        kind: Kind,
+        job: &'j Job,
+        out: &'o mut Output<O>,
+        faults: &'e mut Output<E>,
+        rng: &'r mut R,
+        meter: &'m mut Meter,
+        turns: u64,
+    ) -> LineRun<'j, 'o, 'e, 'r, 'm, O, E, R>
+        ensures kind { result.kind ≡ kind }
+        ensures job { result.job.now ≡ job.now }
+        ensures out { (result.out.ghost_name ≡ out.entry.ghost_name) × (result.out.now ≡ out.old) }
+        ensures faults { (result.faults.ghost_name ≡ faults.entry.ghost_name) × (result.faults.now ≡ faults.old) }
+        ensures rng { (result.rng.ghost_name ≡ rng.entry.ghost_name) × (result.rng.now ≡ rng.old) }
+        ensures meter { (result.meter.ghost_name ≡ meter.entry.ghost_name) × (result.meter.now ≡ meter.old) }
+        ensures none_held { Represents result.buffer [] }
+        ensures no_line { result.tally ≡ no_line }
+        ensures turns { result.turns_left ≡ turns }
+    {
+        LineRun {
+            alloc,
+            kind,
+            job,
+            out,
+            faults,
+            rng,
+            meter,
+            buffer: LineBuffer::new(),
+            tally: Tally::new(),
+            turns_left: turns,
+        }
+    }
+}
+
+impl<O: Write, E: Write, R: Rng> LineRun<'_, '_, '_, '_, '_, O, E, R> {
+    /// Answers all lines of the input, and flushes both outputs.
+    fn answer_all<I: Read>(&mut self, input: &mut Input<I>) -> Result<Tally, RunFault>
+        requires none_held { Represents self.old.buffer [] }
+        requires no_line { self.old.tally ≡ no_line }
+        requires turns { self.old.turns_left ≤ turns_limit }
+        requires devices { HaveRoomBeforeRun input.old self.old.out.now self.old.faults.now }
+        requires counts { HasCountsForRun self.old.meter.now }
+        ensures ends { EndsLines (device_bytes I.remaining O.contents E.contents) self.old.turns_left self.old.kind self.old.job.now
+            (with_input input.old (state_of R.stream self.old)) (with_input input.new (state_of R.stream self.new)) result }
+        ensures within_turns { IsWithinTurns self.old.turns_left
+            (with_input input.old (state_of R.stream self.old)) (with_input input.new (state_of R.stream self.new)) }
+        ensures fault_room { HasRoomWithinRun self.new.faults.now }
+        ensures same { IsSameRun self.old self.new }
+    {
+        self.read_all(input)?;
+        self.end()?;
+        finish_both(self.out, self.faults)?;
+        Ok(self.tally)
+    }
+
+    // Reads the whole input, and answers each line that has a line feed.
+    fn read_all<I: Read>(&mut self, input: &mut Input<I>) -> Result<(), RunFault>
+        requires none_held { Represents self.old.buffer [] }
+        requires no_line { self.old.tally ≡ no_line }
+        requires room { HasRoomToRead (position_of self.old) (with_input input.old (state_of R.stream self.old)) }
+        ensures goes { GoesToEnd (device_bytes I.remaining O.contents E.contents) self.old.turns_left self.old.kind self.old.job.now
+            (with_input input.old (state_of R.stream self.old)) (with_input input.new (state_of R.stream self.new)) (position_of self.new) result }
+        ensures room { OnOk result (HasRoomToRead (position_of self.new) (with_input input.new (state_of R.stream self.new))) }
+        ensures turns { TakesTurnsOf 1 self.old.turns_left self.new.turns_left
+            (with_input input.old (state_of R.stream self.old)) (with_input input.new (state_of R.stream self.new)) }
+        ensures fault_room { HasRoomWithinRun self.new.faults.now }
+        ensures same { IsSameRun self.old self.new }
+    {
+        let mut has_more = true;
+        'fetches: while has_more {
+            has_more = self.read_piece(input)?;
+        }
+        Ok(())
+    }
+
+    // Makes one fetch, and answers each line that ends in what it gives. Returns whether it gave any.
+    fn read_piece<I: Read>(&mut self, input: &mut Input<I>) -> Result<bool, RunFault>
+        requires room { HasRoomToRead (position_of self.old) (with_input input.old (state_of R.stream self.old)) }
+        ensures reads { ReadsPiece (device_bytes I.remaining O.contents E.contents) self.old.kind self.old.job.now
+            (with_input input.old (state_of R.stream self.old)) (position_of self.old)
+            (with_input input.new (state_of R.stream self.new)) (position_of self.new) result }
+        ensures room { OnOk result (HasRoomToRead (position_of self.new) (with_input input.new (state_of R.stream self.new))) }
+        ensures fewer { OnOk result (self.new.turns_left < self.old.turns_left) }
+        ensures turns { TakesTurnsOf (spare_fetch result) self.old.turns_left self.new.turns_left
+            (with_input input.old (state_of R.stream self.old)) (with_input input.new (state_of R.stream self.new)) }
+        ensures fault_room { HasRoomWithinRun self.new.faults.now }
+        ensures same { IsSameRun self.old self.new }
+    {
+        let mut piece = [0; PIECE_SIZE];
+        let count = fetch_piece(input, &mut piece, &mut self.turns_left)?;
+        if count == 0 {
+            return Ok(false);
+        }
+        self.answer_lines_in(&piece[..count])?;
+        Ok(true)
+    }
+
+    // Answers each line that ends in the piece, in order, and holds what follows the last of them.
+    fn answer_lines_in(&mut self, piece: &[u8]) -> Result<(), RunFault>
+        requires size { length piece.now ≤ piece_size }
+        requires room { HasRoomToAnswer (length piece.now) (position_of self.old) (state_of R.stream self.old) }
+        ensures looked { (start : OutputState O E) → (bytes : List ℕ)
+            → IsAt O.contents E.contents self.old.kind self.old.job.now start (state_of R.stream self.old) bytes (position_of self.old)
+            → LooksThrough O.contents E.contents self.old.kind self.old.job.now start (state_of R.stream self.new) (bytes ++ piece.now) (position_of self.new) result }
+        ensures room { OnOk result (HasRoomIn self.new.tally (state_of R.stream self.new)) }
+        ensures lines { self.new.tally.lines ≤ self.old.tally.lines + length piece.now }
+        ensures turns { TakesTurns self.old.turns_left self.new.turns_left (state_of R.stream self.old) (state_of R.stream self.new) }
+        ensures fault_room { HasRoomWithinRun self.new.faults.now }
+        ensures same { IsSameRun self.old self.new }
+    {
+        let mut rest = piece;
+        'lines: while let Some(end) = line_feed_at(rest) {
+            self.buffer.append(&rest[..end]);
+            self.answer_buffered()?;
+            rest = &rest[end + 1..];
+        }
+        self.buffer.append(rest);
+        Ok(())
+    }
+
+    // Answers the last line of the input, if something is held that no line feed ended.
+    fn end(&mut self) -> Result<(), RunFault>
+        requires room { HasRoomToAnswer 1 (position_of self.old) (state_of R.stream self.old) }
+        ensures answers { (start : OutputState O E) → (bytes : List ℕ)
+            → IsAt O.contents E.contents self.old.kind self.old.job.now start (state_of R.stream self.old) bytes (position_of self.old)
+            → AnswersLast O.contents E.contents self.old.kind self.old.job.now start (state_of R.stream self.new) bytes (position_of self.new) result }
+        ensures room { OnOk result (HasRoomIn self.new.tally (state_of R.stream self.new)) }
+        ensures turns { TakesTurns self.old.turns_left self.new.turns_left (state_of R.stream self.old) (state_of R.stream self.new) }
+        ensures fault_room { HasRoomWithinRun self.new.faults.now }
+        ensures same { IsSameRun self.old self.new }
+    {
+        if self.buffer.is_empty() {
+            return Ok(());
+        }
+        self.answer_buffered()
+    }
+
+    // Answers the line in the buffer, and empties that.
+    fn answer_buffered(&mut self) -> Result<(), RunFault>
+        requires room { HasRoomToAnswer 1 (position_of self.old) (state_of R.stream self.old) }
+        ensures answers { (line : List ℕ) → Represents self.old.buffer line
+            → (answer : Answer) × IsAnswer self.old.kind self.old.job.now (self.old.tally.lines + 1) line (R.stream self.old.rng.now) answer
+            × AnswersOne O.contents E.contents self.new.turns_left answer (state_of R.stream self.old) (state_of R.stream self.new) result
+            × OnOk result (self.new.tally ≡ both_tallies self.old.tally answer.tally) }
+        ensures held { OnOk result (Represents self.new.buffer []) }
+        ensures room { OnOk result (HasRoomIn self.new.tally (state_of R.stream self.new)) }
+        ensures lines { self.new.tally.lines ≤ self.old.tally.lines + 1 }
+        ensures turns { TakesTurns self.old.turns_left self.new.turns_left (state_of R.stream self.old) (state_of R.stream self.new) }
+        ensures fault_room { HasRoomWithinRun self.new.faults.now }
+        ensures same { IsSameRun self.old self.new }
+    {
+        let number = self.tally.lines + 1;
+        let before = self.meter.reading();
+        let answer = self
+            .buffer
+            .answer(self.alloc, self.kind, self.job, self.rng, self.meter)?;
+        let work = self.meter.work_since(&before);
+        give(
+            number,
+            self.job,
+            &answer,
+            &work,
+            self.out,
+            self.faults,
+            &mut self.turns_left,
+        )?;
+        count_line(&mut self.tally, &answer.outcome);
+        self.buffer = LineBuffer::new();
+        Ok(())
+    }
+}
+
+// Gives the answer to the line with this number, after this work, to the output where it belongs.
+fn give<O: Write, E: Write>(
+    number: u64,
+    job: &Job,
+    answer: &LineAnswer<'_>,
+    work: &Work,
+    out: &mut Output<O>,
+    faults: &mut Output<E>,
+    left: &mut u64,
+) -> Result<(), RunFault>
+    requires turns { left.old ≤ turns_limit }
+    requires out_room { HasRoomWithinRun out.old }
+    requires faults_room { HasRoomWithinRun faults.old }
+    requires short { length answer.now.name.now ≤ name_limit }
+    ensures sends { (made : Decision) → IsDecisionOf made answer.now → work_of made.hashings ≡ work.now
+        → Sends O.contents E.contents left.new (decided_answer job.now number made) out.old faults.old out.new faults.new result }
+    ensures unfailed { OnOk result (IsUnfailed out.old out.new × IsUnfailed faults.old faults.new) }
+    ensures unflushed { IsUnflushed out.old out.new × IsUnflushed faults.old faults.new }
+    ensures calls { out.new.calls + faults.new.calls + left.new ≡ out.old.calls + faults.old.calls + left.old }
+    ensures fewer { left.new ≤ left.old }
+    ensures out_moves { MovesBytes 0 out.old out.new }
+    ensures faults_moves { MovesBytes 0 faults.old faults.new }
+    ensures out_bytes { out.new.bytes ≤ out.old.bytes + answer_limit }
+    ensures faults_bytes { faults.new.bytes ≤ faults.old.bytes + answer_limit }
+    ensures fault_failures { faults.new.failures ≤ faults.old.failures + 1 }
+    ensures fault_flushes { faults.new.flushes ≡ faults.old.flushes }
+{
+    match &answer.outcome {
+        Outcome::Refused(fault) => send(faults, render_refusal(number, fault).as_slice(), left),
+        outcome => send(
+            out,
+            render(job, Some(answer.name), outcome, work).as_slice(),
+            left,
+        ),
+    }
+}
+
+// Counts one more line.
+fn count_line(tally: &mut Tally, outcome: &Outcome)
+    requires room { tally.old.lines < lines_limit }
+    requires refused { tally.old.refused ≤ tally.old.lines }
+    requires misfits { tally.old.misfits ≤ tally.old.lines }
+    ensures { tally.new ≡ both_tallies tally.old (tally_of outcome.now) }
+{
+    tally.lines += 1;
+    match outcome {
+        Outcome::Mismatch => tally.misfits += 1,
+        Outcome::Refused(_) => tally.refused += 1,
+        Outcome::Hashed(_)
+        | Outcome::Match
+        | Outcome::Rehashed(_)
+        | Outcome::NoHash
+        | Outcome::Locked => {}
+    }
+}
+
+#[cfg(test)]
+mod tests;

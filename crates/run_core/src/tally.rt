@@ -1,0 +1,73 @@
+//! What a run counts of its lines.
+ghost use Rattle.std.specs.Prelude.{◌≡◌};
+
+/// Lines seen, lines refused, and answers `no`. A single password is one line.
+#[derive(Clone, Copy, Debug, PartialEq, Eq)]
+pub struct Tally {
+    /// The lines that were seen, refused ones among them.
+    pub lines: u64,
+    /// The lines that were refused.
+    pub refused: u64,
+    /// The lines that were answered `no`.
+    pub misfits: u64,
+}
+
+impl Tally {
+    ghost use Rattle.run_core.specs.Tallies.{no_line, tally_status};
+
+    /// No line was seen.
+    pub fn new() -> Tally
+        ensures { result ≡ no_line }
+    {
+        Tally {
+            lines: 0,
+            refused: 0,
+            misfits: 0,
+        }
+    }
+
+    /// The exit status of a run that was not cut short: 1 where a line was refused or answered
+    /// `no`, else 0.
+    pub fn status(&self) -> u8
+        ensures { result ≡ tally_status self.now }
+    {
+        if self.refused == 0 && self.misfits == 0 {
+            0
+        } else {
+            1
+        }
+    }
+}
+
+#[cfg(test)]
+mod tests {
+    use super::*;
+
+    #[test]
+    fn one_where_a_line_went_wrong(rt: HostRuntime) {
+        for (refused, misfits, status) in [(0, 0, 0), (1, 0, 1), (0, 1, 1), (2, 3, 1)] {
+            let tally = Tally {
+                lines: 9,
+                refused,
+                misfits,
+            };
+            assert_eq!(rt;
+                tally.status(),
+                status,
+                "{refused} refused, {misfits} misfits"
+            );
+        }
+    }
+
+    #[test]
+    fn tells_tallies_apart(rt: HostRuntime) {
+        for (lines, refused, misfits) in [(1, 0, 0), (0, 1, 0), (0, 0, 1)] {
+            let tally = Tally {
+                lines,
+                refused,
+                misfits,
+            };
+            assert!(rt; tally != Tally::new(), "{tally:?}");
+        }
+    }
+}

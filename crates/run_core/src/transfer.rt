@@ -1,0 +1,124 @@
+//! What every run does with its devices: it fetches pieces of the input and looks for line feeds in them, gives whole
+//! texts to an output, and flushes both outputs at the end. A fetch or a give takes one of the turns that are left.
+ghost use Rattle.std.specs.Prelude.{◌≡◌, ◌+◌, ◌-◌, ◌^◌, ◌<◌, ◌≤◌, ◌==◌, length, position, OnOk};
+ghost use Rattle.run_core.specs.Devices.{HasRoomWithinRun, MovesBytes, turns_limit};
+ghost use Rattle.run_core.specs.Output.{Shows, ShowsOutcome};
+ghost use Rattle.run_core.specs.Private.Deliveries.{Delivers, FinishesBoth, FinishesOutput};
+ghost use Rattle.run_core.specs.Private.Fetching.{Fetches};
+ghost use Rattle.run_core.specs.Texts.{line_feed};
+
+use crate::device::{Input, Output};
+use crate::fault::RunFault;
+use std::io::{Read, Write};
+
+/// Makes one fetch into the buffer, which takes one of the turns that are left, and answers how many bytes it
+/// gave: none at the end.
+///
+/// `Read` is answered where the fetch failed, and `Turns` where no turn is left.
+pub(crate) fn fetch_piece<I: Read>(
+    input: &mut Input<I>,
+    buffer: &mut [u8],
+    left: &mut u64,
+) -> Result<usize, RunFault>
+    requires failures_room { input.old.failures < 2 ^ 64 - 1 }
+    requires calls_room { input.old.calls < 2 ^ 64 - 1 }
+    requires bytes_room { input.old.bytes + length buffer.old < 2 ^ 64 }
+    requires buffer_room { 0 < length buffer.old }
+    ensures fetches { Fetches I.remaining left.old input.old input.new buffer.new result }
+    ensures some_left { OnOk result (0 < left.old) }
+    ensures takes_turn { left.new ≡ left.old - 1 }
+    ensures turns { input.new.calls + left.new ≡ input.old.calls + left.old }
+{
+    if *left == 0 {
+        return Err(RunFault::Turns);
+    }
+    *left -= 1;
+    match input.fetch(buffer) {
+        Ok(count) => Ok(count),
+        Err(_) => Err(RunFault::Read),
+    }
+}
+
+/// Where the first line feed stands.
+pub(crate) fn line_feed_at(bytes: &[u8]) -> Option<usize>
+    ensures { result ≡ position (λ b. b == line_feed) bytes.now }
+{
+    bytes.iter().position(|byte| *byte == b'\n')
+}
+
+/// Gives the whole text, in as many calls as the device wants, each of which takes one of the turns that
+/// are left.
+///
+/// `Write` is answered after the first call that fails, and `Turns` where another call is needed and no
+/// turn is left. The output has then taken the first bytes of the text.
+pub(crate) fn send<O: Write>(
+    out: &mut Output<O>,
+    text: &[u8],
+    left: &mut u64,
+) -> Result<(), RunFault>
+    requires turns { left.old ≤ turns_limit }
+    requires room { HasRoomWithinRun out.old }
+    requires short { length text.now < 2 ^ 63 }
+    ensures delivers { Delivers O.contents out.old out.new text.now result }
+    ensures outcome { ShowsOutcome left.old out.old out.new result }
+    ensures turns { out.new.calls + left.new ≡ out.old.calls + left.old }
+    ensures fewer { left.new ≤ left.old }
+    ensures moves { MovesBytes 0 out.old out.new }
+    ensures few_bytes { out.new.bytes ≤ out.old.bytes + length text.now }
+    ensures few_failures { out.new.failures ≤ out.old.failures + 1 }
+    ensures unflushed { out.new.flushes ≡ out.old.flushes }
+{
+    let mut rest = text;
+    'pieces: while !rest.is_empty() {
+        if *left == 0 {
+            return Err(RunFault::Turns);
+        }
+        *left -= 1;
+        match out.give(rest) {
+            Ok(count) if count > 0 => rest = &rest[count..],
+            _ => return Err(RunFault::Write),
+        }
+    }
+    Ok(())
+}
+
+/// Gives the whole text in at most so many calls, and flushes the output. `Write` and `Turns` are answered as by
+/// [`send`], and `Write` also where the flush fails.
+pub fn show<O: Write>(out: &mut Output<O>, text: &[u8], turns: u64) -> Result<(), RunFault>
+    requires turns { turns ≤ turns_limit }
+    requires room { HasRoomWithinRun out.old }
+    requires short { length text.now < 2 ^ 63 }
+    ensures { Shows O.contents turns out.old out.new text.now result }
+{
+    let mut left = turns;
+    send(out, text, &mut left)?;
+    finish(out)
+}
+
+/// Flushes both outputs at the end of a run, which takes no byte and no turn. `Write` is answered after the first
+/// flush that fails.
+pub(crate) fn finish_both<O: Write, E: Write>(
+    out: &mut Output<O>,
+    faults: &mut Output<E>,
+) -> Result<(), RunFault>
+    requires out_room { (out.old.failures < 2 ^ 64 - 1) × (out.old.flushes < 2 ^ 64 - 1) }
+    requires faults_room { (faults.old.failures < 2 ^ 64 - 1) × (faults.old.flushes < 2 ^ 64 - 1) }
+    ensures finishes { FinishesBoth O.contents E.contents out.old faults.old out.new faults.new result }
+{
+    finish(out)?;
+    finish(faults)
+}
+
+// Flushes one output.
+fn finish<O: Write>(out: &mut Output<O>) -> Result<(), RunFault>
+    requires room { (out.old.failures < 2 ^ 64 - 1) × (out.old.flushes < 2 ^ 64 - 1) }
+    ensures finishes { FinishesOutput O.contents out.old out.new result }
+{
+    match out.flush() {
+        Ok(()) => Ok(()),
+        Err(_) => Err(RunFault::Write),
+    }
+}
+
+#[cfg(test)]
+mod tests;
