@@ -1,118 +1,26 @@
-//! What the calls do once what was handed in is read, and how it is read.
-ghost use Rattle.std.specs.Prelude.{◌≡◌, ◌↔◌, IsTrue, ◌<◌, ◌≤◌, ◌^◌, ◌<ℤ◌, pos, ℕ, List, [], Result, length, IfOk, IfErr, IsOkAnd, OnErr, OnOk};
+//! What the calls do with what they have read.
+ghost use Rattle.std.specs.Prelude.{◌≡◌, ◌↔◌, ◌<◌, ◌≤◌, ◌<ℤ◌, pos, List, [], Result, length, IfOk, IfErr, IsOkAnd, IsTrue, OnErr, OnOk};
+ghost use Rattle.prims_core.specs.Work.{no_work};
 ghost use Rattle.crypt_core.specs.Crypt.{IsAfterRefusedGrowth, crypt};
 ghost use Rattle.crypt_core.specs.Passwords.{password_limit};
 ghost use Rattle.crypt_core.specs.Replacements.{is_replaced_by};
-ghost use Rattle.crypt_core.specs.Settings.{SettingValue, Spells};
+ghost use Rattle.crypt_core.specs.Settings.{Spells};
 ghost use Rattle.crypt_core.specs.Work.{cost, work};
-ghost use Rattle.crypt_core.specs.declared.scheme.Scheme.{Scheme as Made};
-ghost use Rattle.crypt_c.specs.Calls.{Both, Hashes, HashesAnew, IsLengthRead, IsPasswordRead, IsSchemeMade, IsSettingRead, Makes, PutsHash, Verifies, admission, bounded, rehashed};
+ghost use Rattle.crypt_c.specs.Calls.{Hashes, HashesAnew, Makes, PutsHash, Verifies, admission, bounded, rehashed};
 ghost use Rattle.crypt_c.specs.Private.Steps.{IsHashPut};
 ghost use Rattle.crypt_c.specs.Reports.{put, refused, token};
-ghost use Rattle.prims_core.specs.Work.{no_work};
-ghost use Rattle.crypt_c.specs.declared.reason.Refusal.{Refusal as Refused};
 
 use crate::reason::{Reason, Refusal};
 use crate::report::{Report, leave, token};
 use crypt_core::hash::{HashFault, Hashed, hash, hash_len};
-use crypt_core::method::Method;
-use crypt_core::password::{PASSWORD_LIMIT, Password, PasswordFault};
+use crypt_core::password::Password;
 use crypt_core::scheme::Scheme;
 use crypt_core::setting::Setting;
 use crypt_core::work::{bound, cost};
 use prims_core::meter::{Meter, Work};
 use std::alloc::Global;
 
-// Reading
-
-/// Reads a password, and then a setting.
-pub(crate) fn read(password: &[u8], text: &[u8]) -> Result<(Password, Setting), Refusal>
-    ensures read { Both (IsPasswordRead password.now) (IsSettingRead text.now) result }
-    ensures alone { (other : Result (List ℕ × SettingValue) Refused)
-        → Both (IsPasswordRead password.now) (IsSettingRead text.now) other → result ≡ other }
-{
-    let password = Password::new(password)?;
-    match setting_of(text) {
-        Ok(setting) => Ok((password, setting)),
-        Err(refusal) => Err(refusal),
-    }
-}
-
-/// Reads the length of a password, and then a setting.
-pub(crate) fn read_with_length(
-    password_len: usize,
-    text: &[u8],
-) -> Result<(usize, Setting), Refusal>
-    ensures read { Both (IsLengthRead password_len) (IsSettingRead text.now) result }
-    ensures alone { (other : Result (ℕ × SettingValue) Refused)
-        → Both (IsLengthRead password_len) (IsSettingRead text.now) other → result ≡ other }
-    ensures short { IfOk result (λ both. both.0 ≤ password_limit) }
-{
-    if password_len > PASSWORD_LIMIT {
-        return Err(Refusal::Password(PasswordFault::TooLong));
-    }
-    match setting_of(text) {
-        Ok(setting) => Ok((password_len, setting)),
-        Err(refusal) => Err(refusal),
-    }
-}
-
-/// Reads a password, and then makes a scheme.
-pub(crate) fn read_for_scheme(
-    password: &[u8],
-    method: u32,
-    cost: u32,
-) -> Result<(Password, Scheme), Refusal>
-    ensures read { Both (IsPasswordRead password.now) (IsSchemeMade method cost) result }
-    ensures alone { (other : Result (List ℕ × Made) Refused)
-        → Both (IsPasswordRead password.now) (IsSchemeMade method cost) other → result ≡ other }
-{
-    let password = Password::new(password)?;
-    let scheme = scheme_of(method, cost)?;
-    Ok((password, scheme))
-}
-
-/// Reads a setting, and then makes a scheme.
-pub(crate) fn read_both(text: &[u8], method: u32, cost: u32) -> Result<(Setting, Scheme), Refusal>
-    ensures read { Both (IsSettingRead text.now) (IsSchemeMade method cost) result }
-    ensures alone { (other : Result (SettingValue × Made) Refused)
-        → Both (IsSettingRead text.now) (IsSchemeMade method cost) other → result ≡ other }
-{
-    let setting = match setting_of(text) {
-        Ok(setting) => setting,
-        Err(refusal) => return Err(refusal),
-    };
-    match scheme_of(method, cost) {
-        Ok(scheme) => Ok((setting, scheme)),
-        Err(refusal) => Err(refusal),
-    }
-}
-
-// Reads a setting.
-fn setting_of(text: &[u8]) -> Result<Setting, Refusal>
-    ensures read { IsSettingRead text.now result }
-    ensures alone { (other : Result SettingValue Refused) → IsSettingRead text.now other → result ≡ other }
-{
-    Ok(Setting::read(text)?)
-}
-
-/// Makes the scheme of a method's number and a cost.
-pub(crate) fn scheme_of(method: u32, cost: u32) -> Result<Scheme, Refusal>
-    ensures made { IsSchemeMade method cost result }
-    ensures alone { (other : Result Made Refused) → IsSchemeMade method cost other → result ≡ other }
-{
-    let Some(method) = Method::numbered(method) else {
-        return Err(Refusal::UnknownMethod);
-    };
-    match Scheme::made(method, cost) {
-        Ok(scheme) => Ok(scheme),
-        Err(_) => Err(Refusal::Cost),
-    }
-}
-
-// Hashing
-
-/// Compares the hash of a password with the stored one, within a budget.
+/// Compares the password's hash with the stored one, if the budget allows it.
 pub(crate) fn verify(
     alloc: Global,
     given: Result<(Password, Setting), Refusal>,
@@ -139,7 +47,7 @@ pub(crate) fn verify(
     Report::new(reason, 0, most, work)
 }
 
-/// Puts the hash of a password, within a budget; or after a refusal the token.
+/// Puts the password's hash into `out`, if the budget and the room allow it. After a refusal it puts `lock`.
 pub(crate) fn put_hash(
     alloc: Global,
     given: Result<(Password, Setting), Refusal>,
@@ -163,8 +71,8 @@ pub(crate) fn put_hash(
     }
 }
 
-/// Puts the hash of a password by a new setting, which three words make, within a budget; or after a refusal, and without
-/// words, the token.
+/// Puts the password's hash with the setting that three words make, if the budget and the room allow it. After a refusal it
+/// puts the token. No words are refused after all else.
 pub(crate) fn put_new_hash(
     alloc: Global,
     given: Result<(Password, Scheme), Refusal>,
@@ -199,7 +107,7 @@ pub(crate) fn put_new_hash(
     leave(refused, out, token(b""))
 }
 
-// The cost, if the budget and the room allow the hash, or else the report of the refusal.
+// Returns the cost, if the budget and then the room allow the hash, or else the report of the refusal.
 fn admit(password: &Password, setting: &Setting, budget: u64, room: usize) -> Result<u64, Report>
     ensures { result ≡ admission budget room password.now setting.now }
 {
@@ -213,7 +121,7 @@ fn admit(password: &Password, setting: &Setting, budget: u64, room: usize) -> Re
     Ok(most)
 }
 
-// The cost, if the budget allows the hash, or else the report of the refusal.
+// Returns the cost, if the budget allows the hash, or else the report of the refusal.
 fn cost_within(password: &Password, setting: &Setting, budget: u64) -> Result<u64, Report>
     ensures within { IfOk result (λ most. (most ≡ cost setting.now (length password.now)) × (most ≤ budget)) }
     ensures above { IfErr result (λ report. (budget < cost setting.now (length password.now))
@@ -226,7 +134,7 @@ fn cost_within(password: &Password, setting: &Setting, budget: u64) -> Result<u6
     Ok(most)
 }
 
-// Puts the hash, for which there is room.
+// Hashes, and puts the hash, which has room, or `lock` if scrypt could not allocate.
 fn put_admitted(
     alloc: Global,
     password: &Password,
@@ -256,7 +164,7 @@ fn put_admitted(
     }
 }
 
-// The hash of a password, and what it took on a meter of its own.
+// Hashes on a new meter, and returns the work too.
 fn counted_hash(
     alloc: Global,
     password: &Password,
@@ -274,9 +182,7 @@ fn counted_hash(
     (hashed, work)
 }
 
-// What hashes nothing
-
-/// Reports what a hash takes at most.
+/// Reports the greatest cost and work of a hash.
 pub(crate) fn tell_bound(given: Result<(usize, Setting), Refusal>) -> Report
     requires { IfOk given (λ both. both.0 ≤ password_limit) }
     ensures bounded { result ≡ bounded given }
@@ -293,7 +199,7 @@ pub(crate) fn tell_bound(given: Result<(usize, Setting), Refusal>) -> Report
     }
 }
 
-/// Reports whether a hash of the scheme would replace one by the setting.
+/// Reports whether a hash of the scheme would replace one with the setting.
 pub(crate) fn tell_rehash(given: Result<(Setting, Scheme), Refusal>) -> Report
     ensures rehashed { result ≡ rehashed given }
     ensures outdated { pos 0 <ℤ result.reason
@@ -310,7 +216,7 @@ pub(crate) fn tell_rehash(given: Result<(Setting, Scheme), Refusal>) -> Report
     }
 }
 
-/// Puts the text of the setting that three words make; or after a refusal the token.
+/// Puts the text of the setting that three words make, if the room allows it. After a refusal it puts the token.
 pub(crate) fn put_setting(made: Result<Scheme, Refusal>, words: [u64; 3], out: &mut [u8]) -> Report
     ensures makes { Makes words out.old made result out.new }
     ensures locked { ¬ (pos 0 <ℤ result.reason) → out.new ≡ put (token []) out.old }

@@ -20,14 +20,15 @@ ghost use Rattle.crypt_c.specs.declared.reason.Refusal.{Refusal};
 ghost use Rattle.crypt_c.specs.declared.reason.Refusal.TheVariants.{Current, OutOfMemory};
 
 mod calls;
+mod reading;
 mod reason;
 mod report;
 
-use calls::{
-    put_hash, put_new_hash, put_setting, read, read_both, read_for_scheme, read_with_length,
-    scheme_of, tell_bound, tell_rehash, verify,
-};
+use calls::{put_hash, put_new_hash, put_setting, tell_bound, tell_rehash, verify};
 use crypt_core::version::VERSION_NUMBER;
+use reading::{
+    length_and_setting, password_and_scheme, password_and_setting, scheme_of, setting_and_scheme,
+};
 use reason::Reason;
 use report::{Report, put, token};
 use std::alloc::Global;
@@ -54,7 +55,12 @@ pub extern "C" fn mkpasswd_verify(
         → Both (IsPasswordRead password.now) (IsSettingRead stored.now) given
         → Verifies stored.now budget given report.new }
 {
-    *report = verify(alloc, read(password, stored), stored, budget);
+    *report = verify(
+        alloc,
+        password_and_setting(password, stored),
+        stored,
+        budget,
+    );
     report.answer()
 }
 
@@ -91,7 +97,7 @@ pub extern "C" fn mkpasswd_new_from(
 {
     *report = put_new_hash(
         alloc,
-        read_for_scheme(password, method, cost),
+        password_and_scheme(password, method, cost),
         words,
         budget,
         out,
@@ -115,7 +121,7 @@ pub extern "C" fn mkpasswd_needs_rehash(
     ensures each { (given : Result (SettingValue × Scheme) Refusal)
         → Both (IsSettingRead stored.now) (IsSchemeMade method cost) given → report.new ≡ rehashed given }
 {
-    *report = tell_rehash(read_both(stored, method, cost));
+    *report = tell_rehash(setting_and_scheme(stored, method, cost));
     report.answer()
 }
 
@@ -129,7 +135,7 @@ pub extern "C" fn mkpasswd_bound(stored: &[u8], password_len: usize, report: &mu
     ensures each { (given : Result (ℕ × SettingValue) Refusal)
         → Both (IsLengthRead password_len) (IsSettingRead stored.now) given → report.new ≡ bounded given }
 {
-    *report = tell_bound(read_with_length(password_len, stored));
+    *report = tell_bound(length_and_setting(password_len, stored));
     report.answer()
 }
 
@@ -155,7 +161,13 @@ pub extern "C" fn mkpasswd_hash(
     ensures locked { result ≡ pos 0 → out.new ≡ put (token setting.now) out.old }
     ensures apart { (token setting.now ≢ setting.now) × ((kept : SettingValue) → ¬ Spells (token setting.now) kept) }
 {
-    *report = put_hash(alloc, read(password, setting), budget, token(setting), out);
+    *report = put_hash(
+        alloc,
+        password_and_setting(password, setting),
+        budget,
+        token(setting),
+        out,
+    );
     report.answer()
 }
 
