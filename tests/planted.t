@@ -90,7 +90,8 @@ sub plant {
         my ($key, $text) = @$_;
         if ($key eq 'file') { ($file, $path) = ($text, "$copy/$text") }
         elsif ($key eq 'old') { $old = $text }
-        elsif ($key eq 'new') {
+        elsif ($key eq 'new' || $key eq 'edit') {
+            ($old, $text) = split / ~> /, $text, 2 if $key eq 'edit';
             my $before = slurp($path);
             my $places = () = $before =~ /\Q$old\E/g;
             die "'$old' stands $places times in $file\n" if $places != 1;
