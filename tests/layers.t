@@ -17,55 +17,44 @@ use Test::More;
 
 # The crates, and what each may depend on: only prims_core has digests.
 my %dependencies = (
-    prims_core => [qw(arrayvec byteorder md5 sha2)],
-    kdf_core => [qw(prims_core thiserror)],
-    crypt_core => [qw(arrayvec kdf_core prims_core rand_core thiserror)],
-    mkpasswd => [qw(arrayvec clap crypt_core itoa prims_core rand_core thiserror)],
-    program => [qw(mkpasswd prims_core rand)],
-    crypt_c => [qw(crypt_core prims_core)],
-    service => [qw(crypt_core)],
+    prims_core => 'arrayvec byteorder md5 sha2', kdf_core => 'prims_core thiserror',
+    crypt_core => 'arrayvec kdf_core prims_core rand_core thiserror',
+    run_core => 'arrayvec crypt_core itoa prims_core rand_core thiserror',
+    mkpasswd => 'arrayvec clap crypt_core itoa prims_core rand_core run_core thiserror', program => 'mkpasswd prims_core rand',
+    crypt_c => 'crypt_core prims_core', service => 'crypt_core',
 );
 
-# The implementations of Counted, by file: the digest's crate and its type there.
-my $counted = 'crates/prims_core/src/counted';
+# The implementations of Counted, by file: the digest's crate and its type there. What is called there, each once: the
+# trait's three functions by their definitions, and what these call.
+my $prims = 'crates/prims_core/src';
+my $counted = "$prims/counted";
 my %implementations = (
     "$counted/counted_md5.rt" => [qw(md5 Md5)],
     "$counted/counted_sha256.rt" => [qw(sha2 Sha256)],
     "$counted/counted_sha512.rt" => [qw(sha2 Sha512)],
 );
-
-# What is called there, each once: the trait's three functions by their definitions, and what these call.
 my @calls = qw(begin new feed update count_bytes len finish count_digest try_from finalize as_slice unwrap);
 
 # Where counts are raised, besides these files.
-my %raised = (
-    count_mix => 'crates/prims_core/src/mix.rt',
-    count_table => 'crates/prims_core/src/table.rt',
-    count_scratch => 'crates/prims_core/src/scratch.rt',
-);
+my %raised = (count_mix => "$prims/mix.rt", count_table => "$prims/table.rt", count_scratch => "$prims/scratch.rt");
 
-# Where a block is mixed without a count: Salsa20/8 as a call of its own, which tests alone use, and the mixing of one
-# block, which the two calls use that count. A name stands in its own function twice where a clause has it too.
+# Where a block is mixed without a count: Salsa20/8 as a call of its own, which only tests use, and the mixing of one block,
+# which the two calls use that count. A name is in its own function twice where a clause has it too.
 my %mixings = (
-    'crates/prims_core/src/salsa.rt' => ['salsa8 in itself', 'salsa8_of in salsa8', 'salsa8_of in itself'],
-    'crates/prims_core/src/mix.rt' => [
+    "$prims/salsa.rt" => ['salsa8 in itself', 'salsa8_of in salsa8', 'salsa8_of in itself'],
+    "$prims/mix.rt" => [
         'salsa8_of in no function', 'mixed_block in block_mix', 'mixed_block in block_mix_xor', 'mixed_block in itself',
         'mixed_block in mixed_block', 'salsa8_of in mixed_block',
     ],
 );
 
-# Where the type of a password stands.
+# The type of a password, the calls for C, and the meter. Besides tests a meter is made by the program, and by the one
+# function of the calls for C that hashes: it makes a meter, hashes once with it, and returns its counts.
 my $password = 'crates/crypt_core/src/password.rt';
-
-# The calls for C: what they count they hand out. A call that hashes begins with a meter, hashes once by it, and hands out
-# its counts.
 my $exports = 'crates/crypt_c/src/lib.rt';
-my $counted_hash = qr/;\s*let before = meter\.reading\(\);\s*let answer = (?:compare|put_hash)\([^;{}]*, &mut meter\);\s*\*work = meter\.work_since\(&before\);/;
-my $handed_out = qr/^\{\s*let mut meter = \KMeter::new\(\)(?=$counted_hash)/m;
-
-# Where the meter stands, and where one is made, besides tests.
-my $meter = 'crates/prims_core/src/meter.rt';
-my %makes_meter = ('crates/program/src/main.rt' => qr/\bMeter::new\(\)/, $exports => $handed_out);
+my $meter = "$prims/meter.rt";
+my $counted_hash = qr/^\{\s*let mut meter = \KMeter::new\(\)(?=;\s*let before = meter\.reading\(\);\s*let hashed = hash\([^;{}]*, &mut meter\);\s*let work = meter\.work_since\(&before\);\s*\(hashed, work\)\s*\}$)/m;
+my %makes_meter = ('crates/program/src/main.rt' => qr/\bMeter::new\(\)/, 'crates/crypt_c/src/calls.rt' => $counted_hash);
 
 # Reading.
 
@@ -181,40 +170,120 @@ sub places {
     return @places;
 }
 
-# Rules. Each answers the places in a source where it is broken.
-
+# Rules. Each has what is wrong where it is broken, and a call that returns those places in a source: in all its code, or in
+# its product, which is without tests.
 my $tests = qr/#\[cfg\(test\)\]\s*mod tests;/;
-my $digest = qr/\b(?:md5|sha2)\s*::|::\s*(?:md5|sha2)\b|\b(?:use|extern)\b[^;]*\b(?:md5|sha2)\b/;
+my $odd_item = qr/\b(?:mod|trait|type|static|dyn)\b|\w\s*!/;
 
-# Only the implementations of Counted name a digest crate, and only in one `use` each.
-sub names_digest {
-    my ($source) = @_;
-    my ($path, $code) = @$source{qw(path code)};
-    return places($code, $digest) unless $implementations{$path};
-    my ($crate, $type) = @{ $implementations{$path} };
-    return places($code, $digest, qr/(?<=;)\s*\Kuse ${crate}::\{Digest, $type\};/);
-}
-
-# An implementation of Counted is one private field, two impls and three functions. These make, feed and finish one
-# digest, and nothing is derived that would copy it.
-sub digests_beside {
-    my ($source) = @_;
-    my ($path, $code) = @$source{qw(path product)};
-    return () unless $implementations{$path};
-    my ($crate, $type) = @{ $implementations{$path} };
-    my $name = "Counted$type";
-    my $use = qr/\buse ${crate}::\{Digest, $type\};/;
-    return (
-        places($code, qr/\b(?:Digest|$type|running)\b/,
-            $use, qr/\brunning: $type(?:::new\(\))?,/, qr/\bself\.running\.(?:update|finalize)\(/,
-            qr/\bghost (?:Value|view) = \{[^{}]*\};/),
-        other_calls($code =~ s/#\[[^\]]*\]/blank($&)/ger),
-        places($code, qr/\bpub\b/, qr/\bpub struct $name \{/),
-        places($code, qr/\bimpl\b/, qr/\bimpl (?:Model|Counted) for $name \{/),
-        places($code, qr/\bderive\b/, qr/#\[derive\(Debug, Drop\)\]\s*pub struct $name /),
-        places($code, qr/\b(?:mod|trait|type|static|dyn)\b|\w\s*!/, $tests),
-    );
-}
+my @rules = (
+    # Only the implementations name a digest crate, and only in one `use` each.
+    ['a digest crate is named beside the implementations of Counted', sub {
+        my ($path, $code) = @_;
+        my $digest = qr/\b(?:md5|sha2)\s*::|::\s*(?:md5|sha2)\b|\b(?:use|extern)\b[^;]*\b(?:md5|sha2)\b/;
+        my ($crate, $type) = @{ $implementations{$path} // [] };
+        return places($code, $digest, $crate ? qr/(?<=;)\s*\Kuse ${crate}::\{Digest, $type\};/ : ());
+    }],
+    # It is one private field, two impls and three functions. These make, feed and finish one digest, and nothing is derived
+    # that would copy it.
+    ['an implementation of Counted has more than its counted digest', sub {
+        my ($path, undef, $product) = @_;
+        my ($crate, $type) = @{ $implementations{$path} // return };
+        my $name = "Counted$type";
+        return (
+            places($product, qr/\b(?:Digest|$type|running)\b/, qr/\buse ${crate}::\{Digest, $type\};/,
+                qr/\brunning: $type(?:::new\(\))?,/, qr/\bself\.running\.(?:update|finalize)\(/,
+                qr/\bghost (?:Value|view) = \{[^{}]*\};/),
+            other_calls($product =~ s/#\[[^\]]*\]/blank($&)/ger),
+            places($product, qr/\bpub\b/, qr/\bpub struct $name \{/),
+            places($product, qr/\bimpl\b/, qr/\bimpl (?:Model|Counted) for $name \{/),
+            places($product, qr/\bderive\b/, qr/#\[derive\(Debug, Drop\)\]\s*pub struct $name /),
+            places($product, $odd_item, $tests),
+        );
+    }],
+    # The module of Counted offers the trait and the three types, and has no other module than theirs.
+    ['more stands beside Counted than its three types', sub {
+        my ($path, undef, $product) = @_;
+        return $product =~ /\S/ ? 0 : () if $path =~ m{^\Q$counted\E/} && !$implementations{$path};
+        return () if $path ne "$counted.rt";
+        my $module = join '|', map { s{^.*/|\.rt\z}{}gr } keys %implementations;
+        my $type = join '|', map { "Counted$_->[1]" } values %implementations;
+        return (
+            places($product, qr/\bpub\b/, qr/\bpub trait Counted: Drop \{/, qr/\bpub use (?:$module)::(?:$type);/),
+            places($product, qr/\bmod\b/, qr/\bmod (?:$module);/, $tests), places($product, qr/\bimpl\b/),
+        );
+    }],
+    # One function makes a meter, and each other one tells a count to anyone, or raises one for this crate alone. The fields
+    # are private, and nothing is derived or implemented that makes, copies or sets a meter.
+    ['a meter is made, copied or set by more than its own calls', sub {
+        my ($path, undef, $product) = @_;
+        return () if $path ne $meter;
+        my $new = qr/\bpub fn new\(\) -> Self\b/;
+        return (
+            1 == (() = $product =~ /$new/g) ? () : 0,
+            places($product, qr/\bfn\b/, $new, qr/\bpub fn \w+\(&self\) -> u128\b/,
+                qr/\bpub\(crate\) fn count_\w+\(&mut self(?:, \w+: usize)?\)(?!\s*->)/,
+                qr/\bpub fn reading\(&self\) -> Reading\b/, qr/\bpub fn work_since\(&self, reading: &Reading\) -> Work\b/),
+            places($product, qr/\bpub\b/, qr/\bpub struct (?:Meter|Reading|Work) \{/, qr/\bpub \w+: u64,/, qr/\bpub(?:\(crate\))? fn\b/),
+            places($product, qr/\bMeter\b/, qr/\bpub struct Meter \{/, qr/\bimpl (?:Model for )?Meter \{/, qr/\{\s*\KMeter \{/),
+            places($product, qr/\bSelf\b/, $new),
+            places($product, qr/\bderive\b/, qr/#\[derive\(Debug, Drop\)\]\s*pub struct Meter /,
+                qr/#\[derive\(Clone, Copy, Debug\)\]\s*pub struct Reading /,
+                qr/#\[derive\(Clone, Copy, Debug, PartialEq, Eq\)\]\s*pub struct Work /),
+            places($product, $odd_item, $tests),
+        );
+    }],
+    # Elsewhere a meter is a parameter or a field behind a reference, its type is brought in by its own name, and only the
+    # program and the calls for C make one.
+    ['a meter is more than lent', sub {
+        my ($path, undef, $product) = @_;
+        return () if $path eq $meter;
+        my $crate = $path =~ m{^$prims/} ? 'crate' : 'prims_core';
+        my $name = qr/(?:Meter|Reading|Work)/;
+        my $import = qr/(?:\A|(?<=[;}\]]))\s*\K(?:use ${crate}::meter::(?:$name|\{$name(?:, $name)*\});|pub use ${crate}::meter::Work;)/;
+        return (
+            places($product, qr/\bMeter\b/, $import, qr/\w: &(?:'\w+ )?(?:mut )?Meter(?=[,)])/, $makes_meter{$path} // ()),
+            places($product, qr/\bmeter\s*::|::\s*meter\b|\buse\b[^;]*\bmeter\b/, $import),
+        );
+    }],
+    # Nothing is counted that was not done.
+    ['a count is raised beside its work', sub {
+        my ($path, undef, $product) = @_;
+        return () if $path eq $meter || $implementations{$path};
+        my @here = map { qr/\bmeter\.$_\(/ } grep { $raised{$_} eq $path } keys %raised;
+        return places($product, qr/\bcount_(?:bytes|digest|mix|table|scratch)\b/, @here);
+    }],
+    # Each of the names is in the functions of the list, as often as there, and nowhere else.
+    ['a block is mixed that nobody counts', sub {
+        my ($path, undef, $product) = @_;
+        my %left;
+        $left{$_}++ for @{ $mixings{$path} // [] };
+        return grep {
+            my ($before, $name) = (substr($product, 0, $_), substr($product, $_) =~ /\A(\w+)/);
+            my $function = $before =~ /\bfn\s+\z/ ? 'itself' : $before =~ /.*\bfn\s+(\w+)/s ? $1 : 'no function';
+            ($left{"$name in $function"}-- // 0) <= 0;
+        } places($product, qr/\b(?:salsa8|salsa8_of|mixed_block)\b/);
+    }],
+    # The type of a password derives neither Debug nor Display and implements neither.
+    ['a password can be printed', sub {
+        my ($path, undef, $product) = @_;
+        my $shows = qr/\b\w*(?:Debug|Display)\b/;
+        return (
+            places($product, qr/\bimpl\b[^{};]*$shows[^{};]*\bfor\s+(?:\w+\s*::\s*)*Password\b/),
+            $path ne $password ? ()
+                : places($product, qr/#\s*\[\s*derive\b[^\]]*$shows/, qr/#\[derive\([^\]]*\)\]\s*pub enum PasswordFault /),
+        );
+    }],
+    # No macro of the tree's own, no file under another name, nothing unsafe but the names of the calls for C, and no text that
+    # goes on after its end.
+    ['what is written is not what is read', sub {
+        my ($path, $code, $product) = @_;
+        return (
+            places($code, qr/\bmacro_rules\b|\binclude\s*!|#!?\s*\[[^\]]*\b(?:path|cfg_attr)\b|"|\/\*/),
+            places($product, qr/\b(?:unsafe|extern)\b/,
+                $path eq $exports ? qr/#\[unsafe\(no_mangle\)\]\s*pub extern\s+fn mkpasswd_\w+\(/ : ()),
+        );
+    }],
+);
 
 # Where something is called that isn't one of @calls, or is called again; the source's begin where one is missing.
 sub other_calls {
@@ -227,130 +296,14 @@ sub other_calls {
     return (@places, %left ? 0 : ());
 }
 
-# The module of Counted offers the trait and the three types, and has no other module than theirs.
-sub offered_beside_counted {
-    my ($source) = @_;
-    my ($path, $code) = @$source{qw(path product)};
-    return $code =~ /\S/ ? 0 : () if $path =~ m{^\Q$counted\E/} && !$implementations{$path};
-    return () if $path ne "$counted.rt";
-    my @modules = map { s{^.*/|\.rt\z}{}gr } keys %implementations;
-    my @types = map { "Counted$_->[1]" } values %implementations;
-    my ($module, $type) = map { join '|', @$_ } \@modules, \@types;
-    return (
-        places($code, qr/\bpub\b/, qr/\bpub trait Counted: Drop \{/, qr/\bpub use (?:$module)::(?:$type);/),
-        places($code, qr/\bmod\b/, qr/\bmod (?:$module);/, $tests),
-        places($code, qr/\bimpl\b/),
-    );
-}
-
-# The meter's own file: one function makes a meter, and each other one tells a count to anyone, or raises one for
-# this crate alone. The fields are private, and nothing is derived or implemented that makes, copies or sets a meter.
-sub meter_itself {
-    my ($source) = @_;
-    my ($path, $code) = @$source{qw(path product)};
-    return () if $path ne $meter;
-    my $new = qr/\bpub fn new\(\) -> Self\b/;
-    my @makes = $code =~ /$new/g;
-    return (
-        @makes == 1 ? () : 0,
-        places($code, qr/\bfn\b/, $new, qr/\bpub fn \w+\(&self\) -> u128\b/,
-            qr/\bpub\(crate\) fn count_\w+\(&mut self(?:, \w+: usize)?\)(?!\s*->)/,
-            qr/\bpub fn reading\(&self\) -> Reading\b/, qr/\bpub fn work_since\(&self, reading: &Reading\) -> Work\b/),
-        places($code, qr/\bpub\b/, qr/\bpub struct (?:Meter|Reading|Work) \{/, qr/\bpub \w+: u64,/, qr/\bpub(?:\(crate\))? fn\b/),
-        places($code, qr/\bMeter\b/,
-            qr/\bpub struct Meter \{/, qr/\bimpl (?:Model for )?Meter \{/, qr/\{\s*\KMeter \{/),
-        places($code, qr/\bSelf\b/, $new),
-        places($code, qr/\bderive\b/, qr/#\[derive\(Debug, Drop\)\]\s*pub struct Meter /,
-            qr/#\[derive\(Clone, Copy, Debug\)\]\s*pub struct Reading /,
-            qr/#\[derive\(Clone, Copy, Debug, PartialEq, Eq\)\]\s*pub struct Work /),
-        places($code, qr/\b(?:mod|trait|type|static|dyn)\b|\w\s*!/, $tests),
-    );
-}
-
-# Elsewhere a meter is a parameter or a field behind a reference, its type is brought in by its own name, and only the
-# program and the calls for C make one.
-sub meters_beside {
-    my ($source) = @_;
-    my ($path, $code) = @$source{qw(path product)};
-    return () if $path eq $meter;
-    my $crate = $path =~ m{^crates/prims_core/} ? 'crate' : 'prims_core';
-    my $name = qr/(?:Meter|Reading|Work)/;
-    my $import = qr/(?:\A|(?<=[;}\]]))\s*\K(?:use ${crate}::meter::(?:$name|\{$name(?:, $name)*\});|pub use ${crate}::meter::Work;)/;
-    my @made = $makes_meter{$path} // ();
-    return (
-        places($code, qr/\bMeter\b/, $import, qr/\w: &(?:'\w+ )?(?:mut )?Meter(?=[,)])/, @made),
-        places($code, qr/\bmeter\s*::|::\s*meter\b|\buse\b[^;]*\bmeter\b/, $import),
-    );
-}
-
-# A count is raised where its work is done, so that nothing is counted that was not done.
-sub raises {
-    my ($source) = @_;
-    my ($path, $code) = @$source{qw(path product)};
-    return () if $path eq $meter || $implementations{$path};
-    my @here = map { qr/\bmeter\.$_\(/ } grep { $raised{$_} eq $path } keys %raised;
-    return places($code, qr/\bcount_(?:bytes|digest|mix|table|scratch)\b/, @here);
-}
-
-# Salsa20/8 alone is for tests: whoever mixes does it by the calls that count. So each of the names stands in the
-# functions of the list, as often as there, and nowhere else.
-sub mixes_beside {
-    my ($source) = @_;
-    my ($path, $code) = @$source{qw(path product)};
-    my %left;
-    $left{$_}++ for @{ $mixings{$path} // [] };
-    return grep {
-        my ($before, $name) = (substr($code, 0, $_), substr($code, $_) =~ /\A(\w+)/);
-        my $function = $before =~ /\bfn\s+\z/ ? 'itself' : $before =~ /.*\bfn\s+(\w+)/s ? $1 : 'no function';
-        ($left{"$name in $function"}-- // 0) <= 0;
-    } places($code, qr/\b(?:salsa8|salsa8_of|mixed_block)\b/);
-}
-
-# No text shows the bytes of a password: its type derives neither Debug nor Display and implements neither.
-sub shows_password {
-    my ($source) = @_;
-    my ($path, $code) = @$source{qw(path product)};
-    my $shows = qr/\b\w*(?:Debug|Display)\b/;
-    return (
-        places($code, qr/\bimpl\b[^{};]*$shows[^{};]*\bfor\s+(?:\w+\s*::\s*)*Password\b/),
-        $path eq $password
-            ? places($code, qr/#\s*\[\s*derive\b[^\]]*$shows/, qr/#\[derive\([^\]]*\)\]\s*pub enum PasswordFault /)
-            : (),
-    );
-}
-
-# No macro of the tree's own, no file under another name, nothing unsafe but the names of the calls for C, and no text that goes on behind its end:
-# a source is what is read here.
-sub unreadable {
-    my ($source) = @_;
-    return (
-        places($source->{code}, qr/\bmacro_rules\b|\binclude\s*!|#!?\s*\[[^\]]*\b(?:path|cfg_attr)\b|"|\/\*/),
-        places($source->{product}, qr/\b(?:unsafe|extern)\b/,
-            $source->{path} eq $exports ? qr/#\[unsafe\(no_mangle\)\]\s*pub extern\s+fn mkpasswd_\w+\(/ : ()),
-    );
-}
-
-my @rules = (
-    ['a digest crate is named beside the implementations of Counted', \&names_digest],
-    ['an implementation of Counted has more than its counted digest', \&digests_beside],
-    ['more stands beside Counted than its three types', \&offered_beside_counted],
-    ['a meter is made, copied or set by more than its own calls', \&meter_itself],
-    ['a meter is more than lent', \&meters_beside],
-    ['a count is raised beside its work', \&raises],
-    ['a block is mixed that nobody counts', \&mixes_beside],
-    ['a password can be printed', \&shows_password],
-    ['what is written is not what is read', \&unreadable],
-);
-
-# A crate has a line in the list here, and depends on nothing but what stands there.
+# A crate has a line in the list here, and depends on nothing but what the list has.
 sub breaches_of_list {
-    my ($text) = @_;
     my ($number, @breaches) = 0;
-    for my $line (split /\n/, $text) {
+    for my $line (split /\n/, $_[0]) {
         $number++;
         my ($crates, $listed) = split /:/, $line =~ s/#.*//r, 2;
         my ($crate) = split ' ', $crates // '' or next;
-        my %allowed = map { $_ => 1 } @{ $dependencies{$crate} // [] };
+        my %allowed = map { $_ => 1 } split ' ', $dependencies{$crate} // '';
         next if %allowed && !grep { !$allowed{$_} } split ' ', $listed // '';
         push @breaches, "crates.txt:$number: a crate or a dependency that is not allowed: $line";
     }
@@ -369,7 +322,7 @@ sub breaches_of_source {
             my $before = substr($code, 0, $_) =~ tr/\n//;
             my $line = (split /\n/, $text, -1)[$before] =~ s/^\s+//r;
             sprintf '%s:%d: %s: %s', $path, $before + 1, $what, $line;
-        } sort { $a <=> $b } $broken->($source);
+        } sort { $a <=> $b } $broken->($path, $code, $product);
     } @rules] };
 }
 

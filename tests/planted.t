@@ -84,7 +84,8 @@ sub plant {
         my ($key, $text) = @$_;
         if ($key eq 'file') { ($file, $path) = ($text, "$copy/$text") }
         elsif ($key eq 'old') { $old = $text }
-        elsif ($key eq 'new') {
+        elsif ($key eq 'new' || $key eq 'edit') {
+            ($old, $text) = split / ~> /, $text, 2 if $key eq 'edit';
             my ($front, @backs) = split /\Q$old\E/, slurp($path), -1;
             die "'$old' stands " . @backs . " times in $file\n" if @backs != 1;
             spew($path, "$front$text$backs[0]");
@@ -96,7 +97,10 @@ sub plant {
         elsif ($key eq 'gone') { unlink $path or die "$file: $!\n" }
         elsif ($key =~ /^(wrap|before|after)$/) { $code{$key} = $text }
         elsif ($key eq 'only') { $only = $text }
-        elsif ($key eq 'sees') { push @sees, $text =~ /^(\w+\.t): (.+)$/ ? [$1, $2] : die "sees: $text\n" }
+        elsif ($key eq 'sees') {
+            my ($test, $names) = $text =~ /^(\w+\.t): (.+)$/ or die "sees: $text\n";
+            push @sees, map { [$test, $_] } split / & /, $names;
+        }
         elsif ($key ne 'fault') { die "planted: no key $key\n" }
     }
     wrap($path, %code) if %code;
