@@ -63,9 +63,7 @@ sub scrypt_cost { return numeral($_[0], 1) . numeral($_[1], 5) . numeral($_[2], 
 # The setting of a method, with its canonical text as its front.
 sub setting {
     my ($kind, $salt, %rest) = @_;
-    my $cost = '';
-    $cost = "rounds=$rest{rounds}\$" if $rest{is_written};
-    $cost = scrypt_cost(@rest{qw(log r p)}) if $kind == 7;
+    my $cost = $kind == 7 ? scrypt_cost(@rest{qw(log r p)}) : $rest{is_written} ? "rounds=$rest{rounds}\$" : '';
     $rest{product} = 2 ** $rest{log} * $rest{r} * $rest{p} if $kind == 7;
     return { %rest, kind => $kind, salt => $salt, front => "\$$kind\$$cost$salt" };
 }
@@ -88,13 +86,10 @@ sub read_setting {
         return 'bad salt' if length $salt > 86 || $salt =~ /[^.\/0-9A-Za-z]/;
         return setting(7, $salt, log => $log, r => $r, p => $p);
     }
-    my %cost;
-    if ($kind != 1) {
-        %cost = (rounds => 5000);
-        if ($rest =~ s/\Arounds=//) {
-            $rest =~ s/\A([1-9][0-9]*)\$// or return 'bad rounds';
-            %cost = (rounds => held($1), is_written => 1);
-        }
+    my %cost = $kind == 1 ? () : (rounds => 5000);
+    if ($kind != 1 && $rest =~ s/\Arounds=//) {
+        $rest =~ s/\A([1-9][0-9]*)\$// or return 'bad rounds';
+        %cost = (rounds => held($1), is_written => 1);
     }
     my ($salt) = $rest =~ /\A([^\$]*)/;
     return setting($kind, substr($salt, 0, $most_salt{$kind}), %cost);
@@ -117,9 +112,8 @@ sub made_setting {
 
 sub is_replaced {
     my ($old, $new) = @_;
-    return 1 if $old->{kind} != $new->{kind};
-    return 0 if $old->{kind} == 1;
-    return $old->{kind} == 7 ? $old->{product} < $new->{product} : $old->{rounds} < $new->{rounds};
+    my $number = $old->{kind} == 7 ? 'product' : 'rounds';
+    return $old->{kind} != $new->{kind} || $old->{kind} != 1 && $old->{$number} < $new->{$number};
 }
 
 # ---- Work and cost
@@ -139,8 +133,7 @@ sub counts {
     return (1002, $first + $first + 3 + length($digits) + 1000 * (16 + $length) + 666 * $salt + 857 * $length, 0, 0)
         if $kind == 1;
     my ($rounds, $wide) = ($setting->{rounds}, $digest_length{$kind});
-    my $ones = $digits =~ tr/1//;
-    my $bytes = $first + $first + $ones * $wide + (length($digits) - $ones) * $length;
+    my $bytes = $first + $first + ($digits =~ tr/1//) * $wide + ($digits =~ tr/0//) * $length;
     $bytes += $length * $length + $salt * (16 + $byte) + $rounds * ($wide + $length);
     $bytes += $salt * ($rounds - int(($rounds + 2) / 3)) + $length * ($rounds - int(($rounds + 6) / 7));
     return ($rounds + 4, $bytes, 0, 0);
@@ -194,9 +187,7 @@ sub second_digest {
     my $first = $digest->($password . $salt . $password);
     my $message = $password . ($kind == 1 ? '$1$' : '') . $salt . cycle($first, length $password);
     my ($one, $zero) = $kind == 1 ? ("\0", substr $password, 0, 1) : ($first, $password);
-    for (my $rest = length $password; $rest > 0; $rest >>= 1) {
-        $message .= $rest & 1 ? $one : $zero;
-    }
+    for (my $rest = length $password; $rest > 0; $rest >>= 1) { $message .= $rest & 1 ? $one : $zero }
     return $digest->($message);
 }
 
@@ -223,10 +214,8 @@ sub last_digest {
 sub salsa {
     my @x = @_;
     for my $double (1 .. 4) {
-        for my $places ([0, 4, 8, 12], [5, 9, 13, 1], [10, 14, 2, 6], [15, 3, 7, 11],
-            [0, 1, 2, 3], [5, 6, 7, 4], [10, 11, 8, 9], [15, 12, 13, 14])
-        {
-            my @at = @$places;
+        for ([0, 4, 8, 12], [5, 9, 13, 1], [10, 14, 2, 6], [15, 3, 7, 11], [0, 1, 2, 3], [5, 6, 7, 4], [10, 11, 8, 9], [15, 12, 13, 14]) {
+            my @at = @$_;
             for my $turn (7, 9, 13, 18) {
                 my $sum = $x[$at[0]] + $x[$at[3]] & 0xffffffff;
                 $x[$at[1]] ^= ($sum << $turn | $sum >> 32 - $turn) & 0xffffffff;
@@ -242,18 +231,16 @@ sub block_mix {
     my ($part) = @_;
     my @blocks = unpack '(a64)*', $part;
     my ($x, @mixed) = $blocks[-1];
-    push @mixed, $x = pack 'V*', salsa(unpack 'V*', $x ^ $_) for @blocks;
-    return join '', @mixed[grep { !($_ & 1) } 0 .. $#mixed], @mixed[grep { $_ & 1 } 0 .. $#mixed];
+    push @{ $mixed[$_ & 1] }, $x = pack 'V*', salsa(unpack 'V*', $x ^ $blocks[$_]) for 0 .. $#blocks;
+    return join '', map { @$_ } @mixed;
 }
 
 # scryptROMix of a part (section 5).
 sub rom_mix {
     my ($part, $n) = @_;
-    my @rows;
-    for (1 .. $n) {
-        push @rows, $part;
-        $part = block_mix($part);
-    }
+    my @rows = $part;
+    push @rows, block_mix($rows[-1]) for 1 .. $n;
+    $part = pop @rows;
     $part = block_mix($part ^ $rows[unpack('V', substr $part, -64) % $n]) for 1 .. $n;
     return $part;
 }
