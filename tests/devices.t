@@ -16,10 +16,10 @@ use Test::More;
 my $library = preload('faults');
 my %told = (memory => 'out of memory', read => 'read fault', write => 'write fault', random => 'start fault');
 
-# Runs the program with a fault. Beside what it did there are the calls that it made: kind, detail, and whether it failed.
+# Runs the program with a fault. Beside what it did there are its calls: kind, detail, and whether it failed.
 sub with_fault {
     my ($fault, $input, @words) = @_;
-    unlink "$scratch/log";
+    spew("$scratch/log", '');
     my $run = run({ stdin => $input, env => { LD_PRELOAD => $library, FAULT => $fault, FAULT_LOG => "$scratch/log" } }, program(), @words);
     $run->{calls} = [map { [split / /] } split /\n/, slurp("$scratch/log")];
     return $run;

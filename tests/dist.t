@@ -82,9 +82,9 @@ subtest 'README' => sub {
         my $glibc = run('sh', '-c', 'objdump -p "$0" | grep -o "GLIBC_[A-Z0-9_.]*" | sort -Vu | tail -n 1', "$tree/$file")->{out} =~ s/GLIBC_|\n//gr;
         like($readme, qr/^  \Q$what\E: +glibc \Q$glibc\E or later$/m, "glibc that $file needs");
     }
-    my ($said) = $readme =~ /^  libmkpasswd\.a: +a C library with (.*)$/m;
+    my ($said) = $readme =~ /^  libmkpasswd\.a: +a C library with (.*?)$(?!\n {9})/ms;
     my @undefined = run(qw(nm --undefined-only --format=just-symbols), "$tree/lib/libmkpasswd.a")->{out} =~ /^([a-z]\w*)$/mg;
-    is_deeply([sort split /, | and /, $said // ''], [sort keys %{ { map { $_ => 1 } @undefined } }], 'functions that libmkpasswd.a needs');
+    is_deeply([sort split /,\s+|\s+and\s+/, $said // ''], [sort keys %{ { map { $_ => 1 } @undefined } }], 'functions that libmkpasswd.a needs');
     # The loader hides what the program looks for, as an older processor would lack it. x86-64 is the oldest.
     my ($processor) = $readme =~ /^  A processor: +(x86-64\S*) or better$/m;
     my $older = run({ env => { GLIBC_TUNABLES => 'glibc.cpu.hwcaps=-SSE4_2,-AVX2,-AVX512F' } }, "$tree/bin/mkpasswd", '--version');

@@ -22,20 +22,13 @@ my %in = (env => { PATH => "$scratch/bin:$ENV{PATH}", BASH_ENV => undef });
 # A hash: its method and cost, its salt, its digest. Of its form the salt has only its length.
 my $hash = qr{(\$1\$|\$[56]\$(?:rounds=[0-9]+\$)?|\$7\$[./0-9A-Za-z]{11})([./0-9A-Za-z]+)\$([./0-9A-Za-z]+)};
 
-sub form_of {
-    return $_[0] =~ s{$hash}{$1 . 's' x length($2) . "\$" . 'd' x length $3}ger;
-}
-
+sub form_of { return $_[0] =~ s{$hash}{$1 . 's' x length($2) . "\$" . 'd' x length $3}ger }
+sub is_hash_of { return (crypt($_[1], $_[0]) // '') eq $_[0] }
 sub hashes_of {
     my ($text) = @_;
     my @hashes;
     push @hashes, $& while $text =~ /$hash/g;
     return @hashes;
-}
-
-sub is_hash_of {
-    my ($text, $password) = @_;
-    return (crypt($password, $text) // '') eq $text;
 }
 
 # What is wrong with an output beside the one shown, both of a command that makes salts.

@@ -12,6 +12,7 @@ use File::Find ();
 use FindBin qw($Bin);
 use lib "$Bin/lib";
 use List::Util qw(uniq);
+use Memoize qw(memoize);
 use Suite;
 use Test::More;
 
@@ -63,29 +64,21 @@ sub tree {
     my @paths = ('crates.txt', map { substr $_, 1 + length $root } glob "'$root'/{,crates/*/}{BUILD,MODULE}*");
     File::Find::find({ no_chdir => 1, wanted => sub { push @paths, substr $_, 1 + length $root if /\.rt\z/ } },
         grep { -d } glob "'$root'/crates/*/src");
-    my %tree;
-    for my $path (@paths) {
-        $tree{$path} = slurp("$root/$path");
-        utf8::decode($tree{$path});
-    }
+    my %tree = map { $_ => slurp("$root/$_") } @paths;
+    utf8::decode($_) for values %tree;
     return \%tree;
 }
 
 sub blank { return $_[0] =~ s/[^\n]/ /gr }
 
 # A source without comments, strings, characters and `ghost use`, each place staying where it is.
-my %code_of;
-
+memoize('code_of');
 sub code_of {
     my ($text) = @_;
-    return $code_of{$text} //= do {
-        my $code = $text =~ s{
-            //[^\n]* | /\*.*?\*/
-            | \bb?r(\#*)".*?"\1 | "(?:[^"\\]|\\.)*"
-            | '(?:\\[^'\n]+|\\'|[^'\\\n])'
-        }{blank($&)}gsexr;
-        $code =~ s/\bghost\s+use\b[^;]*;/blank($&)/ger;
-    };
+    my $code = $text =~ s{
+        //[^\n]* | /\*.*?\*/ | \bb?r(\#*)".*?"\1 | "(?:[^"\\]|\\.)*" | '(?:\\[^'\n]+|\\'|[^'\\\n])'
+    }{blank($&)}gsexr;
+    return $code =~ s/\bghost\s+use\b[^;]*;/blank($&)/ger;
 }
 
 # Where the bracket that stands at the place is closed.
@@ -102,14 +95,8 @@ sub closed {
 
 # The modules that a source declares, each with whether #[cfg(test)] stands before it, where it begins, and where
 # it ends if it is a block.
-my %modules_of;
-
+memoize('modules');
 sub modules {
-    my ($code) = @_;
-    return @{ $modules_of{$code} //= [modules_in($code)] };
-}
-
-sub modules_in {
     my ($code) = @_;
     my $attribute = qr/#\s*\[(?:[^\[\]]|\[[^\[\]]*\])*\]/;
     my $public = qr/\bpub\b\s*(?:\([^()]*\)\s*)?/;
@@ -162,9 +149,7 @@ sub sources {
 # Where a form stands in code that has none of the allowed forms.
 sub places {
     my ($code, $form, @allowed) = @_;
-    for my $allowed (@allowed) {
-        $code =~ s/$allowed/blank($&)/ge;
-    }
+    for my $allowed (@allowed) { $code =~ s/$allowed/blank($&)/ge }
     my @places;
     push @places, $-[0] while $code =~ /$form/g;
     return @places;
@@ -311,19 +296,17 @@ sub breaches_of_list {
 }
 
 # What is wrong with a source: a line for each breach.
-my %breaches_of;
-
+memoize('breaches_of_source');
 sub breaches_of_source {
-    my ($source, $text) = @_;
-    my ($path, $code, $product) = @$source{qw(path code product)};
-    return @{ $breaches_of{"$path\n$text\n$product"} //= [uniq map {
+    my ($path, $text, $code, $product) = @_;
+    return uniq map {
         my ($what, $broken) = @$_;
         map {
             my $before = substr($code, 0, $_) =~ tr/\n//;
             my $line = (split /\n/, $text, -1)[$before] =~ s/^\s+//r;
-            sprintf '%s:%d: %s: %s', $path, $before + 1, $what, $line;
+            "$path:" . ($before + 1) . ": $what: $line";
         } sort { $a <=> $b } $broken->($path, $code, $product);
-    } @rules] };
+    } @rules;
 }
 
 # What is wrong with a tree.
@@ -336,7 +319,7 @@ sub breaches {
         (map { "$_: dependencies stand in crates.txt alone" } @lists),
         (map { "$_: is not there, and nothing is known of what stands in its place" } @lost),
         breaches_of_list($tree->{'crates.txt'}),
-        map { breaches_of_source($_, $tree->{ $_->{path} }) } sources($tree),
+        map { breaches_of_source($_->{path}, $tree->{ $_->{path} }, @$_{qw(code product)}) } sources($tree),
     );
 }
 

@@ -14,7 +14,7 @@ my $library = preload('faults');
 # The sizes of all calls for memory of a run that ends with the status, with a point for each write.
 sub sizes {
     my ($status, $input, @words) = @_;
-    unlink "$scratch/log";
+    spew("$scratch/log", '');
     my $run = run({ stdin => $input, env => { LD_PRELOAD => $library, FAULT_LOG => "$scratch/log" } }, program(), @words);
     is($run->{status}, $status, "status: @words");
     return [map { /^memory (\d+)/ ? $1 : /^write/ ? '.' : () } split /\n/, slurp("$scratch/log")];

@@ -51,8 +51,7 @@ sub lines_of {
     return join '', map { $text =~ s/N/$_/gr . "\n" } 1 .. $count;
 }
 
-# Lines for a batch: hashes, each kind of refused line, lines that look like the script's own marks, blocks that begin with
-# empty lines or have only such, and no line feed at the end.
+# Lines for a batch: hashes, each kind of refused line, lines like the script's own marks, empty blocks, no last line feed.
 sub batch_lines {
     my @odd = (
         '', ':', ':password', 'n' x 65 . ':password', 'n' x 64 . ':password', 'n' x 65, 'no colon', 'n:' . 'p' x 2046,
@@ -84,8 +83,7 @@ sub check_lines {
     return $lines;
 }
 
-# A program that is mkpasswd, but for blocks with a name that says how they fail. Of these it answers three lines and a part
-# of the fourth.
+# A program that is mkpasswd, but for blocks with a name that says how they fail: of these it answers three lines and a part.
 spew("$scratch/stand_in", <<'SH');
 #!/usr/bin/env bash
 text=$(cat; echo .)
@@ -266,39 +264,16 @@ subtest 'secrets' => sub {
     is_deeply([grep { !/\Q$temporary\E/ } @$made], [], 'files are made in $TMPDIR only');
 };
 
-# Starts an sshd on the loopback that the user may enter with a key of this run. Returns its process and lines for ssh_config.
+# Starts an sshd on the loopback that the user may enter with a key of this run. Returns its process and its port.
 sub server {
-    my ($name, $sshd) = @_;
+    my ($sshd) = @_;
     my $port = IO::Socket::INET->new(LocalAddr => '127.0.0.1', Listen => 1)->sockport;
-    spew("$scratch/ssh/$name", <<"CONFIG");
-ListenAddress 127.0.0.1
-HostKey "$scratch/ssh/host"
-AuthorizedKeysFile "$scratch/ssh/user.pub"
-PidFile none
-StrictModes no
-PasswordAuthentication no
-KbdInteractiveAuthentication no
-PermitRootLogin prohibit-password
-MaxStartups 100
-SetEnv HOME="$home"
-CONFIG
     my $process = fork // die;
-    if (!$process) {
-        open STDERR, '>', "$scratch/ssh/$name.log" or die;
-        exec $sshd, '-D', '-e', '-f', "$scratch/ssh/$name", '-p', $port or POSIX::_exit(127);
-    }
-    return ($process, <<"CONFIG");
-Host $name
-    HostName 127.0.0.1
-    Port $port
-    User @{[ (getpwuid $>)[0] ]}
-    IdentityFile "$scratch/ssh/user"
-    IdentitiesOnly yes
-    BatchMode yes
-    UserKnownHostsFile "$scratch/ssh/known"
-    StrictHostKeyChecking accept-new
-    LogLevel ERROR
-CONFIG
+    return ($process, $port) if $process;
+    open STDERR, '>', '/dev/null' or die;
+    exec $sshd, qw(-D -f /dev/null -p), $port, map { ('-o', $_) } 'ListenAddress=127.0.0.1', "HostKey=$scratch/ssh/host",
+        "AuthorizedKeysFile=$scratch/ssh/user.pub", qw(PidFile=none StrictModes=no PasswordAuthentication=no MaxStartups=100),
+        qw(KbdInteractiveAuthentication=no PermitRootLogin=prohibit-password), "SetEnv=HOME=$home" or POSIX::_exit(127);
 }
 
 my $some = join "\n", (split /\n/, batch_lines())[0 .. 349];
@@ -309,9 +284,25 @@ subtest 'machines' => sub {
     needs('sshd, ssh or ssh-keygen' => 'openssh-server', $sshd && !run(qw(sh -c), 'command -v ssh ssh-keygen')->{status}) or return;
     run(qw(ssh-keygen -q -t ed25519 -N), '', '-f', "$scratch/ssh/$_") for qw(host user);
     my $made_folder = $> == 0 && mkdir '/run/sshd', 0755;    # Debian's service makes it when it starts
-    my ($one, $one_config) = server('one', $sshd);
-    my ($two, $two_config) = server('two', $sshd);
-    spew("$scratch/ssh/config", "${one_config}${two_config}Host down\n    HostName 127.0.0.1\n    Port 1\n    BatchMode yes\n");
+    my ($one, $one_port) = server($sshd);
+    my ($two, $two_port) = server($sshd);
+    spew("$scratch/ssh/config", <<"CONFIG");
+Host *
+    HostName 127.0.0.1
+    User @{[ (getpwuid $>)[0] ]}
+    IdentityFile "$scratch/ssh/user"
+    IdentitiesOnly yes
+    BatchMode yes
+    UserKnownHostsFile "$scratch/ssh/known"
+    StrictHostKeyChecking accept-new
+    LogLevel ERROR
+Host one
+    Port $one_port
+Host two
+    Port $two_port
+Host down
+    Port 1
+CONFIG
     my $enters = sub { run('ssh', '-F', "$scratch/ssh/config", $_[0], 'true')->{status} == 0 };
     for (1 .. 30) { last if $enters->('one') && $enters->('two'); sleep 0.1 }
     if (needs('an sshd that can be entered', 'openssh-server', $enters->('one') && $enters->('two'))) {

@@ -105,36 +105,29 @@ for (@peers) {
     };
 }
 
-# Tests that a program which looks for passwords finds the right one in a list.
-sub finds {
-    my ($name, $method, $hash, $out) = @_;
-    return like($out, qr/right horse/, "$name finds the password of $method") || diag($hash);
-}
-
-my %hash_of = map { $_ => run(program(), '-m', $_, '-R', $_ eq 'scrypt' ? 6 : 1000, 'right horse')->{out} } @methods;
-spew("$scratch/words", "wrong\nright horse\nother\n");
-subtest 'john' => sub {
-    needs(john => 'john', -x '/usr/sbin/john' || undef) or return;
-    for my $method (@methods) {
-        spew("$scratch/$method", "user:$hash_of{$method}");
-        my %home = (env => { HOME => $scratch, PATH => "$ENV{PATH}:/usr/sbin" });
+# Programs that look for the right password in a list: how each finds that of a hash, by method.
+my %found = (
+    john => sub {
+        my ($method, $file) = @_;
         my $format = $method eq 'md5crypt' ? $method : 'crypt';
-        my $john = run(\%home, 'john', "--wordlist=$scratch/words", "--format=$format", "$scratch/$method");
-        finds('john', $method, $hash_of{$method}, $john->{out});
-    }
-};
-subtest 'hashcat' => sub {
-    if (!$ENV{HASHCAT}) {
-      SKIP: { skip 'hashcat is tried with HASHCAT=1', 1 }
-        return;
-    }
-    needs(hashcat => 'hashcat') or return;
-    for (['md5crypt', 500], ['sha256crypt', 7400], ['sha512crypt', 1800]) {
-        my ($method, $number) = @$_;
-        spew("$scratch/$method", $hash_of{$method});
-        my @words = (qw(hashcat -a 0 --quiet --potfile-disable -m), $number, "$scratch/$method", "$scratch/words");
-        finds('hashcat', $method, $hash_of{$method}, run({ timeout => 600 }, @words)->{out});
-    }
-};
+        return run({ env => { HOME => $scratch } }, 'john', "--wordlist=$scratch/words", "--format=$format", $file);
+    },
+    hashcat => sub {
+        my $number = { md5crypt => 500, sha256crypt => 7400, sha512crypt => 1800 }->{ $_[0] };
+        return run({ timeout => 600 }, qw(hashcat -a 0 --quiet --potfile-disable -m), $number, $_[1], "$scratch/words");
+    },
+);
+spew("$scratch/words", "wrong\nright horse\nother\n");
+$ENV{PATH} .= ':/usr/sbin';
+for my $program (sort keys %found) {
+    subtest $program => sub {
+        $program ne 'hashcat' || $ENV{HASHCAT} or return plan(skip_all => 'hashcat is tried with HASHCAT=1');
+        needs($program => $program) or return;
+        for my $method ($program eq 'john' ? @methods : @methods[0 .. 2]) {
+            spew("$scratch/$method", run(program(), '-m', $method, '-R', $method eq 'scrypt' ? 6 : 1000, 'right horse')->{out});
+            like($found{$program}->($method, "$scratch/$method")->{out}, qr/right horse/, "$program finds the password of $method");
+        }
+    };
+}
 
 done_testing;

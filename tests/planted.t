@@ -29,17 +29,15 @@ sub rows {
     return @rows;
 }
 
-# What is copied: all but what git and builds keep, and of the sources only where a row changes them.
+# Copies the tree, but for what git and builds keep, and the sources only where a row changes them.
 sub copy_tree {
     my ($copy, @files) = @_;
-    opendir my $folder, $root or die "$root: $!";
-    my @entries = grep { !/^(\.|\.\.|\.git|build|crates|mkpasswd-.*)$/ } readdir $folder;
-    run('cp', '-a', (map { "$root/$_" } @entries), $copy)->{status} and die "no copy of $root\n";
-    if (grep { /^crates\// } @files) {
-        run({ dir => $root }, 'sh', '-c', 'find crates -name out -prune -o -type f -print0 | xargs -0 cp -a --parents -t "$0"', $copy);
-    } else {
-        symlink "$root/crates", "$copy/crates" or die "crates: $!";
-    }
+    my $copied = run({ dir => $root }, 'sh', '-c', 'for file in * .ci; do
+        case $file in build|crates|mkpasswd-*) ;; *) cp -a "$file" "$0" || exit ;; esac
+    done', $copy);
+    die "no copy of $root\n" if $copied->{status};
+    return symlink "$root/crates", "$copy/crates" if !grep { /^crates\// } @files;
+    return run({ dir => $root }, 'sh', '-c', 'find crates -name out -prune -o -type f -print0 | xargs -0 cp -a --parents -t "$0"', $copy);
 }
 
 # A wrapper of the program that stands at this path. Perl code of the row works on @words and $input before the program
@@ -47,11 +45,8 @@ sub copy_tree {
 sub wrap {
     my ($path, %code) = @_;
     rename $path, "$path.real" or die "$path: $!";
-    if (defined $code{wrap}) {
-        spew($path, "#!/usr/bin/env bash\nexport LC_ALL=C\nreal=\$0.real\n$code{wrap}\n");
-    } else {
-        my ($before, $after) = map { $_ // '' } @code{qw(before after)};
-        spew($path, <<"END");
+    my ($before, $after) = map { $_ // '' } @code{qw(before after)};
+    spew($path, defined $code{wrap} ? "#!/usr/bin/env bash\nexport LC_ALL=C\nreal=\$0.real\n$code{wrap}\n" : <<"END");
 #!$^X
 use File::Temp qw(tempdir);
 my (\$files, \@words) = (tempdir(CLEANUP => 1), \@ARGV);
@@ -78,7 +73,6 @@ print STDOUT \$out;
 print STDERR \$err;
 exit \$status;
 END
-    }
     chmod 0755, $path or die "$path: $!";
 }
 
@@ -90,13 +84,16 @@ sub plant {
         my ($key, $text) = @$_;
         if ($key eq 'file') { ($file, $path) = ($text, "$copy/$text") }
         elsif ($key eq 'old') { $old = $text }
-        elsif ($key eq 'new') {
-            my $before = slurp($path);
-            my $places = () = $before =~ /\Q$old\E/g;
-            die "'$old' stands $places times in $file\n" if $places != 1;
-            changed($path, $before =~ s/\Q$old\E/$text/r);
+        elsif ($key eq 'new' || $key eq 'edit') {
+            ($old, $text) = split / ~> /, $text, 2 if $key eq 'edit';
+            my ($front, @backs) = split /\Q$old\E/, slurp($path), -1;
+            die "'$old' stands " . @backs . " times in $file\n" if @backs != 1;
+            spew($path, "$front$text$backs[0]");
         }
-        elsif ($key eq 'add') { changed($path, (-e $path ? slurp($path) : '') . "$text\n") }
+        elsif ($key eq 'add') {
+            make_path(dirname($path));
+            spew($path, (-e $path ? slurp($path) : '') . "$text\n");
+        }
         elsif ($key eq 'gone') { unlink $path or die "$file: $!\n" }
         elsif ($key =~ /^(wrap|before|after)$/) { $code{$key} = $text }
         elsif ($key eq 'only') { $only = $text }
@@ -108,13 +105,6 @@ sub plant {
     }
     wrap($path, %code) if %code;
     return ($only, @sees);
-}
-
-# A file of the copy gets this text, and keeps its mode.
-sub changed {
-    my ($path, $text) = @_;
-    make_path(dirname($path));
-    spew($path, $text);
 }
 
 # Tries one row: returns nothing where its tests saw it, or else what went otherwise.

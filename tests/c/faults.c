@@ -68,6 +68,6 @@ ssize_t write(int file, const void *bytes, size_t size) {
 
 int getentropy(void *bytes, size_t size) {
     if (fails("random", &random_calls, size))
-        return errno = EIO, -1;
+        return errno = ENOSYS, -1;
     return syscall(SYS_getrandom, bytes, size, 0) == (long)size ? 0 : -1;
 }
