@@ -177,7 +177,7 @@ subtest 'hashes' => sub {
     }
     ok(!(grep { index($_->[1], '$') } @rows), 'perl has the crypt of libxcrypt');
     ok(!(grep { hash_of(read_setting($_->[1]), $_->[0]) ne $_->[1] } @known), 'known hashes');
-    my @calls;
+    my @calls = ['bound', '', '$7$GU..../....', 0, 8];    # at the ceiling
     for my $number (0 .. $#rows) {
         my ($password, $hash) = @{ $rows[$number] };
         my ($setting, $room, $other) = ($hash =~ s/\$[^\$]*$//r, 1 + length $hash, $password);
