@@ -188,7 +188,8 @@ static const char *left_in(const uint8_t *page, size_t room)
     return end ? (const char *)out : "unchanged";
 }
 
-static void perform(struct job *job)
+/* Makes the call of a job twice, above the last STACK_LEFT bytes of its stack. */
+__attribute__((noinline)) static void perform(struct job *job)
 {
     const struct row *row = &job->row;
     struct mkpasswd_report *report = (struct mkpasswd_report *)(void *)(job->report_page + PAGE - sizeof *report);
@@ -197,6 +198,9 @@ static void perform(struct job *job)
     int pass, passes = entropy_kind == 'r' && strncmp(row->call, "new", 3) == 0 ? 1 : 2;
     int has_report = strncmp(row->call, "words", 5) != 0 && !IS("version");
 
+#ifndef SANITIZED
+    *(volatile uint8_t *)__builtin_alloca((size_t)((uint8_t *)&job - job->stack) - STACK_LEFT) = 0;
+#endif
     for (pass = 0; pass < passes; pass++) {
         int has_none = pass == 1 && row->is_str;
         int32_t result;
@@ -214,17 +218,6 @@ static void perform(struct job *job)
             strcat(strcat(job->line, " DIFFERS FROM "), job->first);
         strcpy(job->first, job->line);
     }
-}
-
-/* Leaves no more of the stack than STACK_LEFT. */
-__attribute__((noinline)) static void perform_with_little_stack(struct job *job)
-{
-#ifndef SANITIZED
-    uint8_t here;
-
-    *(volatile uint8_t *)__builtin_alloca((size_t)(&here - job->stack) - STACK_LEFT) = 0;
-#endif
-    perform(job);
 }
 
 /* ---- threads, which share the rows out among them */
@@ -256,7 +249,7 @@ static void *run(void *argument)
         read_row(&job->row, field, fields);
         next_row();
         pthread_mutex_unlock(&lock);
-        perform_with_little_stack(job);
+        perform(job);
         lines[number] = strdup(job->line);
         pthread_mutex_lock(&lock);
     }
@@ -302,14 +295,11 @@ int main(void)
                 puts(lines[printed]);
             continue;
         }
-        if (field[0][0] == 't')
-            threads = atol(field[1]);
-        if (field[0][0] == 'r')
-            refused = atol(field[1]);
-        if (field[0][0] == 'e') {
-            entropy_kind = field[1][0];
+        threads = field[0][0] == 't' ? atol(field[1]) : threads;
+        refused = field[0][0] == 'r' ? atol(field[1]) : refused;
+        entropy_kind = field[0][0] == 'e' ? field[1][0] : entropy_kind;
+        if (field[0][0] == 'e')
             from_hex(field[1], entropy);
-        }
         next_row();
     }
     return 0;
