@@ -1,0 +1,94 @@
+"""A password hasher for Django.
+
+    PASSWORD_HASHERS = ["mkpasswd.django.MkpasswdPasswordHasher", ..]
+
+Django reads the algorithm in front of the first "$", so a hash is stored as "mkpasswd$6$..". Put "mkpasswd" in front of
+hashes that come from elsewhere. Another method, number of rounds or budget is set in a subclass.
+"""
+import os
+from typing import Any, Dict, Optional
+
+from django.contrib.auth.hashers import BasePasswordHasher, mask_hash
+from django.utils.translation import gettext_noop as _
+
+from . import DEFAULT_BUDGET, _method, _setting, crypt, hash, needs_rehash, verify
+
+__all__ = ["MkpasswdPasswordHasher"]
+
+_NAMES = {"1": "md5crypt", "5": "sha256crypt", "6": "sha512crypt", "7": "scrypt"}
+
+
+class MkpasswdPasswordHasher(BasePasswordHasher):
+    algorithm = "mkpasswd"
+    method = "sha512crypt"
+    rounds: Optional[int] = None
+    budget: float = DEFAULT_BUDGET
+
+    def salt(self) -> str:
+        return self._new_setting()[self._front() :]
+
+    def encode(self, password: str, salt: str) -> str:
+        if not salt or "$" in salt:
+            raise ValueError("salt must be provided and must not have a $")
+        encoded = crypt(password, self._new_setting()[: self._front()] + salt, budget=self.budget)
+        if encoded.startswith("*"):
+            raise ValueError("bad salt")
+        return self.algorithm + encoded
+
+    def verify(self, password: str, encoded: str) -> bool:
+        field = self._field(encoded)
+        try:
+            return verify(password, field, budget=self.budget)
+        except ValueError as fault:
+            # Nobody's password is too long or has a zero byte, whoever types it.
+            if type(fault) is ValueError:
+                return False
+            raise
+
+    def must_update(self, encoded: str) -> bool:
+        return needs_rehash(self._field(encoded), self.method, self.rounds)
+
+    def harden_runtime(self, password: str, encoded: str) -> None:
+        # The rounds that the stored hash has less than a new one; with another method or scrypt a whole new hash.
+        decoded = self.decode(encoded)
+        rounds = self.rounds
+        if decoded["method"] == self.method and self.method.startswith("sha"):
+            rounds = max((rounds or 5000) - decoded["rounds"], 1000)
+        try:
+            hash(password, self.method, rounds=rounds, budget=self.budget)
+        except ValueError:
+            pass
+
+    def decode(self, encoded: str) -> Dict[str, Any]:
+        front, dollar, digest = self._field(encoded).rpartition("$")
+        method = _NAMES[front[1]]
+        rounds, salt = None, front[3:]
+        if method == "scrypt":
+            salt = front[14:]
+        elif method != "md5crypt":
+            given = salt.startswith("rounds=")
+            rounds = int(salt[7:].partition("$")[0]) if given else 5000
+            salt = salt.rpartition("$")[2]
+        return {"algorithm": self.algorithm, "method": method, "rounds": rounds, "salt": salt, "hash": digest}
+
+    def safe_summary(self, encoded: str) -> Dict[str, Any]:
+        decoded = self.decode(encoded)
+        return {
+            _("algorithm"): decoded["algorithm"],
+            _("method"): decoded["method"],
+            _("rounds"): decoded["rounds"],
+            _("salt"): mask_hash(decoded["salt"]),
+            _("hash"): mask_hash(decoded["hash"]),
+        }
+
+    def _field(self, encoded: str) -> str:
+        if not encoded.startswith(self.algorithm + "$"):
+            raise ValueError("the hash is of another hasher")
+        return encoded[len(self.algorithm) :]
+
+    def _new_setting(self) -> str:
+        return _setting(_method(self.method, self.rounds), os.urandom(24)).decode("ascii")
+
+    def _front(self) -> int:
+        setting = self._new_setting()
+        return 14 if self.method == "scrypt" else setting.rindex("$") + 1
