@@ -1,0 +1,12 @@
+"""The tests try the package of this tree over the library of this tree, which is found by its soname."""
+import ctypes
+import os
+import sys
+
+from support import LIBRARY, ROOT
+
+sys.dont_write_bytecode = True
+sys.path.insert(0, str(ROOT / "python" / "src"))
+# For the interpreters that tests start.
+os.environ.update(PYTHONPATH=sys.path[0], LD_LIBRARY_PATH=str(ROOT), PYTHONDONTWRITEBYTECODE="1")
+ctypes.CDLL(str(LIBRARY))
