@@ -6,7 +6,8 @@
 #                 without CPU leaves ./mkpasswd
 # make bench      measures against libxcrypt, in some two minutes
 # make soak       has LINES random lines of each kind answered (default 10000), by the SEED that it prints or is given
-# make lib        builds the C libraries, libmkpasswd.a and libmkpasswd.so.1
+# make lib        builds the C libraries, libmkpasswd.a and libmkpasswd.so.2
+# make fuzz       has libFuzzer make random calls of the C libraries, with FUZZ_SECONDS for each target (default 200)
 # make install    puts the program, the C libraries, the manuals and the rest under PREFIX (default /usr/local)
 # make dist       packs the same into an archive that needs no toolchain
 # make clean      removes what was built
@@ -19,7 +20,7 @@ RT ?= rt
 CPU =
 
 SOURCES := $(shell find crates -path '*/out' -prune -o \( -name '*.rt' -o -name '*.antt' \) -print) crates.txt
-# The version has one place. The header has it as a number, which tools/check-c compares.
+# The version has one place. The header has it as a number, which tests/calls.t compares.
 VERSION := $(shell tools/version)
 # For x86-64-v4 there is only the toolchain's own compiler, whose code is slower than the portable one.
 FOR_CPU := $(if $(CPU),--cpu $(CPU)) $(if $(filter x86-64-v4,$(CPU)),--backend rattle)
@@ -27,7 +28,7 @@ ARCHIVE ?= mkpasswd-$(VERSION)-$(if $(filter x86-64,$(CPU)),x86_64_v1,$(subst -,
 # The scripts take these from the environment, whatever characters they have.
 export DESTDIR PREFIX LIBDIR ARCHIVE RT
 
-.PHONY: all run lib check layers gate bench soak install dist clean FORCE
+.PHONY: all run lib fuzz check layers gate bench soak install dist clean FORCE
 .DELETE_ON_ERROR:
 # rt takes all cores for itself.
 .NOTPARALLEL:
@@ -47,7 +48,7 @@ build/cpu: FORCE
 run: mkpasswd
 	@./mkpasswd -m md5crypt -S xxxxxxxx password
 
-lib: libmkpasswd.a libmkpasswd.so.1
+lib: libmkpasswd.a libmkpasswd.so.2
 
 # One object of the proved calls and the toolchain's few lines for memory, which offers the calls alone.
 build/mkpasswd.o: $(SOURCES) build/cpu
@@ -60,8 +61,23 @@ libmkpasswd.a: build/mkpasswd.o
 	rm -f $@
 	ar rcsD $@ build/mkpasswd.o
 
-libmkpasswd.so.1: build/mkpasswd.o
-	$(CC) -shared -Wl,-soname,$@ -Wl,-z,relro -Wl,-z,now -Wl,-z,defs $(LDFLAGS) -o $@ build/mkpasswd.o
+libmkpasswd.so.2: build/mkpasswd.o libmkpasswd.map
+	$(CC) -shared -Wl,-soname,$@ -Wl,--version-script=libmkpasswd.map -Wl,--no-undefined-version \
+		-Wl,-z,relro -Wl,-z,now -Wl,-z,defs $(LDFLAGS) -o $@ build/mkpasswd.o
+
+# The targets keep what they found in build/fuzz, from where the next run begins.
+FUZZERS := $(patsubst tests/c/fuzz_%.c,build/fuzz/%,$(wildcard tests/c/fuzz_*.c))
+
+build/fuzz/%: tests/c/fuzz_%.c include/mkpasswd.h libmkpasswd.a
+	@mkdir -p $@.corpus
+	clang -std=c11 -Wall -Wextra -Werror -g -O1 -fsanitize=fuzzer,address,undefined -fno-sanitize-recover=all \
+		-Iinclude $< libmkpasswd.a -lcrypt -o $@
+
+fuzz: $(FUZZERS)
+	for fuzzer in $(FUZZERS); do \
+		$$fuzzer -max_total_time=$(or $(FUZZ_SECONDS),200) -max_len=1600 -timeout=20 -print_final_stats=1 \
+			-artifact_prefix=$$fuzzer. $$fuzzer.corpus || exit 1; \
+	done
 
 # The layers and the gate come first, since they need nothing built.
 check: layers gate mkpasswd lib
@@ -101,4 +117,4 @@ dist: mkpasswd lib
 	tools/pack $(or $(CPU),x86-64-v2)
 
 clean:
-	rm -rf mkpasswd libmkpasswd.a libmkpasswd.so.1 build crates/*/out mkpasswd-*-linux.tar.gz
+	rm -rf mkpasswd libmkpasswd.a libmkpasswd.so.2 build crates/*/out mkpasswd-*-linux.tar.gz

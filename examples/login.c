@@ -1,36 +1,24 @@
-/* A login check, as a service would write it: what the hash by a stored text costs is compared with a limit before the
- * password is hashed.
+/* Checks a password at a login.
  *
- * usage: login STORED < FILE     the password is the first line of FILE, and that may be empty
+ * usage: login STORED < FILE     the password is the first line of FILE, which may be empty
  *
- * It ends with 0 where the password fits, with 1 where it doesn't, and with 2 and a message where that can't be told: the
- * usage is wrong, a read fails or there is nothing to read, the stored text or the password is refused, the hash costs too
- * much, or memory runs out. */
+ * Exits with 0 if the password matches the stored hash, with 1 if it doesn't, and with 2 and a message if there is nothing
+ * to compare: the usage is wrong, a read fails or there is no input, the stored hash or the password is invalid, the hash
+ * would cost more than the budget, or memory runs out. */
 #define _POSIX_C_SOURCE 200809L /* for read */
 #include <mkpasswd.h>
 #include <stdio.h>
 #include <string.h>
 #include <unistd.h>
 
-/* Bytes digested and mixed. Below it are md5crypt, SHA-crypt with up to 75,000 rounds, and scrypt with N = 2^14, r = 32
- * and p = 1, for any password; and SHA-crypt with 1,000,000 rounds for passwords of up to 40 bytes. */
-#define LIMIT 150000000
-
-static int fail(const char *words)
+static int fail(const char *message)
 {
-    fprintf(stderr, "login: %s\n", words);
+    fprintf(stderr, "login: %s\n", message);
     return 2;
 }
 
-static int refuse(int32_t number)
-{
-    char words[MKPASSWD_TEXT_SIZE];
-
-    return fail(mkpasswd_refusal_str(number, words, sizeof words) < 0 ? "refused" : words);
-}
-
-/* Reads the first line of standard input, and answers its length; -1 where a read fails or there is nothing to read. It
- * takes no stdio, whose buffer would keep a copy. */
+/* Reads the first line of standard input and returns its length, or -1 if a read fails or there is no input. Without stdio,
+ * whose buffer would keep a copy. */
 static ssize_t read_line(uint8_t *line, size_t room)
 {
     size_t len = 0;
@@ -46,7 +34,7 @@ static ssize_t read_line(uint8_t *line, size_t room)
     return got < 0 || len == 0 ? -1 : (ssize_t)len;
 }
 
-/* Zeros that no compiler leaves out. Where there is explicit_bzero (glibc, musl, the BSDs), that is the call to take. */
+/* Zeros that no compiler leaves out. Where there is explicit_bzero (glibc, musl, the BSDs), call that. */
 static void wipe(uint8_t *bytes, size_t len)
 {
     volatile uint8_t *byte = bytes;
@@ -57,18 +45,15 @@ static void wipe(uint8_t *bytes, size_t len)
 
 static int login(const char *stored, const uint8_t *password, size_t len)
 {
-    struct mkpasswd_work work;
-    uint64_t cost;
-    int32_t answer = mkpasswd_cost_str(stored, len, &cost);
+    struct mkpasswd_report report;
+    char message[MKPASSWD_TEXT_SIZE];
 
-    if (answer < 0)
-        return refuse(answer);
-    if (cost > LIMIT)
-        return fail("a hash by this text costs too much");
-    answer = mkpasswd_fits(password, len, (const uint8_t *)stored, strlen(stored), &work);
-    if (answer < 0)
-        return refuse(answer);
-    return answer == 1 ? 0 : 1;
+    if (mkpasswd_verify(password, len, (const uint8_t *)stored, strlen(stored), MKPASSWD_BUDGET, &report))
+        return 0;
+    if (report.reason == MKPASSWD_DIFFERS)
+        return 1;
+    mkpasswd_words_str(report.reason, message, sizeof message);
+    return fail(message);
 }
 
 int main(int argc, char **argv)

@@ -1,31 +1,36 @@
-/* mkpasswd for C99 and C++: hashes of passwords in the schemes of crypt(5), and what they cost before they are made.
+/* mkpasswd hashes and checks passwords with the crypt(5) methods md5crypt ($1$), sha256crypt ($5$), sha512crypt ($6$) and
+ * scrypt ($7$). For C99 and C++98, and later ones; link with -lmkpasswd. libmkpasswd(3) is the manual. A login is
  *
- * md5crypt ($1$), sha256crypt ($5$), sha512crypt ($6$) and scrypt ($7$). Link with -lmkpasswd.
+ *     if (mkpasswd_verify_str(password, stored, MKPASSWD_BUDGET, NULL))
+ *         let_in();
  *
- * A call answers a number: from 0 on what it was asked for, and below 0 one of MKPASSWD_REFUSED_.., whose words
- * mkpasswd_refusal() gives. Of several refusals the first that holds is answered, in the order in which a call lists
- * them. After a refusal the caller's bytes and numbers are as they were, but for the `work` of mkpasswd_fits() and
- * mkpasswd_hash(), which is that of this call: all 0, or where memory ran out the memory that was got before.
+ * Each call returns 1 if it did what its name says, and 0 otherwise. A 0 covers everything else: a wrong password, a
+ * locked account, an empty or malformed field, another scheme, a hash that costs too much, no memory. The report says
+ * which (`reason`). It is written as a whole by every call that has one, whatever it held before. If several refusals
+ * apply, the first one in this order is reported: password, setting, method, cost, budget, room in `out`, random words,
+ * memory.
  *
- * A list of bytes is a pointer and a number of bytes; it may hold any bytes and needs no byte 0 behind it. No call keeps
- * a pointer, writes anything elsewhere, or has any state: any number of threads may call at once, also with the same
- * bytes to read.
+ * After a 0, mkpasswd_new(), mkpasswd_hash() and mkpasswd_setting() leave the string "*0" in `out` ("*1" if the given
+ * setting begins with "*0"), cut to the room there is. No password matches it, so a caller who stores it unseen locks the
+ * account. Bytes after its byte 0 are unchanged.
  *
- * Nothing is wiped: a call may leave copies of the password, and of what it computed from it, on the stack that it used
- * and in heap memory that it has freed. Nor is anything hidden from a clock: a hash and a comparison take the time that
- * they take, and scrypt reads its table at places that depend on the password.
+ * Input is a pointer and a number of bytes; it may hold any bytes, and needs no byte 0 at its end. The calls that end in
+ * _str take strings instead. No call keeps a pointer or has state: any number of threads may call at once, also with the
+ * same input. mkpasswd_new() alone asks the system for something, 24 random bytes from getentropy(3).
  *
- * What the caller has to hold:
- * - each pointer is valid for its number of bytes, and not null, also where that number is 0. C++ meets this where an
- *   empty std::vector, std::span or std::string_view answers null for data(): hand in the address of any byte then, as
- *   in reinterpret_cast<const uint8_t *>(v.empty() ? "" : reinterpret_cast<const char *>(v.data()));
- * - what a call writes to overlaps nothing else that is handed to it;
- * - while a call runs nothing else writes to what it reads, and nothing else reads or writes what it writes to;
- * - malloc, realloc and free come from one allocator, which aligns a block to each power of two up to 16 that divides its
- *   size, as the C library's does;
- * - no call is made from a signal handler, nor in the child that a process with threads has forked, before it runs
- *   another program;
- * - a call has 64 KiB of stack; it takes some 20 KiB. */
+ * The caller makes sure of this:
+ * - Each pointer is valid for its number of bytes and is not null, even if that number is 0. In C++ an empty std::vector,
+ *   std::span or std::string_view may have a null data(): pass the address of any byte in that case, or use a _str call.
+ * - `out` and the report overlap nothing else that the call is given.
+ * - Until the call returns, no other thread writes to its input, or reads or writes its output.
+ * - malloc, realloc and free belong to one allocator, which aligns a block to every power of two up to 16 that divides its
+ *   size, as the C library's does.
+ * - A signal handler makes no call, and neither does the child of fork(2) in a process with threads before it runs execve(2).
+ * - 64 KiB of stack are free. A call uses some 20 KiB.
+ *
+ * Nothing is wiped: copies of the password, and of what was computed from it, may remain on the stack and in freed memory.
+ * The calls don't hide from a clock what they work on: comparisons end early, and scrypt reads its table at places that
+ * depend on the password. */
 #ifndef MKPASSWD_H
 #define MKPASSWD_H
 
@@ -37,143 +42,203 @@
 extern "C" {
 #endif
 
-/* With this a compiler tells of a null that it sees, and its sanitizers of one that they meet. */
+/* Where the compiler has these, it warns about an ignored result and about a null that it sees. */
 #if defined __GNUC__ || defined __clang__
+#define MKPASSWD_EXPORT __attribute__((visibility("default"), nothrow))
+#define MKPASSWD_CHECKED __attribute__((warn_unused_result))
 #define MKPASSWD_NONNULL __attribute__((nonnull))
 #else
+#define MKPASSWD_EXPORT
+#define MKPASSWD_CHECKED
 #define MKPASSWD_NONNULL
 #endif
 
-/* The version: 10000 times its first number, 100 times its second, and its third. */
+/* The version: 10000 * major + 100 * minor + patch. */
 #define MKPASSWD_VERSION 10000
 
-/* The bytes of a buffer for any hash, setting or words for a refusal, with the byte 0 behind it. */
+/* The size of a buffer for any hash, setting or message, with its byte 0. */
 #define MKPASSWD_TEXT_SIZE 145
 
-/* The most bytes of a password. */
+/* The longest password, in bytes. */
 #define MKPASSWD_PASSWORD_LIMIT 1024
 
-/* Refusals. The words before each colon are those of mkpasswd_refusal(). */
-#define MKPASSWD_REFUSED_PASSWORD_TOO_LONG (-1)   /* password too long: more than MKPASSWD_PASSWORD_LIMIT bytes */
-#define MKPASSWD_REFUSED_PASSWORD_ZERO_BYTE (-2)  /* password has a zero byte */
-#define MKPASSWD_REFUSED_SETTING_TOO_LONG (-3)    /* setting too long: more than 384 bytes */
-#define MKPASSWD_REFUSED_BAD_CHARACTER (-4)       /* bad character: one that no setting has */
-#define MKPASSWD_REFUSED_UNKNOWN_SCHEME (-5)      /* unknown scheme: none of $1$, $5$, $6$ and $7$ */
-#define MKPASSWD_REFUSED_BAD_ROUNDS (-6)          /* bad rounds: `rounds=` without a proper number */
-#define MKPASSWD_REFUSED_BAD_COST (-7)            /* bad cost: no eleven of ./0-9A-Za-z for scrypt's cost */
-#define MKPASSWD_REFUSED_SCRYPT_RANGE (-8)        /* scrypt range: N, r and p are none of scrypt's */
-#define MKPASSWD_REFUSED_ABOVE_CEILING (-9)       /* above ceiling: N * r * p is above 8388608 */
-#define MKPASSWD_REFUSED_BAD_SALT (-10)           /* bad salt: none that scrypt takes */
-#define MKPASSWD_REFUSED_OUT_OF_MEMORY (-11)      /* out of memory: only scrypt asks for it */
-#define MKPASSWD_REFUSED_TOO_FEW_BYTES (-12)      /* too few bytes: the text and a byte 0 have no room */
-#define MKPASSWD_REFUSED_UNKNOWN_METHOD (-13)     /* unknown method */
-#define MKPASSWD_REFUSED_COST (-14)               /* cost: none that scrypt takes */
-#define MKPASSWD_REFUSED_UNKNOWN_REFUSAL (-15)    /* unknown refusal */
+/* A budget for a login. It admits what mkpasswd_new() makes at cost 0 with any method, for any password, and SHA-crypt
+ * with up to 75,000 rounds for any password, up to 1,000,000 rounds for passwords of up to 40 bytes. On the machine of
+ * README.md, "Speed", a hash of this cost takes 1.3 seconds with sha256crypt, 0.7 with sha512crypt, 0.2 with scrypt. */
+#define MKPASSWD_BUDGET 150000000
 
-/* Methods, by the numbers of their prefixes. */
+/* Methods, numbered as in their prefixes. */
 #define MKPASSWD_MD5CRYPT 1
 #define MKPASSWD_SHA256CRYPT 5
 #define MKPASSWD_SHA512CRYPT 6
 #define MKPASSWD_SCRYPT 7
 
-/* What a hash takes. No count reaches 2^41. */
+/* Reasons. The call returned 1 exactly if the reason is above 0; a reason is never 0. In front of each colon is the
+ * message of mkpasswd_words(). */
+#define MKPASSWD_FITS 1                          /* fits: the password matches the stored hash; mkpasswd_verify() alone */
+#define MKPASSWD_OUTDATED 2                      /* outdated: mkpasswd_needs_rehash() alone */
+#define MKPASSWD_DONE 3                          /* done: all others */
+#define MKPASSWD_REFUSED_PASSWORD_TOO_LONG (-1)  /* password too long: more than MKPASSWD_PASSWORD_LIMIT bytes */
+#define MKPASSWD_REFUSED_PASSWORD_ZERO_BYTE (-2) /* password has a zero byte */
+#define MKPASSWD_REFUSED_SETTING_TOO_LONG (-3)   /* setting too long: more than 384 bytes */
+#define MKPASSWD_REFUSED_BAD_CHARACTER (-4)      /* bad character: no setting has it; also of a locked account (! or *) */
+#define MKPASSWD_REFUSED_UNKNOWN_SCHEME (-5)     /* unknown scheme: none of $1$, $5$, $6$, $7$; also of an empty field */
+#define MKPASSWD_REFUSED_BAD_ROUNDS (-6)         /* bad rounds: `rounds=` without a valid number */
+#define MKPASSWD_REFUSED_BAD_COST (-7)           /* bad cost: scrypt's is not eleven of ./0-9A-Za-z */
+#define MKPASSWD_REFUSED_SCRYPT_RANGE (-8)       /* scrypt range: N, r or p is invalid */
+#define MKPASSWD_REFUSED_ABOVE_CEILING (-9)      /* above ceiling: N * r * p is above 8388608 */
+#define MKPASSWD_REFUSED_BAD_SALT (-10)          /* bad salt: invalid for scrypt */
+#define MKPASSWD_REFUSED_OUT_OF_MEMORY (-11)     /* out of memory: scrypt alone allocates */
+#define MKPASSWD_REFUSED_TOO_FEW_BYTES (-12)     /* too few bytes: `out` has no room for the result and a byte 0 */
+#define MKPASSWD_REFUSED_UNKNOWN_METHOD (-13)    /* unknown method */
+#define MKPASSWD_REFUSED_COST (-14)              /* cost: scrypt takes 0 and 6 to 11 */
+#define MKPASSWD_OVER_BUDGET (-16)               /* over budget: the hash can cost more than the budget */
+#define MKPASSWD_DIFFERS (-17)                   /* differs: the password doesn't match; mkpasswd_verify() alone */
+#define MKPASSWD_CURRENT (-18)                   /* current: not outdated; mkpasswd_needs_rehash() alone */
+#define MKPASSWD_NO_RANDOM_WORDS (-19)           /* no random words: the system gave none; mkpasswd_new() alone */
+
+/* The work of a hash. Each count is below 2^41. */
 struct mkpasswd_work {
     uint64_t digests; /* digests made */
     uint64_t bytes;   /* bytes digested */
-    uint64_t mixes;   /* mixings of 2r blocks of 64 bytes, by scrypt alone */
+    uint64_t mixes;   /* mixings of 2r blocks of 64 bytes; scrypt alone */
     uint64_t table;   /* bytes of scrypt's table */
     uint64_t scratch; /* bytes of scrypt's scratch memory */
 };
 
-/* Whether a password fits a stored text: 1 or 0. `work` gets the counts of this call.
- *
- * Refusals: those of a password, those of a setting (-3 to -10) for the stored text, and out of memory. */
-int32_t mkpasswd_fits(const uint8_t *password, size_t password_len, const uint8_t *stored, size_t stored_len,
-    struct mkpasswd_work *work) MKPASSWD_NONNULL;
+struct mkpasswd_report {
+    int32_t reason;            /* one of the above */
+    uint32_t length;           /* of what is in `out`, without its byte 0; 0 if the call returned 0 or has no `out` */
+    uint64_t cost;             /* the greatest cost of a hash with this setting, for a password of this length: the bytes it
+                                  digests and mixes. It is below 2^42. If password and setting (or method and cost) are
+                                  valid it is reported even if the call returns 0; otherwise, and by
+                                  mkpasswd_needs_rehash() and mkpasswd_setting(), it is 0. */
+    struct mkpasswd_work work; /* what the call did; all 0 if it hashed nothing */
+    uint64_t reserved;         /* 0 */
+};
 
-/* Hashes a password by the setting at the front of a text, which may be a stored text. The hash and a byte 0 are put into
- * `out`, what stands behind them in its `out_len` bytes is left alone, and the length of the hash is answered. `work` gets
- * the counts of this call.
- *
- * Refusals: those of a password, those of a setting, too few bytes (told before anything is hashed), and out of
- * memory. */
-int32_t mkpasswd_hash(const uint8_t *password, size_t password_len, const uint8_t *setting, size_t setting_len,
-    uint8_t *out, size_t out_len, struct mkpasswd_work *work) MKPASSWD_NONNULL;
+typedef char mkpasswd_report_has_64_bytes[sizeof(struct mkpasswd_report) == 64 ? 1 : -1];
+typedef char mkpasswd_report_has_work_at_16[offsetof(struct mkpasswd_report, work) == 16 ? 1 : -1];
 
-/* What a hash by the setting of a text takes at most, for any password of so many bytes: `most` gets it, and 0 is
- * answered. Nothing is hashed for it and no memory is taken.
- *
- * Refusals: password too long, and those of a setting. */
-int32_t mkpasswd_bound(const uint8_t *stored, size_t stored_len, size_t password_len, struct mkpasswd_work *most)
-    MKPASSWD_NONNULL;
+/* Returns 1 exactly if the password matches the stored hash and that hash costs at most `budget`. A budget of 0 lets
+ * nobody in. Above the budget nothing is hashed. */
+MKPASSWD_EXPORT MKPASSWD_CHECKED MKPASSWD_NONNULL int32_t mkpasswd_verify(const uint8_t *password, size_t password_len,
+    const uint8_t *stored, size_t stored_len, uint64_t budget, struct mkpasswd_report *report);
 
-/* What such a hash costs at most, as one number: the bytes that it digests, and for scrypt those that it mixes too. It is
- * below 2^42. Refusals as of mkpasswd_bound(). */
-int32_t mkpasswd_cost(const uint8_t *stored, size_t stored_len, size_t password_len, uint64_t *cost) MKPASSWD_NONNULL;
+/* Hashes a new password, with a salt from getentropy(3), and puts the hash and a byte 0 into `out`; MKPASSWD_TEXT_SIZE
+ * bytes are enough. `cost` is as in `mkpasswd -R`: the rounds of SHA-crypt, which are clamped to 1000 to 999999999; 6 to 11
+ * for scrypt, for N = 2^(cost+7), r = 32 and p = 1; 0 for the method's own, 5000 or 7. md5crypt ignores it. */
+MKPASSWD_EXPORT MKPASSWD_CHECKED MKPASSWD_NONNULL int32_t mkpasswd_new(const uint8_t *password, size_t password_len,
+    uint32_t method, uint32_t cost, uint64_t budget, uint8_t *out, size_t out_len, struct mkpasswd_report *report);
 
-/* Whether the setting of a stored text is out of date where new hashes are made by the setting of another text: 1 where
- * that is of another method, or of the same one with more rounds, or for scrypt with a greater N * r * p; else 0.
- *
- * Refusals: those of a setting for the stored text, and then for the other. */
-int32_t mkpasswd_replaced(const uint8_t *stored, size_t stored_len, const uint8_t *other, size_t other_len)
-    MKPASSWD_NONNULL;
+/* Returns 1 exactly if the stored hash has a valid setting and mkpasswd_new() with this method and cost would improve on
+ * it: the method is another one, or it is the same with more rounds, or for scrypt with a greater N * r * p. */
+MKPASSWD_EXPORT MKPASSWD_CHECKED MKPASSWD_NONNULL int32_t mkpasswd_needs_rehash(const uint8_t *stored, size_t stored_len,
+    uint32_t method, uint32_t cost, struct mkpasswd_report *report);
 
-/* Puts the text of a new setting and a byte 0 into `out`, and answers the text's length. The cost is the number of rounds
- * of SHA-crypt, which is held between 1000 and 999999999, 6 to 11 for scrypt, or 0 for the method's own; md5crypt has but
- * one, whatever the number is. The salt is made of three random words, which the caller draws, from getrandom(2) say.
- *
- * Refusals: unknown method, cost, and too few bytes. */
-int32_t mkpasswd_setting(uint32_t method, uint32_t cost, uint64_t first, uint64_t second, uint64_t third, uint8_t *out,
-    size_t out_len) MKPASSWD_NONNULL;
+/* Reports the greatest cost and work of a hash with the setting in a stored hash, for any password of the given length.
+ * It hashes nothing; `work` is the bound of each count. */
+MKPASSWD_EXPORT MKPASSWD_CHECKED MKPASSWD_NONNULL int32_t mkpasswd_bound(const uint8_t *stored, size_t stored_len,
+    size_t password_len, struct mkpasswd_report *report);
 
-/* Puts the words for a refusal and a byte 0 into `out`, and answers how many bytes the words have. The number is the one
- * that a call answered.
- *
- * Refusals: unknown refusal, and too few bytes. */
-int32_t mkpasswd_refusal(int32_t number, uint8_t *out, size_t out_len) MKPASSWD_NONNULL;
+/* Hashes a password with the setting in a text, which may be a stored hash, as crypt(3) does. It is for a crypt(3) and for
+ * tests: a login is mkpasswd_verify(), and a new password mkpasswd_new(). */
+MKPASSWD_EXPORT MKPASSWD_CHECKED MKPASSWD_NONNULL int32_t mkpasswd_hash(const uint8_t *password, size_t password_len,
+    const uint8_t *setting, size_t setting_len, uint64_t budget, uint8_t *out, size_t out_len,
+    struct mkpasswd_report *report);
+
+/* Puts a setting into `out` whose salt is made of three random words of the caller; method and cost are those of
+ * mkpasswd_new(). It is for tests and for systems with a random source of their own. */
+MKPASSWD_EXPORT MKPASSWD_CHECKED MKPASSWD_NONNULL int32_t mkpasswd_setting(uint32_t method, uint32_t cost, uint64_t first,
+    uint64_t second, uint64_t third, uint8_t *out, size_t out_len, struct mkpasswd_report *report);
+
+/* Puts the message for a reason and a byte 0 into `out`, and returns 1. For any other number it puts "unknown reason" and
+ * returns 0. If the room is too small, it puts as much as there is room for, with the byte 0, and returns 0. So whatever
+ * it returns, `out` holds a string, unless it has no room at all. */
+MKPASSWD_EXPORT MKPASSWD_NONNULL int32_t mkpasswd_words(int32_t reason, uint8_t *out, size_t out_len);
 
 /* MKPASSWD_VERSION of the library that is linked. */
-uint32_t mkpasswd_version(void);
+MKPASSWD_EXPORT uint32_t mkpasswd_version(void);
 
-/* The same for strings that end with a byte 0. */
-static inline int32_t mkpasswd_fits_str(const char *password, const char *stored, struct mkpasswd_work *work)
+/* The same for strings. The report may be null. So may every other pointer: a null password is refused as one with a zero
+ * byte, a null text as an empty one, and a null `out` as one with no room. */
+#ifdef __cplusplus
+#define MKPASSWD_BYTES(text) reinterpret_cast<const uint8_t *>(text)
+#define MKPASSWD_OUT(text) reinterpret_cast<uint8_t *>(text)
+#else
+#define MKPASSWD_BYTES(text) ((const uint8_t *)(text))
+#define MKPASSWD_OUT(text) ((uint8_t *)(text))
+#endif
+
+MKPASSWD_CHECKED static inline int32_t mkpasswd_verify_str(const char *password, const char *stored, uint64_t budget,
+    struct mkpasswd_report *report)
 {
-    return mkpasswd_fits((const uint8_t *)password, strlen(password), (const uint8_t *)stored, strlen(stored), work);
+    struct mkpasswd_report own;
+
+    return mkpasswd_verify(MKPASSWD_BYTES(password ? password : ""), password ? strlen(password) : 1,
+        MKPASSWD_BYTES(stored ? stored : ""), stored ? strlen(stored) : 0, budget, report ? report : &own);
 }
 
-static inline int32_t mkpasswd_hash_str(const char *password, const char *setting, char *out, size_t out_len,
-    struct mkpasswd_work *work)
+MKPASSWD_CHECKED static inline int32_t mkpasswd_new_str(const char *password, uint32_t method, uint32_t cost,
+    uint64_t budget, char *out, size_t out_len, struct mkpasswd_report *report)
 {
-    return mkpasswd_hash((const uint8_t *)password, strlen(password), (const uint8_t *)setting, strlen(setting),
-        (uint8_t *)out, out_len, work);
+    struct mkpasswd_report own;
+    uint8_t none;
+
+    return mkpasswd_new(MKPASSWD_BYTES(password ? password : ""), password ? strlen(password) : 1, method, cost, budget,
+        out ? MKPASSWD_OUT(out) : &none, out ? out_len : 0, report ? report : &own);
 }
 
-static inline int32_t mkpasswd_bound_str(const char *stored, size_t password_len, struct mkpasswd_work *most)
+MKPASSWD_CHECKED static inline int32_t mkpasswd_needs_rehash_str(const char *stored, uint32_t method, uint32_t cost,
+    struct mkpasswd_report *report)
 {
-    return mkpasswd_bound((const uint8_t *)stored, strlen(stored), password_len, most);
+    struct mkpasswd_report own;
+
+    return mkpasswd_needs_rehash(MKPASSWD_BYTES(stored ? stored : ""), stored ? strlen(stored) : 0, method, cost,
+        report ? report : &own);
 }
 
-static inline int32_t mkpasswd_cost_str(const char *stored, size_t password_len, uint64_t *cost)
+MKPASSWD_CHECKED static inline int32_t mkpasswd_bound_str(const char *stored, size_t password_len,
+    struct mkpasswd_report *report)
 {
-    return mkpasswd_cost((const uint8_t *)stored, strlen(stored), password_len, cost);
+    struct mkpasswd_report own;
+
+    return mkpasswd_bound(MKPASSWD_BYTES(stored ? stored : ""), stored ? strlen(stored) : 0, password_len,
+        report ? report : &own);
 }
 
-static inline int32_t mkpasswd_replaced_str(const char *stored, const char *other)
+MKPASSWD_CHECKED static inline int32_t mkpasswd_hash_str(const char *password, const char *setting, uint64_t budget,
+    char *out, size_t out_len, struct mkpasswd_report *report)
 {
-    return mkpasswd_replaced((const uint8_t *)stored, strlen(stored), (const uint8_t *)other, strlen(other));
+    struct mkpasswd_report own;
+    uint8_t none;
+
+    return mkpasswd_hash(MKPASSWD_BYTES(password ? password : ""), password ? strlen(password) : 1,
+        MKPASSWD_BYTES(setting ? setting : ""), setting ? strlen(setting) : 0, budget, out ? MKPASSWD_OUT(out) : &none,
+        out ? out_len : 0, report ? report : &own);
 }
 
-static inline int32_t mkpasswd_setting_str(uint32_t method, uint32_t cost, const uint64_t words[3], char *out,
-    size_t out_len)
+MKPASSWD_CHECKED static inline int32_t mkpasswd_setting_str(uint32_t method, uint32_t cost, uint64_t first,
+    uint64_t second, uint64_t third, char *out, size_t out_len, struct mkpasswd_report *report)
 {
-    return mkpasswd_setting(method, cost, words[0], words[1], words[2], (uint8_t *)out, out_len);
+    struct mkpasswd_report own;
+    uint8_t none;
+
+    return mkpasswd_setting(method, cost, first, second, third, out ? MKPASSWD_OUT(out) : &none, out ? out_len : 0,
+        report ? report : &own);
 }
 
-static inline int32_t mkpasswd_refusal_str(int32_t number, char *out, size_t out_len)
+static inline int32_t mkpasswd_words_str(int32_t reason, char *out, size_t out_len)
 {
-    return mkpasswd_refusal(number, (uint8_t *)out, out_len);
+    uint8_t none;
+
+    return mkpasswd_words(reason, out ? MKPASSWD_OUT(out) : &none, out ? out_len : 0);
 }
 
+#undef MKPASSWD_BYTES
+#undef MKPASSWD_OUT
+#undef MKPASSWD_EXPORT
+#undef MKPASSWD_CHECKED
 #undef MKPASSWD_NONNULL
 
 #ifdef __cplusplus

@@ -3,7 +3,8 @@ package Suite;
 # What the tests share: where things are, how a command is run, and what a missing tool means.
 #
 # A test finds the tree by its own place. So a copy of the tree in which something was changed, documents or programs,
-# is tested by running its own tests.
+# is tested by running its own tests. With T_ONLY=REGEX only the subtests whose names match are run, and what stands
+# outside of subtests.
 
 use strict;
 use warnings;
@@ -14,7 +15,7 @@ use File::Temp qw(tempdir);
 use POSIX ();
 use Test::More;
 
-our @EXPORT = qw($root $scratch program run slurp spew needs is_run);
+our @EXPORT = qw($root $scratch program run slurp spew needs is_run preload);
 
 # The top of the tree.
 our $root = abs_path(dirname(__FILE__) . '/../..');
@@ -24,6 +25,19 @@ our $scratch = tempdir(CLEANUP => 1);
 
 $ENV{LC_ALL} = 'C';
 
+our $is_in_subtest = 0;
+if (defined(my $only = $ENV{T_ONLY})) {
+    my $subtest = \&Test::Builder::subtest;
+    no warnings 'redefine';
+    *Test::Builder::subtest = sub {
+        my ($builder, $name, @rest) = @_;
+        return 1 if !$is_in_subtest && $name !~ /$only/;
+        local $is_in_subtest = 1;
+        local $Test::Builder::Level = $Test::Builder::Level + 1;
+        return $builder->$subtest($name, @rest);
+    };
+}
+
 # The built program. Without one there is nothing to test.
 sub program {
     my $path = "$root/mkpasswd";
@@ -31,13 +45,13 @@ sub program {
     return $path;
 }
 
-# Runs a command; its first argument may be a hash with `stdin` (the bytes that it reads; none by default), `dir`, `env`
-# (names and values, undef to unset) and `timeout` (seconds, 60 by default). Returns a hash: `status`, the exit status or
-# 128 + the signal; `out` and `err`; `timed_out`.
+# Runs a command; its first argument may be a hash with `stdin` (the bytes that it reads; none by default) or `from` (a
+# path that it reads instead), `to` (a path for its output), `dir`, `env` (names and values, undef to unset) and `timeout`
+# (seconds, 60 by default). Returns a hash: `status`, the exit status or 128 + the signal; `out` and `err`; `timed_out`.
 sub run {
     my %with = ref $_[0] ? %{ +shift } : ();
     my @command = @_;
-    my ($in, $out, $err) = map { "$scratch/run.$_" } qw(in out err);
+    my ($in, $out, $err) = map { "$scratch/run.$$.$_" } qw(in out err);
     spew($in, $with{stdin} // '');
     my $pid = fork // die "can't fork: $!";
     if (!$pid) {
@@ -46,8 +60,8 @@ sub run {
             if (defined $with{env}{$_}) { $ENV{$_} = $with{env}{$_} } else { delete $ENV{$_} }
         }
         chdir $with{dir} or die "$with{dir}: $!" if $with{dir};
-        open STDIN, '<', $in or die;
-        open STDOUT, '>', $out or die;
+        open STDIN, '<', $with{from} // $in or die;
+        open STDOUT, '>', $with{to} // $out or die;
         open STDERR, '>', $err or die;
         exec { $command[0] } @command or do { print STDERR "$command[0]: $!\n"; POSIX::_exit(127) };
     }
@@ -57,7 +71,7 @@ sub run {
     waitpid $pid, 0;
     my $status = $? & 127 ? 128 + ($? & 127) : $? >> 8;
     alarm 0;
-    return { status => $status, out => slurp($out), err => slurp($err), timed_out => $timed_out };
+    return { status => $status, out => $with{to} ? '' : slurp($out), err => slurp($err), timed_out => $timed_out };
 }
 
 # Tests that a run printed and ended with exactly this.
@@ -90,6 +104,16 @@ sub needs {
       SKIP: { skip "$tool is missing (Debian package $package)", 1 }
     }
     return 0;
+}
+
+# A library made of one of tests/c, which is loaded before the C library.
+sub preload {
+    my ($name) = @_;
+    my $library = "$scratch/$name.so";
+    my $made = run($ENV{CC} || 'cc', qw(-std=gnu11 -Wall -Wextra -Werror -O1 -fPIC -shared), "$root/tests/c/$name.c",
+        '-o', $library, '-ldl');
+    BAIL_OUT("$name.c: $made->{err}") if $made->{status};
+    return $library;
 }
 
 1;

@@ -1,0 +1,444 @@
+package Lines;
+
+# Random lines for --batch and --check, in chunks. A chunk comes of a seed, a kind and a number, and of nothing else; so a
+# seed gives the same lines again.
+#
+# - A chunk of hash lines goes through --batch, by a method with a given salt, with passwords of 0 to 511 bytes and a few
+#   longer ones; the hashes that it has to give become lines of --check, with right passwords, wrong ones, and texts in
+#   which one character is another. (Scrypt's cheap costs have no words of their own: their stored texts come from crypt,
+#   and only a few lines are hashed by -m scrypt.)
+# - A chunk of hostile lines is put together from pieces of the grammar, or stands at the limits, or has good lines that
+#   were changed, for --batch and --check with any flags. It has a budget, or none of them is dear, so that no line takes
+#   long.
+
+use strict;
+use warnings;
+use Digest::SHA qw(sha256);
+use Exporter qw(import);
+use List::Util qw(max min shuffle);
+use Model;
+
+our @EXPORT = qw(@limits chunks runs);
+
+# What has to come up among many hostile lines, beside refusals and verdicts.
+our @limits = ('line of 2048', 'line of 2049', 'name of 64', 'name of 65', 'password of 1024', 'password of 1025', 'field of 384',
+    'field of 385', 'salt of 86', 'salt of 87', 'product at the ceiling', 'cost at the budget', 'cost behind the budget');
+
+my %chunk_lines = (hash => [100], hostile => [(100) x 12, 800]);    # by turns
+my $dear = 4_000_000;    # a line that costs more is not hashed, but for a few by scrypt
+
+# The chunks of so many lines of each kind: kind, number and lines of each.
+sub chunks {
+    my ($lines) = @_;
+    my @chunks;
+    for my $kind (qw(hostile hash)) {
+        my @sizes = @{ $chunk_lines{$kind} };
+        for (my ($number, $left) = (0, $lines); $left > 0; $number++) {
+            my $count = min($left, $sizes[$number % @sizes]);
+            push @chunks, [$kind, $number, $count];
+            $left -= $count;
+        }
+    }
+    return @chunks;
+}
+
+# The runs of a chunk, each a job and its input.
+sub runs {
+    my ($seed, $kind, $number, $count) = @_;
+    srand unpack 'N', sha256("$seed $kind $number");
+    forget();
+    return $kind eq 'hash' ? hash_chunk($number, $count) : hostile_chunk($number, $count);
+}
+
+# ---- Pieces of lines
+
+sub chance { return rand() < $_[0] }
+sub one_of { return $_[rand @_] }
+sub between { return $_[0] + int rand $_[1] - $_[0] + 1 }
+
+# So many bytes, any but these; or any of these.
+my %bytes_without;
+
+sub bytes_without {
+    my ($length, $without) = @_;
+    my $bytes = $bytes_without{$without} //= [grep { index($without, $_) < 0 } map { chr } 0 .. 255];
+    return join '', map { $bytes->[rand @$bytes] } 1 .. $length;
+}
+
+sub bytes_of { return join '', map { one_of(@_[1 .. $#_]) } 1 .. $_[0] }
+
+sub salt_text { return bytes_of($_[0], @characters) }
+
+my @words_of_many = ("\xc3\xa9", "\xe2\x82\xac", "\xf0\x9f\x98\x80", "\xff\xfe", "\xc0\x80", 'root', ' ', "\t", '$', '.', "\r");
+
+sub name {
+    my $kind = rand;
+    return bytes_of(between(1, 9), 'a' .. 'z') if $kind < 0.45;
+    return bytes_without(between(1, 64), ":\n") if $kind < 0.75;
+    return join '', map { one_of(@words_of_many) } 1 .. between(1, 12) if $kind < 0.9;
+    return bytes_of(between(63, 66), 'a' .. 'z', "\0") if $kind < 0.96;
+    return one_of('', "\0", "\r", bytes_of(200, '$', '!'));
+}
+
+my @lengths = (0 .. 3, 7 .. 9, 15 .. 17, 31 .. 33, 55, 56, 63 .. 65, 111, 112, 127 .. 129, 255, 256, 511 .. 513, 1022 .. 1026);
+
+sub password {
+    my $kind = rand;
+    return bytes_of(between(0, 12), 'a' .. 'z', 0 .. 9) if $kind < 0.45;
+    return bytes_without(between(0, 80), "\0\n") if $kind < 0.65;
+    return join '', map { one_of(@words_of_many, ':', '::', '$6$', '!') } 1 .. between(0, 12) if $kind < 0.8;
+    return bytes_without(one_of(@lengths), "\0\n") if $kind < 0.95;
+    return bytes_of(between(1, 9), 'a', "\0") if $kind < 0.98;
+    return bytes_of(between(1000, 1100), 'a', chance(0.3) ? "\0" : 'b');
+}
+
+# A password that is another one, in one place.
+sub beside {
+    my ($password) = @_;
+    return one_of('a', "\r", ' ') if $password eq '';
+    my $kind = rand;
+    return $password . one_of('a', "\r", ' ', substr $password, -1) if $kind < 0.15 && length $password < 1024;
+    return substr $password, 0, -1 if $kind < 0.3;
+    my $place = $kind < 0.75 ? length($password) - 1 : int rand length $password;
+    my $old = substr $password, $place, 1;
+    my $new;
+    do { $new = chance(0.5) ? $old ^ chr 1 << int rand 8 : chr int rand 256 } while $new =~ /[\0\n]/ || $new eq $old;
+    substr $password, $place, 1, $new;
+    return $password;
+}
+
+# A text with another character of the alphabet in one place from $from on; often in the last one.
+sub with_another_character {
+    my ($text, $from) = @_;
+    my $place = chance(0.3) ? length($text) - 1 : between($from, length($text) - 1);
+    my $old = substr $text, $place, 1;
+    substr $text, $place, 1, one_of(grep { $_ ne $old } @characters);
+    return $text;
+}
+
+sub rounds_text {
+    my $kind = rand;
+    return '' if $kind < 0.1;
+    return 'rounds=' . one_of(1000, 1000, 1000, 1001, between(1000, 1100)) . '$' if $kind < 0.5;
+    my $digits = one_of(
+        0, '00', '', '0999', '01000', '0000001000', between(1, 999), 999, 1000, 1001, 4999, 5000, 5001, between(1000, 20000),
+        999999998 .. 1000000001, 2 ** 31 + 1000, 2 ** 32 - 1, 2 ** 32, 2 ** 32 + 1000, '18446744073709551615',
+        '18446744073709552616', bytes_of(between(1, 12), 0 .. 9), bytes_of(between(20, 390), 0 .. 9), '0' x between(1, 390) . 1000);
+    return "rounds=$digits\$" if $kind < 0.85;
+    return one_of("rounds=$digits", "rounds=+$digits\$", "rounds=-$digits\$", "rounds= $digits\$", "rounds=$digits \$",
+        "rounds=${digits}x\$", "rounds=0x3e8\$", "rounds=1e3\$", "Rounds=$digits\$", "rounds$digits\$", "round=$digits\$",
+        "rounds==$digits\$", "rounds=$digits,", "rounds=1000\$rounds=$digits\$", "\$rounds=$digits\$");
+}
+
+# Three numbers of scrypt whose product is the ceiling, or next to it.
+sub at_the_ceiling {
+    my $log = between(1, 23);
+    my $blocks = between(0, 23 - $log);
+    my @rp = (2 ** $blocks, 2 ** (23 - $log - $blocks));
+    $rp[rand 2] += one_of(-1, 1) if chance(0.4);
+    return ($log, @rp);
+}
+
+# Scrypt's three numbers: cheap, zero, or at the limits of range and ceiling.
+sub scrypt_numbers {
+    my $kind = rand;
+    return (between(1, 5), between(1, 3), between(1, 2)) if $kind < 0.45;
+    return map { one_of($_, 0) } between(1, 8), 1, 1 if $kind < 0.55;
+    if ($kind < 0.65) {
+        my $r = between(1, 4);
+        return (min(63, between(16 * $r - 1, 16 * $r + 1)), $r, one_of(1, 1, 2, 2 ** 30 - 1));
+    }
+    return at_the_ceiling() if $kind < 0.8;
+    if ($kind < 0.9) {
+        my $log = between(1, 20);
+        my $r = between(1, 2 ** (23 - $log));
+        return ($log, $r, between(0, 1) + int 2 ** (23 - $log) / $r);
+    }
+    return (int rand 64, map { between(0, 2 ** one_of(1, 6, 12, 24, 29, 30) - 1) } 1, 2);
+}
+
+sub scrypt_text {
+    my $text = scrypt_cost(scrypt_numbers());
+    my $kind = rand;
+    $text = substr $text, 0, between(0, 11) if $kind < 0.06;
+    substr $text, int rand 11, 1, one_of('_', '$', '-', '@', '`', '~') if $kind >= 0.06 && $kind < 0.14 && length $text == 11;
+    return $text . salt_text(chance(0.2) ? between(84, 89) : between(0, 24)) if $kind < 0.85;
+    return $text . bytes_of(one_of(1, 5, 86, 87), @characters, one_of('_', '~', ','));
+}
+
+# A field by the grammar, whose hash is nobody's.
+sub field {
+    my $prefix = one_of(('$1$') x 4, ('$5$') x 6, ('$6$') x 6, ('$7$') x 9, '', '$', '$$', '$1', '$5', '$7', '1$', '$2b$10$', '$y$j9T$',
+        '$gy$', '$3$$', '$0$', '$8$', '$55$', '$md5$', '$sha1$', '_J9..', 'x', '$a$', '$ 1$', "\$1\0\$");
+    my $text = $prefix;
+    if ($prefix eq '$7$') {
+        $text .= scrypt_text();
+    } else {
+        $text .= rounds_text() if $prefix =~ /[56]/ || chance(0.1);
+        $text .= salt_text(one_of(0, 1, 7 .. 10, 15 .. 18, between(0, 30)));
+    }
+    $text .= '$' . salt_text(one_of(0, 21 .. 23, 42 .. 44, 85 .. 87)) if chance(0.6);
+    $text .= bytes_of(max(0, between(382, 387) - length $text), 'a', 'b', '$') if chance(0.08);
+    substr $text, int rand 1 + length $text, 0, one_of(' ', "\t", "\x7f", "\x80", "\xc3\xa9", "\0", ';', '*', '!', '\\', "\r", '~')
+        if chance(0.08);
+    return $text;
+}
+
+# A good stored text that is another one, or none.
+sub changed {
+    my ($hash) = @_;
+    my $kind = rand;
+    return with_another_character($hash, 3) if $kind < 0.4;
+    return substr $hash, 0, between(1, length $hash) if $kind < 0.5;
+    return $hash . one_of('.', '$', substr $hash, -1) if $kind < 0.55;
+    return $hash =~ s/rounds=\K\d+/one_of('01000', '00', 1, 999, 1001, 5000, 999999999, '9' x between(9, 99))/er if $kind < 0.7;
+    return $hash =~ s/\A(\$5\$|\$6\$)(?!rounds)/${1}rounds=5000\$/r if $kind < 0.73;
+    return $hash =~ s/(?=\$[^\$]*\z)/salt_text(between(1, 20))/er if $kind < 0.8;
+    return $hash =~ s/\A\$\K\w/one_of(1, 5, 6, 7, 2)/er if $kind < 0.85;
+    return $hash =~ s/.*\K\$/\$\$/sr if $kind < 0.9;
+    return one_of('!', '*', '!!', ' ', '$') . $hash;
+}
+
+my @fragments = (':', '::', '$', '$$', '*', '!', "\0", "\r", "\xc3\xa9", "\xff", 'rounds=', 'rounds=1000$', '$1$', '$5$', '$6$', '$7$',
+    0, '00', 9, '999999999', ' ', "\t", "\x7f", '\\', ';', '.', '/');
+
+# A line with one to three changes in any place.
+sub mutated {
+    my ($line) = @_;
+    for (1 .. between(1, 3)) {
+        my $place = int rand 1 + length $line;
+        my $part = between(1, one_of(1, 4, 40));
+        my $kind = int rand 10;
+        if ($kind < 2 && $place < length $line) {
+            substr $line, $place, 1, substr($line, $place, 1) ^ chr 1 << int rand 8;
+        } elsif ($kind == 2) {
+            substr $line, $place, 1, chr int rand 256 if $place < length $line;
+        } elsif ($kind == 3) {
+            substr $line, $place, $part, '';
+        } elsif ($kind < 6) {
+            substr $line, $place, 0, one_of(@fragments);
+        } elsif ($kind == 6) {
+            substr $line, $place, 0, substr $line, $place, $part;
+        } elsif ($kind == 7) {
+            $line = chance(0.5) ? substr $line, 0, $place : substr $line, $place;
+        } elsif ($kind == 8) {
+            substr $line, $place, 0, one_of(@fragments) x between(1, one_of(8, 400, 2048));
+        } else {
+            $line =~ s/:/one_of('', '::', ';', "\0:")/e;
+        }
+    }
+    return $line;
+}
+
+# Lines at the limits: of any job, and of --check.
+my @limit_lines = (
+    sub { bytes_of(between(63, 66), 'n', "\xc3") . ":$_[0]x" },
+    sub { bytes_of(between(63, 66), 'n') . one_of('', ':') },
+    sub { "n:$_[0]" . bytes_of(between(1023, 1026), 'p', ':') },
+    sub { "n:$_[0]" . 'p' x between(1022, 1025) . "\0" },
+    sub { one_of('n', '', 'n' x 65) . ":$_[0]" . one_of('p', ':') x between(2040, 2050) },
+    sub { one_of('n', '') . ":$_[0]" . bytes_of(50, @fragments) x between(50, 1500) },
+);
+my @check_limit_lines = (
+    sub { 'n:!' . 'x' x between(2035, 2039) . ':password' },
+    sub { 'n:' . one_of('$1$', '$5$', '$5$rounds=1$', '$9$', '$7$2/..../....ab$') . bytes_of(between(367, 385), 'a', one_of('b', ' ', '!')) . ':p' },
+    sub { 'n:' . substr(one_of('$1$ab$', '$6$rounds=1000$ab$', '$6$rounds=0$', '$7$', '*') . 'ab' x 192, 0, between(382, 387)) . ':p' },
+    sub { 'n:$7$' . scrypt_cost(at_the_ceiling()) . salt_text(between(0, 9)) . ':p' },
+    sub { 'n:$7$' . one_of(('0/..../....') x 4, './..../....', 'J6..../....') . salt_text(between(85, 88)) . one_of('', '$', '$x', '_') . ':p' },
+    sub { 'n:$7$2/..../....' . one_of('a', ' ', '!', '_', '') . ':p' },
+);
+
+sub limit_line {
+    my ($job) = @_;
+    return one_of(@limit_lines)->('') if !$job->{is_check};
+    return chance(0.5) ? one_of(@check_limit_lines)->() : one_of(@limit_lines)->(one_of('!', '*') . ':');
+}
+
+# A line that no rule of lines or settings is meant for.
+sub junk { return one_of('', ':', '::', ':::', ':x', ':$1$a:', "\0", "\r", 'n', 'n:', 'n::', 'n:::', "n::\0", 'n:!', "\xff" x between(1, 99),
+    bytes_without(between(0, 300), "\n"), join '', map { one_of(@fragments) } 1 .. between(1, 30)) }
+
+sub hostile_line {
+    my ($job, $hashes) = @_;
+    my $kind = rand;
+    return limit_line($job) if $kind < 0.13;
+    return junk() if $kind < 0.16;
+    if (!$job->{is_check}) {
+        my $line = name() . ':' . password();
+        return $kind < 0.36 ? mutated($line) : $line;
+    }
+    my ($hash, $password) = @{ one_of(@$hashes) };
+    return mutated(bytes_of(between(1, 9), 'a' .. 'z') . ":$hash:$password") if $kind < 0.31;
+    return name() . ":$hash:$password" if $kind < 0.47;
+    return name() . ":$hash:" . beside($password) if $kind < 0.51;
+    return name() . ':' . changed($hash) . ":$password" if $kind < 0.61;
+    return name() . ':' . one_of('', '!', '*', '!!', "!$hash", "*$hash", "!\0") . ':' . password() if $kind < 0.66;
+    return name() . ':' . field() . ':' . password();
+}
+
+# ---- Chunks
+
+# The methods and lengths of salts that the chunks of hash lines go through.
+my @plans = map { my $kind = $_; map { [$kind, $_] } 1 .. min(16, $most_salt{$kind}) } 1, 5, 6;
+push @plans, map { [7] } 1 .. 8;
+my %types = (1 => 'md5crypt', 5 => 'sha256crypt', 6 => 'sha512crypt', 7 => 'scrypt');
+
+# How many bytes the password of a hash line has: for each fourth line the next length, and else a few; seldom more
+# than libxcrypt takes.
+sub hash_length {
+    my ($place, $most) = @_;
+    return between(512, 1024) if $most == 512 && chance(0.01);
+    return $place % 4 ? int rand 41 : ($place >> 2) % $most;
+}
+
+sub hash_chunk {
+    my ($number, $count) = @_;
+    my ($kind, $salt_length) = @{ $plans[$number % @plans] };
+    my @work = chance(0.25) ? '--work' : ();
+    my (@checks, @runs);
+    if ($kind == 7) {
+        if (chance(0.1)) {
+            my $made = { kind => 7, type => 'scrypt', cost => 6, salt => salt_text(between(1, 86)) };
+            @checks = hashed(\@runs, job($made, '--batch', @work), [name_of_hash(), bytes_without(hash_length($number, 512), "\0\n")]);
+        }
+        for my $place (@checks .. $count - 1) {
+            my $password = bytes_without(hash_length($number * $chunk_lines{hash}[0] + $place, 512), "\0\n");
+            my $salt = salt_text(chance(0.3) ? between(0, 86) : one_of(0, 1, 22, 85, 86));
+            my $log = chance(0.03) ? 1 : between(2, 6);    # libxcrypt doesn't take N = 2
+            my $setting = setting(7, $salt, log => $log, r => between(1, 6), p => between(1, 4));
+            push @checks, [name_of_hash(), hash_of($setting, $password) // next, $password];
+        }
+    } else {
+        my $choice = rand;
+        my $cost = $choice < 0.6 ? 1000 : $choice < 0.75 ? between(1, 999) : $choice < 0.92 ? between(1001, 1200) : one_of(undef, 0, 5000);
+        my $is_long = $choice >= 0.92 && $kind != 1;
+        my $made = { kind => $kind, type => $types{$kind}, cost => $cost, salt => salt_text($salt_length) };
+        @checks = hashed(\@runs, job($made, '--batch', @work), map {
+            [name_of_hash(), bytes_without(hash_length($number * $chunk_lines{hash}[0] + $_, $is_long ? 65 : 512), "\0\n")]
+        } 0 .. $count - 1);
+    }
+    saw('hash lines') for 1 .. $count;
+    my $input = join '', map { join(':', @$_) . "\n" } map { varied(@$_) } shuffle @checks;
+    chop $input if chance(0.5);
+    return (@runs, [job(undef, '--check', @work), $input]);
+}
+
+sub name_of_hash { return bytes_without(between(1, 64), ":\n") }
+
+# These names and passwords go through --batch, by one more run. Each is returned with its stored text between the two.
+sub hashed {
+    my ($runs, $job, @lines) = @_;
+    push @$runs, [$job, join '', map { "$_->[0]:$_->[1]\n" } @lines];
+    return map { [$_->[0], hash_of($job->{setting}, $_->[1]), $_->[1]] } @lines;
+}
+
+# A line to check: as it is, with another password, or with another character in its stored text.
+sub varied {
+    my ($name, $hash, $password) = @_;
+    my $kind = rand;
+    return [$name, $hash, $password] if $kind < 0.5;
+    return [$name, $hash, beside($password)] if $kind < 0.8;
+    return [$name, with_another_character($hash, 1 + rindex $hash, '$'), $password] if $kind < 0.95;
+    return [$name, substr($hash, 0, -1), $password] if $kind < 0.97;
+    return [$name, $hash . one_of(@characters), $password];
+}
+
+# What the words say of the method, for hostile lines.
+sub hostile_words {
+    my $type = one_of(undef, ('md5crypt', 'md5', 'sha256crypt', 'sha-256', 'sha512crypt', 'sha-512') x 2, 'scrypt');
+    my $kind = $kinds{ $type // 'sha512crypt' };
+    my $cost = $kind == 7 ? one_of(undef, 0, 6 .. 11)
+        : chance(0.8) ? one_of(1, 999, 1000, 1000, between(1000, 1100))
+        : one_of(undef, 0, 5000, 5001, 999999999, 1000000000);
+    return { kind => $kind, type => $type, cost => $cost, salt => chance(0.6) ? salt_text(between(1, $most_salt{$kind})) : undef };
+}
+
+# Good stored texts with their passwords, of all methods.
+sub good_hashes {
+    return map {
+        my $kind = one_of(1, 5, 5, 6, 6, 7, 7);
+        my $salt = salt_text($kind == 7 ? one_of(0, 5, 22, 86) : between(0, $most_salt{$kind}));
+        $salt = bytes_of(between(1, $most_salt{$kind}), '#', '~', '"', '=', 'a', '_', '-') if $kind != 7 && chance(0.1);
+        my $setting = $kind == 7 ? setting(7, $salt, log => between(1, 5), r => between(1, 3), p => between(1, 3))
+            : setting($kind, $salt, chance(0.8) ? (rounds => one_of(1000, between(1000, 1100)), is_written => 1) : (rounds => 5000));
+        my $password = one_of(bytes_of(between(0, 12), 'a' .. 'z'), bytes_without(between(0, 80), "\0\n"), bytes_without(one_of(@lengths), "\0\n"));
+        $password = substr $password, 0, 1024;
+        my $hash = cost($setting, length $password) > $dear ? undef : hash_of($setting, $password);
+        defined $hash ? [$hash, $password] : ();
+    } 1 .. 16;
+}
+
+# A budget for lines of these costs: none, at one of the costs, beside it, or anything.
+sub budget {
+    my @costs = grep { $_ && $_ <= $dear } @_;
+    my $cost = @costs ? one_of(@costs) : 0;
+    my $kind = rand;
+    return if $kind < 0.15;
+    return $cost if $kind < 0.45;
+    return max(0, $cost - 1) if $kind < 0.65;
+    return $dear if $kind < 0.85;
+    return int exp rand log $dear if $kind < 0.92;
+    return one_of(0, '18446744073709551615', 2 ** 41);
+}
+
+# Lines that may cost much, where the words are for scrypt, so that hashes by these words come up too.
+sub dear_lines {
+    my ($job) = @_;
+    my $password = bytes_of(between(0, 70), 'a' .. 'z');
+    return "dear:$password" if !$job->{is_check};
+    my ($log, $r) = @{ one_of([13, 31], [13, 32], [14, 16], [13, 33], [12, 64]) };
+    my $old = one_of(setting(7, 'NaCl', log => $log, r => $r, p => 1), setting(7, 'NaCl', log => 4, r => 1, p => 1),
+        setting(1, 'NaCl'), setting(6, 'NaCl', rounds => 1000, is_written => 1));
+    return 'dear:' . hash_of($old, $password) . ":$password";
+}
+
+# A line that mostly takes no longer than two milliseconds, or is refused by most budgets.
+sub cheap_line {
+    my ($job, $hashes) = @_;
+    my $line;
+    for my $try (1 .. 4) {
+        $line = hostile_line($job, $hashes) =~ tr/\n/\r/r;
+        my $cost = judged($job, $line)->{cost} // 0;
+        last if $cost < $dear / 10 || $cost > $dear || chance(0.1);
+    }
+    return $line;
+}
+
+sub hostile_lines {
+    my ($count) = @_;
+    my @flags = chance(0.35) ? '--batch' : ('--check', chance(0.45) ? '--rehash' : ());
+    my $has_words = $flags[0] eq '--batch' || @flags > 1;
+    my $made = $has_words ? hostile_words() : undef;
+    my $may_be_dear = $made && $made->{kind} == 7 && chance(0.5);
+    $made->{cost} = 6 if $may_be_dear;
+    push @flags, '--work' if chance(0.4);
+    my $job = job($made, @flags);
+    my @hashes = $job->{is_check} ? good_hashes() : ();
+    local %Model::seen;    # of what is only looked at here nothing is counted
+    my @lines = map { cheap_line($job, \@hashes) } 1 .. $count;
+    my %is_dear;
+    if ($may_be_dear) {
+        %is_dear = map { int rand @lines => 1 } 1, 2;
+        $lines[$_] = dear_lines($job) for sort keys %is_dear;
+    }
+    my @costs = map { judged($job, $_)->{cost} // () } @lines;
+    $job->{budget} = budget(@costs);
+    $job->{budget} = one_of(undef, 80_000_000, 160_000_000) if $may_be_dear;
+    for my $place (0 .. $#lines) {
+        my $cost = judged($job, $lines[$place])->{cost} // 0;
+        $lines[$place] = one_of($job->{is_check} ? ('n:!:x', 'n::x') : (), ':x', 'n') if $cost > $dear && !$is_dear{$place};
+    }
+    return ($job, @lines);
+}
+
+sub hostile_chunk {
+    my (undef, $count) = @_;
+    my ($job, @lines) = hostile_lines($count);
+    push @{ $job->{words} }, '--budget', $job->{budget} if defined $job->{budget};
+    my $input = join '', map { "$_\n" } @lines;
+    chop $input if $lines[-1] ne '' && chance(0.3);
+    saw('hostile lines') for 1 .. $count;
+    return [$job, $input];
+}
+
+1;

@@ -1,0 +1,433 @@
+package Model;
+
+# The rules of docs/FORMATS.md, read a second time and not out of the code: settings and their refusals, the work and
+# the cost of a hash, hashes, lines and their answers. Hashes are those of perl's crypt, which is libxcrypt; where that
+# doesn't take a password or a setting they are made here, and where that would take long they are not known.
+#
+# What comes up is counted in %seen, so that a test can want each rule to have been met.
+
+use strict;
+use warnings;
+use Digest::MD5 qw(md5);
+use Digest::SHA qw(hmac_sha256 sha256 sha512);
+use Exporter qw(import);
+use List::Util qw(max min sum0);
+
+our @EXPORT = qw(%limits %kinds %most_salt %made_salt %packed_length @characters @setting_refusals @line_refusals @verdicts %seen
+    saw forget shown numeral scrypt_cost setting read_setting made_setting is_replaced counts cost hash_of made_by_hand
+    block_mix rom_mix salsa job judged differences);
+
+our %limits = (
+    password => 1024, setting => 384, line => 2048, name => 64, least_rounds => 1000, most_rounds => 999999999, ceiling => 8388608,
+);
+our %kinds = (md5crypt => 1, md5 => 1, sha256crypt => 5, 'sha-256' => 5, sha512crypt => 6, 'sha-512' => 6, scrypt => 7);
+our %most_salt = (1 => 8, 5 => 16, 6 => 16, 7 => 86);
+our %made_salt = (1 => 8, 5 => 16, 6 => 16, 7 => 22);
+our %packed_length = (1 => 22, 5 => 43, 6 => 86, 7 => 43);
+our @characters = ('.', '/', 0 .. 9, 'A' .. 'Z', 'a' .. 'z');
+our @setting_refusals = ('setting too long', 'bad character', 'unknown scheme', 'bad rounds', 'bad cost', 'scrypt range',
+    'above ceiling', 'bad salt');
+our @line_refusals = ('line too long', 'no name', 'name too long', 'no password field', 'password too long',
+    'password has a zero byte', @setting_refusals, 'over budget');
+our @verdicts = ('a hash', 'ok', 'no', 'none', 'locked', 'a new hash');
+our %seen;
+
+my $of_alphabet = '[./0-9A-Za-z]';
+my %value;
+@value{@characters} = 0 .. 63;
+my %digest = (1 => \&md5, 5 => \&sha256, 6 => \&sha512);
+my %digest_length = (1 => 16, 5 => 32, 6 => 64);
+
+sub saw { $seen{ $_[0] }++ }
+
+# A text of any bytes, to be printed.
+sub shown {
+    my ($text) = @_;
+    $text =~ s/([^\x20-\x7e]|["\\])/sprintf '\\x%02x', ord $1/ge;
+    return '"' . (length $text > 3000 ? substr($text, 0, 3000) . '..' : $text) . '"';
+}
+
+# ---- Settings
+
+# A number in so many characters of six bits, lowest first.
+sub numeral {
+    my ($number, $places) = @_;
+    return join '', map { $characters[$number >> 6 * $_ & 63] } 0 .. $places - 1;
+}
+
+sub number { return sum0(map { $value{ substr $_[0], $_, 1 } << 6 * $_ } 0 .. length($_[0]) - 1) }
+
+# Scrypt's eleven characters, for log2 N, r and p.
+sub scrypt_cost { return numeral($_[0], 1) . numeral($_[1], 5) . numeral($_[2], 5) }
+
+# The setting of a method, with its canonical text as its front.
+sub setting {
+    my ($kind, $salt, %rest) = @_;
+    my $cost = '';
+    $cost = "rounds=$rest{rounds}\$" if $rest{is_written};
+    $cost = scrypt_cost(@rest{qw(log r p)}) if $kind == 7;
+    $rest{product} = 2 ** $rest{log} * $rest{r} * $rest{p} if $kind == 7;
+    return { %rest, kind => $kind, salt => $salt, front => "\$$kind\$$cost$salt" };
+}
+
+# The setting that a text spells, or the text of its refusal.
+sub read_setting {
+    my ($text) = @_;
+    return 'setting too long' if length $text > $limits{setting};
+    return 'bad character' if $text =~ /[^\x21-\x7e]/ || $text =~ /[:;*!\\]/;
+    my ($kind, $rest) = $text =~ /\A\$([1567])\$(.*)\z/s or return 'unknown scheme';
+    if ($kind == 7) {
+        my ($log, $r, $p, $salt) = $rest =~ /\A($of_alphabet)(${of_alphabet}{5})(${of_alphabet}{5})([^\$]*)/
+            or return 'bad cost';
+        ($log, $r, $p) = map { number($_) } $log, $r, $p;
+        return 'scrypt range' if !$log || !$r || !$p || $log >= 16 * $r;
+        my $product = 2 ** $log * $r * $p;
+        saw('product at the ceiling') if $product == $limits{ceiling};
+        return 'above ceiling' if $product > $limits{ceiling};
+        saw('salt of ' . length $salt) if length $salt == 86 || length $salt == 87;
+        return 'bad salt' if length $salt > 86 || $salt =~ /[^.\/0-9A-Za-z]/;
+        return setting(7, $salt, log => $log, r => $r, p => $p);
+    }
+    my %cost;
+    if ($kind != 1) {
+        %cost = (rounds => 5000);
+        if ($rest =~ s/\Arounds=//) {
+            $rest =~ s/\A([1-9][0-9]*)\$// or return 'bad rounds';
+            %cost = (rounds => held($1), is_written => 1);
+        }
+    }
+    my ($salt) = $rest =~ /\A([^\$]*)/;
+    return setting($kind, substr($salt, 0, $most_salt{$kind}), %cost);
+}
+
+# A number of rounds, of any length, as it is held.
+sub held {
+    my ($digits) = @_;
+    return length $digits > 9 ? $limits{most_rounds} : max($limits{least_rounds}, $digits);
+}
+
+# The setting that the words mean. Where the salt is drawn, any other of that length stands in its place.
+sub made_setting {
+    my ($kind, $cost, $salt) = @_;
+    $salt //= '.' x $made_salt{$kind};
+    return setting(1, $salt) if $kind == 1;
+    return setting(7, $salt, log => ($cost || 7) + 7, r => 32, p => 1) if $kind == 7;
+    return setting($kind, $salt, $cost ? (rounds => held($cost), is_written => 1) : (rounds => 5000));
+}
+
+sub is_replaced {
+    my ($old, $new) = @_;
+    return 1 if $old->{kind} != $new->{kind};
+    return 0 if $old->{kind} == 1;
+    return $old->{kind} == 7 ? $old->{product} < $new->{product} : $old->{rounds} < $new->{rounds};
+}
+
+# ---- Work and cost
+
+# The four counts of a hash by this setting, of a password of so many bytes, where $byte is the first one of SHA-crypt's A.
+sub counts {
+    my ($setting, $length, $byte) = @_;
+    my ($kind, $salt) = ($setting->{kind}, length $setting->{salt});
+    if ($kind == 7) {
+        my ($n, $r, $p) = (2 ** $setting->{log}, $setting->{r}, $setting->{p});
+        my $is_long = $length > 64 ? 1 : 0;
+        return (8 * $r * $p + 2 + $is_long, $is_long * $length + 4 * $r * $p * (164 + $salt) + 164 + 128 * $r * $p,
+            2 * $n * $p, 128 * $n * $r);
+    }
+    my $digits = $length ? sprintf '%b', $length : '';
+    my $first = 2 * $length + $salt;
+    return (1002, $first + $first + 3 + length($digits) + 1000 * (16 + $length) + 666 * $salt + 857 * $length, 0, 0)
+        if $kind == 1;
+    my ($rounds, $wide) = ($setting->{rounds}, $digest_length{$kind});
+    my $ones = $digits =~ tr/1//;
+    my $bytes = $first + $first + $ones * $wide + (length($digits) - $ones) * $length;
+    $bytes += $length * $length + $salt * (16 + $byte) + $rounds * ($wide + $length);
+    $bytes += $salt * ($rounds - int(($rounds + 2) / 3)) + $length * ($rounds - int(($rounds + 6) / 7));
+    return ($rounds + 4, $bytes, 0, 0);
+}
+
+sub cost {
+    my ($setting, $length) = @_;
+    my (undef, $bytes, $mixings) = counts($setting, $length, 255);
+    return $bytes + ($mixings && $mixings * 128 * $setting->{r});
+}
+
+# The exact counts of the hash of a password.
+sub work_of {
+    my ($setting, $password) = @_;
+    my ($kind, $byte) = ($setting->{kind}, 0);
+    $byte = ord second_digest($kind, $password, $setting->{salt}) if $kind == 5 || $kind == 6;
+    return counts($setting, length $password, $byte);
+}
+
+# ---- Hashes
+
+my %order = (
+    1 => '0 6 12,1 7 13,2 8 14,3 9 15,4 10 5,11',
+    5 => '0 10 20,21 1 11,12 22 2,3 13 23,24 4 14,15 25 5,6 16 26,27 7 17,18 28 8,9 19 29,31 30',
+    6 => '0 21 42,22 43 1,44 2 23,3 24 45,25 46 4,47 5 26,6 27 48,28 49 7,50 8 29,9 30 51,31 52 10,53 11 32,12 33 54,'
+        . '34 55 13,56 14 35,15 36 57,37 58 16,59 17 38,18 39 60,40 61 19,62 20 41,63',
+    7 => '2 1 0,5 4 3,8 7 6,11 10 9,14 13 12,17 16 15,20 19 18,23 22 21,26 25 24,29 28 27,31 30',
+);
+
+sub packed {
+    my ($kind, $digest) = @_;
+    my $text = '';
+    for my $group (split /,/, $order{$kind}) {
+        my ($number, @places) = (0, split / /, $group);
+        $number = $number << 8 | ord substr $digest, $_, 1 for @places;
+        $text .= numeral($number, @places + 1);
+    }
+    return $text;
+}
+
+# So many bytes, the given ones again and again.
+sub cycle {
+    my ($bytes, $length) = @_;
+    return substr $bytes x (1 + $length / length $bytes), 0, $length;
+}
+
+# A of md5crypt and SHA-crypt, the digest of the second message.
+sub second_digest {
+    my ($kind, $password, $salt) = @_;
+    my $digest = $digest{$kind};
+    my $first = $digest->($password . $salt . $password);
+    my $message = $password . ($kind == 1 ? '$1$' : '') . $salt . cycle($first, length $password);
+    my ($one, $zero) = $kind == 1 ? ("\0", substr $password, 0, 1) : ($first, $password);
+    for (my $rest = length $password; $rest > 0; $rest >>= 1) {
+        $message .= $rest & 1 ? $one : $zero;
+    }
+    return $digest->($message);
+}
+
+# The digest whose characters stand behind the setting of a hash by md5crypt or SHA-crypt.
+sub last_digest {
+    my ($setting, $password) = @_;
+    my ($kind, $salt) = @$setting{qw(kind salt)};
+    my $digest = $digest{$kind};
+    my $last = second_digest($kind, $password, $salt);
+    my ($pass, $rounds) = ($password, 1000);
+    if ($kind != 1) {
+        $pass = cycle($digest->($password x length $password), length $password);
+        $salt = cycle($digest->($salt x (16 + ord $last)), length $salt);
+        $rounds = $setting->{rounds};
+    }
+    for my $round (0 .. $rounds - 1) {
+        my $middle = ($round % 3 ? $salt : '') . ($round % 7 ? $pass : '');
+        $last = $digest->($round % 2 ? $pass . $middle . $last : $last . $middle . $pass);
+    }
+    return $last;
+}
+
+# Salsa20/8 of 16 words (RFC 7914, section 3). A column of the matrix and then a row goes through the same four steps.
+sub salsa {
+    my @x = @_;
+    for my $double (1 .. 4) {
+        for my $places ([0, 4, 8, 12], [5, 9, 13, 1], [10, 14, 2, 6], [15, 3, 7, 11],
+            [0, 1, 2, 3], [5, 6, 7, 4], [10, 11, 8, 9], [15, 12, 13, 14])
+        {
+            my @at = @$places;
+            for my $turn (7, 9, 13, 18) {
+                my $sum = $x[$at[0]] + $x[$at[3]] & 0xffffffff;
+                $x[$at[1]] ^= ($sum << $turn | $sum >> 32 - $turn) & 0xffffffff;
+                push @at, shift @at;
+            }
+        }
+    }
+    return map { $x[$_] + $_[$_] & 0xffffffff } 0 .. 15;
+}
+
+# scryptBlockMix of a part (section 4), which is a string.
+sub block_mix {
+    my ($part) = @_;
+    my @blocks = unpack '(a64)*', $part;
+    my ($x, @mixed) = $blocks[-1];
+    push @mixed, $x = pack 'V*', salsa(unpack 'V*', $x ^ $_) for @blocks;
+    return join '', @mixed[grep { !($_ & 1) } 0 .. $#mixed], @mixed[grep { $_ & 1 } 0 .. $#mixed];
+}
+
+# scryptROMix of a part (section 5).
+sub rom_mix {
+    my ($part, $n) = @_;
+    my @rows;
+    for (1 .. $n) {
+        push @rows, $part;
+        $part = block_mix($part);
+    }
+    $part = block_mix($part ^ $rows[unpack('V', substr $part, -64) % $n]) for 1 .. $n;
+    return $part;
+}
+
+# The 32 bytes that are wanted of scrypt (section 6).
+sub scrypt {
+    my ($setting, $password) = @_;
+    my ($n, $r, $p) = (2 ** $setting->{log}, $setting->{r}, $setting->{p});
+    my $blocks = join '', map { hmac_sha256($setting->{salt} . pack('N', $_), $password) } 1 .. 4 * $r * $p;
+    my $mixed = join '', map { rom_mix($_, $n) } unpack '(a' . 128 * $r . ')*', $blocks;
+    return hmac_sha256($mixed . pack('N', 1), $password);
+}
+
+# The hash of a password by a setting, made here.
+sub made_by_hand {
+    my ($setting, $password) = @_;
+    my $digest = $setting->{kind} == 7 ? scrypt($setting, $password) : last_digest($setting, $password);
+    return "$setting->{front}\$" . packed($setting->{kind}, $digest);
+}
+
+# The same, libxcrypt's wherever it takes the two, or nothing where it would take long. Hashes are kept until they are
+# forgotten.
+my (%kept, %is_by_hand);
+
+sub forget { %kept = %is_by_hand = () }
+
+sub hash_of {
+    my ($setting, $password) = @_;
+    my $front = $setting->{front};
+    return $kept{"$front\0$password"} //= do {
+        my $known = length $password < 512 ? $password : undef;
+        # Of a long password HMAC takes the digest, so scrypt's hash is that of the digest, unless it has a byte 0.
+        $known = sha256($password) if !defined $known && $setting->{kind} == 7;
+        undef $known if defined $known && $known =~ /\0/;
+        my $text = defined $known ? crypt($known, $front) // '' : '';
+        if (index($text, "$front\$") != 0) {
+            $is_by_hand{"$front\0$password"} = 1;
+            $text = $setting->{kind} != 7 || $setting->{product} <= 64 ? made_by_hand($setting, $password) : undef;
+        }
+        $text;
+    };
+}
+
+# ---- Lines
+
+# A job of these flags, and its words. With words for a method they are in %$made: kind, type, cost, salt.
+sub job {
+    my ($made, @flags) = @_;
+    my %job = (words => [@flags], map { ('is_' . substr($_, 2) => 1) } @flags);
+    if ($made) {
+        my ($kind, $cost, $salt) = @$made{qw(kind cost salt)};
+        push @{ $job{words} }, '-m', $made->{type} if defined $made->{type};
+        push @{ $job{words} }, '-R', $cost if defined $cost;
+        push @{ $job{words} }, '-S', $salt if defined $salt;
+        @job{qw(setting salt)} = (made_setting($kind, $cost, $salt), $salt);
+    }
+    return \%job;
+}
+
+# What a line has to get: a refusal, or what its answer is made of. Nothing is hashed yet.
+sub judged {
+    my ($job, $line) = @_;
+    saw('line of ' . length $line) if length $line == 2048 || length $line == 2049;
+    return { refusal => 'line too long' } if length $line > $limits{line};
+    my @fields = split /:/, $line, $job->{is_check} ? 3 : 2;
+    my $name = $fields[0] // '';
+    return { refusal => 'no name' } if $name eq '';
+    saw('name of ' . length $name) if length $name == 64 || length $name == 65;
+    return { refusal => 'name too long' } if length $name > $limits{name};
+    return { refusal => 'no password field' } if @fields < ($job->{is_check} ? 3 : 2);
+    my $password = $fields[-1];
+    my $length = length $password;
+    saw("password of $length") if $length == 1024 || $length == 1025;
+    return { refusal => 'password too long' } if $length > $limits{password};
+    return { refusal => 'password has a zero byte' } if $password =~ /\0/;
+    my %judged = (name => $name, password => $password);
+    if ($job->{is_check}) {
+        my $field = $fields[1];
+        return { %judged, verdict => 'none', cost => 0 } if $field eq '';
+        return { %judged, verdict => 'locked', cost => 0 } if $field =~ /\A[!*]/;
+        saw('field of ' . length $field) if length $field == 384 || length $field == 385;
+        my $setting = read_setting($field);
+        return { refusal => $setting } unless ref $setting;
+        $judged{is_replaced} = $job->{is_rehash} && is_replaced($setting, $job->{setting});
+        $judged{cost} = cost($setting, $length) + ($judged{is_replaced} ? cost($job->{setting}, $length) : 0);
+        @judged{qw(field setting)} = ($field, $setting);
+    } else {
+        $judged{cost} = cost($job->{setting}, $length);
+    }
+    if (defined $job->{budget}) {
+        saw('cost at the budget') if $judged{cost} == $job->{budget};
+        saw('cost behind the budget') if $judged{cost} == $job->{budget} + 1;
+        return { refusal => 'over budget' } if $judged{cost} > $job->{budget};
+    }
+    return \%judged;
+}
+
+# Whether the field is the hash of the password: 1, 0, or nothing where that is not known.
+sub is_fit {
+    my ($judged) = @_;
+    my ($field, $setting) = @$judged{qw(field setting)};
+    my $front = "$setting->{front}\$";
+    return 0 if index($field, $front) != 0 || length $field != length($front) + $packed_length{ $setting->{kind} };
+    my $hash = hash_of($setting, $judged->{password});
+    saw('made here') if $is_by_hand{"$setting->{front}\0$judged->{password}"};
+    return defined $hash ? $hash eq $field || 0 : undef;
+}
+
+# The answer that the line has to get, beside the one that it got: a salt that was drawn is only known from that.
+sub answer {
+    my ($job, $judged, $got, $salts) = @_;
+    my ($verdict, $password) = @$judged{qw(verdict password)};
+    my $text = "$judged->{name}:";
+    my @work = (0, 0, 0, 0);
+    if ($judged->{setting}) {
+        my $is_fit = is_fit($judged);
+        saw('either') unless defined $is_fit;
+        $verdict = $is_fit // index($got, "${text}ok") == 0 ? 'ok' : 'no';
+        @work = work_of($judged->{setting}, $password) if $job->{is_work};
+    }
+    my $is_new = $verdict ? $verdict eq 'ok' && $judged->{is_replaced} : 1;
+    $text .= $verdict . ($is_new ? ':' : '') if $verdict;
+    if ($is_new) {
+        my $setting = $job->{setting};
+        $setting = drawn($setting, substr($got, min(length $got, length $text)), $salts) unless defined $job->{salt};
+        $text .= hash_of($setting, $password) // '(no hash is known)';
+        saw('made here') if $is_by_hand{"$setting->{front}\0$password"};
+        my @more = work_of($setting, $password);
+        $work[$_] += $more[$_] for 0 .. 3;
+    }
+    saw($verdict // 'a hash');
+    saw('a new hash') if $verdict && $is_new;
+    return ($text . ($job->{is_work} ? join '', map { ":$_" } @work : '') . "\n", ($verdict // '') eq 'no');
+}
+
+# The setting with the salt that this text has. Without a good and new one it is another setting than the text's.
+sub drawn {
+    my ($setting, $text, $salts) = @_;
+    my $length = length $setting->{salt};
+    my $front = substr $setting->{front}, 0, -$length;
+    my ($salt) = $text =~ /\A\Q$front\E(${of_alphabet}{$length})\$/;
+    return $setting if !defined $salt || $salts->{$salt}++;
+    return { %$setting, salt => $salt, front => $front . $salt };
+}
+
+# In what a run of a job over an input differs from the rules: of each stream the first line, and the status. A run is
+# what Suite's run returns.
+sub differences {
+    my ($job, $input, $run) = @_;
+    my @answers = $run->{out} =~ /[^\n]*\n|[^\n]+\z/g;
+    my @faults = $run->{err} =~ /[^\n]*\n|[^\n]+\z/g;
+    my @lines = split /\n/, $input, -1;
+    pop @lines if @lines && $lines[-1] eq '';
+    my ($status, %salts, %is_told, @differences) = 0;
+    for my $number (1 .. @lines) {
+        my $judged = judged($job, $lines[$number - 1]);
+        my ($stream, $got, $wanted, $is_no) = ('output');
+        if (defined $judged->{refusal}) {
+            saw($judged->{refusal});
+            ($stream, $is_no) = ('fault output', 1);
+            $wanted = "mkpasswd: line $number: $judged->{refusal}\n";
+            $got = shift @faults // '';
+        } else {
+            $got = shift @answers // '';
+            ($wanted, $is_no) = answer($job, $judged, $got, \%salts);
+        }
+        $status = 1 if $is_no;
+        next if $got eq $wanted || $is_told{$stream}++;
+        push @differences, "line $number " . shown($lines[$number - 1]) . ": $stream " . shown($got) . ', and not ' . shown($wanted);
+    }
+    push @differences, 'more output: ' . shown($answers[0]) if @answers && !%is_told;
+    push @differences, 'more fault output: ' . shown($faults[0]) if @faults && !%is_told;
+    push @differences, "status $run->{status}, and not $status" if $run->{status} != $status;
+    return @differences;
+}
+
+1;

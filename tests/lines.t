@@ -1,0 +1,97 @@
+#!/usr/bin/env perl
+# Has the program answer lines: 2,500 random ones of each kind with one seed, which is a short soak; many through a pipe that
+# stays open; and some into outputs that are closed.
+use strict;
+use warnings;
+use FindBin;
+use lib "$FindBin::Bin/lib";
+use IPC::Open2 qw(open2);
+use Lines;
+use Model;
+use Suite;
+use Test::More;
+
+my $most_memory = 8192;    # kB
+my $many = 20_000;
+my @chunks = chunks(2500);
+
+# Each run has to print what the rules say, byte for byte; after one that doesn't no more are tried.
+for my $kind (qw(hash hostile)) {
+    subtest "$kind lines" => sub {
+        for (grep { $_->[0] eq $kind } @chunks) {
+            for (runs(1, @$_)) {
+                my ($job, $input) = @$_;
+                my $run = run({ stdin => $input, timeout => 300 }, program(), @{ $job->{words} });
+                is(join("\n", differences($job, $input, $run)), '', 'lines by ' . (join(' ', @{ $job->{words} }) =~ s/\s+/ /gr)) or return;
+            }
+        }
+    };
+}
+
+subtest 'what came up' => sub {
+    ok($seen{$_}, "among the random lines: $_") for @line_refusals, @verdicts, 'made here', @limits;
+};
+
+# While the pipe is open each line has to be answered, and then the program's peak of memory is read.
+subtest 'a pipe that stays open' => sub {
+    local $SIG{PIPE} = 'IGNORE';
+    local $SIG{ALRM} = sub { die "late\n" };
+    my $hash = crypt 'password', '$1$xxxxxxxx';
+    my $locked = '!' . 'x' x 900;    # so that all lines together are twice the memory
+    my $is_done = eval {
+        alarm 300;
+        my $child = open2(my $from, my $to, program(), '--check');
+        my $writer = fork // die "can't fork: $!\n";
+        if (!$writer) {
+            close $from;
+            print $to "user$_:", $_ % 10 ? $locked : $hash, ":password\n" for 1 .. $many;
+            close $to;
+            POSIX::_exit(0);
+        }
+        my $wrong = '';
+        for my $number (1 .. $many) {
+            my $answer = <$from> // 'none';
+            $wrong ||= "line $number: $answer" if $answer ne "user$number:" . ($number % 10 ? 'locked' : 'ok') . "\n";
+            last if $wrong;
+        }
+        is($wrong, '', "each of $many lines is answered while the pipe is open");
+        my ($memory) = slurp("/proc/$child/status") =~ /^VmHWM:\s+(\d+) kB/m;
+        cmp_ok($memory // $most_memory + 1, '<=', $most_memory, 'the peak of memory, in kB');
+        close $to;
+        kill TERM => $writer, $child if $wrong;
+        waitpid $writer, 0;
+        is(scalar <$from>, undef, 'no more answers than lines');
+        waitpid $child, 0;
+        is($?, 0, 'status');
+        alarm 0;
+        1;
+    };
+    is($is_done ? '' : $@, '', 'in time');
+};
+
+# An output that is closed after ten lines: "write fault", where that can still be told, status 3 and no signal.
+subtest 'closed outputs' => sub {
+    for (['out', 'a::x', '2> "$2/err"', "mkpasswd: write fault\n"], ['err', 'y', '2>&1 > "$2/err"', '']) {
+        my ($stream, $line, $redirect, $told) = @$_;
+        my $ended = run('bash', '-c', "{ yes '$line' 2> /dev/null; } | { timeout 60 \"\$1\" --check $redirect; echo \$? > \"\$2/status\"; }"
+            . ' | head -n 10; sleep 0.1; cat "$2/status" >&2', 'bash', program(), $scratch);
+        is($ended->{err}, "3\n", "std$stream closed: status");
+        is($ended->{out} =~ tr/\n//, 10, "std$stream closed: the lines before");
+        is(slurp("$scratch/err"), $told, "std$stream closed: what is told");
+    }
+};
+
+subtest 'tools/soak' => sub {
+    my @soak = ("$root/tools/soak", qw(--lines 200 --seed 1 --jobs));
+    my ($one, $two) = map { run(@soak, $_, program()) } 1, 2;
+    is($_->{status}, 0, 'the program is right') || diag($_->{out}) for $one, $two;
+    my ($fingerprint, $other) = map { $_->{out} =~ /fingerprint (\w+)/ } $one, $two;
+    is($fingerprint, $other, 'the same lines by another number of jobs');
+    my $wrong = "$scratch/wrong";
+    spew($wrong, qq(#!/bin/sh\n"@{[program()]}" "\$@"\nexit 0\n));
+    chmod 0755, $wrong;
+    my $found = run(@soak, 2, $wrong);
+    is($found->{status}, 1, 'a program that is wrong');
+    like($found->{out}, qr/^soak: chunk \d+ of the hash lines: --check.*: status 0, and not 1$/m, 'what it names');
+};
+done_testing;

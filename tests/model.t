@@ -1,0 +1,115 @@
+#!/usr/bin/env perl
+# Tries the model of the rules (tests/lib/Model.pm), which other tests hold the program against, on published vectors, on
+# counts of docs/FORMATS.md, and on costs that are summed up round by round.
+use strict;
+use warnings;
+use FindBin;
+use lib "$FindBin::Bin/lib";
+use Model;
+use Suite;
+use Test::More;
+
+sub made { return made_by_hand(read_setting($_[0]), $_[1]) }
+
+is((crypt('password', '$1$xxxxxxxx') // ''), '$1$xxxxxxxx$UYCIxa628.9qXjpQCjM4a.', "perl's crypt is libxcrypt's") or BAIL_OUT('no libxcrypt');
+
+subtest 'hashes that were published' => sub {
+    # Of openssl-passwd(1), the specification of SHA-crypt, and passlib.
+    for (
+        ['password', '$1$xxxxxxxx$UYCIxa628.9qXjpQCjM4a.'],
+        ['a' x 513, '$1$xxxxxxxx$jveVzs/NezMzUjhy1v7Fo.'],
+        ['a' x 1024, '$1$xxxxxxxx$K/D5CvaOI4iV5zX0cnQoW0'],
+        ['Hello world!', '$5$saltstring$5B8vYYiY.CVt1RlTTf8KbXBH3hsxY/GNooZaBBGWEc5'],
+        ['Hello world!', '$6$rounds=10000$saltstringsaltst$OW1/O6BYHV6BcXZu8QVeXbDWra3Oeqh0sbHbbMCVNSnCM/UrjmM0Dp8vOuZeHBy/YTBmSK6H9qs/y3RnOaw5v.'],
+        ['This is just a test', '$6$rounds=5000$toolongsaltstrin$lQ8jolhgVRVhY4b5pZKaysCLi0QBxGoNeKQzQ3glMhwllF7oGDZxUhx1yxdYcz/e1JSbq3y6JMxxl8audkUEm0'],
+    ) {
+        my ($password, $hash) = @$_;
+        is(made($hash, $password), $hash, substr($hash, 0, 40) . ' of ' . length($password) . ' bytes');
+    }
+};
+
+subtest "hashes as libxcrypt's" => sub {
+    for my $front ('$1$', '$1$abcdefgh', '$5$rounds=1000$', '$5$rounds=1001$0123456789abcdef', '$6$rounds=1000$a', '$6$rounds=1017$ab',
+        '$7$2/..../....NaCl', '$7$30..../....', '$7$2/....0....ab')
+    {
+        for my $length (0, 1, 15, 16, 31, 33, 63, 64, 65, 127, 200, 511) {
+            my $password = substr 'pa:ss' x 103, 0, $length;
+            my $setting = read_setting($front);
+            my $wanted = ref $setting ? crypt $password, $front : next;
+            is(made_by_hand($setting, $password), $wanted, "$front, $length bytes") if index($wanted, '*') != 0;
+        }
+    }
+};
+
+# The vectors of RFC 7914, sections 8 to 10.
+subtest 'parts of scrypt' => sub {
+    my @in = map { pack 'H*', $_ } '7e879a214f3ec9867ca940e641718f26baee555b8c61c1b50df846116dcd3b1dee24f319df9b3d8514121e4b5ac5aa3276021d2909c74829edebc68db8b8c25e',
+        'f7ce0b653d2d72a4108cf5abe912ffdd777616dbbb27a70e8204f3ae2d0f6fad89f68f4811d1e87bcc3bd7400a9ffd29094f0184639574f39ae5a1315217bcd7'
+        . '894991447213bb226c25b54da86370fbcd984380374666bb8ffcb5bf40c254b067d27c51ce4ad5fed829c90b505a571b7f4d1cad6a523cda770e67bceaaf7e89';
+    is(unpack('H*', pack 'V*', salsa(unpack 'V*', $in[0])), 'a41f859c6608cc993b81cacb020cef05044b2181a2fd337dfd7b1c6396682f29'
+        . 'b4393168e3c9e6bcfe6bc5b7a06d96bae424cc102c91745c24ad673dc7618f81', 'Salsa20/8');
+    is(unpack('H*', block_mix($in[1])), 'a41f859c6608cc993b81cacb020cef05044b2181a2fd337dfd7b1c6396682f29b4393168e3c9e6bcfe6bc5b7a06d96ba'
+        . 'e424cc102c91745c24ad673dc7618f8120edc975323881a80540f64c162dcd3c21077cfe5f8d5fe2b1a4168f953678b77d3b3d803b60e4ab920996e59b4d53b6'
+        . '5d2a225877d5edf5842cb9f14eefe425', 'scryptBlockMix');
+    is(unpack('H*', rom_mix($in[1], 16)), '79ccc193629debca047f0b70604bf6b62ce3dd4a9626e355fafc6198e6ea2b46d58413673b99b029d665c357601fb426'
+        . 'a0b2f4bba200ee9f0a43d19b571a9c71ef1142e65d5a266fddca832ce59faa7cac0b9cf1be2bffca300d01ee387619c4ae12fd4438f203a0e4e1c47ec314861f'
+        . '4e9087cb33396a6873e8f9d2539a4b8e', 'scryptROMix');
+};
+
+# The cost of a hash, summed up message by message, with 255 for the byte that says how often SHA-crypt repeats the salt.
+sub summed {
+    my ($text, $length) = @_;
+    my @digits = split //, $length ? scalar reverse sprintf '%b', $length : '';
+    my $sum = 0;
+    if ($text =~ /^\$7\$(.)(.{5})(.{5})([^\$]*)/) {
+        my $salt = length $4;
+        my ($log, $r, $p) = map { my $n = 0; $n = 64 * $n + index join('', @characters), $_ for reverse split //; $n } $1, $2, $3;
+        $sum = $length if $length > 64;
+        $sum += 64 + $salt + 4 + 64 + 32 for 1 .. 128 * $r * $p / 32;
+        $sum += 64 + 128 * $r * $p + 4 + 64 + 32;
+        return $sum + 2 * 2 ** $log * $p * 128 * $r;
+    }
+    my ($kind, $rounds, $salt) = $text =~ /^\$([156])\$(?:rounds=(\d+)\$)?([^\$]*)/;
+    $salt = length $salt;
+    my $digest = { 1 => 16, 5 => 32, 6 => 64 }->{$kind};
+    $sum = 2 * (2 * $length + $salt);
+    if ($kind == 1) {
+        $rounds = 1000;
+        $sum += 3 + @digits;
+    } else {
+        $rounds //= 5000;
+        $sum += $_ ? $digest : $length for @digits;
+        $sum += $length * $length + (16 + 255) * $salt;
+    }
+    $sum += $digest + $length + ($_ % 3 ? $salt : 0) + ($_ % 7 ? $length : 0) for 0 .. $rounds - 1;
+    return $sum;
+}
+
+subtest 'costs' => sub {
+    my @rows = slurp("$root/docs/FORMATS.md") =~ /^\| `(\$[^`]*)` \| (\d+) \| (\d+) \|$/gm;
+    is(@rows / 3, 5, 'rows of docs/FORMATS.md');
+    while (my ($text, $length, $cost) = splice @rows, 0, 3) {
+        is(cost(read_setting($text), $length), $cost, "$text, $length bytes, as docs/FORMATS.md tells it");
+    }
+    for my $text ('$1$', '$1$abcdefgh', '$5$', '$5$rounds=1000$ab', '$5$rounds=1006$0123456789abcdef', '$6$salt', '$6$rounds=1234$0123456789abcdef',
+        '$7$2/..../....', '$7$86....E....NaCl', '$7$BU..../....ab')
+    {
+        is(cost(read_setting($text), $_), summed($text, $_), "$text, $_ bytes, round by round") for 0, 1, 7, 8, 64, 65, 511, 1024;
+    }
+    # openssl's digests of md5crypt's messages, counted by hand, stand in README.md too.
+    is(join(':', counts(read_setting('$1$xxxxxxxx'), 8, 0)), '1002:36239:0:0', 'the counts of a hash');
+};
+
+subtest 'settings' => sub {
+    my %refused = (
+        'setting too long' => '$' x 385, 'bad character' => '$9$a b', 'unknown scheme' => '$2b$10$x', 'bad rounds' => '$5$rounds=0$ab',
+        'bad cost' => '$7$A', 'scrypt range' => '$7$E/..../....a_b', 'above ceiling' => '$7$J6..../....a_b', 'bad salt' => '$7$2/..../....a_b',
+    );
+    is(read_setting($refused{$_} // ''), $_, "refused: $_") for @setting_refusals;
+    for (['$1$abcdefghij$x', '$1$abcdefgh'], ['$5$rounds=7$a', '$5$rounds=1000$a'], ['$6$rounds=' . 9 x 99 . '$a', '$6$rounds=999999999$a'],
+        ['$6$rounds=2000$rounds=5$', '$6$rounds=2000$rounds=5'], ['$7$J2..../....$', '$7$J2..../....'])
+    {
+        is(read_setting($_->[0])->{front}, $_->[1], "read: $_->[1]");
+    }
+};
+done_testing;

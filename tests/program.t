@@ -1,0 +1,171 @@
+#!/usr/bin/env perl
+# Runs the program as a user does, where no clause says what it prints or how it meets the system: each run has to end with
+# its status, and to print what is wanted, on the stream where it belongs, and nothing on the other. The fixed texts are
+# libxcrypt's, and passlib's for passwords of 512 bytes and more, which libxcrypt doesn't take.
+use strict;
+use warnings;
+use FindBin;
+use lib "$FindBin::Bin/lib";
+use Model;
+use Suite;
+use Test::More;
+
+# Runs the program with these words; the first may be what Suite's run takes, or a text that it reads.
+sub ran {
+    my @words = @_;
+    my $with = ref $words[0] eq 'HASH' ? shift @words : ref $words[0] ? { stdin => ${ +shift @words } } : {};
+    my $name = join ' ', @words;
+    $name = substr($name, 0, 60) . '..' if length $name > 60;
+    $name .= ", of '" . substr($with->{stdin}, 0, 40) . "'" if defined $with->{stdin};
+    return (run($with, program(), @words), shown($name) =~ s/\A"|"\z//gr);
+}
+
+# Wants a text and a line feed on standard output.
+sub answer {
+    my ($text, @words) = @_;
+    my ($run, $name) = ran(@words);
+    return is_run($run, 0, "$text\n", '', "an answer: $name");
+}
+
+# Wants "mkpasswd: ", the text and a line feed on standard error.
+sub fault {
+    my ($status, $text, @words) = @_;
+    my ($run, $name) = ran(@words);
+    return is_run($run, $status, '', "mkpasswd: $text\n", "$text: $name");
+}
+
+# Wants the option parser to refuse the words, and to name this.
+sub refused {
+    my ($text, @words) = @_;
+    my ($run, $name) = ran(@words);
+    return ok($run->{status} == 2 && $run->{out} eq '' && index($run->{err}, $text) >= 0, "refused: $name")
+        || diag("$run->{status}: $run->{out}$run->{err}");
+}
+
+my @md5 = qw(-m md5crypt -S xxxxxxxx);
+my $md5 = '$1$xxxxxxxx$UYCIxa628.9qXjpQCjM4a.';
+my $most = 'a' x $limits{password};
+
+subtest 'words' => sub {
+    my $version = run("$root/tools/version")->{out} =~ s/\n//r;
+    answer("mkpasswd $version", $_) for qw(-V --version);
+    refused(@$_) for ["'-Q'", qw(-m md5crypt -S ab -Q password)], ["'--rounds <NUMBER>'", qw(-R 4294967296 password)],
+        ["'--rounds <NUMBER>'", qw(-R few password)], ["'--rounds <NUMBER>'", '-R', '', 'password'], ["'-1'", qw(-R -1 password)],
+        ["'--budget <NUMBER>'", qw(--check --budget 18446744073709551616)], ["'--budget <NUMBER>'", qw(--check --budget few)],
+        ["'-1'", qw(--check --budget -1)], ["'--budget <NUMBER>'", qw(--check --budget=-1)], ["'--method <TYPE>'", '-m'],
+        ["'--budget <NUMBER>'", '--budget'], ["'-Q'", qw(-m help -Q)], ["'third'", qw(password ab third)],
+        ["'-x'", qw(-m md5crypt -S ab -x)];
+    # As many words as the command takes, and more of them, which it refuses by the first that is one too many.
+    my @taken = qw(-m md5 -S ab -R 5 --work -s --batch --check -- x cd);
+    fault(2, 'two salts', @taken);
+    refused("unexpected argument '--check'", @taken, ('--check') x 200);
+    refused("'--check' cannot be used multiple times", ('--check') x 200);
+    my $methods = "Available methods:\nmd5crypt\nsha256crypt\nsha512crypt\nscrypt";
+    answer($methods, qw(-m help));
+    answer($methods, qw(--method help -S ab x cd));
+    answer($methods, { from => '/' }, qw(-m help -R 12 -s --work x));
+};
+
+subtest 'refusals of the words' => sub {
+    fault(@$_) for [2, 'unknown method', qw(-m sha1 x)], [2, 'unknown method', qw(-m sha1 -S ab x cd)],
+        [2, 'unknown method', '-m', '', 'x'], [2, 'two salts', qw(-S ab x cd)], [2, 'two salts', qw(-S ab x ab)],
+        [2, 'two salts', qw(-m md5crypt -s -S a-b x cd)], [2, 'two modes', qw(-s x)], [2, 'two modes', qw(-s x a-b)],
+        [2, 'two modes', qw(--batch --check)], [3, 'start fault', "\xff"], [2, 'two modes', qw(--check x)],
+        [2, 'two modes', qw(-s --batch)], [2, 'two modes', qw(--check -s)], [2, 'cost', qw(--check -m scrypt -R 12)],
+        [2, 'salt length', qw(-m sha-512 -S seventeen.letters password)], [2, 'salt length', qw(--batch -S seventeen.letters)],
+        [2, 'salt length', qw(-m md5 password nineChars)], [2, 'salt length', qw(-m scrypt -R 5 -S), '', 'password'],
+        [2, 'salt character', qw(-m md5 -S a-b password)], [2, 'salt character', qw(--check -S a-b)],
+        [2, 'salt character', qw(-m scrypt -R 5 password a-b)], [2, 'cost', qw(-m scrypt -R 12 x)],
+        [2, 'cost', qw(-m scrypt -R 4294967295)], [2, 'cost', { from => '/' }, qw(-m scrypt -R 5 -S ab -s)];
+};
+
+subtest 'passwords' => sub {
+    my ($help) = run(program(), '--help')->{out} =~ /password, of at most ([0-9,]*) bytes/;
+    is(($help // '') =~ tr/,//dr, $limits{password}, 'help tells the longest password');
+    answer('$1$xxxxxxxx$jveVzs/NezMzUjhy1v7Fo.', @md5, 'a' x 513);
+    answer('$1$xxxxxxxx$K/D5CvaOI4iV5zX0cnQoW0', @md5, $most);
+    answer('$1$xxxxxxxx$K/D5CvaOI4iV5zX0cnQoW0', \"$most\nb\n", @md5, '-s');
+    for my $length (512, $limits{password}) {
+        my $run = run({ stdin => 'a' x $length . "\nb\n" }, program(), '-s');
+        like($run->{out}, qr/\A\$6\$[.\/0-9A-Za-z]{16}\$[.\/0-9A-Za-z]{86}\n\z/, "a hash of $length bytes with a made salt");
+    }
+    fault(2, 'password too long', qw(-m md5 -S ab), "${most}a");
+    fault(2, 'password too long', \"${most}a", '-s');
+    fault(2, 'password too long', \"${most}a\n");
+    fault(2, 'password has a zero byte', \"a\0b\n", '-s');
+    fault(2, 'password has a zero byte', \"\0", qw(-m scrypt -S ab -s));
+    answer($md5, qw(-m md5 password xxxxxxxx));
+    answer($md5, \$_, @md5, '-s') for 'password', "password\n", "password\nmore";
+    answer($md5, \"password\nmore\0\n$most$most\n", @md5);
+    answer('$1$xxxxxxxx$IqF7NosA6k6TofrEZx5/s/', @md5, '-s');
+    answer('$1$xxxxxxxx$MWSnubVzT.7B0aCCVf9l0/', @md5, qw(-- -x));
+    answer('$1$xxxxxxxx$MWSnubVzT.7B0aCCVf9l0/', \"-x\n", @md5, '-s');
+    answer("$md5:1002:36239:0:0", @md5, qw(--work password));
+    answer("$md5:1002:36239:0:0", \"password\n", @md5, qw(-s --work));
+};
+
+subtest 'devices' => sub {
+    fault(3, 'read fault', { from => '/' }, @$_) for ['-s'], [qw(-m md5 -S ab)], ['--batch'], ['--check'];
+    is_run(run('sh', '-c', 'exec "$0" -s <&-', program()), 3, '', "mkpasswd: read fault\n", 'read fault: a closed input');
+    for (['', qw(-m md5 -S ab password)], ['', qw(-m md5 -s)], ['', qw(-m help)], ["ann:x\n", qw(--batch -m md5 -S ab)],
+        ['', '--help'], ['', '-V'])
+    {
+        my ($input, @words) = @$_;
+        is_run(run({ stdin => $input, to => '/dev/full' }, program(), @words), 3, '', "mkpasswd: write fault\n", "a full output: @words");
+    }
+};
+
+subtest 'costs and budgets' => sub {
+    answer($md5, qw(-m md5 --budget 0 password xxxxxxxx));
+    fault(1, 'line 1: over budget', \"h:\$6\$rounds=999999999\$saltstringsaltst\$:password\n", qw(--check --budget 89523813983));
+    my $small = "s:\$7\$2/..../....\$rNxJWVHNv/mCNcgE/f6/L4zO6Fos5c2uTzhyzoisI62:\n";
+    fault(1, 'line 1: over budget', \$small, qw(--check --budget 5043));
+    answer('s:ok', \$small, qw(--check --budget 5044));
+    answer('b:locked', \"b:!:x\n", qw(--check --budget 0));
+    fault(1, 'line 1: over budget', \"h:\$7\$J2..../....\$:\n", qw(--check --budget 2147486947));
+    my @costs = slurp("$root/README.md") =~ /^\| .* \| `(-m [^`]*)` \| ([0-9]*) \| /gm;
+    is(@costs / 2, 8, 'README.md tells the costs of 8 settings');
+    # One below its cost a batch and a check of its answer are refused, and at the cost, which may have a sign and zeros, not.
+    while (my ($words, $cost) = splice @costs, 0, 2) {
+        my @words = split / /, $words;
+        fault(1, 'line 1: over budget', \"x:password\n", '--batch', '--budget', $cost - 1, @words);
+        my $hashed = run({ stdin => "x:password\n" }, program(), '--batch', '--budget', $cost, @words);
+        is("$hashed->{status}$hashed->{err}", 0, "a hash for $cost: $words");
+        my $line = $hashed->{out} =~ s/\n/:password\n/r;
+        fault(1, 'line 1: over budget', \$line, '--check', '--budget', $cost - 1);
+        answer('x:ok', \$line, '--check', "--budget=+00$cost");
+    }
+};
+
+subtest 'new hashes' => sub {
+    my $old = 'z:$7$86....E....NaCl$xffjQo7Bm/.SKRS4B2EuynbOLjAmXU5AbDbRXhoBl64';
+    my @rehash = (qw(--check --rehash --work), @md5);
+    answer('a:ok:$6$rounds=10000$saltstringsaltst$OW1/O6BYHV6BcXZu8QVeXbDWra3Oeqh0sbHbbMCVNSnCM/UrjmM0Dp8vOuZeHBy/YTBmSK6H9qs/y3RnOaw5v.',
+        \"a:\$5\$saltstring\$5B8vYYiY.CVt1RlTTf8KbXBH3hsxY/GNooZaBBGWEc5:Hello world!\n", qw(--check --rehash -R 10000 -S saltstringsaltst));
+    answer("z:ok:$md5:2028:138803:32768:1048576", \"$old:password\n", @rehash);
+    fault(1, 'line 1: over budget', \"$old:password\n", @rehash, qw(--budget 33693234));
+    answer("z:ok:$md5:2028:138803:32768:1048576", \"$old:password\n", @rehash, qw(--budget 33693235));
+    fault(1, 'line 1: over budget', \"$old:Password\n", @rehash, qw(--budget 33693234));
+    is_run(run({ stdin => "$old:Password\n" }, program(), @rehash, qw(--budget 33693235)), 1, "z:no:1026:102564:32768:1048576\n", '',
+        'a wrong password gets no new hash');
+    answer('b:ok', \('b:$6$rounds=5000$toolongsaltstrin$lQ8jolhgVRVhY4b5pZKaysCLi0QBxGoNeKQzQ3glMhwllF7oGDZxUhx1yxdYcz/e1JSbq3y6JMxxl8audkUEm0:'
+        . "This is just a test\n"), qw(--check --rehash));
+    answer($md5, qw(--rehash -m md5 password xxxxxxxx));
+    answer("ann:$md5", \"ann:password\n", qw(--batch --rehash), @md5);
+};
+
+subtest 'made salts' => sub {
+    for (['$1$', 8, qw(-m md5crypt password)], ['$5$', 16, qw(-m sha256crypt password)], ['$6$', 16, qw(-m sha512crypt -s)],
+        ['$6$', 16], ['$6$rounds=1000$', 16, qw(-R 1 password)], ['$7$CU..../....', 22, qw(-m scrypt password)])
+    {
+        my ($prefix, $length, @words) = @$_;
+        my @salts = map {
+            my $run = run({ stdin => "password\n" }, program(), @words);
+            my ($hash, $salt) = $run->{out} =~ m{\A(\Q$prefix\E([./0-9A-Za-z]{$length})\$[./0-9A-Za-z]+)\n\z};
+            is($hash && crypt('password', $hash), $hash // 'a hash', "libxcrypt's text with a made salt: $prefix @words");
+            $salt // '';
+        } 1, 2;
+        isnt($salts[0], $salts[1], "another salt in each run: $prefix @words");
+    }
+};
+done_testing;
