@@ -10,6 +10,7 @@
 # make fuzz       has libFuzzer make random calls of the C libraries, with FUZZ_SECONDS for each target (default 200)
 # make install    puts the program, the C libraries, the manuals and the rest under PREFIX (default /usr/local)
 # make dist       packs the same into an archive that needs no toolchain
+# make wheel      packs the Python package and the shared library, built for every x86-64 processor, into a wheel
 # make clean      removes what was built
 #
 # With CPU=x86-64-v3 in its words, make builds for such processors, without for x86-64-v2. Each make has to be told:
@@ -28,7 +29,7 @@ ARCHIVE ?= mkpasswd-$(VERSION)-$(if $(filter x86-64,$(CPU)),x86_64_v1,$(subst -,
 # The scripts take these from the environment, whatever characters they have.
 export DESTDIR PREFIX LIBDIR ARCHIVE RT
 
-.PHONY: all run lib fuzz check layers gate bench soak install dist clean FORCE
+.PHONY: all run lib fuzz check layers gate bench soak install dist wheel clean FORCE
 .DELETE_ON_ERROR:
 # rt takes all cores for itself.
 .NOTPARALLEL:
@@ -116,5 +117,10 @@ install: mkpasswd lib
 dist: mkpasswd lib
 	tools/pack $(or $(CPU),x86-64-v2)
 
+# Of x86-64 processors a wheel's name tells nothing, so it is for all of them. The next make builds anew for its own CPU.
+wheel:
+	$(MAKE) lib CPU=x86-64
+	tools/wheel libmkpasswd.so.2 .
+
 clean:
-	rm -rf mkpasswd libmkpasswd.a libmkpasswd.so.2 build crates/*/out mkpasswd-*-linux.tar.gz
+	rm -rf mkpasswd libmkpasswd.a libmkpasswd.so.2 build crates/*/out mkpasswd-*-linux.tar.gz mkpasswd-*.whl

@@ -16,7 +16,8 @@ LIBRARY = ROOT / "libmkpasswd.so.2"
 MD5 = "$1$xxxxxxxx$UYCIxa628.9qXjpQCjM4a."
 SHA256 = "$5$saltstring$5B8vYYiY.CVt1RlTTf8KbXBH3hsxY/GNooZaBBGWEc5"
 SHA512 = "$6$saltstring$svn8UoSVapNtMuq1ukKS4tPQd8iKwSMHWjl/O817G3uBnIFNjnQJuesI68u4OTLiBFdcbYEdFCoEOfaS35inz1"
-COSTLY = "$6$rounds=999999999$saltstring$x"
+# It would take a second or two, which a test can wait for if the budget is not heeded.
+COSTLY = "$6$rounds=2500000$saltstring$" + "x" * 86
 
 _crypt = ctypes.CDLL("libcrypt.so.1").crypt
 _crypt.argtypes, _crypt.restype = [ctypes.c_char_p, ctypes.c_char_p], ctypes.c_char_p

@@ -84,7 +84,7 @@ def test_recipe_of_passlib():
     assert context.verify_and_update("passw0rd", MD5) == (False, None)
     assert context.verify_and_update("pässword", stored) == (True, None)
     with pytest.raises(mkpasswd.TooCostly):
-        context.verify("password", "$6$rounds=999999999$saltstring$" + "x" * 86)
+        context.verify("password", COSTLY)
 
 
 def hashers_of_django():
