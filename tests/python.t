@@ -13,8 +13,10 @@ BAIL_OUT("$root/libmkpasswd.so.2 is not built: run make lib") unless -e "$root/l
 for my $file (glob "$root/tests/python/test_*.py") {
     my ($name) = $file =~ /test_(\w+)\.py$/;
     subtest $name => sub {
-        needs('pytest', 'python3-pytest', !run($python, '-c', 'import pytest')->{status}) or return;
-        my $run = run({ dir => "$root/tests/python", env => { COLUMNS => 500, LC_ALL => 'C.UTF-8' }, timeout => 300 },
+        for my $module ('pytest', $name eq 'standards' ? qw(hypothesis passlib) : ()) {
+            needs($module, "python3-$module", !run($python, '-c', "import $module")->{status}) or return;
+        }
+        my $run = run({ dir => "$root/tests/python", env => { COLUMNS => 500, LC_ALL => 'C.UTF-8' }, timeout => 900 },
             $python, '-B', '-m', 'pytest', '-v', '--tb=short', '--color=no', $file);
         while ($run->{out} =~ /^\S+?::(.+?) (PASSED|SKIPPED|FAILED|ERROR)(?: \((.*)\))? +\[ *\d+%\]$/mg) {
             my ($test, $result, $why) = ($1, $2, $3);

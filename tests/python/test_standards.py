@@ -6,10 +6,8 @@ import warnings
 
 import mkpasswd
 import pytest
-from support import COSTLY, MD5, SHA256, libxcrypt, needs
-
-needs("hypothesis", "python3-hypothesis")
-from hypothesis import given, settings, strategies as st  # noqa: E402
+from hypothesis import given, settings, strategies as st
+from support import COSTLY, MD5, SHA256, libxcrypt
 
 ALPHABET = "./0123456789ABCDEFGHIJKLMNOPQRSTUVWXYZabcdefghijklmnopqrstuvwxyz"
 quietly = settings(deadline=None, database=None, derandomize=True, max_examples=150)
@@ -17,8 +15,8 @@ quietly = settings(deadline=None, database=None, derandomize=True, max_examples=
 # passlib's own test classes, over a handler whose checksums all come from this package. passlib names no budget.
 with warnings.catch_warnings():
     warnings.simplefilter("ignore")
-    passlib_tests = needs("passlib.tests.test_handlers", "python3-passlib")
-    ours = needs("mkpasswd.passlib", "python3-passlib")
+    import mkpasswd.passlib as ours
+    from passlib.tests import test_handlers as passlib_tests
 for _name in "md5_crypt", "sha256_crypt", "sha512_crypt":
     _handler = type(_name, (getattr(ours, _name),), {"budget": math.inf})
     globals()["test_passlib_" + _name] = type(
@@ -95,9 +93,8 @@ def test_crypt_is_the_standard_librarys():
         for options in {}, {"rounds": 1000}, {"rounds": 5000}, {"rounds": 999_999_999}:
             if name == "MD5" and options:
                 continue
-            made, salt = (re.sub("[%s]+$" % ALPHABET, "", f(m, **options)) for f, m in ((mkpasswd.mksalt, method), (theirs.mksalt, expected)))
-            assert made == salt
-            assert len(mkpasswd.mksalt(method, **options)) == len(theirs.mksalt(expected, **options))
+            made, salt = mkpasswd.mksalt(method, **options), theirs.mksalt(expected, **options)
+            assert made.rpartition("$")[0] == salt.rpartition("$")[0] and len(made) == len(salt)
         assert len(mkpasswd.crypt("x", method)) == method.total_size
         for wrong in {"rounds": 999}, {"rounds": 10**9}, {"rounds": -1}, {"rounds": 1.5}, {"rounds": "1000"}, {"rounds": True}:
             with pytest.raises((ValueError, TypeError)) as raised:

@@ -241,7 +241,7 @@ def mksalt(method: Optional[_Method] = None, *, rounds: Optional[int] = None) ->
     if rounds is not None:
         if not isinstance(rounds, int):
             raise TypeError("%s object cannot be interpreted as an integer" % type(rounds).__name__)
-        if method is METHOD_MD5:
+        if method == METHOD_MD5:
             raise ValueError("%r doesn't support the rounds argument" % (method,))
         if not 1000 <= rounds <= 999_999_999:
             raise ValueError("rounds out of the range 1000 to 999_999_999")
