@@ -42,13 +42,18 @@ def missing(words):
     (pytest.fail if os.environ.get("STRICT") == "1" else pytest.skip)(words)
 
 
+def ended(*command, **options):
+    """Runs a command, and returns its status and what it prints, on both outputs together."""
+    pipes = dict(stdout=subprocess.PIPE, stderr=subprocess.STDOUT, universal_newlines=True)
+    done = subprocess.run([str(word) for word in command], **pipes, **options)
+    return done.returncode, done.stdout
+
+
 def run(*command, **options):
     """Runs a command, which has to succeed, and returns what it prints."""
-    done = subprocess.run(
-        [str(word) for word in command], stdout=subprocess.PIPE, stderr=subprocess.STDOUT, universal_newlines=True, **options
-    )
-    assert done.returncode == 0, done.stdout
-    return done.stdout
+    status, said = ended(*command, **options)
+    assert status == 0, said
+    return said
 
 
 def run_python(code, **options):

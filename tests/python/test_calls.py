@@ -10,26 +10,18 @@ from mkpasswd import Reason, Refused, TooCostly, cost, crypt, hash, needs_rehash
 from support import COSTLY, MD5, SHA256, SHA512, libxcrypt
 
 REFUSED = {
-    "x": Reason.UNKNOWN_SCHEME,
-    "$": Reason.UNKNOWN_SCHEME,
-    "$2b$05$abcdefghijklmnopqrstuu": Reason.UNKNOWN_SCHEME,
-    "$y$j9T$abc$x": Reason.UNKNOWN_SCHEME,
-    "ab0Z8yq2hBQEo": Reason.UNKNOWN_SCHEME,
-    "password": Reason.UNKNOWN_SCHEME,
-    MD5 + "\n": Reason.BAD_CHARACTER,
-    " " + MD5: Reason.BAD_CHARACTER,
-    "root:" + MD5: Reason.BAD_CHARACTER,
-    MD5 + "\0": Reason.BAD_CHARACTER,
-    "$1$é$x": Reason.BAD_CHARACTER,
-    "$1$\ud800$x": Reason.BAD_CHARACTER,
-    "$1$" + "a" * 382: Reason.SETTING_TOO_LONG,
-    "$5$rounds=0$salt$x": Reason.BAD_ROUNDS,
-    "$6$rounds=05000$salt$x": Reason.BAD_ROUNDS,
-    "$6$rounds=x": Reason.BAD_ROUNDS,
-    "$7$CU..../...": Reason.BAD_COST,
-    "$7$" + "." * 11 + "salt": Reason.SCRYPT_RANGE,
-    "$7$JU..../....salt": Reason.ABOVE_CEILING,
-    "$7$CU..../....a_b": Reason.BAD_SALT,
+    field: reason
+    for reason, *fields in (
+        (Reason.UNKNOWN_SCHEME, "x", "$", "$2b$05$abcdefghijklmnopqrstuu", "$y$j9T$abc$x", "ab0Z8yq2hBQEo", "password"),
+        (Reason.BAD_CHARACTER, MD5 + "\n", " " + MD5, "root:" + MD5, MD5 + "\0", "$1$é$x", "$1$\ud800$x"),
+        (Reason.SETTING_TOO_LONG, "$1$" + "a" * 382),
+        (Reason.BAD_ROUNDS, "$5$rounds=0$salt$x", "$6$rounds=05000$salt$x", "$6$rounds=x"),
+        (Reason.BAD_COST, "$7$CU..../..."),
+        (Reason.SCRYPT_RANGE, "$7$" + "." * 11 + "salt"),
+        (Reason.ABOVE_CEILING, "$7$JU..../....salt"),
+        (Reason.BAD_SALT, "$7$CU..../....a_b"),
+    )
+    for field in fields
 }
 LOCKED = ["", "!", "*", "!!", "*0", "*1", "*LK*", "!" + MD5, "*" + MD5, "!" + "x" * 500]
 # Settings without a hash, and hashes that are cut, longer, or not written as they are made.

@@ -4,13 +4,11 @@ import glob
 import os
 import re
 import shutil
-import subprocess
-import sys
 
 import mkpasswd
 import pytest
 from mkpasswd import _library
-from support import LIBRARY, MD5, ROOT, missing, needs, run
+from support import LIBRARY, MD5, ROOT, ended, missing, needs, run
 
 TRY = """
 import doctest, mkpasswd
@@ -58,8 +56,8 @@ def test_types(tmp_path):
     )
     run(*mypy, user, env=dict(os.environ, MYPYPATH=str(ROOT / "python/src")))
     user.write_text("import mkpasswd\nmkpasswd.verify('x', None)\nmkpasswd.verify('x', 'y', budget=None)\nmkpasswd.hash(5)\n")
-    with pytest.raises(AssertionError, match="Found 3 errors"):
-        run(*mypy, user, env=dict(os.environ, MYPYPATH=str(ROOT / "python/src")))
+    status, said = ended(*mypy, user, env=dict(os.environ, MYPYPATH=str(ROOT / "python/src")))
+    assert status == 1 and "Found 3 errors" in said
 
 
 @pytest.fixture(scope="module")
@@ -109,24 +107,21 @@ def test_wheel_in_a_fresh_environment(wheel, tmp_path):
     assert at.startswith(str(tmp_path / "v/lib")) and "site-packages/mkpasswd/libmkpasswd.so.2" in at
 
 
-def pythons():
-    """The interpreters that there are, one for each version from 3.8 on."""
-    found = {}
-    for minor in range(8, 20):
-        name = "python3.%d" % minor
-        places = [shutil.which(name, path="/usr/bin:/usr/local/bin:/opt/bin")]
-        places += glob.glob(os.path.expanduser("~/.pyenv/versions/3.%d.*/bin/%s" % (minor, name)))
-        for place in filter(None, places):
-            found.setdefault(minor, place)
-    return found
+# The interpreters that there are, one for each version from 3.8 on.
+PYTHONS = {}
+for _minor in range(8, 20):
+    _name = "python3.%d" % _minor
+    _places = glob.glob(os.path.expanduser("~/.pyenv/versions/3.%d.*/bin/%s" % (_minor, _name)))
+    for _place in filter(None, [shutil.which(_name, path="/usr/bin:/usr/local/bin"), *_places]):
+        PYTHONS.setdefault(_minor, _place)
 
 
-@pytest.mark.parametrize("minor", pythons())
+@pytest.mark.parametrize("minor", PYTHONS)
 def test_wheel_with_each_python(wheel, minor, tmp_path):
-    python = pythons()[minor]
+    python = PYTHONS[minor]
     run("/usr/bin/python3", "-m", "zipfile", "-e", wheel, tmp_path / "there")
-    if subprocess.run([python, "-m", "pip", "--version"], stdout=subprocess.DEVNULL, stderr=subprocess.DEVNULL).returncode == 0:
+    if ended(python, "-m", "pip", "--version")[0] == 0:
         shutil.rmtree(str(tmp_path / "there"))
         run(python, "-m", "pip", "install", "--quiet", "--no-index", "--no-compile", "--target", tmp_path / "there", wheel, env=ELSEWHERE)
-    at = run(python, "-W", "error", "-c", TRY, cwd=str(tmp_path), env=dict(ELSEWHERE, PYTHONPATH=str(tmp_path / "there"))).strip()
-    assert at == str(tmp_path / "there/mkpasswd/libmkpasswd.so.2")
+    there = dict(cwd=str(tmp_path), env=dict(ELSEWHERE, PYTHONPATH=str(tmp_path / "there")))
+    assert run(python, "-W", "error", "-c", TRY, **there).strip() == str(tmp_path / "there/mkpasswd/libmkpasswd.so.2")

@@ -6,7 +6,8 @@ Django reads the algorithm in front of the first "$", so a hash is stored as "mk
 hashes that come from elsewhere. Another method, number of rounds or budget is set in a subclass.
 """
 import os
-from typing import Any, Dict, Optional
+import re
+from typing import Any, Dict, Optional, Tuple
 
 from django.contrib.auth.hashers import BasePasswordHasher, mask_hash
 from django.utils.translation import gettext_noop as _
@@ -25,12 +26,12 @@ class MkpasswdPasswordHasher(BasePasswordHasher):
     budget: float = DEFAULT_BUDGET
 
     def salt(self) -> str:
-        return self._new_setting()[self._front() :]
+        return self._new_setting()[1]
 
     def encode(self, password: str, salt: str) -> str:
         if not salt or "$" in salt:
             raise ValueError("salt must be provided and must not have a $")
-        encoded = crypt(password, self._new_setting()[: self._front()] + salt, budget=self.budget)
+        encoded = crypt(password, self._new_setting()[0] + salt, budget=self.budget)
         if encoded.startswith("*"):
             raise ValueError("bad salt")
         return self.algorithm + encoded
@@ -60,15 +61,10 @@ class MkpasswdPasswordHasher(BasePasswordHasher):
             pass
 
     def decode(self, encoded: str) -> Dict[str, Any]:
-        front, dollar, digest = self._field(encoded).rpartition("$")
-        method = _NAMES[front[1]]
-        rounds, salt = None, front[3:]
-        if method == "scrypt":
-            salt = front[14:]
-        elif method != "md5crypt":
-            given = salt.startswith("rounds=")
-            rounds = int(salt[7:].partition("$")[0]) if given else 5000
-            salt = salt.rpartition("$")[2]
+        setting, dollar, digest = self._field(encoded).rpartition("$")
+        front, salt = _cut(setting)
+        method, given = _NAMES[front[1]], re.search("rounds=([0-9]+)", front)
+        rounds = int(given.group(1)) if given else 5000 if method.startswith("sha") else None
         return {"algorithm": self.algorithm, "method": method, "rounds": rounds, "salt": salt, "hash": digest}
 
     def safe_summary(self, encoded: str) -> Dict[str, Any]:
@@ -86,9 +82,11 @@ class MkpasswdPasswordHasher(BasePasswordHasher):
             raise ValueError("the hash is of another hasher")
         return encoded[len(self.algorithm) :]
 
-    def _new_setting(self) -> str:
-        return _setting(_method(self.method, self.rounds), os.urandom(24)).decode("ascii")
+    def _new_setting(self) -> Tuple[str, str]:
+        return _cut(_setting(_method(self.method, self.rounds), os.urandom(24)).decode("ascii"))
 
-    def _front(self) -> int:
-        setting = self._new_setting()
-        return 14 if self.method == "scrypt" else setting.rindex("$") + 1
+
+def _cut(setting: str) -> Tuple[str, str]:
+    """A setting up to its salt, and the salt. scrypt's begins after eleven characters of cost."""
+    at = 14 if setting.startswith("$7$") else setting.rindex("$") + 1
+    return setting[:at], setting[at:]
