@@ -51,12 +51,17 @@ run: mkpasswd
 
 lib: libmkpasswd.a libmkpasswd.so.2
 
-# One object of the proved calls and the toolchain's few lines for memory, which offers the calls alone.
-build/mkpasswd.o: $(SOURCES) build/cpu
+# One object of the proved calls, the few lines of C that draw a salt, and the toolchain's for memory. It offers what the
+# version script does.
+build/mkpasswd.o: $(SOURCES) build/cpu build/new.o libmkpasswd.map
 	cd crates/crypt_c && ../../tools/progress ../../build/crypt_c.log -- $(RT) lib $(FOR_CPU)
 	cd build && ar x ../crates/crypt_c/out/libcrypt_c.a crypt_c.o && ar x $$(dirname $$($(RT) doc))/c/liblibc_c.a heap.pic.o
-	ld -r -o $@ build/crypt_c.o build/heap.pic.o
-	objcopy --wildcard --keep-global-symbol='mkpasswd_*' $@
+	ld -r -o $@ build/crypt_c.o build/new.o build/heap.pic.o
+	sed -n 's/^ *\(mkpasswd_[a-z_]*\);$$/\1/p' libmkpasswd.map > build/calls
+	objcopy --keep-global-symbols=build/calls $@
+
+build/new.o: c/new.c include/mkpasswd.h build/cpu
+	$(CC) -std=c99 -Wall -Wextra -O2 -fPIC -Iinclude -c -o $@ c/new.c
 
 libmkpasswd.a: build/mkpasswd.o
 	rm -f $@
@@ -69,9 +74,9 @@ libmkpasswd.so.2: build/mkpasswd.o libmkpasswd.map
 # The targets keep what they found in build/fuzz, from where the next run begins.
 FUZZERS := $(patsubst tests/c/fuzz_%.c,build/fuzz/%,$(wildcard tests/c/fuzz_*.c))
 
-build/fuzz/%: tests/c/fuzz_%.c include/mkpasswd.h libmkpasswd.a
+build/fuzz/%: tests/c/fuzz_%.c tests/c/fuzz.h include/mkpasswd.h libmkpasswd.a
 	@mkdir -p $@.corpus
-	clang -std=c11 -Wall -Wextra -Werror -g -O1 -fsanitize=fuzzer,address,undefined -fno-sanitize-recover=all \
+	clang -std=gnu11 -Wall -Wextra -Werror -g -O1 -fsanitize=fuzzer,address,undefined -fno-sanitize-recover=all \
 		-Iinclude $< libmkpasswd.a -lcrypt -o $@
 
 fuzz: $(FUZZERS)

@@ -1,2 +1,5 @@
-pub mod Hashing
-pub mod OneAnswer
+pub mod NewHashes
+pub mod Putting
+pub mod ReasonNumbers
+pub mod Reading
+pub mod Verdicts

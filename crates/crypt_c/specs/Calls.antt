@@ -1,122 +1,124 @@
--- What each call answers, and what it leaves in the caller's bytes and counts.
-use Rattle.std.specs.Prelude.{◌≡◌, ◌≢◌, ◌⊎◌, ◌+◌, ◌<◌, ◌≤◌, ℕ, ℤ, Bool, List, ◌∷◌, ◌++◌, length, drop, Some, None, Result, Ok, Err}
+-- What each call reads, and what it reports.
+use Rattle.std.specs.Prelude.{◌≡◌, ◌⊎◌, ◌<◌, ◌≤◌, ◌==◌, if◌then◌else◌, ℕ, nat_lt, MatchBool, MatchResult, List, [], ◌∷◌, length, Some, None, Result, Ok, Err}
+use Rattle.std.specs.Str.{bytes_eq}
 use Rattle.prims_core.specs.Work.{no_work}
-use Rattle.prims_core.specs.declared.meter.Work.{Work}
-use Rattle.crypt_core.specs.Crypt.{IsAfterRefusedGrowth, crypt}
-use Rattle.crypt_core.specs.Fits as fits
+use Rattle.crypt_core.specs.Crypt.{crypt}
 use Rattle.crypt_core.specs.MadeSettings.{TakesCost, made_scheme, salted}
 use Rattle.crypt_core.specs.Methods.{method_numbered}
 use Rattle.crypt_core.specs.Passwords.{IsPassword, IsPasswordRefused, password_limit}
 use Rattle.crypt_core.specs.Refusals.{IsRefused}
 use Rattle.crypt_core.specs.Replacements.{is_replaced_by}
 use Rattle.crypt_core.specs.Settings.{SettingValue, Spells, canonical_text}
-use Rattle.crypt_core.specs.Work.{cost, work}
-use Rattle.crypt_core.specs.declared.fits.FitFault.TheVariants as fit
+use Rattle.crypt_core.specs.Work.{cost, work, work_bound}
 use Rattle.crypt_core.specs.declared.method.Method.{Method}
 use Rattle.crypt_core.specs.declared.password.PasswordFault.TheVariants.{TooLong}
-use Rattle.crypt_c.specs.Numbers.{refusal_text, refusal_told}
-use Rattle.crypt_c.specs.declared.refusal.Refusal.{Refusal}
-use Rattle.crypt_c.specs.declared.refusal.Refusal.TheVariants.{Password, Setting, OutOfMemory, TooFewBytes, UnknownMethod, Cost, UnknownNumber}
+use Rattle.crypt_core.specs.declared.scheme.Scheme.{Scheme}
+use Rattle.crypt_c.specs.Reports.{LacksMemory, Leaves, refused, reported, token}
+use Rattle.crypt_c.specs.declared.reason.Reason.TheVariants.{Fits, Outdated, Done, Refused}
+use Rattle.crypt_c.specs.declared.reason.Refusal.{Refusal}
+use Rattle.crypt_c.specs.declared.reason.Refusal.TheVariants.{Password, Setting, TooFewBytes, UnknownMethod, Cost, OverBudget, Differs, Current, NoRandomWords}
+use Rattle.crypt_c.specs.declared.report.Report.{Report}
 
--- ---- what crosses
+-- ---- What is handed in: a value, or why it is refused
 
--- the caller's bytes have room for a text and a byte 0
-abbrev pub HasRoomFor : List ℕ → List ℕ → Type 0
-HasRoomFor text old = length text < length old
+abbrev pub IsPasswordRead : List ℕ → Result (List ℕ) Refusal → Type 0
+IsPasswordRead bytes (Ok password) = IsPassword bytes × (password ≡ bytes)
+IsPasswordRead bytes (Err (Password fault)) = IsPasswordRefused bytes fault
+IsPasswordRead bytes (Err refusal) = ⊥
 
--- they have, begin with these, and are as they were behind that
-abbrev pub IsPut : List ℕ → List ℕ → List ℕ → Type 0
-IsPut text old new = HasRoomFor text old × (new ≡ (text ++ 0 ∷ drop (length text + 1) old))
+-- a password of which only the length is known
+abbrev pub IsLengthRead : ℕ → Result ℕ Refusal → Type 0
+IsLengthRead given (Ok len) = (given ≤ password_limit) × (len ≡ given)
+IsLengthRead given (Err (Password TooLong)) = password_limit < given
+IsLengthRead given (Err refusal) = ⊥
 
--- ---- a password against a stored text
+abbrev pub IsSettingRead : List ℕ → Result SettingValue Refusal → Type 0
+IsSettingRead text (Ok kept) = Spells text kept
+IsSettingRead text (Err (Setting fault)) = IsRefused text fault
+IsSettingRead text (Err refusal) = ⊥
 
--- it was compared on a meter that had counted nothing; or the first refusal that holds
-abbrev pub Compares : List ℕ → List ℕ → Work → Result Bool Refusal → Type 0
-Compares password stored done (Ok verdict) =
-    IsPassword password × fits.Compares password stored no_work done (Ok verdict)
-Compares password stored done (Err (Password fault)) = IsPasswordRefused password fault × (done ≡ no_work)
-Compares password stored done (Err (Setting fault)) =
-    IsPassword password × fits.Compares password stored no_work done (Err (fit.Setting fault))
-Compares password stored done (Err OutOfMemory) =
-    IsPassword password × fits.Compares password stored no_work done (Err fit.OutOfMemory)
-Compares password stored done (Err refusal) = ⊥
+-- a method's number and a cost, of which a scheme is made
+abbrev pub IsSchemeMade : ℕ → ℕ → Result Scheme Refusal → Type 0
+IsSchemeMade number cost (Ok scheme) =
+    (method : Method) × (method_numbered number ≡ Some method) × TakesCost method cost × (scheme ≡ made_scheme method cost)
+IsSchemeMade number cost (Err UnknownMethod) = method_numbered number ≡ None
+IsSchemeMade number cost (Err Cost) = (method : Method) × (method_numbered number ≡ Some method) × (¬ TakesCost method cost)
+IsSchemeMade number cost (Err refusal) = ⊥
 
--- ---- the hash of a password
+-- both of two values, or the refusal of the first one, or else that of the second
+abbrev pub Both : {A B : Type 0} → (Result A Refusal → Type 0) → (Result B Refusal → Type 0) → Result (A × B) Refusal → Type 0
+Both first second (Ok (a, b)) = first (Ok a) × second (Ok b)
+Both {A = A} first second (Err refusal) = first (Err refusal) ⊎ ((a : A) × first (Ok a) × second (Err refusal))
 
--- its text and a byte 0 are put; or the first refusal that holds, and the caller's bytes are as they were
-abbrev pub Hashes : List ℕ → List ℕ → List ℕ → List ℕ → Work → Result ℕ Refusal → Type 0
-Hashes password setting old new done (Ok count) =
-    IsPassword password × ((kept : SettingValue) × Spells setting kept × (count ≡ length (crypt password kept))
-    × IsPut (crypt password kept) old new × (done ≡ work password kept))
-Hashes password setting old new done (Err (Password fault)) =
-    IsPasswordRefused password fault × (new ≡ old) × (done ≡ no_work)
-Hashes password setting old new done (Err (Setting fault)) =
-    IsPassword password × IsRefused setting fault × (new ≡ old) × (done ≡ no_work)
-Hashes password setting old new done (Err TooFewBytes) =
-    IsPassword password × ((kept : SettingValue) × Spells setting kept × ¬ HasRoomFor (crypt password kept) old
-    × (new ≡ old) × (done ≡ no_work))
-Hashes password setting old new done (Err OutOfMemory) =
-    IsPassword password × ((kept : SettingValue) × Spells setting kept × HasRoomFor (crypt password kept) old
-    × IsAfterRefusedGrowth no_work kept.scheme done × (new ≡ old))
-Hashes password setting old new done (Err refusal) = ⊥
+-- ---- A password against a stored hash
 
--- ---- what a hash will take
+-- the password opens: its hash by the setting that the text spells is the text, and costs no more than the budget
+abbrev pub Opens : List ℕ → List ℕ → ℕ → Type 0
+Opens password stored budget =
+    IsPassword password × ((kept : SettingValue) × Spells stored kept × (crypt password kept ≡ stored)
+    × (cost kept (length password) ≤ budget))
 
--- a measure of the setting that a text spells, and of a password's length; too long a length is told first
-abbrev pub Reports : {A : Type 0} → (SettingValue → ℕ → A) → List ℕ → ℕ → A → A → Result ℕ Refusal → Type 0
-Reports measure stored len old new (Ok count) =
-    (len ≤ password_limit) × (count ≡ 0) × ((kept : SettingValue) × Spells stored kept × (new ≡ measure kept len))
-Reports measure stored len old new (Err (Password TooLong)) = (password_limit < len) × (new ≡ old)
-Reports measure stored len old new (Err (Setting fault)) = (len ≤ password_limit) × IsRefused stored fault × (new ≡ old)
-Reports measure stored len old new (Err refusal) = ⊥
+abbrev pub Verifies : List ℕ → ℕ → Result (List ℕ × SettingValue) Refusal → Report → Type 0
+Verifies stored budget (Err refusal) report = report ≡ refused refusal 0
+Verifies stored budget (Ok (password, kept)) report =
+    let most = cost kept (length password) in
+    MatchBool (nat_lt budget most)
+    (report ≡ refused OverBudget most)
+    ((report ≡ reported (if bytes_eq (crypt password kept) stored then Fits else Refused Differs) 0 most (work password kept))
+    ⊎ LacksMemory kept most report)
 
--- ---- settings
+-- ---- The hash of a password
 
--- the one setting is replaced by the other; a refusal of the first text is told before one of the second
-abbrev pub Replaces : List ℕ → List ℕ → Result Bool Refusal → Type 0
-Replaces stored new (Ok verdict) =
-    (kept : SettingValue) × (other : SettingValue) × Spells stored kept × Spells new other × (verdict ≡ is_replaced_by kept.scheme other.scheme)
-Replaces stored new (Err (Setting fault)) =
-    IsRefused stored fault ⊎ ((kept : SettingValue) × Spells stored kept × IsRefused new fault)
-Replaces stored new (Err refusal) = ⊥
+-- the cost, where the budget and then the room allow the hash; or the report of the refusal
+abbrev pub admission : ℕ → ℕ → List ℕ → SettingValue → Result ℕ Report
+admission budget room password kept =
+    let most = cost kept (length password) in
+    if nat_lt budget most then Err (refused OverBudget most)
+    else if nat_lt (length (crypt password kept)) room then Ok most
+    else Err (refused TooFewBytes most)
 
--- its text and a byte 0 are put; or the first refusal that holds, and the caller's bytes are as they were
-abbrev pub Makes : ℕ → ℕ → List ℕ → List ℕ → List ℕ → Result ℕ Refusal → Type 0
-Makes number cost words old new (Ok count) =
-    (method : Method) × (method_numbered number ≡ Some method) × TakesCost method cost
-    × (count ≡ length (canonical_text (salted (made_scheme method cost) words)))
-    × IsPut (canonical_text (salted (made_scheme method cost) words)) old new
-Makes number cost words old new (Err UnknownMethod) = (method_numbered number ≡ None) × (new ≡ old)
-Makes number cost words old new (Err Cost) =
-    (method : Method) × (method_numbered number ≡ Some method) × (¬ TakesCost method cost) × (new ≡ old)
-Makes number cost words old new (Err TooFewBytes) =
-    (method : Method) × (method_numbered number ≡ Some method) × TakesCost method cost
-    × (¬ HasRoomFor (canonical_text (salted (made_scheme method cost) words)) old) × (new ≡ old)
-Makes number cost words old new (Err refusal) = ⊥
+-- the hash is put; or where scrypt lacked memory, the lock is
+abbrev pub PutsHash : List ℕ → SettingValue → ℕ → List ℕ → List ℕ → Report → List ℕ → Type 0
+PutsHash password kept most lock old report new =
+    let text = crypt password kept in
+    Leaves (reported Done (length text) most (work password kept)) text old report new
+    ⊎ (LacksMemory kept most report × Leaves report lock old report new)
 
--- ---- refusals
+abbrev pub Hashes : ℕ → List ℕ → List ℕ → Result (List ℕ × SettingValue) Refusal → Report → List ℕ → Type 0
+Hashes budget lock old (Err refusal) report new = Leaves (refused refusal 0) lock old report new
+Hashes budget lock old (Ok (password, kept)) report new =
+    MatchResult (admission budget (length old) password kept)
+    (λ most. PutsHash password kept most lock old report new)
+    (λ refusal. Leaves refusal lock old report new)
 
--- the text of a refusal is put, for the number that a call answers by it
-abbrev pub Explains : ℤ → List ℕ → List ℕ → Result ℕ Refusal → Type 0
-Explains number old new (Ok count) =
-    (refusal : Refusal) × (number ≡ refusal_told refusal)
-    × (count ≡ length (refusal_text refusal)) × IsPut (refusal_text refusal) old new
-Explains number old new (Err UnknownNumber) = ((refusal : Refusal) → number ≢ refusal_told refusal) × (new ≡ old)
-Explains number old new (Err TooFewBytes) =
-    (refusal : Refusal) × (number ≡ refusal_told refusal) × (¬ HasRoomFor (refusal_text refusal) old) × (new ≡ old)
-Explains number old new (Err refusal) = ⊥
+-- the hash by the setting that three words make. Without them it is refused, as the hash by another three would be, or
+-- where that is not, because there are none
+abbrev pub HashesAnew : List ℕ → ℕ → List ℕ → Result (List ℕ × Scheme) Refusal → Report → List ℕ → Type 0
+HashesAnew words budget old (Err refusal) report new = Leaves (refused refusal 0) (token []) old report new
+HashesAnew words budget old (Ok (password, scheme)) report new =
+    MatchBool (length words == 3)
+    (Hashes budget (token []) old (Ok (password, salted scheme words)) report new)
+    (MatchResult (admission budget (length old) password (salted scheme (0 ∷ 0 ∷ 0 ∷ [])))
+    (λ most. Leaves (refused NoRandomWords most) (token []) old report new)
+    (λ refusal. Leaves refusal (token []) old report new))
 
--- ---- from the facts to the number
+-- ---- What a hash will cost
 
--- each answer of which these facts hold is the one that the number tells
-abbrev pub Determines : {A : Type 0} → (Result A Refusal → ℤ) → (Result A Refusal → Type 0) → ℤ → Type 0
-Determines {A = A} told holds number = (answer : Result A Refusal) → holds answer → number ≡ told answer
+abbrev pub bounded : Result (ℕ × SettingValue) Refusal → Report
+bounded (Ok (len, kept)) = reported Done 0 (cost kept len) (work_bound kept len)
+bounded (Err refusal) = refused refusal 0
 
--- such a number where memory may be refused: in the place of a value it can tell that, and in the place of no other refusal
-abbrev pub IsToldOrLacks : {A : Type 0} → (Result A Refusal → ℤ) → ℤ → Result A Refusal → Type 0
-IsToldOrLacks told number (Ok value) = (number ≡ told (Ok value)) ⊎ (number ≡ refusal_told OutOfMemory)
-IsToldOrLacks told number (Err OutOfMemory) = Unit {0}
-IsToldOrLacks told number (Err refusal) = number ≡ refusal_told refusal
+-- ---- Settings
 
-abbrev pub TellsOrLacks : {A : Type 0} → (Result A Refusal → ℤ) → (Result A Refusal → Type 0) → ℤ → Type 0
-TellsOrLacks {A = A} told holds number = (answer : Result A Refusal) → holds answer → IsToldOrLacks told number answer
+abbrev pub rehashed : Result (SettingValue × Scheme) Refusal → Report
+rehashed (Ok (kept, scheme)) =
+    if is_replaced_by kept.scheme scheme then reported Outdated 0 0 no_work else refused Current 0
+rehashed (Err refusal) = refused refusal 0
+
+abbrev pub Makes : List ℕ → List ℕ → Result Scheme Refusal → Report → List ℕ → Type 0
+Makes words old (Err refusal) report new = Leaves (refused refusal 0) (token []) old report new
+Makes words old (Ok scheme) report new =
+    let text = canonical_text (salted scheme words) in
+    MatchBool (nat_lt (length text) (length old))
+    (Leaves (reported Done (length text) 0 no_work) text old report new)
+    (Leaves (refused TooFewBytes 0) (token []) old report new)

@@ -1,117 +1,151 @@
 //! mkpasswd for C: the calls of `include/mkpasswd.h`, which says how each is used.
 //!
-//! A list of bytes comes as a pointer and a number of bytes. A call answers a number: from 0 on what it was asked, and
-//! below 0 the negative of a refusal's number. No call keeps anything, writes anything elsewhere or starts anything, so
-//! that many threads may call at once.
+//! A list of bytes comes as a pointer and a number of bytes. A call that can fail returns 1 where it did what its name
+//! says, and else 0; why, its report says, which it writes whole. So whatever a careless caller forgets to compare, it
+//! takes for a no. After a 0 the caller's bytes hold a text that no password fits. No call keeps anything or starts
+//! anything, so that many threads may call at once.
 #![tactic(auto)]
 
-ghost use Rattle.std.specs.Prelude.{◌≡◌, ◌^◌, ◌<◌, ◌∷◌, [], Bool, List, Result, ℕ, IfOk};
-ghost use Rattle.crypt_core.specs.Work.{cost, work_bound};
-ghost use Rattle.prims_core.specs.declared.meter.Work.{Work as Done};
-ghost use Rattle.crypt_c.specs.Calls.{Compares, Explains, Hashes, Makes, Replaces, Reports, Determines, TellsOrLacks};
-ghost use Rattle.crypt_c.specs.Numbers.{length_told, verdict_told};
-ghost use Rattle.crypt_c.specs.Private.Steps.{IsSmall};
-ghost use Rattle.crypt_c.specs.declared.refusal.Refusal.{Refusal as Refused};
-
 mod calls;
-mod refusal;
 
-use calls::{compare, is_replaced, put_hash, put_refusal, put_setting, tell_bound, tell_cost};
+ghost use Rattle.std.specs.Prelude.{◌≡◌, ◌≢◌, ◌⊎◌, ◌↔◌, ◌<◌, ◌<ℤ◌, pos, ℕ, List, [], ◌∷◌, length, take, Result};
+ghost use Rattle.crypt_core.specs.Settings.{SettingValue, Spells};
+ghost use Rattle.crypt_core.specs.declared.scheme.Scheme.{Scheme};
+ghost use Rattle.crypt_c.specs.Calls.{Both, Hashes, HashesAnew, IsLengthRead, IsPasswordRead, IsSchemeMade, IsSettingRead, Makes, Opens, Verifies, bounded, rehashed};
+ghost use Rattle.crypt_c.specs.Reasons.{reason_number, reason_words, unknown_words};
+ghost use Rattle.crypt_c.specs.Reports.{put, refused, token};
+ghost use Rattle.crypt_c.specs.declared.reason.Reason.{Reason as Why};
+ghost use Rattle.crypt_c.specs.declared.reason.Reason.TheVariants.{Refused};
+ghost use Rattle.crypt_c.specs.declared.reason.Refusal.{Refusal};
+ghost use Rattle.crypt_c.specs.declared.reason.Refusal.TheVariants.{Current, OutOfMemory};
+
+mod reason;
+mod report;
+
+use calls::{
+    put_hash, put_new_hash, put_setting, read, read_both, read_for_scheme, read_with_length,
+    scheme_of, tell_bound, tell_rehash, verify,
+};
 use crypt_core::version::VERSION_NUMBER;
-use prims_core::meter::{Meter, Work};
-use refusal::Refusal;
+use reason::Reason;
+use report::{Report, put, token};
 use std::alloc::Global;
 
-/// Whether a password fits a stored text: 1 or 0. `work` gets what this call counted.
-///
-/// The refusals, of which the first that holds is answered: those of the password, those of the text as a setting, and
-/// want of memory, which only scrypt asks for.
+/// Whether a password fits a stored hash, and its hash costs no more than the budget.
 #[unsafe(no_mangle)]
-pub extern "C" fn mkpasswd_fits(
+pub extern "C" fn mkpasswd_verify(
     alloc: Global,
     password: &[u8],
     stored: &[u8],
-    work: &mut Work,
+    budget: u64,
+    report: &mut Report,
 ) -> i32
-    ensures compares { (answer : Result Bool Refused) × Compares password.now stored.now work.new answer
-        × (result ≡ verdict_told answer) }
-    ensures each { (done : Done) → TellsOrLacks verdict_told (Compares password.now stored.now done) result }
+    ensures one_or_zero { (result ≡ pos 1) ⊎ (result ≡ pos 0) }
+    ensures answer { result ≡ pos 1 ↔ pos 0 <ℤ report.new.reason }
+    ensures lets_in { result ≡ pos 1 → Opens password.now stored.now budget }
+    ensures opens { Opens password.now stored.now budget
+        → (result ≡ pos 1) ⊎ (report.new.reason ≡ reason_number (Refused OutOfMemory)) }
+    ensures read { (given : Result (List ℕ × SettingValue) Refusal)
+        × Both (IsPasswordRead password.now) (IsSettingRead stored.now) given }
+    ensures each { (given : Result (List ℕ × SettingValue) Refusal)
+        → Both (IsPasswordRead password.now) (IsSettingRead stored.now) given
+        → Verifies stored.now budget given report.new }
 {
-    let mut meter = Meter::new();
-    let before = meter.reading();
-    let answer = compare(alloc, password, stored, &mut meter);
-    *work = meter.work_since(&before);
-    verdict_number(answer)
+    *report = verify(alloc, read(password, stored), stored, budget);
+    report.answer()
 }
 
-/// Hashes a password by the setting that a text spells. The hash and a byte 0 are put into `out`, and the length of the
-/// hash is answered. `work` gets what this call counted.
-///
-/// The refusals, of which the first that holds is answered: those of the password, those of the text as a setting, too
-/// few bytes in `out`, which is told before anything is hashed, and want of memory. After one `out` is as it was.
+/// Hashes a password by a new setting.
+#[unsafe(no_mangle)]
+pub extern "C" fn mkpasswd_new_from(
+    alloc: Global,
+    password: &[u8],
+    method: u32,
+    cost: u32,
+    budget: u64,
+    words: &[u64],
+    out: &mut [u8],
+    report: &mut Report,
+) -> i32
+    ensures one_or_zero { (result ≡ pos 1) ⊎ (result ≡ pos 0) }
+    ensures answer { result ≡ pos 1 ↔ pos 0 <ℤ report.new.reason }
+    ensures read { (given : Result (List ℕ × Scheme) Refusal)
+        × Both (IsPasswordRead password.now) (IsSchemeMade method cost) given }
+    ensures each { (given : Result (List ℕ × Scheme) Refusal)
+        → Both (IsPasswordRead password.now) (IsSchemeMade method cost) given
+        → HashesAnew words.now budget out.old given report.new out.new }
+    ensures then_opens { result ≡ pos 1 → Opens password.now (take report.new.length out.new) budget }
+    ensures then_current { result ≡ pos 1 → (given : Result (SettingValue × Scheme) Refusal)
+        × Both (IsSettingRead (take report.new.length out.new)) (IsSchemeMade method cost) given
+        × (rehashed given ≡ refused Current 0) }
+{
+    *report = put_new_hash(
+        alloc,
+        read_for_scheme(password, method, cost),
+        words,
+        budget,
+        out,
+    );
+    report.answer()
+}
+
+/// Whether a hash that `mkpasswd_new` makes would replace the stored one.
+#[unsafe(no_mangle)]
+pub extern "C" fn mkpasswd_needs_rehash(
+    stored: &[u8],
+    method: u32,
+    cost: u32,
+    report: &mut Report,
+) -> i32
+    ensures one_or_zero { (result ≡ pos 1) ⊎ (result ≡ pos 0) }
+    ensures answer { result ≡ pos 1 ↔ pos 0 <ℤ report.new.reason }
+    ensures read { (given : Result (SettingValue × Scheme) Refusal)
+        × Both (IsSettingRead stored.now) (IsSchemeMade method cost) given }
+    ensures each { (given : Result (SettingValue × Scheme) Refusal)
+        → Both (IsSettingRead stored.now) (IsSchemeMade method cost) given → report.new ≡ rehashed given }
+{
+    *report = tell_rehash(read_both(stored, method, cost));
+    report.answer()
+}
+
+/// What a hash takes at most.
+#[unsafe(no_mangle)]
+pub extern "C" fn mkpasswd_bound(stored: &[u8], password_len: usize, report: &mut Report) -> i32
+    ensures one_or_zero { (result ≡ pos 1) ⊎ (result ≡ pos 0) }
+    ensures answer { result ≡ pos 1 ↔ pos 0 <ℤ report.new.reason }
+    ensures read { (given : Result (ℕ × SettingValue) Refusal)
+        × Both (IsLengthRead password_len) (IsSettingRead stored.now) given }
+    ensures each { (given : Result (ℕ × SettingValue) Refusal)
+        → Both (IsLengthRead password_len) (IsSettingRead stored.now) given → report.new ≡ bounded given }
+{
+    *report = tell_bound(read_with_length(password_len, stored));
+    report.answer()
+}
+
+/// Hashes a password by a setting.
 #[unsafe(no_mangle)]
 pub extern "C" fn mkpasswd_hash(
     alloc: Global,
     password: &[u8],
     setting: &[u8],
+    budget: u64,
     out: &mut [u8],
-    work: &mut Work,
+    report: &mut Report,
 ) -> i32
-    ensures hashes { (answer : Result ℕ Refused) × Hashes password.now setting.now out.old out.new work.new answer
-        × (result ≡ length_told answer) }
-    ensures each { (new : List ℕ) → (done : Done)
-        → TellsOrLacks length_told (Hashes password.now setting.now out.old new done) result }
+    ensures one_or_zero { (result ≡ pos 1) ⊎ (result ≡ pos 0) }
+    ensures answer { result ≡ pos 1 ↔ pos 0 <ℤ report.new.reason }
+    ensures read { (given : Result (List ℕ × SettingValue) Refusal)
+        × Both (IsPasswordRead password.now) (IsSettingRead setting.now) given }
+    ensures each { (given : Result (List ℕ × SettingValue) Refusal)
+        → Both (IsPasswordRead password.now) (IsSettingRead setting.now) given
+        → Hashes budget (token setting.now) out.old given report.new out.new }
+    ensures locks { (token setting.now ≢ setting.now) × ((kept : SettingValue) → ¬ Spells (token setting.now) kept) }
 {
-    let mut meter = Meter::new();
-    let before = meter.reading();
-    let answer = put_hash(alloc, password, setting, out, &mut meter);
-    *work = meter.work_since(&before);
-    length_number(answer)
+    *report = put_hash(alloc, read(password, setting), budget, token(setting), out);
+    report.answer()
 }
 
-/// What a hash by the setting that a text spells counts at most, for any password of so many bytes: `most` gets it, and
-/// 0 is answered. Nothing is hashed for it, and no memory is taken.
-///
-/// The refusals: too many bytes for a password, and those of the text as a setting. After one `most` is as it was.
-#[unsafe(no_mangle)]
-pub extern "C" fn mkpasswd_bound(stored: &[u8], password_len: usize, most: &mut Work) -> i32
-    ensures tells { (answer : Result ℕ Refused) × Reports work_bound stored.now password_len most.old most.new answer
-        × (result ≡ length_told answer) }
-    ensures each { (new : Done) → Determines length_told (Reports work_bound stored.now password_len most.old new) result }
-{
-    length_number(tell_bound(stored, password_len, most))
-}
-
-/// What such a hash costs at most, as one number: the bytes that it digests, and for scrypt those that it mixes too.
-/// Otherwise as [`mkpasswd_bound`].
-#[unsafe(no_mangle)]
-pub extern "C" fn mkpasswd_cost(stored: &[u8], password_len: usize, number: &mut u64) -> i32
-    ensures tells { (answer : Result ℕ Refused) × Reports cost stored.now password_len number.old number.new answer
-        × (result ≡ length_told answer) }
-    ensures each { (new : ℕ) → Determines length_told (Reports cost stored.now password_len number.old new) result }
-{
-    length_number(tell_cost(stored, password_len, number))
-}
-
-/// Whether the setting of a stored text is replaced by that of another text: 1 or 0. It is where new hashes are of
-/// another method, or of the same one with more rounds, or for scrypt with a greater `N * r * p`.
-///
-/// The refusals: those of the stored text as a setting, and then those of the other one.
-#[unsafe(no_mangle)]
-pub extern "C" fn mkpasswd_replaced(stored: &[u8], new: &[u8]) -> i32
-    ensures replaces { (answer : Result Bool Refused) × Replaces stored.now new.now answer
-        × (result ≡ verdict_told answer) }
-    ensures each { Determines verdict_told (Replaces stored.now new.now) result }
-{
-    verdict_number(is_replaced(stored, new))
-}
-
-/// Puts the text of a new setting and a byte 0 into `out`, and answers the text's length. The method is 1 for md5crypt,
-/// 5 for sha256crypt, 6 for sha512crypt or 7 for scrypt, as in its texts; the cost is that of `mkpasswd -R`; and the
-/// salt is made of three random words, which the caller draws.
-///
-/// The refusals, of which the first that holds is answered: a method that there isn't, a cost that the method doesn't
-/// take, and too few bytes in `out`. After one `out` is as it was.
+/// Makes a setting.
 #[unsafe(no_mangle)]
 pub extern "C" fn mkpasswd_setting(
     method: u32,
@@ -120,26 +154,34 @@ pub extern "C" fn mkpasswd_setting(
     second: u64,
     third: u64,
     out: &mut [u8],
+    report: &mut Report,
 ) -> i32
-    ensures makes { (answer : Result ℕ Refused) × Makes method cost (first ∷ second ∷ third ∷ []) out.old out.new answer
-        × (result ≡ length_told answer) }
-    ensures each { (new : List ℕ)
-        → Determines length_told (Makes method cost (first ∷ second ∷ third ∷ []) out.old new) result }
+    ensures one_or_zero { (result ≡ pos 1) ⊎ (result ≡ pos 0) }
+    ensures answer { result ≡ pos 1 ↔ pos 0 <ℤ report.new.reason }
+    ensures made { (given : Result Scheme Refusal) × IsSchemeMade method cost given }
+    ensures each { (given : Result Scheme Refusal) → IsSchemeMade method cost given
+        → Makes (first ∷ second ∷ third ∷ []) out.old given report.new out.new }
 {
-    length_number(put_setting(method, cost, [first, second, third], out))
+    *report = put_setting(scheme_of(method, cost), [first, second, third], out);
+    report.answer()
 }
 
-/// Puts the words for a refusal and a byte 0 into `out`, and answers how many bytes the words have. The number is the
-/// one that a call answered.
-///
-/// The refusals: a number that stands for none, and too few bytes in `out`. After one `out` is as it was.
+/// Puts the words for a reason.
 #[unsafe(no_mangle)]
-pub extern "C" fn mkpasswd_refusal(number: i32, out: &mut [u8]) -> i32
-    ensures explains { (answer : Result ℕ Refused) × Explains number out.old out.new answer
-        × (result ≡ length_told answer) }
-    ensures each { (new : List ℕ) → Determines length_told (Explains number out.old new) result }
+pub extern "C" fn mkpasswd_words(reason: i32, out: &mut [u8]) -> i32
+    ensures one_or_zero { (result ≡ pos 1) ⊎ (result ≡ pos 0) }
+    ensures known { (why : Why) → reason ≡ reason_number why → (out.new ≡ put (reason_words why) out.old)
+        × (result ≡ pos 1 ↔ length (reason_words why) < length out.old) }
+    ensures unknown { ((why : Why) → reason ≢ reason_number why)
+        → (out.new ≡ put unknown_words out.old) × (result ≡ pos 0) }
 {
-    length_number(put_refusal(number, out))
+    let Some(reason) = Reason::numbered(reason) else {
+        put(out, b"unknown reason");
+        return 0;
+    };
+    let words = reason.words().as_bytes();
+    put(out, words);
+    if words.len() < out.len() { 1 } else { 0 }
 }
 
 /// The version: 10000 times its first number, 100 times its second, and its third.
@@ -148,28 +190,6 @@ pub extern "C" fn mkpasswd_version() -> u32
     ensures { result ≡ VERSION_NUMBER }
 {
     VERSION_NUMBER
-}
-
-// A verdict as a number.
-fn verdict_number(answer: Result<bool, Refusal>) -> i32
-    ensures { result ≡ verdict_told answer }
-{
-    match answer {
-        Ok(true) => 1,
-        Ok(false) => 0,
-        Err(refusal) => refusal.number(),
-    }
-}
-
-// A length as a number.
-fn length_number(answer: Result<usize, Refusal>) -> i32
-    requires { IfOk answer (λ count. count < 2 ^ 31) }
-    ensures { result ≡ length_told answer }
-{
-    match answer {
-        Ok(count) => count as i32,
-        Err(refused) => refused.number(),
-    }
 }
 
 #[cfg(test)]

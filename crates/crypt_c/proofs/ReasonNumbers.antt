@@ -1,0 +1,51 @@
+-- Each reason has a number of its own.
+use Rattle.std.proofs.Common.{◌≡◌, ◌==◌, ◌+◌, ◌∙◌, if◌then◌else◌, ℕ, ℤ, pos, negsuc, refl, sym, ap}
+use Rattle.crypt_core.specs.declared.password.PasswordFault.TheVariants.{TooLong, HasNul}
+use Rattle.crypt_core.specs.declared.setting.fault.SettingFault.TheVariants as setting
+use Rattle.crypt_c.specs.Reasons.{reason_number}
+use Rattle.crypt_c.specs.declared.reason.Reason.{Reason}
+use Rattle.crypt_c.specs.declared.reason.Reason.TheVariants.{Fits, Outdated, Done, Refused}
+use Rattle.crypt_c.specs.declared.reason.Refusal.{Refusal}
+use Rattle.crypt_c.specs.declared.reason.Refusal.TheVariants.{Password, Setting, OutOfMemory, TooFewBytes, UnknownMethod, Cost, OverBudget, Differs, Current, NoRandomWords}
+
+abbrev refusal_of : ℕ → Refusal
+refusal_of number =
+    if number == 1 then Password TooLong else if number == 2 then Password HasNul else
+    if number == 3 then Setting setting.TooLong else if number == 4 then Setting setting.BadCharacter else
+    if number == 5 then Setting setting.UnknownScheme else if number == 6 then Setting setting.BadRounds else
+    if number == 7 then Setting setting.BadCost else if number == 8 then Setting setting.ScryptRange else
+    if number == 9 then Setting setting.AboveCeiling else if number == 10 then Setting setting.BadSalt else
+    if number == 11 then OutOfMemory else if number == 12 then TooFewBytes else
+    if number == 13 then UnknownMethod else if number == 14 then Cost else
+    if number == 16 then OverBudget else if number == 17 then Differs else
+    if number == 18 then Current else NoRandomWords
+
+abbrev reason_of : ℤ → Reason
+reason_of (pos number) = if number == 1 then Fits else if number == 2 then Outdated else Done
+reason_of (negsuc number) = Refused (refusal_of (number + 1))
+
+of_number : (reason : Reason) → reason_of (reason_number reason) ≡ reason
+of_number Fits = refl
+of_number Outdated = refl
+of_number Done = refl
+of_number (Refused (Password TooLong)) = refl
+of_number (Refused (Password HasNul)) = refl
+of_number (Refused (Setting setting.TooLong)) = refl
+of_number (Refused (Setting setting.BadCharacter)) = refl
+of_number (Refused (Setting setting.UnknownScheme)) = refl
+of_number (Refused (Setting setting.BadRounds)) = refl
+of_number (Refused (Setting setting.BadCost)) = refl
+of_number (Refused (Setting setting.ScryptRange)) = refl
+of_number (Refused (Setting setting.AboveCeiling)) = refl
+of_number (Refused (Setting setting.BadSalt)) = refl
+of_number (Refused OutOfMemory) = refl
+of_number (Refused TooFewBytes) = refl
+of_number (Refused UnknownMethod) = refl
+of_number (Refused Cost) = refl
+of_number (Refused OverBudget) = refl
+of_number (Refused Differs) = refl
+of_number (Refused Current) = refl
+of_number (Refused NoRandomWords) = refl
+
+pub reason_once : (a b : Reason) → reason_number a ≡ reason_number b → a ≡ b
+reason_once a b e = sym (of_number a) ∙ ap reason_of e ∙ of_number b

@@ -1,0 +1,151 @@
+//! Why a call returned what it did: the reasons, their numbers and their words.
+ghost use Rattle.std.specs.Prelude.{◌≡◌, ◌≢◌, IfSome, IfNone};
+ghost use Rattle.crypt_c.specs.declared.reason.Reason.{Reason as Why};
+ghost use Rattle.crypt_c.specs.Reasons.{reason_number, reason_words};
+
+use crypt_core::hash::HashFault;
+use crypt_core::password::PasswordFault;
+use crypt_core::setting::{MakeFault, SettingFault};
+
+/// Why a call refused.
+#[derive(Clone, Copy, Debug, PartialEq, Eq)]
+pub(crate) enum Refusal {
+    /// The password is invalid.
+    Password(PasswordFault),
+    /// The text spells no setting.
+    Setting(SettingFault),
+    /// scrypt could not allocate.
+    OutOfMemory,
+    /// The caller's bytes have too little room for the text and a byte 0.
+    TooFewBytes,
+    /// The number stands for no method.
+    UnknownMethod,
+    /// The method does not take the cost.
+    Cost,
+    /// The hash can cost more than the budget.
+    OverBudget,
+    /// The password is not the one of the stored hash.
+    Differs,
+    /// The stored hash needs no rehash.
+    Current,
+    /// The system gave no random words.
+    NoRandomWords,
+}
+
+/// Why a call returned what it did. Each reason has a number of its own: above 0 where the call returned 1, and below 0
+/// where it returned 0.
+#[derive(Clone, Copy, Debug, PartialEq, Eq)]
+pub(crate) enum Reason {
+    /// The password fits the stored hash.
+    Fits,
+    /// A new hash would replace the stored one.
+    Outdated,
+    /// The call did what its name says.
+    Done,
+    /// The call refused.
+    Refused(Refusal),
+}
+
+impl Reason {
+    /// Returns the number of the reason.
+    pub(crate) fn number(self) -> i32
+        ensures { result ≡ reason_number self }
+    {
+        match self {
+            Reason::Fits => 1,
+            Reason::Outdated => 2,
+            Reason::Done => 3,
+            Reason::Refused(Refusal::Password(PasswordFault::TooLong)) => -1,
+            Reason::Refused(Refusal::Password(PasswordFault::HasNul)) => -2,
+            Reason::Refused(Refusal::Setting(SettingFault::TooLong)) => -3,
+            Reason::Refused(Refusal::Setting(SettingFault::BadCharacter)) => -4,
+            Reason::Refused(Refusal::Setting(SettingFault::UnknownScheme)) => -5,
+            Reason::Refused(Refusal::Setting(SettingFault::BadRounds)) => -6,
+            Reason::Refused(Refusal::Setting(SettingFault::BadCost)) => -7,
+            Reason::Refused(Refusal::Setting(SettingFault::ScryptRange)) => -8,
+            Reason::Refused(Refusal::Setting(SettingFault::AboveCeiling)) => -9,
+            Reason::Refused(Refusal::Setting(SettingFault::BadSalt)) => -10,
+            Reason::Refused(Refusal::OutOfMemory) => -11,
+            Reason::Refused(Refusal::TooFewBytes) => -12,
+            Reason::Refused(Refusal::UnknownMethod) => -13,
+            Reason::Refused(Refusal::Cost) => -14,
+            Reason::Refused(Refusal::OverBudget) => -16,
+            Reason::Refused(Refusal::Differs) => -17,
+            Reason::Refused(Refusal::Current) => -18,
+            Reason::Refused(Refusal::NoRandomWords) => -19,
+        }
+    }
+
+    /// Returns the reason that has the number, or `None` where no reason has it.
+    pub(crate) fn numbered(number: i32) -> Option<Reason>
+        ensures known { IfSome result (λ reason. reason_number reason ≡ number) }
+        ensures unknown { IfNone result ((reason : Why) → number ≢ reason_number reason) }
+    {
+        let refusal = match number {
+            1 => return Some(Reason::Fits),
+            2 => return Some(Reason::Outdated),
+            3 => return Some(Reason::Done),
+            -1 => Refusal::Password(PasswordFault::TooLong),
+            -2 => Refusal::Password(PasswordFault::HasNul),
+            -3 => Refusal::Setting(SettingFault::TooLong),
+            -4 => Refusal::Setting(SettingFault::BadCharacter),
+            -5 => Refusal::Setting(SettingFault::UnknownScheme),
+            -6 => Refusal::Setting(SettingFault::BadRounds),
+            -7 => Refusal::Setting(SettingFault::BadCost),
+            -8 => Refusal::Setting(SettingFault::ScryptRange),
+            -9 => Refusal::Setting(SettingFault::AboveCeiling),
+            -10 => Refusal::Setting(SettingFault::BadSalt),
+            -11 => Refusal::OutOfMemory,
+            -12 => Refusal::TooFewBytes,
+            -13 => Refusal::UnknownMethod,
+            -14 => Refusal::Cost,
+            -16 => Refusal::OverBudget,
+            -17 => Refusal::Differs,
+            -18 => Refusal::Current,
+            -19 => Refusal::NoRandomWords,
+            _ => return None,
+        };
+        Some(Reason::Refused(refusal))
+    }
+
+    /// Returns the reason in words.
+    pub(crate) fn words(self) -> &'static str
+        ensures { result.now ≡ reason_words self }
+    {
+        match self {
+            Reason::Fits => "fits",
+            Reason::Outdated => "outdated",
+            Reason::Done => "done",
+            Reason::Refused(Refusal::Password(fault)) => fault.text(),
+            Reason::Refused(Refusal::Setting(fault)) => fault.text(),
+            Reason::Refused(Refusal::OutOfMemory) => HashFault::OutOfMemory.text(),
+            Reason::Refused(Refusal::TooFewBytes) => "too few bytes",
+            Reason::Refused(Refusal::UnknownMethod) => "unknown method",
+            Reason::Refused(Refusal::Cost) => MakeFault::Cost.text(),
+            Reason::Refused(Refusal::OverBudget) => "over budget",
+            Reason::Refused(Refusal::Differs) => "differs",
+            Reason::Refused(Refusal::Current) => "current",
+            Reason::Refused(Refusal::NoRandomWords) => "no random words",
+        }
+    }
+}
+
+impl From<PasswordFault> for Refusal {
+    ghost use Rattle.crypt_c.specs.declared.reason.Refusal.TheVariants.{Password};
+
+    ghost from_gives = { λ fault refusal. refusal ≡ Password fault };
+
+    fn from(fault: PasswordFault) -> Refusal {
+        Refusal::Password(fault)
+    }
+}
+
+impl From<SettingFault> for Refusal {
+    ghost use Rattle.crypt_c.specs.declared.reason.Refusal.TheVariants.{Setting};
+
+    ghost from_gives = { λ fault refusal. refusal ≡ Setting fault };
+
+    fn from(fault: SettingFault) -> Refusal {
+        Refusal::Setting(fault)
+    }
+}

@@ -1,0 +1,100 @@
+//! The report of a call, and the text that it leaves in the caller's bytes.
+ghost use Rattle.std.specs.Prelude.{◌≡◌, ◌↔◌, ◌⊎◌, ◌<ℤ◌, pos};
+ghost use Rattle.prims_core.specs.Work.{no_work};
+ghost use Rattle.crypt_c.specs.Reports.{Leaves, put, refused, reported, token};
+
+use crate::reason::{Reason, Refusal};
+use prims_core::meter::Work;
+
+// What no call that hashed nothing has counted.
+const NO_WORK: Work = Work {
+    digests: 0,
+    bytes: 0,
+    mixes: 0,
+    table: 0,
+    scratch: 0,
+};
+
+/// What a call reports, in the form of a struct of C.
+#[repr(C)]
+#[derive(Clone, Copy, Debug, PartialEq, Eq)]
+pub struct Report {
+    /// The number of the reason: above 0 where the call returned 1, and below 0 where it returned 0.
+    pub reason: i32,
+    /// The bytes of the text that was put into `out`, without the byte 0, where the call returned 1.
+    pub length: u32,
+    /// The greatest cost of a hash with this setting and a password of this length, once both are known to be valid.
+    pub cost: u64,
+    /// What the hash took; for a bound, what it takes at most.
+    pub work: Work,
+    /// 0.
+    pub reserved: u64,
+}
+
+impl Report {
+    /// Makes a report.
+    pub(crate) fn new(reason: Reason, length: u32, cost: u64, work: Work) -> Report
+        ensures { result ≡ reported reason length cost work }
+    {
+        Report {
+            reason: reason.number(),
+            length,
+            cost,
+            work,
+            reserved: 0,
+        }
+    }
+
+    /// Makes the report of a refusal before any hashing.
+    pub(crate) fn refused(refusal: Refusal, cost: u64) -> Report
+        ensures { result ≡ refused refusal cost }
+    {
+        Report::new(Reason::Refused(refusal), 0, cost, NO_WORK)
+    }
+
+    /// Makes the report of a call that hashed nothing and did what its name says.
+    pub(crate) fn without_work(reason: Reason, length: u32) -> Report
+        ensures { result ≡ reported reason length 0 no_work }
+    {
+        Report::new(reason, length, 0, NO_WORK)
+    }
+
+    /// Returns what the call returns: 1 where the reason is above 0, and else 0.
+    pub(crate) fn answer(&self) -> i32
+        ensures one_or_zero { (result ≡ pos 1) ⊎ (result ≡ pos 0) }
+        ensures positive { result ≡ pos 1 ↔ pos 0 <ℤ self.now.reason }
+    {
+        if self.reason > 0 { 1 } else { 0 }
+    }
+}
+
+/// Returns what is put in the place of a hash by the setting.
+pub(crate) fn token(setting: &[u8]) -> &'static [u8]
+    ensures { result.now ≡ token setting.now }
+{
+    if setting.starts_with(b"*0") {
+        b"*1"
+    } else {
+        b"*0"
+    }
+}
+
+/// Puts a text and a byte 0, cut to the room.
+pub(crate) fn put(out: &mut [u8], text: &[u8])
+    ensures { out.new ≡ put text.now out.old }
+{
+    if out.is_empty() {
+        return;
+    }
+    let cut = text.len().min(out.len() - 1);
+    out[..cut].copy_from_slice(&text[..cut]);
+    out[cut] = 0;
+}
+
+/// Puts a text, and returns the report.
+pub(crate) fn leave(report: Report, out: &mut [u8], text: &[u8]) -> Report
+    ensures { Leaves report text.now out.old result out.new }
+{
+    put(out, text);
+    report
+}
