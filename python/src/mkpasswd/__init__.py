@@ -8,7 +8,8 @@ True
 False
 
 The C library of mkpasswd, whose calls are proved, does the hashing. It knows the cost of a hash before it makes one, so
-a stored hash that would take minutes is refused at once: see DEFAULT_BUDGET.
+a stored hash that would take minutes is refused at once. What a call may cost by default, DEFAULT_BUDGET, is 150,000,000:
+on one core of 2.5 GHz 0.7 seconds of sha512crypt, 1.3 of sha256crypt, or 0.2 of scrypt.
 
 A password or a stored hash is bytes, or a str, which is encoded as UTF-8. A password that has a zero byte or a lone
 surrogate, or more than 1,024 bytes, raises ValueError. No exception has the password in it.
@@ -47,9 +48,8 @@ __all__ = [
 Text = Union[str, bytes]
 
 #: What a call may cost unless it is told otherwise, as cost() counts it: the bytes that are digested, and for scrypt
-#: those that are mixed. On one core of 2.5 GHz a hash of this cost takes 0.7 seconds with sha512crypt, 1.3 with
-#: sha256crypt and 0.2 with scrypt. It admits what hash() makes with any method without `rounds`, SHA-crypt with up to
-#: 75,000 rounds for any password, and with up to 1,000,000 rounds for passwords of up to 40 bytes.
+#: those that are mixed. It admits what hash() makes without `rounds`, and SHA-crypt with up to 75,000 rounds for any
+#: password and up to 1,000,000 for passwords of up to 40 bytes.
 DEFAULT_BUDGET = 150_000_000
 
 # The library takes this as no limit: every cost is below 2^42.
@@ -128,8 +128,9 @@ def verify(password: Text, stored: Text, *, budget: float = DEFAULT_BUDGET) -> b
     >>> verify("password", "!$1$xxxxxxxx$UYCIxa628.9qXjpQCjM4a.")
     False
 
-    Raises TooCostly, before anything is hashed, if the stored hash costs more than the budget; Refused if it is not one
-    of these methods; MemoryError. math.inf is a budget without a limit.
+    Raises TooCostly, before anything is hashed, if the stored hash costs more than the budget, which by default is 0.7
+    seconds of sha512crypt on one core of 2.5 GHz, 1.3 of sha256crypt or 0.2 of scrypt; Refused if it is not one of these
+    methods; MemoryError. math.inf is a budget without a limit.
 
     >>> verify("password", "$6$rounds=999999999$salt$x")
     Traceback (most recent call last):
