@@ -118,7 +118,9 @@ def test_hasher_of_django(monkeypatch):
     hashers_of_django()
     from mkpasswd import django
 
-    for method, rounds, salt in ("md5crypt", None, 8), ("sha256crypt", 3000, 16), ("sha512crypt", None, 16), ("scrypt", 6, 22):
+    for method, rounds, salt in (
+        *(("md5crypt", None, 8), ("sha256crypt", 3000, 16), ("sha512crypt", None, 16), ("scrypt", 6, 22)),
+    ):
         hasher = type("Hasher", (django.MkpasswdPasswordHasher,), {"method": method, "rounds": rounds})()
         encoded = hasher.encode("password", hasher.salt())
         assert hasher.verify("password", encoded) and not hasher.verify("passw0rd", encoded)
