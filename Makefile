@@ -12,6 +12,7 @@
 # make fuzz       has libFuzzer make random calls of the C libraries, with FUZZ_SECONDS for each target (default 200)
 # make install    puts the program, the C libraries, the manuals and the rest under PREFIX (default /usr/local)
 # make dist       packs the same into an archive that needs no toolchain
+# make wheel      packs the Python package and the shared library, built for every x86-64 processor, into a wheel
 # make clean      removes what was built
 #
 # With CPU=x86-64-v3 in its words, make builds for such processors, without for x86-64-v2. Each make has to be told:
@@ -34,7 +35,7 @@ export DESTDIR PREFIX LIBDIR ARCHIVE RT
 T = $(filter-out tests/planted.t,$(wildcard tests/*.t))
 PROVE = PERL5LIB=tests/lib prove --harness Tally -j4
 
-.PHONY: all run lib fuzz test check layers gate bench soak install dist clean FORCE
+.PHONY: all run lib fuzz test check layers gate bench soak install dist wheel clean FORCE
 .DELETE_ON_ERROR:
 # rt takes all cores for itself.
 .NOTPARALLEL:
@@ -117,5 +118,10 @@ install: mkpasswd lib
 dist: mkpasswd lib
 	tools/pack $(or $(CPU),x86-64-v2)
 
+# Of x86-64 processors a wheel's name tells nothing, so it is for all of them. The next make builds anew for its own CPU.
+wheel:
+	$(MAKE) lib CPU=x86-64
+	tools/wheel libmkpasswd.so.2 .
+
 clean:
-	rm -rf mkpasswd libmkpasswd.a libmkpasswd.so.2 build crates/*/out mkpasswd-*-linux.tar.gz
+	rm -rf mkpasswd libmkpasswd.a libmkpasswd.so.2 build crates/*/out mkpasswd-*-linux.tar.gz mkpasswd-*.whl

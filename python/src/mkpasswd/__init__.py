@@ -1,0 +1,400 @@
+"""Password hashes in the schemes of crypt(5): md5crypt, sha256crypt, sha512crypt and scrypt.
+
+>>> import mkpasswd
+>>> stored = mkpasswd.hash("correct horse")
+>>> mkpasswd.verify("correct horse", stored)
+True
+>>> mkpasswd.verify("wrong horse", stored)
+False
+
+The C library of mkpasswd, whose calls are proved, does the hashing. It knows the cost of a hash before it makes one, so
+a stored hash that would take minutes is refused at once. What a call may cost by default, DEFAULT_BUDGET, is 150,000,000:
+on one core of 2.5 GHz 0.7 seconds of sha512crypt, 1.3 of sha256crypt, or 0.2 of scrypt.
+
+A password or a stored hash is bytes, or a str, which is encoded as UTF-8. A password that has a zero byte or a lone
+surrogate, or more than 1,024 bytes, raises ValueError. No exception has the password in it.
+
+Any number of threads may call at once. Other threads run while a hash is made.
+"""
+import ctypes
+import math
+import operator
+import os
+import re
+from typing import NamedTuple, Optional, Tuple, Union
+
+from ._library import PASSWORD_LIMIT, TEXT_SIZE, Reason, Report, lib
+
+__all__ = [
+    "DEFAULT_BUDGET",
+    "METHOD_MD5",
+    "METHOD_SHA256",
+    "METHOD_SHA512",
+    "Reason",
+    "Refused",
+    "TooCostly",
+    "Work",
+    "cost",
+    "crypt",
+    "hash",
+    "methods",
+    "mksalt",
+    "needs_rehash",
+    "verify",
+    "verify_and_update",
+    "work",
+]
+
+Text = Union[str, bytes]
+
+#: What a call may cost unless it is told otherwise, as cost() counts it: the bytes that are digested, and for scrypt
+#: those that are mixed. It admits what hash() makes without `rounds`, and SHA-crypt with up to 75,000 rounds for any
+#: password and up to 1,000,000 for passwords of up to 40 bytes.
+DEFAULT_BUDGET = 150_000_000
+
+# The library takes this as no limit: every cost is below 2^42.
+_NO_LIMIT = 2**64 - 1
+
+_NUMBERS = {"md5crypt": 1, "sha256crypt": 5, "sha512crypt": 6, "scrypt": 7}
+
+# What a text that is no setting of ours is refused for.
+_NO_SETTING = range(Reason.BAD_SALT.value, Reason.SETTING_TOO_LONG.value + 1)
+
+# UTF-8 of U+D800 to U+DFFF.
+_SURROGATE = re.compile(b"\xed[\xa0-\xbf]")
+
+
+class Refused(ValueError):
+    """The stored hash is not one of these methods, or a method or its cost does not exist. `reason` is a Reason."""
+
+    def __init__(self, reason: Reason) -> None:
+        super().__init__(reason)
+        self.reason = reason
+
+    def __str__(self) -> str:
+        return self.reason.words
+
+
+class TooCostly(Refused):
+    """What was asked for can cost `cost`, and the budget is `budget`. Nothing was hashed."""
+
+    def __init__(self, cost: int, budget: int) -> None:
+        super().__init__(Reason.OVER_BUDGET)
+        self.args = (cost, budget)
+        self.cost = cost
+        self.budget = budget
+
+    def __str__(self) -> str:
+        return "%s: cost %d, budget %d" % (self.reason.words, self.cost, self.budget)
+
+
+class Work(NamedTuple):
+    """The most that a hash takes, in five counts."""
+
+    digests: int  #: digests made
+    bytes: int  #: bytes digested
+    mixes: int  #: mixings of 2r blocks of 64 bytes; scrypt alone
+    table: int  #: bytes of scrypt's table
+    scratch: int  #: bytes of scrypt's scratch memory
+
+
+def hash(
+    password: Text, method: str = "sha512crypt", *, rounds: Optional[int] = None, budget: float = DEFAULT_BUDGET
+) -> str:
+    """Hash a new password, with a salt from the system.
+
+    `method` is "sha512crypt", "sha256crypt", "scrypt" or "md5crypt". `rounds` is the number of rounds of SHA-crypt,
+    clamped to 1000 to 999999999; for scrypt it is 6 to 11, for N = 2^(rounds + 7), r = 32 and p = 1. Without it the
+    method's own is taken, 5000 or 7. md5crypt ignores it.
+
+    >>> hash("password", rounds=20000).startswith("$6$rounds=20000$")
+    True
+
+    Raises TooCostly if the hash costs more than the budget, so that what is made passes verify() with the same budget;
+    Refused for an unknown method or a cost that scrypt does not take; OSError if the system has no random bytes;
+    MemoryError.
+    """
+    return _new(_password(password), _method(method, rounds), _limit(budget))
+
+
+def verify(password: Text, stored: Text, *, budget: float = DEFAULT_BUDGET) -> bool:
+    """Whether the password matches the stored hash.
+
+    It is True only for a match. It is False for a wrong password, and if the stored field is empty or begins with "!" or
+    "*", which is how an account without a password and a locked one are stored.
+
+    >>> verify("password", "$1$xxxxxxxx$UYCIxa628.9qXjpQCjM4a.")
+    True
+    >>> verify("password", "!$1$xxxxxxxx$UYCIxa628.9qXjpQCjM4a.")
+    False
+
+    Raises TooCostly, before anything is hashed, if the stored hash costs more than the budget, which by default is 0.7
+    seconds of sha512crypt on one core of 2.5 GHz, 1.3 of sha256crypt or 0.2 of scrypt; Refused if it is not one of these
+    methods; MemoryError. math.inf is a budget without a limit.
+
+    >>> verify("password", "$6$rounds=999999999$salt$x")
+    Traceback (most recent call last):
+        ...
+    mkpasswd.TooCostly: over budget: cost 81523810716, budget 150000000
+    """
+    word, field, limit = _password(password), _bytes(stored, "stored"), _limit(budget)
+    return not _is_locked(field) and _matches(word, field, limit)
+
+
+def verify_and_update(
+    password: Text,
+    stored: Text,
+    method: str = "sha512crypt",
+    rounds: Optional[int] = None,
+    *,
+    budget: float = DEFAULT_BUDGET,
+) -> Tuple[bool, Optional[str]]:
+    """Whether the password matches, and a new hash to store if it does and needs_rehash() is true of the stored one.
+
+    >>> verify_and_update("password", "$1$xxxxxxxx$UYCIxa628.9qXjpQCjM4a.", "md5crypt")
+    (True, None)
+    >>> verify_and_update("wrong", "$1$xxxxxxxx$UYCIxa628.9qXjpQCjM4a.")
+    (False, None)
+
+    If the stored hash is outdated, both hashes together have to be within the budget, whether or not the password
+    matches; otherwise it raises TooCostly, before anything is hashed. It raises what hash() and verify() raise.
+    """
+    word, field, limit = _password(password), _bytes(stored, "stored"), _limit(budget)
+    if _is_locked(field):
+        return False, None
+    made = _method(method, rounds)
+    is_outdated = _is_outdated(field, made)
+    reserved = _bound(_setting(made), len(word)).cost if is_outdated else 0
+    if not _matches(word, field, limit, reserved):
+        return False, None
+    return True, _new(word, made, limit) if is_outdated else None
+
+
+def needs_rehash(stored: Text, method: str = "sha512crypt", rounds: Optional[int] = None) -> bool:
+    """Whether hash() with this method and rounds would improve on the stored hash.
+
+    So it is if the method is another one, or the same with more rounds, or for scrypt with a greater N * r * p. An empty
+    or locked field stays as it is.
+
+    >>> needs_rehash("$6$rounds=20000$salt$x", rounds=10000)
+    False
+    >>> needs_rehash("$6$rounds=20000$salt$x", rounds=40000)
+    True
+
+    Raises Refused if the stored hash is not one of these methods, or as hash() does.
+    """
+    field, made = _bytes(stored, "stored"), _method(method, rounds)
+    return not _is_locked(field) and _is_outdated(field, made)
+
+
+def cost(stored: Text, password_len: int) -> int:
+    """The most that a hash with this setting costs, for any password of so many bytes. Nothing is hashed.
+
+    It is what a budget is compared with: the bytes that are digested, and for scrypt those that are mixed.
+
+    >>> cost("$1$xxxxxxxx$UYCIxa628.9qXjpQCjM4a.", 8)
+    36239
+
+    Raises Refused if the stored hash is not one of these methods, an empty or locked field too.
+    """
+    return _bound(_bytes(stored, "stored"), password_len).cost
+
+
+def work(stored: Text, password_len: int) -> Work:
+    """The same in five counts.
+
+    >>> work("$1$xxxxxxxx$UYCIxa628.9qXjpQCjM4a.", 8)
+    Work(digests=1002, bytes=36239, mixes=0, table=0, scratch=0)
+    """
+    most = _bound(_bytes(stored, "stored"), password_len).work
+    return Work(*(getattr(most, name) for name in Work._fields))
+
+
+class _Method(NamedTuple):
+    """A method of crypt(), with the attributes that the standard library's have."""
+
+    name: str
+    ident: str
+    salt_chars: int
+    total_size: int
+
+    def __repr__(self) -> str:
+        return "<mkpasswd.METHOD_%s>" % self.name
+
+
+METHOD_SHA512 = _Method("SHA512", "6", 16, 106)
+METHOD_SHA256 = _Method("SHA256", "5", 16, 63)
+METHOD_MD5 = _Method("MD5", "1", 8, 34)
+
+#: The methods of crypt(), strongest first. scrypt is a method of hash().
+methods = [METHOD_SHA512, METHOD_SHA256, METHOD_MD5]
+
+
+def mksalt(method: Optional[_Method] = None, *, rounds: Optional[int] = None) -> str:
+    """A new setting for crypt(), as the standard library's crypt.mksalt() made it until Python 3.12.
+
+    >>> mksalt(METHOD_SHA256, rounds=20000).startswith("$5$rounds=20000$")
+    True
+    """
+    method = methods[0] if method is None else method
+    if not isinstance(method, _Method):
+        raise TypeError("method must be one of mkpasswd.methods, not %s" % type(method).__name__)
+    if rounds is not None:
+        if not isinstance(rounds, int):
+            raise TypeError("%s object cannot be interpreted as an integer" % type(rounds).__name__)
+        if method == METHOD_MD5:
+            raise ValueError("%r doesn't support the rounds argument" % (method,))
+        if not 1000 <= rounds <= 999_999_999:
+            raise ValueError("rounds out of the range 1000 to 999_999_999")
+    return _setting((int(method.ident), rounds or 0), os.urandom(24)).decode("ascii")
+
+
+def crypt(word: Text, salt: Union[Text, _Method, None] = None, *, budget: float = DEFAULT_BUDGET) -> str:
+    """The hash of `word` with a setting, as the standard library's crypt.crypt() made it until Python 3.12.
+
+    `salt` is a setting or a stored hash; one of `methods`, for a new salt; or None, for the first of them. If it is not a
+    setting of these methods, the result is "*0" ("*1" if the salt begins with "*0"), which no password matches; so it is
+    for "$2b$" and all others that crypt(3) may know besides. Prefer verify(), which tells them apart.
+
+    >>> crypt("password", "$1$xxxxxxxx$")
+    '$1$xxxxxxxx$UYCIxa628.9qXjpQCjM4a.'
+    >>> crypt("password", "!")
+    '*0'
+
+    Unlike the standard library's it raises TooCostly if the hash costs more than the budget.
+    """
+    if salt is None or isinstance(salt, _Method):
+        salt = mksalt(salt)
+    secret, setting, limit = _password(word), _bytes(salt, "salt"), _limit(budget)
+    report = Report()
+    out = ctypes.create_string_buffer(TEXT_SIZE)
+    done = lib.mkpasswd_hash(secret, len(secret), setting, len(setting), limit, out, len(out), report)
+    # The library leaves the token in `out`.
+    if done != 1 and report.reason not in _NO_SETTING:
+        raise _failure(report, limit)
+    return out.value.decode("ascii")
+
+
+# Arguments.
+
+
+def _bytes(value: Text, name: str) -> bytes:
+    if isinstance(value, bytes):
+        return value
+    if isinstance(value, str):
+        # The strict codec would raise a UnicodeEncodeError, which carries the whole str.
+        return str.encode(value, "utf-8", "surrogatepass")
+    raise TypeError("%s must be str or bytes, not %s" % (name, type(value).__name__))
+
+
+def _password(value: Text) -> bytes:
+    word = _bytes(value, "password")
+    if len(word) > PASSWORD_LIMIT:
+        raise ValueError(Reason.PASSWORD_TOO_LONG.words)
+    if 0 in word:
+        raise ValueError(Reason.PASSWORD_ZERO_BYTE.words)
+    if isinstance(value, str) and _SURROGATE.search(word):
+        raise ValueError("password has a lone surrogate")
+    return word
+
+
+def _is_locked(field: bytes) -> bool:
+    return not field or field.startswith((b"!", b"*"))
+
+
+def _method(method: str, rounds: Optional[int]) -> Tuple[int, int]:
+    if not isinstance(method, str):
+        raise TypeError("method must be str, not %s" % type(method).__name__)
+    number = 0 if rounds is None else operator.index(rounds)
+    if not 0 <= number < 2**32:
+        raise ValueError("rounds out of the range 0 to 4294967295")
+    # The library knows no method 0.
+    return _NUMBERS.get(method, 0), number
+
+
+def _limit(budget: float) -> int:
+    if isinstance(budget, float) and budget == math.inf:
+        return _NO_LIMIT
+    if isinstance(budget, (bool, float)):
+        raise TypeError("budget must be an int or math.inf, not %r" % budget)
+    number = operator.index(budget)
+    if number < 0:
+        raise ValueError("budget is negative")
+    return min(number, _NO_LIMIT)
+
+
+# Calls of the library.
+
+
+def _new(word: bytes, made: Tuple[int, int], limit: int) -> str:
+    report = Report()
+    out = ctypes.create_string_buffer(TEXT_SIZE)
+    if lib.mkpasswd_new(word, len(word), *made, limit, out, len(out), report) != 1:
+        raise _failure(report, limit)
+    return out.value.decode("ascii")
+
+
+def _matches(word: bytes, field: bytes, limit: int, reserved: int = 0) -> bool:
+    """Whether the password matches, within what is left of the limit when so much is reserved for another hash."""
+    report = Report()
+    left = max(limit - reserved, 0)
+    if lib.mkpasswd_verify(word, len(word), field, len(field), left, report) == 1:
+        return True
+    if report.reason == Reason.DIFFERS.value:
+        return False
+    report.cost += reserved
+    raise _failure(report, limit)
+
+
+def _is_outdated(field: bytes, made: Tuple[int, int]) -> bool:
+    report = Report()
+    if lib.mkpasswd_needs_rehash(field, len(field), *made, report) == 1:
+        return True
+    if report.reason == Reason.CURRENT.value:
+        return False
+    raise _failure(report)
+
+
+def _bound(field: bytes, password_len: int) -> Report:
+    number = operator.index(password_len)
+    if number < 0:
+        raise ValueError("password_len is negative")
+    report = Report()
+    # c_size_t takes a number modulo 2^64.
+    if lib.mkpasswd_bound(field, len(field), min(number, PASSWORD_LIMIT + 1), report) != 1:
+        raise _failure(report)
+    return report
+
+
+def _setting(made: Tuple[int, int], random: bytes = bytes(24)) -> bytes:
+    report = Report()
+    out = ctypes.create_string_buffer(TEXT_SIZE)
+    words = [int.from_bytes(random[i : i + 8], "little") for i in range(0, 24, 8)]
+    if lib.mkpasswd_setting(*made, *words, out, len(out), report) != 1:
+        raise _failure(report)
+    return out.value
+
+
+def _failure(report: Report, limit: int = _NO_LIMIT) -> Exception:
+    try:
+        reason = Reason(report.reason)
+    except ValueError:
+        return RuntimeError("the library reports %d, an unknown reason" % report.reason)
+    if reason in (Reason.PASSWORD_TOO_LONG, Reason.PASSWORD_ZERO_BYTE):
+        return ValueError(reason.words)
+    if reason is Reason.OVER_BUDGET:
+        return TooCostly(report.cost, limit)
+    if reason is Reason.OUT_OF_MEMORY:
+        return MemoryError(reason.words)
+    if reason is Reason.NO_RANDOM_WORDS:
+        return OSError(reason.words)
+    if reason.value in _NO_SETTING or reason in (Reason.UNKNOWN_METHOD, Reason.COST):
+        return Refused(reason)
+    return RuntimeError("the library reports %r, an unexpected reason" % reason.words)
+
+
+__version__ = "%d.%d.%d" % (
+    lib.mkpasswd_version() // 10000,
+    lib.mkpasswd_version() // 100 % 100,
+    lib.mkpasswd_version() % 100,
+)

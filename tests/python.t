@@ -1,0 +1,29 @@
+#!/usr/bin/env perl
+# Runs the tests of the Python package, which are pytest's, in tests/python: a subtest for each of their files.
+use strict;
+use warnings;
+use FindBin;
+use lib "$FindBin::Bin/lib";
+use Suite;
+use Test::More;
+
+my $python = '/usr/bin/python3';
+BAIL_OUT("$root/libmkpasswd.so.2 is not built: run make lib") unless -e "$root/libmkpasswd.so.2";
+
+for my $file (glob "$root/tests/python/test_*.py") {
+    my ($name) = $file =~ /test_(\w+)\.py$/;
+    subtest $name => sub {
+        for my $module ('pytest', $name eq 'standards' ? qw(hypothesis passlib) : ()) {
+            needs($module, "python3-$module", !run($python, '-c', "import $module")->{status}) or return;
+        }
+        my $run = run({ dir => "$root/tests/python", env => { COLUMNS => 500, LC_ALL => 'C.UTF-8' }, timeout => 900 },
+            $python, '-B', '-m', 'pytest', '-v', '--tb=short', '--color=no', $file);
+        while ($run->{out} =~ /^\S+?::(.+?) (PASSED|SKIPPED|FAILED|ERROR)(?: \((.*)\))? +\[ *\d+%\]$/mg) {
+            my ($test, $result, $why) = ($1, $2, $3);
+            if ($result eq 'SKIPPED') { SKIP: { skip "$test: " . ($why // ''), 1 } }
+            else { ok($result eq 'PASSED', $test) }
+        }
+        is($run->{status}, 0, 'pytest passes') or diag($run->{out} =~ s/\A.*?^=+ (FAILURES|ERRORS) =+$//msr, $run->{err});
+    };
+}
+done_testing;

@@ -1,0 +1,251 @@
+"""What each call returns and raises."""
+import copy
+import math
+import pickle
+import traceback
+
+import mkpasswd
+import pytest
+from mkpasswd import Reason, Refused, TooCostly, cost, crypt, hash, needs_rehash, verify, verify_and_update, work
+from support import COSTLY, MD5, SHA256, SHA512, libxcrypt
+
+REFUSED = {
+    field: reason
+    for reason, *fields in (
+        (Reason.UNKNOWN_SCHEME, "x", "$", "$2b$05$abcdefghijklmnopqrstuu", "$y$j9T$abc$x", "ab0Z8yq2hBQEo", "password"),
+        (Reason.BAD_CHARACTER, MD5 + "\n", " " + MD5, "root:" + MD5, MD5 + "\0", "$1$é$x", "$1$\ud800$x"),
+        (Reason.SETTING_TOO_LONG, "$1$" + "a" * 382),
+        (Reason.BAD_ROUNDS, "$5$rounds=0$salt$x", "$6$rounds=05000$salt$x", "$6$rounds=x"),
+        (Reason.BAD_COST, "$7$CU..../..."),
+        (Reason.SCRYPT_RANGE, "$7$" + "." * 11 + "salt"),
+        (Reason.ABOVE_CEILING, "$7$JU..../....salt"),
+        (Reason.BAD_SALT, "$7$CU..../....a_b"),
+    )
+    for field in fields
+}
+LOCKED = ["", "!", "*", "!!", "*0", "*1", "*LK*", "!" + MD5, "*" + MD5, "!" + "x" * 500]
+# Settings without a hash, and hashes that are cut, longer, or not written as they are made.
+OTHERS = ["$1$xxxxxxxx", "$1$xxxxxxxx$", MD5[:-1], MD5 + "x", MD5 + "$", "$5$" + MD5[3:], "$5$rounds=10$salt$x"]
+
+
+def error_of(call, *arguments, **named):
+    with pytest.raises(Exception) as raised:
+        call(*arguments, **named)
+    return raised.value
+
+
+def with_password(word):
+    return (hash, word), (verify, word, MD5), (verify, word, "!"), (verify_and_update, word, MD5), (crypt, word, MD5)
+
+
+def with_field(field):
+    return (verify, "x", field), (verify_and_update, "x", field), (needs_rehash, field), (cost, field, 8), (work, field, 8)
+
+
+def test_standard_hashes():
+    for password, stored in ("password", MD5), ("Hello world!", SHA256), ("Hello world!", SHA512):
+        for word in password, password.encode():
+            for field in stored, stored.encode():
+                assert verify(word, field) is True and verify(word[:-1], field) is False
+
+
+def test_str_is_its_utf8():
+    for password in "é", "pässwörd", "€uro", "\U0001f511key", "ünïcödé" * 20:
+        for setting in "$1$salt", "$5$rounds=1000$salt", "$6$rounds=1000$salt":
+            expected = libxcrypt(password.encode(), setting)
+            assert crypt(password, setting) == crypt(password.encode(), setting) == expected
+            assert verify(password, expected) and not verify(password.encode()[: len(password)], expected)
+
+
+def test_a_careless_login_opens_for_the_right_password_alone():
+    def login(field, **budget):
+        try:
+            if verify("password", field, **budget):
+                return "opened"
+        except Exception:
+            pass
+        return "closed"
+
+    for field in [*LOCKED, *OTHERS, *REFUSED, COSTLY, SHA512, None, 0, True]:
+        assert login(field) == "closed", field
+    for budget in 0, 1, cost(MD5, 8) - 1, None, "no limit":
+        assert login(MD5, budget=budget) == "closed", budget
+    assert login(MD5) == login(MD5, budget=cost(MD5, 8)) == "opened"
+
+
+@pytest.mark.parametrize("field", LOCKED)
+def test_empty_and_locked_fields(field):
+    for text in field, field.encode():
+        assert verify("password", text) is verify("password", text, budget=0) is needs_rehash(text) is False
+        assert verify_and_update("password", text) == (False, None)
+        assert type(error_of(cost, text, 8)) is type(error_of(work, text, 8)) is Refused
+
+
+@pytest.mark.parametrize("field", REFUSED)
+def test_refused_fields_by_name(field):
+    for call in with_field(field):
+        error = error_of(*call)
+        assert type(error) is Refused and error.reason is REFUSED[field]
+        assert str(error) == REFUSED[field].name.lower().replace("_", " ")
+    assert error_of(verify, "password", field, budget=0).reason is REFUSED[field]
+
+
+def test_refused_methods_by_name():
+    for method in "bcrypt", "", "SHA512crypt", "md5", "$6$":
+        for call in (hash, "x"), (needs_rehash, MD5), (verify_and_update, "x", MD5):
+            error = error_of(*call, method)
+            assert (type(error), error.reason, str(error)) == (Refused, Reason.UNKNOWN_METHOD, "unknown method")
+    for rounds in 1, 5, 12, 2**32 - 1:
+        error = error_of(hash, "x", "scrypt", rounds=rounds)
+        assert (type(error), error.reason, str(error)) == (Refused, Reason.COST, "cost")
+
+
+@pytest.mark.parametrize(
+    "number, error, words",
+    [
+        (Reason.OUT_OF_MEMORY.value, MemoryError, "out of memory"),
+        (Reason.NO_RANDOM_WORDS.value, OSError, "no random words"),
+        (Reason.PASSWORD_TOO_LONG.value, ValueError, "password too long"),
+        (Reason.PASSWORD_ZERO_BYTE.value, ValueError, "password has a zero byte"),
+        (Reason.TOO_FEW_BYTES.value, RuntimeError, "too few bytes"),
+        *((number, RuntimeError, "unknown reason") for number in (0, -15, -20, 4, 2**31 - 1)),
+        *((number, RuntimeError, "unexpected reason") for number in (1, 2, 3)),
+    ],
+)
+def test_reasons_of_the_library(monkeypatch, number, error, words):
+    """Those that no argument brings about, and those that no call should report."""
+
+    def call(*arguments):
+        arguments[-1].reason = number
+        return 0
+
+    for name in "verify", "new", "hash", "needs_rehash", "bound":
+        monkeypatch.setattr(mkpasswd.lib, "mkpasswd_" + name, call)
+    for failing in (hash, "x"), (crypt, "x", MD5), *with_field(MD5):
+        raised = error_of(*failing)
+        assert type(raised) is error and words in str(raised)
+
+
+def test_passwords_that_are_none():
+    for words, *passwords in (
+        ("password has a zero byte", "pass\0word", b"pass\0word", "\0"),
+        ("password has a lone surrogate", "pass\ud800word", "\udfff"),
+        ("password too long", "x" * 1025, "é" * 513, b"x" * 1025, "x" * 2000 + "\0"),
+    ):
+        for error in (error_of(*call) for password in passwords for call in with_password(password)):
+            assert type(error) is ValueError and str(error) == words
+    for password in "x" * 1024, "é" * 512, b"\xff" * 1024, "\ud7ff\ue000":
+        assert verify(password, hash(password, "md5crypt"))
+
+
+def test_nothing_raised_has_the_password_in_it(capfd):
+    secret = "s3cret-Pässwörd"
+    words = [secret + "\0", secret + "\ud800", secret * 100, (secret + "\0").encode(), [secret], {secret: secret}]
+    errors = [error_of(*call) for word in words for call in with_password(word)]
+    errors += [error_of(*call, secret, "x") for call in ((verify,), (verify_and_update,))]
+    errors += [error_of(call, secret, COSTLY) for call in (verify, verify_and_update, crypt)]
+    errors += [error_of(verify, secret, 5), error_of(verify, secret, MD5, budget=None), error_of(hash, secret, "bcrypt")]
+    errors += [error_of(hash, secret, rounds=-1), error_of(hash, secret, rounds=10**9)]
+    for error in errors:
+        shown = "".join(traceback.format_exception(type(error), error, error.__traceback__))
+        while error is not None:
+            shown += repr((error, str(error), error.args, vars(error), getattr(error, "object", "")))
+            error = error.__cause__ or error.__context__
+        assert "s3cret" not in shown
+    assert capfd.readouterr() == ("", "")
+
+
+def test_wrong_types():
+    for value in None, 5, True, 1.5, [], ["x"], bytearray(b"x"), memoryview(b"x"), object():
+        for call in *with_password(value), *with_field(value), (crypt, "x", value or 0):
+            error = error_of(*call)
+            assert type(error) is TypeError and "must be str or bytes, not " in str(error)
+    for budget in None, "5", b"5", 1.5, 1.0, math.nan, -math.inf, True, False, [], 5j:
+        for call in with_password("x"):
+            assert type(error_of(*call, budget=budget)) is TypeError
+    for method in None, 6, b"md5crypt", mkpasswd.METHOD_MD5:
+        for call in (hash, "x"), (needs_rehash, MD5), (verify_and_update, "x", MD5):
+            assert "method must be str, not " in str(error_of(*call, method))
+    for number in "5000", 5000.0, b"5", []:
+        for call in (needs_rehash, MD5, "md5crypt"), (cost, MD5), (work, MD5), (verify_and_update, "x", MD5, "md5crypt"):
+            assert type(error_of(*call, number)) is TypeError
+        assert type(error_of(hash, "x", rounds=number)) is TypeError
+    for call in (hash, "x", "md5crypt", 5000), (verify, "x", MD5, 5), (mkpasswd.mksalt, None, 5000), (mkpasswd.mksalt, "6"):
+        assert type(error_of(*call)) is TypeError
+
+
+def test_numbers_out_of_range():
+    for number in -1, 2**32, 2**32 + 5000, 2**64 + 5000:
+        assert type(error_of(hash, "x", rounds=number)) is ValueError
+        assert type(error_of(needs_rehash, MD5, "md5crypt", number)) is ValueError
+    for number in -1, 1025, 2**64 + 8:
+        assert type(error_of(cost, MD5, number)) is type(error_of(work, MD5, number)) is ValueError
+    for call in with_password("x"):
+        assert type(error_of(*call, budget=-1)) is ValueError
+
+
+def test_budgets():
+    for stored in MD5, SHA256, libxcrypt("password", "$7$5/..../....salt"):
+        most = cost(stored, 8)
+        for budget in most, most + 1, 2**64 - 1, 2**64, 2**100, math.inf:
+            assert verify("password", stored, budget=budget) is (stored is not SHA256)
+        for budget in 0, 1, most - 1:
+            for call in verify, crypt:
+                raised = error_of(call, "password", stored, budget=budget)
+                for error in raised, copy.copy(raised), pickle.loads(pickle.dumps(raised)):
+                    assert (type(error), error.reason) == (TooCostly, Reason.OVER_BUDGET)
+                    assert (error.cost, error.budget) == (most, budget)
+                    assert str(error) == "over budget: cost %d, budget %d" % (most, budget)
+    assert error_of(verify, "password", COSTLY).budget == mkpasswd.DEFAULT_BUDGET == 150_000_000
+    assert type(error_of(hash, "x" * 1000, rounds=1_000_000)) is TooCostly
+    most = cost("$6$rounds=1000$" + "s" * 16, 1)
+    assert verify("x", hash("x", rounds=1000, budget=most))
+    assert error_of(hash, "x", rounds=1000, budget=most - 1).cost == most
+
+
+def test_verify_and_update_charges_both_hashes():
+    old, new = cost(MD5, 8), cost("$5$rounds=2000$" + "s" * 16, 8)
+    matches, update = verify_and_update("password", MD5, "sha256crypt", 2000, budget=old + new)
+    assert matches is True and update.startswith("$5$rounds=2000$") and verify("password", update)
+    assert verify_and_update("passw0rd", MD5, "sha256crypt", 2000, budget=old + new) == (False, None)
+    for budget in old + new - 1, old, new, 0:
+        for password in "password", "passw0rd":
+            error = error_of(verify_and_update, password, MD5, "sha256crypt", 2000, budget=budget)
+            assert (type(error), error.cost, error.budget) == (TooCostly, old + new, budget)
+    assert verify_and_update("password", MD5, "md5crypt", budget=old) == (True, None)
+    assert verify_and_update("passw0rd", MD5, "md5crypt", budget=old) == (False, None)
+    assert verify_and_update("password", MD5, budget=math.inf)[0]
+
+
+@pytest.mark.parametrize(
+    "method, rounds, front",
+    [
+        *(("md5crypt", None, "$1$"), ("md5crypt", 5, "$1$"), ("sha256crypt", None, "$5$")),
+        *(("sha256crypt", 1, "$5$rounds=1000$"), ("sha512crypt", 0, "$6$"), ("sha512crypt", 5000, "$6$rounds=5000$")),
+        *(("sha512crypt", 12345, "$6$rounds=12345$"), ("scrypt", 6, "$7$BU..../....")),
+    ],
+)
+def test_new_hashes(method, rounds, front):
+    stored = hash("pässword", method, rounds=rounds)
+    assert stored.startswith(front) and stored == libxcrypt("pässword", stored)
+    assert not needs_rehash(stored, method, rounds) and not verify("passwörd", stored)
+    assert verify_and_update("pässword", stored, method, rounds) == (True, None)
+    assert hash("pässword", method, rounds=rounds) != stored
+
+
+def test_needs_rehash():
+    for stored, method, rounds, expected in (
+        *((MD5, "md5crypt", None, False), (MD5, "sha512crypt", None, True), (SHA512, "sha512crypt", None, False)),
+        *((SHA512, "sha512crypt", 5001, True), (SHA512, "sha512crypt", 4999, False), (SHA512, "sha256crypt", None, True)),
+        *((SHA512, "scrypt", None, True), ("$7$CU..../....s", "scrypt", 8, True), ("$7$CU..../....s", "scrypt", 7, False)),
+    ):
+        assert needs_rehash(stored, method, rounds) is expected
+    assert needs_rehash(MD5) and not needs_rehash(SHA512) and hash("x", "scrypt").startswith("$7$CU..../....")
+
+
+def test_cost_and_work():
+    """By the messages of RFC 7914, section 6, and of md5crypt: see docs/FORMATS.md."""
+    assert work(MD5, 8) == mkpasswd.Work(digests=1002, bytes=36239, mixes=0, table=0, scratch=0)
+    n, r = 2**14, 32
+    assert work("$7$CU..../....salt", 8) == (8 * r + 2, 4 * r * 168 + 164 + 128 * r, 2 * n, 128 * n * r, 384 * r)
+    assert cost("$5$saltstring", 12) == 307760 and cost(SHA512, 1024) == work(SHA512, 1024).bytes

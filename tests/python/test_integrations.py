@@ -1,0 +1,177 @@
+"""passlib, Django, Ansible and Flask take the package, and the recipes of docs/PYTHON.md do what they say."""
+import asyncio
+import json
+import os
+import re
+import secrets
+import warnings
+
+import mkpasswd
+import pytest
+from support import COSTLY, MD5, ROOT, SHA512, libxcrypt, missing, needs, run
+
+SECTIONS = (ROOT / "docs/PYTHON.md").read_text().split("\n### ")[1:]
+RECIPES = {section.split("\n")[0]: re.search("```python\n(.*?)```", section, re.S).group(1) for section in SECTIONS}
+
+
+def recipe(name, **names):
+    names.setdefault("mkpasswd", mkpasswd)
+    exec(RECIPES[name], names)
+    return names
+
+
+def test_recipe_of_asyncio():
+    if not hasattr(asyncio, "to_thread"):
+        pytest.skip("asyncio.to_thread came with Python 3.9")
+    login = recipe("Threads and asyncio")["login"]
+    stored = mkpasswd.hash("password", rounds=200_000)
+
+    async def main():
+        ticks, task = 0, asyncio.ensure_future(login("password", stored))
+        while not task.done():
+            ticks += 1
+            await asyncio.sleep(0)
+        return ticks, task.result(), await login("passw0rd", stored)
+
+    ticks, right, wrong = asyncio.run(main())
+    assert ticks > 200 and right is True and wrong is False
+
+
+def test_recipe_of_flask():
+    flask = needs("flask", "python3-flask")
+    app = flask.Flask("test")
+    recipe("Flask", app=app, flask=flask, fields={"ann": MD5, "bob": "!" + MD5, "eve": COSTLY, "joe": ""})
+    client = app.test_client()
+    for name, password, status in (
+        *(("ann", "password", 200), ("ann", "passw0rd", 403), ("ann", "x\0", 500), ("ann", "", 403)),
+        *(("bob", "password", 403), ("eve", "x", 500), ("joe", "", 403), ("nobody", "password", 403)),
+    ):
+        assert client.post("/login", data={"name": name, "password": password}).status_code == status
+
+
+def test_recipe_of_new_hashes():
+    login, fields = recipe("From old hashes to new ones")["login"], {"ann": MD5}
+    assert login("ann", "passw0rd", fields) is False and fields == {"ann": MD5}
+    assert login("ann", "password", fields) is True and fields["ann"].startswith("$6$rounds=60000$")
+    stored = fields["ann"]
+    assert login("ann", "password", fields) is True and fields["ann"] == stored
+
+
+def test_recipe_of_crypt():
+    matches = recipe("In place of the standard library's crypt")["matches"]
+    assert matches("password", MD5) and not matches("passw0rd", MD5)
+    for field in "", "!", "*0", "*1", "!" + MD5, "$2b$05$x", "x":
+        assert not matches("password", field)
+
+
+def test_recipe_of_passlib():
+    with warnings.catch_warnings():
+        warnings.simplefilter("ignore")
+        needs("passlib.context", "python3-passlib")
+        context = recipe("passlib")["context"]
+    stored = context.hash("pässword")
+    assert stored.startswith("$6$rounds=60000$") and stored == libxcrypt("pässword", stored)
+    assert context.verify("pässword", stored) and not context.verify("passwörd", stored)
+    matches, new = context.verify_and_update("password", MD5)
+    assert matches and new.startswith("$6$rounds=60000$")
+    assert context.verify_and_update("passw0rd", MD5) == (False, None)
+    assert context.verify_and_update("pässword", stored) == (True, None)
+    with pytest.raises(mkpasswd.TooCostly):
+        context.verify("password", COSTLY)
+
+
+def hashers_of_django():
+    needs("django", "python3-django")
+    from django.conf import settings
+
+    if not settings.configured:
+        settings.configure(**{name: value for name, value in recipe("Django").items() if name.isupper()})
+    from django.contrib.auth import hashers
+
+    return hashers
+
+
+def test_recipe_of_django():
+    hashers = hashers_of_django()
+    encoded = hashers.make_password("pässword")
+    assert encoded.startswith("mkpasswd$6$") and libxcrypt("pässword", encoded[8:]) == encoded[8:]
+    assert hashers.check_password("pässword", encoded) and not hashers.check_password("passwörd", encoded)
+    assert hashers.make_password("Hello world!", "saltstring") == "mkpasswd" + SHA512
+    for salt in "$", "a$b", "a:b", "é":
+        with pytest.raises(ValueError):
+            hashers.get_hasher().encode("password", salt)
+    stored = []
+    assert hashers.check_password("password", "mkpasswd" + MD5, stored.append) and stored == ["password"]
+    assert not hashers.check_password("passw0rd", "mkpasswd" + MD5, stored.append) and len(stored) == 1
+    for field in "", "!", "!x", "mkpasswd", "mkpasswd$9$x", "mkpasswd" + MD5[:-1], "md5$x$x", MD5, "mkpasswd" + COSTLY:
+        try:
+            assert not hashers.check_password("password", field)
+        except ValueError:
+            pass
+    for password in "x\0", "x" * 1025, "\ud800":
+        assert not hashers.check_password(password, encoded)
+        with pytest.raises(ValueError):
+            hashers.make_password(password)
+
+
+def test_hasher_of_django(monkeypatch):
+    hashers_of_django()
+    from mkpasswd import django
+
+    for method, rounds, salt in (
+        *(("md5crypt", None, 8), ("sha256crypt", 3000, 16), ("sha512crypt", None, 16), ("scrypt", 6, 22)),
+    ):
+        hasher = type("Hasher", (django.MkpasswdPasswordHasher,), {"method": method, "rounds": rounds})()
+        encoded = hasher.encode("password", hasher.salt())
+        assert hasher.verify("password", encoded) and not hasher.verify("passw0rd", encoded)
+        assert not hasher.must_update(encoded)
+        decoded = hasher.decode(encoded)
+        assert (decoded["algorithm"], decoded["method"], len(decoded["salt"])) == ("mkpasswd", method, salt)
+        assert encoded.endswith("%s$%s" % (decoded["salt"], decoded["hash"]))
+        assert decoded["rounds"] == {"sha256crypt": 3000, "sha512crypt": 5000}.get(method)
+        summary = hasher.safe_summary(encoded)
+        assert decoded["hash"] not in summary.values() and decoded["salt"] not in summary.values()
+    hasher = type("Hasher", (django.MkpasswdPasswordHasher,), {"rounds": 8000})()
+    assert hasher.must_update("mkpasswd" + SHA512) and hasher.must_update("mkpasswd" + MD5)
+    spent = []
+    monkeypatch.setattr(django, "hash", lambda word, method, rounds, budget: spent.append((method, rounds)))
+    hasher.harden_runtime("x", "mkpasswd" + SHA512)
+    hasher.harden_runtime("x", "mkpasswd" + MD5)
+    assert spent == [("sha512crypt", 3000), ("sha512crypt", 8000)]
+    with pytest.raises(mkpasswd.TooCostly):
+        hasher.verify("password", "mkpasswd" + COSTLY)
+
+
+FILTERS = {
+    "new": "{{ 'pässword' | mkpasswd_hash('sha512crypt', 6000) }}",
+    "kept": "{{ vaulted | mkpasswd_hash('md5crypt', current=stored) }}",
+    "renewed": "{{ 'password' | mkpasswd_hash(current=stored) }}",
+    "changed": "{{ 'passw0rd' | mkpasswd_hash('md5crypt', current=stored) }}",
+    "unlocked": "{{ 'password' | mkpasswd_hash('md5crypt', current='$y$x') }}",
+    "verdicts": "{{ vaulted | mkpasswd_verify(stored) }} {{ 'passw0rd' | mkpasswd_verify(stored) }}",
+    "refused": "{{ 's3cret\0' | mkpasswd_hash }}",
+    "number": "{{ 5 | mkpasswd_hash }}",
+}
+
+
+def test_recipe_of_ansible(tmp_path):
+    if not os.path.exists("/usr/bin/ansible-playbook"):
+        missing("ansible-playbook is missing (Debian package ansible-core)")
+    key = ["--vault-password-file", tmp_path / "key"]
+    (tmp_path / "key").write_text(secrets.token_hex())
+    vault = run("/usr/bin/ansible-vault", "encrypt_string", *key, "--name", "vaulted", "password")
+    (tmp_path / "vault.yml").write_text(vault[vault.index("vaulted:") :].split("\nEncryption")[0])
+    (tmp_path / "filter_plugins").mkdir()
+    (tmp_path / "filter_plugins/mkpasswd.py").write_text(RECIPES["Ansible"])
+    play = {"hosts": "localhost", "gather_facts": False, "vars": {"stored": MD5}, "vars_files": ["vault.yml"]}
+    play["tasks"] = [{"name": name, "debug": {"msg": words}, "ignore_errors": True} for name, words in FILTERS.items()]
+    (tmp_path / "play.yml").write_text(json.dumps([play]))
+    place = dict(cwd=str(tmp_path), env=dict(os.environ, HOME=str(tmp_path), LC_ALL="C.UTF-8"))
+    out = run("/usr/bin/ansible-playbook", "-i", "localhost,", "-c", "local", *key, "play.yml", **place)
+    said = re.findall(r'^TASK \[(\w+)\] \*+\n.*?"msg": ("(?:[^"\\]|\\.)*")', out, re.M | re.S)
+    said = {name: json.loads(message) for name, message in said}
+    assert said["new"].startswith("$6$rounds=6000$") and mkpasswd.verify("pässword", said["new"])
+    assert said["kept"] == MD5 and said["verdicts"] == "True False"
+    assert said["renewed"].startswith("$6$") and mkpasswd.verify("password", said["renewed"])
+    assert mkpasswd.verify("passw0rd", said["changed"]) and mkpasswd.verify("password", said["unlocked"])
+    assert "password has a zero byte" in said["refused"] and "must be str or bytes, not int" in said["number"]

@@ -1,0 +1,130 @@
+"""Threads, forks, memory, and an interpreter that has no library."""
+import os
+import shutil
+import sys
+import threading
+import time
+from concurrent.futures import ThreadPoolExecutor
+
+import mkpasswd
+import pytest
+from support import MD5, ended, run_python
+
+
+def test_other_threads_run_while_a_hash_is_made():
+    """The loops of this thread are compared with what it does alone, by processor time, since the machine may be busy.
+    With the interpreter's lock kept they are next to none."""
+    stored, hashing = mkpasswd.hash("password", rounds=300_000), []
+
+    def loops(goes_on):
+        count = 0
+        while goes_on():
+            count += 1
+        return count
+
+    def verify():
+        began = time.thread_time()
+        assert mkpasswd.verify("password", stored)
+        hashing.append(time.thread_time() - began)
+
+    until, began = time.monotonic() + 0.3, time.thread_time()
+    alone = loops(lambda: time.monotonic() < until) / (time.thread_time() - began)
+    thread = threading.Thread(target=verify)
+    thread.start()
+    meanwhile = loops(thread.is_alive)
+    assert hashing[0] > 0.1 and meanwhile > 0.1 * alone * hashing[0], (meanwhile, alone, hashing)
+
+
+def test_threads_get_their_own_answers():
+    stored = [mkpasswd.hash("password %d" % n, "md5crypt") for n in range(40)]
+    pairs = [(n, m) for n in range(40) for m in range(40)]
+    with ThreadPoolExecutor(8) as pool:
+        answers = list(pool.map(lambda pair: mkpasswd.verify("password %d" % pair[0], stored[pair[1]]), pairs))
+    assert answers == [n == m for n, m in pairs]
+
+
+FORKS = """
+import os, mkpasswd
+stored = mkpasswd.hash("password", "md5crypt")
+children = []
+for n in range(4):
+    read, write = os.pipe()
+    if os.fork() == 0:
+        verdict = mkpasswd.verify("password", stored) and not mkpasswd.verify("passw0rd", stored)
+        os.write(write, (mkpasswd.hash("x", "md5crypt") if verdict else "wrong").encode())
+        os._exit(0)
+    children.append(read)
+for read in children:
+    print(os.read(read, 100).decode())
+    os.wait()
+"""
+
+
+def test_forked_processes():
+    made = run_python(FORKS).split()
+    assert len(set(made)) == 4 and all(mkpasswd.verify("x", stored) for stored in made)
+
+
+WITHOUT_MEMORY = """
+import resource, mkpasswd
+used = int(open("/proc/self/statm").read().split()[0]) * resource.getpagesize()
+resource.setrlimit(resource.RLIMIT_AS, (used + (32 << 20),) * 2)
+setting = "$7$CU..../....salt"
+for call in mkpasswd.hash, lambda *words: mkpasswd.verify("x", setting), lambda *words: mkpasswd.crypt("x", setting):
+    try:
+        print(call("password", "scrypt"))
+    except MemoryError as error:
+        print(error)
+print(mkpasswd.verify("password", "%s"))
+"""
+
+
+def test_memory_is_refused():
+    assert run_python(WITHOUT_MEMORY % MD5).split("\n")[:4] == ["out of memory"] * 3 + ["True"]
+
+
+def test_memory_does_not_grow():
+    """In 100,000 calls, after as many as it takes to fill what the interpreter keeps."""
+
+    def calls(times):
+        for _ in range(times):
+            mkpasswd.verify("password", MD5)
+            mkpasswd.verify("password", "!")
+            mkpasswd.needs_rehash(MD5)
+            mkpasswd.cost(MD5, 8)
+            mkpasswd.work(MD5, 8)
+            mkpasswd.mksalt()
+            for refused in "x", "$6$rounds=999999999$salt$x":
+                try:
+                    mkpasswd.verify("password", refused)
+                except mkpasswd.Refused as error:
+                    str(error)
+
+    def resident():
+        with open("/proc/self/statm") as statm:
+            return int(statm.read().split()[1]) * os.sysconf("SC_PAGE_SIZE")
+
+    calls(1000)
+    before = resident()
+    calls(12_500)
+    assert resident() - before < 1 << 20
+
+
+@pytest.mark.parametrize("library", ["empty file", "garbage", "another library"])
+def test_no_library(library, tmp_path):
+    """The loader stops at a file that is none, so that it finds none of the system's after it."""
+    place = tmp_path / "libmkpasswd.so.2"
+    place.write_bytes(b"" if library == "empty file" else b"garbage" * 100)
+    if library == "another library":
+        shutil.copy(run_python("import _ctypes; print(_ctypes.__file__)").strip(), str(place))
+    status, said = ended(sys.executable, "-c", "import mkpasswd", env=dict(os.environ, LD_LIBRARY_PATH=str(tmp_path)))
+    words = "ImportError: mkpasswd needs its C library, libmkpasswd.so.2, and could not load it: "
+    assert status == 1 and said.split("\n")[-2].startswith(words) and said.count("Traceback") == 1
+
+
+def test_python_m_mkpasswd_names_the_program(tmp_path):
+    (tmp_path / "mkpasswd").write_text("#!/bin/sh\n")
+    (tmp_path / "mkpasswd").chmod(0o755)
+    for path, place in (str(tmp_path), str(tmp_path / "mkpasswd")), ("/nowhere", "not on the PATH"):
+        status, said = ended(sys.executable, "-m", "mkpasswd", "-m", "md5crypt", "x", env=dict(os.environ, PATH=path))
+        assert (status, said) == (1, "mkpasswd: this is a library for Python; the program is %s\n" % place)

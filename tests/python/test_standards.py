@@ -1,0 +1,128 @@
+"""The hashes are those of passlib, hashlib, libxcrypt and the standard library's crypt."""
+import hashlib
+import math
+import re
+import warnings
+
+import mkpasswd
+import pytest
+from hypothesis import given, settings, strategies as st
+from support import COSTLY, MD5, SHA256, libxcrypt
+
+ALPHABET = "./0123456789ABCDEFGHIJKLMNOPQRSTUVWXYZabcdefghijklmnopqrstuvwxyz"
+quietly = settings(deadline=None, database=None, derandomize=True, max_examples=150)
+
+# passlib's own test classes, over a handler whose checksums all come from this package. passlib names no budget.
+with warnings.catch_warnings():
+    warnings.simplefilter("ignore")
+    import mkpasswd.passlib as ours
+    from passlib.tests import test_handlers as passlib_tests
+for _name in "md5_crypt", "sha256_crypt", "sha512_crypt":
+    _handler = type(_name, (getattr(ours, _name),), {"budget": math.inf})
+    globals()["test_passlib_" + _name] = type(
+        "test_passlib_" + _name, (getattr(passlib_tests, "_%s_test" % _name),), {"handler": _handler}
+    )
+del passlib_tests
+
+passwords = st.one_of(
+    st.text(st.characters(min_codepoint=1, blacklist_categories=["Cs"]), max_size=60),
+    st.binary(max_size=200).map(lambda word: word.replace(b"\0", b"x")),
+)
+salts = st.text(ALPHABET, max_size=20)
+rounds = st.one_of(st.just(""), st.integers(1000, 2000).map("rounds={}$".format))
+sha_settings = st.builds("${}${}{}".format, st.sampled_from("56"), rounds, salts)
+
+
+def low_bits_first(number, characters):
+    return "".join(ALPHABET[number >> 6 * place & 63] for place in range(characters))
+
+
+def scrypt_setting(log2_n, r, p, salt):
+    return "$7$" + ALPHABET[log2_n] + low_bits_first(r, 5) + low_bits_first(p, 5) + salt
+
+
+scrypt_settings = st.builds(scrypt_setting, st.integers(2, 6), st.integers(1, 8), st.integers(1, 3), salts.filter(len))
+
+
+@quietly
+@given(passwords, st.one_of(st.builds("$1${}".format, salts), sha_settings, scrypt_settings))
+def test_hashes_are_libxcrypts(password, setting):
+    expected = libxcrypt(password, setting)
+    assert mkpasswd.crypt(password, setting) == expected
+    assert mkpasswd.crypt(password, expected) == expected
+    assert mkpasswd.verify(password, expected) is True
+
+
+@quietly
+@given(passwords, passwords, st.integers(0, 33), st.sampled_from(ALPHABET))
+def test_no_other_password_or_hash_matches(password, other, place, character):
+    stored = libxcrypt(password, "$1$salt")
+    same = [word if isinstance(word, bytes) else word.encode() for word in (password, other)]
+    assert mkpasswd.verify(other, stored) is (same[0] == same[1])
+    changed = stored[: place + 3] + character + stored[place + 4 :]
+    assert mkpasswd.verify(password, changed) is (libxcrypt(password, changed) == changed)
+
+
+@quietly
+@given(st.one_of(st.text(max_size=30), st.text("$1567rounds=0.a/*!:", max_size=30), sha_settings), st.text(max_size=3))
+def test_no_field_opens_for_more_than_libxcrypt(field, behind):
+    field += behind
+    try:
+        is_match = mkpasswd.verify("password", field)
+    except mkpasswd.Refused:
+        return
+    assert not is_match or libxcrypt("password", field) == field
+
+
+@pytest.mark.parametrize("log2_n, r, p", [(4, 1, 1), (10, 8, 1), (5, 3, 7), (1, 1, 1), (14, 8, 1)])
+def test_scrypt_is_hashlibs(log2_n, r, p):
+    for password in b"", b"password", "pässword".encode(), b"x" * 600:
+        setting = scrypt_setting(log2_n, r, p, "SodiumChloride")
+        digest = hashlib.scrypt(password, salt=b"SodiumChloride", n=2**log2_n, r=r, p=p, dklen=32, maxmem=2**26)
+        packed = "".join(low_bits_first(int.from_bytes(digest[i : i + 3], "little"), 4) for i in range(0, 32, 3))
+        assert mkpasswd.crypt(password, setting) == setting + "$" + packed[:43]
+
+
+def test_crypt_is_the_standard_librarys():
+    with warnings.catch_warnings():
+        warnings.simplefilter("ignore")
+        theirs = pytest.importorskip("crypt", reason="this Python has no crypt")
+    for name in "SHA512", "SHA256", "MD5":
+        method, expected = getattr(mkpasswd, "METHOD_" + name), getattr(theirs, "METHOD_" + name)
+        assert tuple(method) == tuple(expected) and method._fields == expected._fields
+        for options in {}, {"rounds": 1000}, {"rounds": 5000}, {"rounds": 999_999_999}:
+            if name == "MD5" and options:
+                continue
+            made, salt = mkpasswd.mksalt(method, **options), theirs.mksalt(expected, **options)
+            assert made.rpartition("$")[0] == salt.rpartition("$")[0] and len(made) == len(salt)
+        assert len(mkpasswd.crypt("x", method)) == method.total_size
+        for rounds in 999, 10**9, -1, 1.5, "1000", True:
+            with pytest.raises((ValueError, TypeError)) as raised:
+                theirs.mksalt(expected, rounds=rounds)
+            words = str(raised.value).replace("<crypt.", "<mkpasswd.")
+            with pytest.raises(raised.type, match="^%s$" % re.escape(words)):
+                mkpasswd.mksalt(method, rounds=rounds)
+    assert mkpasswd.methods == [method for method in theirs.methods if method.name in ("SHA512", "SHA256", "MD5")]
+    assert mkpasswd.crypt("x")[:3] == mkpasswd.mksalt()[:3] == theirs.mksalt()[:3] == "$6$"
+    for word in "", "password", "pässwörd", "x" * 511:
+        for salt in (
+            *(MD5, SHA256, "$1$", "$1$salt", "$5$rounds=1000$salt", "$6$saltsaltsaltsaltsalt$x", "$6$rounds=5000$salt"),
+            *("", "!", "*", "*0", "*0x", "*1", "x:y", "$9$salt", "$1", "$6$rounds=0$salt", "$5$rounds=01000$salt", "é"),
+        ):
+            assert mkpasswd.crypt(word, salt) == theirs.crypt(word, salt), salt
+    for wrong in (None, "$1$salt"), (5, "$1$salt"), ("x", 5), ("x\0y", "$1$salt"), ("\ud800", "$1$salt"):
+        with pytest.raises((TypeError, ValueError)) as raised:
+            theirs.crypt(*wrong)
+        with pytest.raises(TypeError if raised.type is TypeError else ValueError):
+            mkpasswd.crypt(*wrong)
+    with pytest.raises(mkpasswd.TooCostly):
+        mkpasswd.crypt("x", COSTLY)
+
+
+def test_salts():
+    salts = [mkpasswd.mksalt(mkpasswd.METHOD_MD5) for _ in range(2000)]
+    assert len(set(salts)) == 2000
+    hashes = [mkpasswd.hash("", "md5crypt") for _ in range(500)]
+    assert len(set(hashes)) == 500
+    for made in salts, hashes:
+        assert set("".join(text[3:11] for text in made)) == set(ALPHABET)
