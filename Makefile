@@ -2,6 +2,7 @@
 # make run        builds what is missing and hashes a first password
 # make check      every check but the soak, and the gate; with STRICT=1 a tool that is missing is a failure, and with
 #                 ANEW=1 the gate proves all, also what an earlier one on this machine has passed
+# make specification  writes docs/SPECIFICATION.md anew, from the clauses and definitions
 # make gate       proves all that no gate on this machine has passed, runs the tests, tries the edits that must fail, and
 #                 without CPU leaves ./mkpasswd
 # make bench      measures against libxcrypt, in some two minutes
@@ -27,7 +28,7 @@ ARCHIVE ?= mkpasswd-$(VERSION)-$(if $(filter x86-64,$(CPU)),x86_64_v1,$(subst -,
 # The scripts take these from the environment, whatever characters they have.
 export DESTDIR PREFIX LIBDIR ARCHIVE RT
 
-.PHONY: all run lib check layers gate bench soak install dist clean FORCE
+.PHONY: all run lib check layers specification gate bench soak install dist clean FORCE
 .DELETE_ON_ERROR:
 # rt takes all cores for itself.
 .NOTPARALLEL:
@@ -63,7 +64,7 @@ libmkpasswd.a: build/mkpasswd.o
 libmkpasswd.so.1: build/mkpasswd.o
 	$(CC) -shared -Wl,-soname,$@ -Wl,-z,relro -Wl,-z,now -Wl,-z,defs $(LDFLAGS) -o $@ build/mkpasswd.o
 
-# The layers and the gate come first, since they need nothing built.
+# The layers, the page of definitions and the gate come first, since they need nothing built.
 check: layers gate mkpasswd lib
 	tools/check-program ./mkpasswd
 	tools/check-memory ./mkpasswd
@@ -80,6 +81,12 @@ check: layers gate mkpasswd lib
 layers:
 	tools/check-layers --selftest
 	tools/check-layers
+	prove tests/specification.t
+
+specification:
+	@mkdir -p build
+	tools/specification > build/SPECIFICATION.md
+	mv build/SPECIFICATION.md docs/SPECIFICATION.md
 
 # The gate leaves the program that it proved, so there is none to prove again but for other processors.
 gate: build/cpu
