@@ -4,6 +4,7 @@
 #                 missing is a failure
 # make check      the layers, the gate, make test, and planted faults, which the tests have to see; with ANEW=1 the gate
 #                 proves all, also what an earlier one on this machine has passed
+# make specification  writes docs/SPECIFICATION.md anew, from the clauses and definitions
 # make gate       proves all that no gate on this machine has passed, runs the tests, tries the edits that must fail, and
 #                 without CPU leaves ./mkpasswd
 # make bench      measures against libxcrypt, in some two minutes
@@ -35,7 +36,7 @@ export DESTDIR PREFIX LIBDIR ARCHIVE RT
 T = $(filter-out tests/planted.t,$(wildcard tests/*.t))
 PROVE = PERL5LIB=tests/lib prove --harness Tally -j4
 
-.PHONY: all run lib fuzz test check layers gate bench soak install dist wheel clean FORCE
+.PHONY: all run lib fuzz test check layers specification gate bench soak install dist wheel clean FORCE
 .DELETE_ON_ERROR:
 # rt takes all cores for itself.
 .NOTPARALLEL:
@@ -94,12 +95,17 @@ fuzz: $(FUZZERS)
 test: mkpasswd lib
 	$(PROVE) $(T)
 
-# The layers and the gate come first, since they need nothing built.
+# The layers, the page of definitions and the gate come first, since they need nothing built.
 check: layers gate mkpasswd lib
 	$(PROVE) tests/planted.t $(T)
 
 layers:
-	$(PROVE) tests/layers.t
+	$(PROVE) tests/layers.t tests/specification.t
+
+specification:
+	@mkdir -p build
+	tools/specification > build/SPECIFICATION.md
+	mv build/SPECIFICATION.md docs/SPECIFICATION.md
 
 # The gate leaves the program that it proved, so there is none to prove again but for other processors.
 gate: build/cpu
