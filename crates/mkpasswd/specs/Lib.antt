@@ -3,9 +3,9 @@ pub mod Faults
 pub mod Options
 pub mod Private
 pub use Rattle.run_core.specs.Answers
-pub use Rattle.run_core.specs.Budgets
 pub use Rattle.run_core.specs.Devices
 pub use Rattle.run_core.specs.Input
+pub use Rattle.run_core.specs.JobOptions
 pub use Rattle.run_core.specs.LineAnswers
 pub use Rattle.run_core.specs.LineFaults
 pub use Rattle.run_core.specs.LineOptions
@@ -16,7 +16,6 @@ pub use Rattle.run_core.specs.Methods
 pub use Rattle.run_core.specs.One
 pub use Rattle.run_core.specs.Outcomes
 pub use Rattle.run_core.specs.Output
-pub use Rattle.run_core.specs.Rehashes
 pub use Rattle.run_core.specs.Runs
 pub use Rattle.run_core.specs.Tallies
 pub use Rattle.run_core.specs.Texts

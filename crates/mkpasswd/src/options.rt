@@ -3,17 +3,17 @@
 ghost use Rattle.std.specs.Prelude.{◌≡◌, ◌≢◌, ◌<◌, ◌≤◌, None, Some, false, fold, length, map, string_bytes};
 ghost use Rattle.std.specs.Prelude.{IfErr, IfOk, MatchOption};
 ghost use Rattle.std.specs.List.{slice_index_or};
-ghost use Rattle.clap.specs.Words.{app_of, found_of, kind_of, rows_of, rule_of, with_rule};
+ghost use Rattle.clap.specs.Words.{app_of, kind_of, rule_of, with_rule};
 ghost use Rattle.crypt_core.specs.Methods.{method_named};
 ghost use Rattle.run_core.specs.Makers.{bytes_of};
 ghost use Rattle.mkpasswd.specs.Options.{AsksForMethods, Gives, HasTwoSalts, Names, Plans, Refuses};
-ghost use Rattle.mkpasswd.specs.Options.{command, flag_rule, given_salt, hash_rules, input, is_set, line_rules, modes_of, type_of, value_rule};
+ghost use Rattle.mkpasswd.specs.Options.{command, flag_rule, given_salt, hash_rules, input, line_rules, modes_of, type_of, value_rule};
 ghost use Rattle.mkpasswd.specs.Private.Options.{mode_of, values_of};
 
 use crate::fault::UsageFault;
 use crate::job::{Job, Maker, PasswordFrom, Plan};
 use clap::error::ErrorKind;
-use clap::{Arg, ArgAction, ArgMatches, Command, value_parser};
+use clap::{Arg, ArgAction, Command, value_parser};
 use crypt_core::method::Method;
 use crypt_core::version::VERSION;
 use run_core::line::Kind;
@@ -94,27 +94,20 @@ fn read_words<'a>(alloc: Global, words: &'a [String]) -> Result<Arguments<'a>, c
         → Refuses (map string_bytes words.entry.now) error) }
 {
     let matches = command(alloc)?.try_get_matches_from(words)?;
+    // `get_flag` says nothing about a value that is no `bool`.
     Ok(Arguments {
         method: matches.get_str("method"),
         salt: matches.get_str("salt"),
         salt_word: matches.get_str("salt-word"),
         cost: matches.get_one("rounds").unwrap_or(0),
-        stdin: is_set(&matches, "stdin"),
-        batch: is_set(&matches, "batch"),
-        check: is_set(&matches, "check"),
-        rehash: is_set(&matches, "rehash"),
-        work: is_set(&matches, "work"),
+        stdin: matches.get_one("stdin").unwrap_or(false),
+        batch: matches.get_one("batch").unwrap_or(false),
+        check: matches.get_one("check").unwrap_or(false),
+        rehash: matches.get_one("rehash").unwrap_or(false),
+        work: matches.get_one("work").unwrap_or(false),
         budget: matches.get_one("budget"),
         password: matches.get_str("password"),
     })
-}
-
-// Whether a flag was given.
-fn is_set(matches: &ArgMatches<'_>, id: &str) -> bool
-    ensures { result ≡ is_set id.now (rows_of (found_of matches.now)) }
-{
-    // `get_flag` says nothing about a value that is no `bool`.
-    matches.get_one(id).unwrap_or(false)
 }
 
 // The method that TYPE names, or `None` where it asks for the list of methods.
@@ -189,13 +182,13 @@ fn command<'a>(alloc: Global) -> Result<Command<'a>, AllocError>
 fn with_hash_options<'a>(alloc: Global, command: Command<'a>) -> Result<Command<'a>, AllocError>
     ensures { IfOk result (λ made. app_of made ≡ fold with_rule (app_of command.entry) hash_rules) }
 {
-    let method = option(alloc, "method", "TYPE").short('m').help(
+    let method = word(alloc, "method", "TYPE").long("method").short('m').help(
         "The method: md5crypt, sha256crypt, sha512crypt (the default) or scrypt; help lists them",
     );
-    let salt = option(alloc, "salt", "SALT").short('S').help(
+    let salt = word(alloc, "salt", "SALT").long("salt").short('S').help(
         "The salt: up to 8 (md5crypt), 16 or 86 (scrypt) letters, digits, '.' and '/'; else a new one",
     );
-    let rounds = option(alloc, "rounds", "NUMBER")
+    let rounds = word(alloc, "rounds", "NUMBER").long("rounds")
         .short('R')
         .value_parser(value_parser!(u32))
         .help(
@@ -223,7 +216,7 @@ fn with_line_options<'a>(alloc: Global, command: Command<'a>) -> Result<Command<
     let work = flag(alloc, "work").help(
         "Show what the hash cost: digests, bytes, mixings, bytes of table",
     );
-    let budget = option(alloc, "budget", "NUMBER")
+    let budget = word(alloc, "budget", "NUMBER").long("budget")
         .value_parser(value_parser!(u64))
         .help("What a line may cost, by --batch and --check: bytes digested and mixed");
     command
@@ -234,14 +227,6 @@ fn with_line_options<'a>(alloc: Global, command: Command<'a>) -> Result<Command<
         .arg(budget)
 }
 
-// An option with one value, whose long name is its id.
-fn option<'a>(alloc: Global, id: &'a str, value_name: &'a str) -> Arg<'a>
-    ensures rule { rule_of result ≡ record (value_rule id.entry.now) { long = Some id.entry.now } }
-    ensures local { result.global ≡ false }
-{
-    word(alloc, id, value_name).long(id)
-}
-
 // A flag whose long name is its id.
 fn flag<'a>(alloc: Global, id: &'a str) -> Arg<'a>
     ensures rule { rule_of result ≡ record (flag_rule id.entry.now) { long = Some id.entry.now } }
@@ -250,7 +235,7 @@ fn flag<'a>(alloc: Global, id: &'a str) -> Arg<'a>
     Arg::new(alloc, id).long(id).action(ArgAction::SetTrue)
 }
 
-// A word that is one value.
+// A word that is one value, or the value of an option whose long name is its id.
 fn word<'a>(alloc: Global, id: &'a str, value_name: &'a str) -> Arg<'a>
     ensures rule { rule_of result ≡ value_rule id.entry.now }
     ensures local { result.global ≡ false }

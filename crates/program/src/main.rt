@@ -16,7 +16,15 @@ const TURNS: u64 = 1 << 40;
 
 fn main(rt: HostRuntime) -> ExitCode {
     let mut faults = Output::new(rt.stderr());
-    let status = match words(&rt) {
+    // The words after the program's name.
+    let words: Result<Vec<String>, Fault> = match env::args(&rt) {
+        Ok(mut words) => {
+            let _ = words.next();
+            words.collect(rt.alloc()).map_err(|error| Fault::from(error))
+        }
+        Err(error) => Err(Fault::from(error)),
+    };
+    let status = match words {
         Ok(words) => {
             let mut generator: Option<StdRng> = make_rng(&rt).ok();
             run_command(
@@ -33,11 +41,4 @@ fn main(rt: HostRuntime) -> ExitCode {
         Err(fault) => report_fault(&fault, &mut faults),
     };
     ExitCode::from(status)
-}
-
-// The words after the program's name.
-fn words(rt: &HostRuntime) -> Result<Vec<String>, Fault> {
-    let mut words = env::args(rt)?;
-    let _ = words.next();
-    Ok(words.collect(rt.alloc())?)
 }

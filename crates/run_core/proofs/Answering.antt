@@ -1,13 +1,9 @@
--- The decision on a line that is too long, the texts of outcomes, how far an answer raises the counts, and the room that
--- it leaves.
+-- The texts of outcomes, how far an answer raises the counts, and the room that it leaves.
 use Rattle.std.proofs.Common.{◌≡◌, ◌≢◌, Bool, ℕ, ◌+◌, ◌<◌, ◌≤◌, List, [], length, Option, Result, Ok, Err, refl, arith}
-use Rattle.rand_core.specs.Stream.{Stream}
 use Rattle.prims_core.specs.declared.meter.Work.{Work}
 use Rattle.run_core.specs.Answers.{Answer, after_work}
 use Rattle.run_core.specs.Devices.{Device, IsUnfailed, IsUnflushed, calls_limit}
-use Rattle.run_core.specs.LineAnswers.{IsDecision, fault_output_text, outcome_text, output_text, refusal}
-use Rattle.run_core.specs.LineAnswers.IsDecision.{refused}
-use Rattle.run_core.specs.Lines.{IsLineRefused, line_limit, rule_number}
+use Rattle.run_core.specs.LineAnswers.{fault_output_text, outcome_text, output_text}
 use Rattle.run_core.specs.Outcomes.{tally_of}
 use Rattle.run_core.specs.Private.Answers.{IsRaisedBelow}
 use Rattle.run_core.specs.Private.Deliveries.{Sends}
@@ -18,44 +14,18 @@ use Rattle.run_core.specs.declared.answer.Outcome.{Outcome}
 use Rattle.run_core.specs.declared.answer.Outcome.TheVariants.{Hashed, Match, Rehashed, Mismatch, NoHash, Locked, Refused}
 use Rattle.run_core.specs.declared.fault.RunFault.{RunFault}
 use Rattle.run_core.specs.declared.fault.RunFault.TheVariants.{Read, Write, OutOfMemory, Turns, Password}
-use Rattle.run_core.specs.declared.job.Job.{Job}
-use Rattle.run_core.specs.declared.line.Kind.{Kind}
 use Rattle.run_core.specs.declared.line.LineFault.{LineFault}
-use Rattle.run_core.specs.declared.line.LineFault.TheVariants.{LineTooLong, NoName, NameTooLong, NoPassword, Password as WrongPassword, Setting, OverBudget}
 use Rattle.run_core.specs.declared.tally.Tally.{Tally}
-
--- ---- a line that is too long
-
--- there is no rule before the first
-some_rule : (fault : LineFault) → 0 < rule_number fault
-some_rule LineTooLong = omega arith
-some_rule NoName = omega arith
-some_rule NameTooLong = omega arith
-some_rule NoPassword = omega arith
-some_rule (WrongPassword fault) = omega arith
-some_rule (Setting fault) = omega arith
-some_rule OverBudget = omega arith
-
-too_long-refused : (kind : Kind) (line : List ℕ) → line_limit < length line → IsLineRefused kind line LineTooLong
-too_long-refused kind line long = record {
-  breaks = long;
-  first = λ earlier before. absurd (omega (arith, some_rule earlier, before));
-}
-
--- so its refusal is what it comes to, whatever its bytes are
-pub too_long-decided : (kind : Kind) (job : Job) (line : List ℕ) (stream : Stream) → line_limit < length line
-    → IsDecision kind job line stream (refusal LineTooLong stream)
-too_long-decided kind job line stream long = refused LineTooLong (too_long-refused kind line long) refl
 
 -- ---- one more line
 
 -- every outcome is of one line
-record IsOfOneLine (tally : Tally) : Type 0 where
-  lines : tally.lines ≡ 1
-  refused : tally.refused ≤ 1
-  misfits : tally.misfits ≤ 1
+pub record IsOfOneLine (tally : Tally) : Type 0 where
+  pub lines : tally.lines ≡ 1
+  pub refused : tally.refused ≤ 1
+  pub misfits : tally.misfits ≤ 1
 
-one_line-of : (outcome : Outcome) → IsOfOneLine (tally_of outcome)
+pub one_line-of : (outcome : Outcome) → IsOfOneLine (tally_of outcome)
 one_line-of (Hashed hash) = record { lines = refl; refused = omega arith; misfits = omega arith }
 one_line-of Match = record { lines = refl; refused = omega arith; misfits = omega arith }
 one_line-of (Rehashed hash) = record { lines = refl; refused = omega arith; misfits = omega arith }

@@ -12,14 +12,13 @@ use Rattle.crypt_core.specs.StoredFields.{StoredHash}
 use Rattle.crypt_core.specs.declared.stored.StoredField.{StoredField}
 use Rattle.crypt_core.specs.declared.stored.StoredField.TheVariants as fields
 use Rattle.run_core.specs.Answers.{Hashing, hashing, new_hash, new_hashing}
-use Rattle.run_core.specs.Budgets.{IsAbove}
+use Rattle.run_core.specs.JobOptions.{IsAbove, check_cost, is_outdated}
 use Rattle.run_core.specs.LineAnswers.{Decision, IsCostly, IsDecision, HasSoundParts, decision}
 use Rattle.run_core.specs.LineAnswers.IsDecision.{hashed, none, locked, ok, rehashed, no}
 use Rattle.run_core.specs.Lines.{HasParts, Parts}
 use Rattle.run_core.specs.Makers.{made_cost_by, stream_after}
 use Rattle.run_core.specs.Private.Answers.{IsChecked, IsSettled, field_cost}
 use Rattle.run_core.specs.Private.Lines.{IsFieldOf, IsLine}
-use Rattle.run_core.specs.Rehashes.{check_cost, is_outdated}
 use Rattle.run_core.specs.declared.answer.Outcome.{Outcome}
 use Rattle.run_core.specs.declared.answer.Outcome.TheVariants.{Hashed, Match, Rehashed, Mismatch, NoHash, Locked, Refused}
 use Rattle.run_core.specs.declared.job.Job.{Job}

@@ -1,5 +1,4 @@
 pub mod Answering
-pub mod Budgeting
 pub mod Counting
 pub mod Cuts
 pub mod Deciding
@@ -12,11 +11,11 @@ pub mod LineAnswering
 pub mod LineCalls
 pub mod LineEnding
 pub mod LineFeeds
+pub mod LineOptions
 pub mod LineRules
 pub mod LinesOf
 pub mod LookingThrough
 pub mod Moving
 pub mod Reading
-pub mod Renewing
 pub mod Sending
 pub mod Showing

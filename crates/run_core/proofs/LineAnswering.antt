@@ -5,12 +5,10 @@ use Rattle.prims_core.specs.declared.meter.Work.{Work}
 use Rattle.crypt_core.specs.Work.{raised_by, work}
 use Rattle.run_core.specs.Answers.{Answer, Hashing, after_work, no_answer}
 use Rattle.run_core.specs.LineAnswers.{IsAnswer}
-use Rattle.run_core.specs.Outcomes.{tally_of}
-use Rattle.run_core.specs.declared.answer.Outcome.{Outcome}
-use Rattle.run_core.specs.declared.answer.Outcome.TheVariants.{Hashed, Match, Rehashed, Mismatch, NoHash, Locked, Refused}
 use Rattle.run_core.specs.LineRuns.{AreAnswers, both}
 use Rattle.run_core.specs.declared.job.Job.{Job}
 use Rattle.run_core.specs.declared.line.Kind.{Kind}
+use Rattle.run_core.proofs.Answering.{one_line-of}
 
 -- ---- one answer and others
 
@@ -29,18 +27,9 @@ after_work-append counts (hashing ∷ hashings) others = after_work-append (rais
 
 -- ---- the answers to lines
 
-lines-of_outcome : (outcome : Outcome) → (tally_of outcome).lines ≡ 1
-lines-of_outcome (Hashed hash) = refl
-lines-of_outcome Match = refl
-lines-of_outcome (Rehashed hash) = refl
-lines-of_outcome Mismatch = refl
-lines-of_outcome NoHash = refl
-lines-of_outcome Locked = refl
-lines-of_outcome (Refused fault) = refl
-
 pub lines-of_answer : (kind : Kind) (job : Job) (number : ℕ) (line : List ℕ) (stream : Stream) (answer : Answer)
     → IsAnswer kind job number line stream answer → answer.tally.lines ≡ 1
-lines-of_answer kind job number line stream answer (made, decides, is) = ap (λ a. a.tally.lines) is ∙ lines-of_outcome made.outcome
+lines-of_answer kind job number line stream answer (made, decides, is) = ap (λ a. a.tally.lines) is ∙ (one_line-of made.outcome).lines
 
 -- the tally counts each line
 pub lines-of_answers : (kind : Kind) (job : Job) (number : ℕ) (lines : List (List ℕ)) (stream : Stream) (answers : Answer)

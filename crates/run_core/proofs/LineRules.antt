@@ -3,6 +3,7 @@ use Rattle.std.proofs.Common.{◌≡◌, ℕ, ◌≤◌, ◌<◌, List, [], leng
 use Rattle.std.proofs.lemmas.Bool.{cases_order}
 use Rattle.crypt_core.specs.Passwords.{IsPassword, IsPasswordRefused}
 use Rattle.std.specs.Prelude.{Result, Ok, Err}
+use Rattle.rand_core.specs.Stream.{Stream}
 use Rattle.crypt_core.specs.FieldReadings.{IsFieldReading}
 use Rattle.crypt_core.specs.Readings.{IsReadOneWay}
 use Rattle.crypt_core.specs.Refusals.{IsRefused}
@@ -14,13 +15,15 @@ use Rattle.crypt_core.specs.declared.password.PasswordFault.{PasswordFault}
 use Rattle.crypt_core.specs.declared.password.PasswordFault.TheVariants.{TooLong, HasNul}
 use Rattle.crypt_core.specs.declared.setting.fault.SettingFault.{SettingFault}
 use Rattle.run_core.specs.Texts.{colon}
-use Rattle.run_core.specs.Lines.{Breaks, HasName, HasParts, IsLineRefused, IsSound, Parts, line_limit, rule_number}
-use Rattle.run_core.specs.LineAnswers.{HasSoundParts}
+use Rattle.run_core.specs.Lines.{Breaks, HasName, HasParts, IsLineRefused, IsSound, IsTooLong, Parts, line_limit, rule_number}
+use Rattle.run_core.specs.LineAnswers.{HasSoundParts, IsDecision, refusal}
+use Rattle.run_core.specs.LineAnswers.IsDecision.{refused}
 use Rattle.run_core.specs.Private.Lines.{HasBehind, IsCutOrWhole, IsGoodName, IsNamed, LacksParts}
+use Rattle.run_core.specs.declared.job.Job.{Job}
 use Rattle.run_core.specs.declared.line.Kind.{Kind}
 use Rattle.run_core.specs.declared.line.Kind.TheVariants.{Batch, Check}
 use Rattle.run_core.specs.declared.line.LineFault.{LineFault}
-use Rattle.run_core.specs.declared.line.LineFault.TheVariants.{LineTooLong, NoName, NameTooLong, NoPassword, Password, Setting}
+use Rattle.run_core.specs.declared.line.LineFault.TheVariants.{LineTooLong, NoName, NameTooLong, NoPassword, Password, Setting, OverBudget}
 use Rattle.run_core.proofs.Cuts.{cut_unique, cut_has_colon, name_unique, parts_unique}
 
 -- ---- names
@@ -214,3 +217,26 @@ only_field_fault kind line parts field one entry is once refused_one fault refus
 -- a line that breaks no rule gets no refusal
 pub taken_not_refused : (kind : Kind) (line : List ℕ) (parts : Parts) (fault : LineFault) → HasSoundParts kind line parts → IsLineRefused kind line fault → ⊥
 taken_not_refused kind line parts fault taken refused = taken.sound fault refused.breaks
+
+-- ---- a line that is too long
+
+-- there is no rule before the first
+some_rule : (fault : LineFault) → 0 < rule_number fault
+some_rule LineTooLong = omega arith
+some_rule NoName = omega arith
+some_rule NameTooLong = omega arith
+some_rule NoPassword = omega arith
+some_rule (Password fault) = omega arith
+some_rule (Setting fault) = omega arith
+some_rule OverBudget = omega arith
+
+too_long-refused : (kind : Kind) (line : List ℕ) → IsTooLong line → IsLineRefused kind line LineTooLong
+too_long-refused kind line long = record {
+  breaks = long;
+  first = λ earlier before. absurd (omega (arith, some_rule earlier, before));
+}
+
+-- so its refusal is what it comes to, whatever its bytes are
+pub too_long-decided : (kind : Kind) (job : Job) (line : List ℕ) (stream : Stream) → IsTooLong line
+    → IsDecision kind job line stream (refusal LineTooLong stream)
+too_long-decided kind job line stream long = refused LineTooLong (too_long-refused kind line long) refl

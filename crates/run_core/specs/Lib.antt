@@ -1,7 +1,7 @@
 pub mod Answers
-pub mod Budgets
 pub mod Devices
 pub mod Input
+pub mod JobOptions
 pub mod LineAnswers
 pub mod LineFaults
 pub mod LineOptions
@@ -13,7 +13,6 @@ pub mod One
 pub mod Outcomes
 pub mod Output
 pub mod Private
-pub mod Rehashes
 pub mod RunFaults
 pub mod Runs
 pub mod Tallies

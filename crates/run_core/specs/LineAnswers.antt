@@ -6,11 +6,10 @@ use Rattle.crypt_core.specs.Crypt.{crypt}
 use Rattle.crypt_core.specs.Settings.{SettingValue, Spells}
 use Rattle.crypt_core.specs.StoredFields.{IsLocked}
 use Rattle.run_core.specs.Answers.{Answer, Hashing, hashing, new_hash, new_hashing, no_answer, wanted_text, work_of}
-use Rattle.run_core.specs.Budgets.{IsAbove}
+use Rattle.run_core.specs.JobOptions.{IsAbove, check_cost, is_outdated}
 use Rattle.run_core.specs.Lines.{Parts, HasParts, IsLineRefused, IsSound}
 use Rattle.run_core.specs.Makers.{made_cost_by, stream_after}
 use Rattle.run_core.specs.Outcomes.{rendered, tally_of}
-use Rattle.run_core.specs.Rehashes.{check_cost, is_outdated}
 use Rattle.run_core.specs.Tallies.{refused_line}
 use Rattle.run_core.specs.Texts.{as_line, colon, program_front}
 use Rattle.run_core.specs.declared.answer.Outcome.{Outcome}

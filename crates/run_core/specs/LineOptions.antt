@@ -5,10 +5,9 @@ use Rattle.crypt_core.specs.Crypt.{crypt}
 use Rattle.crypt_core.specs.Settings.{SettingValue}
 use Rattle.crypt_core.specs.StoredFields.{IsStored}
 use Rattle.run_core.specs.Answers.{Answer}
-use Rattle.run_core.specs.Budgets.{without_budget}
+use Rattle.run_core.specs.JobOptions.{is_outdated, without_budget, without_rehash}
 use Rattle.run_core.specs.LineAnswers.{HasSetting, IsAnswer, IsCostly, refused_answer}
 use Rattle.run_core.specs.Lines.{HasParts, Parts}
-use Rattle.run_core.specs.Rehashes.{is_outdated, without_rehash}
 use Rattle.run_core.specs.declared.job.Job.{Job}
 use Rattle.run_core.specs.declared.line.Kind.{Kind}
 use Rattle.run_core.specs.declared.line.LineFault.TheVariants.{OverBudget}

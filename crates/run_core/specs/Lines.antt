@@ -41,6 +41,9 @@ line_limit = 2048
 abbrev pub name_limit : ℕ
 name_limit = 64
 
+abbrev pub IsTooLong : List ℕ → Type 0
+IsTooLong line = line_limit < length line
+
 abbrev pub rule_number : LineFault → ℕ
 rule_number LineTooLong = 1
 rule_number NoName = 2
@@ -52,7 +55,7 @@ rule_number OverBudget = 7
 
 -- the rule of a refusal holds of the line
 abbrev pub Breaks : Kind → LineFault → List ℕ → Type 0
-Breaks kind LineTooLong line = line_limit < length line
+Breaks kind LineTooLong line = IsTooLong line
 Breaks kind NoName line = HasName line []
 Breaks kind NameTooLong line = (name : List ℕ) × HasName line name × (name_limit < length name)
 Breaks kind NoPassword line = (parts : Parts) → ¬ HasParts kind line parts

@@ -1,18 +1,18 @@
 //! Answers: what a password or a line comes to, a value, and its text, which is made once, after all work is done.
 ghost use Rattle.std.specs.Prelude.{◌≡◌, ◌+◌, ◌*◌, ◌<◌, ◌≤◌, ◌++◌, ◌↔◌, [], IsTrue, length, IfOk, OnOk, OnErr};
 ghost use Rattle.arrayvec.specs.ArrayVec.{array_vec_len};
-ghost use Rattle.crypt_core.specs.Crypt.{IsAfterRefusedGrowth, hash_limit};
+ghost use Rattle.crypt_core.specs.Crypt.{IsAfterRefusedGrowth};
 ghost use Rattle.crypt_core.specs.Passwords.{password_limit};
 ghost use Rattle.crypt_core.specs.Work.{raised_by, work, work_limit};
 ghost use Rattle.prims_core.specs.Meter.{HasRoom};
 ghost use Rattle.prims_core.specs.Work.{IsWithin};
 ghost use Rattle.run_core.specs.Answers.{count_text, new_hash, wanted_text, work_text};
-ghost use Rattle.run_core.specs.Budgets.{IsAbove};
+ghost use Rattle.run_core.specs.JobOptions.{IsAbove};
 ghost use Rattle.run_core.specs.LineAnswers.{refusal_text};
 ghost use Rattle.run_core.specs.Lines.{name_limit};
 ghost use Rattle.run_core.specs.Makers.{bytes_of, next_setting, stream_after};
 ghost use Rattle.run_core.specs.Outcomes.{rendered};
-ghost use Rattle.run_core.specs.Private.Answers.{Checks, Decides, IsRaisedBelow, Settles, field_cost, front_by};
+ghost use Rattle.run_core.specs.Private.Answers.{Decides, IsRaisedBelow, Settles, field_cost, front_by};
 ghost use Rattle.run_core.specs.Private.Headroom.{HasCountsForLine, answer_limit, count_limit, front_limit, line_work_limit};
 ghost use Rattle.run_core.specs.Texts.{as_line};
 
@@ -21,7 +21,7 @@ use crate::line::{Kind, Line, LineFault, NAME_LIMIT, read_line};
 use arrayvec::ArrayVec;
 use crypt_core::hash::{HASH_LIMIT, HashFault, Hashed, hash};
 use crypt_core::password::Password;
-use crypt_core::stored::{StoredField, StoredHash};
+use crypt_core::stored::StoredField;
 use crypt_core::work::cost;
 use itoa::Buffer;
 use prims_core::meter::{Meter, Work};
@@ -145,7 +145,8 @@ fn cost_of(job: &Job, line: &Line<'_>) -> u64
     }
 }
 
-// What a line that isn't refused comes to.
+// What a line that isn't refused comes to: a password is compared with its stored hash, and gets a new one in place of
+// one that is out of date.
 fn outcome_of<R: Rng>(
     alloc: Global,
     job: &Job,
@@ -158,28 +159,15 @@ fn outcome_of<R: Rng>(
     ensures rises { IsWithin meter.old meter.new }
     ensures small { IsRaisedBelow line_work_limit meter.old meter.new }
 {
-    match &line.field {
-        None => Ok(Outcome::Hashed(make_hash(alloc, job, &line.password, rng, meter)?)),
-        Some(StoredField::Empty) => Ok(Outcome::NoHash),
-        Some(StoredField::Locked) => Ok(Outcome::Locked),
-        Some(StoredField::Hash(stored)) => check(alloc, job, &line.password, stored, rng, meter),
-    }
-}
-
-// Compares a password with its stored hash, and makes a new one in place of one that is out of date.
-fn check<R: Rng>(
-    alloc: Global,
-    job: &Job,
-    password: &Password,
-    stored: &StoredHash<'_>,
-    rng: &mut R,
-    meter: &mut Meter,
-) -> Result<Outcome, HashFault>
-    requires { HasCountsForLine meter.old }
-    ensures checks { Checks job.now password.now stored.now (R.stream rng.old) meter.old meter.new (R.stream rng.new) result }
-    ensures rises { IsWithin meter.old meter.new }
-    ensures small { IsRaisedBelow line_work_limit meter.old meter.new }
-{
+    let password = &line.password;
+    let Some(field) = &line.field else {
+        return Ok(Outcome::Hashed(make_hash(alloc, job, password, rng, meter)?));
+    };
+    let stored = match field {
+        StoredField::Empty => return Ok(Outcome::NoHash),
+        StoredField::Locked => return Ok(Outcome::Locked),
+        StoredField::Hash(stored) => stored,
+    };
     if !stored.fits(alloc, password, meter)? {
         return Ok(Outcome::Mismatch);
     }
@@ -237,32 +225,23 @@ pub(crate) fn render(job: &Job, name: Option<&[u8]>, outcome: &Outcome, work: &W
         append(&mut text, name);
         text.push(b':');
     }
-    append_outcome(&mut text, outcome);
+    match outcome {
+        Outcome::Hashed(hash) => append(&mut text, hash.text()),
+        Outcome::Match => append(&mut text, b"ok"),
+        Outcome::Rehashed(hash) => {
+            append(&mut text, b"ok:");
+            append(&mut text, hash.text());
+        }
+        Outcome::Mismatch => append(&mut text, b"no"),
+        Outcome::NoHash => append(&mut text, b"none"),
+        Outcome::Locked => append(&mut text, b"locked"),
+        Outcome::Refused(fault) => append(&mut text, fault.text().as_bytes()),
+    }
     if job.work {
         append_counts(&mut text, work);
     }
     text.push(b'\n');
     text
-}
-
-// The text of an outcome, one row for each.
-fn append_outcome(text: &mut Text, outcome: &Outcome)
-    requires { array_vec_len text.old ≤ front_limit }
-    ensures text { text.new.items ≡ text.old.items ++ rendered outcome.now }
-    ensures short { array_vec_len text.new ≤ array_vec_len text.old + 3 + hash_limit }
-{
-    match outcome {
-        Outcome::Hashed(hash) => append(text, hash.text()),
-        Outcome::Match => append(text, b"ok"),
-        Outcome::Rehashed(hash) => {
-            append(text, b"ok:");
-            append(text, hash.text());
-        }
-        Outcome::Mismatch => append(text, b"no"),
-        Outcome::NoHash => append(text, b"none"),
-        Outcome::Locked => append(text, b"locked"),
-        Outcome::Refused(fault) => append(text, fault.text().as_bytes()),
-    }
 }
 
 // The counts `:digests:bytes:mixes:table`.

@@ -1,11 +1,10 @@
 //! The run for a single password: its hash, with its counts where they are wanted, and a line feed go to
 //! the output.
 ghost use Rattle.std.specs.Prelude.{◌≡◌, ◌+◌, ◌≤◌};
-ghost use Rattle.run_core.specs.Budgets.{without_budget};
+ghost use Rattle.run_core.specs.JobOptions.{without_budget, without_rehash};
 ghost use Rattle.run_core.specs.Devices.{HasRoomBeforeRun, HasRoomWithinRun, HaveRoomBeforeRun, MovesBytes, turns_limit};
 ghost use Rattle.run_core.specs.One.{EndsOne};
 ghost use Rattle.run_core.specs.Private.Fetching.{ObtainsFrom};
-ghost use Rattle.run_core.specs.Rehashes.{without_rehash};
 ghost use Rattle.run_core.specs.Runs.{run_state, device_bytes, HasCountsForRun, IsWithinTurns};
 
 mod password;

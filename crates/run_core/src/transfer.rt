@@ -3,7 +3,7 @@
 ghost use Rattle.std.specs.Prelude.{◌≡◌, ◌+◌, ◌-◌, ◌^◌, ◌<◌, ◌≤◌, ◌==◌, length, position, OnOk};
 ghost use Rattle.run_core.specs.Devices.{HasRoomWithinRun, MovesBytes, turns_limit};
 ghost use Rattle.run_core.specs.Output.{Shows, ShowsOutcome};
-ghost use Rattle.run_core.specs.Private.Deliveries.{Delivers, FinishesBoth, FinishesOutput};
+ghost use Rattle.run_core.specs.Private.Deliveries.{Delivers, FinishesBoth};
 ghost use Rattle.run_core.specs.Private.Fetching.{Fetches};
 ghost use Rattle.run_core.specs.Texts.{line_feed};
 
@@ -92,7 +92,10 @@ pub fn show<O: Write>(out: &mut Output<O>, text: &[u8], turns: u64) -> Result<()
 {
     let mut left = turns;
     send(out, text, &mut left)?;
-    finish(out)
+    let Ok(()) = out.flush() else {
+        return Err(RunFault::Write);
+    };
+    Ok(())
 }
 
 /// Flushes both outputs at the end of a run, which takes no byte and no turn. `Write` is answered after the first
@@ -105,19 +108,13 @@ pub(crate) fn finish_both<O: Write, E: Write>(
     requires faults_room { (faults.old.failures < 2 ^ 64 - 1) × (faults.old.flushes < 2 ^ 64 - 1) }
     ensures finishes { FinishesBoth O.contents E.contents out.old faults.old out.new faults.new result }
 {
-    finish(out)?;
-    finish(faults)
-}
-
-// Flushes one output.
-fn finish<O: Write>(out: &mut Output<O>) -> Result<(), RunFault>
-    requires room { (out.old.failures < 2 ^ 64 - 1) × (out.old.flushes < 2 ^ 64 - 1) }
-    ensures finishes { FinishesOutput O.contents out.old out.new result }
-{
-    match out.flush() {
-        Ok(()) => Ok(()),
-        Err(_) => Err(RunFault::Write),
-    }
+    let Ok(()) = out.flush() else {
+        return Err(RunFault::Write);
+    };
+    let Ok(()) = faults.flush() else {
+        return Err(RunFault::Write);
+    };
+    Ok(())
 }
 
 #[cfg(test)]

@@ -10,7 +10,7 @@ use Rattle.crypt_core.specs.declared.stored.StoredField.TheVariants as fields
 use Rattle.run_core.specs.Answers.{Hashing, IsRefusedAmong, after_work, hashing, new_hash, new_hashing}
 use Rattle.run_core.specs.LineAnswers.{Decision, IsDecision, front_of}
 use Rattle.run_core.specs.Makers.{made_cost_by, stream_after}
-use Rattle.run_core.specs.Rehashes.{check_cost, is_outdated}
+use Rattle.run_core.specs.JobOptions.{check_cost, is_outdated}
 use Rattle.run_core.specs.declared.answer.LineAnswer.{LineAnswer}
 use Rattle.run_core.specs.declared.answer.Outcome.{Outcome}
 use Rattle.run_core.specs.declared.answer.Outcome.TheVariants.{Hashed, Match, Rehashed, Mismatch, NoHash, Locked, Refused}
@@ -54,12 +54,6 @@ IsChecked job password stored stream hashings left outcome = ⊥
 abbrev pub IsResult : (Outcome → Type 0) → Result Outcome HashFault → Outcome → Type 0
 IsResult Is (Ok made) outcome = Is outcome × (made ≡ outcome)
 IsResult Is (Err fault) outcome = Is outcome
-
-abbrev pub Checks : Job → List ℕ → StoredHash → Stream → Work → Work → Stream → Result Outcome HashFault → Type 0
-Checks job password stored stream before after new_stream result =
-    (outcome : Outcome) × (hashings : List Hashing) × (left : Stream)
-    × IsResult (IsChecked job password stored stream hashings left) result outcome
-    × Makes hashings left before after new_stream result
 
 -- what a password comes to, by its field
 abbrev pub IsSettled : Job → List ℕ → Option StoredField → Stream → List Hashing → Stream → Outcome → Type 0

@@ -34,10 +34,6 @@ module _ {T : Type 0} (contents : T → Option (List ℕ)) where
     pub failed : FailsOnce old new
     pub flush_failed : FailsToFlush old new
 
-  abbrev pub FinishesOutput : Device T → Device T → {A : Type 0} → Result A RunFault → Type 0
-  FinishesOutput old new (Ok done) = IsFinished old new
-  FinishesOutput old new (Err fault) = (fault ≡ Write) × IsUnfinished old new
-
 module _ {O E : Type 0} (contents : O → Option (List ℕ)) (fault_contents : E → Option (List ℕ)) where
   -- both outputs are flushed; or only up to the first flush that failed
   abbrev pub FinishesBoth : Device O → Device E → Device O → Device E → {A : Type 0} → Result A RunFault → Type 0

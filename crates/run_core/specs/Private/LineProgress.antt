@@ -8,7 +8,7 @@ use Rattle.run_core.specs.Devices.{Device, IsUnfailed, MovesBytes, calls_limit, 
 use Rattle.run_core.specs.Input.{Reads}
 use Rattle.run_core.specs.LineAnswers.{IsAnswer}
 use Rattle.run_core.specs.LineRuns.{AreAnswers, EndsLines, IsReadOut, lines_of, piece_size, with_line_feeds}
-use Rattle.run_core.specs.Lines.{line_limit}
+use Rattle.run_core.specs.Lines.{IsTooLong}
 use Rattle.run_core.specs.Output.{Takes}
 use Rattle.run_core.specs.Private.Deliveries.{IsSentInPart, Sends}
 use Rattle.run_core.specs.Private.Headroom.{HasCountsFor, HasRoomFor, IsTallied, lines_limit}
@@ -28,7 +28,7 @@ use Rattle.run_core.specs.declared.tally.Tally.{Tally}
 -- a buffer stands for the part of a line that was read: it has the same bytes, or both are too long
 abbrev pub Represents : LineBuffer → List ℕ → Type 0
 Represents (Bytes bytes) line = bytes.items ≡ line
-Represents TooLong line = line_limit < length line
+Represents TooLong line = IsTooLong line
 
 -- what the references of a run lead to: two outputs, a generator and a meter
 pub record OutputState (O E : Type 0) : Type 0 where

@@ -21,7 +21,7 @@ fn send_to(
     let mut out = Output::new(writer);
     let mut left = turns;
     let outcome = match send(&mut out, text, &mut left) {
-        Ok(()) => finish(&mut out),
+        Ok(()) => out.flush().map_err(|_| RunFault::Write),
         Err(fault) => Err(fault),
     };
     (outcome, left, out.into_inner())

@@ -10,7 +10,7 @@ use Rattle.run_core.specs.declared.answer.Outcome.TheVariants.{Hashed}
 use Rattle.run_core.specs.declared.job.Job.{Job}
 use Rattle.std.proofs.lemmas.Result.{err_from_is_err_and}
 use Rattle.run_core.specs.Runs.{run_state, device_bytes}
-use Rattle.run_core.proofs.Budgeting.{unoptioned}
+use Rattle.run_core.proofs.LineOptions.{unoptioned}
 use Rattle.run_core.proofs.Ending as ending
 use Rattle.run_core.proofs.Counting.{after_hashings, small_rise}
 use Rattle.run_core.proofs.one.run_one.Goals as goal

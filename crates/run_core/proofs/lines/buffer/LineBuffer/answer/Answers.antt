@@ -3,7 +3,7 @@ use Rattle.run_core.specs.LineAnswers.{refusal}
 use Rattle.run_core.specs.Private.LineProgress.{Represents}
 use Rattle.run_core.specs.declared.line.LineFault.TheVariants.{LineTooLong}
 use Rattle.run_core.specs.declared.lines.buffer.LineBuffer.{LineBuffer}
-use Rattle.run_core.proofs.Answering.{too_long-decided}
+use Rattle.run_core.proofs.LineRules.{too_long-decided}
 use Rattle.run_core.proofs.lines.buffer.LineBuffer.answer.Goals as goal
 
 pub returns-in-TooLong-clause-decides : goal.returns-in-TooLong-clause-decides

@@ -1,10 +1,20 @@
--- New hashes in place of old ones: which stored settings are out of date, and what a check costs with them.
-use Rattle.std.specs.Prelude.{ℕ, ◌+◌, ◌&&◌, Bool, false, if◌then◌else◌}
+-- What the options of a job change: a budget, which limits what hashing for a line may cost, and new hashes in place of
+-- those that are out of date.
+use Rattle.std.specs.Prelude.{ℕ, ◌+◌, ◌<◌, ◌&&◌, Bool, false, Option, Some, None, if◌then◌else◌}
 use Rattle.crypt_core.specs.Replacements.{is_replaced_by}
 use Rattle.crypt_core.specs.Settings.{SettingValue}
 use Rattle.crypt_core.specs.Work.{cost}
 use Rattle.run_core.specs.Makers.{made_cost_by}
 use Rattle.run_core.specs.declared.job.Job.{Job}
+
+-- the number is above the budget; at it, it isn't, and without one none is
+abbrev pub IsAbove : Option ℕ → ℕ → Type 0
+IsAbove None number = ⊥
+IsAbove (Some budget) number = budget < number
+
+-- the same job without a budget
+abbrev pub without_budget : Job → Job
+without_budget job = record job { budget = None }
 
 -- new hashes are wanted, and the scheme of these replaces that of the setting
 abbrev pub is_outdated : Job → SettingValue → Bool

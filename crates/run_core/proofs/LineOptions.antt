@@ -1,5 +1,5 @@
--- What a budget changes of the answers to lines, and that options of lines change nothing for a single password.
-use Rattle.std.proofs.Common.{◌≡◌, ℕ, List, [], ◌++◌, Some, Result, Ok, Err, codes, slice_index, inl, inr, refl, sym, subst, ◌∙◌, ap, arith}
+-- What a budget and new hashes change of the answers to lines, and that they change nothing for a single password.
+use Rattle.std.proofs.Common.{◌≡◌, ℕ, List, [], ◌++◌, Some, Result, Ok, Err, codes, slice_index, inl, inr, refl, sym, subst, ◌∙◌, ap, arith, ◌≤◌, ◌⊎◌, Bool, true, false, true≢false, length, Option, None}
 use Rattle.std.proofs.lemmas.Option.{none-some}
 use Rattle.rand_core.specs.Stream.{Stream}
 use Rattle.crypt_core.specs.Methods.{prefix}
@@ -8,14 +8,13 @@ use Rattle.crypt_core.specs.Schemes.{method_of}
 use Rattle.crypt_core.specs.declared.method.Method.{Method}
 use Rattle.crypt_core.specs.declared.method.Method.TheVariants.{Md5crypt, Sha256crypt, Sha512crypt, Scrypt}
 use Rattle.run_core.specs.Answers.{Answer}
-use Rattle.run_core.specs.Budgets.{without_budget}
-use Rattle.run_core.specs.LineAnswers.{Decision, IsAnswer, IsCostly, IsDecision, decided_answer, refusal, refused_answer}
+use Rattle.run_core.specs.JobOptions.{without_budget, without_rehash, IsAbove, check_cost, is_outdated}
+use Rattle.run_core.specs.LineAnswers.{Decision, IsAnswer, IsCostly, IsDecision, decided_answer, refusal, refused_answer, HasSetting}
 use Rattle.run_core.specs.LineAnswers.IsDecision.{refused, over, hashed, none, locked, ok, rehashed, no}
-use Rattle.run_core.specs.LineOptions.{OnlyRefuses}
+use Rattle.run_core.specs.LineOptions.{OnlyRefuses, IsRenewable, OnlyRenews, RenewsNone}
 use Rattle.crypt_core.specs.StoredFields.{IsStored}
 use Rattle.run_core.specs.Lines.{HasParts, Parts}
 use Rattle.run_core.specs.One.{EndsBy, EndsByInput, EndsOne}
-use Rattle.run_core.specs.Rehashes.{without_rehash}
 use Rattle.run_core.specs.Runs.{RunState, DeviceBytes}
 use Rattle.run_core.specs.declared.fault.RunFault.{RunFault}
 use Rattle.run_core.specs.declared.fault.RunFault.TheVariants.{Read, Write, OutOfMemory, Turns, Password}
@@ -26,6 +25,8 @@ use Rattle.run_core.specs.declared.line.Kind.{Kind}
 use Rattle.run_core.specs.declared.line.LineFault.TheVariants.{OverBudget}
 use Rattle.run_core.specs.declared.tally.Tally.{Tally}
 use Rattle.run_core.proofs.Cuts.{parts_unique}
+use Rattle.crypt_core.specs.Crypt.{crypt}
+use Rattle.run_core.specs.declared.line.Kind.TheVariants.{Batch}
 
 -- ---- lines
 
@@ -151,3 +152,95 @@ module _ {I O E : Type 0} where
   unoptioned device_bytes turns job (Word bytes) old new result ends = (ends.0, unoptioned-by device_bytes turns job bytes.items old new result ends.1)
   unoptioned device_bytes turns job Input old new result ends =
       (ends.0, ends.1, unoptioned-input device_bytes turns job ends.0 old new result ends.2)
+
+-- ---- new hashes
+
+-- a check costs no less with new hashes
+same_or_more : (job : Job) (kept : SettingValue) (password : ℕ)
+    → check_cost (without_rehash job) kept password ≤ check_cost job kept password
+same_or_more job kept password = omega arith
+
+-- what is above a budget is above it with more
+still_above : (budget : Option ℕ) (number more : ℕ) → number ≤ more → IsAbove budget number → IsAbove budget more
+still_above None number more at_most above = above
+still_above (Some budget) number more at_most above = omega (arith, at_most, above)
+
+module _ (kind : Kind) (job : Job) (line : List ℕ) (stream : Stream) where
+  -- so what is too much without them is too much with them
+  costly-renewed : IsCostly kind (without_rehash job) line → IsCostly kind job line
+  costly-renewed costly = elim costly.cost [
+    | inl made ↦ record { parts = costly.parts; taken = costly.taken; number = costly.number; cost = inl made; above = costly.above }
+    | inr (field, kept, has, spells, is) ↦ record {
+      parts = costly.parts;
+      taken = costly.taken;
+      number = check_cost job kept (length costly.parts.password);
+      cost = inr (field, kept, has, spells, refl);
+      above = still_above job.budget costly.number _ (rw is (same_or_more job kept (length costly.parts.password))) costly.above;
+    }
+  ]
+
+  module _ (still : ¬ IsRenewable kind job line) where
+    -- where the password fits, or the line is costly, no setting of the field is out of date
+    recent : (parts : Parts) (field : List ℕ) (kept : SettingValue) → HasSetting kind line parts field kept
+        → (crypt parts.password kept ≡ field) ⊎ IsCostly kind job line → is_outdated job kept ≡ false
+    recent parts field kept stored why = go (is_outdated job kept) refl
+      where
+        go : (outdated : Bool) → is_outdated job kept ≡ outdated → is_outdated job kept ≡ false
+        go true is = absurd (still (record { parts = parts; field = field; kept = kept; stored = stored; outdated = is; fits_or_costly = why }))
+        go false is = is
+
+    -- so it costs the same
+    same_check_cost : (kept : SettingValue) (password : ℕ) → is_outdated job kept ≡ false
+        → check_cost job kept password ≡ check_cost (without_rehash job) kept password
+    same_check_cost kept password is = rw is refl
+
+    costly-unrenewed : IsCostly kind job line → IsCostly kind (without_rehash job) line
+    costly-unrenewed costly = record {
+      parts = costly.parts;
+      taken = costly.taken;
+      number = costly.number;
+      cost = elim costly.cost [
+        | inl made ↦ inl made
+        | inr (field, kept, has, spells, is) ↦
+            inr (field, kept, has, spells, is ∙ same_check_cost kept _ (recent costly.parts field kept (record { taken = costly.taken; has = has; spells = spells }) (inr costly)))
+      ];
+      above = costly.above;
+    }
+
+    decision-unrenewed : (made : Decision) → IsDecision kind job line stream made → IsDecision kind (without_rehash job) line stream made
+    decision-unrenewed made (refused fault breaks is) = refused fault breaks is
+    decision-unrenewed made (over costly is) = over (costly-unrenewed costly) is
+    decision-unrenewed made (hashed parts taken lacks cheap is) = hashed parts taken lacks (λ costly. cheap (costly-renewed costly)) is
+    decision-unrenewed made (none parts taken empty is) = none parts taken empty is
+    decision-unrenewed made (locked parts field taken has is_locked is) = locked parts field taken has is_locked is
+    decision-unrenewed made (ok parts field kept stored cheap same new is) =
+        ok parts field kept stored (λ costly. cheap (costly-renewed costly)) same refl is
+    decision-unrenewed made (rehashed parts field kept stored cheap same outdated is) =
+        absurd (true≢false (sym outdated ∙ recent parts field kept stored (inl same)))
+    decision-unrenewed made (no parts field kept stored cheap differs is) =
+        no parts field kept stored (λ costly. cheap (costly-renewed costly)) differs is
+
+    decision-renewed : (made : Decision) → IsDecision kind (without_rehash job) line stream made → IsDecision kind job line stream made
+    decision-renewed made (refused fault breaks is) = refused fault breaks is
+    decision-renewed made (over costly is) = over (costly-renewed costly) is
+    decision-renewed made (hashed parts taken lacks cheap is) = hashed parts taken lacks (λ costly. cheap (costly-unrenewed costly)) is
+    decision-renewed made (none parts taken empty is) = none parts taken empty is
+    decision-renewed made (locked parts field taken has is_locked is) = locked parts field taken has is_locked is
+    decision-renewed made (ok parts field kept stored cheap same new is) =
+        ok parts field kept stored (λ costly. cheap (costly-unrenewed costly)) same (recent parts field kept stored (inl same)) is
+    decision-renewed made (rehashed parts field kept stored cheap same outdated is) = cc
+    decision-renewed made (no parts field kept stored cheap differs is) =
+        no parts field kept stored (λ costly. cheap (costly-unrenewed costly)) differs is
+
+pub only_renews : (kind : Kind) (job : Job) → OnlyRenews kind job
+only_renews kind job number line stream answer still = (
+  λ is. (is.0, decision-unrenewed kind job line stream still is.0 is.1, is.2),
+  λ is. (is.0, decision-renewed kind job line stream still is.0 is.1, is.2),
+)
+
+-- a line of a batch has no field
+batch-still : (job : Job) (line : List ℕ) → ¬ IsRenewable Batch job line
+batch-still job line renewable = none-some renewable.field (sym renewable.stored.taken.cut.1 ∙ renewable.stored.has)
+
+pub batch_renews_none : (job : Job) → RenewsNone Batch job
+batch_renews_none job number line stream answer = only_renews Batch job number line stream answer (batch-still job line)
