@@ -21,7 +21,7 @@ for my $kind (qw(hash hostile)) {
         for (grep { $_->[0] eq $kind } @chunks) {
             for (runs(1, @$_)) {
                 my ($job, $input) = @$_;
-                my $run = run({ stdin => $input, timeout => 300 }, program(), @{ $job->{words} });
+                my $run = run({ stdin => $input }, program(), @{ $job->{words} });
                 is(join("\n", differences($job, $input, $run)), '', 'lines by ' . (join(' ', @{ $job->{words} }) =~ s/\s+/ /gr)) or return;
             }
         }

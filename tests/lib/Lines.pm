@@ -230,8 +230,7 @@ my @check_limit_lines = (
 );
 
 sub limit_line {
-    my ($job) = @_;
-    return one_of(@limit_lines)->('') if !$job->{is_check};
+    return one_of(@limit_lines)->('') if !$_[0]{is_check};
     return chance(0.5) ? one_of(@check_limit_lines)->() : one_of(@limit_lines)->(one_of('!', '*') . ':');
 }
 
@@ -264,8 +263,7 @@ my @plans = map { my $kind = $_; map { [$kind, $_] } 1 .. min(16, $most_salt{$ki
 push @plans, map { [7] } 1 .. 8;
 my %types = (1 => 'md5crypt', 5 => 'sha256crypt', 6 => 'sha512crypt', 7 => 'scrypt');
 
-# How many bytes the password of a hash line has: for each fourth line the next length, and else a few; seldom more
-# than libxcrypt takes.
+# The length of a hash line's password: for each fourth line the next one, and else a few bytes; seldom more than 511.
 sub hash_length {
     my ($place, $most) = @_;
     return between(512, 1024) if $most == 512 && chance(0.01);
@@ -306,7 +304,7 @@ sub hash_chunk {
 
 sub name_of_hash { return bytes_without(between(1, 64), ":\n") }
 
-# These names and passwords go through --batch, by one more run. Each is returned with its stored text between the two.
+# These names and passwords go through --batch, by one more run. Each is returned with its hash between the two.
 sub hashed {
     my ($runs, $job, @lines) = @_;
     push @$runs, [$job, join '', map { "$_->[0]:$_->[1]\n" } @lines];
@@ -376,21 +374,18 @@ sub dear_lines {
 # A line that mostly takes no longer than two milliseconds, or is refused by most budgets.
 sub cheap_line {
     my ($job, $hashes) = @_;
-    my $line;
     for my $try (1 .. 4) {
-        $line = hostile_line($job, $hashes) =~ tr/\n/\r/r;
+        my $line = hostile_line($job, $hashes) =~ tr/\n/\r/r;
         my $cost = judged($job, $line)->{cost} // 0;
-        last if $cost < $dear / 10 || $cost > $dear || chance(0.1);
+        return $line if $cost < $dear / 10 || $cost > $dear || chance(0.1) || $try == 4;
     }
-    return $line;
 }
 
 sub hostile_chunk {
     my (undef, $count) = @_;
     saw('hostile lines') for 1 .. $count;
     my @flags = chance(0.35) ? '--batch' : ('--check', chance(0.45) ? '--rehash' : ());
-    my $has_words = $flags[0] eq '--batch' || @flags > 1;
-    my $made = $has_words ? hostile_words() : undef;
+    my $made = $flags[0] eq '--batch' || @flags > 1 ? hostile_words() : undef;
     my $may_be_dear = $made && $made->{kind} == 7 && chance(0.5);
     $made->{cost} = 6 if $may_be_dear;
     push @flags, '--work' if chance(0.4);
@@ -398,13 +393,9 @@ sub hostile_chunk {
     my @hashes = $job->{is_check} ? good_hashes() : ();
     local %Model::seen;    # of what is only looked at here nothing is counted
     my @lines = map { cheap_line($job, \@hashes) } 1 .. $count;
-    my %is_dear;
-    if ($may_be_dear) {
-        %is_dear = map { int rand @lines => 1 } 1, 2;
-        $lines[$_] = dear_lines($job) for sort keys %is_dear;
-    }
-    my @costs = map { judged($job, $_)->{cost} // () } @lines;
-    $job->{budget} = budget(@costs);
+    my %is_dear = $may_be_dear ? map { int rand @lines => 1 } 1, 2 : ();
+    $lines[$_] = dear_lines($job) for sort keys %is_dear;
+    $job->{budget} = budget(map { judged($job, $_)->{cost} // () } @lines);
     $job->{budget} = one_of(undef, 80_000_000, 160_000_000) if $may_be_dear;
     for my $place (0 .. $#lines) {
         my $cost = judged($job, $lines[$place])->{cost} // 0;

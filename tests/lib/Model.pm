@@ -96,10 +96,7 @@ sub read_setting {
 }
 
 # A number of rounds, of any length, as it is held.
-sub held {
-    my ($digits) = @_;
-    return length $digits > 9 ? $limits{most_rounds} : max($limits{least_rounds}, $digits);
-}
+sub held { return length $_[0] > 9 ? $limits{most_rounds} : max($limits{least_rounds}, $_[0]) }
 
 # The setting that the words mean. Where the salt is drawn, any other of that length stands in its place.
 sub made_setting {
@@ -123,8 +120,7 @@ sub counts {
     my ($setting, $length, $byte) = @_;
     my ($kind, $salt) = ($setting->{kind}, length $setting->{salt});
     if ($kind == 7) {
-        my ($n, $r, $p) = (2 ** $setting->{log}, $setting->{r}, $setting->{p});
-        my $is_long = $length > 64 ? 1 : 0;
+        my ($n, $r, $p, $is_long) = (2 ** $setting->{log}, $setting->{r}, $setting->{p}, $length > 64 ? 1 : 0);
         return (8 * $r * $p + 2 + $is_long, $is_long * $length + 4 * $r * $p * (164 + $salt) + 164 + 128 * $r * $p,
             2 * $n * $p, 128 * $n * $r);
     }
@@ -148,9 +144,8 @@ sub cost {
 # The exact counts of the hash of a password.
 sub work_of {
     my ($setting, $password) = @_;
-    my ($kind, $byte) = ($setting->{kind}, 0);
-    $byte = ord second_digest($kind, $password, $setting->{salt}) if $kind == 5 || $kind == 6;
-    return counts($setting, length $password, $byte);
+    my $is_sha = $setting->{kind} == 5 || $setting->{kind} == 6;
+    return counts($setting, length $password, $is_sha && ord second_digest($setting->{kind}, $password, $setting->{salt}));
 }
 
 # ---- Hashes
@@ -165,20 +160,15 @@ my %order = (
 
 sub packed {
     my ($kind, $digest) = @_;
-    my $text = '';
-    for my $group (split /,/, $order{$kind}) {
-        my ($number, @places) = (0, split / /, $group);
+    return join '', map {
+        my ($number, @places) = (0, split / /);
         $number = $number << 8 | ord substr $digest, $_, 1 for @places;
-        $text .= numeral($number, @places + 1);
-    }
-    return $text;
+        numeral($number, @places + 1);
+    } split /,/, $order{$kind};
 }
 
-# So many bytes, the given ones again and again.
-sub cycle {
-    my ($bytes, $length) = @_;
-    return substr $bytes x (1 + $length / length $bytes), 0, $length;
-}
+# Given bytes again and again, so many.
+sub cycle { return substr $_[0] x (1 + $_[1] / length $_[0]), 0, $_[1] }
 
 # A of md5crypt and SHA-crypt, the digest of the second message.
 sub second_digest {
@@ -249,8 +239,8 @@ sub rom_mix {
 sub scrypt {
     my ($setting, $password) = @_;
     my ($n, $r, $p) = (2 ** $setting->{log}, $setting->{r}, $setting->{p});
-    my $blocks = join '', map { hmac_sha256($setting->{salt} . pack('N', $_), $password) } 1 .. 4 * $r * $p;
-    my $mixed = join '', map { rom_mix($_, $n) } unpack '(a' . 128 * $r . ')*', $blocks;
+    my $parts = join '', map { hmac_sha256($setting->{salt} . pack('N', $_), $password) } 1 .. 4 * $r * $p;
+    my $mixed = join '', map { rom_mix($_, $n) } unpack '(a' . 128 * $r . ')*', $parts;
     return hmac_sha256($mixed . pack('N', 1), $password);
 }
 
@@ -261,10 +251,8 @@ sub made_by_hand {
     return "$setting->{front}\$" . packed($setting->{kind}, $digest);
 }
 
-# The same, libxcrypt's wherever it takes the two, or nothing where it would take long. Hashes are kept until they are
-# forgotten.
+# The same, libxcrypt's wherever it takes the two, or nothing where it would take long. Hashes are kept until forgotten.
 my (%kept, %is_by_hand);
-
 sub forget { %kept = %is_by_hand = () }
 
 sub hash_of {
@@ -317,6 +305,7 @@ sub judged {
     return { refusal => 'password too long' } if $length > $limits{password};
     return { refusal => 'password has a zero byte' } if $password =~ /\0/;
     my %judged = (name => $name, password => $password);
+    $judged{cost} = cost($job->{setting}, $length) if !$job->{is_check};
     if ($job->{is_check}) {
         my $field = $fields[1];
         return { %judged, verdict => 'none', cost => 0 } if $field eq '';
@@ -327,8 +316,6 @@ sub judged {
         $judged{is_replaced} = $job->{is_rehash} && is_replaced($setting, $job->{setting});
         $judged{cost} = cost($setting, $length) + ($judged{is_replaced} ? cost($job->{setting}, $length) : 0);
         @judged{qw(field setting)} = ($field, $setting);
-    } else {
-        $judged{cost} = cost($job->{setting}, $length);
     }
     if (defined $job->{budget}) {
         saw('cost at the budget') if $judged{cost} == $job->{budget};
@@ -361,7 +348,7 @@ sub answer {
         $verdict = $is_fit // index($got, "${text}ok") == 0 ? 'ok' : 'no';
         @work = work_of($judged->{setting}, $password) if $job->{is_work};
     }
-    my $is_new = $verdict ? $verdict eq 'ok' && $judged->{is_replaced} : 1;
+    my $is_new = !$verdict || $verdict eq 'ok' && $judged->{is_replaced};
     $text .= $verdict . ($is_new ? ':' : '') if $verdict;
     if ($is_new) {
         my $setting = $job->{setting};
@@ -397,16 +384,11 @@ sub differences {
     my ($status, %salts, %is_told, @differences) = 0;
     for my $number (1 .. @lines) {
         my $judged = judged($job, $lines[$number - 1]);
-        my ($stream, $got, $wanted, $is_no) = ('output');
-        if (defined $judged->{refusal}) {
-            saw($judged->{refusal});
-            ($stream, $is_no) = ('fault output', 1);
-            $wanted = "mkpasswd: line $number: $judged->{refusal}\n";
-            $got = shift @faults // '';
-        } else {
-            $got = shift @answers // '';
-            ($wanted, $is_no) = answer($job, $judged, $got, \%salts);
-        }
+        my $refusal = $judged->{refusal};
+        my $stream = defined $refusal ? 'fault output' : 'output';
+        my $got = shift @{ defined $refusal ? \@faults : \@answers } // '';
+        saw($refusal) if defined $refusal;
+        my ($wanted, $is_no) = defined $refusal ? ("mkpasswd: line $number: $refusal\n", 1) : answer($job, $judged, $got, \%salts);
         $status = 1 if $is_no;
         next if $got eq $wanted || $is_told{$stream}++;
         push @differences, "line $number " . shown($lines[$number - 1]) . ": $stream " . shown($got) . ', and not ' . shown($wanted);
