@@ -5,6 +5,7 @@ use strict;
 use warnings;
 use FindBin qw($Bin);
 use lib "$Bin/lib";
+use Model ();
 use Suite;
 use Texts;
 use Test::More;
@@ -91,31 +92,43 @@ subtest 'limits' => sub {
     my $parallel = slurp("$root/bin/mkpasswd-parallel");
     my @said = (
         ['help', $help, 'password', qr/password, of at most ([\d,]+) bytes/],
-        ['help', $help, 'least scrypt cost', qr/(\d+) to \d+ for scrypt/],
-        ['help', $help, 'most scrypt cost', qr/\d+ to (\d+) for scrypt/],
+        ['help', $help, 'least_cost', qr/(\d+) to \d+ for scrypt/],
+        ['help', $help, 'most_cost', qr/\d+ to (\d+) for scrypt/],
         ['mkpasswd.h', $header, 'password', qr/MKPASSWD_PASSWORD_LIMIT (\d+)/],
         ['mkpasswd.h', $header, 'setting', qr/setting too long: more than (\d+) bytes/],
-        ['mkpasswd.h', $header, 'scrypt product', qr/N \* r \* p is above (\d+)/],
+        ['mkpasswd.h', $header, 'ceiling', qr/N \* r \* p is above (\d+)/],
         ['login.py', slurp("$root/examples/login.py"), 'password', qr/PASSWORD_LIMIT = (\d+)/],
         ['mkpasswd-parallel', $parallel, 'line', qr/longest_line = (\d+)/],
         ['manual', $manual, 'password', qr/A password has at most ([\d,]+) bytes/],
         ['manual', $manual, 'line', qr/line too long Ta it has more than ([\d,]+) bytes/],
         ['manual', $manual, 'name', qr/name too long Ta more than (\d+) bytes/],
         ['manual', $manual, 'setting', qr/setting too long Ta the field has more than (\d+) bytes/],
-        ['manual', $manual, 'scrypt product', qr/above ceiling Ta N \* r \* p is more than (\d+)/],
-        ['manual', $manual, 'least rounds', qr/One below (\d+) counts as/],
-        ['manual', $manual, 'most rounds', qr/one above (\d+) as that/],
+        ['manual', $manual, 'ceiling', qr/above ceiling Ta N \* r \* p is more than (\d+)/],
+        ['manual', $manual, 'least_rounds', qr/One below (\d+) counts as/],
+        ['manual', $manual, 'most_rounds', qr/one above (\d+) as that/],
         ['FORMATS.md', $formats, 'password', qr/^\| password \| ([\d,]+) bytes/m],
         ['FORMATS.md', $formats, 'line', qr/^\| line \| ([\d,]+) bytes/m],
         ['FORMATS.md', $formats, 'name', qr/^\| name in a line \| 1 to (\d+) bytes/m],
         ['FORMATS.md', $formats, 'setting', qr/^\| setting or stored text \| (\d+) bytes/m],
-        ['FORMATS.md', $formats, 'least rounds', qr/^\| rounds of SHA-crypt \| (\d+) to/m],
-        ['FORMATS.md', $formats, 'most rounds', qr/^\| rounds of SHA-crypt \| \d+ to (\d+)/m],
-        ['FORMATS.md', $formats, 'scrypt product', qr/^\| scrypt \| N \* r \* p at most (\d+)/m],
+        ['FORMATS.md', $formats, 'least_rounds', qr/^\| rounds of SHA-crypt \| (\d+) to/m],
+        ['FORMATS.md', $formats, 'most_rounds', qr/^\| rounds of SHA-crypt \| \d+ to (\d+)/m],
+        ['FORMATS.md', $formats, 'ceiling', qr/^\| scrypt \| N \* r \* p at most (\d+)/m],
     );
     for (@said) {
         my ($place, $text, $limit, $form) = @$_;
         is($text =~ $form ? $1 =~ tr/,//dr : undef, $limits{$limit}, "$place: limit of $limit");
+    }
+};
+
+subtest 'model' => sub {
+    my ($model, %limits) = (\%Model::limits, map { @$_ } facts('limit'));
+    is($model->{$_}, $limits{$_}, "model: limit of $_") for grep { !/_cost$/ } sort keys %limits;
+    is_deeply(\@Model::line_refusals, [map { $_->[0] } grep { $_->[2] } facts('refusal')], 'model: refusals of a line');
+    for (facts('method')) {
+        my ($name, $short, $prefix, $most, $new) = @$_;
+        my $kind = $prefix =~ tr/$//dr;
+        my @has = (@Model::kinds{ $name, $short || $name }, $Model::most_salt{$kind}, $Model::made_salt{$kind});
+        is_deeply(\@has, [$kind, $kind, $most, $new], "model: $name");
     }
 };
 
