@@ -329,7 +329,7 @@ subtest 'compilers' => sub {
             my $path = "$scratch/$compiler-$standard-$kind";
             my $run = run({ timeout => 300 }, $compiler, "-std=$standard", @strict, '-Wno-long-long', '-x', $language,
                 "$root/tests/c/calls.c", '-x', 'none', @rest, '-o', $path);
-            my @got = printed($path, (map { row(@$_) } @calls), "words_str - - 145 $number{differs}") if !$run->{status};
+            my @got = $run->{status} ? () : printed($path, (map { row(@$_) } @calls), "words_str - - 145 $number{differs}");
             spew("$path.got", $run->{err} . join "\n", @got);
         }
         POSIX::_exit(0);
