@@ -29,7 +29,7 @@
  * - 64 KiB of stack are free. A call uses some 20 KiB.
  *
  * Nothing is wiped: copies of the password, and of what was computed from it, may remain on the stack and in freed memory.
- * The calls don't hide from a clock what they work on: comparisons end early, and scrypt reads its table at places that
+ * The calls don't hide from a clock what they work on: comparisons may end early, and scrypt reads its table at places that
  * depend on the password. */
 #ifndef MKPASSWD_H
 #define MKPASSWD_H

@@ -17,7 +17,7 @@ use Rattle.crypt_core.specs.declared.setting.fault.SettingFault.{SettingFault}
 use Rattle.run_core.specs.Texts.{colon}
 use Rattle.run_core.specs.Lines.{Breaks, HasName, HasParts, IsLineRefused, IsSound, IsTooLong, Parts, line_limit, rule_number}
 use Rattle.run_core.specs.LineAnswers.{HasSoundParts, IsDecision, refusal}
-use Rattle.run_core.specs.LineAnswers.IsDecision.{refused}
+use Rattle.run_core.specs.LineAnswers.IsDecision.{refused as decided-refused}
 use Rattle.run_core.specs.Private.Lines.{HasBehind, IsCutOrWhole, IsGoodName, IsNamed, LacksParts}
 use Rattle.run_core.specs.declared.job.Job.{Job}
 use Rattle.run_core.specs.declared.line.Kind.{Kind}
@@ -239,4 +239,4 @@ too_long-refused kind line long = record {
 -- so its refusal is what it comes to, whatever its bytes are
 pub too_long-decided : (kind : Kind) (job : Job) (line : List ℕ) (stream : Stream) → IsTooLong line
     → IsDecision kind job line stream (refusal LineTooLong stream)
-too_long-decided kind job line stream long = refused LineTooLong (too_long-refused kind line long) refl
+too_long-decided kind job line stream long = decided-refused LineTooLong (too_long-refused kind line long) refl

@@ -16,7 +16,7 @@ has_answer : {I O E : Type 0} (device_bytes : DeviceBytes I O E) (turns : ℕ) (
 has_answer device_bytes turns job password old new (Ok tally) (ok, (is, fails, takes, after)) = takes.text.shown
 has_answer device_bytes turns job password old new (Err fault) ends = tt
 
-pub returns-in-Some : goal.returns-in-Some
-returns-in-Some g c =
+pub returns : goal.returns
+returns g c =
     let wrapped : c.new-out.result.inner ≡ c.args.given.writer = ap (λ (d : Device _). d.inner) c.new-out.ensures in
-    rw (c.into_inner.ensures, ← wrapped) (has_answer _ c.args.given.turns c.args.job.now c.in-Some.bytes.items _ _ c.run_one-outcome.result c.run_one-outcome.ensures.ends.1)
+    rw (c.into_inner.ensures, ← wrapped) (has_answer _ c.args.given.turns c.args.job.now _ _ _ c.run_one-outcome.result c.run_one-outcome.ensures.ends.1)
