@@ -1,7 +1,9 @@
 # make            builds ./mkpasswd, a copy of the proved program
 # make run        builds what is missing and hashes a first password
-# make check      every check but the soak, and the gate; with STRICT=1 a tool that is missing is a failure, and with
-#                 ANEW=1 the gate proves all, also what an earlier one on this machine has passed
+# make test       tries what is built, in some four minutes: T=tests/lines.t runs one test; with STRICT=1 a tool that is
+#                 missing is a failure
+# make check      the layers, the gate, make test, and planted faults, which the tests have to see; with ANEW=1 the gate
+#                 proves all, also what an earlier one on this machine has passed
 # make gate       proves all that no gate on this machine has passed, runs the tests, tries the edits that must fail, and
 #                 without CPU leaves ./mkpasswd
 # make bench      measures against libxcrypt, in some two minutes
@@ -29,7 +31,11 @@ ARCHIVE ?= mkpasswd-$(VERSION)-$(if $(filter x86-64,$(CPU)),x86_64_v1,$(subst -,
 # The scripts take these from the environment, whatever characters they have.
 export DESTDIR PREFIX LIBDIR ARCHIVE RT
 
-.PHONY: all run lib fuzz check layers gate bench soak install dist wheel clean FORCE
+# What make test runs, and how: the harness prints the sums.
+T = $(filter-out tests/planted.t,$(wildcard tests/*.t))
+PROVE = PERL5LIB=tests/lib prove --harness Tally -j4
+
+.PHONY: all run lib fuzz test check layers gate bench soak install dist wheel clean FORCE
 .DELETE_ON_ERROR:
 # rt takes all cores for itself.
 .NOTPARALLEL:
@@ -85,27 +91,18 @@ fuzz: $(FUZZERS)
 			-artifact_prefix=$$fuzzer. $$fuzzer.corpus || exit 1; \
 	done
 
+test: mkpasswd lib
+	$(PROVE) $(T)
+
 # The layers and the gate come first, since they need nothing built.
 check: layers gate mkpasswd lib
-	tools/check-program ./mkpasswd
-	tools/check-memory ./mkpasswd
-	tools/compare --selftest
-	tools/compare ./mkpasswd
-	tools/compare-lines --selftest ./mkpasswd
-	tools/compare-lines ./mkpasswd
-	tools/check-completion --selftest ./mkpasswd
-	tools/check-manual --selftest ./mkpasswd
-	tools/check-manual ./mkpasswd
-	tools/check-parallel ./mkpasswd
-	tools/check-installed $(or $(CPU),x86-64-v2)
+	$(PROVE) tests/planted.t $(T)
 
 layers:
-	tools/check-layers --selftest
-	tools/check-layers
+	$(PROVE) tests/layers.t
 
 # The gate leaves the program that it proved, so there is none to prove again but for other processors.
 gate: build/cpu
-	tools/gate --selftest
 	tools/gate $(if $(ANEW),--anew)
 	$(if $(CPU),,cp crates/program/out/program mkpasswd)
 
@@ -113,7 +110,6 @@ bench: mkpasswd
 	tools/bench ./mkpasswd
 
 soak: mkpasswd
-	tools/soak --selftest ./mkpasswd
 	tools/soak $(if $(LINES),--lines $(LINES)) $(if $(SEED),--seed $(SEED)) ./mkpasswd
 
 install: mkpasswd lib

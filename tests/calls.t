@@ -5,14 +5,14 @@ use strict;
 use warnings;
 use FindBin qw($Bin);
 use lib "$Bin/lib";
+use List::Util qw(sum0);
 use Model;
 use Suite;
 use Test::More;
 
 my $installed = "$scratch/installed";
 my ($include, $libs) = ("$installed/usr/include", "$installed/usr/lib/x86_64-linux-gnu");
-my %places = (DESTDIR => $installed, PREFIX => '/usr', LIBDIR => '/usr/lib/x86_64-linux-gnu');
-my $install = run({ dir => $root, env => \%places }, 'tools/install');
+my $install = run({ dir => $root, env => { DESTDIR => $installed, PREFIX => '/usr', LIBDIR => $libs =~ s/^\Q$installed//r } }, 'tools/install');
 BAIL_OUT("nothing is installed: $install->{err}") if $install->{status};
 my $header = slurp("$include/mkpasswd.h");
 my %defined = $header =~ /^#define MKPASSWD_(\w+) \(?(-?\d+)\)?/mg;
@@ -45,7 +45,7 @@ my @reasons = ('done', 'outdated', 'fits', '', 'password too long', 'password ha
 my %number = map { $reasons[$_] => 3 - $_ } grep { $reasons[$_] ne '' } 0 .. $#reasons;
 my %steps = (
     verify => 'password setting budget memory compare', needs_rehash => 'setting made replace', setting => 'made room',
-    new => 'password made budget room draw memory', hash => 'password setting budget room memory', bound => 'length setting',
+    new => 'password made budget room draw memory', hash => 'password setting budget room memory', bound => 'length setting tell',
 );
 my ($refused, @words) = (0);    # which allocation is refused, from 1; the words that the system draws, if it does
 
@@ -61,7 +61,7 @@ sub line {
     ($password, $text, $room) = ($password // "\0", $text // '', $room // 0);
     my ($setting, $made, $hash, $refusal);
     my ($cost, $allocations, $drawn, @work) = (0, 0, 0, (0) x 5);
-    my $memory = sub { my ($r, $p) = @{ $_[0] }{qw(r p)}; $r ? (128 * $r * $p, 256 * $r) : () };
+    my $scratch = sub { my ($r, $p) = @$setting{qw(r p)}; $r ? (128 * $r * $p, 256 * $r) : (0, 0) };
     my %step = (
         password => sub { length $password > 1024 ? 'password too long' : $password =~ /\0/ ? 'password has a zero byte' : '' },
         length => sub { $n[0] > 1024 ? 'password too long' : '' },
@@ -70,49 +70,44 @@ sub line {
             return 'unknown method' if $n[0] !~ /^[1567]$/;
             return 'cost' if $n[0] == 7 && $n[1] !~ /^([06-9]|1[01])$/;
             $made = made_setting(@n[0, 1], salt_of($made_salt{ $n[0] }, $name eq 'setting' ? @n[2 .. 4] : @words ? @words : (0) x 3));
+            $setting //= $made;
             return '';
         },
         replace => sub { is_replaced($setting, $made) ? '' : 'current' },
-        budget => sub { ($cost = cost($setting // $made, length $password)) > $n[-1] ? 'over budget' : '' },
+        budget => sub { ($cost = cost($setting, length $password)) > $n[-1] ? 'over budget' : '' },
         room => sub {
-            my ($kind, $front) = @{ $setting // $made }{qw(kind front)};
-            return $room > length($front) + ($name eq 'setting' ? 0 : 1 + $packed_length{$kind}) ? '' : 'too few bytes';
+            my $length = length($setting->{front}) + ($name eq 'setting' ? 0 : 1 + $packed_length{ $setting->{kind} });
+            return $room > $length ? '' : 'too few bytes';
         },
         draw => sub { $drawn = 24; @words ? '' : 'no random words' },
         memory => sub {
-            my $by = $setting // $made;
-            my @scratch = $memory->($by);
-            if ($refused && @scratch && $refused <= 3) {
-                @work[3, 4] = ($refused > 1 && 128 * 2 ** $by->{log} * $by->{r}, $refused > 2 && $scratch[0]);
-                $allocations = $refused;
+            my ($part) = $scratch->();
+            $allocations = !$part ? 0 : $refused && $refused < 3 ? $refused : 3;
+            if ($part && $refused && $refused <= 3) {
+                @work[3, 4] = ($refused > 1 && 128 * 2 ** $setting->{log} * $setting->{r}, $refused > 2 && $part);
                 return 'out of memory';
             }
-            ($hash, $allocations) = (hash_of($by, $password), @scratch && 3);
-            @work = (Model::work_of($by, $password), @scratch && $scratch[0] + $scratch[1]);
+            ($hash, @work) = (hash_of($setting, $password), Model::work_of($setting, $password), sum0($scratch->()));
             return '';
         },
         compare => sub { $hash eq $text ? '' : 'differs' },
+        tell => sub { ($cost, @work) = (cost($setting, $n[0]), counts($setting, $n[0], 255), sum0($scratch->())); '' },
     );
     $refusal ||= $step{$_}->() for split / /, $steps{$name};
-    if ($name eq 'bound' && !$refusal) {
-        my @scratch = $memory->($setting);
-        ($cost, @work) = (cost($setting, $n[0]), counts($setting, $n[0], 255), @scratch && $scratch[0] + $scratch[1]);
-    }
     my ($out, $length) = ('unchanged', 0);
     if ($name =~ /^(new|hash|setting)$/ && $room) {
-        $out = $refusal ? substr $name eq 'hash' && $text =~ /^\*0/ ? '*1' : '*0', 0, $room - 1 : $hash // $made->{front};
+        $out = $refusal ? substr $name eq 'hash' && $text =~ /^\*0/ ? '*1' : '*0', 0, $room - 1 : $hash // $setting->{front};
         $length = length $out if !$refusal;
     }
     my $reason = $number{ $refusal || { verify => 'fits', needs_rehash => 'outdated' }->{$name} || 'done' };
     return join ' ', $refusal ? 0 : 1, $reason, $length, $cost, (map { $_ || 0 } @work), 0, $allocations, 0, $drawn, $out;
 }
 
-sub hex_of { !defined $_[0] ? 'null' : $_[0] eq '' ? '-' : unpack 'H*', $_[0] }
-
 # The row of a call, which is a list as line takes it.
 sub row {
     my ($call, $password, $text, $room, @n) = @_;
-    return join ' ', $call, hex_of($password), hex_of($text), $room // 'null', @n;
+    my @hex = map { !defined ? 'null' : $_ eq '' ? '-' : unpack 'H*', $_ } $password, $text;
+    return join ' ', $call, @hex, $room // 'null', @n;
 }
 
 # Tests that the rows of calls, after the given ones, get just their lines.
@@ -182,7 +177,7 @@ subtest 'hashes' => sub {
     }
     ok(!(grep { index($_->[1], '$') } @rows), 'perl has the crypt of libxcrypt');
     ok(!(grep { hash_of(read_setting($_->[1]), $_->[0]) ne $_->[1] } @known), 'known hashes');
-    my @calls;
+    my @calls = ['bound', '', '$7$GU..../....', 0, 8];    # at the ceiling
     for my $number (0 .. $#rows) {
         my ($password, $hash) = @{ $rows[$number] };
         my ($setting, $room, $other) = ($hash =~ s/\$[^\$]*$//r, 1 + length $hash, $password);
@@ -205,9 +200,9 @@ subtest 'hashes' => sub {
 
 sub careless {
     my $cost = cost(read_setting($fixed), 8);
-    my @calls = map { ['verify', 'password', $_, 0, $budget] } @no_settings, @other_fields, $fixed, $known[4][1];
-    push @calls, map { ['verify', 'password', $fixed, 0, $_] } 0, $cost - 1, $cost, $most;
-    push @calls, map { ['verify', $_, $fixed, 0, $budget] } '', 'Password', "password\0", 'password ', 'a' x 1024, 'a' x 1025;
+    my @calls = ((map { ['verify', 'password', $_, 0, $budget] } @no_settings, @other_fields, $fixed, $known[4][1]),
+        (map { ['verify', 'password', $fixed, 0, $_] } 0, $cost - 1, $cost, $most),
+        map { ['verify', $_, $fixed, 0, $budget] } '', 'Password', "password\0", 'password ', 'a' x 1024, 'a' x 1025);
     return (@calls, map { ['verify_str', @$_[1 .. 4]] } grep { "$_->[1]$_->[2]" !~ /\0/ } @calls);
 }
 
@@ -317,26 +312,24 @@ subtest 'compilers' => sub {
     @words = (1, 2, 3);
     push @calls, ['bound_str', '', $fixed, 0, 8], ['setting_str', '', '', 145, 6, 0, @words], ['hash_str', 'password', '!', 145, $budget];
     my $wanted = join "\n", (map { line(@$_) =~ s/ 3 0 0 unchanged$/ 0 0 0 unchanged/r } @calls), '1' . ' 0' x 12 . ' differs';
-    my (@builds, %child);
-    for (['gcc', 'gcc', 'c', qw(c99 c11 c17 c2x)], ['clang', 'clang', 'c', qw(c99 c11 c17 c2x)],
-        ['g++', 'g++', 'c++', qw(c++98 c++11 c++17 c++20)], ['clang++', 'clang', 'c++', qw(c++98 c++11 c++17 c++20)])
-    {
-        my ($compiler, $package, $language, @standards) = @$_;
-        push @builds, map { [$compiler, $_, $language] } @standards if needs($compiler => $package);
+    my ($children, @builds) = 0;
+    for my $compiler (qw(gcc clang g++ clang++)) {
+        needs($compiler => $compiler eq 'clang++' ? 'clang' : $compiler) or next;
+        push @builds, map { [$compiler, $_, 'c++'] } qw(c++98 c++11 c++17 c++20) if $compiler =~ /\+/;
+        push @builds, map { [$compiler, $_, 'c'] } qw(c99 c11 c17 c2x) if $compiler !~ /\+/;
     }
-    my @sanitize = qw(-g -O1 -DSANITIZED -fsanitize=address,undefined -fno-sanitize-recover=all);
+    my @sanitize = ('-g', '-O1', '-DSANITIZED', '-fsanitize=address,undefined', '-fno-sanitize-recover=all');
     my @kinds = (['static', '-O2', @static], ['shared', '-O0', @shared], ['sanitized', @sanitize, @static]);
     for (@builds) {
         my ($compiler, $standard, $language) = @$_;
-        delete $child{ wait() } if keys %child == 4;
-        my $child = fork // die;
-        if ($child) { $child{$child} = 1; next }
+        wait if $children++ >= 4;
+        next if fork // die;
         for (@kinds) {
             my ($kind, @rest) = @$_;
             my $path = "$scratch/$compiler-$standard-$kind";
             my $run = run({ timeout => 300 }, $compiler, "-std=$standard", @strict, '-Wno-long-long', '-x', $language,
                 "$root/tests/c/calls.c", '-x', 'none', @rest, '-o', $path);
-            my @got = printed($path, (map { row(@$_) } @calls), "words_str - - 145 $number{differs}") if !$run->{status};
+            my @got = $run->{status} ? () : printed($path, (map { row(@$_) } @calls), "words_str - - 145 $number{differs}");
             spew("$path.got", $run->{err} . join "\n", @got);
         }
         POSIX::_exit(0);
@@ -401,8 +394,7 @@ subtest 'what is installed' => sub {
         is_deeply([$parts =~ /(?:SONAME|NEEDED) +(\S+)/g], ['libc.so.6', 'libmkpasswd.so.2'], 'the soname, and the C library alone is needed');
     }
     my ($version) = slurp("$libs/pkgconfig/mkpasswd.pc") =~ /^Version: (.*)$/m;
-    my ($major, $minor, $patch) = split /\./, $version;
-    my $number = 10000 * $major + 100 * $minor + $patch;
+    my $number = sprintf '%d%02d%02d', split /\./, $version;
     is($defined{VERSION}, $number, 'the header has the version of mkpasswd.pc');
     is_deeply([printed($driver, 'version - - 0')], [$number . ' 0' x 12 . ' unchanged'], 'the library has it');
     is(run("$installed/usr/bin/mkpasswd", '-V')->{out}, "mkpasswd $version\n", 'the program has it');

@@ -7,92 +7,67 @@ use strict;
 use warnings;
 use FindBin;
 use lib "$FindBin::Bin/lib";
+use Model;
 use POSIX qw(ceil);
 use Suite;
 use Test::More;
 
 # What is compared: the words for the method and its cost, how crypt's setting begins, the most characters of a salt,
 # how many of the salt's lengths each length of a password meets, and how many passwords of other lengths meet any salt.
-# A method that takes long, and each cost beside the method's own, is tried on fewer cases. Where lengths of salt and
-# password are given, these are all the cases.
-#
-# crypt refuses rounds below 1000, so the setting has the number at which the program holds them. Rounds above 999999999
-# are not here, nor near it: a hash by them takes many minutes.
+# What takes long, and each cost beside the method's own, has fewer cases. For a check there are the lengths of salt and
+# password. crypt refuses rounds below 1000, so the setting has the number at which the program holds them.
 my @rows = (
-    ['md5crypt', '$1$', 8, 8, 32],
-    ['md5crypt -R 2000', '$1$', 8, 1, 0],
-    ['sha256crypt', '$5$', 16, 8, 32],
-    ['sha256crypt -R 0', '$5$', 16, 1, 0],
-    ['sha256crypt -R 1', '$5$rounds=1000$', 16, 1, 0],
-    ['sha256crypt -R 1001', '$5$rounds=1001$', 16, 1, 0],
-    ['sha256crypt -R 5000', '$5$rounds=5000$', 16, 1, 0],
-    ['sha512crypt', '$6$', 16, 8, 32],
-    ['sha512crypt -R 0', '$6$', 16, 1, 0],
-    ['sha512crypt -R 999', '$6$rounds=1000$', 16, 1, 0],
-    ['sha512crypt -R 1000', '$6$rounds=1000$', 16, 1, 0],
-    ['sha512crypt -R 7321', '$6$rounds=7321$', 16, 1, 0],
-    ['scrypt', '$7$CU..../....', 86, 0, 6],
-    ['scrypt -R 6', '$7$BU..../....', 86, 3, 0],
-    ['scrypt -R 8', '$7$DU..../....', 86, 0, 1],
+    ['md5crypt', '$1$', 8, 8, 32], ['md5crypt -R 2000', '$1$', 8, 1, 0],
+    ['sha256crypt', '$5$', 16, 8, 32], ['sha256crypt -R 0', '$5$', 16, 1, 0], ['sha256crypt -R 1', '$5$rounds=1000$', 16, 1, 0],
+    ['sha256crypt -R 1001', '$5$rounds=1001$', 16, 1, 0], ['sha256crypt -R 5000', '$5$rounds=5000$', 16, 1, 0],
+    ['sha512crypt', '$6$', 16, 8, 32], ['sha512crypt -R 0', '$6$', 16, 1, 0], ['sha512crypt -R 999', '$6$rounds=1000$', 16, 1, 0],
+    ['sha512crypt -R 1000', '$6$rounds=1000$', 16, 1, 0], ['sha512crypt -R 7321', '$6$rounds=7321$', 16, 1, 0],
+    ['scrypt', '$7$CU..../....', 86, 0, 6], ['scrypt -R 6', '$7$BU..../....', 86, 3, 0], ['scrypt -R 8', '$7$DU..../....', 86, 0, 1],
     ['scrypt -R 11', '$7$GU..../....', 86, 0, 1],    # a table of 1 GiB
-    # Many rows in a small table: N = 2^15 with r = 1, the most that RFC 7914 allows there, and N = 2^16 and 2^17 with r = 2,
-    # whose tables are of 16 and 32 MiB.
-    ['scrypt --check, N = 2^15', '$7$D/..../....', [8, 8]],
-    ['scrypt --check, N = 2^16', '$7$E0..../....', [22, 65]],
+    # Many rows in a small table: N = 2^15 with r = 1, the most that RFC 7914 allows there, and N = 2^16 and 2^17 with r = 2.
+    ['scrypt --check, N = 2^15', '$7$D/..../....', [8, 8]], ['scrypt --check, N = 2^16', '$7$E0..../....', [22, 65]],
     ['scrypt --check, N = 2^17', '$7$F0..../....', [86, 511]],
 );
 
-# The ways in which the program is given a salt and a password: the words for it, and its standard input, where the
-# password is the first line, whether more lines follow or not even a line feed. Each case has one of these, but for a
-# check, whose input is a line with crypt's text.
+# The ways in which the program is given a salt and a password, or crypt's text: its standard input, where the password is
+# the first line, whether more lines follow or not even a line feed, and the words for it.
 my %ways = (
     '-S SALT PASSWORD' => sub { ("more\n", '-S', $_[0], '--', $_[1]) },
     'PASSWORD SALT' => sub { ("more\n", '--', $_[1], $_[0]) },
     '-S SALT -s' => sub { ("$_[1]\nmore\n", '-S', $_[0], '-s') },
     '-S SALT' => sub { ($_[1], '-S', $_[0]) },
+    'a line' => sub { "ann:$_[2]:$_[1]\n" },
 );
-my @ways = sort keys %ways;
-$ways{'a line'} = sub { "ann:$_[2]:$_[1]\n" };
+my @ways = grep { /-|PASS/ } sort keys %ways;
 
 # Lengths in bytes where a digest's blocks, or the copies of one, end. libxcrypt takes at most 511.
 my @corners = (0, 1, 15, 16, 17, 31, 32, 33, 63, 64, 65, 127, 128, 129, 255, 256, 511);
 
 # The first and last character of one, two and three bytes; those of three end below the surrogates.
-my @characters = ([0x01, 0x7f], [0x80, 0x7ff], [0x800, 0xd7ff]);
-my @alphabet = ('.', '/', 0 .. 9, 'A' .. 'Z', 'a' .. 'z');
+my @ranges = ([0x01, 0x7f], [0x80, 0x7ff], [0x800, 0xd7ff]);
 
-# A password of that many bytes, in characters of one to three bytes.
-sub password_of {
-    my ($length) = @_;
+# A salt and a password of these lengths, the password in characters of one to three bytes, and a way to give them.
+sub case {
+    my ($salt_length, $length, $way) = @_;
+    my $salt = join '', map { $characters[rand @characters] } 1 .. $salt_length;
     my $password = '';
     while ((my $left = $length - length $password) > 0) {
-        my ($first, $last) = @{ $characters[rand($left < 3 ? $left : 3)] };
-        my $character = chr($first + int rand($last - $first + 1));
-        utf8::encode($character);
+        my ($first, $last) = @{ $ranges[rand($left < 3 ? $left : 3)] };
+        utf8::encode(my $character = chr($first + int rand($last - $first + 1)));
         $password .= $character;
     }
-    return $password;
-}
-
-sub case {
-    my ($salt_length, $password_length, $way) = @_;
-    my $salt = join '', map { $alphabet[rand @alphabet] } 1 .. $salt_length;
     $way //= $ways[rand @ways];
-    my $password = password_of($password_length);
     $password =~ tr/\n/ / unless $way =~ /PASSWORD/;    # a line has no line feed
     return [$salt, $password, $way];
 }
 
-# The cases of a row: the same ones in each run.
 sub cases {
     my ($most, $a_corner, $others) = @_;
     return case(@$most, 'a line') if ref $most;
     my $step = $a_corner && ceil($most / $a_corner);
-    my @cases;
-    for my $corner ($a_corner ? 0 .. $#corners : ()) {
-        push @cases, map { case($_, $corners[$corner]) } grep { ($_ + 5 * $corner) % $step == 0 } 1 .. $most;
-    }
-    return @cases, map { case(1 + int rand $most, int(($_ + rand) * 512 / $others)) } 0 .. $others - 1;
+    my @lengths = map { my $corner = $_; map { [$_, $corners[$corner]] } grep { ($_ + 5 * $corner) % $step == 0 } 1 .. $most }
+        $a_corner ? 0 .. $#corners : ();
+    return map { case(@$_) } @lengths, map { [1 + int rand $most, int(($_ + rand) * 512 / $others)] } 0 .. $others - 1;
 }
 
 my $all = 0;

@@ -16,28 +16,28 @@ my $jobs = $ENV{JOBS} || 2;
 sub rows {
     my @rows;
     for my $block (split /\n{2,}/, slurp("$root/tests/lib/planted")) {
-        my @pairs;
+        my (@shared, @faults);
         for (grep { !/^#/ } split /\n/, $block) {
             my ($key, $text) = /^(\w+): ?(.*)$/ or die "planted: $_\n";
-            if ($key eq 'more') { $pairs[-1][1] .= "\n$text" }
-            else { push @pairs, [$key, $text] }
+            push @faults, [] if $key eq 'fault';
+            my $pairs = @faults ? $faults[-1] : \@shared;
+            if ($key eq 'more') { $pairs->[-1][1] .= "\n$text" }
+            else { push @$pairs, [$key, $text] }
         }
-        push @rows, \@pairs if @pairs;
+        push @rows, map { [$_->[0], @shared, @$_[1 .. $#$_]] } @faults;
     }
     return @rows;
 }
 
-# What is copied: all but what git and builds keep, and of the sources only where a row changes them.
+# Copies the tree, but for what git and builds keep, and the sources only where a row changes them.
 sub copy_tree {
     my ($copy, @files) = @_;
-    opendir my $folder, $root or die "$root: $!";
-    my @entries = grep { !/^(\.|\.\.|\.git|build|crates|mkpasswd-.*)$/ } readdir $folder;
-    run('cp', '-a', (map { "$root/$_" } @entries), $copy)->{status} and die "no copy of $root\n";
-    if (grep { /^crates\// } @files) {
-        run({ dir => $root }, 'sh', '-c', 'find crates -name out -prune -o -type f -print0 | xargs -0 cp -a --parents -t "$0"', $copy);
-    } else {
-        symlink "$root/crates", "$copy/crates" or die "crates: $!";
-    }
+    my $copied = run({ dir => $root }, 'sh', '-c', 'for file in * .ci; do
+        case $file in build|crates|mkpasswd-*) ;; *) cp -a "$file" "$0" || exit ;; esac
+    done', $copy);
+    die "no copy of $root\n" if $copied->{status};
+    return symlink "$root/crates", "$copy/crates" if !grep { /^crates\// } @files;
+    return run({ dir => $root }, 'sh', '-c', 'find crates -name out -prune -o -type f -print0 | xargs -0 cp -a --parents -t "$0"', $copy);
 }
 
 # A wrapper of the program that stands at this path. Perl code of the row works on @words and $input before the program
@@ -45,11 +45,8 @@ sub copy_tree {
 sub wrap {
     my ($path, %code) = @_;
     rename $path, "$path.real" or die "$path: $!";
-    if (defined $code{wrap}) {
-        spew($path, "#!/usr/bin/env bash\nexport LC_ALL=C\nreal=\$0.real\n$code{wrap}\n");
-    } else {
-        my ($before, $after) = map { $_ // '' } @code{qw(before after)};
-        spew($path, <<"END");
+    my ($before, $after) = map { $_ // '' } @code{qw(before after)};
+    spew($path, defined $code{wrap} ? "#!/usr/bin/env bash\nexport LC_ALL=C\nreal=\$0.real\n$code{wrap}\n" : <<"END");
 #!$^X
 use File::Temp qw(tempdir);
 my (\$files, \@words) = (tempdir(CLEANUP => 1), \@ARGV);
@@ -76,52 +73,56 @@ print STDOUT \$out;
 print STDERR \$err;
 exit \$status;
 END
-    }
     chmod 0755, $path or die "$path: $!";
 }
 
-# Does to the copy what a row says. Returns the test that has to fail, with the subtests that are enough for it.
+# Does to the copy what a row says. Returns the tests that have to fail, and the subtests that are enough for them.
 sub plant {
     my ($copy, @pairs) = @_;
-    my ($path, $file, $old, $test, $name, $only, %code);
+    my ($path, $file, $old, $only, %code, @sees);
     for (@pairs) {
         my ($key, $text) = @$_;
         if ($key eq 'file') { ($file, $path) = ($text, "$copy/$text") }
         elsif ($key eq 'old') { $old = $text }
-        elsif ($key eq 'new') {
-            my $before = slurp($path);
-            my $places = () = $before =~ /\Q$old\E/g;
-            die "'$old' stands $places times in $file\n" if $places != 1;
-            changed($path, $before =~ s/\Q$old\E/$text/r);
+        elsif ($key eq 'new' || $key eq 'edit') {
+            ($old, $text) = split / ~> /, $text, 2 if $key eq 'edit';
+            my ($front, @backs) = split /\Q$old\E/, slurp($path), -1;
+            die "'$old' stands " . @backs . " times in $file\n" if @backs != 1;
+            spew($path, "$front$text$backs[0]");
         }
-        elsif ($key eq 'add') { changed($path, (-e $path ? slurp($path) : '') . "$text\n") }
+        elsif ($key eq 'add') {
+            make_path(dirname($path));
+            spew($path, (-e $path ? slurp($path) : '') . "$text\n");
+        }
         elsif ($key eq 'gone') { unlink $path or die "$file: $!\n" }
         elsif ($key =~ /^(wrap|before|after)$/) { $code{$key} = $text }
         elsif ($key eq 'only') { $only = $text }
-        elsif ($key eq 'sees') { ($test, $name) = $text =~ /^(\w+\.t): (.+)$/ or die "sees: $text\n" }
+        elsif ($key eq 'sees') {
+            my ($test, $names) = $text =~ /^(\w+\.t): (.+)$/ or die "sees: $text\n";
+            push @sees, map { [$test, $_] } split / & /, $names;
+        }
         elsif ($key ne 'fault') { die "planted: no key $key\n" }
     }
     wrap($path, %code) if %code;
-    return ($test, $name, $only);
+    return ($only, @sees);
 }
 
-# A file of the copy gets this text, and keeps its mode.
-sub changed {
-    my ($path, $text) = @_;
-    make_path(dirname($path));
-    spew($path, $text);
-}
-
-# Tries one row: returns nothing where the test saw it, or else what went otherwise.
+# Tries one row: returns nothing where its tests saw it, or else what went otherwise.
 sub tried {
     my ($copy, @pairs) = @_;
     make_path($copy);
     copy_tree($copy, map { $_->[0] eq 'file' ? $_->[1] : () } @pairs);
-    my ($test, $name, $only) = plant($copy, @pairs);
-    my $run = run({ env => { T_ONLY => $only, HARNESS_ACTIVE => undef }, timeout => 300 }, $^X, "$copy/tests/$test");
-    my $escaped = $name =~ s/#/\\#/gr;
-    return if $run->{out} =~ /^ *not ok \d+ - \Q$escaped\E$/m && $run->{status};
-    return "$test ended with $run->{status}, and printed:\n" . join "\n", grep { !/^ *ok / } split /\n/, "$run->{out}$run->{err}";
+    my ($only, @sees) = plant($copy, @pairs);
+    my %run;
+    for (@sees) {
+        my ($test, $name) = @$_;
+        my $run = $run{$test} //= run({ env => { T_ONLY => $only, HARNESS_ACTIVE => undef }, timeout => 300 }, $^X, "$copy/tests/$test");
+        my $escaped = $name =~ s/#/\\#/gr;
+        next if $run->{out} =~ /^ *not ok \d+ - \Q$escaped\E$/m && $run->{status};
+        return "$test passed '$name', ended with $run->{status}, and printed:\n"
+            . join "\n", grep { !/^ *ok / } split /\n/, "$run->{out}$run->{err}";
+    }
+    return;
 }
 
 my $wanted = $ENV{FAULTS} // '';
@@ -145,7 +146,7 @@ for my $number (0 .. $#rows) {
 }
 $gather->() while %number;
 for my $number (0 .. $#rows) {
-    my ($fault, $sees) = map { my $key = $_; map { $_->[0] eq $key ? $_->[1] : () } @{ $rows[$number] } } qw(fault sees);
+    my ($fault, $sees) = map { my $key = $_; join ', ', map { $_->[0] eq $key ? $_->[1] : () } @{ $rows[$number] } } qw(fault sees);
     is($result{$number}, '', "$fault: seen by $sees");
 }
 done_testing;

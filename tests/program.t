@@ -10,12 +10,12 @@ use Model;
 use Suite;
 use Test::More;
 
-# Runs the program with these words; the first may be what Suite's run takes, or a text that it reads.
+# Runs the program with these words; the first may be what Suite's run takes, or a text that it reads. Beside what it did
+# there is a name for it.
 sub ran {
     my @words = @_;
     my $with = ref $words[0] eq 'HASH' ? shift @words : ref $words[0] ? { stdin => ${ +shift @words } } : {};
-    my $name = join ' ', @words;
-    $name = substr($name, 0, 60) . '..' if length $name > 60;
+    my $name = join(' ', @words) =~ s/\A.{60}\K.+/../sr;
     $name .= ", of '" . substr($with->{stdin}, 0, 40) . "'" if defined $with->{stdin};
     return (run($with, program(), @words), shown($name) =~ s/\A"|"\z//gr);
 }
@@ -85,15 +85,10 @@ subtest 'passwords' => sub {
     answer('$1$xxxxxxxx$jveVzs/NezMzUjhy1v7Fo.', @md5, 'a' x 513);
     answer('$1$xxxxxxxx$K/D5CvaOI4iV5zX0cnQoW0', @md5, $most);
     answer('$1$xxxxxxxx$K/D5CvaOI4iV5zX0cnQoW0', \"$most\nb\n", @md5, '-s');
-    for my $length (512, $limits{password}) {
-        my $run = run({ stdin => 'a' x $length . "\nb\n" }, program(), '-s');
-        like($run->{out}, qr/\A\$6\$[.\/0-9A-Za-z]{16}\$[.\/0-9A-Za-z]{86}\n\z/, "a hash of $length bytes with a made salt");
-    }
-    fault(2, 'password too long', qw(-m md5 -S ab), "${most}a");
-    fault(2, 'password too long', \"${most}a", '-s');
-    fault(2, 'password too long', \"${most}a\n");
-    fault(2, 'password has a zero byte', \"a\0b\n", '-s');
-    fault(2, 'password has a zero byte', \"\0", qw(-m scrypt -S ab -s));
+    like(run({ stdin => 'a' x $_ . "\nb\n" }, program(), '-s')->{out}, qr/\A\$6\$[.\/0-9A-Za-z]{16}\$[.\/0-9A-Za-z]{86}\n\z/,
+        "a hash of $_ bytes with a made salt") for 512, $limits{password};
+    fault(2, 'password too long', @$_) for [qw(-m md5 -S ab), "${most}a"], [\"${most}a", '-s'], [\"${most}a\n"];
+    fault(2, 'password has a zero byte', @$_) for [\"a\0b\n", '-s'], [\"\0", qw(-m scrypt -S ab -s)];
     answer($md5, qw(-m md5 password xxxxxxxx));
     answer($md5, \$_, @md5, '-s') for 'password', "password\n", "password\nmore";
     answer($md5, \"password\nmore\0\n$most$most\n", @md5);
@@ -107,15 +102,11 @@ subtest 'passwords' => sub {
 subtest 'devices' => sub {
     fault(3, 'read fault', { from => '/' }, @$_) for ['-s'], [qw(-m md5 -S ab)], ['--batch'], ['--check'];
     is_run(run('sh', '-c', 'exec "$0" -s <&-', program()), 3, '', "mkpasswd: read fault\n", 'read fault: a closed input');
-    for (['', qw(-m md5 -S ab password)], ['', qw(-m md5 -s)], ['', qw(-m help)], ["ann:x\n", qw(--batch -m md5 -S ab)],
-        ['', '--help'], ['', '-V'])
-    {
-        my ($input, @words) = @$_;
-        is_run(run({ stdin => $input, to => '/dev/full' }, program(), @words), 3, '', "mkpasswd: write fault\n", "a full output: @words");
-    }
+    is_run(run({ stdin => "ann:x\n", to => '/dev/full' }, program(), @$_), 3, '', "mkpasswd: write fault\n", "a full output: @$_")
+        for [qw(-m md5 -S ab password)], [qw(-m md5 -s)], [qw(-m help)], [qw(--batch -m md5 -S ab)], ['--help'], ['-V'];
 };
 
-subtest 'costs and budgets' => sub {
+subtest 'budgets' => sub {
     answer($md5, qw(-m md5 --budget 0 password xxxxxxxx));
     fault(1, 'line 1: over budget', \"h:\$6\$rounds=999999999\$saltstringsaltst\$:password\n", qw(--check --budget 89523813983));
     my $small = "s:\$7\$2/..../....\$rNxJWVHNv/mCNcgE/f6/L4zO6Fos5c2uTzhyzoisI62:\n";
@@ -123,18 +114,6 @@ subtest 'costs and budgets' => sub {
     answer('s:ok', \$small, qw(--check --budget 5044));
     answer('b:locked', \"b:!:x\n", qw(--check --budget 0));
     fault(1, 'line 1: over budget', \"h:\$7\$J2..../....\$:\n", qw(--check --budget 2147486947));
-    my @costs = slurp("$root/README.md") =~ /^\| .* \| `(-m [^`]*)` \| ([0-9]*) \| /gm;
-    is(@costs / 2, 8, 'README.md tells the costs of 8 settings');
-    # One below its cost a batch and a check of its answer are refused, and at the cost, which may have a sign and zeros, not.
-    while (my ($words, $cost) = splice @costs, 0, 2) {
-        my @words = split / /, $words;
-        fault(1, 'line 1: over budget', \"x:password\n", '--batch', '--budget', $cost - 1, @words);
-        my $hashed = run({ stdin => "x:password\n" }, program(), '--batch', '--budget', $cost, @words);
-        is("$hashed->{status}$hashed->{err}", 0, "a hash for $cost: $words");
-        my $line = $hashed->{out} =~ s/\n/:password\n/r;
-        fault(1, 'line 1: over budget', \$line, '--check', '--budget', $cost - 1);
-        answer('x:ok', \$line, '--check', "--budget=+00$cost");
-    }
 };
 
 subtest 'new hashes' => sub {

@@ -2,13 +2,13 @@
  * as C++ and knows what it must print.
  *
  * A row is `CALL PASSWORD TEXT ROOM NUMBERS..`. PASSWORD and TEXT are hexadecimal, `-` if empty, or `null`; ROOM is that
- * of `out`, or `null`. `threads N` (so many calls are made at once), `refuse N` and `entropy HEX`, `entropy none` or
+ * of `out`, or `null`. `threads N` (so many threads make calls), `refuse N` and `entropy HEX`, `entropy none` or
  * `entropy real` hold for the rows that follow. A line is the call's result, the ten numbers of its report, how often it
  * allocated, how many blocks it kept, how many random bytes it drew, and what it left in `out`.
  *
  * Input ends where a page begins that nobody may touch, and is read-only; `out` and the report end at such a page too. Each
- * call is made twice, with a report full of 0xff and of 0 (a _str call the second time with none), in a thread that has
- * 24 KiB of stack left above such a page (not with -DSANITIZED), and has to leave the same both times.
+ * call is made twice, with a report full of 0xff and of 0 (a _str call the second time with none), with 24 KiB of stack left
+ * above such a page (not with -DSANITIZED), and has to leave the same both times.
  *
  * With -DWRAP (in C), linked with --wrap for malloc, realloc, free and getentropy, it counts allocations, refuses one (by
  * `refuse`, from 1) and hands out the bytes of `entropy`. */
@@ -43,19 +43,11 @@ static uint8_t *new_pages(size_t size)
 static __thread long allocations, blocks, drawn;
 static long refused;
 static uint8_t entropy[24];
-static enum { GIVEN, NONE, REAL } entropy_kind = REAL;
+static char entropy_kind = 'r'; /* of "real", "none", or digits */
 
 #ifdef WRAP
 #define WRAPPED(type, name, ...) type __real_##name(__VA_ARGS__); type __wrap_##name(__VA_ARGS__); \
     type __wrap_##name(__VA_ARGS__)
-
-WRAPPED(void *, malloc, size_t size)
-{
-    void *block = ++allocations == refused ? NULL : __real_malloc(size);
-
-    blocks += block != NULL;
-    return block;
-}
 
 WRAPPED(void *, realloc, void *old, size_t size)
 {
@@ -63,6 +55,11 @@ WRAPPED(void *, realloc, void *old, size_t size)
 
     blocks += block && !old;
     return block;
+}
+
+WRAPPED(void *, malloc, size_t size)
+{
+    return __wrap_realloc(NULL, size);
 }
 
 WRAPPED(void, free, void *block)
@@ -76,9 +73,9 @@ WRAPPED(int, getentropy, void *bytes, size_t len)
     size_t place = (size_t)drawn % sizeof entropy;
 
     drawn += (long)len;
-    if (entropy_kind == REAL)
+    if (entropy_kind == 'r')
         return __real_getentropy(bytes, len);
-    if (entropy_kind == NONE || place + len > sizeof entropy)
+    if (entropy_kind == 'n' || place + len > sizeof entropy)
         return -1;
     memcpy(bytes, entropy + place, len);
     return 0;
@@ -191,15 +188,19 @@ static const char *left_in(const uint8_t *page, size_t room)
     return end ? (const char *)out : "unchanged";
 }
 
-static void perform(struct job *job)
+/* Makes the call of a job twice, above the last STACK_LEFT bytes of its stack. */
+__attribute__((noinline)) static void perform(struct job *job)
 {
     const struct row *row = &job->row;
     struct mkpasswd_report *report = (struct mkpasswd_report *)(void *)(job->report_page + PAGE - sizeof *report);
     const struct mkpasswd_work *work = &report->work;
     uint8_t *out = job->out_page + PAGE - row->room;
-    int pass, passes = entropy_kind == REAL && strncmp(row->call, "new", 3) == 0 ? 1 : 2;
+    int pass, passes = entropy_kind == 'r' && strncmp(row->call, "new", 3) == 0 ? 1 : 2;
     int has_report = strncmp(row->call, "words", 5) != 0 && !IS("version");
 
+#ifndef SANITIZED
+    *(volatile uint8_t *)__builtin_alloca((size_t)((uint8_t *)&job - job->stack) - STACK_LEFT) = 0;
+#endif
     for (pass = 0; pass < passes; pass++) {
         int has_none = pass == 1 && row->is_str;
         int32_t result;
@@ -219,23 +220,46 @@ static void perform(struct job *job)
     }
 }
 
+/* ---- threads, which share the rows out among them */
+
+static pthread_mutex_t lock = PTHREAD_MUTEX_INITIALIZER;
+static char *field[10], *lines[1 << 15];
+static int fields;
+static size_t line_count;
+
+static void next_row(void)
+{
+    static char input[3 * PAGE];
+
+    fields = 0;
+    if (fgets(input, sizeof input, stdin))
+        for (field[0] = strtok(input, " \n"); field[fields] && fields < 9; field[fields] = strtok(NULL, " \n"))
+            fields++;
+}
+
+/* Makes calls up to a row that sets something. */
 static void *run(void *argument)
 {
     struct job *job = (struct job *)argument;
-#ifndef SANITIZED
-    uint8_t here;
 
-    *(volatile uint8_t *)__builtin_alloca((size_t)(&here - job->stack) - STACK_LEFT) = 0;
-#endif
-    perform(job);
+    pthread_mutex_lock(&lock);
+    while (fields > 2 && line_count < sizeof lines / sizeof *lines) {
+        size_t number = line_count++;
+
+        read_row(&job->row, field, fields);
+        next_row();
+        pthread_mutex_unlock(&lock);
+        perform(job);
+        lines[number] = strdup(job->line);
+        pthread_mutex_lock(&lock);
+    }
+    pthread_mutex_unlock(&lock);
     return NULL;
 }
 
-static struct job jobs[THREADS];
-
-/* Makes the calls of the first jobs at once. */
-static void run_jobs(long count)
+static void run_threads(long count)
 {
+    static struct job jobs[THREADS];
     pthread_t threads[THREADS];
     pthread_attr_t attributes;
     long place;
@@ -255,38 +279,28 @@ static void run_jobs(long count)
         if (pthread_create(&threads[place], &attributes, run, job) != 0)
             abort();
     }
-    for (place = 0; place < count; place++) {
+    for (place = 0; place < count; place++)
         pthread_join(threads[place], NULL);
-        puts(jobs[place].line);
-    }
 }
 
 int main(void)
 {
-    static char line[3 * PAGE];
-    long threads = 1, waiting = 0;
+    long threads = 1;
+    size_t printed = 0;
 
-    while (fgets(line, sizeof line, stdin)) {
-        char *field[10];
-        int count = 0;
-
-        for (field[0] = strtok(line, " \n"); field[count] && count < 9; field[count] = strtok(NULL, " \n"))
-            count++;
-        if (count > 2)
-            read_row(&jobs[waiting++].row, field, count);
-        if (count == 2 || waiting == threads) {
-            run_jobs(waiting);
-            waiting = 0;
+    for (next_row(); fields > 1;) {
+        if (fields > 2) {
+            run_threads(threads);
+            for (; printed < line_count; printed++)
+                puts(lines[printed]);
+            continue;
         }
-        if (count == 2 && field[0][0] == 't')
-            threads = atol(field[1]);
-        if (count == 2 && field[0][0] == 'r')
-            refused = atol(field[1]);
-        if (count == 2 && field[0][0] == 'e') {
-            entropy_kind = field[1][0] == 'n' ? NONE : field[1][0] == 'r' ? REAL : GIVEN;
+        threads = field[0][0] == 't' ? atol(field[1]) : threads;
+        refused = field[0][0] == 'r' ? atol(field[1]) : refused;
+        entropy_kind = field[0][0] == 'e' ? field[1][0] : entropy_kind;
+        if (field[0][0] == 'e')
             from_hex(field[1], entropy);
-        }
+        next_row();
     }
-    run_jobs(waiting);
     return 0;
 }

@@ -7,7 +7,7 @@ int LLVMFuzzerTestOneInput(const uint8_t *data, size_t size)
     const char *by_crypt;
     uint32_t n[8], method, cost;
     uint8_t *password, *out, text[MKPASSWD_TEXT_SIZE];
-    size_t room, len;
+    size_t room, len = size - sizeof n;
     uint64_t budget;
 
     if (size < sizeof n || size > 1400)
@@ -17,7 +17,6 @@ int LLVMFuzzerTestOneInput(const uint8_t *data, size_t size)
     cost = n[1] & 1 ? n[1] >> 1 & 15 : n[1] >> (n[2] & 31);
     budget = n[3] == 0xffffffff ? 70000000 : n[3] & 1 ? 300000 : n[3] >> 8;
     room = n[4] & 1 ? MKPASSWD_TEXT_SIZE : n[4] >> 1 & 255;
-    len = size - sizeof n;
     password = at_end(0, data + sizeof n, len);
 
     out = new_out(room);

@@ -1,15 +1,13 @@
 package Lines;
 
-# Random lines for --batch and --check, in chunks. A chunk comes of a seed, a kind and a number, and of nothing else; so a
-# seed gives the same lines again.
+# Random lines for --batch and --check, in chunks. A chunk comes of a seed, a kind and a number; so a seed gives the same
+# lines again.
 #
-# - A chunk of hash lines goes through --batch, by a method with a given salt, with passwords of 0 to 511 bytes and a few
-#   longer ones; the hashes that it has to give become lines of --check, with right passwords, wrong ones, and texts in
-#   which one character is another. (Scrypt's cheap costs have no words of their own: their stored texts come from crypt,
-#   and only a few lines are hashed by -m scrypt.)
-# - A chunk of hostile lines is put together from pieces of the grammar, or stands at the limits, or has good lines that
-#   were changed, for --batch and --check with any flags. It has a budget, or none of them is dear, so that no line takes
-#   long.
+# - Hash lines go through --batch, by a method with a given salt, with passwords of 0 to 511 bytes and a few longer ones; the
+#   hashes that it has to give become lines of --check, with right passwords, wrong ones, and texts in which one character
+#   is another. (Scrypt's cheap costs have no words of their own: their texts come from crypt.)
+# - Hostile lines are put together from pieces of the grammar, stand at the limits, or are good lines that were changed, for
+#   --batch and --check with any flags. They have a budget, or none of them is dear, so that no line takes long.
 
 use strict;
 use warnings;
@@ -32,11 +30,9 @@ sub chunks {
     my ($lines) = @_;
     my @chunks;
     for my $kind (qw(hostile hash)) {
-        my @sizes = @{ $chunk_lines{$kind} };
-        for (my ($number, $left) = (0, $lines); $left > 0; $number++) {
-            my $count = min($left, $sizes[$number % @sizes]);
-            push @chunks, [$kind, $number, $count];
-            $left -= $count;
+        my ($sizes, $left) = ($chunk_lines{$kind}, $lines);
+        for (my $number = 0; $left > 0; $left -= $chunks[-1][2], $number++) {
+            push @chunks, [$kind, $number, min($left, $sizes->[$number % @$sizes])];
         }
     }
     return @chunks;
@@ -56,7 +52,10 @@ sub chance { return rand() < $_[0] }
 sub one_of { return $_[rand @_] }
 sub between { return $_[0] + int rand $_[1] - $_[0] + 1 }
 
-# So many bytes, any but these; or any of these.
+sub bytes_of { return join '', map { one_of(@_[1 .. $#_]) } 1 .. $_[0] }
+sub salt_text { return bytes_of($_[0], @characters) }
+
+# So many bytes, any but these.
 my %bytes_without;
 
 sub bytes_without {
@@ -64,10 +63,6 @@ sub bytes_without {
     my $bytes = $bytes_without{$without} //= [grep { index($without, $_) < 0 } map { chr } 0 .. 255];
     return join '', map { $bytes->[rand @$bytes] } 1 .. $length;
 }
-
-sub bytes_of { return join '', map { one_of(@_[1 .. $#_]) } 1 .. $_[0] }
-
-sub salt_text { return bytes_of($_[0], @characters) }
 
 my @words_of_many = ("\xc3\xa9", "\xe2\x82\xac", "\xf0\x9f\x98\x80", "\xff\xfe", "\xc0\x80", 'root', ' ', "\t", '$', '.', "\r");
 
@@ -100,9 +95,8 @@ sub beside {
     return $password . one_of('a', "\r", ' ', substr $password, -1) if $kind < 0.15 && length $password < 1024;
     return substr $password, 0, -1 if $kind < 0.3;
     my $place = $kind < 0.75 ? length($password) - 1 : int rand length $password;
-    my $old = substr $password, $place, 1;
-    my $new;
-    do { $new = chance(0.5) ? $old ^ chr 1 << int rand 8 : chr int rand 256 } while $new =~ /[\0\n]/ || $new eq $old;
+    my $new = my $old = substr $password, $place, 1;
+    $new = chance(0.5) ? $old ^ chr 1 << int rand 8 : chr int rand 256 while $new =~ /[\0\n]/ || $new eq $old;
     substr $password, $place, 1, $new;
     return $password;
 }
@@ -132,8 +126,7 @@ sub rounds_text {
 
 # Three numbers of scrypt whose product is the ceiling, or next to it.
 sub at_the_ceiling {
-    my $log = between(1, 23);
-    my $blocks = between(0, 23 - $log);
+    my $blocks = between(0, 23 - (my $log = between(1, 23)));
     my @rp = (2 ** $blocks, 2 ** (23 - $log - $blocks));
     $rp[rand 2] += one_of(-1, 1) if chance(0.4);
     return ($log, @rp);
@@ -171,12 +164,8 @@ sub field {
     my $prefix = one_of(('$1$') x 4, ('$5$') x 6, ('$6$') x 6, ('$7$') x 9, '', '$', '$$', '$1', '$5', '$7', '1$', '$2b$10$', '$y$j9T$',
         '$gy$', '$3$$', '$0$', '$8$', '$55$', '$md5$', '$sha1$', '_J9..', 'x', '$a$', '$ 1$', "\$1\0\$");
     my $text = $prefix;
-    if ($prefix eq '$7$') {
-        $text .= scrypt_text();
-    } else {
-        $text .= rounds_text() if $prefix =~ /[56]/ || chance(0.1);
-        $text .= salt_text(one_of(0, 1, 7 .. 10, 15 .. 18, between(0, 30)));
-    }
+    $text .= rounds_text() if $prefix ne '$7$' && ($prefix =~ /[56]/ || chance(0.1));
+    $text .= $prefix eq '$7$' ? scrypt_text() : salt_text(one_of(0, 1, 7 .. 10, 15 .. 18, between(0, 30)));
     $text .= '$' . salt_text(one_of(0, 21 .. 23, 42 .. 44, 85 .. 87)) if chance(0.6);
     $text .= bytes_of(max(0, between(382, 387) - length $text), 'a', 'b', '$') if chance(0.08);
     substr $text, int rand 1 + length $text, 0, one_of(' ', "\t", "\x7f", "\x80", "\xc3\xa9", "\0", ';', '*', '!', '\\', "\r", '~')
@@ -209,23 +198,15 @@ sub mutated {
         my $place = int rand 1 + length $line;
         my $part = between(1, one_of(1, 4, 40));
         my $kind = int rand 10;
-        if ($kind < 2 && $place < length $line) {
-            substr $line, $place, 1, substr($line, $place, 1) ^ chr 1 << int rand 8;
-        } elsif ($kind == 2) {
-            substr $line, $place, 1, chr int rand 256 if $place < length $line;
-        } elsif ($kind == 3) {
-            substr $line, $place, $part, '';
-        } elsif ($kind < 6) {
-            substr $line, $place, 0, one_of(@fragments);
-        } elsif ($kind == 6) {
-            substr $line, $place, 0, substr $line, $place, $part;
-        } elsif ($kind == 7) {
-            $line = chance(0.5) ? substr $line, 0, $place : substr $line, $place;
-        } elsif ($kind == 8) {
-            substr $line, $place, 0, one_of(@fragments) x between(1, one_of(8, 400, 2048));
-        } else {
-            $line =~ s/:/one_of('', '::', ';', "\0:")/e;
-        }
+        my $is_inside = $place < length $line;
+        if ($kind < 2 && $is_inside) { substr $line, $place, 1, substr($line, $place, 1) ^ chr 1 << int rand 8 }
+        elsif ($kind == 2) { substr $line, $place, 1, chr int rand 256 if $is_inside }
+        elsif ($kind == 3) { substr $line, $place, $part, '' }
+        elsif ($kind < 6) { substr $line, $place, 0, one_of(@fragments) }
+        elsif ($kind == 6) { substr $line, $place, 0, substr $line, $place, $part }
+        elsif ($kind == 7) { $line = chance(0.5) ? substr $line, 0, $place : substr $line, $place }
+        elsif ($kind == 8) { substr $line, $place, 0, one_of(@fragments) x between(1, one_of(8, 400, 2048)) }
+        else { $line =~ s/:/one_of('', '::', ';', "\0:")/e }
     }
     return $line;
 }
@@ -249,8 +230,7 @@ my @check_limit_lines = (
 );
 
 sub limit_line {
-    my ($job) = @_;
-    return one_of(@limit_lines)->('') if !$job->{is_check};
+    return one_of(@limit_lines)->('') if !$_[0]{is_check};
     return chance(0.5) ? one_of(@check_limit_lines)->() : one_of(@limit_lines)->(one_of('!', '*') . ':');
 }
 
@@ -283,8 +263,7 @@ my @plans = map { my $kind = $_; map { [$kind, $_] } 1 .. min(16, $most_salt{$ki
 push @plans, map { [7] } 1 .. 8;
 my %types = (1 => 'md5crypt', 5 => 'sha256crypt', 6 => 'sha512crypt', 7 => 'scrypt');
 
-# How many bytes the password of a hash line has: for each fourth line the next length, and else a few; seldom more
-# than libxcrypt takes.
+# The length of a hash line's password: for each fourth line the next one, and else a few bytes; seldom more than 511.
 sub hash_length {
     my ($place, $most) = @_;
     return between(512, 1024) if $most == 512 && chance(0.01);
@@ -325,7 +304,7 @@ sub hash_chunk {
 
 sub name_of_hash { return bytes_without(between(1, 64), ":\n") }
 
-# These names and passwords go through --batch, by one more run. Each is returned with its stored text between the two.
+# These names and passwords go through --batch, by one more run. Each is returned with its hash between the two.
 sub hashed {
     my ($runs, $job, @lines) = @_;
     push @$runs, [$job, join '', map { "$_->[0]:$_->[1]\n" } @lines];
@@ -395,20 +374,18 @@ sub dear_lines {
 # A line that mostly takes no longer than two milliseconds, or is refused by most budgets.
 sub cheap_line {
     my ($job, $hashes) = @_;
-    my $line;
     for my $try (1 .. 4) {
-        $line = hostile_line($job, $hashes) =~ tr/\n/\r/r;
+        my $line = hostile_line($job, $hashes) =~ tr/\n/\r/r;
         my $cost = judged($job, $line)->{cost} // 0;
-        last if $cost < $dear / 10 || $cost > $dear || chance(0.1);
+        return $line if $cost < $dear / 10 || $cost > $dear || chance(0.1) || $try == 4;
     }
-    return $line;
 }
 
-sub hostile_lines {
-    my ($count) = @_;
+sub hostile_chunk {
+    my (undef, $count) = @_;
+    saw('hostile lines') for 1 .. $count;
     my @flags = chance(0.35) ? '--batch' : ('--check', chance(0.45) ? '--rehash' : ());
-    my $has_words = $flags[0] eq '--batch' || @flags > 1;
-    my $made = $has_words ? hostile_words() : undef;
+    my $made = $flags[0] eq '--batch' || @flags > 1 ? hostile_words() : undef;
     my $may_be_dear = $made && $made->{kind} == 7 && chance(0.5);
     $made->{cost} = 6 if $may_be_dear;
     push @flags, '--work' if chance(0.4);
@@ -416,28 +393,17 @@ sub hostile_lines {
     my @hashes = $job->{is_check} ? good_hashes() : ();
     local %Model::seen;    # of what is only looked at here nothing is counted
     my @lines = map { cheap_line($job, \@hashes) } 1 .. $count;
-    my %is_dear;
-    if ($may_be_dear) {
-        %is_dear = map { int rand @lines => 1 } 1, 2;
-        $lines[$_] = dear_lines($job) for sort keys %is_dear;
-    }
-    my @costs = map { judged($job, $_)->{cost} // () } @lines;
-    $job->{budget} = budget(@costs);
+    my %is_dear = $may_be_dear ? map { int rand @lines => 1 } 1, 2 : ();
+    $lines[$_] = dear_lines($job) for sort keys %is_dear;
+    $job->{budget} = budget(map { judged($job, $_)->{cost} // () } @lines);
     $job->{budget} = one_of(undef, 80_000_000, 160_000_000) if $may_be_dear;
     for my $place (0 .. $#lines) {
         my $cost = judged($job, $lines[$place])->{cost} // 0;
         $lines[$place] = one_of($job->{is_check} ? ('n:!:x', 'n::x') : (), ':x', 'n') if $cost > $dear && !$is_dear{$place};
     }
-    return ($job, @lines);
-}
-
-sub hostile_chunk {
-    my (undef, $count) = @_;
-    my ($job, @lines) = hostile_lines($count);
     push @{ $job->{words} }, '--budget', $job->{budget} if defined $job->{budget};
     my $input = join '', map { "$_\n" } @lines;
     chop $input if $lines[-1] ne '' && chance(0.3);
-    saw('hostile lines') for 1 .. $count;
     return [$job, $input];
 }
 

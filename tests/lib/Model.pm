@@ -15,7 +15,7 @@ use List::Util qw(max min sum0);
 
 our @EXPORT = qw(%limits %kinds %most_salt %made_salt %packed_length @characters @setting_refusals @line_refusals @verdicts %seen
     saw forget shown numeral scrypt_cost setting read_setting made_setting is_replaced counts cost hash_of made_by_hand
-    block_mix rom_mix salsa job judged differences);
+    rom_mix job judged differences);
 
 our %limits = (
     password => 1024, setting => 384, line => 2048, name => 64, least_rounds => 1000, most_rounds => 999999999, ceiling => 8388608,
@@ -63,9 +63,7 @@ sub scrypt_cost { return numeral($_[0], 1) . numeral($_[1], 5) . numeral($_[2], 
 # The setting of a method, with its canonical text as its front.
 sub setting {
     my ($kind, $salt, %rest) = @_;
-    my $cost = '';
-    $cost = "rounds=$rest{rounds}\$" if $rest{is_written};
-    $cost = scrypt_cost(@rest{qw(log r p)}) if $kind == 7;
+    my $cost = $kind == 7 ? scrypt_cost(@rest{qw(log r p)}) : $rest{is_written} ? "rounds=$rest{rounds}\$" : '';
     $rest{product} = 2 ** $rest{log} * $rest{r} * $rest{p} if $kind == 7;
     return { %rest, kind => $kind, salt => $salt, front => "\$$kind\$$cost$salt" };
 }
@@ -88,23 +86,17 @@ sub read_setting {
         return 'bad salt' if length $salt > 86 || $salt =~ /[^.\/0-9A-Za-z]/;
         return setting(7, $salt, log => $log, r => $r, p => $p);
     }
-    my %cost;
-    if ($kind != 1) {
-        %cost = (rounds => 5000);
-        if ($rest =~ s/\Arounds=//) {
-            $rest =~ s/\A([1-9][0-9]*)\$// or return 'bad rounds';
-            %cost = (rounds => held($1), is_written => 1);
-        }
+    my %cost = $kind == 1 ? () : (rounds => 5000);
+    if ($kind != 1 && $rest =~ s/\Arounds=//) {
+        $rest =~ s/\A([1-9][0-9]*)\$// or return 'bad rounds';
+        %cost = (rounds => held($1), is_written => 1);
     }
     my ($salt) = $rest =~ /\A([^\$]*)/;
     return setting($kind, substr($salt, 0, $most_salt{$kind}), %cost);
 }
 
 # A number of rounds, of any length, as it is held.
-sub held {
-    my ($digits) = @_;
-    return length $digits > 9 ? $limits{most_rounds} : max($limits{least_rounds}, $digits);
-}
+sub held { return length $_[0] > 9 ? $limits{most_rounds} : max($limits{least_rounds}, $_[0]) }
 
 # The setting that the words mean. Where the salt is drawn, any other of that length stands in its place.
 sub made_setting {
@@ -117,9 +109,8 @@ sub made_setting {
 
 sub is_replaced {
     my ($old, $new) = @_;
-    return 1 if $old->{kind} != $new->{kind};
-    return 0 if $old->{kind} == 1;
-    return $old->{kind} == 7 ? $old->{product} < $new->{product} : $old->{rounds} < $new->{rounds};
+    my $number = $old->{kind} == 7 ? 'product' : 'rounds';
+    return $old->{kind} != $new->{kind} || $old->{kind} != 1 && $old->{$number} < $new->{$number};
 }
 
 # ---- Work and cost
@@ -129,8 +120,7 @@ sub counts {
     my ($setting, $length, $byte) = @_;
     my ($kind, $salt) = ($setting->{kind}, length $setting->{salt});
     if ($kind == 7) {
-        my ($n, $r, $p) = (2 ** $setting->{log}, $setting->{r}, $setting->{p});
-        my $is_long = $length > 64 ? 1 : 0;
+        my ($n, $r, $p, $is_long) = (2 ** $setting->{log}, $setting->{r}, $setting->{p}, $length > 64 ? 1 : 0);
         return (8 * $r * $p + 2 + $is_long, $is_long * $length + 4 * $r * $p * (164 + $salt) + 164 + 128 * $r * $p,
             2 * $n * $p, 128 * $n * $r);
     }
@@ -139,8 +129,7 @@ sub counts {
     return (1002, $first + $first + 3 + length($digits) + 1000 * (16 + $length) + 666 * $salt + 857 * $length, 0, 0)
         if $kind == 1;
     my ($rounds, $wide) = ($setting->{rounds}, $digest_length{$kind});
-    my $ones = $digits =~ tr/1//;
-    my $bytes = $first + $first + $ones * $wide + (length($digits) - $ones) * $length;
+    my $bytes = $first + $first + ($digits =~ tr/1//) * $wide + ($digits =~ tr/0//) * $length;
     $bytes += $length * $length + $salt * (16 + $byte) + $rounds * ($wide + $length);
     $bytes += $salt * ($rounds - int(($rounds + 2) / 3)) + $length * ($rounds - int(($rounds + 6) / 7));
     return ($rounds + 4, $bytes, 0, 0);
@@ -155,9 +144,8 @@ sub cost {
 # The exact counts of the hash of a password.
 sub work_of {
     my ($setting, $password) = @_;
-    my ($kind, $byte) = ($setting->{kind}, 0);
-    $byte = ord second_digest($kind, $password, $setting->{salt}) if $kind == 5 || $kind == 6;
-    return counts($setting, length $password, $byte);
+    my $is_sha = $setting->{kind} == 5 || $setting->{kind} == 6;
+    return counts($setting, length $password, $is_sha && ord second_digest($setting->{kind}, $password, $setting->{salt}));
 }
 
 # ---- Hashes
@@ -172,20 +160,15 @@ my %order = (
 
 sub packed {
     my ($kind, $digest) = @_;
-    my $text = '';
-    for my $group (split /,/, $order{$kind}) {
-        my ($number, @places) = (0, split / /, $group);
+    return join '', map {
+        my ($number, @places) = (0, split / /);
         $number = $number << 8 | ord substr $digest, $_, 1 for @places;
-        $text .= numeral($number, @places + 1);
-    }
-    return $text;
+        numeral($number, @places + 1);
+    } split /,/, $order{$kind};
 }
 
-# So many bytes, the given ones again and again.
-sub cycle {
-    my ($bytes, $length) = @_;
-    return substr $bytes x (1 + $length / length $bytes), 0, $length;
-}
+# Given bytes again and again, so many.
+sub cycle { return substr $_[0] x (1 + $_[1] / length $_[0]), 0, $_[1] }
 
 # A of md5crypt and SHA-crypt, the digest of the second message.
 sub second_digest {
@@ -194,9 +177,7 @@ sub second_digest {
     my $first = $digest->($password . $salt . $password);
     my $message = $password . ($kind == 1 ? '$1$' : '') . $salt . cycle($first, length $password);
     my ($one, $zero) = $kind == 1 ? ("\0", substr $password, 0, 1) : ($first, $password);
-    for (my $rest = length $password; $rest > 0; $rest >>= 1) {
-        $message .= $rest & 1 ? $one : $zero;
-    }
+    for (my $rest = length $password; $rest > 0; $rest >>= 1) { $message .= $rest & 1 ? $one : $zero }
     return $digest->($message);
 }
 
@@ -223,10 +204,8 @@ sub last_digest {
 sub salsa {
     my @x = @_;
     for my $double (1 .. 4) {
-        for my $places ([0, 4, 8, 12], [5, 9, 13, 1], [10, 14, 2, 6], [15, 3, 7, 11],
-            [0, 1, 2, 3], [5, 6, 7, 4], [10, 11, 8, 9], [15, 12, 13, 14])
-        {
-            my @at = @$places;
+        for ([0, 4, 8, 12], [5, 9, 13, 1], [10, 14, 2, 6], [15, 3, 7, 11], [0, 1, 2, 3], [5, 6, 7, 4], [10, 11, 8, 9], [15, 12, 13, 14]) {
+            my @at = @$_;
             for my $turn (7, 9, 13, 18) {
                 my $sum = $x[$at[0]] + $x[$at[3]] & 0xffffffff;
                 $x[$at[1]] ^= ($sum << $turn | $sum >> 32 - $turn) & 0xffffffff;
@@ -242,18 +221,16 @@ sub block_mix {
     my ($part) = @_;
     my @blocks = unpack '(a64)*', $part;
     my ($x, @mixed) = $blocks[-1];
-    push @mixed, $x = pack 'V*', salsa(unpack 'V*', $x ^ $_) for @blocks;
-    return join '', @mixed[grep { !($_ & 1) } 0 .. $#mixed], @mixed[grep { $_ & 1 } 0 .. $#mixed];
+    push @{ $mixed[$_ & 1] }, $x = pack 'V*', salsa(unpack 'V*', $x ^ $blocks[$_]) for 0 .. $#blocks;
+    return join '', map { @$_ } @mixed;
 }
 
 # scryptROMix of a part (section 5).
 sub rom_mix {
     my ($part, $n) = @_;
-    my @rows;
-    for (1 .. $n) {
-        push @rows, $part;
-        $part = block_mix($part);
-    }
+    my @rows = $part;
+    push @rows, block_mix($rows[-1]) for 1 .. $n;
+    $part = pop @rows;
     $part = block_mix($part ^ $rows[unpack('V', substr $part, -64) % $n]) for 1 .. $n;
     return $part;
 }
@@ -262,8 +239,8 @@ sub rom_mix {
 sub scrypt {
     my ($setting, $password) = @_;
     my ($n, $r, $p) = (2 ** $setting->{log}, $setting->{r}, $setting->{p});
-    my $blocks = join '', map { hmac_sha256($setting->{salt} . pack('N', $_), $password) } 1 .. 4 * $r * $p;
-    my $mixed = join '', map { rom_mix($_, $n) } unpack '(a' . 128 * $r . ')*', $blocks;
+    my $parts = join '', map { hmac_sha256($setting->{salt} . pack('N', $_), $password) } 1 .. 4 * $r * $p;
+    my $mixed = join '', map { rom_mix($_, $n) } unpack '(a' . 128 * $r . ')*', $parts;
     return hmac_sha256($mixed . pack('N', 1), $password);
 }
 
@@ -274,10 +251,8 @@ sub made_by_hand {
     return "$setting->{front}\$" . packed($setting->{kind}, $digest);
 }
 
-# The same, libxcrypt's wherever it takes the two, or nothing where it would take long. Hashes are kept until they are
-# forgotten.
+# The same, libxcrypt's wherever it takes the two, or nothing where it would take long. Hashes are kept until forgotten.
 my (%kept, %is_by_hand);
-
 sub forget { %kept = %is_by_hand = () }
 
 sub hash_of {
@@ -330,6 +305,7 @@ sub judged {
     return { refusal => 'password too long' } if $length > $limits{password};
     return { refusal => 'password has a zero byte' } if $password =~ /\0/;
     my %judged = (name => $name, password => $password);
+    $judged{cost} = cost($job->{setting}, $length) if !$job->{is_check};
     if ($job->{is_check}) {
         my $field = $fields[1];
         return { %judged, verdict => 'none', cost => 0 } if $field eq '';
@@ -340,8 +316,6 @@ sub judged {
         $judged{is_replaced} = $job->{is_rehash} && is_replaced($setting, $job->{setting});
         $judged{cost} = cost($setting, $length) + ($judged{is_replaced} ? cost($job->{setting}, $length) : 0);
         @judged{qw(field setting)} = ($field, $setting);
-    } else {
-        $judged{cost} = cost($job->{setting}, $length);
     }
     if (defined $job->{budget}) {
         saw('cost at the budget') if $judged{cost} == $job->{budget};
@@ -374,7 +348,7 @@ sub answer {
         $verdict = $is_fit // index($got, "${text}ok") == 0 ? 'ok' : 'no';
         @work = work_of($judged->{setting}, $password) if $job->{is_work};
     }
-    my $is_new = $verdict ? $verdict eq 'ok' && $judged->{is_replaced} : 1;
+    my $is_new = !$verdict || $verdict eq 'ok' && $judged->{is_replaced};
     $text .= $verdict . ($is_new ? ':' : '') if $verdict;
     if ($is_new) {
         my $setting = $job->{setting};
@@ -410,16 +384,11 @@ sub differences {
     my ($status, %salts, %is_told, @differences) = 0;
     for my $number (1 .. @lines) {
         my $judged = judged($job, $lines[$number - 1]);
-        my ($stream, $got, $wanted, $is_no) = ('output');
-        if (defined $judged->{refusal}) {
-            saw($judged->{refusal});
-            ($stream, $is_no) = ('fault output', 1);
-            $wanted = "mkpasswd: line $number: $judged->{refusal}\n";
-            $got = shift @faults // '';
-        } else {
-            $got = shift @answers // '';
-            ($wanted, $is_no) = answer($job, $judged, $got, \%salts);
-        }
+        my $refusal = $judged->{refusal};
+        my $stream = defined $refusal ? 'fault output' : 'output';
+        my $got = shift @{ defined $refusal ? \@faults : \@answers } // '';
+        saw($refusal) if defined $refusal;
+        my ($wanted, $is_no) = defined $refusal ? ("mkpasswd: line $number: $refusal\n", 1) : answer($job, $judged, $got, \%salts);
         $status = 1 if $is_no;
         next if $got eq $wanted || $is_told{$stream}++;
         push @differences, "line $number " . shown($lines[$number - 1]) . ": $stream " . shown($got) . ', and not ' . shown($wanted);

@@ -47,7 +47,7 @@ sub program {
 
 # Runs a command; its first argument may be a hash with `stdin` (the bytes that it reads; none by default) or `from` (a
 # path that it reads instead), `to` (a path for its output), `dir`, `env` (names and values, undef to unset) and `timeout`
-# (seconds, 60 by default). Returns a hash: `status`, the exit status or 128 + the signal; `out` and `err`; `timed_out`.
+# (seconds, 300 by default). Returns a hash: `status`, the exit status or 128 + the signal; `out` and `err`; `timed_out`.
 sub run {
     my %with = ref $_[0] ? %{ +shift } : ();
     my @command = @_;
@@ -67,7 +67,7 @@ sub run {
     }
     my $timed_out = 0;
     local $SIG{ALRM} = sub { $timed_out = 1; kill KILL => -$pid };
-    alarm($with{timeout} // 60);
+    alarm($with{timeout} // 300);
     waitpid $pid, 0;
     my $status = $? & 127 ? 128 + ($? & 127) : $? >> 8;
     alarm 0;

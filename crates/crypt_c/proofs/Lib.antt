@@ -1,5 +1,5 @@
 pub mod NewHashes
 pub mod Putting
 pub mod ReasonNumbers
-pub mod Reading
+pub mod ReadOnce
 pub mod Verdicts

@@ -1,7 +1,6 @@
 -- What a new hash is good for: its password opens, and it is not out of date.
-use Rattle.std.proofs.Common.{◌≡◌, ◌≤◌, ℕ, List, length, take, Result, Ok, Err, Bool, false, nat_lt, refl, sym, ap, arith, subst}
+use Rattle.std.proofs.Common.{◌≡◌, ◌≤◌, ℕ, List, length, take, Result, Ok, Err, false, refl, arith}
 use Rattle.std.specs.Prelude.{IsOkAnd}
-use Rattle.crypt_core.specs.Crypt.{crypt}
 use Rattle.crypt_core.specs.Replacements.{is_replaced_by}
 use Rattle.crypt_core.specs.Settings.{SettingValue}
 use Rattle.crypt_core.specs.Work.{cost}

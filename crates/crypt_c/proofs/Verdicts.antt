@@ -1,12 +1,15 @@
--- What a report says of a password that opens.
+-- What a report says of a password that opens, and of a stored hash that is out of date.
 use Rattle.std.proofs.Common.{◌≡◌, ◌≤◌, ◌⊎◌, ℕ, pos, negsuc, List, length, nat_lt, false, true, ap, inl, inr, arith}
-use Rattle.std.specs.Prelude.{Ok}
+use Rattle.std.specs.Prelude.{IsOkAnd, IsTrue, Result, Ok, Err}
 use Rattle.std.specs.Str.{bytes_eq}
 use Rattle.std.proofs.lemmas.Slice.Eq.{bytes_eq-Decides}
 use Rattle.crypt_core.specs.Crypt.{crypt}
+use Rattle.crypt_core.specs.Replacements.{is_replaced_by}
 use Rattle.crypt_core.specs.Settings.{SettingValue}
 use Rattle.crypt_core.specs.Work.{cost}
-use Rattle.crypt_c.specs.Calls.{Verifies}
+use Rattle.crypt_core.specs.declared.scheme.Scheme.{Scheme}
+use Rattle.crypt_c.specs.Calls.{Both, IsOutdated, IsSchemeMade, IsSettingRead, Verifies}
+use Rattle.crypt_c.specs.declared.reason.Refusal.{Refusal}
 use Rattle.crypt_c.specs.declared.report.Report.{Report}
 
 -- within the budget it fits, or scrypt lacked memory
@@ -20,3 +23,9 @@ opened password stored budget kept report low same verifies =
       | inl fits ↦ inl (ap (λ (r : Report). r.reason) fits)
       | inr lacks ↦ inr (ap (λ (r : Report). r.reason) lacks.2)
     ]
+
+pub outdated : (stored : List ℕ) (number price : ℕ) (given : Result (SettingValue × Scheme) Refusal)
+    → Both (IsSettingRead stored) (IsSchemeMade number price) given
+    → IsOkAnd given (λ both. IsTrue (is_replaced_by both.0.scheme both.1)) → IsOutdated stored number price
+outdated stored number price (Err refusal) read replaced = absurd replaced
+outdated stored number price (Ok (kept, scheme)) read replaced = (kept, scheme, read.0, read.1, replaced)

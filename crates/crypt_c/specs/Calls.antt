@@ -1,5 +1,5 @@
 -- What each call reads, and what it reports.
-use Rattle.std.specs.Prelude.{◌≡◌, ◌⊎◌, ◌<◌, ◌≤◌, ◌==◌, if◌then◌else◌, ℕ, nat_lt, MatchBool, MatchResult, List, [], ◌∷◌, length, Some, None, Result, Ok, Err}
+use Rattle.std.specs.Prelude.{◌≡◌, ◌⊎◌, ◌<◌, ◌≤◌, ◌==◌, if◌then◌else◌, ℕ, nat_lt, IsTrue, MatchBool, MatchResult, List, [], ◌∷◌, length, Some, None, Result, Ok, Err}
 use Rattle.std.specs.Str.{bytes_eq}
 use Rattle.prims_core.specs.Work.{no_work}
 use Rattle.crypt_core.specs.Crypt.{crypt}
@@ -109,6 +109,12 @@ bounded (Ok (len, kept)) = reported Done 0 (cost kept len) (work_bound kept len)
 bounded (Err refusal) = refused refusal 0
 
 -- ---- Settings
+
+-- the text spells a setting that a scheme of the method's number and the cost replaces
+abbrev pub IsOutdated : List ℕ → ℕ → ℕ → Type 0
+IsOutdated stored number cost =
+    (kept : SettingValue) × (scheme : Scheme) × Spells stored kept × IsSchemeMade number cost (Ok scheme)
+    × IsTrue (is_replaced_by kept.scheme scheme)
 
 abbrev pub rehashed : Result (SettingValue × Scheme) Refusal → Report
 rehashed (Ok (kept, scheme)) =

@@ -1,5 +1,5 @@
 -- Reports, and what a call leaves in the caller's bytes.
-use Rattle.std.specs.Prelude.{◌≡◌, ℕ, if◌then◌else◌, List, [], ◌∷◌, ◌++◌, length, take, drop, codes}
+use Rattle.std.specs.Prelude.{◌≡◌, ◌⊎◌, ◌↔◌, ◌<ℤ◌, ℕ, ℤ, pos, if◌then◌else◌, List, [], ◌∷◌, ◌++◌, length, take, drop, codes}
 use Rattle.std.specs.Str.{bytes_eq}
 use Rattle.prims_core.specs.Work.{no_work}
 use Rattle.prims_core.specs.declared.meter.Work.{Work}
@@ -40,6 +40,10 @@ put text (b ∷ rest) = let cut = take (length rest) text in cut ++ 0 ∷ drop (
 -- what a refusal puts in the place of a hash by a setting (crypt(3)): it is never that setting, and no setting at all
 abbrev pub token : List ℕ → List ℕ
 token setting = if bytes_eq (take 2 setting) (codes "*0") then codes "*1" else codes "*0"
+
+-- what each call with a report returns: 1 or 0, and 1 exactly where the reason is above 0
+abbrev pub Answers : ℤ → Report → Type 0
+Answers result report = ((result ≡ pos 1) ⊎ (result ≡ pos 0)) × (result ≡ pos 1 ↔ pos 0 <ℤ report.reason) × (report.reserved ≡ 0)
 
 -- a call reports so, and puts the text
 abbrev pub Leaves : Report → List ℕ → List ℕ → Report → List ℕ → Type 0

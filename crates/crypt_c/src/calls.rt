@@ -1,137 +1,44 @@
-//! What the calls do once what was handed in is read, and how it is read.
-ghost use Rattle.std.specs.Prelude.{◌≡◌, ◌<◌, ◌≤◌, ◌^◌, ◌<ℤ◌, pos, ℕ, List, [], Result, length, IfOk, IfSome, IfNone, IsOkAnd};
-ghost use Rattle.crypt_core.specs.Crypt.{crypt};
-ghost use Rattle.crypt_core.specs.MadeSettings.{salted};
+//! What the calls do with what they have read.
+ghost use Rattle.std.specs.Prelude.{◌≡◌, ◌↔◌, ◌<◌, ◌≤◌, ◌<ℤ◌, pos, List, [], Result, length, IfOk, IfErr, IsOkAnd, IsTrue, OnErr, OnOk};
+ghost use Rattle.prims_core.specs.Work.{no_work};
+ghost use Rattle.crypt_core.specs.Crypt.{IsAfterRefusedGrowth, crypt};
 ghost use Rattle.crypt_core.specs.Passwords.{password_limit};
-ghost use Rattle.crypt_core.specs.Settings.{SettingValue};
-ghost use Rattle.crypt_core.specs.Work.{cost};
-ghost use Rattle.crypt_core.specs.declared.scheme.Scheme.{Scheme as Made};
-ghost use Rattle.crypt_c.specs.Calls.{Both, Hashes, HashesAnew, IsLengthRead, IsPasswordRead, IsSchemeMade, IsSettingRead, Makes, PutsHash, Verifies, admission, bounded, rehashed};
+ghost use Rattle.crypt_core.specs.Replacements.{is_replaced_by};
+ghost use Rattle.crypt_core.specs.Settings.{Spells};
+ghost use Rattle.crypt_core.specs.Work.{cost, work};
+ghost use Rattle.crypt_c.specs.Calls.{Hashes, HashesAnew, Makes, PutsHash, Verifies, admission, bounded, rehashed};
 ghost use Rattle.crypt_c.specs.Private.Steps.{IsHashPut};
-ghost use Rattle.crypt_c.specs.Reports.{Leaves, refused, token};
-ghost use Rattle.crypt_c.specs.declared.reason.Refusal.{Refusal as Refused};
+ghost use Rattle.crypt_c.specs.Reports.{put, refused, token};
 
 use crate::reason::{Reason, Refusal};
 use crate::report::{Report, leave, token};
-use crypt_core::hash::{hash, hash_len};
-use crypt_core::method::Method;
-use crypt_core::password::{PASSWORD_LIMIT, Password, PasswordFault};
+use crypt_core::hash::{HashFault, Hashed, hash, hash_len};
+use crypt_core::password::Password;
 use crypt_core::scheme::Scheme;
 use crypt_core::setting::Setting;
 use crypt_core::work::{bound, cost};
-use prims_core::meter::Meter;
+use prims_core::meter::{Meter, Work};
 use std::alloc::Global;
 
-// Reading
-
-/// Reads a password, and then a setting.
-pub(crate) fn read(password: &[u8], text: &[u8]) -> Result<(Password, Setting), Refusal>
-    ensures read { Both (IsPasswordRead password.now) (IsSettingRead text.now) result }
-    ensures alone { (other : Result (List ℕ × SettingValue) Refused)
-        → Both (IsPasswordRead password.now) (IsSettingRead text.now) other → result ≡ other }
-{
-    let password = Password::new(password)?;
-    match setting_of(text) {
-        Ok(setting) => Ok((password, setting)),
-        Err(refusal) => Err(refusal),
-    }
-}
-
-/// Reads the length of a password, and then a setting.
-pub(crate) fn read_with_length(
-    password_len: usize,
-    text: &[u8],
-) -> Result<(usize, Setting), Refusal>
-    ensures read { Both (IsLengthRead password_len) (IsSettingRead text.now) result }
-    ensures alone { (other : Result (ℕ × SettingValue) Refused)
-        → Both (IsLengthRead password_len) (IsSettingRead text.now) other → result ≡ other }
-    ensures short { IfOk result (λ both. both.0 ≤ password_limit) }
-{
-    if password_len > PASSWORD_LIMIT {
-        return Err(Refusal::Password(PasswordFault::TooLong));
-    }
-    match setting_of(text) {
-        Ok(setting) => Ok((password_len, setting)),
-        Err(refusal) => Err(refusal),
-    }
-}
-
-/// Reads a password, and then makes a scheme.
-pub(crate) fn read_for_scheme(
-    password: &[u8],
-    method: u32,
-    cost: u32,
-) -> Result<(Password, Scheme), Refusal>
-    ensures read { Both (IsPasswordRead password.now) (IsSchemeMade method cost) result }
-    ensures alone { (other : Result (List ℕ × Made) Refused)
-        → Both (IsPasswordRead password.now) (IsSchemeMade method cost) other → result ≡ other }
-{
-    let password = Password::new(password)?;
-    let scheme = scheme_of(method, cost)?;
-    Ok((password, scheme))
-}
-
-/// Reads a setting, and then makes a scheme.
-pub(crate) fn read_both(text: &[u8], method: u32, cost: u32) -> Result<(Setting, Scheme), Refusal>
-    ensures read { Both (IsSettingRead text.now) (IsSchemeMade method cost) result }
-    ensures alone { (other : Result (SettingValue × Made) Refused)
-        → Both (IsSettingRead text.now) (IsSchemeMade method cost) other → result ≡ other }
-{
-    let setting = match setting_of(text) {
-        Ok(setting) => setting,
-        Err(refusal) => return Err(refusal),
-    };
-    match scheme_of(method, cost) {
-        Ok(scheme) => Ok((setting, scheme)),
-        Err(refusal) => Err(refusal),
-    }
-}
-
-// Reads a setting.
-fn setting_of(text: &[u8]) -> Result<Setting, Refusal>
-    ensures read { IsSettingRead text.now result }
-    ensures alone { (other : Result SettingValue Refused) → IsSettingRead text.now other → result ≡ other }
-{
-    Ok(Setting::read(text)?)
-}
-
-/// Makes the scheme of a method's number and a cost.
-pub(crate) fn scheme_of(method: u32, cost: u32) -> Result<Scheme, Refusal>
-    ensures made { IsSchemeMade method cost result }
-    ensures alone { (other : Result Made Refused) → IsSchemeMade method cost other → result ≡ other }
-{
-    let Some(method) = Method::numbered(method) else {
-        return Err(Refusal::UnknownMethod);
-    };
-    match Scheme::made(method, cost) {
-        Ok(scheme) => Ok(scheme),
-        Err(_) => Err(Refusal::Cost),
-    }
-}
-
-// Hashing
-
-/// Compares the hash of a password with the stored one, within a budget.
+/// Compares the password's hash with the stored one, if the budget allows it.
 pub(crate) fn verify(
     alloc: Global,
     given: Result<(Password, Setting), Refusal>,
     stored: &[u8],
     budget: u64,
 ) -> Report
-    ensures { Verifies stored.now budget given result }
+    ensures verifies { Verifies stored.now budget given result }
+    ensures reserved { result.reserved ≡ 0 }
 {
     let (password, setting) = match given {
         Ok(both) => both,
         Err(refusal) => return Report::refused(refusal, 0),
     };
-    let most = cost(&setting, password.bytes().len());
-    if most > budget {
-        return Report::refused(Refusal::OverBudget, most);
-    }
-    let mut meter = Meter::new();
-    let before = meter.reading();
-    let hashed = hash(alloc, &password, &setting, &mut meter);
-    let work = meter.work_since(&before);
+    let most = match cost_within(&password, &setting, budget) {
+        Ok(most) => most,
+        Err(refused) => return refused,
+    };
+    let (hashed, work) = counted_hash(alloc, &password, &setting);
     let reason = match hashed {
         Ok(hashed) if hashed.text() == stored => Reason::Fits,
         Ok(_) => Reason::Refused(Refusal::Differs),
@@ -140,7 +47,7 @@ pub(crate) fn verify(
     Report::new(reason, 0, most, work)
 }
 
-/// Puts the hash of a password, within a budget; or after a refusal the token.
+/// Puts the password's hash into `out`, if the budget and the room allow it. After a refusal it puts `lock`.
 pub(crate) fn put_hash(
     alloc: Global,
     given: Result<(Password, Setting), Refusal>,
@@ -149,6 +56,8 @@ pub(crate) fn put_hash(
     out: &mut [u8],
 ) -> Report
     ensures hashes { Hashes budget lock.now out.old given result out.new }
+    ensures locked { ¬ (pos 0 <ℤ result.reason) → out.new ≡ put lock.now out.old }
+    ensures reserved { result.reserved ≡ 0 }
     ensures within { pos 0 <ℤ result.reason → result.cost ≤ budget }
     ensures put { pos 0 <ℤ result.reason → IsOkAnd given (λ both. IsHashPut both.0 both.1.scheme result out.new) }
 {
@@ -162,8 +71,8 @@ pub(crate) fn put_hash(
     }
 }
 
-/// Puts the hash of a password by a new setting, which three words make, within a budget; or after a refusal, and without
-/// words, the token.
+/// Puts the password's hash with the setting that three words make, if the budget and the room allow it. After a refusal it
+/// puts the token. No words are refused after all else.
 pub(crate) fn put_new_hash(
     alloc: Global,
     given: Result<(Password, Scheme), Refusal>,
@@ -172,6 +81,8 @@ pub(crate) fn put_new_hash(
     out: &mut [u8],
 ) -> Report
     ensures hashes { HashesAnew words.now budget out.old given result out.new }
+    ensures locked { ¬ (pos 0 <ℤ result.reason) → out.new ≡ put (token []) out.old }
+    ensures reserved { result.reserved ≡ 0 }
     ensures within { pos 0 <ℤ result.reason → result.cost ≤ budget }
     ensures put { pos 0 <ℤ result.reason → IsOkAnd given (λ both. IsHashPut both.0 both.1 result out.new) }
 {
@@ -196,21 +107,34 @@ pub(crate) fn put_new_hash(
     leave(refused, out, token(b""))
 }
 
-// The cost, if the budget and the room allow the hash, or else the report of the refusal.
+// Returns the cost, if the budget and then the room allow the hash, or else the report of the refusal.
 fn admit(password: &Password, setting: &Setting, budget: u64, room: usize) -> Result<u64, Report>
     ensures { result ≡ admission budget room password.now setting.now }
 {
-    let most = cost(setting, password.bytes().len());
-    if most > budget {
-        return Err(Report::refused(Refusal::OverBudget, most));
-    }
+    let most = match cost_within(password, setting, budget) {
+        Ok(most) => most,
+        Err(refused) => return Err(refused),
+    };
     if hash_len(setting) >= room {
         return Err(Report::refused(Refusal::TooFewBytes, most));
     }
     Ok(most)
 }
 
-// Puts the hash, for which there is room.
+// Returns the cost, if the budget allows the hash, or else the report of the refusal.
+fn cost_within(password: &Password, setting: &Setting, budget: u64) -> Result<u64, Report>
+    ensures within { IfOk result (λ most. (most ≡ cost setting.now (length password.now)) × (most ≤ budget)) }
+    ensures above { IfErr result (λ report. (budget < cost setting.now (length password.now))
+        × (report ≡ refused Refusal.OverBudget (cost setting.now (length password.now)))) }
+{
+    let most = cost(setting, password.bytes().len());
+    if most > budget {
+        return Err(Report::refused(Refusal::OverBudget, most));
+    }
+    Ok(most)
+}
+
+// Hashes, and puts the hash, which has room, or `lock` if scrypt could not allocate.
 fn put_admitted(
     alloc: Global,
     password: &Password,
@@ -221,14 +145,13 @@ fn put_admitted(
 ) -> Report
     requires room { length (crypt password.now setting.now) < length out.old }
     ensures puts { PutsHash password.now setting.now most lock.now out.old result out.new }
+    ensures locked { ¬ (pos 0 <ℤ result.reason) → out.new ≡ put lock.now out.old }
+    ensures reserved { result.reserved ≡ 0 }
     ensures put { pos 0 <ℤ result.reason → most ≡ cost setting.now (length password.now)
         → IsHashPut password.now setting.now.scheme result out.new }
     ensures cost { result.cost ≡ most }
 {
-    let mut meter = Meter::new();
-    let before = meter.reading();
-    let hashed = hash(alloc, password, setting, &mut meter);
-    let work = meter.work_since(&before);
+    let (hashed, work) = counted_hash(alloc, password, setting);
     match hashed {
         Ok(hashed) => {
             let report = Report::new(Reason::Done, hashed.text().len() as u32, most, work);
@@ -241,12 +164,29 @@ fn put_admitted(
     }
 }
 
-// What hashes nothing
+// Hashes on a new meter, and returns the work too.
+fn counted_hash(
+    alloc: Global,
+    password: &Password,
+    setting: &Setting,
+) -> (Result<Hashed, HashFault>, Work)
+    ensures text { IfOk result.0 (λ hashed. hashed ≡ crypt password.now setting.now) }
+    ensures spells { IfOk result.0 (λ hashed. Spells hashed setting.now) }
+    ensures work { OnOk result.0 (result.1 ≡ work password.now setting.now) }
+    ensures refused { OnErr result.0 (IsAfterRefusedGrowth no_work setting.now.scheme result.1) }
+{
+    let mut meter = Meter::new();
+    let before = meter.reading();
+    let hashed = hash(alloc, password, setting, &mut meter);
+    let work = meter.work_since(&before);
+    (hashed, work)
+}
 
-/// Reports what a hash takes at most.
+/// Reports the greatest cost and work of a hash.
 pub(crate) fn tell_bound(given: Result<(usize, Setting), Refusal>) -> Report
     requires { IfOk given (λ both. both.0 ≤ password_limit) }
-    ensures { result ≡ bounded given }
+    ensures bounded { result ≡ bounded given }
+    ensures reserved { result.reserved ≡ 0 }
 {
     match given {
         Ok((len, setting)) => Report::new(
@@ -259,9 +199,12 @@ pub(crate) fn tell_bound(given: Result<(usize, Setting), Refusal>) -> Report
     }
 }
 
-/// Reports whether a hash of the scheme would replace one by the setting.
+/// Reports whether a hash of the scheme would replace one with the setting.
 pub(crate) fn tell_rehash(given: Result<(Setting, Scheme), Refusal>) -> Report
-    ensures { result ≡ rehashed given }
+    ensures rehashed { result ≡ rehashed given }
+    ensures outdated { pos 0 <ℤ result.reason
+        ↔ IsOkAnd given (λ both. IsTrue (is_replaced_by both.0.scheme both.1)) }
+    ensures reserved { result.reserved ≡ 0 }
 {
     match given {
         Ok((setting, scheme)) => if setting.scheme().is_replaced_by(&scheme) {
@@ -273,9 +216,11 @@ pub(crate) fn tell_rehash(given: Result<(Setting, Scheme), Refusal>) -> Report
     }
 }
 
-/// Puts the text of the setting that three words make; or after a refusal the token.
+/// Puts the text of the setting that three words make, if the room allows it. After a refusal it puts the token.
 pub(crate) fn put_setting(made: Result<Scheme, Refusal>, words: [u64; 3], out: &mut [u8]) -> Report
-    ensures { Makes words out.old made result out.new }
+    ensures makes { Makes words out.old made result out.new }
+    ensures locked { ¬ (pos 0 <ℤ result.reason) → out.new ≡ put (token []) out.old }
+    ensures reserved { result.reserved ≡ 0 }
 {
     let scheme = match made {
         Ok(scheme) => scheme,

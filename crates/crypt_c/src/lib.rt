@@ -1,37 +1,42 @@
 //! mkpasswd for C: the calls of `include/mkpasswd.h`, which says how each is used.
 //!
-//! A list of bytes comes as a pointer and a number of bytes. A call that can fail returns 1 where it did what its name
-//! says, and else 0; why, its report says, which it writes whole. So whatever a careless caller forgets to compare, it
-//! takes for a no. After a 0 the caller's bytes hold a text that no password fits. No call keeps anything or starts
-//! anything, so that many threads may call at once.
+//! A list of bytes comes as a pointer and a number of bytes. A call that can fail returns 1 if it did what its name says,
+//! else 0, and writes the whole report, which says why. So a caller who compares nothing denies. After a 0 `out` holds a
+//! token, which matches no password, cut to its room.
+//!
+//! The first refusal that applies is reported, in this order: password, setting, method, cost, budget, room, random words,
+//! memory. No call keeps anything or starts anything, so many threads may call at once.
 #![tactic(auto)]
 
-mod calls;
-
-ghost use Rattle.std.specs.Prelude.{◌≡◌, ◌≢◌, ◌⊎◌, ◌↔◌, ◌<◌, ◌<ℤ◌, pos, ℕ, List, [], ◌∷◌, length, take, Result};
+ghost use Rattle.std.specs.Prelude.{◌≡◌, ◌≢◌, ◌⊎◌, ◌↔◌, ◌<◌, ◌≤◌, pos, ℕ, List, [], ◌∷◌, length, take, Result};
 ghost use Rattle.crypt_core.specs.Settings.{SettingValue, Spells};
 ghost use Rattle.crypt_core.specs.declared.scheme.Scheme.{Scheme};
-ghost use Rattle.crypt_c.specs.Calls.{Both, Hashes, HashesAnew, IsLengthRead, IsPasswordRead, IsSchemeMade, IsSettingRead, Makes, Opens, Verifies, bounded, rehashed};
+ghost use Rattle.crypt_c.specs.Calls.{Both, Hashes, HashesAnew, IsLengthRead, IsOutdated, IsPasswordRead, IsSchemeMade, IsSettingRead, Makes, Opens, Verifies, bounded, rehashed};
 ghost use Rattle.crypt_c.specs.Reasons.{reason_number, reason_words, unknown_words};
-ghost use Rattle.crypt_c.specs.Reports.{put, refused, token};
+ghost use Rattle.crypt_c.specs.Reports.{Answers, put, refused, token};
 ghost use Rattle.crypt_c.specs.declared.reason.Reason.{Reason as Why};
 ghost use Rattle.crypt_c.specs.declared.reason.Reason.TheVariants.{Refused};
 ghost use Rattle.crypt_c.specs.declared.reason.Refusal.{Refusal};
 ghost use Rattle.crypt_c.specs.declared.reason.Refusal.TheVariants.{Current, OutOfMemory};
 
+mod calls;
+mod reading;
 mod reason;
 mod report;
 
-use calls::{
-    put_hash, put_new_hash, put_setting, read, read_both, read_for_scheme, read_with_length,
-    scheme_of, tell_bound, tell_rehash, verify,
-};
+use calls::{put_hash, put_new_hash, put_setting, tell_bound, tell_rehash, verify};
 use crypt_core::version::VERSION_NUMBER;
+use reading::{
+    length_and_setting, password_and_scheme, password_and_setting, scheme_of, setting_and_scheme,
+};
 use reason::Reason;
 use report::{Report, put, token};
 use std::alloc::Global;
 
-/// Whether a password fits a stored hash, and its hash costs no more than the budget.
+/// Returns 1 if the password matches the stored hash and its hash costs at most the budget. A budget of 0 lets nobody in.
+///
+/// It hashes nothing above the budget, and allocates only for scrypt. The report has the cost once password and stored
+/// hash are known to be valid, and the work of the hash.
 #[unsafe(no_mangle)]
 pub extern "C" fn mkpasswd_verify(
     alloc: Global,
@@ -40,8 +45,7 @@ pub extern "C" fn mkpasswd_verify(
     budget: u64,
     report: &mut Report,
 ) -> i32
-    ensures one_or_zero { (result ≡ pos 1) ⊎ (result ≡ pos 0) }
-    ensures answer { result ≡ pos 1 ↔ pos 0 <ℤ report.new.reason }
+    ensures answers { Answers result report.new }
     ensures lets_in { result ≡ pos 1 → Opens password.now stored.now budget }
     ensures opens { Opens password.now stored.now budget
         → (result ≡ pos 1) ⊎ (report.new.reason ≡ reason_number (Refused OutOfMemory)) }
@@ -51,11 +55,23 @@ pub extern "C" fn mkpasswd_verify(
         → Both (IsPasswordRead password.now) (IsSettingRead stored.now) given
         → Verifies stored.now budget given report.new }
 {
-    *report = verify(alloc, read(password, stored), stored, budget);
+    *report = verify(
+        alloc,
+        password_and_setting(password, stored),
+        stored,
+        budget,
+    );
     report.answer()
 }
 
-/// Hashes a password by a new setting.
+/// Hashes a password with a new setting of the method and the cost, whose salt three random words make, and puts the hash
+/// and a byte 0 into `out`.
+///
+/// Without words it reports the first refusal that comes before them, or else that there are none: so the caller draws them
+/// once nothing else can be refused, and calls again. The method is 1 for md5crypt, 5 for sha256crypt, 6 for sha512crypt
+/// or 7 for scrypt, as in its hashes; the cost is that of `mkpasswd -R`, and 0 the method's own.
+///
+/// The hash opens for its password within the budget, and is not outdated for the method and the cost.
 #[unsafe(no_mangle)]
 pub extern "C" fn mkpasswd_new_from(
     alloc: Global,
@@ -67,13 +83,13 @@ pub extern "C" fn mkpasswd_new_from(
     out: &mut [u8],
     report: &mut Report,
 ) -> i32
-    ensures one_or_zero { (result ≡ pos 1) ⊎ (result ≡ pos 0) }
-    ensures answer { result ≡ pos 1 ↔ pos 0 <ℤ report.new.reason }
+    ensures answers { Answers result report.new }
     ensures read { (given : Result (List ℕ × Scheme) Refusal)
         × Both (IsPasswordRead password.now) (IsSchemeMade method cost) given }
     ensures each { (given : Result (List ℕ × Scheme) Refusal)
         → Both (IsPasswordRead password.now) (IsSchemeMade method cost) given
         → HashesAnew words.now budget out.old given report.new out.new }
+    ensures locked { result ≡ pos 0 → out.new ≡ put (token []) out.old }
     ensures then_opens { result ≡ pos 1 → Opens password.now (take report.new.length out.new) budget }
     ensures then_current { result ≡ pos 1 → (given : Result (SettingValue × Scheme) Refusal)
         × Both (IsSettingRead (take report.new.length out.new)) (IsSchemeMade method cost) given
@@ -81,7 +97,7 @@ pub extern "C" fn mkpasswd_new_from(
 {
     *report = put_new_hash(
         alloc,
-        read_for_scheme(password, method, cost),
+        password_and_scheme(password, method, cost),
         words,
         budget,
         out,
@@ -89,7 +105,8 @@ pub extern "C" fn mkpasswd_new_from(
     report.answer()
 }
 
-/// Whether a hash that `mkpasswd_new` makes would replace the stored one.
+/// Returns 1 if a new hash of the method and the cost would replace the stored one: it has another method, or the same one
+/// with more rounds, or for scrypt a greater `N * r * p`.
 #[unsafe(no_mangle)]
 pub extern "C" fn mkpasswd_needs_rehash(
     stored: &[u8],
@@ -97,32 +114,34 @@ pub extern "C" fn mkpasswd_needs_rehash(
     cost: u32,
     report: &mut Report,
 ) -> i32
-    ensures one_or_zero { (result ≡ pos 1) ⊎ (result ≡ pos 0) }
-    ensures answer { result ≡ pos 1 ↔ pos 0 <ℤ report.new.reason }
+    ensures answers { Answers result report.new }
+    ensures outdated { result ≡ pos 1 ↔ IsOutdated stored.now method cost }
     ensures read { (given : Result (SettingValue × Scheme) Refusal)
         × Both (IsSettingRead stored.now) (IsSchemeMade method cost) given }
     ensures each { (given : Result (SettingValue × Scheme) Refusal)
         → Both (IsSettingRead stored.now) (IsSchemeMade method cost) given → report.new ≡ rehashed given }
 {
-    *report = tell_rehash(read_both(stored, method, cost));
+    *report = tell_rehash(setting_and_scheme(stored, method, cost));
     report.answer()
 }
 
-/// What a hash takes at most.
+/// Reports the greatest cost and the greatest work of a hash with this setting, for any password of this length. It hashes
+/// nothing and allocates nothing.
 #[unsafe(no_mangle)]
 pub extern "C" fn mkpasswd_bound(stored: &[u8], password_len: usize, report: &mut Report) -> i32
-    ensures one_or_zero { (result ≡ pos 1) ⊎ (result ≡ pos 0) }
-    ensures answer { result ≡ pos 1 ↔ pos 0 <ℤ report.new.reason }
+    ensures answers { Answers result report.new }
     ensures read { (given : Result (ℕ × SettingValue) Refusal)
         × Both (IsLengthRead password_len) (IsSettingRead stored.now) given }
     ensures each { (given : Result (ℕ × SettingValue) Refusal)
         → Both (IsLengthRead password_len) (IsSettingRead stored.now) given → report.new ≡ bounded given }
 {
-    *report = tell_bound(read_with_length(password_len, stored));
+    *report = tell_bound(length_and_setting(password_len, stored));
     report.answer()
 }
 
-/// Hashes a password by a setting.
+/// Hashes a password with the setting that a text spells, and puts the hash and a byte 0 into `out`.
+///
+/// The token after a 0 is `*0`, or `*1` if the setting begins with `*0`.
 #[unsafe(no_mangle)]
 pub extern "C" fn mkpasswd_hash(
     alloc: Global,
@@ -132,20 +151,27 @@ pub extern "C" fn mkpasswd_hash(
     out: &mut [u8],
     report: &mut Report,
 ) -> i32
-    ensures one_or_zero { (result ≡ pos 1) ⊎ (result ≡ pos 0) }
-    ensures answer { result ≡ pos 1 ↔ pos 0 <ℤ report.new.reason }
+    ensures answers { Answers result report.new }
     ensures read { (given : Result (List ℕ × SettingValue) Refusal)
         × Both (IsPasswordRead password.now) (IsSettingRead setting.now) given }
     ensures each { (given : Result (List ℕ × SettingValue) Refusal)
         → Both (IsPasswordRead password.now) (IsSettingRead setting.now) given
         → Hashes budget (token setting.now) out.old given report.new out.new }
-    ensures locks { (token setting.now ≢ setting.now) × ((kept : SettingValue) → ¬ Spells (token setting.now) kept) }
+    ensures within { result ≡ pos 1 → report.new.cost ≤ budget }
+    ensures locked { result ≡ pos 0 → out.new ≡ put (token setting.now) out.old }
+    ensures apart { (token setting.now ≢ setting.now) × ((kept : SettingValue) → ¬ Spells (token setting.now) kept) }
 {
-    *report = put_hash(alloc, read(password, setting), budget, token(setting), out);
+    *report = put_hash(
+        alloc,
+        password_and_setting(password, setting),
+        budget,
+        token(setting),
+        out,
+    );
     report.answer()
 }
 
-/// Makes a setting.
+/// Makes a setting of a method, a cost and three random words, and puts its text and a byte 0 into `out`.
 #[unsafe(no_mangle)]
 pub extern "C" fn mkpasswd_setting(
     method: u32,
@@ -156,17 +182,18 @@ pub extern "C" fn mkpasswd_setting(
     out: &mut [u8],
     report: &mut Report,
 ) -> i32
-    ensures one_or_zero { (result ≡ pos 1) ⊎ (result ≡ pos 0) }
-    ensures answer { result ≡ pos 1 ↔ pos 0 <ℤ report.new.reason }
+    ensures answers { Answers result report.new }
     ensures made { (given : Result Scheme Refusal) × IsSchemeMade method cost given }
     ensures each { (given : Result Scheme Refusal) → IsSchemeMade method cost given
         → Makes (first ∷ second ∷ third ∷ []) out.old given report.new out.new }
+    ensures locked { result ≡ pos 0 → out.new ≡ put (token []) out.old }
 {
     *report = put_setting(scheme_of(method, cost), [first, second, third], out);
     report.answer()
 }
 
-/// Puts the words for a reason.
+/// Puts the words for a reason and a byte 0 into `out`, cut to its room. It returns 0 if it had to cut them, and for a
+/// number that no reason has.
 #[unsafe(no_mangle)]
 pub extern "C" fn mkpasswd_words(reason: i32, out: &mut [u8]) -> i32
     ensures one_or_zero { (result ≡ pos 1) ⊎ (result ≡ pos 0) }
@@ -184,7 +211,7 @@ pub extern "C" fn mkpasswd_words(reason: i32, out: &mut [u8]) -> i32
     if words.len() < out.len() { 1 } else { 0 }
 }
 
-/// The version: 10000 times its first number, 100 times its second, and its third.
+/// Returns the version: 10000 times its first number, 100 times its second, and its third.
 #[unsafe(no_mangle)]
 pub extern "C" fn mkpasswd_version() -> u32
     ensures { result ≡ VERSION_NUMBER }

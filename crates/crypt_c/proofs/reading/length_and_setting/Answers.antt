@@ -1,6 +1,6 @@
 use Rattle.crypt_c.specs.Calls.{IsLengthRead, IsSettingRead}
-use Rattle.crypt_c.proofs.Reading.{both_alone, length_alone, second_alone}
-use Rattle.crypt_c.proofs.calls.read_with_length.Goals as goal
+use Rattle.crypt_c.proofs.ReadOnce.{both_alone, length_alone, second_alone}
+use Rattle.crypt_c.proofs.reading.length_and_setting.Goals as goal
 
 pub returns-in-Ok-clause-alone : goal.returns-in-Ok-clause-alone
 returns-in-Ok-clause-alone c =

@@ -1,6 +1,6 @@
 use Rattle.crypt_c.specs.Calls.{IsSchemeMade, IsSettingRead}
-use Rattle.crypt_c.proofs.Reading.{both_alone, first_alone, second_alone}
-use Rattle.crypt_c.proofs.calls.read_both.Goals as goal
+use Rattle.crypt_c.proofs.ReadOnce.{both_alone, first_alone, second_alone}
+use Rattle.crypt_c.proofs.reading.setting_and_scheme.Goals as goal
 
 pub returns-in-Err-clause-alone : goal.returns-in-Err-clause-alone
 returns-in-Err-clause-alone c =

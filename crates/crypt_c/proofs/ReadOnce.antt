@@ -1,5 +1,5 @@
 -- What is handed in is read in one way alone.
-use Rattle.std.proofs.Common.{◌≡◌, ◌≤◌, ◌<◌, ℕ, List, length, Result, Ok, Err, refl, sym, ap, inl, inr, arith}
+use Rattle.std.proofs.Common.{◌≡◌, ◌≤◌, ℕ, List, Result, Ok, Err, sym, ap, inl, inr, arith}
 use Rattle.crypt_core.specs.Passwords.{IsPassword, password_limit}
 use Rattle.crypt_core.specs.declared.password.PasswordFault.TheVariants.{TooLong, HasNul}
 use Rattle.crypt_c.specs.Calls.{Both, IsLengthRead, IsPasswordRead}

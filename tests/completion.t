@@ -1,0 +1,194 @@
+#!/usr/bin/env perl
+# Tries the completions in bash, zsh and fish, as somebody meets them who presses Tab: what is offered at the end of a line.
+# The options are those of the program's help, the methods those of its list.
+#
+# bash is tried with its function, over the words that readline would make: alone, with "=" taken out of COMP_WORDBREAKS,
+# and with the package bash-completion, which has to find the file by its name. fish prints what it would offer. zsh runs
+# in a pseudo terminal, where it puts all that it would offer into its line.
+use strict;
+use warnings;
+use FindBin qw($Bin);
+use lib "$Bin/lib";
+use Suite;
+use Texts;
+use Test::More;
+
+my @options = map { /(?<!\S)--?[A-Za-z][\w-]*/g } run(program(), '--help')->{out} =~ /^ +(-.*?)(?:  |$)/mg;
+my @long = grep { /^--/ } @options;
+my @methods = (grep({ !/:/ } split /\n/, run(program(), '-m', 'help')->{out}), 'help');
+
+# All long options but these.
+sub but {
+    my %left = map { $_ => 1 } @_;
+    return [grep { !$left{$_} } @long];
+}
+
+# A line up to the cursor, and what is wanted there. The folder has the files "logins", "sha256sums" and "-file".
+my @lines = (
+    ['-m ', [@methods]], ['-m sha', [qw(sha256crypt sha512crypt)]], ['-m help', ['help']], ['-m lo', []],
+    ['--method ', [@methods]], ['--method sc', ['scrypt']], ['--method=', [map { "--method=$_" } @methods]],
+    ['--method=sc', ['--method=scrypt']], ['-mm', ['-mmd5crypt']], ['-msha', [qw(-msha256crypt -msha512crypt)]],
+    ['--check --method=sha', [qw(--method=sha256crypt --method=sha512crypt)]], ['password -m h', ['help']],
+    ['-', [@options]], ['--', [@long]], ['--me', ['--method']], ['--method', ['--method']], ['--b', [qw(--batch --budget)]],
+    ['--x', []], ['password --', [@long]], ['-m md5crypt pass salt --w', ['--work']], ['-S ab --re', ['--rehash']],
+    ['-s --', but(qw(--stdin --batch --check --rehash --budget))],
+    ['--stdin --', but(qw(--stdin --batch --check --rehash --budget))],
+    ['--batch --', but(qw(--stdin --batch --check --rehash))], ['--check --', but(qw(--stdin --batch --check))],
+    ['--rehash --ch', ['--check']], ['--batch -m md5crypt --b', ['--budget']],
+    (map { ["$_", []], ["${_}lo", []] } '', 'password ', 'password salt ', '-S ', '--salt ', '-R ', '--rounds ', '--budget ',
+        '--salt=', '--rounds=', '--budget=', '-S ab ', '-m md5crypt ', '-m md5crypt pass salt ', '-s ', '--batch ', '--check ',
+        '--check --rehash ', '-- ', '-- x '),
+    (map { [$_, []] } '-- -', '-- --b', '-- x -', '-m md5crypt -- --'),
+    ['--check < lo', ['logins']], ['--check < ', [qw(-file logins sha256sums)]],
+    ['--batch -m md5crypt > sha', ['sha256sums']], ['-- x > lo', ['logins']], ['< logins --ch', ['--check']],
+);
+mkdir "$scratch/$_" for qw(bin home folder share share/bash-completion share/bash-completion/completions);
+spew("$scratch/folder/$_", '') for qw(logins sha256sums -file);
+spew("$scratch/lines", join '', map { "mkpasswd $_->[0]\n" } @lines);
+symlink program(), "$scratch/bin/mkpasswd";
+symlink "$root/completions/mkpasswd.bash", "$scratch/share/bash-completion/completions/mkpasswd";
+
+# What a shell runs. It prints the number of a line and a word offered there, for each such word, and "end" at last.
+spew("$scratch/run.bash", <<'BASH');
+if [ -n "$package" ]; then
+    # What it says of other files doesn't matter here.
+    . "$package" 2> /dev/null
+    loader=$(complete -p -D)
+    loader=${loader#* -F }
+    "${loader%% *}" mkpasswd '' mkpasswd
+else
+    set -u
+    . "$folder/mkpasswd.bash"
+fi
+spec=$(complete -p mkpasswd)
+[ "$spec" = 'complete -F _mkpasswd mkpasswd' ] || echo "mkpasswd is completed by: $spec" >&2
+compopt() {
+    asked="$*"
+}
+number=0
+while IFS= read -r COMP_LINE; do
+    # The words of the line, and what is before the cursor in the last of them.
+    text=$COMP_LINE
+    for break in $breaks; do
+        text=${text//$break/ $break }
+    done
+    read -ra COMP_WORDS <<< "$text"
+    case $COMP_LINE in
+        *' ') COMP_WORDS+=('') ;;
+    esac
+    COMP_CWORD=$((${#COMP_WORDS[@]} - 1))
+    COMP_POINT=${#COMP_LINE}
+    word=${COMP_WORDS[COMP_CWORD]}
+    case " $breaks " in
+        *" $word "*) word= ;;
+    esac
+    whole=${COMP_LINE##* }
+    asked=
+    COMPREPLY=(left over)
+    _mkpasswd mkpasswd "$word" "${COMP_WORDS[COMP_CWORD - 1]}"
+    if [ "${#COMPREPLY[@]}" = 0 ] && [ "$asked" = '-o default' ]; then
+        mapfile -t COMPREPLY < <(compgen -f -- "$word")
+    fi
+    for reply in ${COMPREPLY[@]+"${COMPREPLY[@]}"}; do
+        echo "$number ${whole%"$word"}$reply"
+    done
+    number=$((number + 1))
+done < "$input"
+echo end
+BASH
+spew("$scratch/run.fish", <<'FISH');
+set fish_complete_path $folder $fish_complete_path
+set number 0
+for line in (cat $input)
+    for word in (complete -C $line | string replace -r '\t.*' '')
+        echo $number $word
+    end
+    set number (math $number + 1)
+end
+echo end
+FISH
+spew("$scratch/run.zsh", <<'ZSH');
+zmodload zsh/zpty || exit
+zpty inner 'exec zsh -f -i 2> $faults'
+zpty -w inner 'source $typed'
+while zpty -r inner shown; do :; done
+cat $answers
+cat $faults >&2
+ZSH
+spew("$scratch/typed.zsh", <<'ZSH');
+exec {answer}> $answers
+fpath=($folder $fpath)
+autoload -Uz compinit
+compinit -D -u
+offer-all() {
+    _main_complete
+    offered=$compstate[nmatches]
+    compstate[insert]=all
+    compstate[list]=
+}
+zle -C offer-all complete-word offer-all
+zle-line-init() {
+    local line word number=0 offered
+    while IFS= read -r line; do
+        BUFFER=$line CURSOR=$#line offered=0
+        zle offer-all
+        if (( offered )); then
+            # What is now where the last word was. zsh puts "=" after an option that takes a value.
+            for word in ${=BUFFER[${#${line% *}} + 2,-1]}; do
+                print -ru $answer -- $number ${word%=}
+            done
+        fi
+        (( ++number ))
+    done < $input
+    print -ru $answer end
+    BUFFER=exit
+    zle .accept-line
+}
+zle -N zle-line-init
+ZSH
+
+# Tests what a shell offers, line by line, and that it reports no fault.
+sub try {
+    my ($shell, $variables, @command) = @_;
+    my %env = (
+        (map { $_ => undef } qw(BASH_ENV ENV FPATH ZDOTDIR XDG_CONFIG_HOME XDG_DATA_HOME XDG_CACHE_HOME BASH_COMPLETION_USER_DIR)),
+        HOME => "$scratch/home", TERM => 'dumb', PATH => "$scratch/bin:$ENV{PATH}", folder => "$root/completions",
+        input => "$scratch/lines", XDG_DATA_DIRS => "$scratch/share:/usr/local/share:/usr/share", %$variables,
+    );
+    my $run = run({ dir => "$scratch/folder", env => \%env }, @command);
+    is("$run->{status} $run->{err}", '0 ', "$shell: no fault");
+    my %got;
+    push @{ $got{$1} }, $2 while $run->{out} =~ /^(\d+) (.*)$/mg;
+    like($run->{out}, qr/^end\n\z/m, "$shell: all lines are tried");
+    for (0 .. $#lines) {
+        is_deeply([sort @{ $got{$_} // [] }], [sort @{ $lines[$_][1] }], "$shell: 'mkpasswd $lines[$_][0]'");
+    }
+    my %taken = map { $_ => run(program(), '-m', $_, '-S', 'ab', 'password')->{status} } @{ $got{0} };
+    is_deeply([grep { $taken{$_} } sort keys %taken], [], "$shell: the program takes each method that is offered");
+    return;
+}
+
+subtest 'bash' => sub {
+    my @command = ('bash', '--norc', "$scratch/run.bash");
+    try('bash', { package => '', breaks => '= < >' }, @command);
+    try('bash where "=" parts no words', { package => '', breaks => '< >' }, @command);
+};
+
+subtest 'bash-completion' => sub {
+    my ($package) = grep { -f } map { "$_/bash-completion/bash_completion" } qw(/usr/share /usr/local/share);
+    needs('bash-completion', 'bash-completion', defined $package) or return;
+    try('bash-completion', { package => $package, breaks => '= < >' }, 'bash', '--norc', "$scratch/run.bash");
+};
+
+subtest 'zsh' => sub {
+    needs(zsh => 'zsh') or return;
+    my %files = (answers => "$scratch/answers", faults => "$scratch/faults", typed => "$scratch/typed.zsh");
+    try('zsh', \%files, 'zsh', '-f', "$scratch/run.zsh");
+};
+
+subtest 'fish' => sub {
+    needs(fish => 'fish') or return;
+    try('fish', {}, 'fish', '--no-config', "$scratch/run.fish");
+};
+
+done_testing;

@@ -1,0 +1,90 @@
+#!/usr/bin/env perl
+# Lets each read, each write, each call for memory and each call for random words of the program fail in turn, in each of its
+# modes. Each run has to end with the status 3, to tell the fault, and to have printed nothing but answers of a run that
+# goes well, those of all lines before in full. Where words are refused the status stays 2, whatever becomes of the text. Then reads and writes handle one byte each.
+#
+# One refusal of memory may go unheard, and the whole answer come: std makes the list of the words smaller in the end, and
+# where that is refused it stays as it was.
+use strict;
+use warnings;
+use FindBin;
+use lib "$FindBin::Bin/lib";
+use Model;
+use Suite;
+use Test::More;
+
+my $library = preload('faults');
+my %told = (memory => 'out of memory', read => 'read fault', write => 'write fault', random => 'start fault');
+
+# Runs the program with a fault. Beside what it did there are its calls: kind, detail, and whether it failed.
+sub with_fault {
+    my ($fault, $input, @words) = @_;
+    spew("$scratch/log", '');
+    my $run = run({ stdin => $input, env => { LD_PRELOAD => $library, FAULT => $fault, FAULT_LOG => "$scratch/log" } }, program(), @words);
+    $run->{calls} = [map { [split / /] } split /\n/, slurp("$scratch/log")];
+    return $run;
+}
+
+my $md5 = '$1$xxxxxxxx$UYCIxa628.9qXjpQCjM4a.';
+my @md5 = qw(-m md5crypt -S xxxxxxxx);
+my ($old, $new) = map { crypt 'password', $_ } '$7$2/..../....xxxxxxxx', '$7$BU..../....ab';
+my $of_alphabet = '[./0-9A-Za-z]';
+
+# The modes: a name, the input, the words, status, output (or a pattern of it) and fault output. The texts are
+# openssl-passwd(1)'s and libxcrypt's.
+for (
+    ['a password', '', [@md5, 'password'], 0, "$md5\n", ''],
+    ['a password that is read', "password\nmore\n", [@md5, '-s'], 0, "$md5\n", ''],
+    ['scrypt', '', [qw(-m scrypt -S ab x)], 0, "\$7\$CU..../....ab\$TioQ/OazCAbGpb/E7e054xV/7lAamSWFPOGclTgvmt0\n", ''],
+    ['the methods', '', [qw(-m help)], 0, "Available methods:\nmd5crypt\nsha256crypt\nsha512crypt\nscrypt\n", ''],
+    ['the version', '', ['-V'], 0, qr/\Amkpasswd [0-9.]+\n\z/, ''],
+    ['help', '', ['--help'], 0, qr/\APrints .*--stdin\.\n\z/s, ''],
+    ['a refusal', '', [qw(-m sha1 x)], 2, '', "mkpasswd: unknown method\n"],
+    ['a made salt', '', [qw(-m md5crypt password)], 0, qr/\A\$1\$${of_alphabet}{8}\$${of_alphabet}{22}\n\z/, ''],
+    ['no words', "password\n", [], 0, qr/\A\$6\$${of_alphabet}{16}\$${of_alphabet}{86}\n\z/, ''],
+    ['--batch', "ann:password\n:x\nbob:password\n", ['--batch', @md5], 1, "ann:$md5\nbob:$md5\n", "mkpasswd: line 2: no name\n"],
+    ['--batch, made salts', "ann:password\n", [qw(--batch -m md5crypt)], 0, qr/\Aann:\$1\$${of_alphabet}{8}\$${of_alphabet}{22}\n\z/, ''],
+    ['--check', "ann:$md5:password\nbob:$old:password\n::\ncat:$md5:Password\n", ['--check'], 1, "ann:ok\nbob:ok\ncat:no\n",
+        "mkpasswd: line 3: no name\n"],
+    ['--rehash from scrypt', "bob:$old:password\n", [qw(--check --rehash), @md5], 0, "bob:ok:$md5\n", ''],
+    ['--rehash between costs of scrypt', "ann::\nbob:$old:password\n", [qw(--check --rehash -m scrypt -R 6 -S ab)], 0, "ann:none\nbob:ok:$new\n", ''],
+    ['--rehash to scrypt', "bob:$md5:password\n", [qw(--check --rehash -m scrypt -R 6 -S ab)], 0, "bob:ok:$new\n", ''],
+) {
+    my ($mode, $input, $words, $status, $out, $err) = @$_;
+    subtest $mode => sub {
+        my $right = with_fault(undef, $input, @$words);
+        is($right->{status}, $status, 'status without a fault');
+        ref $out ? like($right->{out}, $out, 'output without a fault') : is($right->{out}, $out, 'output without a fault');
+        is($right->{err}, $err, 'fault output without a fault');
+        my %calls;
+        $calls{ $_->[0] }++ for @{ $right->{calls} };
+        ok($calls{memory} && $calls{write}, 'it asks for memory, and writes');
+        is(!$calls{read}, $input eq '', 'it reads where there is an input');
+        my $unheard = 0;
+        for my $kind (sort keys %told) {
+            for my $number (1 .. $calls{$kind} // 0) {
+                my $run = with_fault("$kind $number", $input, @$words);
+                my ($failed) = grep { $_->[2] } @{ $run->{calls} };
+                # Random words are missed only where something is hashed.
+                if ($kind eq 'random' && $mode =~ /methods|version|help|refusal/) {
+                    is_run($run, $status, $right->{out}, $err, "$kind $number fails, and is not missed");
+                    next;
+                }
+                if ($kind eq 'memory' && $run->{status} == $status && $run->{err} eq $err && @$words && !$unheard++) {
+                    ok(length $run->{out} == length $right->{out}, "$kind $number fails unheard");
+                    next;
+                }
+                my ($wanted, $told) = $kind eq 'write' && $status == 2 ? (2, '') : (3, "mkpasswd: $told{$kind}\n");
+                my $said = $run->{err};
+                my $is_told = $said =~ s/\Q$told\E\z// && index($err, $said) == 0;
+                my $is_front = ref $out ? length $run->{out} <= length $right->{out} : index($out, $run->{out}) == 0;
+                $is_front &&= $run->{out} =~ /(\A|\n)\z/ if $kind ne 'write';
+                ok($failed && $run->{status} == $wanted && $is_told && $is_front, "$kind $number fails")
+                    || diag("@{ $failed // ['no such call'] }: status $run->{status}, " . shown($run->{out}) . ', ' . shown($run->{err}));
+            }
+        }
+        my $short = with_fault('short', $input, @$words);
+        is_run($short, $status, $right->{out}, $err, 'reads and writes of one byte') unless $mode =~ /made salt|no words/;
+    };
+}
+done_testing;

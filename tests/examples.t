@@ -1,0 +1,147 @@
+#!/usr/bin/env perl
+# Runs the examples of README.md, docs and the manuals, whose output has to be the one shown, on both streams together. Those
+# of one document run in one folder, in their order. Then the recipes of README.md, with the system's chpasswd on files of
+# their own.
+#
+# Where two runs of a command without -S differ, it makes salts. Then the output has to have the form that is shown, and
+# each hash, the shown one too, has to be libxcrypt's for one word of the examples up to there, with another salt.
+use strict;
+use warnings;
+use FindBin qw($Bin);
+use lib "$Bin/lib";
+use Suite;
+use Texts;
+use Test::More;
+
+my $readme = slurp("$root/README.md");
+mkdir "$scratch/bin";
+symlink program(), "$scratch/bin/mkpasswd";
+symlink "$root/bin/mkpasswd-parallel", "$scratch/bin/mkpasswd-parallel";
+my %in = (env => { PATH => "$scratch/bin:$ENV{PATH}", BASH_ENV => undef });
+
+# A hash: its method and cost, its salt, its digest. Of its form the salt has only its length.
+my $hash = qr{(\$1\$|\$[56]\$(?:rounds=[0-9]+\$)?|\$7\$[./0-9A-Za-z]{11})([./0-9A-Za-z]+)\$([./0-9A-Za-z]+)};
+
+sub form_of { return $_[0] =~ s{$hash}{$1 . 's' x length($2) . "\$" . 'd' x length $3}ger }
+sub is_hash_of { return (crypt($_[1], $_[0]) // '') eq $_[0] }
+sub hashes_of {
+    my ($text) = @_;
+    my @hashes;
+    push @hashes, $& while $text =~ /$hash/g;
+    return @hashes;
+}
+
+# What is wrong with an output beside the one shown, both of a command that makes salts.
+sub difference {
+    my ($shown, $got, @words) = @_;
+    return 'another form' if form_of($shown) ne form_of($got);
+    my @got = hashes_of($got);
+    for my $shown_hash (hashes_of($shown)) {
+        my $made = shift @got;
+        my ($word) = grep { is_hash_of($made, $_) } reverse @words;
+        return "$made fits no word" if !defined $word;
+        return "$shown_hash doesn't fit '$word'" if !is_hash_of($shown_hash, $word);
+        return "$shown_hash has no new salt" if $shown_hash eq $made;
+    }
+    return '';
+}
+
+# The commands that the system lacks, found roughly: words where a command can stand, in no string.
+sub lacking {
+    my ($command) = @_;
+    my $bare = $command =~ s/'[^']*'|"[^"]*"/text/gr =~ s/\\\n/ /gr;
+    my @commands = grep { !/^mkpasswd/ } $bare =~ /(?:^|[|;&(])\s*([a-z][\w.-]*)/mg;
+    push @commands, 'parallel' if $bare =~ /\bmkpasswd-parallel\b/;
+    return grep { run('bash', '-c', 'command -v -- "$1"', '-', $_)->{status} } @commands;
+}
+
+# Tests one example; the words are those of the examples up to here, among which its passwords are.
+sub try_example {
+    my ($command, $shown, $folder, $words) = @_;
+    for (lacking($command)) {
+        return if !needs($_ => $_);
+    }
+    push @$words, split(/['":]|\\n|\n/, $command), split /[\s:'"|<>;]+|\\n/, $command;
+    my $output = sub { run({ %in, dir => $folder }, 'bash', '-c', "exec 2>&1\n$command")->{out} };
+    my $got = $output->();
+    my $makes_salts = $got ne $shown && $command !~ /(?:^|\s)(?:-S|--salt)/ && $output->() ne $got;
+    my ($name) = $command =~ /^(.*)/;
+    return is($got, $shown, $name) if !$makes_salts;
+    return is(difference($shown, $got, @$words), '', $name);
+}
+
+for my $path ("$root/README.md", glob("$root/docs/*.md"), glob "$root/man/*.[0-9]") {
+    my $text = slurp($path);
+    my ($name) = $path =~ m{([^/]*)\z};
+    my @examples = examples_of($text);
+    next if !@examples && $name !~ /^README|1\z/;
+    subtest $name => sub {
+        mkdir "$scratch/$name";
+        my @words;
+        try_example(@$_, "$scratch/$name", \@words) for @examples;
+        my $commands = () = $text =~ /^\$ /mg;
+        is(scalar @examples, $commands || 'some', "$name: all examples stand where examples are run");
+    };
+}
+
+# What a setting of README.md's table costs is the least budget that admits it.
+subtest 'costs in README.md' => sub {
+    my @costs = $readme =~ /^\| .* \| `(-m [^`]*)` \| (\d+) \| /mg;
+    is(@costs / 2, 8, 'settings with a cost');
+    while (my ($words, $cost) = splice @costs, 0, 2) {
+        my @batch = (program(), '--batch', split(' ', $words), '--budget');
+        is_run(run({ stdin => "x:password\n" }, @batch, $cost - 1), 1, '', "mkpasswd: line 1: over budget\n", "$words: below $cost");
+        my $hashed = run({ stdin => "x:password\n" }, @batch, $cost);
+        like($hashed->{out}, qr/^x:$hash$/, "$words: $cost");
+        my $line = $hashed->{out} =~ s/$/:password/mr;
+        my @check = (program(), '--check');
+        is_run(run({ stdin => $line }, @check, '--budget', $cost - 1), 1, '', "mkpasswd: line 1: over budget\n", "$words: a check below");
+        is_run(run({ stdin => $line }, @check, "--budget=+00$cost"), 0, "x:ok\n", '', "$words: a check");
+    }
+};
+
+subtest 'service in README.md' => sub {
+    my ($shown) = blocks_of(section_of($readme, 'Services in Rattle'), 'rust');
+    is($shown, slurp("$root/crates/service/src/lib.rt"), "README.md's service is the crate");
+};
+
+my $known = '$1$xxxxxxxx$UYCIxa628.9qXjpQCjM4a.';
+subtest 'recipes in README.md' => sub {
+    my @recipes = blocks_of(section_of($readme, 'Recipes'), 'sh');
+    is(scalar @recipes, 5, 'recipes');
+    my ($chpasswd) = run('sh', '-c', 'command -v chpasswd')->{out} =~ /(.+)/;
+    needs('root, or chpasswd,' => 'passwd', $> == 0 && $chpasswd) or return;
+    my ($folder, $system, $aged) = ("$scratch/recipes", "$scratch/system", ':19000:0:99999:7:::');
+    my $today = sub { ':' . int(time / 86400) . ':0:99999:7:::' };
+    mkdir $_ for $folder, $system, "$system/etc";
+    spew("$system/etc/passwd", join '', map { "$_:x:1000:1000::/:/bin/sh\n" } qw(ann bob eve));
+    spew("$system/etc/shadow", join '', map { "$_:!$aged\n" } qw(ann bob eve));
+    spew("$scratch/bin/chpasswd", "#!/bin/sh\nexec $chpasswd -R '$system' \"\$@\"\n");
+    chmod 0755, "$scratch/bin/chpasswd";
+    my $old = crypt('password', '$5$rounds=1000$ab');
+    spew("$folder/passwords", "ann:password\nbob:pass:word\n");
+    spew("$folder/password", "password\nmore\n");
+    spew("$folder/shadow", "ann:$old$aged\nbob:!$aged\nzoe:\$6\$rounds=999999999\$ab\$x$aged\neve:$known$aged\n");
+    spew("$folder/list", "eve:guess\neve:password\nbob:x\nzoe:x\nann:word\n");
+    spew("$folder/logins", "ann:$old:password\nbob:!:x\neve:$old:guess\n");
+    my $recipe = sub { run({ %in, dir => $folder }, 'bash', '-c', $recipes[ $_[0] ]) };
+    # Tests that a file has a line with a hash of the password, which begins with the prefix.
+    my $has_hash = sub {
+        my ($file, $front, $prefix, $password, $back, $name) = @_;
+        my ($made) = slurp($file) =~ m{^\Q$front\E(\Q$prefix\E[./0-9A-Za-z]+\$[./0-9A-Za-z]+)\Q$back\E$}m;
+        ok(defined $made && is_hash_of($made, $password), $name) or diag(slurp($file));
+    };
+
+    is_run($recipe->(0), 0, '', '', 'new passwords for many users');
+    $has_hash->("$system/etc/shadow", 'ann:', '$6$', 'password', $today->(), 'the password of ann is new');
+    $has_hash->("$system/etc/shadow", 'bob:', '$6$', 'pass:word', $today->(), 'the password of bob is new');
+    is_run($recipe->(1), 0, '', '', 'a line for an installer');
+    $has_hash->("$folder/preseed.cfg", 'd-i passwd/user-password-crypted password ', '$6$', 'password', '', "Debian's installer");
+    $has_hash->("$folder/site.ks", 'rootpw --iscrypted ', '$6$', 'password', '', 'kickstart');
+    is_run($recipe->(2), 0, "eve\n", "mkpasswd: line 5: over budget\n", 'who still has a password of a list');
+    is_run($recipe->(3), 0, '', '', 'a site moves to another method');
+    $has_hash->("$system/etc/shadow", 'ann:', '$6$rounds=10000$', 'password', $today->(), 'the password of ann is hashed anew');
+    is_run($recipe->(4), 0, "mkpasswd: line 3: over budget\n", '', 'stored hashes that could stall a login');
+};
+
+done_testing;

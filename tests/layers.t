@@ -1,0 +1,360 @@
+#!/usr/bin/env perl
+# No digest and no mixing passes the meter by, no count comes from a meter that nobody reads, and no text shows a password.
+# What is allowed is in lists here, as the tree has it, and a test fails for whatever else there is. So a change that is all
+# right can fail too: then a list has to grow. Each breach that tests/lib/breaches.pl plants has to be found.
+#
+# Sources are read without comments, strings and `ghost use`. Tests are what `#[cfg(test)] mod` leaves out of the program:
+# such a block, such a file, and the modules below it. A file that no module names is no test.
+use strict;
+use warnings;
+use File::Basename qw(dirname);
+use File::Find ();
+use FindBin qw($Bin);
+use lib "$Bin/lib";
+use List::Util qw(uniq);
+use Memoize qw(memoize);
+use Suite;
+use Test::More;
+
+# The crates, and what each may depend on: only prims_core has digests.
+my %dependencies = (
+    prims_core => 'arrayvec byteorder md5 sha2', kdf_core => 'prims_core thiserror',
+    crypt_core => 'arrayvec kdf_core prims_core rand_core thiserror',
+    run_core => 'arrayvec crypt_core itoa prims_core rand_core thiserror',
+    mkpasswd => 'arrayvec clap crypt_core itoa prims_core rand_core run_core thiserror', program => 'mkpasswd prims_core rand',
+    crypt_c => 'crypt_core prims_core', service => 'crypt_core',
+);
+
+# The implementations of Counted, by file: the digest's crate and its type there. What is called there, each once: the
+# trait's three functions by their definitions, and what these call.
+my $prims = 'crates/prims_core/src';
+my $counted = "$prims/counted";
+my %implementations = (
+    "$counted/counted_md5.rt" => [qw(md5 Md5)],
+    "$counted/counted_sha256.rt" => [qw(sha2 Sha256)],
+    "$counted/counted_sha512.rt" => [qw(sha2 Sha512)],
+);
+my @calls = qw(begin new feed update count_bytes len finish count_digest try_from finalize as_slice unwrap);
+
+# Where counts are raised, besides these files.
+my %raised = (count_mix => "$prims/mix.rt", count_table => "$prims/table.rt", count_scratch => "$prims/scratch.rt");
+
+# Where a block is mixed without a count: Salsa20/8 as a call of its own, which only tests use, and the mixing of one block,
+# which the two calls use that count. A name is in its own function twice where a clause has it too.
+my %mixings = (
+    "$prims/salsa.rt" => ['salsa8 in itself', 'salsa8_of in salsa8', 'salsa8_of in itself'],
+    "$prims/mix.rt" => [
+        'salsa8_of in no function', 'mixed_block in block_mix', 'mixed_block in block_mix_xor', 'mixed_block in itself',
+        'mixed_block in mixed_block', 'salsa8_of in mixed_block',
+    ],
+);
+
+# The type of a password, the calls for C, and the meter. Besides tests a meter is made by the program, and by the one
+# function of the calls for C that hashes: it makes a meter, hashes once with it, and returns its counts.
+my $password = 'crates/crypt_core/src/password.rt';
+my $exports = 'crates/crypt_c/src/lib.rt';
+my $meter = "$prims/meter.rt";
+my $counted_hash = qr/^\{\s*let mut meter = \KMeter::new\(\)(?=;\s*let before = meter\.reading\(\);\s*let hashed = hash\([^;{}]*, &mut meter\);\s*let work = meter\.work_since\(&before\);\s*\(hashed, work\)\s*\}$)/m;
+my %makes_meter = ('crates/program/src/main.rt' => qr/\bMeter::new\(\)/, 'crates/crypt_c/src/calls.rt' => $counted_hash);
+
+# Reading.
+
+# crates.txt and the sources of each crate, by their paths, and lists of dependencies for Bazel, which rt reads too.
+sub tree {
+    my @paths = ('crates.txt', map { substr $_, 1 + length $root } glob "'$root'/{,crates/*/}{BUILD,MODULE}*");
+    File::Find::find({ no_chdir => 1, wanted => sub { push @paths, substr $_, 1 + length $root if /\.rt\z/ } },
+        grep { -d } glob "'$root'/crates/*/src");
+    my %tree = map { $_ => slurp("$root/$_") } @paths;
+    utf8::decode($_) for values %tree;
+    return \%tree;
+}
+
+sub blank { return $_[0] =~ s/[^\n]/ /gr }
+
+# A source without comments, strings, characters and `ghost use`, each place staying where it is.
+memoize('code_of');
+sub code_of {
+    my ($text) = @_;
+    my $code = $text =~ s{
+        //[^\n]* | /\*.*?\*/ | \bb?r(\#*)".*?"\1 | "(?:[^"\\]|\\.)*" | '(?:\\[^'\n]+|\\'|[^'\\\n])'
+    }{blank($&)}gsexr;
+    return $code =~ s/\bghost\s+use\b[^;]*;/blank($&)/ger;
+}
+
+# Where the bracket that stands at the place is closed.
+sub closed {
+    my ($code, $place) = @_;
+    pos($code) = $place;
+    my $depth = 0;
+    while ($code =~ /\G[^{}]*([{}])/g) {
+        $depth += $1 eq '{' ? 1 : -1;
+        return pos $code if $depth == 0;
+    }
+    return length $code;
+}
+
+# The modules that a source declares, each with whether #[cfg(test)] stands before it, where it begins, and where
+# it ends if it is a block.
+memoize('modules');
+sub modules {
+    my ($code) = @_;
+    my $attribute = qr/#\s*\[(?:[^\[\]]|\[[^\[\]]*\])*\]/;
+    my $public = qr/\bpub\b\s*(?:\([^()]*\)\s*)?/;
+    my @modules;
+    while ($code =~ /((?:$attribute\s*)*)(?:$public)?\bmod\s+(\w+)\s*([;{])/g) {
+        my %module = (name => $2, begin => $-[0]);
+        $module{end} = closed($code, $+[0] - 1) if $3 eq '{';
+        $module{is_test} = grep { s/\s//gr eq '#[cfg(test)]' } $1 =~ /$attribute/g;
+        push @modules, \%module;
+    }
+    return @modules;
+}
+
+# Follows the modules of a source, and notes in $reached of each file whether it is the program's or a test's.
+sub follow {
+    my ($tree, $path, $is_test, $reached) = @_;
+    return if $reached->{$path}{$is_test}++;
+    my @modules = modules(code_of($tree->{$path}));
+    my $folder = $path =~ m{/(?:lib|main|mod)\.rt\z} ? dirname($path) : $path =~ s/\.rt\z//r;
+    my @blocks = grep { defined $_->{end} } @modules;
+    for my $module (grep { !defined $_->{end} } @modules) {
+        my @around = grep { $_->{begin} < $module->{begin} && $module->{begin} < $_->{end} } @blocks;
+        my $below = join '/', $folder, map { $_->{name} } @around, $module;
+        my $is_below_test = grep { $_->{is_test} } @around, $module;
+        for my $file (grep { exists $tree->{$_} } "$below.rt", "$below/mod.rt") {
+            follow($tree, $file, $is_test || $is_below_test ? 1 : 0, $reached);
+        }
+    }
+}
+
+# The sources, each with all its code, and with the part of it that isn't tests.
+sub sources {
+    my ($tree) = @_;
+    my %reached;
+    follow($tree, $_, 0, \%reached) for grep { m{^crates/\w+/src/(?:lib|main)\.rt\z} } sort keys %$tree;
+    my @sources;
+    for my $path (grep { /\.rt\z/ } sort keys %$tree) {
+        my $code = code_of($tree->{$path});
+        my $product = $code;
+        for my $module (grep { $_->{is_test} && defined $_->{end} } modules($code)) {
+            my $length = $module->{end} - $module->{begin};
+            substr($product, $module->{begin}, $length) = blank(substr $code, $module->{begin}, $length);
+        }
+        my $is_test = $reached{$path}{1} && !$reached{$path}{0};
+        push @sources, { path => $path, code => $code, product => $is_test ? blank($code) : $product };
+    }
+    return @sources;
+}
+
+# Where a form stands in code that has none of the allowed forms.
+sub places {
+    my ($code, $form, @allowed) = @_;
+    for my $allowed (@allowed) { $code =~ s/$allowed/blank($&)/ge }
+    my @places;
+    push @places, $-[0] while $code =~ /$form/g;
+    return @places;
+}
+
+# Rules. Each has what is wrong where it is broken, and a call that returns those places in a source: in all its code, or in
+# its product, which is without tests.
+my $tests = qr/#\[cfg\(test\)\]\s*mod tests;/;
+my $odd_item = qr/\b(?:mod|trait|type|static|dyn)\b|\w\s*!/;
+
+my @rules = (
+    # Only the implementations name a digest crate, and only in one `use` each.
+    ['a digest crate is named beside the implementations of Counted', sub {
+        my ($path, $code) = @_;
+        my $digest = qr/\b(?:md5|sha2)\s*::|::\s*(?:md5|sha2)\b|\b(?:use|extern)\b[^;]*\b(?:md5|sha2)\b/;
+        my ($crate, $type) = @{ $implementations{$path} // [] };
+        return places($code, $digest, $crate ? qr/(?<=;)\s*\Kuse ${crate}::\{Digest, $type\};/ : ());
+    }],
+    # It is one private field, two impls and three functions. These make, feed and finish one digest, and nothing is derived
+    # that would copy it.
+    ['an implementation of Counted has more than its counted digest', sub {
+        my ($path, undef, $product) = @_;
+        my ($crate, $type) = @{ $implementations{$path} // return };
+        my $name = "Counted$type";
+        return (
+            places($product, qr/\b(?:Digest|$type|running)\b/, qr/\buse ${crate}::\{Digest, $type\};/,
+                qr/\brunning: $type(?:::new\(\))?,/, qr/\bself\.running\.(?:update|finalize)\(/,
+                qr/\bghost (?:Value|view) = \{[^{}]*\};/),
+            other_calls($product =~ s/#\[[^\]]*\]/blank($&)/ger),
+            places($product, qr/\bpub\b/, qr/\bpub struct $name \{/),
+            places($product, qr/\bimpl\b/, qr/\bimpl (?:Model|Counted) for $name \{/),
+            places($product, qr/\bderive\b/, qr/#\[derive\(Debug, Drop\)\]\s*pub struct $name /),
+            places($product, $odd_item, $tests),
+        );
+    }],
+    # The module of Counted offers the trait and the three types, and has no other module than theirs.
+    ['more stands beside Counted than its three types', sub {
+        my ($path, undef, $product) = @_;
+        return $product =~ /\S/ ? 0 : () if $path =~ m{^\Q$counted\E/} && !$implementations{$path};
+        return () if $path ne "$counted.rt";
+        my $module = join '|', map { s{^.*/|\.rt\z}{}gr } keys %implementations;
+        my $type = join '|', map { "Counted$_->[1]" } values %implementations;
+        return (
+            places($product, qr/\bpub\b/, qr/\bpub trait Counted: Drop \{/, qr/\bpub use (?:$module)::(?:$type);/),
+            places($product, qr/\bmod\b/, qr/\bmod (?:$module);/, $tests), places($product, qr/\bimpl\b/),
+        );
+    }],
+    # One function makes a meter, and each other one tells a count to anyone, or raises one for this crate alone. The fields
+    # are private, and nothing is derived or implemented that makes, copies or sets a meter.
+    ['a meter is made, copied or set by more than its own calls', sub {
+        my ($path, undef, $product) = @_;
+        return () if $path ne $meter;
+        my $new = qr/\bpub fn new\(\) -> Self\b/;
+        return (
+            1 == (() = $product =~ /$new/g) ? () : 0,
+            places($product, qr/\bfn\b/, $new, qr/\bpub fn \w+\(&self\) -> u128\b/,
+                qr/\bpub\(crate\) fn count_\w+\(&mut self(?:, \w+: usize)?\)(?!\s*->)/,
+                qr/\bpub fn reading\(&self\) -> Reading\b/, qr/\bpub fn work_since\(&self, reading: &Reading\) -> Work\b/),
+            places($product, qr/\bpub\b/, qr/\bpub struct (?:Meter|Reading|Work) \{/, qr/\bpub \w+: u64,/, qr/\bpub(?:\(crate\))? fn\b/),
+            places($product, qr/\bMeter\b/, qr/\bpub struct Meter \{/, qr/\bimpl (?:Model for )?Meter \{/, qr/\{\s*\KMeter \{/),
+            places($product, qr/\bSelf\b/, $new),
+            places($product, qr/\bderive\b/, qr/#\[derive\(Debug, Drop\)\]\s*pub struct Meter /,
+                qr/#\[derive\(Clone, Copy, Debug\)\]\s*pub struct Reading /,
+                qr/#\[derive\(Clone, Copy, Debug, PartialEq, Eq\)\]\s*pub struct Work /),
+            places($product, $odd_item, $tests),
+        );
+    }],
+    # Elsewhere a meter is a parameter or a field behind a reference, its type is brought in by its own name, and only the
+    # program and the calls for C make one.
+    ['a meter is more than lent', sub {
+        my ($path, undef, $product) = @_;
+        return () if $path eq $meter;
+        my $crate = $path =~ m{^$prims/} ? 'crate' : 'prims_core';
+        my $name = qr/(?:Meter|Reading|Work)/;
+        my $import = qr/(?:\A|(?<=[;}\]]))\s*\K(?:use ${crate}::meter::(?:$name|\{$name(?:, $name)*\});|pub use ${crate}::meter::Work;)/;
+        return (
+            places($product, qr/\bMeter\b/, $import, qr/\w: &(?:'\w+ )?(?:mut )?Meter(?=[,)])/, $makes_meter{$path} // ()),
+            places($product, qr/\bmeter\s*::|::\s*meter\b|\buse\b[^;]*\bmeter\b/, $import),
+        );
+    }],
+    # Nothing is counted that was not done.
+    ['a count is raised beside its work', sub {
+        my ($path, undef, $product) = @_;
+        return () if $path eq $meter || $implementations{$path};
+        my @here = map { qr/\bmeter\.$_\(/ } grep { $raised{$_} eq $path } keys %raised;
+        return places($product, qr/\bcount_(?:bytes|digest|mix|table|scratch)\b/, @here);
+    }],
+    # Each of the names is in the functions of the list, as often as there, and nowhere else.
+    ['a block is mixed that nobody counts', sub {
+        my ($path, undef, $product) = @_;
+        my %left;
+        $left{$_}++ for @{ $mixings{$path} // [] };
+        return grep {
+            my ($before, $name) = (substr($product, 0, $_), substr($product, $_) =~ /\A(\w+)/);
+            my $function = $before =~ /\bfn\s+\z/ ? 'itself' : $before =~ /.*\bfn\s+(\w+)/s ? $1 : 'no function';
+            ($left{"$name in $function"}-- // 0) <= 0;
+        } places($product, qr/\b(?:salsa8|salsa8_of|mixed_block)\b/);
+    }],
+    # The type of a password derives neither Debug nor Display and implements neither.
+    ['a password can be printed', sub {
+        my ($path, undef, $product) = @_;
+        my $shows = qr/\b\w*(?:Debug|Display)\b/;
+        return (
+            places($product, qr/\bimpl\b[^{};]*$shows[^{};]*\bfor\s+(?:\w+\s*::\s*)*Password\b/),
+            $path ne $password ? ()
+                : places($product, qr/#\s*\[\s*derive\b[^\]]*$shows/, qr/#\[derive\([^\]]*\)\]\s*pub enum PasswordFault /),
+        );
+    }],
+    # No macro of the tree's own, no file under another name, nothing unsafe but the names of the calls for C, and no text that
+    # goes on after its end.
+    ['what is written is not what is read', sub {
+        my ($path, $code, $product) = @_;
+        return (
+            places($code, qr/\bmacro_rules\b|\binclude\s*!|#!?\s*\[[^\]]*\b(?:path|cfg_attr)\b|"|\/\*/),
+            places($product, qr/\b(?:unsafe|extern)\b/,
+                $path eq $exports ? qr/#\[unsafe\(no_mangle\)\]\s*pub extern\s+fn mkpasswd_\w+\(/ : ()),
+        );
+    }],
+);
+
+# Where something is called that isn't one of @calls, or is called again; the source's begin where one is missing.
+sub other_calls {
+    my ($code) = @_;
+    my %left = map { $_ => 1 } @calls;
+    my @places;
+    while ($code =~ /(\w+)\s*(?:::\s*<[^()]*>\s*)?\(/g) {
+        push @places, $-[0] unless delete $left{$1};
+    }
+    return (@places, %left ? 0 : ());
+}
+
+# A crate has a line in the list here, and depends on nothing but what the list has.
+sub breaches_of_list {
+    my ($number, @breaches) = 0;
+    for my $line (split /\n/, $_[0]) {
+        $number++;
+        my ($crates, $listed) = split /:/, $line =~ s/#.*//r, 2;
+        my ($crate) = split ' ', $crates // '' or next;
+        my %allowed = map { $_ => 1 } split ' ', $dependencies{$crate} // '';
+        next if %allowed && !grep { !$allowed{$_} } split ' ', $listed // '';
+        push @breaches, "crates.txt:$number: a crate or a dependency that is not allowed: $line";
+    }
+    return @breaches;
+}
+
+# What is wrong with a source: a line for each breach.
+memoize('breaches_of_source');
+sub breaches_of_source {
+    my ($path, $text, $code, $product) = @_;
+    return uniq map {
+        my ($what, $broken) = @$_;
+        map {
+            my $before = substr($code, 0, $_) =~ tr/\n//;
+            my $line = (split /\n/, $text, -1)[$before] =~ s/^\s+//r;
+            "$path:" . ($before + 1) . ": $what: $line";
+        } sort { $a <=> $b } $broken->($path, $code, $product);
+    } @rules;
+}
+
+# What is wrong with a tree.
+sub breaches {
+    my ($tree) = @_;
+    my @needed = ($meter, "$counted.rt", sort(keys %implementations), sort keys %makes_meter);
+    my @lost = grep { !exists $tree->{$_} } @needed;
+    my @lists = grep { m{(?:^|/)(?:BUILD|MODULE)[^/]*\z} } sort keys %$tree;
+    return (
+        (map { "$_: dependencies stand in crates.txt alone" } @lists),
+        (map { "$_: is not there, and nothing is known of what stands in its place" } @lost),
+        breaches_of_list($tree->{'crates.txt'}),
+        map { breaches_of_source($_->{path}, $tree->{ $_->{path} }, @$_{qw(code product)}) } sources($tree),
+    );
+}
+
+# The breaches of the tree with the changes of a row of breaches.pl.
+sub breaches_with {
+    my ($tree, @changes) = @_;
+    my %changed = %$tree;
+    while (my ($path, $change) = splice @changes, 0, 2) {
+        if (!defined $change) {
+            delete $changed{$path};
+            next;
+        }
+        my ($old, $new) = ref $change ? @$change : ();
+        my $found = defined $old ? () = $changed{$path} =~ /\Q$old\E/g : 1;
+        return "$old: stands $found times in $path" if $found != 1;
+        $changed{$path} = defined $old ? $changed{$path} =~ s/\Q$old\E/$new/r : ($changed{$path} // '') . "$change\n";
+    }
+    return breaches(\%changed);
+}
+
+my $tree = tree();
+binmode Test::More->builder->$_, ':encoding(UTF-8)' for qw(output failure_output);
+cmp_ok(keys %$tree, '>', 40, 'the sources are read');
+is_deeply([breaches($tree)], [], 'the layers hold');
+
+my $planted = do "$Bin/lib/breaches.pl" or die "breaches.pl: $@$!\n";
+subtest 'planted breaches' => sub {
+    for (@{ $planted->{breaches} }) {
+        my ($what, @changes) = @$_;
+        my @found = breaches_with($tree, @changes);
+        ok((grep { /^\Q$changes[0]\E:/ } @found), $what) or diag(@found);
+    }
+};
+subtest 'what is allowed' => sub {
+    is_deeply([breaches_with($tree, @$_[1 .. $#$_])], [], $_->[0]) for @{ $planted->{passed} };
+};
+
+done_testing;

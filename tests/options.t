@@ -1,0 +1,122 @@
+#!/usr/bin/env perl
+# Compares what is written about the program with the table of facts: options, refusals, methods and limits. An option that
+# the program's help has and another text lacks fails there by its name.
+use strict;
+use warnings;
+use FindBin qw($Bin);
+use lib "$Bin/lib";
+use Suite;
+use Texts;
+use Test::More;
+
+my $readme = slurp("$root/README.md");
+my $manual = slurp("$root/man/mkpasswd.1");
+my $header = slurp("$root/include/mkpasswd.h");
+my $help = run(program(), '--help')->{out};
+
+# Tests that a text has the wanted options, one by one, and no other ones.
+sub compare {
+    my ($place, $wanted, $got, $names) = @_;
+    my %wanted = map { $_ => $names || !$wanted->{$_} ? $wanted->{$_} : '=' } keys %$wanted;
+    for (sort keys %{ { %wanted, %$got } }) {
+        my $value = defined $got->{$_} && !$names && $got->{$_} ? '=' : $got->{$_};
+        is($value, $wanted{$_}, "$place: $_");
+    }
+    return;
+}
+
+# The options in the table, and those in a command's help, in which a new one is seen first.
+sub wanted {
+    my ($command, $help_text) = @_;
+    my %table = map { my ($short, $long, $value) = @$_; map { $_ => $value } grep { $_ } $short, $long } facts($command);
+    return (\%table, { %{ options_of('help', $help_text) }, %table });
+}
+
+is($help, slurp("$root/tools/help"), 'help is as it was written down, whole');
+
+my ($table, $wanted) = wanted('mkpasswd', $help);
+for (
+    ['help', 'help', $help, 1], ['manual', 'manual', $manual, 1], ['README.md', 'readme', $readme, 1],
+    ['bash', 'bash', slurp("$root/completions/mkpasswd.bash")], ['zsh', 'zsh', slurp("$root/completions/_mkpasswd"), 1],
+    ['fish', 'fish', slurp("$root/completions/mkpasswd.fish")],
+) {
+    my ($place, $kind, $text, $names) = @$_;
+    subtest $place => sub { compare($place, $kind eq 'help' ? $table : $wanted, options_of($kind, $text), $names) };
+}
+
+subtest 'mkpasswd-parallel' => sub {
+    my $own_help = run("$root/bin/mkpasswd-parallel", '--help')->{out};
+    my ($own_table, $own_wanted) = wanted('mkpasswd-parallel', $own_help);
+    compare('help of mkpasswd-parallel', $own_table, options_of('help', $own_help), 1);
+    compare('mkpasswd-parallel.1', $own_wanted, options_of('manual', slurp("$root/man/mkpasswd-parallel.1")), 1);
+};
+
+subtest 'refusals' => sub {
+    my @refusals = facts('refusal');
+    my @run = map { "$_->[1] $_->[0]" } grep { $_->[1] } @refusals;
+    my @line = map { $_->[0] } grep { $_->[2] } @refusals;
+    for (['README.md', refusals_of('readme', $readme)], ['manual', refusals_of('manual', $manual)]) {
+        my ($place, $got_run, $got_line) = @$_;
+        is_deeply($got_run, \@run, "$place: refusals of a run");
+        is_deeply($got_line, \@line, "$place: refusals of a line");
+    }
+    my %numbers = $header =~ /^#define MKPASSWD_\w+ \((-\d+)\) +\/\* (.*?)(?::| \*\/)/mg;
+    is_deeply(\%numbers, { map { $_->[3] ? ($_->[3] => $_->[0]) : () } @refusals }, 'mkpasswd.h: numbers of refusals');
+};
+
+subtest 'methods' => sub {
+    my @methods = facts('method');
+    is(run(program(), '-m', 'help')->{out}, join("\n", 'Available methods:', map({ $_->[0] } @methods), ''), 'list of methods');
+    my %rows = $manual =~ /^\.It (\w+) Ta (.*\$ Ta .*)/mg;
+    for (@methods) {
+        my ($name, $short, $prefix, $most, $new) = @$_;
+        is($rows{$name}, ($short && "$short ") . "Ta $prefix Ta 1 to $most Ta $new characters", "manual: $name");
+        for my $type ($name, $short || ()) {
+            my $cost = $name eq 'scrypt' ? 6 : 0;
+            my $run = run(program(), '-m', $type, '-R', $cost, '-S', 'a' x $most, 'x');
+            like($run->{out}, qr/^\Q$prefix\E/, "$type takes a salt of $most characters");
+            is_run(run(program(), '-m', $type, '-R', $cost, '-S', 'a' x ($most + 1), 'x'), 2, '', "mkpasswd: salt length\n",
+                "$type takes no longer one");
+        }
+        my $salt = run(program(), '-m', $name, '-R', $name eq 'scrypt' ? 6 : 0, 'x')->{out} =~ m{\$([./\w]+)\$[./\w]+$} ? $1 : '';
+        is(length($salt) - ($name eq 'scrypt' ? 11 : 0), $new, "$name: a new salt has $new characters");
+    }
+    is_deeply({ $header =~ /^#define MKPASSWD_(\w+CRYPT) (\d)$/mg },
+        { map { uc($_->[0]) => $_->[2] =~ tr/$//dr } @methods }, 'mkpasswd.h: numbers of methods');
+};
+
+subtest 'limits' => sub {
+    my %limits = map { @$_ } facts('limit');
+    my $formats = slurp("$root/docs/FORMATS.md");
+    my $parallel = slurp("$root/bin/mkpasswd-parallel");
+    my @said = (
+        ['help', $help, 'password', qr/password, of at most ([\d,]+) bytes/],
+        ['help', $help, 'least scrypt cost', qr/(\d+) to \d+ for scrypt/],
+        ['help', $help, 'most scrypt cost', qr/\d+ to (\d+) for scrypt/],
+        ['mkpasswd.h', $header, 'password', qr/MKPASSWD_PASSWORD_LIMIT (\d+)/],
+        ['mkpasswd.h', $header, 'setting', qr/setting too long: more than (\d+) bytes/],
+        ['mkpasswd.h', $header, 'scrypt product', qr/N \* r \* p is above (\d+)/],
+        ['login.py', slurp("$root/examples/login.py"), 'password', qr/PASSWORD_LIMIT = (\d+)/],
+        ['mkpasswd-parallel', $parallel, 'line', qr/longest_line = (\d+)/],
+        ['manual', $manual, 'password', qr/A password has at most ([\d,]+) bytes/],
+        ['manual', $manual, 'line', qr/line too long Ta it has more than ([\d,]+) bytes/],
+        ['manual', $manual, 'name', qr/name too long Ta more than (\d+) bytes/],
+        ['manual', $manual, 'setting', qr/setting too long Ta the field has more than (\d+) bytes/],
+        ['manual', $manual, 'scrypt product', qr/above ceiling Ta N \* r \* p is more than (\d+)/],
+        ['manual', $manual, 'least rounds', qr/One below (\d+) counts as/],
+        ['manual', $manual, 'most rounds', qr/one above (\d+) as that/],
+        ['FORMATS.md', $formats, 'password', qr/^\| password \| ([\d,]+) bytes/m],
+        ['FORMATS.md', $formats, 'line', qr/^\| line \| ([\d,]+) bytes/m],
+        ['FORMATS.md', $formats, 'name', qr/^\| name in a line \| 1 to (\d+) bytes/m],
+        ['FORMATS.md', $formats, 'setting', qr/^\| setting or stored text \| (\d+) bytes/m],
+        ['FORMATS.md', $formats, 'least rounds', qr/^\| rounds of SHA-crypt \| (\d+) to/m],
+        ['FORMATS.md', $formats, 'most rounds', qr/^\| rounds of SHA-crypt \| \d+ to (\d+)/m],
+        ['FORMATS.md', $formats, 'scrypt product', qr/^\| scrypt \| N \* r \* p at most (\d+)/m],
+    );
+    for (@said) {
+        my ($place, $text, $limit, $form) = @$_;
+        is($text =~ $form ? $1 =~ tr/,//dr : undef, $limits{$limit}, "$place: limit of $limit");
+    }
+};
+
+done_testing;
