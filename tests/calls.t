@@ -49,10 +49,7 @@ my %steps = (
 );
 my ($refused, @words) = (0);    # which allocation is refused, from 1; the words that the system draws, if it does
 
-sub salt_of {
-    my ($length, @of) = @_;
-    return join '', map { $characters[$of[$_ / 10] >> 6 * ($_ % 10) & 63] } 0 .. $length - 1;
-}
+sub salt_of { my ($length, @of) = @_; return join '', map { $characters[$of[$_ / 10] >> 6 * ($_ % 10) & 63] } 0 .. $length - 1 }
 
 # The line for a call. A null password counts as a byte 0, a null text as an empty one, a null `out` as one without room.
 sub line {
@@ -368,10 +365,9 @@ subtest 'warnings' => sub {
         is(told($compiler, $all, @static), '', "$compiler: strings may be null");
         is(run("$scratch/told")->{status}, 0, "$compiler: and then no call does anything");
         for my $old (qw(fits cost replaced refusal)) {
-            for (['static', "$libs/libmkpasswd.a"], ['shared', "$libs/libmkpasswd.so"]) {
-                my ($kind, $library) = @$_;
-                my $told = told($compiler, "extern int mkpasswd_$old(void); return mkpasswd_$old();", "-I$include", $library);
-                like($told, qr/undefined reference to [`']mkpasswd_$old'/, "$compiler, $kind: mkpasswd_$old is gone");
+            for my $kind ('a', 'so') {
+                my $told = told($compiler, "extern int mkpasswd_$old(void); return mkpasswd_$old();", "-I$include", "$libs/libmkpasswd.$kind");
+                like($told, qr/undefined reference to [`']mkpasswd_$old'/, "$compiler: mkpasswd_$old is gone from libmkpasswd.$kind");
             }
         }
     }
@@ -381,7 +377,7 @@ subtest 'warnings' => sub {
 sub readme_block {
     my ($language) = @_;
     my ($section) = slurp("$root/README.md") =~ /^### Services in C\n(.*?)^### /ms;
-    return ((($section // '') =~ /^```$language\n(.*?)^```$/msg)[-1] // '');
+    return (($section // '') =~ /^```$language\n(.*?)^```$/msg)[-1] // '';
 }
 
 subtest 'what is installed' => sub {

@@ -30,8 +30,8 @@ my @md5 = qw(-m md5crypt -S xxxxxxxx);
 my ($old, $new) = map { crypt 'password', $_ } '$7$2/..../....xxxxxxxx', '$7$BU..../....ab';
 my $of_alphabet = '[./0-9A-Za-z]';
 
-# The modes: a name, the input, the words, status, output (or a pattern of it) and fault output. The texts are
-# openssl-passwd(1)'s and libxcrypt's.
+# The modes: a name, the input, the words, status, output (or a pattern of it) and fault output, and how many calls for
+# memory come after the first answer. The texts are openssl-passwd(1)'s and libxcrypt's.
 for (
     ['a password', '', [@md5, 'password'], 0, "$md5\n", ''],
     ['a password that is read', "password\nmore\n", [@md5, '-s'], 0, "$md5\n", ''],
@@ -45,12 +45,12 @@ for (
     ['--batch', "ann:password\n:x\nbob:password\n", ['--batch', @md5], 1, "ann:$md5\nbob:$md5\n", "mkpasswd: line 2: no name\n"],
     ['--batch, made salts', "ann:password\n", [qw(--batch -m md5crypt)], 0, qr/\Aann:\$1\$${of_alphabet}{8}\$${of_alphabet}{22}\n\z/, ''],
     ['--check', "ann:$md5:password\nbob:$old:password\n::\ncat:$md5:Password\n", ['--check'], 1, "ann:ok\nbob:ok\ncat:no\n",
-        "mkpasswd: line 3: no name\n"],
+        "mkpasswd: line 3: no name\n", 3],
     ['--rehash from scrypt', "bob:$old:password\n", [qw(--check --rehash), @md5], 0, "bob:ok:$md5\n", ''],
-    ['--rehash between costs of scrypt', "ann::\nbob:$old:password\n", [qw(--check --rehash -m scrypt -R 6 -S ab)], 0, "ann:none\nbob:ok:$new\n", ''],
+    ['--rehash between costs of scrypt', "ann::\nbob:$old:password\n", [qw(--check --rehash -m scrypt -R 6 -S ab)], 0, "ann:none\nbob:ok:$new\n", '', 6],
     ['--rehash to scrypt', "bob:$md5:password\n", [qw(--check --rehash -m scrypt -R 6 -S ab)], 0, "bob:ok:$new\n", ''],
 ) {
-    my ($mode, $input, $words, $status, $out, $err) = @$_;
+    my ($mode, $input, $words, $status, $out, $err, $after) = @$_;
     subtest $mode => sub {
         my $right = with_fault(undef, $input, @$words);
         is($right->{status}, $status, 'status without a fault');
@@ -60,7 +60,7 @@ for (
         $calls{ $_->[0] }++ for @{ $right->{calls} };
         ok($calls{memory} && $calls{write}, 'it asks for memory, and writes');
         is(!$calls{read}, $input eq '', 'it reads where there is an input');
-        my $unheard = 0;
+        my ($unheard, $answered) = (0, 0);
         for my $kind (sort keys %told) {
             for my $number (1 .. $calls{$kind} // 0) {
                 my $run = with_fault("$kind $number", $input, @$words);
@@ -79,10 +79,12 @@ for (
                 my $is_told = $said =~ s/\Q$told\E\z// && index($err, $said) == 0;
                 my $is_front = ref $out ? length $run->{out} <= length $right->{out} : index($out, $run->{out}) == 0;
                 $is_front &&= $run->{out} =~ /(\A|\n)\z/ if $kind ne 'write';
+                $answered++ if $kind eq 'memory' && $run->{out} ne '';
                 ok($failed && $run->{status} == $wanted && $is_told && $is_front, "$kind $number fails")
                     || diag("@{ $failed // ['no such call'] }: status $run->{status}, " . shown($run->{out}) . ', ' . shown($run->{err}));
             }
         }
+        is($answered, $after // 0, 'calls for memory that fail after the first answer');
         my $short = with_fault('short', $input, @$words);
         is_run($short, $status, $right->{out}, $err, 'reads and writes of one byte') unless $mode =~ /made salt|no words/;
     };
