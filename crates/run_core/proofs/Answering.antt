@@ -1,5 +1,5 @@
 -- The texts of outcomes, how far an answer raises the counts, and the room that it leaves.
-use Rattle.std.proofs.Common.{◌≡◌, ◌≢◌, Bool, ℕ, ◌+◌, ◌<◌, ◌≤◌, List, [], length, Option, Result, Ok, Err, refl, arith}
+use Rattle.std.proofs.Common.{◌≡◌, ◌≢◌, Bool, ℕ, ◌+◌, ◌≤◌, List, [], Option, Result, Ok, Err, refl, arith}
 use Rattle.prims_core.specs.declared.meter.Work.{Work}
 use Rattle.run_core.specs.Answers.{Answer, after_work}
 use Rattle.run_core.specs.Devices.{Device, IsUnfailed, IsUnflushed, calls_limit}

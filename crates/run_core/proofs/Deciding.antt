@@ -1,5 +1,5 @@
 -- What a line comes to, by its parts and its field.
-use Rattle.std.proofs.Common.{◌≡◌, ◌≢◌, ℕ, ◌<◌, Bool, true, false, List, [], ◌∷◌, length, Option, Some, None, Result, Ok, Err, inl, inr, refl, sym, ap, subst, ◌∙◌, true≢false, arith}
+use Rattle.std.proofs.Common.{◌≡◌, ℕ, Bool, true, false, List, [], ◌∷◌, length, Option, Some, None, Ok, inl, inr, refl, sym, ap, subst, ◌∙◌, true≢false, arith}
 use Rattle.std.specs.Bool.{Decides}
 use Rattle.std.specs.Str.{bytes_eq}
 use Rattle.std.proofs.lemmas.Option.{none-some}
@@ -13,14 +13,14 @@ use Rattle.crypt_core.specs.declared.stored.StoredField.{StoredField}
 use Rattle.crypt_core.specs.declared.stored.StoredField.TheVariants as fields
 use Rattle.run_core.specs.Answers.{Hashing, hashing, new_hash, new_hashing}
 use Rattle.run_core.specs.JobOptions.{IsAbove, check_cost, is_outdated}
-use Rattle.run_core.specs.LineAnswers.{Decision, IsCostly, IsDecision, HasSoundParts, decision}
+use Rattle.run_core.specs.LineAnswers.{IsCostly, IsDecision, HasSoundParts, decision}
 use Rattle.run_core.specs.LineAnswers.IsDecision.{hashed, none, locked, ok, rehashed, no}
-use Rattle.run_core.specs.Lines.{HasParts, Parts}
+use Rattle.run_core.specs.Lines.{Parts}
 use Rattle.run_core.specs.Makers.{made_cost_by, stream_after}
 use Rattle.run_core.specs.Private.Answers.{IsChecked, IsSettled, field_cost}
 use Rattle.run_core.specs.Private.Lines.{IsFieldOf, IsLine}
 use Rattle.run_core.specs.declared.answer.Outcome.{Outcome}
-use Rattle.run_core.specs.declared.answer.Outcome.TheVariants.{Hashed, Match, Rehashed, Mismatch, NoHash, Locked, Refused}
+use Rattle.run_core.specs.declared.answer.Outcome.TheVariants.{Match, Rehashed, Mismatch}
 use Rattle.run_core.specs.declared.job.Job.{Job}
 use Rattle.run_core.specs.declared.line.Kind.{Kind}
 use Rattle.run_core.proofs.Cuts.{parts_unique}

@@ -4,7 +4,6 @@ use Rattle.rand_core.specs.Stream.{Stream}
 use Rattle.prims_core.specs.declared.meter.Work.{Work}
 use Rattle.crypt_core.specs.Crypt.{IsAfterRefusedGrowth}
 use Rattle.crypt_core.specs.Passwords.{IsPassword}
-use Rattle.crypt_core.specs.Settings.{SettingValue}
 use Rattle.crypt_core.specs.Work.{raised_by, work}
 use Rattle.run_core.specs.Makers.{next_setting, stream_after}
 use Rattle.run_core.specs.Answers.{after_work, no_answer, password_answer}
@@ -16,14 +15,12 @@ use Rattle.run_core.specs.Private.Deliveries.{Delivers, FinishesBoth}
 use Rattle.run_core.specs.Private.Fetching.{ObtainsFrom}
 use Rattle.run_core.specs.Runs.{Fails, RunState, IsAfter, IsAfterBoth, TakesAnswer, DeviceBytes, run_state}
 use Rattle.run_core.specs.Tallies.{one_line}
-use Rattle.run_core.specs.Texts.{as_line}
 use Rattle.run_core.specs.declared.fault.RunFault.{RunFault}
 use Rattle.run_core.specs.declared.fault.RunFault.TheVariants.{Read, Write, OutOfMemory, Turns, Password}
 use Rattle.run_core.specs.declared.job.Job.{Job}
 use Rattle.run_core.specs.declared.job.PasswordFrom.{PasswordFrom}
 use Rattle.run_core.specs.declared.job.PasswordFrom.TheVariants.{Word, Input}
 use Rattle.run_core.specs.declared.tally.Tally.{Tally}
-use Rattle.run_core.proofs.Drawing.{IsDrawn}
 use Rattle.run_core.proofs.Finishing.{HasAnswered, finishes, finishes-with_fault}
 use Rattle.run_core.proofs.Sending.{takes-nothing}
 

@@ -7,9 +7,8 @@ use Rattle.crypt_core.specs.Settings.{BeginsWith, SettingValue, Spells}
 use Rattle.crypt_core.specs.Schemes.{method_of}
 use Rattle.crypt_core.specs.declared.method.Method.{Method}
 use Rattle.crypt_core.specs.declared.method.Method.TheVariants.{Md5crypt, Sha256crypt, Sha512crypt, Scrypt}
-use Rattle.run_core.specs.Answers.{Answer}
 use Rattle.run_core.specs.JobOptions.{without_budget, without_rehash, IsAbove, check_cost, is_outdated}
-use Rattle.run_core.specs.LineAnswers.{Decision, IsAnswer, IsCostly, IsDecision, decided_answer, refusal, refused_answer, HasSetting}
+use Rattle.run_core.specs.LineAnswers.{Decision, IsCostly, IsDecision, decided_answer, refusal, HasSetting}
 use Rattle.run_core.specs.LineAnswers.IsDecision.{refused, over, hashed, none, locked, ok, rehashed, no}
 use Rattle.run_core.specs.LineOptions.{OnlyRefuses, IsRenewable, OnlyRenews, RenewsNone}
 use Rattle.crypt_core.specs.StoredFields.{IsStored}

@@ -1,5 +1,5 @@
 -- What a line comes to, by the parts that it has, and the answer to it.
-use Rattle.std.specs.Prelude.{◌≡◌, ◌≢◌, Bool, ℕ, ◌⊎◌, List, [], ◌∷◌, ◌++◌, length, codes, decimal, true, false, Option, Some, None}
+use Rattle.std.specs.Prelude.{◌≡◌, ◌≢◌, Bool, ℕ, ◌⊎◌, List, [], ◌∷◌, ◌++◌, length, codes, decimal, true, false, Some, None}
 use Rattle.rand_core.specs.Stream.{Stream}
 use Rattle.prims_core.specs.declared.meter.Work.{Work}
 use Rattle.crypt_core.specs.Crypt.{crypt}

@@ -1,5 +1,5 @@
 -- What a password or a line comes to, and its text.
-use Rattle.std.specs.Prelude.{ℕ, List, [], ◌∷◌, ◌++◌, codes}
+use Rattle.std.specs.Prelude.{ℕ, List, ◌∷◌, ◌++◌, codes}
 use Rattle.run_core.specs.LineFaults.{line_fault_text}
 use Rattle.run_core.specs.Tallies.{misfit_line, one_line, refused_line}
 use Rattle.run_core.specs.Texts.{colon}

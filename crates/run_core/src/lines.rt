@@ -61,7 +61,7 @@ const PIECE_SIZE: usize = 512;
 ///   read, are answered whole, and of its answer a first part is given.
 ///
 /// [`LineFault`]: crate::line::LineFault
-#[tactic(auto, using(crate::proofs::LineOptions::only_refuses, crate::proofs::LineOptions::batch_renews_none))]
+#[tactic(auto, using(crate::proofs::LineOptions::only_refuses))]
 pub fn run_batch<I: Read, O: Write, E: Write, R: Rng>(
     alloc: Global,
     job: &Job,
@@ -103,7 +103,7 @@ pub fn run_batch<I: Read, O: Write, E: Write, R: Rng>(
 /// word. Otherwise as [`run_batch`], where `rehash` has no effect.
 ///
 /// [`Setting::replaced_by`]: crypt_core::setting::Setting::replaced_by
-#[tactic(auto, using(crate::proofs::LineOptions::only_refuses, crate::proofs::LineOptions::only_renews))]
+#[tactic(auto, using(crate::proofs::LineOptions::only_refuses))]
 pub fn run_check<I: Read, O: Write, E: Write, R: Rng>(
     alloc: Global,
     job: &Job,

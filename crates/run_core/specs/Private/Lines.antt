@@ -4,7 +4,7 @@ use Rattle.crypt_core.specs.FieldReadings.{IsFieldReading}
 use Rattle.crypt_core.specs.Readings.{IsReadOneWay}
 use Rattle.crypt_core.specs.declared.stored.StoredField.{StoredField}
 use Rattle.run_core.specs.LineAnswers.{HasSoundParts}
-use Rattle.run_core.specs.Lines.{IsCut, Parts, line_limit, name_limit}
+use Rattle.run_core.specs.Lines.{IsCut, line_limit, name_limit}
 use Rattle.run_core.specs.Texts.{colon}
 use Rattle.run_core.specs.declared.line.Kind.{Kind}
 use Rattle.run_core.specs.declared.line.Kind.TheVariants.{Batch, Check}

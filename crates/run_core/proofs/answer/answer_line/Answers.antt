@@ -1,4 +1,4 @@
-use Rattle.std.proofs.Common.{◌≡◌, length, true≢false, sym, refl, ◌∙◌}
+use Rattle.std.proofs.Common.{length, true≢false, sym, refl, ◌∙◌}
 use Rattle.std.proofs.lemmas.Result.{err_from_is_err_and}
 use Rattle.run_core.specs.JobOptions.{IsAbove}
 use Rattle.run_core.specs.LineAnswers.{decision, refusal}

@@ -1,8 +1,6 @@
-use Rattle.std.proofs.Common.{◌≡◌, ℕ, List, Option, Some, None, Err, ap, refl, sym, subst, arith}
-use Rattle.crypt_core.specs.declared.stored.StoredField.{StoredField}
+use Rattle.std.proofs.Common.{◌≡◌, ℕ, List, Option, Some, None, Err, ap, refl, subst, arith}
 use Rattle.run_core.specs.Lines.{Parts}
 use Rattle.run_core.specs.Makers.{bytes_of}
-use Rattle.run_core.specs.Private.Lines.{IsLine}
 use Rattle.run_core.specs.declared.line.LineFault.TheVariants.{NoPassword, Password}
 use Rattle.run_core.proofs.LineRules.{IsEntry, entry_from_behind, only_field_fault, refusal_unique, refused_field, refused_password, refused_without_parts, taken_not_refused, taken_with_field, taken_without_field}
 use Rattle.run_core.proofs.line.read_line.Goals as goal

@@ -1,7 +1,7 @@
-use Rattle.std.proofs.Common.{◌≡◌, ℕ, ◌+◌, List, [], ◌++◌, Option, Result, Ok, Err, ap, inr, refl, sym, subst, ◌∙◌, arith}
+use Rattle.std.proofs.Common.{◌≡◌, ℕ, ◌+◌, List, [], Option, Result, Ok, Err, ap, inr, refl, sym, ◌∙◌, arith}
 use Rattle.run_core.specs.Answers.{Answer, work_of}
 use Rattle.run_core.specs.Devices.{Device}
-use Rattle.run_core.specs.LineAnswers.{decided_answer, fault_output_text, output_text, refusal_text}
+use Rattle.run_core.specs.LineAnswers.{decided_answer, fault_output_text, output_text}
 use Rattle.run_core.specs.Output.{ShowsOutcome}
 use Rattle.run_core.specs.Private.Deliveries.{Delivers, Sends}
 use Rattle.run_core.specs.declared.answer.Outcome.{Outcome}

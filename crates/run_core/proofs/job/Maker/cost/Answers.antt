@@ -1,5 +1,4 @@
-use Rattle.std.proofs.Common.{◌≡◌, ap, sym, ◌∙◌, rules}
-use Rattle.run_core.specs.Makers.{made_cost_by}
+use Rattle.std.proofs.Common.{sym, ◌∙◌, rules}
 use Rattle.run_core.proofs.Drawing.{made_cost}
 use Rattle.run_core.proofs.job.Maker.cost.Goals as goal
 
