@@ -188,7 +188,8 @@ fn with_hash_options<'a>(alloc: Global, command: Command<'a>) -> Result<Command<
     let salt = word(alloc, "salt", "SALT").long("salt").short('S').help(
         "The salt: up to 8 (md5crypt), 16 or 86 (scrypt) letters, digits, '.' and '/'; else a new one",
     );
-    let rounds = word(alloc, "rounds", "NUMBER").long("rounds")
+    let rounds = word(alloc, "rounds", "NUMBER")
+        .long("rounds")
         .short('R')
         .value_parser(value_parser!(u32))
         .help(
@@ -216,7 +217,8 @@ fn with_line_options<'a>(alloc: Global, command: Command<'a>) -> Result<Command<
     let work = flag(alloc, "work").help(
         "Show what the hash cost: digests, bytes, mixings, bytes of table",
     );
-    let budget = word(alloc, "budget", "NUMBER").long("budget")
+    let budget = word(alloc, "budget", "NUMBER")
+        .long("budget")
         .value_parser(value_parser!(u64))
         .help("What a line may cost, by --batch and --check: bytes digested and mixed");
     command

@@ -20,7 +20,9 @@ fn main(rt: HostRuntime) -> ExitCode {
     let words: Result<Vec<String>, Fault> = match env::args(&rt) {
         Ok(mut words) => {
             let _ = words.next();
-            words.collect(rt.alloc()).map_err(|error| Fault::from(error))
+            words
+                .collect(rt.alloc())
+                .map_err(|error| Fault::from(error))
         }
         Err(error) => Err(Fault::from(error)),
     };

@@ -8,6 +8,7 @@ use Rattle.run_core.specs.declared.fault.RunFault.{RunFault}
 use Rattle.run_core.specs.declared.job.Job.{Job}
 use Rattle.run_core.specs.declared.tally.Tally.{Tally}
 use Rattle.run_core.proofs.one.tests.run_on.Goals as goal
+use Rattle.run_core.proofs.one.tests.run_on.Goals.{in-Some, in-None}
 
 -- what the output has after a tally
 has_answer : {I O E : Type 0} (device_bytes : DeviceBytes I O E) (turns : ℕ) (job : Job) (password : List ℕ) (old new : RunState I O E)
@@ -16,7 +17,16 @@ has_answer : {I O E : Type 0} (device_bytes : DeviceBytes I O E) (turns : ℕ) (
 has_answer device_bytes turns job password old new (Ok tally) (ok, (is, fails, takes, after)) = takes.text.shown
 has_answer device_bytes turns job password old new (Err fault) ends = tt
 
+no_word : (result : Result Tally RunFault) → OnOk result (Unit {0})
+no_word (Ok tally) = tt
+no_word (Err fault) = tt
+
 pub returns : goal.returns
-returns g c =
-    let wrapped : c.new-out.result.inner ≡ c.args.given.writer = ap (λ (d : Device _). d.inner) c.new-out.ensures in
-    rw (c.into_inner.ensures, ← wrapped) (has_answer _ c.args.given.turns c.args.job.now _ _ _ c.run_one-outcome.result c.run_one-outcome.ensures.ends.1)
+returns g c = elim c.match-word.branch [
+  | in-Some w ↦
+      let wrapped : c.new-out.result.inner ≡ c.args.given.writer = ap (λ (d : Device _). d.inner) c.new-out.ensures in
+      let ends = rw w.from-is at c.run_one-outcome.ensures.ends in
+      rw (w.in-Some.is, c.into_inner.ensures, ← wrapped)
+      (has_answer _ c.args.given.turns c.args.job.now w.in-Some.bytes.items _ _ c.run_one-outcome.result ends.1)
+  | in-None w ↦ rw w.in-None.is (no_word c.run_one-outcome.result)
+]
