@@ -88,7 +88,7 @@ build/fuzz/%: tests/c/fuzz_%.c tests/c/fuzz.h include/mkpasswd.h libmkpasswd.a
 
 fuzz: $(FUZZERS)
 	for fuzzer in $(FUZZERS); do \
-		$$fuzzer -max_total_time=$(or $(FUZZ_SECONDS),200) -max_len=1600 -timeout=20 -print_final_stats=1 \
+		$$fuzzer -max_total_time=$(or $(FUZZ_SECONDS),300) -max_len=1600 -timeout=20 -print_final_stats=1 \
 			-artifact_prefix=$$fuzzer. $$fuzzer.corpus || exit 1; \
 	done
 

@@ -1,8 +1,9 @@
 /* mkpasswd_new of mkpasswd.h: the proved mkpasswd_new_from, with three words of the system. They are drawn here, since a
  * proved call of the library has no device to draw from.
  *
- * Without words mkpasswd_new_from reports the first refusal that comes before them, or that there are none. So nothing is
- * drawn after such a refusal, and if the system gives nothing, all is written already. Words are little-endian, as the
+ * Without words mkpasswd_new_from reports the first refusal that comes before them, or that there are none. A trial
+ * without words therefore tells whether to draw any. It writes to memory of its own: the one call that writes to the
+ * caller's comes last, so a password in `out` is hashed before it is written over. Words are little-endian, as the
  * processor's. */
 #define _DEFAULT_SOURCE /* for getentropy */
 #include <mkpasswd.h>
@@ -15,9 +16,13 @@ int32_t mkpasswd_new(const uint8_t *password, size_t password_len, uint32_t meth
     uint8_t *out, size_t out_len, struct mkpasswd_report *report)
 {
     uint64_t words[3] = {0, 0, 0};
-    int32_t result = mkpasswd_new_from(password, password_len, method, cost, budget, words, 0, out, out_len, report);
+    uint8_t tried[MKPASSWD_TEXT_SIZE];
+    struct mkpasswd_report trial;
+    size_t count = 0;
 
-    if (report->reason == MKPASSWD_NO_RANDOM_WORDS && getentropy(words, sizeof words) == 0)
-        result = mkpasswd_new_from(password, password_len, method, cost, budget, words, 3, out, out_len, report);
-    return result;
+    mkpasswd_new_from(password, password_len, method, cost, budget, words, 0, tried,
+        out_len < sizeof tried ? out_len : sizeof tried, &trial);
+    if (trial.reason == MKPASSWD_NO_RANDOM_WORDS && getentropy(words, sizeof words) == 0)
+        count = 3;
+    return mkpasswd_new_from(password, password_len, method, cost, budget, words, count, out, out_len, report);
 }

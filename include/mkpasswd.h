@@ -11,12 +11,13 @@
  * memory.
  *
  * After a 0, mkpasswd_new(), mkpasswd_hash() and mkpasswd_setting() leave the string "*0" in `out` ("*1" if the given
- * setting begins with "*0"), cut to the room there is. No password matches it, so a caller who stores it unseen locks the
- * account. Bytes after its byte 0 are unchanged.
+ * setting begins with "*0"), cut to the room there is. No password matches it, so with 3 bytes of room or more a caller who
+ * stores it unseen locks the account. Bytes after its byte 0 are unchanged.
  *
  * Input is a pointer and a number of bytes; it may hold any bytes, and needs no byte 0 at its end. The calls that end in
  * _str take strings instead. No call keeps a pointer or has state: any number of threads may call at once, also with the
- * same input. mkpasswd_new() alone asks the system for something, 24 random bytes from getentropy(3).
+ * same input. mkpasswd_new() alone asks the system for something, 24 random bytes from getentropy(3), which sets errno if it
+ * gives none. Compare a report's reason with the one that you expect: every reason is different from 0.
  *
  * The caller makes sure of this:
  * - Each pointer is valid for its number of bytes and is not null, even if that number is 0. In C++ an empty std::vector,
@@ -65,7 +66,7 @@ extern "C" {
 /* A budget for a login. It admits what mkpasswd_new() makes at cost 0 with any method, for any password, and SHA-crypt
  * with up to 75,000 rounds for any password, up to 1,000,000 rounds for passwords of up to 40 bytes. On the machine of
  * README.md, "Speed", a hash of this cost takes 1.3 seconds with sha256crypt, 0.7 with sha512crypt, 0.2 with scrypt. */
-#define MKPASSWD_BUDGET 150000000
+#define MKPASSWD_BUDGET ((uint64_t)150000000)
 
 /* Methods, numbered as in their prefixes. */
 #define MKPASSWD_MD5CRYPT 1
@@ -113,15 +114,15 @@ struct mkpasswd_report {
                                   digests and mixes. It is below 2^42. If password and setting (or method and cost) are
                                   valid it is reported even if the call returns 0; otherwise, and by
                                   mkpasswd_needs_rehash() and mkpasswd_setting(), it is 0. */
-    struct mkpasswd_work work; /* what the call did; all 0 if it hashed nothing */
+    struct mkpasswd_work work; /* what the call did, all 0 if it neither hashed nor allocated; of mkpasswd_bound() the bound */
     uint64_t reserved;         /* 0 */
 };
 
 typedef char mkpasswd_report_has_64_bytes[sizeof(struct mkpasswd_report) == 64 ? 1 : -1];
 typedef char mkpasswd_report_has_work_at_16[offsetof(struct mkpasswd_report, work) == 16 ? 1 : -1];
 
-/* Returns 1 exactly if the password matches the stored hash and that hash costs at most `budget`. A budget of 0 lets
- * nobody in. Above the budget nothing is hashed. */
+/* Returns 1 exactly if the password matches the stored hash and that hash costs at most `budget`; with scrypt it may run
+ * out of memory and return 0 instead. A budget of 0 lets nobody in. Above the budget nothing is hashed. */
 MKPASSWD_EXPORT MKPASSWD_CHECKED MKPASSWD_NONNULL int32_t mkpasswd_verify(const uint8_t *password, size_t password_len,
     const uint8_t *stored, size_t stored_len, uint64_t budget, struct mkpasswd_report *report);
 
@@ -131,8 +132,8 @@ MKPASSWD_EXPORT MKPASSWD_CHECKED MKPASSWD_NONNULL int32_t mkpasswd_verify(const 
 MKPASSWD_EXPORT MKPASSWD_CHECKED MKPASSWD_NONNULL int32_t mkpasswd_new(const uint8_t *password, size_t password_len,
     uint32_t method, uint32_t cost, uint64_t budget, uint8_t *out, size_t out_len, struct mkpasswd_report *report);
 
-/* Returns 1 exactly if the stored hash has a valid setting and mkpasswd_new() with this method and cost would improve on
- * it: the method is another one, or it is the same with more rounds, or for scrypt with a greater N * r * p. */
+/* Returns 1 exactly if the stored hash has a valid setting and mkpasswd_new() with this method and cost would replace it:
+ * the method is another one, or it is the same with more rounds, or for scrypt with a greater N * r * p. */
 MKPASSWD_EXPORT MKPASSWD_CHECKED MKPASSWD_NONNULL int32_t mkpasswd_needs_rehash(const uint8_t *stored, size_t stored_len,
     uint32_t method, uint32_t cost, struct mkpasswd_report *report);
 

@@ -15,7 +15,7 @@ my ($include, $libs) = ("$installed/usr/include", "$installed/usr/lib/x86_64-lin
 my $install = run({ dir => $root, env => { DESTDIR => $installed, PREFIX => '/usr', LIBDIR => $libs =~ s/^\Q$installed//r } }, 'tools/install');
 BAIL_OUT("nothing is installed: $install->{err}") if $install->{status};
 my $header = slurp("$include/mkpasswd.h");
-my %defined = $header =~ /^#define MKPASSWD_(\w+) \(?(-?\d+)\)?/mg;
+my %defined = $header =~ /^#define MKPASSWD_(\w+) \(*(?:uint64_t\))?(-?\d+)\)?/mg;
 my @declared = sort $header =~ /^MKPASSWD_EXPORT.*?int32_t (mkpasswd_\w+)\(/mg;
 my ($cc, $most, $budget) = ($ENV{CC} || 'cc', 18446744073709551615, $defined{BUDGET});
 my @static = ("-I$include", "$libs/libmkpasswd.a");
@@ -385,7 +385,8 @@ subtest 'what is installed' => sub {
     if (needs(objdump => 'binutils')) {
         my ($symbols, $parts, $names) = map { run(@$_)->{out} } ['objdump', '-T', "$libs/libmkpasswd.so"],
             ['objdump', '-p', "$libs/libmkpasswd.so"], ['nm', '-g', '--defined-only', "$libs/libmkpasswd.a"];
-        is_deeply([sort $symbols =~ /^\S+ g +DF .text\s+\S+ +(.*)$/mg], [map { "MKPASSWD_2  $_" } @declared], 'the shared library has just these');
+        my @exported = grep { !/ \*UND\*\t| MKPASSWD_2$/ } $symbols =~ /^([0-9a-f]{16} .*)$/mg;
+        is_deeply([sort map { s/.*\s(?=MKPASSWD_2 )//r } @exported], [map { "MKPASSWD_2  $_" } @declared], 'the shared library has just these');
         is_deeply([sort $names =~ /^\S+ \w (\S+)$/mg], \@declared, 'the static library has just these');
         is_deeply([$parts =~ /(?:SONAME|NEEDED) +(\S+)/g], ['libc.so.6', 'libmkpasswd.so.2'], 'the soname, and the C library alone is needed');
     }
@@ -404,7 +405,7 @@ subtest 'what is installed' => sub {
         my $commands = 'ldconfig() { :; }; cc() { command "$CC" "$@"; }' . "\n" . readme_block('sh') . 'test -x login';
         is_run(run({ dir => "$scratch/commands", env => \%env }, 'bash', '-euc', $commands), 0, '', '', 'the commands of README.md');
     }
-    for my $path ("$include/mkpasswd.h", glob "$root/*.md $root/docs/*.md $root/examples/* $root/man/* $root/dist/*") {
+    for my $path ("$include/mkpasswd.h", glob "$root/*.md $root/tools/*.md $root/docs/*.md $root/examples/* $root/man/* $root/dist/*") {
         next if $path =~ /CHANGELOG/;
         my @old = slurp($path) =~ /\b(mkpasswd_(?:fits|cost|replaced|refusal)|REFUSED_UNKNOWN_REFUSAL|libmkpasswd\.so\.1)\b/g;
         is("@old", '', 'no old name in ' . ($path =~ s{\Q$root\E/|\Q$installed\E}{}r));
