@@ -17,14 +17,18 @@ sub rows {
     my @rows;
     for my $block (split /\n{2,}/, slurp("$root/tests/lib/planted")) {
         my (@shared, @faults);
-        for (grep { !/^#/ } split /\n/, $block) {
+        for (map { split / :: (?=\w+: )/ } grep { !/^#/ } split /\n/, $block) {
             my ($key, $text) = /^(\w+): ?(.*)$/ or die "planted: $_\n";
             push @faults, [] if $key eq 'fault';
             my $pairs = @faults ? $faults[-1] : \@shared;
             if ($key eq 'more') { $pairs->[-1][1] .= "\n$text" }
-            else { push @$pairs, [$key, $text] }
+            else { push @$pairs, [$key, $text =~ s/<LF>/\n/gr] }
         }
-        push @rows, map { [$_->[0], @shared, @$_[1 .. $#$_]] } @faults;
+        for (@faults) {
+            my ($fault, @own) = @$_;
+            my $sees = grep { $_->[0] eq 'sees' } @own;
+            push @rows, [$fault, (grep { !$sees || $_->[0] ne 'sees' } @shared), @own];
+        }
     }
     return @rows;
 }
@@ -84,8 +88,9 @@ sub plant {
         my ($key, $text) = @$_;
         if ($key eq 'file') { ($file, $path) = ($text, "$copy/$text") }
         elsif ($key eq 'old') { $old = $text }
-        elsif ($key eq 'new' || $key eq 'edit') {
+        elsif ($key =~ /^(?:new|edit|put)$/) {
             ($old, $text) = split / ~> /, $text, 2 if $key eq 'edit';
+            $text = "$text $old" if $key eq 'put';
             my ($front, @backs) = split /\Q$old\E/, slurp($path), -1;
             die "'$old' stands " . @backs . " times in $file\n" if @backs != 1;
             spew($path, "$front$text$backs[0]");
