@@ -8,7 +8,6 @@ use lib "$Bin/lib";
 use List::Util qw(sum0);
 use Model;
 use Suite;
-use Test::More;
 
 my $installed = "$scratch/installed";
 my ($include, $libs) = ("$installed/usr/include", "$installed/usr/lib/x86_64-linux-gnu");

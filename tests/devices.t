@@ -11,7 +11,6 @@ use FindBin;
 use lib "$FindBin::Bin/lib";
 use Model;
 use Suite;
-use Test::More;
 
 my $library = preload('faults');
 my %told = (memory => 'out of memory', read => 'read fault', write => 'write fault', random => 'start fault');

@@ -8,7 +8,6 @@ use lib "$FindBin::Bin/lib";
 use File::Basename qw(dirname);
 use File::Path qw(make_path remove_tree);
 use Suite;
-use Test::More;
 
 my $jobs = $ENV{JOBS} || 2;
 

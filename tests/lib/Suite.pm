@@ -1,6 +1,6 @@
 package Suite;
 
-# What the tests share: where things are, how a command is run, and what a missing tool means.
+# What the tests share: where things are, how a command is run, and what a missing tool means; and Test::More.
 #
 # A test finds the tree by its own place. So a copy of the tree in which something was changed, documents or programs,
 # is tested by running its own tests. With T_ONLY=REGEX only the subtests whose names match are run, and what stands
@@ -15,7 +15,7 @@ use File::Temp qw(tempdir);
 use POSIX ();
 use Test::More;
 
-our @EXPORT = qw($root $scratch program run slurp spew needs is_run preload);
+our @EXPORT = (qw($root $scratch program run slurp spew needs is_run preload), @Test::More::EXPORT);
 
 # The top of the tree.
 our $root = abs_path(dirname(__FILE__) . '/../..');
