@@ -131,26 +131,14 @@ sub tried {
 
 my $wanted = $ENV{FAULTS} // '';
 my @rows = grep { $_->[0][1] =~ /$wanted/ } rows();
-my (%number, %result);
-my $gather = sub {
-    my $child = waitpid -1, 0;
-    defined(my $number = delete $number{$child}) or return;
-    $result{$number} = -e "$scratch/result.$number" ? slurp("$scratch/result.$number") : 'it ended early';
-};
-for my $number (0 .. $#rows) {
-    $gather->() while keys %number >= $jobs;
-    my $child = fork // die "can't fork: $!";
-    if (!$child) {
-        my $result = eval { tried("$scratch/tree.$number", @{ $rows[$number] }) // '' } // $@;
-        spew("$scratch/result.$number", $result);
-        remove_tree("$scratch/tree.$number");
-        POSIX::_exit(0);
-    }
-    $number{$child} = $number;
-}
-$gather->() while %number;
+my @results = in_processes($jobs, sub {
+    my ($number, @row) = @{ $_[0] };
+    my $result = eval { tried("$scratch/tree.$number", @row) // '' } // $@;
+    remove_tree("$scratch/tree.$number");
+    return $result;
+}, map { [$_, @{ $rows[$_] }] } 0 .. $#rows);
 for my $number (0 .. $#rows) {
     my ($fault, $sees) = map { my $key = $_; join ', ', map { $_->[0] eq $key ? $_->[1] : () } @{ $rows[$number] } } qw(fault sees);
-    is($result{$number}, '', "$fault: seen by $sees");
+    is(($results[$number] // ['it ended early'])->[0], '', "$fault: seen by $sees");
 }
 done_testing;
