@@ -8,7 +8,6 @@ use lib "$Bin/lib";
 use List::Util qw(sum0);
 use Model;
 use Suite;
-use Test::More;
 
 my $installed = "$scratch/installed";
 my ($include, $libs) = ("$installed/usr/include", "$installed/usr/lib/x86_64-linux-gnu");
@@ -309,32 +308,26 @@ subtest 'compilers' => sub {
     @words = (1, 2, 3);
     push @calls, ['bound_str', '', $fixed, 0, 8], ['setting_str', '', '', 145, 6, 0, @words], ['hash_str', 'password', '!', 145, $budget];
     my $wanted = join "\n", (map { line(@$_) =~ s/ 3 0 0 unchanged$/ 0 0 0 unchanged/r } @calls), '1' . ' 0' x 12 . ' differs';
-    my ($children, @builds) = 0;
-    for my $compiler (qw(gcc clang g++ clang++)) {
-        needs($compiler => $compiler eq 'clang++' ? 'clang' : $compiler) or next;
-        push @builds, map { [$compiler, $_, 'c++'] } qw(c++98 c++11 c++17 c++20) if $compiler =~ /\+/;
-        push @builds, map { [$compiler, $_, 'c'] } qw(c99 c11 c17 c2x) if $compiler !~ /\+/;
-    }
+    my @builds = map {
+        my $compiler = $_;
+        my ($language, @standards) = /\+/ ? qw(c++ c++98 c++11 c++17 c++20) : qw(c c99 c11 c17 c2x);
+        needs($compiler => s/clang\K\+\+//r) ? map { [$compiler, $_, $language] } @standards : ();
+    } qw(gcc clang g++ clang++);
     my @sanitize = ('-g', '-O1', '-DSANITIZED', '-fsanitize=address,undefined', '-fno-sanitize-recover=all');
     my @kinds = (['static', '-O2', @static], ['shared', '-O0', @shared], ['sanitized', @sanitize, @static]);
-    for (@builds) {
-        my ($compiler, $standard, $language) = @$_;
-        wait if $children++ >= 4;
-        next if fork // die;
-        for (@kinds) {
+    my @results = in_processes(4, sub {
+        my ($compiler, $standard, $language) = @{ $_[0] };
+        return map {
             my ($kind, @rest) = @$_;
             my $path = "$scratch/$compiler-$standard-$kind";
             my $run = run({ timeout => 300 }, $compiler, "-std=$standard", @strict, '-Wno-long-long', '-x', $language,
                 "$root/tests/c/calls.c", '-x', 'none', @rest, '-o', $path);
             my @got = $run->{status} ? () : printed($path, (map { row(@$_) } @calls), "words_str - - 145 $number{differs}");
-            spew("$path.got", $run->{err} . join "\n", @got);
-        }
-        POSIX::_exit(0);
-    }
-    1 while wait != -1;
-    for (@builds) {
-        my ($compiler, $standard) = @$_;
-        is(slurp("$scratch/$compiler-$standard-$_->[0].got"), $wanted, "$compiler $standard, $_->[0]") for @kinds;
+            $run->{err} . join "\n", @got;
+        } @kinds;
+    }, @builds);
+    for my $number (0 .. $#builds) {
+        is($results[$number][$_], $wanted, "$builds[$number][0] $builds[$number][1], $kinds[$_][0]") for 0 .. $#kinds;
     }
 };
 

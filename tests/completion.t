@@ -11,7 +11,6 @@ use FindBin qw($Bin);
 use lib "$Bin/lib";
 use Suite;
 use Texts;
-use Test::More;
 
 my @options = map { /(?<!\S)--?[A-Za-z][\w-]*/g } run(program(), '--help')->{out} =~ /^ +(-.*?)(?:  |$)/mg;
 my @long = grep { /^--/ } @options;

@@ -7,7 +7,6 @@ use warnings;
 use FindBin qw($Bin);
 use lib "$Bin/lib";
 use Suite;
-use Test::More;
 
 my $known = '$1$xxxxxxxx$UYCIxa628.9qXjpQCjM4a.';
 my $version = run("$root/tools/version")->{out} =~ s/\n//r;

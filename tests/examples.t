@@ -11,7 +11,6 @@ use FindBin qw($Bin);
 use lib "$Bin/lib";
 use Suite;
 use Texts;
-use Test::More;
 
 my $readme = slurp("$root/README.md");
 mkdir "$scratch/bin";

@@ -14,7 +14,6 @@ use lib "$Bin/lib";
 use List::Util qw(uniq);
 use Memoize qw(memoize);
 use Suite;
-use Test::More;
 
 # The crates, and what each may depend on: only prims_core has digests.
 my %dependencies = (

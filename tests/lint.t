@@ -6,7 +6,6 @@ use File::Find ();
 use FindBin qw($Bin);
 use lib "$Bin/lib";
 use Suite;
-use Test::More;
 
 my @files;
 File::Find::find({ no_chdir => 1, wanted => sub { push @files, substr $_, 1 + length $root if -f } },

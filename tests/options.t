@@ -8,7 +8,6 @@ use lib "$Bin/lib";
 use Model ();
 use Suite;
 use Texts;
-use Test::More;
 
 my $readme = slurp("$root/README.md");
 my $manual = slurp("$root/man/mkpasswd.1");

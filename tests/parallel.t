@@ -9,7 +9,6 @@ use FindBin qw($Bin);
 use lib "$Bin/lib";
 use IO::Socket::INET;
 use Suite;
-use Test::More;
 use Time::HiRes qw(sleep time);
 
 my $script = "$root/bin/mkpasswd-parallel";
@@ -112,11 +111,14 @@ sub fates {
     return join '', map { my $fate = $_; map { ($_ == 10 && $fate ne 'fine' ? "fate_$fate" : "$fate$_") . ":password\n" } 1 .. 20 } @_;
 }
 
+# A subtest that GNU parallel is needed for.
 my $has_parallel = run(qw(parallel --version))->{out} =~ /^GNU parallel /;
-sub parallel { return needs('GNU parallel', 'parallel', $has_parallel) }
+sub with_parallel {
+    my ($name, $test) = @_;
+    return subtest $name => sub { needs('GNU parallel', 'parallel', $has_parallel) && $test->() };
+}
 
-subtest 'one run over the whole input' => sub {
-    parallel() or return;
+with_parallel 'one run over the whole input' => sub {
     my $batch = same('a batch', 1, batch_lines(), [qw(--jobs 3 --block-lines 100)], @batch);
     cmp_ok($batch->{err} =~ tr/\n//, '>=', 300, 'refused lines in the batch');
     my ($begin) = batch_lines() =~ /\A((?:.*\n){1000})/;
@@ -135,8 +137,7 @@ subtest 'one run over the whole input' => sub {
     is(keys %{ { map { $_ => 1 } $salted->{out} =~ /:\$1\$(.{8})\$/g } }, 50, 'a new salt in each line');
 };
 
-subtest 'arguments' => sub {
-    parallel() or return;
+with_parallel 'arguments' => sub {
     my ($fifty, $own) = (lines_of(50, 'userN:passwordN'), [qw(--jobs 4 --block-lines 1)]);
     for (
         ['an unknown option', 2, qw(--batch -Q)], ['a wrong salt', 2, qw(--batch -m md5crypt -S a-b)],
@@ -183,8 +184,7 @@ subtest 'another parallel' => sub {
     $try->("$scratch/bin:$ENV{PATH}", 'lines 1 to 1: killed or lost; GNU parallel ended with status 255', 'GNU parallel that fails');
 };
 
-subtest 'blocks that fail' => sub {
-    parallel() or return;
+with_parallel 'blocks that fail' => sub {
     my @own = (qw(--jobs 3 --block-lines 20 --program), "$scratch/stand_in");
     my $lines = fates(qw(fine status refuses killed lost few status fine));
     my @hashed = split /^/, run({ stdin => $lines }, program(), @batch)->{out};
@@ -202,8 +202,7 @@ ERR
     ok(unlink($tried), 'it was lost once');
 };
 
-subtest 'devices' => sub {
-    parallel() or return;
+with_parallel 'devices' => sub {
     my @own = ('--program', program(), qw(--jobs 2 --block-lines 20));
     my $lines = lines_of(100, 'userN:passwordN');
     my ($first) = run({ stdin => $lines }, program(), @batch)->{out} =~ /^(.*\n)/;
@@ -223,8 +222,7 @@ sub runs {
     return kill(0, $process) && eval { slurp("/proc/$process/stat") } =~ /.*\) [^Z]/;
 }
 
-subtest 'signals' => sub {
-    parallel() or return;
+with_parallel 'signals' => sub {
     spew("$scratch/input", fates(qw(fine waits fine)));
     for my $signal (qw(INT TERM)) {
         my $child = fork // die;
@@ -247,8 +245,7 @@ subtest 'signals' => sub {
     }
 };
 
-subtest 'secrets' => sub {
-    parallel() or return;
+with_parallel 'secrets' => sub {
     my $trace = "$scratch/trace";
     my @strace = (qw(strace -f --seccomp-bpf -o), $trace);
     needs('a strace that works', 'strace', run(@strace, 'true')->{status} == 0) or return;
@@ -277,8 +274,7 @@ sub server {
 }
 
 my $some = join "\n", (split /\n/, batch_lines())[0 .. 349];
-subtest 'machines' => sub {
-    parallel() or return;
+with_parallel 'machines' => sub {
     same('":" twice', 1, $some, ['--jobs', 2, '--sshlogin', ':,:', '--block-lines', 90], @batch);
     my ($sshd) = grep { -x } map { "$_/sshd" } '/usr/sbin', split /:/, $ENV{PATH};
     needs('sshd, ssh or ssh-keygen' => 'openssh-server', $sshd && !run(qw(sh -c), 'command -v ssh ssh-keygen')->{status}) or return;

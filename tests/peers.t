@@ -8,7 +8,6 @@ use warnings;
 use FindBin qw($Bin);
 use lib "$Bin/lib";
 use Suite;
-use Test::More;
 
 my @methods = qw(md5crypt sha256crypt sha512crypt scrypt);
 

@@ -8,7 +8,6 @@ use lib "$FindBin::Bin/lib";
 use File::Basename qw(dirname);
 use File::Path qw(make_path remove_tree);
 use Suite;
-use Test::More;
 
 my $jobs = $ENV{JOBS} || 2;
 
@@ -17,14 +16,18 @@ sub rows {
     my @rows;
     for my $block (split /\n{2,}/, slurp("$root/tests/lib/planted")) {
         my (@shared, @faults);
-        for (grep { !/^#/ } split /\n/, $block) {
+        for (map { split / :: (?=\w+: )/ } grep { !/^#/ } split /\n/, $block) {
             my ($key, $text) = /^(\w+): ?(.*)$/ or die "planted: $_\n";
             push @faults, [] if $key eq 'fault';
             my $pairs = @faults ? $faults[-1] : \@shared;
             if ($key eq 'more') { $pairs->[-1][1] .= "\n$text" }
-            else { push @$pairs, [$key, $text] }
+            else { push @$pairs, [$key, $text =~ s/<LF>/\n/gr] }
         }
-        push @rows, map { [$_->[0], @shared, @$_[1 .. $#$_]] } @faults;
+        for (@faults) {
+            my ($fault, @own) = @$_;
+            my $sees = grep { $_->[0] eq 'sees' } @own;
+            push @rows, [$fault, (grep { !$sees || $_->[0] ne 'sees' } @shared), @own];
+        }
     }
     return @rows;
 }
@@ -84,8 +87,9 @@ sub plant {
         my ($key, $text) = @$_;
         if ($key eq 'file') { ($file, $path) = ($text, "$copy/$text") }
         elsif ($key eq 'old') { $old = $text }
-        elsif ($key eq 'new' || $key eq 'edit') {
+        elsif ($key =~ /^(?:new|edit|put)$/) {
             ($old, $text) = split / ~> /, $text, 2 if $key eq 'edit';
+            $text = "$text $old" if $key eq 'put';
             my ($front, @backs) = split /\Q$old\E/, slurp($path), -1;
             die "'$old' stands " . @backs . " times in $file\n" if @backs != 1;
             spew($path, "$front$text$backs[0]");
@@ -127,26 +131,14 @@ sub tried {
 
 my $wanted = $ENV{FAULTS} // '';
 my @rows = grep { $_->[0][1] =~ /$wanted/ } rows();
-my (%number, %result);
-my $gather = sub {
-    my $child = waitpid -1, 0;
-    defined(my $number = delete $number{$child}) or return;
-    $result{$number} = -e "$scratch/result.$number" ? slurp("$scratch/result.$number") : 'it ended early';
-};
-for my $number (0 .. $#rows) {
-    $gather->() while keys %number >= $jobs;
-    my $child = fork // die "can't fork: $!";
-    if (!$child) {
-        my $result = eval { tried("$scratch/tree.$number", @{ $rows[$number] }) // '' } // $@;
-        spew("$scratch/result.$number", $result);
-        remove_tree("$scratch/tree.$number");
-        POSIX::_exit(0);
-    }
-    $number{$child} = $number;
-}
-$gather->() while %number;
+my @results = in_processes($jobs, sub {
+    my ($number, @row) = @{ $_[0] };
+    my $result = eval { tried("$scratch/tree.$number", @row) // '' } // $@;
+    remove_tree("$scratch/tree.$number");
+    return $result;
+}, map { [$_, @{ $rows[$_] }] } 0 .. $#rows);
 for my $number (0 .. $#rows) {
     my ($fault, $sees) = map { my $key = $_; join ', ', map { $_->[0] eq $key ? $_->[1] : () } @{ $rows[$number] } } qw(fault sees);
-    is($result{$number}, '', "$fault: seen by $sees");
+    is(($results[$number] // ['it ended early'])->[0], '', "$fault: seen by $sees");
 }
 done_testing;
