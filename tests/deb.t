@@ -12,8 +12,9 @@ use Test::More;
 my @packages = qw(libmkpasswd-dev libmkpasswd2 mkpasswd mkpasswd-parallel python3-mkpasswd);
 # All but ours that the trials need, so that the mirror is asked for whois alone.
 my @tried = qw(autopkgtest bash-completion gcc libc6-dev man-db parallel pkgconf python3 sse4.2-support whois);
-my %roots = (bookworm => ['bookworm', @tried], trixie => ['trixie', @tried], checks => [qw(bookworm lintian piuparts)], base => ['bookworm']);
-my %names = (bookworm => 'Debian 12', trixie => 'Debian 13');
+my %roots = (bookworm => ['bookworm', @tried], trixie => ['trixie', @tried], checks => [qw(bookworm lintian piuparts)],
+    base => [qw(bookworm parallel python3 sse4.2-support)]);
+my $mirror = $ENV{DEBIAN_MIRROR} || 'http://deb.debian.org/debian';
 
 program();
 sub needs_all {
@@ -22,7 +23,7 @@ sub needs_all {
     needs(debootstrap => 'debootstrap') && needs('dpkg-checkbuilddeps' => 'dpkg-dev') or return 0;
     for (sort keys %roots) {
         my $made = run({ timeout => 1800 }, "$root/tools/root", @{ $roots{$_} });
-        needs("a mirror for $_", "none: $made->{err}", !$made->{status}) or return 0;
+        needs("a root for $_", 'none: tools/root says: ' . ($made->{err} =~ /(.*)\n*\z/)[0], !$made->{status}) or return 0;
         chomp($roots{$_} = $made->{out});
     }
     return 1;
@@ -98,15 +99,17 @@ subtest 'lintian' => sub {
     is($run->{status}, 0, 'lintian has no error and no warning') or diag($run->{out});
 };
 
-subtest 'piuparts' => sub {
-    my $checks = -d "$scratch/checks" ? "$scratch/checks" : copy_of('checks');
-    output_of("$root/tools/root", '--copy', $roots{base}, "$checks/base");
-    works($checks, 'cd /debs; dpkg-scanpackages . > Packages', 'a repository for the packages that one needs');
-    works($checks, "piuparts --existing-chroot=/base --distribution=bookworm --mirror='http://deb.debian.org/debian main' --no-eatmydata
-        --bindmount=/debs --extra-repo='deb [trusted=yes] file:/debs ./' /debs/${_}_*.deb" =~ s/\n//r, "$_ comes and goes") for sort keys %deb;
-};
+for my $package (sort keys %deb) {
+    subtest "piuparts $package" => sub {
+        my $checks = -d "$scratch/checks" ? "$scratch/checks" : copy_of('checks');
+        output_of("$root/tools/root", '--copy', $roots{base}, "$checks/base") if !-d "$checks/base";
+        works($checks, 'cd /debs; dpkg-scanpackages . > Packages', 'a repository of the packages');
+        works($checks, "piuparts --existing-chroot=/base --distribution=bookworm --mirror='$mirror main' --no-eatmydata"
+            . " --bindmount=/debs --extra-repo='deb [trusted=yes] file:/debs ./' /debs/${package}_*.deb", "$package comes and goes");
+    };
+}
 
-for my $suite (sort keys %names) {
+for my $suite (qw(bookworm trixie)) {
     subtest $suite => sub {
         my $place = copy_of($suite);
         my $apt = 'apt-get -q -y --no-install-recommends';
