@@ -9,7 +9,7 @@ use Suite;
 
 my @files;
 File::Find::find({ no_chdir => 1, wanted => sub { push @files, substr $_, 1 + length $root if -f } },
-    grep { -d } map { "$root/$_" } qw(bin tests tools completions examples python guard .ci));
+    grep { -d } map { "$root/$_" } qw(bin tests tools debian completions examples python guard .ci));
 my %first = map { $_ => slurp("$root/$_") =~ /\A(.*)/ ? $1 : '' } @files;
 
 for (

@@ -111,7 +111,7 @@ sub plant {
     return ($only, @sees);
 }
 
-# Tries one row: returns nothing where its tests saw it, or else what went otherwise.
+# Tries one row: returns nothing where its tests saw it, `skip:` where one of them lacks a tool, or else what went otherwise.
 sub tried {
     my ($copy, @pairs) = @_;
     make_path($copy);
@@ -123,6 +123,7 @@ sub tried {
         my $run = $run{$test} //= run({ env => { T_ONLY => $only, HARNESS_ACTIVE => undef }, timeout => 300 }, $^X, "$copy/tests/$test");
         my $escaped = $name =~ s/#/\\#/gr;
         next if $run->{out} =~ /^ *not ok \d+ - \Q$escaped\E$/m && $run->{status};
+        return "skip: $1" if !$run->{status} && $run->{out} =~ /^ok \d+ # skip (.*)$/m;
         return "$test passed '$name', ended with $run->{status}, and printed:\n"
             . join "\n", grep { !/^ *ok / } split /\n/, "$run->{out}$run->{err}";
     }
@@ -139,6 +140,14 @@ my @results = in_processes($jobs, sub {
 }, map { [$_, @{ $rows[$_] }] } 0 .. $#rows);
 for my $number (0 .. $#rows) {
     my ($fault, $sees) = map { my $key = $_; join ', ', map { $_->[0] eq $key ? $_->[1] : () } @{ $rows[$number] } } qw(fault sees);
+<<<<<<< HEAD
     is(($results[$number] // ['it ended early'])->[0], '', "$fault: seen by $sees");
+=======
+    my ($missing) = $result{$number} =~ /\Askip: (.*)/;
+  SKIP: {
+        skip "$fault: $missing", 1 if $missing;
+        is($result{$number}, '', "$fault: seen by $sees");
+    }
+>>>>>>> a9b46b713ef0203598cb5964d93130ddfb5bd3e4
 }
 done_testing;
