@@ -46,7 +46,8 @@ my %steps = (
     verify => 'password setting budget memory compare', needs_rehash => 'setting made replace', setting => 'made room',
     new => 'password made budget room draw memory', hash => 'password setting budget room memory', bound => 'length setting tell',
 );
-my ($refused, @words) = (0);    # which allocation is refused, from 1; the words that the system draws, if it does
+our $refused = 0;    # which allocation is refused, from 1
+my @words;           # that the system draws, if it does
 
 sub salt_of { my ($length, @of) = @_; return join '', map { $characters[$of[$_ / 10] >> 6 * ($_ % 10) & 63] } 0 .. $length - 1 }
 
@@ -116,14 +117,13 @@ sub are_made {
         or diag('row ' . substr(row(@{ $calls[$at] // [] }), 0, 400) . "\nwanted: " . ($wanted[$at] // '') . "\ngot:    " . ($got[$at] // ''));
 }
 
-# The same with each allocation refused in turn.
+# The same with each allocation refused in turn; scrypt has three.
 sub are_refused {
     my ($rows, @calls) = @_;
-    for my $number (1 .. 3) {
-        $refused = $number;
-        are_made("allocation $number refused", [@$rows, "refuse $number"], @calls);
+    for (1 .. 4) {
+        local $refused = $_;
+        are_made("allocation $_ refused", [@$rows, "refuse $_"], @calls);
     }
-    $refused = 0;
 }
 
 # ---- the calls
@@ -189,9 +189,6 @@ subtest 'hashes' => sub {
     my @cheap = grep { $_->[0] =~ /^(hash|verify)/ && cost(read_setting($_->[2]), length $_->[1]) < 500_000 } @calls;
     are_made('in eight threads', ['threads 8'], (grep { length $_->[1] == 1024 } @calls), @cheap[map { 7 * $_ } 0 .. $#cheap / 7]);
     are_refused([], ['hash', 'pleaseletmein', '$7$C6..../....SodiumChloride', 145, $budget], (grep { $_->[2] =~ /^\$7/ } @cheap), @calls[0 .. 9]);
-    $refused = 4;
-    are_made('no fourth allocation', ['refuse 4'], grep { $_->[2] =~ /^\$7/ } @cheap);
-    $refused = 0;
 };
 
 sub careless {

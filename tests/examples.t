@@ -23,12 +23,7 @@ my $hash = qr{(\$1\$|\$[56]\$(?:rounds=[0-9]+\$)?|\$7\$[./0-9A-Za-z]{11})([./0-9
 
 sub form_of { return $_[0] =~ s{$hash}{$1 . 's' x length($2) . "\$" . 'd' x length $3}ger }
 sub is_hash_of { return (crypt($_[1], $_[0]) // '') eq $_[0] }
-sub hashes_of {
-    my ($text) = @_;
-    my @hashes;
-    push @hashes, $& while $text =~ /$hash/g;
-    return @hashes;
-}
+sub hashes_of { my @hashes; push @hashes, $& while $_[0] =~ /$hash/g; return @hashes }
 
 # What is wrong with an output beside the one shown, both of a command that makes salts.
 sub difference {

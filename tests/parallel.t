@@ -280,10 +280,12 @@ with_parallel 'machines' => sub {
     needs('sshd, ssh or ssh-keygen' => 'openssh-server', $sshd && !run(qw(sh -c), 'command -v ssh ssh-keygen')->{status}) or return;
     run(qw(ssh-keygen -q -t ed25519 -N), '', '-f', "$scratch/ssh/$_") for qw(host user);
     my $made_folder = $> == 0 && mkdir '/run/sshd', 0755;    # Debian's service makes it when it starts
-    my ($one, $one_port) = server($sshd);
-    my ($two, $two_port) = server($sshd);
+    my ($server, $port) = server($sshd);
     spew("$scratch/ssh/config", <<"CONFIG");
+Host down
+    Port 1
 Host *
+    Port $port
     HostName 127.0.0.1
     User @{[ (getpwuid $>)[0] ]}
     IdentityFile "$scratch/ssh/user"
@@ -292,16 +294,10 @@ Host *
     UserKnownHostsFile "$scratch/ssh/known"
     StrictHostKeyChecking accept-new
     LogLevel ERROR
-Host one
-    Port $one_port
-Host two
-    Port $two_port
-Host down
-    Port 1
 CONFIG
-    my $enters = sub { run('ssh', '-F', "$scratch/ssh/config", $_[0], 'true')->{status} == 0 };
-    for (1 .. 30) { last if $enters->('one') && $enters->('two'); sleep 0.1 }
-    if (needs('an sshd that can be entered', 'openssh-server', $enters->('one') && $enters->('two'))) {
+    my $enters = sub { run('ssh', '-F', "$scratch/ssh/config", qw(one true))->{status} == 0 };
+    for (1 .. 30) { last if $enters->(); sleep 0.1 }
+    if (needs('an sshd that can be entered', 'openssh-server', $enters->())) {
         local $env{PARALLEL_SSH} = "ssh -F '$scratch/ssh/config'";
         same('two machines, and a path with quotes and braces', 1, $some,
             [qw(--jobs 2 --sshlogin one --sshlogin=two --block-lines 90 --program), $odd_program], @batch);
@@ -311,8 +307,8 @@ CONFIG
         is_deeply([$down->{status}, $down->{out}, (split /\n/, $down->{err})[-1]], [3, '',
             'mkpasswd-parallel: lines 1 to 30: killed or lost; lines 31 to 60: killed or lost'], 'a machine that is down');
     }
-    kill 'TERM', $one, $two;
-    waitpid $_, 0 for $one, $two;
+    kill 'TERM', $server;
+    waitpid $server, 0;
     rmdir '/run/sshd' if $made_folder;
 };
 
