@@ -8,6 +8,7 @@ use lib "$Bin/lib";
 use List::Util qw(sum0);
 use Model;
 use Suite;
+use Texts;
 
 my $installed = "$scratch/installed";
 my ($include, $libs) = ("$installed/usr/include", "$installed/usr/lib/x86_64-linux-gnu");
@@ -364,11 +365,7 @@ subtest 'warnings' => sub {
 };
 
 # The last block in a language of README.md's section on C.
-sub readme_block {
-    my ($language) = @_;
-    my ($section) = slurp("$root/README.md") =~ /^### Services in C\n(.*?)^### /ms;
-    return (($section // '') =~ /^```$language\n(.*?)^```$/msg)[-1] // '';
-}
+sub readme_block { return (blocks_of(section_of(slurp("$root/README.md"), 'Services in C'), $_[0]))[-1] // '' }
 
 subtest 'what is installed' => sub {
     is(@declared, 8, 'the header declares eight calls');
@@ -450,7 +447,6 @@ subtest 'manuals' => sub {
     for my $page (@pages) {
         my ($name) = $page =~ m{/(\w+)\.3$};
         my $text = slurp($page);
-        is_run(run('mandoc', '-T', 'lint', '-W', 'warning', $page), 0, '', '', "$name: mandoc") if needs(mandoc => 'mandoc');
         is_deeply([grep { $text !~ /^\.Sh $_$/m } 'SYNOPSIS', 'RETURN VALUES', 'ERRORS', 'EXAMPLES', 'SECURITY CONSIDERATIONS'], [], "$name: its sections");
         my ($wanted, $code) = $text =~ /^\.Sh EXAMPLES\n.*?^\.\\" prints: (.*?)\n\.Bd -literal.*?\n(.*?)^\.Ed$/ms;
         spew("$scratch/example.c", ($code // '') =~ s/\\e/\\/gr =~ s/\\&//gr);

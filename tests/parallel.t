@@ -139,15 +139,11 @@ with_parallel 'one run over the whole input' => sub {
 
 with_parallel 'arguments' => sub {
     my ($fifty, $own) = (lines_of(50, 'userN:passwordN'), [qw(--jobs 4 --block-lines 1)]);
-    for (
+    same(@$_[0, 1], $fifty, $own, @$_[2 .. $#$_]) for
         ['an unknown option', 2, qw(--batch -Q)], ['a wrong salt', 2, qw(--batch -m md5crypt -S a-b)],
         ['an argument with quotes', 2, '--batch', '-m', "it's {} {#} \$HOME", '-S', 'ab'], ['two modes', 2, qw(--batch --check)],
         ['the list of methods', 0, qw(--batch -m help)], ['the version', 0, qw(--check --version)],
-        ['the version alone', 0, '--version'], ['the version by its letter', 0, '-V'],
-    ) {
-        my ($name, $status, @words) = @$_;
-        same($name, $status, $fifty, $own, @words);
-    }
+        ['the version alone', 0, '--version'], ['the version by its letter', 0, '-V'];
     my $no_mode = "--batch or --check is wanted among mkpasswd's words; --help tells more";
     my $false = run(qw(sh -c), 'command -v false')->{out} =~ s/\n//r;
     for (
@@ -168,9 +164,7 @@ with_parallel 'arguments' => sub {
 # A PATH without GNU parallel, or with another program of that name.
 subtest 'another parallel' => sub {
     my $wanted = "GNU parallel is wanted on the PATH (Debian's package parallel)";
-    for my $tool (qw(perl env)) {
-        symlink run('sh', '-c', "command -v $tool")->{out} =~ s/\n//r, "$scratch/bin/$tool";
-    }
+    symlink run('sh', '-c', "command -v $_")->{out} =~ s/\n//r, "$scratch/bin/$_" for qw(perl env);
     my $try = sub {
         my ($path, $text, $name) = @_;
         my %how = (stdin => "user:password\n", env => { PATH => $path });
