@@ -52,9 +52,7 @@ sub lacking {
 # Tests one example; the words are those of the examples up to here, among which its passwords are.
 sub try_example {
     my ($command, $shown, $folder, $words) = @_;
-    for (lacking($command)) {
-        return if !needs($_ => $_);
-    }
+    for (lacking($command)) { needs($_ => $_) or return }
     push @$words, split(/['":]|\\n|\n/, $command), split /[\s:'"|<>;]+|\\n/, $command;
     my $output = sub { run({ %in, dir => $folder }, 'bash', '-c', "exec 2>&1\n$command")->{out} };
     my $got = $output->();
