@@ -8,6 +8,7 @@ use lib "$Bin/lib";
 use List::Util qw(sum0);
 use Model;
 use Suite;
+use Texts;
 
 my $installed = "$scratch/installed";
 my ($include, $libs) = ("$installed/usr/include", "$installed/usr/lib/x86_64-linux-gnu");
@@ -46,7 +47,8 @@ my %steps = (
     verify => 'password setting budget memory compare', needs_rehash => 'setting made replace', setting => 'made room',
     new => 'password made budget room draw memory', hash => 'password setting budget room memory', bound => 'length setting tell',
 );
-my ($refused, @words) = (0);    # which allocation is refused, from 1; the words that the system draws, if it does
+our $refused = 0;    # which allocation is refused, from 1
+my @words;           # that the system draws, if it does
 
 sub salt_of { my ($length, @of) = @_; return join '', map { $characters[$of[$_ / 10] >> 6 * ($_ % 10) & 63] } 0 .. $length - 1 }
 
@@ -116,14 +118,13 @@ sub are_made {
         or diag('row ' . substr(row(@{ $calls[$at] // [] }), 0, 400) . "\nwanted: " . ($wanted[$at] // '') . "\ngot:    " . ($got[$at] // ''));
 }
 
-# The same with each allocation refused in turn.
+# The same with each allocation refused in turn; scrypt has three.
 sub are_refused {
     my ($rows, @calls) = @_;
-    for my $number (1 .. 3) {
-        $refused = $number;
-        are_made("allocation $number refused", [@$rows, "refuse $number"], @calls);
+    for (1 .. 4) {
+        local $refused = $_;
+        are_made("allocation $_ refused", [@$rows, "refuse $_"], @calls);
     }
-    $refused = 0;
 }
 
 # ---- the calls
@@ -189,9 +190,6 @@ subtest 'hashes' => sub {
     my @cheap = grep { $_->[0] =~ /^(hash|verify)/ && cost(read_setting($_->[2]), length $_->[1]) < 500_000 } @calls;
     are_made('in eight threads', ['threads 8'], (grep { length $_->[1] == 1024 } @calls), @cheap[map { 7 * $_ } 0 .. $#cheap / 7]);
     are_refused([], ['hash', 'pleaseletmein', '$7$C6..../....SodiumChloride', 145, $budget], (grep { $_->[2] =~ /^\$7/ } @cheap), @calls[0 .. 9]);
-    $refused = 4;
-    are_made('no fourth allocation', ['refuse 4'], grep { $_->[2] =~ /^\$7/ } @cheap);
-    $refused = 0;
 };
 
 sub careless {
@@ -367,11 +365,7 @@ subtest 'warnings' => sub {
 };
 
 # The last block in a language of README.md's section on C.
-sub readme_block {
-    my ($language) = @_;
-    my ($section) = slurp("$root/README.md") =~ /^### Services in C\n(.*?)^### /ms;
-    return (($section // '') =~ /^```$language\n(.*?)^```$/msg)[-1] // '';
-}
+sub readme_block { return (blocks_of(section_of(slurp("$root/README.md"), 'Services in C'), $_[0]))[-1] // '' }
 
 subtest 'what is installed' => sub {
     is(@declared, 8, 'the header declares eight calls');
@@ -454,7 +448,6 @@ subtest 'manuals' => sub {
     for my $page (@pages) {
         my ($name) = $page =~ m{/(\w+)\.3$};
         my $text = slurp($page);
-        is_run(run('mandoc', '-T', 'lint', '-W', 'warning', $page), 0, '', '', "$name: mandoc") if needs(mandoc => 'mandoc');
         is_deeply([grep { $text !~ /^\.Sh $_$/m } 'SYNOPSIS', 'RETURN VALUES', 'ERRORS', 'EXAMPLES', 'SECURITY CONSIDERATIONS'], [], "$name: its sections");
         my ($wanted, $code) = $text =~ /^\.Sh EXAMPLES\n.*?^\.\\" prints: (.*?)\n\.Bd -literal.*?\n(.*?)^\.Ed$/ms;
         spew("$scratch/example.c", ($code // '') =~ s/\\e/\\/gr =~ s/\\&//gr);

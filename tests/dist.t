@@ -18,11 +18,7 @@ my ($archive, $second) = map { "$scratch/$_/$name.tar.gz" } qw(first second);
 my ($tree, $alone) = ("$scratch/tree", "$scratch/alone");
 my ($documents, $cc) = ("$tree/share/doc/mkpasswd", $ENV{CC} || 'cc');
 program();
-if (grep { !-e "$root/$_" } 'libmkpasswd.a', $library) {
-    needs('the C library', 'none: run make lib', 0);
-    done_testing;
-    exit;
-}
+-e "$root/$_" or BAIL_OUT("$_ is not built: run make lib") for 'libmkpasswd.a', $library;
 
 subtest 'install' => sub {
     my $installed = "$scratch/installed";

@@ -139,15 +139,11 @@ with_parallel 'one run over the whole input' => sub {
 
 with_parallel 'arguments' => sub {
     my ($fifty, $own) = (lines_of(50, 'userN:passwordN'), [qw(--jobs 4 --block-lines 1)]);
-    for (
+    same(@$_[0, 1], $fifty, $own, @$_[2 .. $#$_]) for
         ['an unknown option', 2, qw(--batch -Q)], ['a wrong salt', 2, qw(--batch -m md5crypt -S a-b)],
         ['an argument with quotes', 2, '--batch', '-m', "it's {} {#} \$HOME", '-S', 'ab'], ['two modes', 2, qw(--batch --check)],
         ['the list of methods', 0, qw(--batch -m help)], ['the version', 0, qw(--check --version)],
-        ['the version alone', 0, '--version'], ['the version by its letter', 0, '-V'],
-    ) {
-        my ($name, $status, @words) = @$_;
-        same($name, $status, $fifty, $own, @words);
-    }
+        ['the version alone', 0, '--version'], ['the version by its letter', 0, '-V'];
     my $no_mode = "--batch or --check is wanted among mkpasswd's words; --help tells more";
     my $false = run(qw(sh -c), 'command -v false')->{out} =~ s/\n//r;
     for (
@@ -168,9 +164,7 @@ with_parallel 'arguments' => sub {
 # A PATH without GNU parallel, or with another program of that name.
 subtest 'another parallel' => sub {
     my $wanted = "GNU parallel is wanted on the PATH (Debian's package parallel)";
-    for my $tool (qw(perl env)) {
-        symlink run('sh', '-c', "command -v $tool")->{out} =~ s/\n//r, "$scratch/bin/$tool";
-    }
+    symlink run('sh', '-c', "command -v $_")->{out} =~ s/\n//r, "$scratch/bin/$_" for qw(perl env);
     my $try = sub {
         my ($path, $text, $name) = @_;
         my %how = (stdin => "user:password\n", env => { PATH => $path });
@@ -280,10 +274,12 @@ with_parallel 'machines' => sub {
     needs('sshd, ssh or ssh-keygen' => 'openssh-server', $sshd && !run(qw(sh -c), 'command -v ssh ssh-keygen')->{status}) or return;
     run(qw(ssh-keygen -q -t ed25519 -N), '', '-f', "$scratch/ssh/$_") for qw(host user);
     my $made_folder = $> == 0 && mkdir '/run/sshd', 0755;    # Debian's service makes it when it starts
-    my ($one, $one_port) = server($sshd);
-    my ($two, $two_port) = server($sshd);
+    my ($server, $port) = server($sshd);
     spew("$scratch/ssh/config", <<"CONFIG");
+Host down
+    Port 1
 Host *
+    Port $port
     HostName 127.0.0.1
     User @{[ (getpwuid $>)[0] ]}
     IdentityFile "$scratch/ssh/user"
@@ -292,16 +288,10 @@ Host *
     UserKnownHostsFile "$scratch/ssh/known"
     StrictHostKeyChecking accept-new
     LogLevel ERROR
-Host one
-    Port $one_port
-Host two
-    Port $two_port
-Host down
-    Port 1
 CONFIG
-    my $enters = sub { run('ssh', '-F', "$scratch/ssh/config", $_[0], 'true')->{status} == 0 };
-    for (1 .. 30) { last if $enters->('one') && $enters->('two'); sleep 0.1 }
-    if (needs('an sshd that can be entered', 'openssh-server', $enters->('one') && $enters->('two'))) {
+    my $enters = sub { run('ssh', '-F', "$scratch/ssh/config", qw(one true))->{status} == 0 };
+    for (1 .. 30) { last if $enters->(); sleep 0.1 }
+    if (needs('an sshd that can be entered', 'openssh-server', $enters->())) {
         local $env{PARALLEL_SSH} = "ssh -F '$scratch/ssh/config'";
         same('two machines, and a path with quotes and braces', 1, $some,
             [qw(--jobs 2 --sshlogin one --sshlogin=two --block-lines 90 --program), $odd_program], @batch);
@@ -311,8 +301,8 @@ CONFIG
         is_deeply([$down->{status}, $down->{out}, (split /\n/, $down->{err})[-1]], [3, '',
             'mkpasswd-parallel: lines 1 to 30: killed or lost; lines 31 to 60: killed or lost'], 'a machine that is down');
     }
-    kill 'TERM', $one, $two;
-    waitpid $_, 0 for $one, $two;
+    kill 'TERM', $server;
+    waitpid $server, 0;
     rmdir '/run/sshd' if $made_folder;
 };
 
