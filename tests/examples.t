@@ -105,20 +105,27 @@ my %runs = (
     'README.md: tar' => 'dist.t', 'README.md: git' => '', 'README.md: IFS=' => 'examples.t', 'README.md: cc' => 'calls.t',
     'README.md: sed' => 'examples.t', 'PYTHON.md: python3' => 'python/test_package.py', 'SPECIFICATION.md: cd' => '',
 );
-subtest 'commands in README.md' => sub {
+subtest 'commands of README.md and others' => sub {
     for my $path ("$root/README.md", glob "$root/docs/*.md") {
         my ($name) = $path =~ m{([^/]*)\z};
         my @blocks = $name eq 'RECIPES.md' ? () : blocks_of(slurp($path), 'sh');
         for (map { "$name: " . (/^([\w=]+)/ ? $1 : '') } @blocks) {
-            ok(defined $runs{$_}, "$_ .. is run by a test");
+            ok(defined $runs{$_}, "$_ .. has a test that runs it");
             like(slurp("$root/tests/$runs{$_}"), qr{/\Q$name"}, "$runs{$_} reads $name") if $runs{$_};
         }
         my %made = map { $_ => 1 } join("\n", @blocks, slurp($path) =~ /`(make [^`]*)`/g) =~ /^make (?:\w+=\S+ )*([a-z]\w*)/mg;
         like(slurp("$root/Makefile"), qr/^$_:/m, "$name: make $_") for sort keys %made;
     }
-    my ($typed) = grep { /^IFS=/ } blocks_of($readme, 'sh');
-    my $hashed = run({ %in, stdin => " pass\\word \n" }, 'bash', '-c', $typed // '');
-    ok($hashed->{out} =~ /^($hash)\n\z/ && is_hash_of($1, ' pass\word '), 'a password that is typed') or diag(%$hashed);
+    my ($parallel, $typed) = map { Texts::shown($_) } slurp("$root/man/mkpasswd.1") =~ /^\.Dl (.*)/mg;
+    for (['README.md', grep { /^IFS=/ } blocks_of($readme, 'sh')], ['mkpasswd.1', $typed]) {
+        my ($name, $command) = @$_;
+        my $hashed = run({ %in, stdin => " pass\\word \n" }, 'bash', '-c', $command // '');
+        ok($hashed->{out} =~ /^($hash)\n\z/ && is_hash_of($1, ' pass\word '), "$name: a password that is typed") or diag(%$hashed);
+    }
+    if (needs(parallel => 'parallel')) {
+        spew("$scratch/lines", 'ann:' . crypt('x', '$1$ab') . ":x\n");
+        is_run(run({ %in, dir => $scratch }, 'bash', '-c', $parallel // ''), 0, "ann:ok\n", '', 'mkpasswd.1: mkpasswd-parallel');
+    }
 
     # The gate shows that the edit in must-fail/ is refused. These commands make the same one.
     my ($edit) = map { /^(sed .*)/ } grep { /^sed/ } blocks_of($readme, 'sh');
