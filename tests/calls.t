@@ -364,8 +364,8 @@ subtest 'warnings' => sub {
     }
 };
 
-# The last block in a language of README.md's section on C.
-sub readme_block { return (blocks_of(section_of(slurp("$root/README.md"), 'Services in C'), $_[0]))[-1] // '' }
+# The last block in a language of README.md's section for programmers.
+sub readme_block { return (blocks_of(section_of(slurp("$root/README.md"), 'From C, C++ and Python'), $_[0]))[-1] // '' }
 
 subtest 'what is installed' => sub {
     is(@declared, 8, 'the header declares eight calls');
@@ -389,7 +389,7 @@ subtest 'what is installed' => sub {
         is($told, "-I$include -L$libs -lmkpasswd", 'pkg-config');
         mkdir "$scratch/commands";
         symlink "$root/examples", "$scratch/commands/examples";
-        my $commands = 'ldconfig() { :; }; cc() { command "$CC" "$@"; }' . "\n" . readme_block('sh') . 'test -x login';
+        my $commands = 'cc() { command "$CC" "$@"; }' . "\n" . readme_block('sh') . 'test -x login';
         is_run(run({ dir => "$scratch/commands", env => \%env }, 'bash', '-euc', $commands), 0, '', '', 'the commands of README.md');
     }
     for my $path ("$include/mkpasswd.h", glob "$root/*.md $root/tools/*.md $root/docs/*.md $root/examples/* $root/man/* $root/dist/*") {
@@ -432,8 +432,18 @@ subtest 'examples' => sub {
         my $login = build("login-$name", $cc, '-std=c99', @strict, "$root/examples/login.c", @rest);
         are_logins($name, $login) if $login;
     }
-    my $shown = readme_block('c');
-    ok($shown ne '' && index(slurp("$root/examples/login.c"), "\n$shown") > 0, 'README.md shows a part of login.c');
+    for (['c', "$cc -std=c99", 'const char *'], ['cpp', ($ENV{CXX} || 'c++') . ' -std=c++98', 'std::string']) {
+        my ($language, $compiler, $string) = @$_;
+        my ($compiles) = split ' ', $compiler;
+        needs($compiles => 'g++', run('sh', '-c', "command -v $compiles")->{status} == 0) or next;
+        my ($include, $check) = readme_block($language) =~ /\A(#include <.*>\n)\n(.*)/s;
+        spew("$scratch/readme.$language", ($include // '') . "#include <stdio.h>\n" . ($language eq 'cpp' ? "#include <string>\n" : '')
+            . "static void let_in(void) { puts(\"in\"); }\nint main(int argc, char **argv)\n{\n    $string stored = argv[argc - 2];\n"
+            . "    $string password = argv[argc - 1];\n" . ($check // '') . "return 0;\n}\n");
+        my $login = build("README.md in $language", (split ' ', $compiler), @strict, "$scratch/readme.$language", @static) or next;
+        is_run(run($login, $fixed, 'password'), 0, "in\n", '', "README.md in $language: the right password");
+        is_run(run($login, $_, 'password'), 0, '', '', "README.md in $language: $_") for "!$fixed", $empty, '$6$rounds=999999999$ab$x';
+    }
     needs(python3 => 'python3') or return;
     mkdir "$scratch/broken";
     spew("$scratch/broken/libmkpasswd.so.2", '');

@@ -71,6 +71,10 @@ subtest 'README' => sub {
     like($readme, qr/\Amkpasswd \Q$version\E for Linux on x86-64\n/, 'version');
     unlike($readme, qr/\@/, 'no place is left to be filled');
     like($readme, qr/tar xzf \Q$name.tar.gz\E /, 'it unpacks this archive');
+    my ($unpacks) = slurp("$root/README.md") =~ m{^(tar .*) /usr/local && ldconfig\b}m;
+    mkdir "$scratch/local";
+    is_run(run({ dir => "$scratch/first" }, 'sh', '-c', ($unpacks // 'false') . " $scratch/local"), 0, '', '', 'README.md: it unpacks');
+    is_run(run("$scratch/local/bin/mkpasswd", '--version'), 0, "mkpasswd $version\n", '', 'README.md: it is installed');
     needs(objdump => 'binutils') or return;
     for (['The program', 'bin/mkpasswd'], [$library, "lib/$library"]) {
         my ($what, $file) = @$_;

@@ -1,7 +1,7 @@
 #!/usr/bin/env perl
 # Runs the examples of README.md, docs and the manuals, whose output has to be the one shown, on both streams together. Those
-# of one document run in one folder, in their order. Then the recipes of README.md, with the system's chpasswd on files of
-# their own.
+# of one document run in one folder, in their order. Then the other commands and the Python of README.md and SECURITY.md, and
+# docs/RECIPES.md, with the system's chpasswd on files of their own.
 #
 # Where two runs of a command without -S differ, it makes salts. Then the output has to have the form that is shown, and
 # each hash, the shown one too, has to be libxcrypt's for one word of the examples up to there, with another salt.
@@ -12,7 +12,7 @@ use lib "$Bin/lib";
 use Suite;
 use Texts;
 
-my $readme = slurp("$root/README.md");
+my ($readme, $recipes) = map { slurp("$root/$_") } 'README.md', 'docs/RECIPES.md';
 mkdir "$scratch/bin";
 symlink program(), "$scratch/bin/mkpasswd";
 symlink "$root/bin/mkpasswd-parallel", "$scratch/bin/mkpasswd-parallel";
@@ -79,7 +79,7 @@ for my $path ("$root/README.md", glob("$root/docs/*.md"), glob "$root/man/*.[0-9
 # What a setting of README.md's table costs is the least budget that admits it.
 subtest 'costs in README.md' => sub {
     my @costs = $readme =~ /^\| .* \| `(-m [^`]*)` \| (\d+) \| /mg;
-    is(@costs / 2, 8, 'settings with a cost');
+    is(@costs / 2, 5, 'settings with a cost');
     while (my ($words, $cost) = splice @costs, 0, 2) {
         my @batch = (program(), '--batch', split(' ', $words), '--budget');
         is_run(run({ stdin => "x:password\n" }, @batch, $cost - 1), 1, '', "mkpasswd: line 1: over budget\n", "$words: below $cost");
@@ -92,14 +92,70 @@ subtest 'costs in README.md' => sub {
     }
 };
 
-subtest 'service in README.md' => sub {
-    my ($shown) = blocks_of(section_of($readme, 'Services in Rattle'), 'rust');
-    is($shown, slurp("$root/crates/service/src/lib.rt"), "README.md's service is the crate");
+# Each block of commands by its first word, with the test that runs it; none runs what proves.
+my %runs = (
+    'README.md: tar' => 'dist.t', 'README.md: git' => '', 'README.md: IFS=' => 'examples.t', 'README.md: cc' => 'calls.t',
+    'README.md: sed' => 'examples.t', 'PYTHON.md: python3' => 'python/test_package.py', 'SPECIFICATION.md: cd' => '',
+);
+subtest 'commands of README.md and others' => sub {
+    for my $path ("$root/README.md", glob "$root/docs/*.md") {
+        my ($name) = $path =~ m{([^/]*)\z};
+        my @blocks = $name eq 'RECIPES.md' ? () : blocks_of(slurp($path), 'sh');
+        for (map { "$name: " . (/^([\w=]+)/ ? $1 : '') } @blocks) {
+            ok(defined $runs{$_}, "$_ .. has a test that runs it");
+            like(slurp("$root/tests/$runs{$_}"), qr{/\Q$name"}, "$runs{$_} reads $name") if $runs{$_};
+        }
+        my %made = map { $_ => 1 } join("\n", @blocks, slurp($path) =~ /`(make [^`]*)`/g) =~ /^make (?:\w+=\S+ )*([a-z]\w*)/mg;
+        like(slurp("$root/Makefile"), qr/^$_:/m, "$name: make $_") for sort keys %made;
+    }
+    my ($parallel, $typed) = map { Texts::shown($_) } slurp("$root/man/mkpasswd.1") =~ /^\.Dl (.*)/mg;
+    for (['README.md', grep { /^IFS=/ } blocks_of($readme, 'sh')], ['mkpasswd.1', $typed]) {
+        my ($name, $command) = @$_;
+        my $hashed = run({ %in, stdin => " pass\\word \n" }, 'bash', '-c', $command // '');
+        ok($hashed->{out} =~ /^($hash)\n\z/ && is_hash_of($1, ' pass\word '), "$name: a password that is typed") or diag(%$hashed);
+    }
+    if (needs(parallel => 'parallel')) {
+        spew("$scratch/lines", 'ann:' . crypt('x', '$1$ab') . ":x\n");
+        is_run(run({ %in, dir => $scratch }, 'bash', '-c', $parallel // ''), 0, "ann:ok\n", '', 'mkpasswd.1: mkpasswd-parallel');
+    }
+
+    # The gate shows that the edit in must-fail/ is refused. These commands make the same one.
+    my ($edit) = map { /^(sed .*)/ } grep { /^sed/ } blocks_of($readme, 'sh');
+    my ($file, $old, $new) = slurp("$root/crates/run_core/must-fail/refused-at-the-budget.edit") =~ /\Afile: (.*)\nold: (.*)\nnew: (.*)\n\z/;
+    my $source = slurp("$root/crates/run_core/$file");
+    run('mkdir', '-p', "$scratch/edit/crates/run_core/src");
+    spew("$scratch/edit/crates/run_core/$file", $source);
+    run({ dir => "$scratch/edit" }, 'sh', '-c', $edit // '');
+    is(slurp("$scratch/edit/crates/run_core/$file"), $source =~ s/\Q$old\E/$new/r, 'an edit that the gate refuses');
+};
+
+subtest 'Python' => sub {
+    needs(python3 => 'python3') && needs('libmkpasswd.so.2' => 'none: run make lib', -e "$root/libmkpasswd.so.2") or return;
+    my $python = sub {
+        my %env = (PYTHONPATH => "$root/python/src", LD_LIBRARY_PATH => $root);
+        return run({ env => \%env, stdin => join '', @_ }, 'python3', '-B', '-');
+    };
+    my $names = "import sys\ndef let_in(): print('in')\nstored = '%s'\npassword = '%s'\n";
+    my ($login) = blocks_of($readme, 'python');
+    for (['password', "in\n"], ['passw0rd', ''], ['', '']) {
+        my ($password, $out) = @$_;
+        is_run($python->(sprintf($names, '$1$xxxxxxxx$UYCIxa628.9qXjpQCjM4a.', $password), $login), 0, $out, '', "README.md: '$password'");
+    }
+    my ($service) = blocks_of(slurp("$root/docs/SECURITY.md"), 'python');
+    my $tried = <<'END';
+fields = {"ann": "$1$xxxxxxxx$UYCIxa628.9qXjpQCjM4a.", "bob": "!$1$xxxxxxxx$UYCIxa628.9qXjpQCjM4a.", "eve": ""}
+verify, asked = mkpasswd.verify, []
+mkpasswd.verify = lambda password, stored: [asked.append(stored), verify(password, stored)][1]
+print([login(name, "password", fields) for name in ("ann", "bob", "eve", "zoe")], login("ann", "", fields))
+print([stored == NOBODY for stored in asked], NOBODY.startswith("$6$rounds=656000$"))
+END
+    is_run($python->($service, "\n", $tried), 0, "[True, False, False, False] False\n[False, True, True, True, False] True\n", '',
+        'SECURITY.md: a name that is unknown, locked or without a password costs a hash');
 };
 
 my $known = '$1$xxxxxxxx$UYCIxa628.9qXjpQCjM4a.';
-subtest 'recipes in README.md' => sub {
-    my @recipes = blocks_of(section_of($readme, 'Recipes'), 'sh');
+subtest 'recipes' => sub {
+    my @recipes = blocks_of($recipes, 'sh');
     is(scalar @recipes, 5, 'recipes');
     my ($chpasswd) = run('sh', '-c', 'command -v chpasswd')->{out} =~ /(.+)/;
     needs('root, or chpasswd,' => 'passwd', $> == 0 && $chpasswd) or return;
@@ -125,14 +181,14 @@ subtest 'recipes in README.md' => sub {
     };
 
     is_run($recipe->(0), 0, '', '', 'new passwords for many users');
-    $has_hash->("$system/etc/shadow", 'ann:', '$6$', 'password', $today->(), 'the password of ann is new');
-    $has_hash->("$system/etc/shadow", 'bob:', '$6$', 'pass:word', $today->(), 'the password of bob is new');
+    $has_hash->("$system/etc/shadow", 'ann:', '$6$rounds=656000$', 'password', $today->(), 'the password of ann is new');
+    $has_hash->("$system/etc/shadow", 'bob:', '$6$rounds=656000$', 'pass:word', $today->(), 'the password of bob is new');
     is_run($recipe->(1), 0, '', '', 'a line for an installer');
-    $has_hash->("$folder/preseed.cfg", 'd-i passwd/user-password-crypted password ', '$6$', 'password', '', "Debian's installer");
-    $has_hash->("$folder/site.ks", 'rootpw --iscrypted ', '$6$', 'password', '', 'kickstart');
+    $has_hash->("$folder/preseed.cfg", 'd-i passwd/user-password-crypted password ', '$6$rounds=656000$', 'password', '', "Debian's installer");
+    $has_hash->("$folder/site.ks", 'rootpw --iscrypted ', '$6$rounds=656000$', 'password', '', 'kickstart');
     is_run($recipe->(2), 0, "eve\n", "mkpasswd: line 5: over budget\n", 'who still has a password of a list');
     is_run($recipe->(3), 0, '', '', 'a site moves to another method');
-    $has_hash->("$system/etc/shadow", 'ann:', '$6$rounds=10000$', 'password', $today->(), 'the password of ann is hashed anew');
+    $has_hash->("$system/etc/shadow", 'ann:', '$6$rounds=656000$', 'password', $today->(), 'the password of ann is hashed anew');
     is_run($recipe->(4), 0, "mkpasswd: line 3: over budget\n", '', 'stored hashes that could stall a login');
 };
 

@@ -140,14 +140,11 @@ my @results = in_processes($jobs, sub {
 }, map { [$_, @{ $rows[$_] }] } 0 .. $#rows);
 for my $number (0 .. $#rows) {
     my ($fault, $sees) = map { my $key = $_; join ', ', map { $_->[0] eq $key ? $_->[1] : () } @{ $rows[$number] } } qw(fault sees);
-<<<<<<< HEAD
-    is(($results[$number] // ['it ended early'])->[0], '', "$fault: seen by $sees");
-=======
-    my ($missing) = $result{$number} =~ /\Askip: (.*)/;
+    my $result = ($results[$number] // ['it ended early'])->[0];
+    my ($missing) = $result =~ /\Askip: (.*)/;
   SKIP: {
         skip "$fault: $missing", 1 if $missing;
-        is($result{$number}, '', "$fault: seen by $sees");
+        is($result, '', "$fault: seen by $sees");
     }
->>>>>>> a9b46b713ef0203598cb5964d93130ddfb5bd3e4
 }
 done_testing;

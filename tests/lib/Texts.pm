@@ -32,7 +32,8 @@ my %options_of = (
     manual => sub {
         map { [/\bAr (\w+)/, join ' ', map { "-$_" } /\bFl (-?[A-Za-z][\w-]*)/g] } shown($_[0]) =~ /^\.It (Fl .*)/mg;
     },
-    readme => sub { map { [/^`$word ([A-Z]+)`|`.*`$word ([A-Z]+)`/ ? $1 // $2 : '', $_] } $_[0] =~ /^\| (`-.*?) \|/mg },
+    # Options: `--long VALUE` (`-s`), `--long`, ..
+    readme => sub { map { [/ ([A-Z]+)`/, $_] } map { /(`--[^`]*`(?: \(`[^`]*`\))?)/g } $_[0] =~ /^Options: (.*)/m },
     # Words in a list, and those after which a word is looked for: cases of the word before the cursor.
     bash => sub {
         my $text = $_[0] =~ s/^\s*#.*//mgr;
@@ -66,22 +67,13 @@ sub options_of {
     return \%options;
 }
 
-# The refusals in the tables of a manual or of README.md: of a run, each with its status before it, and of a line.
+# The refusals in the tables of a manual: of a run, each with its status before it, and of a line.
 sub refusals_of {
-    my ($kind, $text) = @_;
     my ($place, @run, @line) = '';
-    for (split /\n/, $text) {
-        if ($kind eq 'manual') {
-            $place = $1 if /^\.S[hs] (.*)/;
-            push @run, "$1 $2" if $place eq 'EXIT STATUS' && /^\.It ([1-9]) Ta (?!Em )(.+?) Ta /;
-            push @line, $1 if $place eq 'Refused lines' && /^\.It (?!Sy )(.+?) Ta /;
-        } else {
-            $place = /^\| Status \| Text \| When \|$/ ? 'run' : /^\| Text \| When \|$/ ? 'line' : /^\|/ ? $place : '';
-            my (undef, @cells) = split /\s*\|\s*/;
-            my $status = $place eq 'run' && shift @cells // '';
-            push @run, map { "$status $_" } $cells[0] =~ /`([^`]*)`/g if $place eq 'run';
-            push @line, $cells[0] =~ /`([^`]*)`/g if $place eq 'line' && @cells;
-        }
+    for (split /\n/, $_[0]) {
+        $place = $1 if /^\.S[hs] (.*)/;
+        push @run, "$1 $2" if $place eq 'EXIT STATUS' && /^\.It ([1-9]) Ta (?!Em )(.+?) Ta /;
+        push @line, $1 if $place eq 'Refused lines' && /^\.It (?!Sy )(.+?) Ta /;
     }
     return (\@run, \@line);
 }
