@@ -36,6 +36,7 @@ export DESTDIR PREFIX LIBDIR ARCHIVE RT
 # What make test runs, and how: the harness prints the sums.
 T = $(filter-out tests/planted.t,$(wildcard tests/*.t))
 PROVE = PERL5LIB=tests/lib prove --harness Tally -j4
+FIRST = tests/layers.t tests/specification.t
 
 .PHONY: all run lib fuzz test check layers specification gate bench soak install dist wheel deb clean FORCE
 .DELETE_ON_ERROR:
@@ -98,10 +99,10 @@ test: mkpasswd lib
 
 # The layers, the page of definitions and the gate come first, since they need nothing built.
 check: layers gate mkpasswd lib
-	$(PROVE) tests/planted.t $(T)
+	$(PROVE) tests/planted.t $(filter-out $(FIRST),$(T))
 
 layers:
-	$(PROVE) tests/layers.t tests/specification.t
+	$(PROVE) $(FIRST)
 
 specification:
 	@mkdir -p build

@@ -111,39 +111,41 @@ sub plant {
     return ($only, @sees);
 }
 
-# Tries one row: returns nothing where its tests saw it, `skip:` where one of them lacks a tool, or else what went otherwise.
+# Tries one row: returns nothing where its tests saw it, or else what went otherwise, or which tool is missing.
 sub tried {
     my ($copy, @pairs) = @_;
     make_path($copy);
     copy_tree($copy, map { $_->[0] eq 'file' ? $_->[1] : () } @pairs);
     my ($only, @sees) = plant($copy, @pairs);
-    my %run;
+    my (%run, $missing);
     for (@sees) {
         my ($test, $name) = @$_;
         my $run = $run{$test} //= run({ env => { T_ONLY => $only, HARNESS_ACTIVE => undef }, timeout => 300 }, $^X, "$copy/tests/$test");
         my $escaped = $name =~ s/#/\\#/gr;
         next if $run->{out} =~ /^ *not ok \d+ - \Q$escaped\E$/m && $run->{status};
-        return "skip: $1" if !$run->{status} && $run->{out} =~ /^ok \d+ # skip (.*)$/m;
+        # Where a tool is missing, the test is skipped.
+        if ($run->{out} !~ / - \Q$escaped\E$/m && $run->{out} =~ /# skip (.* is missing \(Debian package .*)/) {
+            $missing = $1;
+            next;
+        }
         return "$test passed '$name', ended with $run->{status}, and printed:\n"
             . join "\n", grep { !/^ *ok / } split /\n/, "$run->{out}$run->{err}";
     }
-    return;
+    return $missing && "skip: $missing";
 }
 
 my $wanted = $ENV{FAULTS} // '';
 my @rows = grep { $_->[0][1] =~ /$wanted/ } rows();
 my @results = in_processes($jobs, sub {
-    my ($number, @row) = @{ $_[0] };
-    my $result = eval { tried("$scratch/tree.$number", @row) // '' } // $@;
-    remove_tree("$scratch/tree.$number");
+    my $result = eval { tried("$scratch/tree.$$", @{ $_[0] }) // '' } // $@;
+    remove_tree("$scratch/tree.$$");
     return $result;
-}, map { [$_, @{ $rows[$_] }] } 0 .. $#rows);
-for my $number (0 .. $#rows) {
-    my ($fault, $sees) = map { my $key = $_; join ', ', map { $_->[0] eq $key ? $_->[1] : () } @{ $rows[$number] } } qw(fault sees);
-    my $result = ($results[$number] // ['it ended early'])->[0];
-    my ($missing) = $result =~ /\Askip: (.*)/;
+}, @rows);
+for my $row (@rows) {
+    my ($fault, $sees) = map { my $key = $_; join ', ', map { $_->[0] eq $key ? $_->[1] : () } @$row } qw(fault sees);
+    my ($result) = @{ shift @results // ['it ended early'] };
   SKIP: {
-        skip "$fault: $missing", 1 if $missing;
+        skip $1, 1 if $result =~ /^skip: (.*)/;
         is($result, '', "$fault: seen by $sees");
     }
 }
