@@ -14,6 +14,7 @@
 # make install    puts the program, the C libraries, the manuals and the rest under PREFIX (default /usr/local)
 # make dist       packs the same into an archive that needs no toolchain
 # make wheel      packs the Python package and the shared library, built for every x86-64 processor, into a wheel
+# make deb        packs all of it into Debian packages, in a root of Debian 12 if this machine has no debhelper
 # make clean      removes what was built
 #
 # With CPU=x86-64-v3 in its words, make builds for such processors, without for x86-64-v2. Each make has to be told:
@@ -36,7 +37,7 @@ export DESTDIR PREFIX LIBDIR ARCHIVE RT
 T = $(filter-out tests/planted.t,$(wildcard tests/*.t))
 PROVE = PERL5LIB=tests/lib prove --harness Tally -j4
 
-.PHONY: all run lib fuzz test check layers specification gate bench soak install dist wheel clean FORCE
+.PHONY: all run lib fuzz test check layers specification gate bench soak install dist wheel deb clean FORCE
 .DELETE_ON_ERROR:
 # rt takes all cores for itself.
 .NOTPARALLEL:
@@ -129,5 +130,9 @@ wheel:
 	$(MAKE) lib CPU=x86-64
 	tools/wheel libmkpasswd.so.2 .
 
+# The packages depend on sse4.2-support, which refuses processors that the default build is not for.
+deb: mkpasswd lib
+	tools/deb .
+
 clean:
-	rm -rf mkpasswd libmkpasswd.a libmkpasswd.so.2 build crates/*/out mkpasswd-*-linux.tar.gz mkpasswd-*.whl
+	rm -rf mkpasswd libmkpasswd.a libmkpasswd.so.2 build crates/*/out mkpasswd-*-linux.tar.gz mkpasswd-*.whl *.deb

@@ -8,7 +8,7 @@ use lib "$Bin/lib";
 use List::Util qw(sum0);
 use Model;
 use Suite;
-use Test::More;
+use Texts;
 
 my $installed = "$scratch/installed";
 my ($include, $libs) = ("$installed/usr/include", "$installed/usr/lib/x86_64-linux-gnu");
@@ -47,7 +47,8 @@ my %steps = (
     verify => 'password setting budget memory compare', needs_rehash => 'setting made replace', setting => 'made room',
     new => 'password made budget room draw memory', hash => 'password setting budget room memory', bound => 'length setting tell',
 );
-my ($refused, @words) = (0);    # which allocation is refused, from 1; the words that the system draws, if it does
+our $refused = 0;    # which allocation is refused, from 1
+my @words;           # that the system draws, if it does
 
 sub salt_of { my ($length, @of) = @_; return join '', map { $characters[$of[$_ / 10] >> 6 * ($_ % 10) & 63] } 0 .. $length - 1 }
 
@@ -117,14 +118,13 @@ sub are_made {
         or diag('row ' . substr(row(@{ $calls[$at] // [] }), 0, 400) . "\nwanted: " . ($wanted[$at] // '') . "\ngot:    " . ($got[$at] // ''));
 }
 
-# The same with each allocation refused in turn.
+# The same with each allocation refused in turn; scrypt has three.
 sub are_refused {
     my ($rows, @calls) = @_;
-    for my $number (1 .. 3) {
-        $refused = $number;
-        are_made("allocation $number refused", [@$rows, "refuse $number"], @calls);
+    for (1 .. 4) {
+        local $refused = $_;
+        are_made("allocation $_ refused", [@$rows, "refuse $_"], @calls);
     }
-    $refused = 0;
 }
 
 # ---- the calls
@@ -190,9 +190,6 @@ subtest 'hashes' => sub {
     my @cheap = grep { $_->[0] =~ /^(hash|verify)/ && cost(read_setting($_->[2]), length $_->[1]) < 500_000 } @calls;
     are_made('in eight threads', ['threads 8'], (grep { length $_->[1] == 1024 } @calls), @cheap[map { 7 * $_ } 0 .. $#cheap / 7]);
     are_refused([], ['hash', 'pleaseletmein', '$7$C6..../....SodiumChloride', 145, $budget], (grep { $_->[2] =~ /^\$7/ } @cheap), @calls[0 .. 9]);
-    $refused = 4;
-    are_made('no fourth allocation', ['refuse 4'], grep { $_->[2] =~ /^\$7/ } @cheap);
-    $refused = 0;
 };
 
 sub careless {
@@ -309,32 +306,26 @@ subtest 'compilers' => sub {
     @words = (1, 2, 3);
     push @calls, ['bound_str', '', $fixed, 0, 8], ['setting_str', '', '', 145, 6, 0, @words], ['hash_str', 'password', '!', 145, $budget];
     my $wanted = join "\n", (map { line(@$_) =~ s/ 3 0 0 unchanged$/ 0 0 0 unchanged/r } @calls), '1' . ' 0' x 12 . ' differs';
-    my ($children, @builds) = 0;
-    for my $compiler (qw(gcc clang g++ clang++)) {
-        needs($compiler => $compiler eq 'clang++' ? 'clang' : $compiler) or next;
-        push @builds, map { [$compiler, $_, 'c++'] } qw(c++98 c++11 c++17 c++20) if $compiler =~ /\+/;
-        push @builds, map { [$compiler, $_, 'c'] } qw(c99 c11 c17 c2x) if $compiler !~ /\+/;
-    }
+    my @builds = map {
+        my $compiler = $_;
+        my ($language, @standards) = /\+/ ? qw(c++ c++98 c++11 c++17 c++20) : qw(c c99 c11 c17 c2x);
+        needs($compiler => s/clang\K\+\+//r) ? map { [$compiler, $_, $language] } @standards : ();
+    } qw(gcc clang g++ clang++);
     my @sanitize = ('-g', '-O1', '-DSANITIZED', '-fsanitize=address,undefined', '-fno-sanitize-recover=all');
     my @kinds = (['static', '-O2', @static], ['shared', '-O0', @shared], ['sanitized', @sanitize, @static]);
-    for (@builds) {
-        my ($compiler, $standard, $language) = @$_;
-        wait if $children++ >= 4;
-        next if fork // die;
-        for (@kinds) {
+    my @results = in_processes(4, sub {
+        my ($compiler, $standard, $language) = @{ $_[0] };
+        return map {
             my ($kind, @rest) = @$_;
             my $path = "$scratch/$compiler-$standard-$kind";
             my $run = run({ timeout => 300 }, $compiler, "-std=$standard", @strict, '-Wno-long-long', '-x', $language,
                 "$root/tests/c/calls.c", '-x', 'none', @rest, '-o', $path);
             my @got = $run->{status} ? () : printed($path, (map { row(@$_) } @calls), "words_str - - 145 $number{differs}");
-            spew("$path.got", $run->{err} . join "\n", @got);
-        }
-        POSIX::_exit(0);
-    }
-    1 while wait != -1;
-    for (@builds) {
-        my ($compiler, $standard) = @$_;
-        is(slurp("$scratch/$compiler-$standard-$_->[0].got"), $wanted, "$compiler $standard, $_->[0]") for @kinds;
+            $run->{err} . join "\n", @got;
+        } @kinds;
+    }, @builds);
+    for my $number (0 .. $#builds) {
+        is($results[$number][$_], $wanted, "$builds[$number][0] $builds[$number][1], $kinds[$_][0]") for 0 .. $#kinds;
     }
 };
 
@@ -373,12 +364,8 @@ subtest 'warnings' => sub {
     }
 };
 
-# The block in a language of README.md's section for programmers.
-sub readme_block {
-    my ($language) = @_;
-    my ($section) = slurp("$root/README.md") =~ /^## From C, .*?\n(.*?)^## /ms;
-    return ($section // '') =~ /^```\Q$language\E\n(.*?)^```$/ms ? $1 : '';
-}
+# The last block in a language of README.md's section for programmers.
+sub readme_block { return (blocks_of(section_of(slurp("$root/README.md"), 'From C, C++ and Python'), $_[0]))[-1] // '' }
 
 subtest 'what is installed' => sub {
     is(@declared, 8, 'the header declares eight calls');
@@ -471,7 +458,6 @@ subtest 'manuals' => sub {
     for my $page (@pages) {
         my ($name) = $page =~ m{/(\w+)\.3$};
         my $text = slurp($page);
-        is_run(run('mandoc', '-T', 'lint', '-W', 'warning', $page), 0, '', '', "$name: mandoc") if needs(mandoc => 'mandoc');
         is_deeply([grep { $text !~ /^\.Sh $_$/m } 'SYNOPSIS', 'RETURN VALUES', 'ERRORS', 'EXAMPLES', 'SECURITY CONSIDERATIONS'], [], "$name: its sections");
         my ($wanted, $code) = $text =~ /^\.Sh EXAMPLES\n.*?^\.\\" prints: (.*?)\n\.Bd -literal.*?\n(.*?)^\.Ed$/ms;
         spew("$scratch/example.c", ($code // '') =~ s/\\e/\\/gr =~ s/\\&//gr);

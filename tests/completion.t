@@ -11,7 +11,6 @@ use FindBin qw($Bin);
 use lib "$Bin/lib";
 use Suite;
 use Texts;
-use Test::More;
 
 my @options = map { /(?<!\S)--?[A-Za-z][\w-]*/g } run(program(), '--help')->{out} =~ /^ +(-.*?)(?:  |$)/mg;
 my @long = grep { /^--/ } @options;
@@ -62,26 +61,18 @@ else
 fi
 spec=$(complete -p mkpasswd)
 [ "$spec" = 'complete -F _mkpasswd mkpasswd' ] || echo "mkpasswd is completed by: $spec" >&2
-compopt() {
-    asked="$*"
-}
+compopt() { asked="$*"; }
 number=0
 while IFS= read -r COMP_LINE; do
     # The words of the line, and what is before the cursor in the last of them.
     text=$COMP_LINE
-    for break in $breaks; do
-        text=${text//$break/ $break }
-    done
+    for break in $breaks; do text=${text//$break/ $break }; done
     read -ra COMP_WORDS <<< "$text"
-    case $COMP_LINE in
-        *' ') COMP_WORDS+=('') ;;
-    esac
+    [[ $COMP_LINE != *' ' ]] || COMP_WORDS+=('')
     COMP_CWORD=$((${#COMP_WORDS[@]} - 1))
     COMP_POINT=${#COMP_LINE}
     word=${COMP_WORDS[COMP_CWORD]}
-    case " $breaks " in
-        *" $word "*) word= ;;
-    esac
+    [[ " $breaks " != *" $word "* ]] || word=
     whole=${COMP_LINE##* }
     asked=
     COMPREPLY=(left over)
@@ -89,9 +80,7 @@ while IFS= read -r COMP_LINE; do
     if [ "${#COMPREPLY[@]}" = 0 ] && [ "$asked" = '-o default' ]; then
         mapfile -t COMPREPLY < <(compgen -f -- "$word")
     fi
-    for reply in ${COMPREPLY[@]+"${COMPREPLY[@]}"}; do
-        echo "$number ${whole%"$word"}$reply"
-    done
+    for reply in ${COMPREPLY[@]+"${COMPREPLY[@]}"}; do echo "$number ${whole%"$word"}$reply"; done
     number=$((number + 1))
 done < "$input"
 echo end

@@ -1,17 +1,17 @@
 #!/usr/bin/env perl
-# Lets each read, each write, each call for memory and each call for random words of the program fail in turn, in each of its
-# modes. Each run has to end with the status 3, to tell the fault, and to have printed nothing but answers of a run that
-# goes well, those of all lines before in full. Where words are refused the status stays 2, whatever becomes of the text. Then reads and writes handle one byte each.
+# Lets each read, each write, each call for memory and each call for random words of the program fail in turn,
+# in each of its modes. Each run has to end with the status 3, to tell the fault, and to have printed nothing
+# but answers of a run that goes well, those of all lines before in full. Where words are refused the status
+# stays 2, whatever becomes of the text. Then reads and writes handle one byte each.
 #
-# One refusal of memory may go unheard, and the whole answer come: std makes the list of the words smaller in the end, and
-# where that is refused it stays as it was.
+# One refusal of memory may go unheard, and the whole answer come: std makes the list of the words smaller in
+# the end, and where that is refused it stays as it was.
 use strict;
 use warnings;
 use FindBin;
 use lib "$FindBin::Bin/lib";
 use Model;
 use Suite;
-use Test::More;
 
 my $library = preload('faults');
 my %told = (memory => 'out of memory', read => 'read fault', write => 'write fault', random => 'start fault');
@@ -30,8 +30,8 @@ my @md5 = qw(-m md5crypt -S xxxxxxxx);
 my ($old, $new) = map { crypt 'password', $_ } '$7$2/..../....xxxxxxxx', '$7$BU..../....ab';
 my $of_alphabet = '[./0-9A-Za-z]';
 
-# The modes: a name, the input, the words, status, output (or a pattern of it) and fault output, and how many calls for
-# memory come after the first answer. The texts are openssl-passwd(1)'s and libxcrypt's.
+# The modes: a name, the input, the words, status, output (or a pattern of it) and fault output, and how many
+# calls for memory come after the first answer. The texts are openssl-passwd(1)'s and libxcrypt's.
 for (
     ['a password', '', [@md5, 'password'], 0, "$md5\n", ''],
     ['a password that is read', "password\nmore\n", [@md5, '-s'], 0, "$md5\n", ''],

@@ -7,7 +7,6 @@ use warnings;
 use FindBin qw($Bin);
 use lib "$Bin/lib";
 use Suite;
-use Test::More;
 
 my $known = '$1$xxxxxxxx$UYCIxa628.9qXjpQCjM4a.';
 my $version = run("$root/tools/version")->{out} =~ s/\n//r;
@@ -19,11 +18,7 @@ my ($archive, $second) = map { "$scratch/$_/$name.tar.gz" } qw(first second);
 my ($tree, $alone) = ("$scratch/tree", "$scratch/alone");
 my ($documents, $cc) = ("$tree/share/doc/mkpasswd", $ENV{CC} || 'cc');
 program();
-if (grep { !-e "$root/$_" } 'libmkpasswd.a', $library) {
-    needs('the C library', 'none: run make lib', 0);
-    done_testing;
-    exit;
-}
+-e "$root/$_" or BAIL_OUT("$_ is not built: run make lib") for 'libmkpasswd.a', $library;
 
 subtest 'install' => sub {
     my $installed = "$scratch/installed";

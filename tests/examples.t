@@ -11,7 +11,6 @@ use FindBin qw($Bin);
 use lib "$Bin/lib";
 use Suite;
 use Texts;
-use Test::More;
 
 my ($readme, $recipes) = map { slurp("$root/$_") } 'README.md', 'docs/RECIPES.md';
 mkdir "$scratch/bin";
@@ -24,12 +23,7 @@ my $hash = qr{(\$1\$|\$[56]\$(?:rounds=[0-9]+\$)?|\$7\$[./0-9A-Za-z]{11})([./0-9
 
 sub form_of { return $_[0] =~ s{$hash}{$1 . 's' x length($2) . "\$" . 'd' x length $3}ger }
 sub is_hash_of { return (crypt($_[1], $_[0]) // '') eq $_[0] }
-sub hashes_of {
-    my ($text) = @_;
-    my @hashes;
-    push @hashes, $& while $text =~ /$hash/g;
-    return @hashes;
-}
+sub hashes_of { my @hashes; push @hashes, $& while $_[0] =~ /$hash/g; return @hashes }
 
 # What is wrong with an output beside the one shown, both of a command that makes salts.
 sub difference {
@@ -58,9 +52,7 @@ sub lacking {
 # Tests one example; the words are those of the examples up to here, among which its passwords are.
 sub try_example {
     my ($command, $shown, $folder, $words) = @_;
-    for (lacking($command)) {
-        return if !needs($_ => $_);
-    }
+    for (lacking($command)) { needs($_ => $_) or return }
     push @$words, split(/['":]|\\n|\n/, $command), split /[\s:'"|<>;]+|\\n/, $command;
     my $output = sub { run({ %in, dir => $folder }, 'bash', '-c', "exec 2>&1\n$command")->{out} };
     my $got = $output->();

@@ -5,7 +5,6 @@ use warnings;
 use FindBin qw($Bin);
 use lib "$Bin/lib";
 use Suite;
-use Test::More;
 
 for (
     [0, 0, 'must-fail a/b.edit: refused, as it must be'],

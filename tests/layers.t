@@ -14,7 +14,6 @@ use lib "$Bin/lib";
 use List::Util qw(uniq);
 use Memoize qw(memoize);
 use Suite;
-use Test::More;
 
 # The crates, and what each may depend on: only prims_core has digests.
 my %dependencies = (
@@ -81,18 +80,6 @@ sub code_of {
     return $code =~ s/\bghost\s+use\b[^;]*;/blank($&)/ger;
 }
 
-# Where the bracket that stands at the place is closed.
-sub closed {
-    my ($code, $place) = @_;
-    pos($code) = $place;
-    my $depth = 0;
-    while ($code =~ /\G[^{}]*([{}])/g) {
-        $depth += $1 eq '{' ? 1 : -1;
-        return pos $code if $depth == 0;
-    }
-    return length $code;
-}
-
 # The modules that a source declares, each with whether #[cfg(test)] stands before it, where it begins, and where
 # it ends if it is a block.
 memoize('modules');
@@ -101,9 +88,8 @@ sub modules {
     my $attribute = qr/#\s*\[(?:[^\[\]]|\[[^\[\]]*\])*\]/;
     my $public = qr/\bpub\b\s*(?:\([^()]*\)\s*)?/;
     my @modules;
-    while ($code =~ /((?:$attribute\s*)*)(?:$public)?\bmod\s+(\w+)\s*([;{])/g) {
-        my %module = (name => $2, begin => $-[0]);
-        $module{end} = closed($code, $+[0] - 1) if $3 eq '{';
+    while ($code =~ /((?:$attribute\s*)*)(?:$public)?\bmod\s+(\w+)\s*(?:;|(?=(\{(?:[^{}]++|(?3))*+\}|\{.*\z)))/gs) {
+        my %module = (name => $2, begin => $-[0], end => $+[3]);
         $module{is_test} = grep { s/\s//gr eq '#[cfg(test)]' } $1 =~ /$attribute/g;
         push @modules, \%module;
     }
@@ -283,16 +269,15 @@ sub other_calls {
 
 # A crate has a line in the list here, and depends on nothing but what the list has.
 sub breaches_of_list {
-    my ($number, @breaches) = 0;
-    for my $line (split /\n/, $_[0]) {
+    my $number = 0;
+    return map {
+        my ($line, $crates, $listed) = ($_, split /:/, s/#.*//r, 2);
+        my ($crate) = split ' ', $crates // '';
+        my %allowed = map { $_ => 1 } split ' ', $dependencies{ $crate // '' } // '';
+        my $holds = !defined $crate || %allowed && !grep { !$allowed{$_} } split ' ', $listed // '';
         $number++;
-        my ($crates, $listed) = split /:/, $line =~ s/#.*//r, 2;
-        my ($crate) = split ' ', $crates // '' or next;
-        my %allowed = map { $_ => 1 } split ' ', $dependencies{$crate} // '';
-        next if %allowed && !grep { !$allowed{$_} } split ' ', $listed // '';
-        push @breaches, "crates.txt:$number: a crate or a dependency that is not allowed: $line";
-    }
-    return @breaches;
+        $holds ? () : "crates.txt:$number: a crate or a dependency that is not allowed: $line";
+    } split /\n/, $_[0];
 }
 
 # What is wrong with a source: a line for each breach.
@@ -328,14 +313,15 @@ sub breaches_with {
     my ($tree, @changes) = @_;
     my %changed = %$tree;
     while (my ($path, $change) = splice @changes, 0, 2) {
-        if (!defined $change) {
+        if (ref $change) {
+            my @parts = split /\Q$change->[0]\E/, $changed{$path}, -1;
+            return "$change->[0]: stands $#parts times in $path" if @parts != 2;
+            $changed{$path} = join $change->[1], @parts;
+        } elsif (defined $change) {
+            $changed{$path} .= "$change\n";
+        } else {
             delete $changed{$path};
-            next;
         }
-        my ($old, $new) = ref $change ? @$change : ();
-        my $found = defined $old ? () = $changed{$path} =~ /\Q$old\E/g : 1;
-        return "$old: stands $found times in $path" if $found != 1;
-        $changed{$path} = defined $old ? $changed{$path} =~ s/\Q$old\E/$new/r : ($changed{$path} // '') . "$change\n";
     }
     return breaches(\%changed);
 }

@@ -9,7 +9,6 @@ use IPC::Open2 qw(open2);
 use Lines;
 use Model;
 use Suite;
-use Test::More;
 
 my $most_memory = 8192;    # kB
 my $many = 20_000;

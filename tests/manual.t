@@ -6,7 +6,6 @@ use FindBin qw($Bin);
 use lib "$Bin/lib";
 use Suite;
 use Texts;
-use Test::More;
 
 for (
     ['mandoc', 'mandoc', [qw(mandoc -T lint -W warning)], [qw(mandoc -T utf8)]],

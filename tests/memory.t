@@ -7,7 +7,6 @@ use warnings;
 use FindBin;
 use lib "$FindBin::Bin/lib";
 use Suite;
-use Test::More;
 
 my $library = preload('faults');
 

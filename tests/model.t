@@ -7,7 +7,6 @@ use FindBin;
 use lib "$FindBin::Bin/lib";
 use Model;
 use Suite;
-use Test::More;
 
 is((crypt('password', '$1$xxxxxxxx') // ''), '$1$xxxxxxxx$UYCIxa628.9qXjpQCjM4a.', "perl's crypt is libxcrypt's") or BAIL_OUT('no libxcrypt');
 

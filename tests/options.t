@@ -8,7 +8,6 @@ use lib "$Bin/lib";
 use Model ();
 use Suite;
 use Texts;
-use Test::More;
 
 my $readme = slurp("$root/README.md");
 my $manual = slurp("$root/man/mkpasswd.1");
@@ -17,13 +16,10 @@ my $help = run(program(), '--help')->{out};
 
 # Tests that a text has the wanted options, one by one, and no other ones.
 sub compare {
-    my ($place, $wanted, $got, $names) = @_;
-    my %wanted = map { $_ => $names || !$wanted->{$_} ? $wanted->{$_} : '=' } keys %$wanted;
-    for (sort keys %{ { %wanted, %$got } }) {
-        my $value = defined $got->{$_} && !$names && $got->{$_} ? '=' : $got->{$_};
-        is($value, $wanted{$_}, "$place: $_");
-    }
-    return;
+    my ($place, $wanted, $got) = @_;
+    my $has_names = !grep { $_ eq '=' } values %$got;
+    my $shown = sub { $has_names || !$_[0] ? $_[0] : '=' };
+    is($shown->($got->{$_}), $shown->($wanted->{$_}), "$place: $_") for sort keys %{ { %$wanted, %$got } };
 }
 
 # The options in the table, and those in a command's help, in which a new one is seen first.
@@ -37,19 +33,19 @@ is($help, slurp("$root/tools/help"), 'help is as it was written down, whole');
 
 my ($table, $wanted) = wanted('mkpasswd', $help);
 for (
-    ['help', 'help', $help, 1], ['manual', 'manual', $manual, 1], ['README.md', 'readme', $readme, 1],
-    ['bash', 'bash', slurp("$root/completions/mkpasswd.bash")], ['zsh', 'zsh', slurp("$root/completions/_mkpasswd"), 1],
+    ['help', 'help', $help], ['manual', 'manual', $manual], ['README.md', 'readme', $readme],
+    ['bash', 'bash', slurp("$root/completions/mkpasswd.bash")], ['zsh', 'zsh', slurp("$root/completions/_mkpasswd")],
     ['fish', 'fish', slurp("$root/completions/mkpasswd.fish")],
 ) {
-    my ($place, $kind, $text, $names) = @$_;
-    subtest $place => sub { compare($place, $kind eq 'help' ? $table : $wanted, options_of($kind, $text), $names) };
+    my ($place, $kind, $text) = @$_;
+    subtest $place => sub { compare($place, $kind eq 'help' ? $table : $wanted, options_of($kind, $text)) };
 }
 
 subtest 'mkpasswd-parallel' => sub {
     my $own_help = run("$root/bin/mkpasswd-parallel", '--help')->{out};
     my ($own_table, $own_wanted) = wanted('mkpasswd-parallel', $own_help);
-    compare('help of mkpasswd-parallel', $own_table, options_of('help', $own_help), 1);
-    compare('mkpasswd-parallel.1', $own_wanted, options_of('manual', slurp("$root/man/mkpasswd-parallel.1")), 1);
+    compare('help of mkpasswd-parallel', $own_table, options_of('help', $own_help));
+    compare('mkpasswd-parallel.1', $own_wanted, options_of('manual', slurp("$root/man/mkpasswd-parallel.1")));
 };
 
 subtest 'refusals' => sub {

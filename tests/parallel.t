@@ -9,7 +9,6 @@ use FindBin qw($Bin);
 use lib "$Bin/lib";
 use IO::Socket::INET;
 use Suite;
-use Test::More;
 use Time::HiRes qw(sleep time);
 
 my $script = "$root/bin/mkpasswd-parallel";
@@ -112,11 +111,14 @@ sub fates {
     return join '', map { my $fate = $_; map { ($_ == 10 && $fate ne 'fine' ? "fate_$fate" : "$fate$_") . ":password\n" } 1 .. 20 } @_;
 }
 
+# A subtest that GNU parallel is needed for.
 my $has_parallel = run(qw(parallel --version))->{out} =~ /^GNU parallel /;
-sub parallel { return needs('GNU parallel', 'parallel', $has_parallel) }
+sub with_parallel {
+    my ($name, $test) = @_;
+    return subtest $name => sub { needs('GNU parallel', 'parallel', $has_parallel) && $test->() };
+}
 
-subtest 'one run over the whole input' => sub {
-    parallel() or return;
+with_parallel 'one run over the whole input' => sub {
     my $batch = same('a batch', 1, batch_lines(), [qw(--jobs 3 --block-lines 100)], @batch);
     cmp_ok($batch->{err} =~ tr/\n//, '>=', 300, 'refused lines in the batch');
     my ($begin) = batch_lines() =~ /\A((?:.*\n){1000})/;
@@ -135,18 +137,13 @@ subtest 'one run over the whole input' => sub {
     is(keys %{ { map { $_ => 1 } $salted->{out} =~ /:\$1\$(.{8})\$/g } }, 50, 'a new salt in each line');
 };
 
-subtest 'arguments' => sub {
-    parallel() or return;
+with_parallel 'arguments' => sub {
     my ($fifty, $own) = (lines_of(50, 'userN:passwordN'), [qw(--jobs 4 --block-lines 1)]);
-    for (
+    same(@$_[0, 1], $fifty, $own, @$_[2 .. $#$_]) for
         ['an unknown option', 2, qw(--batch -Q)], ['a wrong salt', 2, qw(--batch -m md5crypt -S a-b)],
         ['an argument with quotes', 2, '--batch', '-m', "it's {} {#} \$HOME", '-S', 'ab'], ['two modes', 2, qw(--batch --check)],
         ['the list of methods', 0, qw(--batch -m help)], ['the version', 0, qw(--check --version)],
-        ['the version alone', 0, '--version'], ['the version by its letter', 0, '-V'],
-    ) {
-        my ($name, $status, @words) = @$_;
-        same($name, $status, $fifty, $own, @words);
-    }
+        ['the version alone', 0, '--version'], ['the version by its letter', 0, '-V'];
     my $no_mode = "--batch or --check is wanted among mkpasswd's words; --help tells more";
     my $false = run(qw(sh -c), 'command -v false')->{out} =~ s/\n//r;
     for (
@@ -167,9 +164,7 @@ subtest 'arguments' => sub {
 # A PATH without GNU parallel, or with another program of that name.
 subtest 'another parallel' => sub {
     my $wanted = "GNU parallel is wanted on the PATH (Debian's package parallel)";
-    for my $tool (qw(perl env)) {
-        symlink run('sh', '-c', "command -v $tool")->{out} =~ s/\n//r, "$scratch/bin/$tool";
-    }
+    symlink run('sh', '-c', "command -v $_")->{out} =~ s/\n//r, "$scratch/bin/$_" for qw(perl env);
     my $try = sub {
         my ($path, $text, $name) = @_;
         my %how = (stdin => "user:password\n", env => { PATH => $path });
@@ -183,8 +178,7 @@ subtest 'another parallel' => sub {
     $try->("$scratch/bin:$ENV{PATH}", 'lines 1 to 1: killed or lost; GNU parallel ended with status 255', 'GNU parallel that fails');
 };
 
-subtest 'blocks that fail' => sub {
-    parallel() or return;
+with_parallel 'blocks that fail' => sub {
     my @own = (qw(--jobs 3 --block-lines 20 --program), "$scratch/stand_in");
     my $lines = fates(qw(fine status refuses killed lost few status fine));
     my @hashed = split /^/, run({ stdin => $lines }, program(), @batch)->{out};
@@ -202,8 +196,7 @@ ERR
     ok(unlink($tried), 'it was lost once');
 };
 
-subtest 'devices' => sub {
-    parallel() or return;
+with_parallel 'devices' => sub {
     my @own = ('--program', program(), qw(--jobs 2 --block-lines 20));
     my $lines = lines_of(100, 'userN:passwordN');
     my ($first) = run({ stdin => $lines }, program(), @batch)->{out} =~ /^(.*\n)/;
@@ -223,8 +216,7 @@ sub runs {
     return kill(0, $process) && eval { slurp("/proc/$process/stat") } =~ /.*\) [^Z]/;
 }
 
-subtest 'signals' => sub {
-    parallel() or return;
+with_parallel 'signals' => sub {
     spew("$scratch/input", fates(qw(fine waits fine)));
     for my $signal (qw(INT TERM)) {
         my $child = fork // die;
@@ -247,8 +239,7 @@ subtest 'signals' => sub {
     }
 };
 
-subtest 'secrets' => sub {
-    parallel() or return;
+with_parallel 'secrets' => sub {
     my $trace = "$scratch/trace";
     my @strace = (qw(strace -f --seccomp-bpf -o), $trace);
     needs('a strace that works', 'strace', run(@strace, 'true')->{status} == 0) or return;
@@ -277,17 +268,18 @@ sub server {
 }
 
 my $some = join "\n", (split /\n/, batch_lines())[0 .. 349];
-subtest 'machines' => sub {
-    parallel() or return;
+with_parallel 'machines' => sub {
     same('":" twice', 1, $some, ['--jobs', 2, '--sshlogin', ':,:', '--block-lines', 90], @batch);
     my ($sshd) = grep { -x } map { "$_/sshd" } '/usr/sbin', split /:/, $ENV{PATH};
     needs('sshd, ssh or ssh-keygen' => 'openssh-server', $sshd && !run(qw(sh -c), 'command -v ssh ssh-keygen')->{status}) or return;
     run(qw(ssh-keygen -q -t ed25519 -N), '', '-f', "$scratch/ssh/$_") for qw(host user);
     my $made_folder = $> == 0 && mkdir '/run/sshd', 0755;    # Debian's service makes it when it starts
-    my ($one, $one_port) = server($sshd);
-    my ($two, $two_port) = server($sshd);
+    my ($server, $port) = server($sshd);
     spew("$scratch/ssh/config", <<"CONFIG");
+Host down
+    Port 1
 Host *
+    Port $port
     HostName 127.0.0.1
     User @{[ (getpwuid $>)[0] ]}
     IdentityFile "$scratch/ssh/user"
@@ -296,16 +288,10 @@ Host *
     UserKnownHostsFile "$scratch/ssh/known"
     StrictHostKeyChecking accept-new
     LogLevel ERROR
-Host one
-    Port $one_port
-Host two
-    Port $two_port
-Host down
-    Port 1
 CONFIG
-    my $enters = sub { run('ssh', '-F', "$scratch/ssh/config", $_[0], 'true')->{status} == 0 };
-    for (1 .. 30) { last if $enters->('one') && $enters->('two'); sleep 0.1 }
-    if (needs('an sshd that can be entered', 'openssh-server', $enters->('one') && $enters->('two'))) {
+    my $enters = sub { run('ssh', '-F', "$scratch/ssh/config", qw(one true))->{status} == 0 };
+    for (1 .. 30) { last if $enters->(); sleep 0.1 }
+    if (needs('an sshd that can be entered', 'openssh-server', $enters->())) {
         local $env{PARALLEL_SSH} = "ssh -F '$scratch/ssh/config'";
         same('two machines, and a path with quotes and braces', 1, $some,
             [qw(--jobs 2 --sshlogin one --sshlogin=two --block-lines 90 --program), $odd_program], @batch);
@@ -315,8 +301,8 @@ CONFIG
         is_deeply([$down->{status}, $down->{out}, (split /\n/, $down->{err})[-1]], [3, '',
             'mkpasswd-parallel: lines 1 to 30: killed or lost; lines 31 to 60: killed or lost'], 'a machine that is down');
     }
-    kill 'TERM', $one, $two;
-    waitpid $_, 0 for $one, $two;
+    kill 'TERM', $server;
+    waitpid $server, 0;
     rmdir '/run/sshd' if $made_folder;
 };
 

@@ -10,7 +10,6 @@ use lib "$FindBin::Bin/lib";
 use Model;
 use POSIX qw(ceil);
 use Suite;
-use Test::More;
 
 # What is compared: the words for the method and its cost, how crypt's setting begins, the most characters of a salt,
 # how many of the salt's lengths each length of a password meets, and how many passwords of other lengths meet any salt.

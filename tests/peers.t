@@ -2,13 +2,13 @@
 # Compares the program with others that know the same schemes: vectors of libxcrypt and passlib, programs which hash or check
 # a password, and two which look for it.
 #
-# hashcat compiles its kernels for minutes, so it is tried only with HASHCAT=1; it keeps them in the home folder.
+# hashcat compiles its kernels for minutes, so it is tried only with HASHCAT=1, and else skipped even with STRICT=1; it keeps
+# them in the home folder.
 use strict;
 use warnings;
 use FindBin qw($Bin);
 use lib "$Bin/lib";
 use Suite;
-use Test::More;
 
 my @methods = qw(md5crypt sha256crypt sha512crypt scrypt);
 

@@ -8,7 +8,6 @@ use lib "$FindBin::Bin/lib";
 use File::Basename qw(dirname);
 use File::Path qw(make_path remove_tree);
 use Suite;
-use Test::More;
 
 my $jobs = $ENV{JOBS} || 2;
 
@@ -17,14 +16,18 @@ sub rows {
     my @rows;
     for my $block (split /\n{2,}/, slurp("$root/tests/lib/planted")) {
         my (@shared, @faults);
-        for (grep { !/^#/ } split /\n/, $block) {
+        for (map { split / :: (?=\w+: )/ } grep { !/^#/ } split /\n/, $block) {
             my ($key, $text) = /^(\w+): ?(.*)$/ or die "planted: $_\n";
             push @faults, [] if $key eq 'fault';
             my $pairs = @faults ? $faults[-1] : \@shared;
             if ($key eq 'more') { $pairs->[-1][1] .= "\n$text" }
-            else { push @$pairs, [$key, $text] }
+            else { push @$pairs, [$key, $text =~ s/<LF>/\n/gr] }
         }
-        push @rows, map { [$_->[0], @shared, @$_[1 .. $#$_]] } @faults;
+        for (@faults) {
+            my ($fault, @own) = @$_;
+            my $sees = grep { $_->[0] eq 'sees' } @own;
+            push @rows, [$fault, (grep { !$sees || $_->[0] ne 'sees' } @shared), @own];
+        }
     }
     return @rows;
 }
@@ -84,8 +87,9 @@ sub plant {
         my ($key, $text) = @$_;
         if ($key eq 'file') { ($file, $path) = ($text, "$copy/$text") }
         elsif ($key eq 'old') { $old = $text }
-        elsif ($key eq 'new' || $key eq 'edit') {
+        elsif ($key =~ /^(?:new|edit|put)$/) {
             ($old, $text) = split / ~> /, $text, 2 if $key eq 'edit';
+            $text = "$text $old" if $key eq 'put';
             my ($front, @backs) = split /\Q$old\E/, slurp($path), -1;
             die "'$old' stands " . @backs . " times in $file\n" if @backs != 1;
             spew($path, "$front$text$backs[0]");
@@ -107,7 +111,7 @@ sub plant {
     return ($only, @sees);
 }
 
-# Tries one row: returns nothing where its tests saw it, or else what went otherwise.
+# Tries one row: returns nothing where its tests saw it, `skip:` where one of them lacks a tool, or else what went otherwise.
 sub tried {
     my ($copy, @pairs) = @_;
     make_path($copy);
@@ -119,6 +123,7 @@ sub tried {
         my $run = $run{$test} //= run({ env => { T_ONLY => $only, HARNESS_ACTIVE => undef }, timeout => 300 }, $^X, "$copy/tests/$test");
         my $escaped = $name =~ s/#/\\#/gr;
         next if $run->{out} =~ /^ *not ok \d+ - \Q$escaped\E$/m && $run->{status};
+        return "skip: $1" if !$run->{status} && $run->{out} =~ /^ok \d+ # skip (.*)$/m;
         return "$test passed '$name', ended with $run->{status}, and printed:\n"
             . join "\n", grep { !/^ *ok / } split /\n/, "$run->{out}$run->{err}";
     }
@@ -127,26 +132,19 @@ sub tried {
 
 my $wanted = $ENV{FAULTS} // '';
 my @rows = grep { $_->[0][1] =~ /$wanted/ } rows();
-my (%number, %result);
-my $gather = sub {
-    my $child = waitpid -1, 0;
-    defined(my $number = delete $number{$child}) or return;
-    $result{$number} = -e "$scratch/result.$number" ? slurp("$scratch/result.$number") : 'it ended early';
-};
-for my $number (0 .. $#rows) {
-    $gather->() while keys %number >= $jobs;
-    my $child = fork // die "can't fork: $!";
-    if (!$child) {
-        my $result = eval { tried("$scratch/tree.$number", @{ $rows[$number] }) // '' } // $@;
-        spew("$scratch/result.$number", $result);
-        remove_tree("$scratch/tree.$number");
-        POSIX::_exit(0);
-    }
-    $number{$child} = $number;
-}
-$gather->() while %number;
+my @results = in_processes($jobs, sub {
+    my ($number, @row) = @{ $_[0] };
+    my $result = eval { tried("$scratch/tree.$number", @row) // '' } // $@;
+    remove_tree("$scratch/tree.$number");
+    return $result;
+}, map { [$_, @{ $rows[$_] }] } 0 .. $#rows);
 for my $number (0 .. $#rows) {
     my ($fault, $sees) = map { my $key = $_; join ', ', map { $_->[0] eq $key ? $_->[1] : () } @{ $rows[$number] } } qw(fault sees);
-    is($result{$number}, '', "$fault: seen by $sees");
+    my $result = ($results[$number] // ['it ended early'])->[0];
+    my ($missing) = $result =~ /\Askip: (.*)/;
+  SKIP: {
+        skip "$fault: $missing", 1 if $missing;
+        is($result, '', "$fault: seen by $sees");
+    }
 }
 done_testing;

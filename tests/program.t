@@ -8,7 +8,6 @@ use FindBin;
 use lib "$FindBin::Bin/lib";
 use Model;
 use Suite;
-use Test::More;
 
 # Runs the program with these words; the first may be what Suite's run takes, or a text that it reads. Beside what it did
 # there is a name for it.

@@ -5,7 +5,6 @@ use warnings;
 use FindBin;
 use lib "$FindBin::Bin/lib";
 use Suite;
-use Test::More;
 
 my $python = '/usr/bin/python3';
 BAIL_OUT("$root/libmkpasswd.so.2 is not built: run make lib") unless -e "$root/libmkpasswd.so.2";

@@ -6,7 +6,6 @@ use warnings;
 use FindBin qw($Bin);
 use lib "$Bin/lib";
 use Suite;
-use Test::More;
 
 my $made = run("$root/tools/specification");
 my $strict = run("$root/tools/specification", '--strict');

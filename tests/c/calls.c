@@ -154,15 +154,10 @@ static int32_t make(const struct row *row, uint8_t *out, struct mkpasswd_report 
     char *chars = (char *)out;
     const uint64_t *n = row->number;
     uint32_t method = (uint32_t)n[0], cost = (uint32_t)n[1];
-    int is_open = 0;
 
-    if (IS("verify"))
-        if (mkpasswd_verify(password, pass_len, text, len, n[0], report))
-            is_open = 1;
-    if (IS("verify_str"))
-        if (mkpasswd_verify_str(pass, str, n[0], report))
-            is_open = 1;
-    return IS("new") ? mkpasswd_new(password, pass_len, method, cost, n[2], out, room, report)
+    return IS("verify") ? mkpasswd_verify(password, pass_len, text, len, n[0], report)
+        : IS("verify_str") ? mkpasswd_verify_str(pass, str, n[0], report)
+        : IS("new") ? mkpasswd_new(password, pass_len, method, cost, n[2], out, room, report)
         : IS("new_str") ? mkpasswd_new_str(pass, method, cost, n[2], chars, room, report)
         : IS("needs_rehash") ? mkpasswd_needs_rehash(text, len, method, cost, report)
         : IS("needs_rehash_str") ? mkpasswd_needs_rehash_str(str, method, cost, report)
@@ -174,7 +169,7 @@ static int32_t make(const struct row *row, uint8_t *out, struct mkpasswd_report 
         : IS("setting_str") ? mkpasswd_setting_str(method, cost, n[2], n[3], n[4], chars, room, report)
         : IS("words") ? mkpasswd_words((int32_t)(int64_t)n[0], out, room)
         : IS("words_str") ? mkpasswd_words_str((int32_t)(int64_t)n[0], chars, room)
-        : IS("version") ? (int32_t)mkpasswd_version() : is_open;
+        : (int32_t)mkpasswd_version();
 }
 
 /* What the call left in `out`, if it changed no other byte. */

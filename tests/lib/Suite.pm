@@ -1,6 +1,6 @@
 package Suite;
 
-# What the tests share: where things are, how a command is run, and what a missing tool means.
+# What the tests share: where things are, how a command is run, and what a missing tool means; and Test::More.
 #
 # A test finds the tree by its own place. So a copy of the tree in which something was changed, documents or programs,
 # is tested by running its own tests. With T_ONLY=REGEX only the subtests whose names match are run, and what stands
@@ -13,9 +13,10 @@ use Exporter qw(import);
 use File::Basename qw(dirname);
 use File::Temp qw(tempdir);
 use POSIX ();
+use Storable qw(retrieve store);
 use Test::More;
 
-our @EXPORT = qw($root $scratch program run slurp spew needs is_run preload);
+our @EXPORT = (qw($root $scratch program run in_processes slurp spew needs is_run preload), @Test::More::EXPORT);
 
 # The top of the tree.
 our $root = abs_path(dirname(__FILE__) . '/../..');
@@ -72,6 +73,29 @@ sub run {
     my $status = $? & 127 ? 128 + ($? & 127) : $? >> 8;
     alarm 0;
     return { status => $status, out => $with{to} ? '' : slurp($out), err => slurp($err), timed_out => $timed_out };
+}
+
+# Does a work for each item in a process of its own, so many at once. Returns for each a reference to what its work
+# returned, or nothing where it ended early.
+sub in_processes {
+    my ($jobs, $work, @items) = @_;
+    my (%number, @results);
+    local @SIG{qw(INT TERM HUP)} = (sub { kill TERM => keys %number; exit 130 }) x 3;
+    for my $number (0 .. @items) {
+        while ($number < @items ? keys %number >= $jobs : %number) {
+            my $ended = delete $number{ waitpid -1, 0 };
+            $results[$ended] = retrieve("$scratch/result.$ended") if defined $ended && $? == 0;
+        }
+        last if $number == @items;
+        my $child = fork // die "can't fork: $!";
+        if (!$child) {
+            @SIG{qw(INT TERM HUP)} = ('DEFAULT') x 3;
+            store [$work->($items[$number])], "$scratch/result.$number";
+            POSIX::_exit(0);
+        }
+        $number{$child} = $number;
+    }
+    return @results[0 .. $#items];
 }
 
 # Tests that a run printed and ended with exactly this.

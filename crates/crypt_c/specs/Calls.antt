@@ -121,9 +121,9 @@ rehashed (Ok (kept, scheme)) =
     if is_replaced_by kept.scheme scheme then reported Outdated 0 0 no_work else refused Current 0
 rehashed (Err refusal) = refused refusal 0
 
-abbrev pub Makes : List ℕ → List ℕ → Result Scheme Refusal → Report → List ℕ → Type 0
-Makes words old (Err refusal) report new = Leaves (refused refusal 0) (token []) old report new
-Makes words old (Ok scheme) report new =
+abbrev pub PutsSetting : List ℕ → List ℕ → Result Scheme Refusal → Report → List ℕ → Type 0
+PutsSetting words old (Err refusal) report new = Leaves (refused refusal 0) (token []) old report new
+PutsSetting words old (Ok scheme) report new =
     let text = canonical_text (salted scheme words) in
     MatchBool (nat_lt (length text) (length old))
     (Leaves (reported Done (length text) 0 no_work) text old report new)

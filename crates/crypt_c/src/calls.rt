@@ -6,7 +6,7 @@ ghost use Rattle.crypt_core.specs.Passwords.{password_limit};
 ghost use Rattle.crypt_core.specs.Replacements.{is_replaced_by};
 ghost use Rattle.crypt_core.specs.Settings.{Spells};
 ghost use Rattle.crypt_core.specs.Work.{cost, work};
-ghost use Rattle.crypt_c.specs.Calls.{Hashes, HashesAnew, Makes, PutsHash, Verifies, admission, bounded, rehashed};
+ghost use Rattle.crypt_c.specs.Calls.{Hashes, HashesAnew, PutsSetting, PutsHash, Verifies, admission, bounded, rehashed};
 ghost use Rattle.crypt_c.specs.Private.Steps.{IsHashPut};
 ghost use Rattle.crypt_c.specs.Reports.{put, refused, token};
 
@@ -218,7 +218,7 @@ pub(crate) fn tell_rehash(given: Result<(Setting, Scheme), Refusal>) -> Report
 
 /// Puts the text of the setting that three words make, if the room allows it. After a refusal it puts the token.
 pub(crate) fn put_setting(made: Result<Scheme, Refusal>, words: [u64; 3], out: &mut [u8]) -> Report
-    ensures makes { Makes words out.old made result out.new }
+    ensures makes { PutsSetting words out.old made result out.new }
     ensures locked { ¬ (pos 0 <ℤ result.reason) → out.new ≡ put (token []) out.old }
     ensures reserved { result.reserved ≡ 0 }
 {

@@ -11,7 +11,7 @@
 ghost use Rattle.std.specs.Prelude.{◌≡◌, ◌≢◌, ◌⊎◌, ◌↔◌, ◌<◌, ◌≤◌, pos, ℕ, List, [], ◌∷◌, length, take, Result};
 ghost use Rattle.crypt_core.specs.Settings.{SettingValue, Spells};
 ghost use Rattle.crypt_core.specs.declared.scheme.Scheme.{Scheme};
-ghost use Rattle.crypt_c.specs.Calls.{Both, Hashes, HashesAnew, IsLengthRead, IsOutdated, IsPasswordRead, IsSchemeMade, IsSettingRead, Makes, Opens, Verifies, bounded, rehashed};
+ghost use Rattle.crypt_c.specs.Calls.{Both, Hashes, HashesAnew, IsLengthRead, IsOutdated, IsPasswordRead, IsSchemeMade, IsSettingRead, PutsSetting, Opens, Verifies, bounded, rehashed};
 ghost use Rattle.crypt_c.specs.Reasons.{reason_number, reason_words, unknown_words};
 ghost use Rattle.crypt_c.specs.Reports.{Answers, put, refused, token};
 ghost use Rattle.crypt_c.specs.declared.reason.Reason.{Reason as Why};
@@ -185,7 +185,7 @@ pub extern "C" fn mkpasswd_setting(
     ensures answers { Answers result report.new }
     ensures made { (given : Result Scheme Refusal) × IsSchemeMade method cost given }
     ensures each { (given : Result Scheme Refusal) → IsSchemeMade method cost given
-        → Makes (first ∷ second ∷ third ∷ []) out.old given report.new out.new }
+        → PutsSetting (first ∷ second ∷ third ∷ []) out.old given report.new out.new }
     ensures locked { result ≡ pos 0 → out.new ≡ put (token []) out.old }
 {
     *report = put_setting(scheme_of(method, cost), [first, second, third], out);

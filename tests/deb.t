@@ -1,0 +1,165 @@
+#!/usr/bin/env perl
+# Builds the Debian packages and tries them in roots of Debian 12 and 13, which have no toolchain: the same bytes in another
+# clone, the code that was proved, lintian, the packages' own tests, piuparts; and beside whois, whose mkpasswd has to come
+# back whenever ours goes, with nothing of ours left.
+use strict;
+use warnings;
+use FindBin qw($Bin);
+use lib "$Bin/lib";
+use Suite;
+use Test::More;
+
+my @packages = qw(libmkpasswd-dev libmkpasswd2 mkpasswd mkpasswd-parallel python3-mkpasswd);
+# All but ours that the trials need, so that the mirror is asked for whois alone.
+my @tried = qw(autopkgtest bash-completion gcc libc6-dev man-db parallel pkgconf python3 sse4.2-support whois);
+my %roots = (bookworm => ['bookworm', @tried], trixie => ['trixie', @tried], checks => [qw(bookworm lintian piuparts)],
+    base => [qw(bookworm parallel python3 sse4.2-support)]);
+my $mirror = $ENV{DEBIAN_MIRROR} || 'http://deb.debian.org/debian';
+
+program();
+sub needs_all {
+    needs('the C library' => 'none: run make lib', -e "$root/libmkpasswd.so.2") or return 0;
+    needs('the superuser' => 'none: run it as root', $> == 0) or return 0;
+    needs(debootstrap => 'debootstrap') && needs('dpkg-checkbuilddeps' => 'dpkg-dev') or return 0;
+    for (sort keys %roots) {
+        my $made = run({ timeout => 1800 }, "$root/tools/root", @{ $roots{$_} });
+        needs("a root for $_", 'none: tools/root says: ' . ($made->{err} =~ /(.*)\n*\z/)[0], !$made->{status}) or return 0;
+        chomp($roots{$_} = $made->{out});
+    }
+    return 1;
+}
+if (!needs_all()) {
+    done_testing;
+    exit;
+}
+
+# Runs a command that has to end well, and returns its output.
+sub output_of {
+    my $run = run({ timeout => 900 }, @_);
+    $run->{status} and die "@_: status $run->{status}\n$run->{out}$run->{err}";
+    return $run->{out} =~ s/\n\z//r;
+}
+
+# Runs a script in a root.
+sub inside { my ($place, $script) = @_; return run({ timeout => 1200 }, "$root/tools/root", '--enter', $place, 'sh', '-euc', $script) }
+
+# Tests that it ends with 0.
+sub works {
+    my ($place, $script, $name) = @_;
+    my $run = inside($place, $script);
+    return is($run->{status}, 0, $name) || diag("$run->{out}$run->{err}");
+}
+
+# A root to be changed, with the packages in /debs.
+sub copy_of {
+    my ($name) = @_;
+    output_of("$root/tools/root", '--copy', $roots{$name}, "$scratch/$name");
+    output_of('cp', '-R', "$scratch/debs", "$scratch/$name/debs");
+    return "$scratch/$name";
+}
+
+# A package of mkpasswd in which something is changed, in the folder /NAME of a root. It never stands in /debs.
+sub changed {
+    my ($place, $name, $script) = @_;
+    output_of('sh', '-euc', 'mkdir "$2"; dpkg-deb -R "$1" "$2/tree"; cd "$2/tree/DEBIAN"; eval "$3"; dpkg-deb -b "$2/tree" "$2/mkpasswd.deb"',
+        'sh', glob("$scratch/debs/mkpasswd_*.deb"), "$place/$name", $script);
+    return "/$name/mkpasswd.deb";
+}
+
+output_of("$root/tools/deb", "$scratch/debs");
+my %deb = map { m{([^/_]+)_[^/]*$} => $_ } glob "$scratch/debs/*";
+is_deeply([sort keys %deb], \@packages, 'the packages');
+like(output_of(qw(dpkg-deb -f), $deb{mkpasswd}, 'Version'), qr/^\Q${\ output_of("$root\/tools\/version")}\E(?:\+next)?\z/, 'the version');
+
+subtest 'bytes' => sub {
+    output_of('sh', '-euc', 'umask 077; mkdir "$1"; cd "$0"; tar -c --exclude=./build --exclude=./.git --exclude=out . | tar -x -C "$1"
+        LC_ALL=C.UTF-8 TZ=Asia/Kathmandu "$1/tools/deb" "$1/packages"', $root, "$scratch/another clone");
+    for (sort keys %deb) {
+        my ($again) = glob "'$scratch/another clone/packages/${_}_*.deb'";
+        ok(slurp($deb{$_}) eq slurp($again), "$_ in another path, umask, time zone and locale");
+    }
+};
+
+subtest 'content' => sub {
+    for (sort keys %deb) {
+        output_of('sh', '-euc', 'mkdir -p "$1"; dpkg-deb -x "$0" "$1"', $deb{$_}, "$scratch/content/$_");
+        my $copyright = slurp("$scratch/content/$_/usr/share/doc/$_/copyright");
+        like($copyright, qr/^License: none\n The owner has not yet chosen a licence\./m, "$_ claims no licence");
+        like(output_of(qw(dpkg-deb -f), $deb{$_}, 'Depends'), qr/\bsse4\.2-support\b/, "$_ refuses older processors") if /^(?:lib)?mkpasswd2?$/;
+    }
+    for (['mkpasswd', "$scratch/content/mkpasswd/usr/bin"], ['libmkpasswd.so.2', "$scratch/content/libmkpasswd2/usr/lib/x86_64-linux-gnu"]) {
+        my ($file, $folder) = @$_;
+        my @code = map { run('objcopy', qw(-O binary -j .text -j .rodata), "$_/$file", "$scratch/code"); slurp("$scratch/code") } $root, $folder;
+        ok(length $code[0] > 10000 && $code[0] eq $code[1], "$file has the code that was proved");
+    }
+};
+
+subtest 'lintian' => sub {
+    my $run = inside(copy_of('checks'), 'lintian --pedantic --info --fail-on error,warning /debs/*.deb');
+    is($run->{status}, 0, 'lintian has no error and no warning') or diag($run->{out});
+};
+
+for my $package (sort keys %deb) {
+    subtest "piuparts $package" => sub {
+        my $checks = -d "$scratch/checks" ? "$scratch/checks" : copy_of('checks');
+        output_of("$root/tools/root", '--copy', $roots{base}, "$checks/base") if !-d "$checks/base";
+        works($checks, 'cd /debs; dpkg-scanpackages . > Packages', 'a repository of the packages');
+        works($checks, "piuparts --existing-chroot=/base --distribution=bookworm --mirror='$mirror main' --no-eatmydata"
+            . " --bindmount=/debs --extra-repo='deb [trusted=yes] file:/debs ./' /debs/${package}_*.deb", "$package comes and goes");
+    };
+}
+
+for my $suite (qw(bookworm trixie)) {
+    subtest $suite => sub {
+        my $place = copy_of($suite);
+        my $apt = 'apt-get -q -y --no-install-recommends';
+        my $newer = changed($place, 'newer', 'sed -i "s/^Version: .*/&.1/" control');
+        my $broken = changed($place, 'broken', 'echo "exit 1" >> preinst');
+        works($place, "$apt update", 'the lists of the mirror');
+        # Whose the three files are that both packages have, how many stand aside, and how many are diverted.
+        my $is_held = sub {
+            my ($holder, $aside, $diverted, $name) = @_;
+            my $run = inside($place, 'for file in bin/mkpasswd share/man/man1/mkpasswd.1.gz share/bash-completion/completions/mkpasswd; do
+                holder=nobody
+                for package in mkpasswd whois; do
+                    sums=/var/lib/dpkg/info/$package.md5sums
+                    ! grep -sqxF "$(md5sum < /usr/$file | cut -c 1-32)  usr/$file" $sums || holder=$package
+                done
+                echo $holder
+            done 2> /dev/null | sort -u
+            find /usr -name "*mkpasswd*whois*" | wc -l
+            dpkg-divert --list "*mkpasswd*" | wc -l');
+            is($run->{out}, "$holder\n$aside\n$diverted\n", $name);
+        };
+        # All files but those that apt and dpkg write of any package.
+        my $files = sub {
+            my @pruned = map { "-path $_" } qw(/proc /sys /dev /tmp /debs /newer /broken /var/cache /var/lib/apt /var/lib/dpkg /var/log);
+            return inside($place, 'find / \( ' . join(' -o ', @pruned) . ' \) -prune -o -print | sort')->{out};
+        };
+        my $before = $files->();
+        $is_held->('whois', 0, 0, 'at first the name is whois\'');
+        isnt(inside($place, "dpkg -i $broken")->{status}, 0, 'a package that breaks off');
+        $is_held->('whois', 0, 0, 'the name came back after it');
+        works($place, "dpkg --purge mkpasswd; $apt install /debs/*.deb", 'ours come over whois');
+        $is_held->('mkpasswd', 3, 3, 'the name is ours, and whois\' files stand aside');
+        works($place, q{mkpasswd.whois -m yescrypt x | grep -F '$y$'; man -w mkpasswd.whois}, 'whois\' command and manual are there');
+        works($place, "$apt install --reinstall whois", 'whois is installed again');
+        $is_held->('mkpasswd', 3, 3, 'the name is still ours');
+        works($place, "$apt install $newer", 'ours is upgraded');
+        $is_held->('mkpasswd', 3, 3, 'the name is ours after that');
+        works($place, "$apt remove mkpasswd", 'ours is removed');
+        $is_held->('whois', 0, 0, 'the name came back');
+        works($place, "$apt remove whois; $apt install /debs/mkpasswd_*.deb", 'ours without whois');
+        $is_held->('mkpasswd', 0, 3, 'the name is ours alone');
+        works($place, "$apt install whois", 'whois comes after ours');
+        $is_held->('mkpasswd', 3, 3, 'the name stays ours');
+        works($place, "$apt purge @packages", 'ours are purged');
+        $is_held->('whois', 0, 0, 'the name came back at last');
+        is($files->(), $before, 'nothing of ours is left');
+        output_of("$root/tools/deb", '--lay-out', "$place/source");
+        my $own = inside($place, 'autopkgtest --no-built-binaries /debs/*.deb /source/ -- null 2>&1');
+        like($own->{out}, qr/^$_ +PASS$/m, "their own test: $_") for qw(program library python);
+        is($own->{status}, 0, 'all of these') or diag($own->{out} =~ s/.*(?=\n.*: test \w+: \[)//sr);
+    };
+}
+done_testing;
