@@ -9,6 +9,7 @@ use strict;
 use warnings;
 use FindBin qw($Bin);
 use lib "$Bin/lib";
+use List::Util qw(first uniq);
 use Suite;
 use Texts;
 
@@ -32,7 +33,7 @@ sub difference {
     my @got = hashes_of($got);
     for my $shown_hash (hashes_of($shown)) {
         my $made = shift @got;
-        my ($word) = grep { is_hash_of($made, $_) } reverse @words;
+        my $word = first { is_hash_of($made, $_) } reverse uniq(@words);
         return "$made fits no word" if !defined $word;
         return "$shown_hash doesn't fit '$word'" if !is_hash_of($shown_hash, $word);
         return "$shown_hash has no new salt" if $shown_hash eq $made;
@@ -53,7 +54,7 @@ sub lacking {
 sub try_example {
     my ($command, $shown, $folder, $words) = @_;
     for (lacking($command)) { needs($_ => $_) or return }
-    push @$words, split(/['":]|\\n|\n/, $command), split /[\s:'"|<>;]+|\\n/, $command;
+    push @$words, grep { /^[A-Za-z :]{2,}\z/ } split(/['":]|\\n|\n/, $command), split /[\s:'"|<>;]+|\\n/, $command;
     my $output = sub { run({ %in, dir => $folder }, 'bash', '-c', "exec 2>&1\n$command")->{out} };
     my $got = $output->();
     my $makes_salts = $got ne $shown && $command !~ /(?:^|\s)(?:-S|--salt)/ && $output->() ne $got;
@@ -94,7 +95,7 @@ subtest 'costs in README.md' => sub {
 
 # Each block of commands by its first word, with the test that runs it; none runs what proves.
 my %runs = (
-    'README.md: tar' => 'dist.t', 'README.md: git' => '', 'README.md: IFS=' => 'examples.t', 'README.md: cc' => 'calls.t',
+    'README.md: apt' => 'dist.t', 'README.md: git' => '', 'README.md: IFS=' => 'examples.t', 'README.md: cc' => 'calls.t',
     'README.md: sed' => 'examples.t', 'PYTHON.md: python3' => 'python/test_package.py', 'SPECIFICATION.md: cd' => '',
 );
 subtest 'commands of README.md and others' => sub {
