@@ -103,7 +103,7 @@ subtest 'limits' => sub {
         ['FORMATS.md', $formats, 'password', qr/^\| password \| ([\d,]+) bytes/m],
         ['FORMATS.md', $formats, 'line', qr/^\| line \| ([\d,]+) bytes/m],
         ['FORMATS.md', $formats, 'name', qr/^\| name in a line \| 1 to (\d+) bytes/m],
-        ['FORMATS.md', $formats, 'setting', qr/^\| setting or stored text \| (\d+) bytes/m],
+        ['FORMATS.md', $formats, 'setting', qr/^\| setting or stored hash \| (\d+) bytes/m],
         ['FORMATS.md', $formats, 'least_rounds', qr/^\| rounds of SHA-crypt \| (\d+) to/m],
         ['FORMATS.md', $formats, 'most_rounds', qr/^\| rounds of SHA-crypt \| \d+ to (\d+)/m],
         ['FORMATS.md', $formats, 'ceiling', qr/^\| scrypt \| N \* r \* p at most (\d+)/m],
