@@ -18,6 +18,8 @@ my $mirror = $ENV{DEBIAN_MIRROR} || 'http://deb.debian.org/debian';
 
 program();
 sub needs_all {
+    my $is_wanted = grep { ($ENV{$_} // '') eq '1' } qw(DEB STRICT);
+    needs('DEB=1' => 'none: these tests take a quarter of an hour and 4 GB, so they are run with DEB=1 or STRICT=1', $is_wanted) or return 0;
     needs('the C library' => 'none: run make lib', -e "$root/libmkpasswd.so.2") or return 0;
     needs('the superuser' => 'none: run it as root', $> == 0) or return 0;
     needs(debootstrap => 'debootstrap') && needs('dpkg-checkbuilddeps' => 'dpkg-dev') or return 0;
