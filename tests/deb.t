@@ -7,7 +7,6 @@ use warnings;
 use FindBin qw($Bin);
 use lib "$Bin/lib";
 use Suite;
-use Test::More;
 
 my @packages = qw(libmkpasswd-dev libmkpasswd2 mkpasswd mkpasswd-parallel python3-mkpasswd);
 # All but ours that the trials need, so that the mirror is asked for whois alone.

@@ -6,7 +6,6 @@ use warnings;
 use FindBin qw($Bin);
 use lib "$Bin/lib";
 use Suite;
-use Test::More;
 
 # The most words of a sentence, and of a paragraph or a cell.
 my ($readme_sentence, $sentence, $paragraph) = (40, 45, 120);
