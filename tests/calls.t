@@ -28,8 +28,8 @@ sub build {
     is_run(run({ timeout => 300 }, @command, '-o', "$scratch/$name"), 0, '', '', "$name is built") && "$scratch/$name";
 }
 
-my $driver = build('driver', $cc, '-std=c99', @strict, '-DWRAP', (map { "-Wl,--wrap=$_" } qw(malloc realloc free getentropy)),
-    "$root/tests/c/calls.c", @static);
+my @wrapped = ('-DWRAP', map { "-Wl,--wrap=$_" } qw(malloc realloc free getentropy));
+my $driver = build('driver', $cc, '-std=c99', @strict, @wrapped, "$root/tests/c/calls.c", @static);
 
 # The lines that a driver prints for rows.
 sub printed {
@@ -55,7 +55,7 @@ sub salt_of { my ($length, @of) = @_; return join '', map { $characters[$of[$_ /
 # The line for a call. A null password counts as a byte 0, a null text as an empty one, a null `out` as one without room.
 sub line {
     my ($call, $password, $text, $room, @n) = @_;
-    my $name = $call =~ s/_str$//r;
+    my $name = $call =~ s/_(?:str|over)$//r;
     ($password, $text, $room) = ($password // "\0", $text // '', $room // 0);
     my ($setting, $made, $hash, $refusal);
     my ($cost, $allocations, $drawn, @work) = (0, 0, 0, (0) x 5);
@@ -252,6 +252,7 @@ subtest 'new hashes and settings' => sub {
         are_made('mkpasswd_setting', [], @settings);
         are_made('mkpasswd_new draws these words', [$drawn], @calls);
         are_refused([$drawn], map { ['new', $_, '', 145, 7, 0, $budget] } 'password', "a\0");
+        are_made('a password in `out`', [$drawn], map { ['new_over', 'password', '', 145, $_, 0, $budget] } 1, 5, 6, 7);
         are_made('the longest password', [$drawn], map { ['new', 'a' x 1024, '', 145, $_, 0, $budget] } 1, 5, 6);
         @words = ();
         are_made('no random words', ['entropy none'], @calls);
@@ -301,18 +302,30 @@ subtest 'costs' => sub {
 
 # ---- compilers, linkers and what is installed
 
+# Each build makes the calls of a careless login, and some others, in eight threads: with memory and random words, with each
+# allocation refused in turn, and without words.
 subtest 'compilers' => sub {
     my @calls = grep { $_->[0] eq 'verify_str' || $_->[2] eq $fixed } careless();
-    @words = (1, 2, 3);
-    push @calls, ['bound_str', '', $fixed, 0, 8], ['setting_str', '', '', 145, 6, 0, @words], ['hash_str', 'password', '!', 145, $budget];
-    my $wanted = join "\n", (map { line(@$_) =~ s/ 3 0 0 unchanged$/ 0 0 0 unchanged/r } @calls), '1' . ' 0' x 12 . ' differs';
+    my $cheap = '$7$2/..../....ab';
+    push @calls, ['bound_str', '', $fixed, 0, 8], ['setting_str', '', '', 145, 6, 0, 1, 2, 3], ['hash_str', 'password', '!', 145, $budget],
+        ['verify', '', $empty, 0, $budget], ['verify_str', 'x', $empty, 0, $budget], ['hash', 'password', $cheap, 145, $budget],
+        ['hash_str', 'password', $cheap, 145, $most], ['new_str', 'password', '', 145, 1, 0, $budget],
+        map { ['new', 'password', '', 145, 7, 6, $_] } 0, $budget;
+    my ($rows, $wanted) = ("threads 8\n", '');
+    for (0 .. 5) {
+        local $refused = $_ % 5;
+        @words = $_ == 5 ? () : (1, 2, 3);
+        $rows .= "refuse $_\nentropy " . (@words ? unpack('H*', pack 'Q<3', @words) : 'none') . "\n" . join '', map { row(@$_) . "\n" } @calls;
+        $wanted .= join '', map { line(@$_) . "\n" } @calls;
+    }
     my @builds = map {
         my $compiler = $_;
         my ($language, @standards) = /\+/ ? qw(c++ c++98 c++11 c++17 c++20) : qw(c c99 c11 c17 c2x);
         needs($compiler => s/clang\K\+\+//r) ? map { [$compiler, $_, $language] } @standards : ();
     } qw(gcc clang g++ clang++);
     my @sanitize = ('-g', '-O1', '-DSANITIZED', '-fsanitize=address,undefined', '-fno-sanitize-recover=all');
-    my @kinds = (['static', '-O2', @static], ['shared', '-O0', @shared], ['sanitized', @sanitize, @static]);
+    my @kinds = (['static', '-O2', @wrapped, @static], ['shared', '-O0', '-DREPLACE', '-fvisibility=hidden', @shared],
+        ['sanitized', @sanitize, @wrapped, @static]);
     my @results = in_processes(4, sub {
         my ($compiler, $standard, $language) = @{ $_[0] };
         return map {
@@ -320,8 +333,7 @@ subtest 'compilers' => sub {
             my $path = "$scratch/$compiler-$standard-$kind";
             my $run = run({ timeout => 300 }, $compiler, "-std=$standard", @strict, '-Wno-long-long', '-x', $language,
                 "$root/tests/c/calls.c", '-x', 'none', @rest, '-o', $path);
-            my @got = $run->{status} ? () : printed($path, (map { row(@$_) } @calls), "words_str - - 145 $number{differs}");
-            $run->{err} . join "\n", @got;
+            $run->{err} . join '', $run->{status} ? () : map { "$_\n" } printed($path, $rows =~ /.+/g);
         } @kinds;
     }, @builds);
     for my $number (0 .. $#builds) {
@@ -329,12 +341,26 @@ subtest 'compilers' => sub {
     }
 };
 
-# What a compiler says of the C text of a program's body.
+# The targets of `make fuzz`, for as many calls as take a few seconds.
+subtest 'fuzzing' => sub {
+    my @command = qw(clang -fsanitize=fuzzer,address,undefined);
+    needs('the runtime of libFuzzer' => 'libclang-rt-14-dev', run(@command, '-xc', '/dev/null', '-o', "$scratch/empty")->{err} !~ /libclang_rt/) or return;
+    my ($options) = slurp("$root/Makefile") =~ /^\tclang (.*?) -Iinclude/ms;
+    for my $source (glob "$root/tests/c/fuzz_*.c") {
+        my ($name) = $source =~ m{(\w+)\.c$};
+        my $target = build($name, 'clang', split(/[\s\\]+/, $options), $source, @static, '-lcrypt') or next;
+        my $run = run({ dir => $scratch, timeout => 100 }, $target, qw(-runs=2000 -seed=26 -max_len=1600 -timeout=20));
+        is($run->{status}, 0, "$name finds nothing in 2,000 calls") or diag($run->{err});
+    }
+};
+
+# What a compiler of C or C++ says of the text of a program's body.
 sub told {
     my ($compiler, $body, @rest) = @_;
     spew("$scratch/told.c", "#include <mkpasswd.h>\nint main(void)\n{\nstruct mkpasswd_report report;\nuint8_t out[145], *bytes = out;\n"
             . "(void)report, (void)bytes;\n$body\nreturn 0;\n}\n");
-    return run({ timeout => 100 }, $compiler, '-Wall', '-Wextra', '-O1', "$scratch/told.c", @rest, '-o', "$scratch/told")->{err};
+    return run({ timeout => 100 }, $compiler, '-Wall', '-Wextra', '-O1', '-x', $compiler =~ /\+/ ? 'c++' : 'c', "$scratch/told.c",
+        '-x', 'none', @rest, '-o', "$scratch/told")->{err};
 }
 
 subtest 'warnings' => sub {
@@ -342,8 +368,8 @@ subtest 'warnings' => sub {
         'bound(bytes, 1, 1, &report)', 'hash(bytes, 1, bytes, 1, 1, out, 145, &report)', 'setting(6, 0, 1, 2, 3, out, 145, &report)');
     my @strings = ('verify_str(0, 0, 1, 0)', 'new_str(0, 6, 0, 1, 0, 145, 0)', 'needs_rehash_str(0, 6, 0, 0)', 'bound_str(0, 1, 0)',
         'hash_str(0, 0, 1, 0, 145, 0)', 'setting_str(6, 0, 1, 2, 3, 0, 145, 0)');
-    for my $compiler (qw(gcc clang)) {
-        needs($compiler => $compiler) or next;
+    for my $compiler (qw(gcc clang g++ clang++)) {
+        needs($compiler => $compiler =~ s/clang\K\+\+//r) or next;
         for my $call (@calls, @strings, 'words(-1, out, 145)') {
             my ($name, @arguments) = split /[(),] ?/, $call;
             like(told($compiler, "mkpasswd_$call;", @static), qr/unused-result/, "$compiler: $name is ignored") if $name ne 'words';
@@ -355,7 +381,7 @@ subtest 'warnings' => sub {
         my $all = join '', map { "if (mkpasswd_$_) return 1;\n" } @strings, 'words_str(-1, NULL, 3)';
         is(told($compiler, $all, @static), '', "$compiler: strings may be null");
         is(run("$scratch/told")->{status}, 0, "$compiler: and then no call does anything");
-        for my $old (qw(fits cost replaced refusal)) {
+        for my $old ($compiler =~ /\+/ ? () : qw(fits cost replaced refusal)) {
             for my $kind ('a', 'so') {
                 my $told = told($compiler, "extern int mkpasswd_$old(void); return mkpasswd_$old();", "-I$include", "$libs/libmkpasswd.$kind");
                 like($told, qr/undefined reference to [`']mkpasswd_$old'/, "$compiler: mkpasswd_$old is gone from libmkpasswd.$kind");

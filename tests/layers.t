@@ -48,13 +48,14 @@ my %mixings = (
     ],
 );
 
-# The type of a password, the calls for C, and the meter. Besides tests a meter is made by the program, and by the one
-# function of the calls for C that hashes: it makes a meter, hashes once with it, and returns its counts.
+# The type of a password, the calls for C, and the meter. Besides tests a meter is made by the program, and by each of the
+# calls for C that hash: such a call is one step, to which it hands a new meter, and that step's clause says that its report
+# has all that the meter counted.
 my $password = 'crates/crypt_core/src/password.rt';
 my $exports = 'crates/crypt_c/src/lib.rt';
 my $meter = "$prims/meter.rt";
-my $counted_hash = qr/^\{\s*let mut meter = \KMeter::new\(\)(?=;\s*let before = meter\.reading\(\);\s*let hashed = hash\([^;{}]*, &mut meter\);\s*let work = meter\.work_since\(&before\);\s*\(hashed, work\)\s*\}$)/m;
-my %makes_meter = ('crates/program/src/main.rt' => qr/\bMeter::new\(\)/, 'crates/crypt_c/src/calls.rt' => $counted_hash);
+my $hashing_call = qr/^\{\s*\*report = \w+\([^;{}]*&mut \KMeter::new\(\)(?=,?\s*\);\s*report\.answer\(\)\s*\}$)/m;
+my %makes_meter = ('crates/program/src/main.rt' => qr/\bMeter::new\(\)/, $exports => $hashing_call);
 
 # Reading.
 

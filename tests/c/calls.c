@@ -10,8 +10,9 @@
  * call is made twice, with a report full of 0xff and of 0 (a _str call the second time with none), with 24 KiB of stack left
  * above such a page (not with -DSANITIZED), and has to leave the same both times.
  *
- * With -DWRAP (in C), linked with --wrap for malloc, realloc, free and getentropy, it counts allocations, refuses one (by
- * `refuse`, from 1) and hands out the bytes of `entropy`. */
+ * With -DWRAP, linked with --wrap for malloc, realloc, free and getentropy, or with -DREPLACE, in the place of the C
+ * library's, it counts what a call allocates, refuses one allocation (by `refuse`, from 1) and hands out the bytes of
+ * `entropy`. `new_over` is mkpasswd_new with a password that stands in `out`. */
 #ifndef _GNU_SOURCE
 #define _GNU_SOURCE
 #endif
@@ -21,6 +22,8 @@
 #include <stdio.h>
 #include <stdlib.h>
 #include <sys/mman.h>
+#include <sys/syscall.h>
+#include <unistd.h>
 
 #define PAGE 4096
 #define PATTERN 0xa5
@@ -40,46 +43,65 @@ static uint8_t *new_pages(size_t size)
 
 /* ---- what is counted and refused */
 
+static __thread int is_in_call;
 static __thread long allocations, blocks, drawn;
 static long refused;
 static uint8_t entropy[24];
 static char entropy_kind = 'r'; /* of "real", "none", or digits */
 
+#if defined WRAP || defined REPLACE
 #ifdef WRAP
-#define WRAPPED(type, name, ...) type __real_##name(__VA_ARGS__); type __wrap_##name(__VA_ARGS__); \
-    type __wrap_##name(__VA_ARGS__)
+#define NAMED(name) __wrap_##name
+#define SYSTEM(name) __real_##name
+#else
+#define NAMED(name) name
+#define SYSTEM(name) __libc_##name
+#endif
 
-WRAPPED(void *, realloc, void *old, size_t size)
+#ifdef __cplusplus
+extern "C" {
+#endif
+void *SYSTEM(realloc)(void *old, size_t size);
+void SYSTEM(free)(void *block);
+void *NAMED(realloc)(void *old, size_t size) __THROW;
+void *NAMED(malloc)(size_t size) __THROW;
+void NAMED(free)(void *block) __THROW;
+int NAMED(getentropy)(void *bytes, size_t len);
+
+void *__NTH(NAMED(realloc)(void *old, size_t size))
 {
-    void *block = ++allocations == refused ? NULL : __real_realloc(old, size);
+    void *block = is_in_call && ++allocations == refused ? NULL : SYSTEM(realloc)(old, size);
 
-    blocks += block && !old;
+    blocks += is_in_call && block && !old;
     return block;
 }
 
-WRAPPED(void *, malloc, size_t size)
+void *__NTH(NAMED(malloc)(size_t size))
 {
-    return __wrap_realloc(NULL, size);
+    return NAMED(realloc)(NULL, size);
 }
 
-WRAPPED(void, free, void *block)
+void __NTH(NAMED(free)(void *block))
 {
-    blocks -= block != NULL;
-    __real_free(block);
+    blocks -= is_in_call && block != NULL;
+    SYSTEM(free)(block);
 }
 
-WRAPPED(int, getentropy, void *bytes, size_t len)
+int NAMED(getentropy)(void *bytes, size_t len)
 {
     size_t place = (size_t)drawn % sizeof entropy;
 
     drawn += (long)len;
     if (entropy_kind == 'r')
-        return __real_getentropy(bytes, len);
+        return syscall(SYS_getrandom, bytes, len, 0) == (long)len ? 0 : -1;
     if (entropy_kind == 'n' || place + len > sizeof entropy)
         return -1;
     memcpy(bytes, entropy + place, len);
     return 0;
 }
+#ifdef __cplusplus
+}
+#endif
 #endif
 
 /* ---- rows */
@@ -155,9 +177,14 @@ static int32_t make(const struct row *row, uint8_t *out, struct mkpasswd_report 
     const uint64_t *n = row->number;
     uint32_t method = (uint32_t)n[0], cost = (uint32_t)n[1];
 
+#if defined __clang__ && defined __cplusplus && __cplusplus >= 201103L /* g++ counts no attribute */
+    static_assert(noexcept(mkpasswd_version()) && noexcept(mkpasswd_verify(password, pass_len, text, len, n[0], report))
+        && noexcept(mkpasswd_new(password, pass_len, method, cost, n[2], out, room, report)), "no call throws");
+#endif
     return IS("verify") ? mkpasswd_verify(password, pass_len, text, len, n[0], report)
         : IS("verify_str") ? mkpasswd_verify_str(pass, str, n[0], report)
         : IS("new") ? mkpasswd_new(password, pass_len, method, cost, n[2], out, room, report)
+        : IS("new_over") ? mkpasswd_new((uint8_t *)memcpy(out, password, pass_len), pass_len, method, cost, n[2], out, room, report)
         : IS("new_str") ? mkpasswd_new_str(pass, method, cost, n[2], chars, room, report)
         : IS("needs_rehash") ? mkpasswd_needs_rehash(text, len, method, cost, report)
         : IS("needs_rehash_str") ? mkpasswd_needs_rehash_str(str, method, cost, report)
@@ -204,7 +231,9 @@ __attribute__((noinline)) static void perform(struct job *job)
         if (!has_none)
             memset(report, pass == 0 && has_report ? 0xff : 0, sizeof *report);
         allocations = blocks = drawn = 0;
+        is_in_call = 1;
         result = make(row, row->has_out ? out : NULL, has_none ? NULL : report);
+        is_in_call = 0;
         sprintf(job->line, "%" PRId32 " %" PRId32 " %" PRIu32 " %" PRIu64 " %" PRIu64 " %" PRIu64 " %" PRIu64 " %" PRIu64
             " %" PRIu64 " %" PRIu64 " %ld %ld %ld %s", result, report->reason, report->length, report->cost, work->digests,
             work->bytes, work->mixes, work->table, work->scratch, report->reserved, allocations, blocks, drawn,

@@ -8,7 +8,7 @@ use Rattle.crypt_core.specs.Replacements.{is_replaced_by}
 use Rattle.crypt_core.specs.Settings.{SettingValue}
 use Rattle.crypt_core.specs.Work.{cost}
 use Rattle.crypt_core.specs.declared.scheme.Scheme.{Scheme}
-use Rattle.crypt_c.specs.Calls.{Both, IsOutdated, IsSchemeMade, IsSettingRead, Verifies}
+use Rattle.crypt_c.specs.Calls.{Both, IsOutdated, IsPasswordRead, IsSchemeMade, IsSettingRead, Opens, Verifies}
 use Rattle.crypt_c.specs.declared.reason.Refusal.{Refusal}
 use Rattle.crypt_c.specs.declared.report.Report.{Report}
 
@@ -23,6 +23,15 @@ opened password stored budget kept report low same verifies =
       | inl fits ↦ inl (ap (λ (r : Report). r.reason) fits)
       | inr lacks ↦ inr (ap (λ (r : Report). r.reason) lacks.2)
     ]
+
+pub lets_in : (password stored : List ℕ) (budget : ℕ) (given : Result (List ℕ × SettingValue) Refusal)
+    → Both (IsPasswordRead password) (IsSettingRead stored) given
+    → IsOkAnd given (λ both. (crypt both.0 both.1 ≡ stored) × (cost both.1 (length both.0) ≤ budget))
+    → Opens password stored budget
+lets_in password stored budget (Err refusal) read opens = absurd opens
+lets_in password stored budget (Ok (bytes, kept)) read opens =
+    let same : bytes ≡ password = read.0.1 in
+    (read.0.0, (kept, read.1, rw same at opens.0, rw same at opens.1))
 
 pub outdated : (stored : List ℕ) (number price : ℕ) (given : Result (SettingValue × Scheme) Refusal)
     → Both (IsSettingRead stored) (IsSchemeMade number price) given

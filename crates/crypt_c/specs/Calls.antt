@@ -1,4 +1,7 @@
 -- What each call reads, and what it reports.
+--
+-- A password is the list of its bytes, `kept` is the setting that a text spells, and `most` is the cost of a hash: the most
+-- bytes that it digests and mixes.
 use Rattle.std.specs.Prelude.{◌≡◌, ◌⊎◌, ◌<◌, ◌≤◌, ◌==◌, if◌then◌else◌, ℕ, nat_lt, IsTrue, MatchBool, MatchResult, List, [], ◌∷◌, length, Some, None, Result, Ok, Err}
 use Rattle.std.specs.Str.{bytes_eq}
 use Rattle.prims_core.specs.Work.{no_work}
@@ -21,23 +24,25 @@ use Rattle.crypt_c.specs.declared.report.Report.{Report}
 
 -- ---- What is handed in: a value, or why it is refused
 
+-- These bytes are read as a password: as the bytes themselves, or as the first rule for passwords that they break.
 abbrev pub IsPasswordRead : List ℕ → Result (List ℕ) Refusal → Type 0
 IsPasswordRead bytes (Ok password) = IsPassword bytes × (password ≡ bytes)
 IsPasswordRead bytes (Err (Password fault)) = IsPasswordRefused bytes fault
 IsPasswordRead bytes (Err refusal) = ⊥
 
--- a password of which only the length is known
+-- This length of a password is read: as itself, or as too long.
 abbrev pub IsLengthRead : ℕ → Result ℕ Refusal → Type 0
 IsLengthRead given (Ok len) = (given ≤ password_limit) × (len ≡ given)
 IsLengthRead given (Err (Password TooLong)) = password_limit < given
 IsLengthRead given (Err refusal) = ⊥
 
+-- This text is read as the setting that it spells, or as the first rule for settings that it breaks.
 abbrev pub IsSettingRead : List ℕ → Result SettingValue Refusal → Type 0
 IsSettingRead text (Ok kept) = Spells text kept
 IsSettingRead text (Err (Setting fault)) = IsRefused text fault
 IsSettingRead text (Err refusal) = ⊥
 
--- a method's number and a cost, of which a scheme is made
+-- A method's number and a cost make this scheme; or no method has the number, or its method does not take the cost.
 abbrev pub IsSchemeMade : ℕ → ℕ → Result Scheme Refusal → Type 0
 IsSchemeMade number cost (Ok scheme) =
     (method : Method) × (method_numbered number ≡ Some method) × TakesCost method cost × (scheme ≡ made_scheme method cost)
@@ -45,19 +50,25 @@ IsSchemeMade number cost (Err UnknownMethod) = method_numbered number ≡ None
 IsSchemeMade number cost (Err Cost) = (method : Method) × (method_numbered number ≡ Some method) × (¬ TakesCost method cost)
 IsSchemeMade number cost (Err refusal) = ⊥
 
--- both of two values, or the refusal of the first one, or else that of the second
+-- Two values are read, of which `first` and `second` say how: both of them, or why the first is refused, or, after a first
+-- one that is valid, why the second is.
 abbrev pub Both : {A B : Type 0} → (Result A Refusal → Type 0) → (Result B Refusal → Type 0) → Result (A × B) Refusal → Type 0
 Both first second (Ok (a, b)) = first (Ok a) × second (Ok b)
 Both {A = A} first second (Err refusal) = first (Err refusal) ⊎ ((a : A) × first (Ok a) × second (Err refusal))
 
 -- ---- A password against a stored hash
 
--- the password opens: its hash by the setting that the text spells is the text, and costs no more than the budget
+-- The password opens: the stored text spells a setting, the password's hash with it is that text, and its cost is at most
+-- the budget.
 abbrev pub Opens : List ℕ → List ℕ → ℕ → Type 0
 Opens password stored budget =
     IsPassword password × ((kept : SettingValue) × Spells stored kept × (crypt password kept ≡ stored)
     × (cost kept (length password) ≤ budget))
 
+-- What mkpasswd_verify reports of what it read:
+--   a refusal        that refusal
+--   above budget     OverBudget and the cost, without work
+--   else             Fits or Differs with the cost and the work of one hash, or that scrypt lacked memory
 abbrev pub Verifies : List ℕ → ℕ → Result (List ℕ × SettingValue) Refusal → Report → Type 0
 Verifies stored budget (Err refusal) report = report ≡ refused refusal 0
 Verifies stored budget (Ok (password, kept)) report =
@@ -69,7 +80,7 @@ Verifies stored budget (Ok (password, kept)) report =
 
 -- ---- The hash of a password
 
--- the cost, where the budget and then the room allow the hash; or the report of the refusal
+-- The cost, if the budget and then the room allow the hash and a byte 0; otherwise the report of the refusal.
 abbrev pub admission : ℕ → ℕ → List ℕ → SettingValue → Result ℕ Report
 admission budget room password kept =
     let most = cost kept (length password) in
@@ -77,13 +88,14 @@ admission budget room password kept =
     else if nat_lt (length (crypt password kept)) room then Ok most
     else Err (refused TooFewBytes most)
 
--- the hash is put; or where scrypt lacked memory, the lock is
+-- The hash is put into `out` (`old` before, `new` after); or scrypt lacked memory, and the lock is put.
 abbrev pub PutsHash : List ℕ → SettingValue → ℕ → List ℕ → List ℕ → Report → List ℕ → Type 0
 PutsHash password kept most lock old report new =
     let text = crypt password kept in
     Leaves (reported Done (length text) most (work password kept)) text old report new
     ⊎ (LacksMemory kept most report × Leaves report lock old report new)
 
+-- What mkpasswd_hash does: it puts the hash, or the lock with the first refusal in the order input, budget, room, memory.
 abbrev pub Hashes : ℕ → List ℕ → List ℕ → Result (List ℕ × SettingValue) Refusal → Report → List ℕ → Type 0
 Hashes budget lock old (Err refusal) report new = Leaves (refused refusal 0) lock old report new
 Hashes budget lock old (Ok (password, kept)) report new =
@@ -91,8 +103,8 @@ Hashes budget lock old (Ok (password, kept)) report new =
     (λ most. PutsHash password kept most lock old report new)
     (λ refusal. Leaves refusal lock old report new)
 
--- the hash by the setting that three words make. Without them it is refused, as the hash by another three would be, or
--- where that is not, because there are none
+-- What mkpasswd_new_from does: with three words it puts the hash with the setting that they make. Without them it refuses
+-- for the reason for which three other words would be refused, or else because there are none.
 abbrev pub HashesAnew : List ℕ → ℕ → List ℕ → Result (List ℕ × Scheme) Refusal → Report → List ℕ → Type 0
 HashesAnew words budget old (Err refusal) report new = Leaves (refused refusal 0) (token []) old report new
 HashesAnew words budget old (Ok (password, scheme)) report new =
@@ -104,23 +116,26 @@ HashesAnew words budget old (Ok (password, scheme)) report new =
 
 -- ---- What a hash will cost
 
+-- What mkpasswd_bound reports: the cost and the bound on the work of each password of this length.
 abbrev pub bounded : Result (ℕ × SettingValue) Refusal → Report
 bounded (Ok (len, kept)) = reported Done 0 (cost kept len) (work_bound kept len)
 bounded (Err refusal) = refused refusal 0
 
 -- ---- Settings
 
--- the text spells a setting that a scheme of the method's number and the cost replaces
+-- The stored text spells a setting that the scheme of the method and the cost replaces.
 abbrev pub IsOutdated : List ℕ → ℕ → ℕ → Type 0
 IsOutdated stored number cost =
     (kept : SettingValue) × (scheme : Scheme) × Spells stored kept × IsSchemeMade number cost (Ok scheme)
     × IsTrue (is_replaced_by kept.scheme scheme)
 
+-- What mkpasswd_needs_rehash reports: Outdated if the scheme replaces the setting, else Current.
 abbrev pub rehashed : Result (SettingValue × Scheme) Refusal → Report
 rehashed (Ok (kept, scheme)) =
     if is_replaced_by kept.scheme scheme then reported Outdated 0 0 no_work else refused Current 0
 rehashed (Err refusal) = refused refusal 0
 
+-- What mkpasswd_setting does: it puts the text of the setting that the words make, or the token if there is too little room.
 abbrev pub PutsSetting : List ℕ → List ℕ → Result Scheme Refusal → Report → List ℕ → Type 0
 PutsSetting words old (Err refusal) report new = Leaves (refused refusal 0) (token []) old report new
 PutsSetting words old (Ok scheme) report new =

@@ -1,60 +1,46 @@
 -- Why a call returned what it did: a number for each reason, and its words.
 use Rattle.std.specs.Prelude.{ℕ, ℤ, pos, neg_ℤ, List, codes}
-use Rattle.crypt_core.specs.HashFaults.{hash_fault_text}
 use Rattle.crypt_core.specs.PasswordFaults.{password_fault_text}
-use Rattle.crypt_core.specs.SettingFaults.{make_fault_text, setting_fault_text}
-use Rattle.crypt_core.specs.declared.hash.HashFault.TheVariants as hash
+use Rattle.crypt_core.specs.SettingFaults.{setting_fault_text}
 use Rattle.crypt_core.specs.declared.password.PasswordFault.TheVariants as password
-use Rattle.crypt_core.specs.declared.setting.fault.MakeFault.TheVariants as make
 use Rattle.crypt_core.specs.declared.setting.fault.SettingFault.TheVariants as setting
 use Rattle.crypt_c.specs.declared.reason.Reason.{Reason}
 use Rattle.crypt_c.specs.declared.reason.Reason.TheVariants.{Fits, Outdated, Done, Refused}
-use Rattle.crypt_c.specs.declared.reason.Refusal.{Refusal}
 use Rattle.crypt_c.specs.declared.reason.Refusal.TheVariants.{Password, Setting, OutOfMemory, TooFewBytes, UnknownMethod, Cost, OverBudget, Differs, Current, NoRandomWords}
 
--- the number of a refusal, whose negative is the reason's; 15 is retired
-abbrev pub refusal_number : Refusal → ℕ
-refusal_number (Password password.TooLong) = 1
-refusal_number (Password password.HasNul) = 2
-refusal_number (Setting setting.TooLong) = 3
-refusal_number (Setting setting.BadCharacter) = 4
-refusal_number (Setting setting.UnknownScheme) = 5
-refusal_number (Setting setting.BadRounds) = 6
-refusal_number (Setting setting.BadCost) = 7
-refusal_number (Setting setting.ScryptRange) = 8
-refusal_number (Setting setting.AboveCeiling) = 9
-refusal_number (Setting setting.BadSalt) = 10
-refusal_number OutOfMemory = 11
-refusal_number TooFewBytes = 12
-refusal_number UnknownMethod = 13
-refusal_number Cost = 14
-refusal_number OverBudget = 16
-refusal_number Differs = 17
-refusal_number Current = 18
-refusal_number NoRandomWords = 19
+-- The number and the words of each reason. The number is above 0 if a call did what its name says, and below 0 if it
+-- refused; -15 is retired.
+abbrev pub reason_row : Reason → ℤ × List ℕ
+reason_row Fits = (pos 1, codes "fits")
+reason_row Outdated = (pos 2, codes "outdated")
+reason_row Done = (pos 3, codes "done")
+reason_row (Refused (Password password.TooLong)) = (neg_ℤ (pos 1), password_fault_text password.TooLong)
+reason_row (Refused (Password password.HasNul)) = (neg_ℤ (pos 2), password_fault_text password.HasNul)
+reason_row (Refused (Setting setting.TooLong)) = (neg_ℤ (pos 3), setting_fault_text setting.TooLong)
+reason_row (Refused (Setting setting.BadCharacter)) = (neg_ℤ (pos 4), setting_fault_text setting.BadCharacter)
+reason_row (Refused (Setting setting.UnknownScheme)) = (neg_ℤ (pos 5), setting_fault_text setting.UnknownScheme)
+reason_row (Refused (Setting setting.BadRounds)) = (neg_ℤ (pos 6), setting_fault_text setting.BadRounds)
+reason_row (Refused (Setting setting.BadCost)) = (neg_ℤ (pos 7), setting_fault_text setting.BadCost)
+reason_row (Refused (Setting setting.ScryptRange)) = (neg_ℤ (pos 8), setting_fault_text setting.ScryptRange)
+reason_row (Refused (Setting setting.AboveCeiling)) = (neg_ℤ (pos 9), setting_fault_text setting.AboveCeiling)
+reason_row (Refused (Setting setting.BadSalt)) = (neg_ℤ (pos 10), setting_fault_text setting.BadSalt)
+reason_row (Refused OutOfMemory) = (neg_ℤ (pos 11), codes "out of memory")
+reason_row (Refused TooFewBytes) = (neg_ℤ (pos 12), codes "too few bytes")
+reason_row (Refused UnknownMethod) = (neg_ℤ (pos 13), codes "unknown method")
+reason_row (Refused Cost) = (neg_ℤ (pos 14), codes "cost")
+reason_row (Refused OverBudget) = (neg_ℤ (pos 16), codes "over budget")
+reason_row (Refused Differs) = (neg_ℤ (pos 17), codes "differs")
+reason_row (Refused Current) = (neg_ℤ (pos 18), codes "current")
+reason_row (Refused NoRandomWords) = (neg_ℤ (pos 19), codes "no random words")
 
--- above 0 where a call did what its name says, below 0 where it refused, and 0 for no reason
+-- The number of a reason.
 abbrev pub reason_number : Reason → ℤ
-reason_number Fits = pos 1
-reason_number Outdated = pos 2
-reason_number Done = pos 3
-reason_number (Refused refusal) = neg_ℤ (pos (refusal_number refusal))
+reason_number reason = (reason_row reason).0
 
+-- The words of a reason.
 abbrev pub reason_words : Reason → List ℕ
-reason_words Fits = codes "fits"
-reason_words Outdated = codes "outdated"
-reason_words Done = codes "done"
-reason_words (Refused (Password fault)) = password_fault_text fault
-reason_words (Refused (Setting fault)) = setting_fault_text fault
-reason_words (Refused OutOfMemory) = hash_fault_text hash.OutOfMemory
-reason_words (Refused TooFewBytes) = codes "too few bytes"
-reason_words (Refused UnknownMethod) = codes "unknown method"
-reason_words (Refused Cost) = make_fault_text make.Cost
-reason_words (Refused OverBudget) = codes "over budget"
-reason_words (Refused Differs) = codes "differs"
-reason_words (Refused Current) = codes "current"
-reason_words (Refused NoRandomWords) = codes "no random words"
+reason_words reason = (reason_row reason).1
 
--- what is said of a number that no reason has
+-- The words for a number that no reason has.
 abbrev pub unknown_words : List ℕ
 unknown_words = codes "unknown reason"

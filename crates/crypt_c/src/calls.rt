@@ -1,4 +1,7 @@
 //! What the calls do with what they have read.
+//!
+//! A step that can hash takes a new meter, and its report has all that this meter counted, so it hashes nothing that it
+//! doesn't report: nothing above the budget, without room, or after a refusal.
 ghost use Rattle.std.specs.Prelude.{◌≡◌, ◌↔◌, ◌<◌, ◌≤◌, ◌<ℤ◌, pos, List, [], Result, length, IfOk, IfErr, IsOkAnd, IsTrue, OnErr, OnOk};
 ghost use Rattle.prims_core.specs.Work.{no_work};
 ghost use Rattle.crypt_core.specs.Crypt.{IsAfterRefusedGrowth, crypt};
@@ -26,8 +29,13 @@ pub(crate) fn verify(
     given: Result<(Password, Setting), Refusal>,
     stored: &[u8],
     budget: u64,
+    meter: &mut Meter,
 ) -> Report
+    requires new { meter.old ≡ no_work }
     ensures verifies { Verifies stored.now budget given result }
+    ensures opens { pos 0 <ℤ result.reason → IsOkAnd given
+        (λ both. (crypt both.0 both.1 ≡ stored.now) × (cost both.1 (length both.0) ≤ budget)) }
+    ensures counted { meter.new ≡ result.work }
     ensures reserved { result.reserved ≡ 0 }
 {
     let (password, setting) = match given {
@@ -38,7 +46,7 @@ pub(crate) fn verify(
         Ok(most) => most,
         Err(refused) => return refused,
     };
-    let (hashed, work) = counted_hash(alloc, &password, &setting);
+    let (hashed, work) = counted_hash(alloc, &password, &setting, meter);
     let reason = match hashed {
         Ok(hashed) if hashed.text() == stored => Reason::Fits,
         Ok(_) => Reason::Refused(Refusal::Differs),
@@ -54,11 +62,14 @@ pub(crate) fn put_hash(
     budget: u64,
     lock: &[u8],
     out: &mut [u8],
+    meter: &mut Meter,
 ) -> Report
+    requires new { meter.old ≡ no_work }
     ensures hashes { Hashes budget lock.now out.old given result out.new }
     ensures locked { ¬ (pos 0 <ℤ result.reason) → out.new ≡ put lock.now out.old }
     ensures reserved { result.reserved ≡ 0 }
     ensures within { pos 0 <ℤ result.reason → result.cost ≤ budget }
+    ensures counted { meter.new ≡ result.work }
     ensures put { pos 0 <ℤ result.reason → IsOkAnd given (λ both. IsHashPut both.0 both.1.scheme result out.new) }
 {
     let (password, setting) = match given {
@@ -66,7 +77,7 @@ pub(crate) fn put_hash(
         Err(refusal) => return leave(Report::refused(refusal, 0), out, lock),
     };
     match admit(&password, &setting, budget, out.len()) {
-        Ok(most) => put_admitted(alloc, &password, &setting, most, lock, out),
+        Ok(most) => put_admitted(alloc, &password, &setting, most, lock, out, meter),
         Err(refused) => leave(refused, out, lock),
     }
 }
@@ -79,11 +90,14 @@ pub(crate) fn put_new_hash(
     words: &[u64],
     budget: u64,
     out: &mut [u8],
+    meter: &mut Meter,
 ) -> Report
+    requires new { meter.old ≡ no_work }
     ensures hashes { HashesAnew words.now budget out.old given result out.new }
     ensures locked { ¬ (pos 0 <ℤ result.reason) → out.new ≡ put (token []) out.old }
     ensures reserved { result.reserved ≡ 0 }
     ensures within { pos 0 <ℤ result.reason → result.cost ≤ budget }
+    ensures counted { meter.new ≡ result.work }
     ensures put { pos 0 <ℤ result.reason → IsOkAnd given (λ both. IsHashPut both.0 both.1 result out.new) }
 {
     let (password, scheme) = match given {
@@ -92,7 +106,14 @@ pub(crate) fn put_new_hash(
     };
     if words.len() == 3 {
         let setting = Setting::salted(scheme, [words[0], words[1], words[2]]);
-        return put_hash(alloc, Ok((password, setting)), budget, token(b""), out);
+        return put_hash(
+            alloc,
+            Ok((password, setting)),
+            budget,
+            token(b""),
+            out,
+            meter,
+        );
     }
     // Neither the cost nor the length of a hash depends on the words.
     let refused = match admit(
@@ -142,7 +163,9 @@ fn put_admitted(
     most: u64,
     lock: &[u8],
     out: &mut [u8],
+    meter: &mut Meter,
 ) -> Report
+    requires new { meter.old ≡ no_work }
     requires room { length (crypt password.now setting.now) < length out.old }
     ensures puts { PutsHash password.now setting.now most lock.now out.old result out.new }
     ensures locked { ¬ (pos 0 <ℤ result.reason) → out.new ≡ put lock.now out.old }
@@ -150,8 +173,9 @@ fn put_admitted(
     ensures put { pos 0 <ℤ result.reason → most ≡ cost setting.now (length password.now)
         → IsHashPut password.now setting.now.scheme result out.new }
     ensures cost { result.cost ≡ most }
+    ensures counted { meter.new ≡ result.work }
 {
-    let (hashed, work) = counted_hash(alloc, password, setting);
+    let (hashed, work) = counted_hash(alloc, password, setting, meter);
     match hashed {
         Ok(hashed) => {
             let report = Report::new(Reason::Done, hashed.text().len() as u32, most, work);
@@ -164,20 +188,22 @@ fn put_admitted(
     }
 }
 
-// Hashes on a new meter, and returns the work too.
+// Hashes, and returns the work too, which is all that the meter has counted.
 fn counted_hash(
     alloc: Global,
     password: &Password,
     setting: &Setting,
+    meter: &mut Meter,
 ) -> (Result<Hashed, HashFault>, Work)
+    requires new { meter.old ≡ no_work }
     ensures text { IfOk result.0 (λ hashed. hashed ≡ crypt password.now setting.now) }
     ensures spells { IfOk result.0 (λ hashed. Spells hashed setting.now) }
     ensures work { OnOk result.0 (result.1 ≡ work password.now setting.now) }
     ensures refused { OnErr result.0 (IsAfterRefusedGrowth no_work setting.now.scheme result.1) }
+    ensures counted { meter.new ≡ result.1 }
 {
-    let mut meter = Meter::new();
     let before = meter.reading();
-    let hashed = hash(alloc, password, setting, &mut meter);
+    let hashed = hash(alloc, password, setting, meter);
     let work = meter.work_since(&before);
     (hashed, work)
 }

@@ -26,6 +26,7 @@ mod report;
 
 use calls::{put_hash, put_new_hash, put_setting, tell_bound, tell_rehash, verify};
 use crypt_core::version::VERSION_NUMBER;
+use prims_core::meter::Meter;
 use reading::{
     length_and_setting, password_and_scheme, password_and_setting, scheme_of, setting_and_scheme,
 };
@@ -60,6 +61,7 @@ pub extern "C" fn mkpasswd_verify(
         password_and_setting(password, stored),
         stored,
         budget,
+        &mut Meter::new(),
     );
     report.answer()
 }
@@ -101,6 +103,7 @@ pub extern "C" fn mkpasswd_new_from(
         words,
         budget,
         out,
+        &mut Meter::new(),
     );
     report.answer()
 }
@@ -167,6 +170,7 @@ pub extern "C" fn mkpasswd_hash(
         budget,
         token(setting),
         out,
+        &mut Meter::new(),
     );
     report.answer()
 }

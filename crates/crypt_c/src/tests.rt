@@ -317,28 +317,6 @@ fn tells_what_is_outdated(rt: HostRuntime) {
     }
 }
 
-// Costs as README.md has them, of passwords of 8 and of 1,024 bytes.
-#[test]
-fn tells_costs(rt: HostRuntime) {
-    let rows: [(&[u8], usize, u64); 6] = [
-        (STORED, 8, 36239),
-        (STORED, 1024, 1927022),
-        (b"$6$saltstringsaltst", 8, 452160),
-        (b"$6$saltstringsaltst", 1024, 10948512),
-        (b"$7$CU..../....aaaaaaaaaaaaaaaaaaaaaa", 8, 134245796),
-        (b"$7$2/..../....", 0, SCRYPT_COST),
-    ];
-    for (stored, len, cost) in rows {
-        let mut report = OLD;
-        let result = mkpasswd_bound(stored, len, &mut report);
-        assert_eq!(rt;
-            (result, report.reason, report.cost),
-            (1, 3, cost),
-            "{stored:?} {len}"
-        );
-    }
-}
-
 #[test]
 fn tells_bounds(rt: HostRuntime) {
     let rows: [(&[u8], usize, i32, i32, u64, Work); 5] = [

@@ -1,7 +1,13 @@
-use Rattle.std.proofs.Common.{inl, inr, rules, refl}
+use Rattle.std.proofs.Common.{◌<ℤ◌, pos, inl, inr, rules, refl}
 use Rattle.std.specs.Prelude.{Ok}
-use Rattle.crypt_c.proofs.Verdicts.{opened}
+use Rattle.crypt_c.proofs.Verdicts.{lets_in, opened}
 use Rattle.crypt_c.proofs.mkpasswd_verify.Goals as goal
+
+pub returns-clause-lets_in : goal.returns-clause-lets_in
+returns-clause-lets_in c = λ one.
+    let positive : pos 0 <ℤ c.verify.result.reason = c.answer.ensures.positive.0 (search (rules, one)) in
+    lets_in c.args.password.now c.args.stored.now c.args.budget c.password_and_setting.result c.password_and_setting.ensures.read
+    (c.verify.ensures.opens positive)
 
 pub returns-clause-opens : goal.returns-clause-opens
 returns-clause-opens c = λ opens.
