@@ -11,7 +11,11 @@ use Rattle.std.proofs.lemmas.Bool.Decides.{nat_tests}
 use Rattle.std.proofs.Math.Nat.{mul-le-mul_right}
 use Rattle.std.proofs.Math.Path.{fun_ext}
 use Rattle.std.proofs.Math.Seq.{take-suc}
-use Rattle.crypt_core.specs.Cycle.{by_digit, cycle, binary_digits, digit_bytes, digit_pieces, digits_up_to}
+use Rattle.crypt_core.specs.Cycle.{by_digit, cycle, digit_bytes, digit_pieces, digits_up_to}
+
+-- the binary digits of n, lowest first
+abbrev binary_digits : ℕ → List ℕ
+binary_digits n = digits_up_to n n
 
 -- a byte more
 pub cycle-more : (d : List ℕ) (n : ℕ) → cycle d (n + 1) ≡ cycle d n ++ get_or d (n % length d) 0 ∷ []
@@ -65,8 +69,7 @@ digits_up_to-enough (suc j) (suc k) n a b =
     ap (λ rest. cond (nat_eq n 0) [] (n % 2 ∷ rest)) (digits_up_to-enough j k (n / 2) (omega arith) (omega arith))
 
 -- the lowest digit, and those of the half
-pub binary_digits-step : (n : ℕ) → 0 < n → binary_digits n ≡ n % 2 ∷ binary_digits (n / 2)
-unfolding binary_digits
+binary_digits-step : (n : ℕ) → 0 < n → binary_digits n ≡ n % 2 ∷ binary_digits (n / 2)
 binary_digits-step zero h = absurd (omega arith)
 binary_digits-step (suc k) h =
     let some : nat_eq (suc k) 0 ≡ false = grind (arith, nat_tests) in
@@ -77,7 +80,6 @@ unfolding cycle
 length-cycle d n = length-map-range_with_len _ 0 n
 
 pub no_pieces : (one other : List ℕ) → digit_pieces one other 0 ≡ []
-unfolding binary_digits
 no_pieces one other = refl
 
 -- the piece of the lowest digit, and those of the half
@@ -94,7 +96,6 @@ length-digits_up_to (suc k) n = go (nat_eq n 0) (digits_up_to k (n / 2)) k (leng
 
 -- a number has at most as many digits as its value
 length-binary_digits : (n : ℕ) → length (binary_digits n) ≤ n
-unfolding binary_digits
 length-binary_digits n = length-digits_up_to n n
 
 -- the length of one list or another
@@ -110,7 +111,6 @@ length-digit_pieces one other n =
     ∙ ap (λ f. sum_by f (binary_digits n)) (fun_ext (λ digit. length-cond (nat_eq digit 1) one other))
 
 pub digit_bytes-none : (one other : ℕ) → digit_bytes one other 0 ≡ 0
-unfolding binary_digits
 digit_bytes-none one other = refl
 
 -- the piece of the lowest digit, and those of the half

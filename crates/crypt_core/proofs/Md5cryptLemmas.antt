@@ -1,14 +1,15 @@
 -- Lemmas on the messages of md5crypt.
 use Rattle.crypt_core.specs.Passwords.{password_limit}
-use Rattle.std.proofs.Common.{◌≡◌, ℕ, suc, ◌+◌, ◌*◌, List, [], ◌∷◌, ◌++◌, length, take, arith, refl, ap, ◌∙◌}
+use Rattle.std.proofs.Common.{◌≡◌, ℕ, zero, suc, ◌+◌, ◌*◌, List, [], ◌∷◌, ◌++◌, length, take, arith, refl, ap, ◌∙◌}
 use Rattle.std.specs.Prelude.{sum_by}
 use Rattle.std.proofs.lemmas.List.{length-append}
 use Rattle.prims_core.specs.Digests.{length-md5, md5}
 use Rattle.prims_core.specs.Meter.{HaveCountAndSum}
-use Rattle.crypt_core.specs.Cycle.{binary_digits, cycle, digit_bytes, digit_pieces}
-use Rattle.crypt_core.specs.Md5crypt.{md5crypt_message, md5crypt_messages, opening_message, md5crypt_rounds}
+use Rattle.crypt_core.specs.Cycle.{cycle, digit_bytes, digit_pieces}
+use Rattle.crypt_core.specs.Md5crypt.{md5crypt_opening, md5crypt_rounds}
+use Rattle.crypt_core.specs.Messages.{md5crypt_message, md5crypt_messages, opening_message}
 use Rattle.crypt_core.specs.Methods.{prefix}
-use Rattle.crypt_core.specs.RoundMessage.{round_message, alternate_message}
+use Rattle.crypt_core.specs.RoundMessage.{alternate_message, digest_after, round_message}
 use Rattle.crypt_core.specs.Work.{md5crypt_bytes}
 use Rattle.crypt_core.specs.declared.method.Method.TheVariants.{Md5crypt}
 use Rattle.crypt_core.proofs.CycleLemmas.{length-cycle, length-digit_pieces}
@@ -25,24 +26,26 @@ messages-all p s = refl
 
 -- the message of round i
 pub message-round : (p s : List ℕ) (i : ℕ)
-    → md5crypt_message p s (i + 2) ≡ round_message i (md5 (md5crypt_message p s (i + 1))) p s
+    → md5crypt_message p s (i + 2) ≡ round_message i (digest_after md5 (md5crypt_opening p s) p s i) p s
 unfolding md5crypt_message
-message-round p s i =
-    let one : i + 1 ≡ suc i = omega arith in
-    let two : i + 2 ≡ suc (suc i) = omega arith in
-    rw (two, one) refl
+message-round p s i = let two : i + 2 ≡ suc (suc i) = omega arith in rw two refl
+
+-- the digest before a round
+length-digest_after : (p s : List ℕ) (i : ℕ) → length (digest_after md5 (md5crypt_opening p s) p s i) ≡ 16
+unfolding digest_after
+length-digest_after p s zero = length-md5 (opening_message p s)
+length-digest_after p s (suc i) = length-md5 (round_message i (digest_after md5 (md5crypt_opening p s) p s i) p s)
 
 -- and how many bytes it has
 pub length-message_round : (p s : List ℕ) (i : ℕ) → length (md5crypt_message p s (i + 2)) ≡ round_length i 16 (length p) (length s)
 length-message_round p s i =
-    let before = md5 (md5crypt_message p s (i + 1)) in
+    let before = digest_after md5 (md5crypt_opening p s) p s i in
     ap length (message-round p s i)
     ∙ (length-round_message i before p s
-    ∙ ap (λ x. round_length i x (length p) (length s)) (length-md5 (md5crypt_message p s (i + 1))))
+    ∙ ap (λ x. round_length i x (length p) (length s)) (length-digest_after p s i))
 
 -- a byte for each digit of the password's length; an empty password has none, and no first byte
 pub length-digits : (p : List ℕ) → length (digit_pieces (0 ∷ []) (take 1 p) (length p)) ≡ digit_bytes 1 1 (length p)
-unfolding binary_digits
 length-digits [] = refl
 length-digits (x ∷ p) = length-digit_pieces (0 ∷ []) (x ∷ []) (suc (length p))
 

@@ -1,12 +1,12 @@
 -- Lists of messages that are given by their number, the first message, and the message of a round.
 use Rattle.crypt_core.specs.Methods.{shacrypt_salt_limit}
 use Rattle.crypt_core.specs.Passwords.{password_limit}
-use Rattle.std.proofs.Common.{◌≡◌, ℕ, ◌+◌, ◌*◌, ◌%◌, ◌≤◌, Bool, true, false, cond, nat_eq, List, [], ◌∷◌, ◌++◌, length, map, arith}
+use Rattle.std.proofs.Common.{◌≡◌, ℕ, suc, ◌+◌, ◌*◌, ◌%◌, ◌≤◌, Bool, true, false, cond, nat_eq, List, [], ◌∷◌, ◌++◌, length, map, arith, refl}
 use Rattle.std.specs.List.{range_with_len}
 use Rattle.std.proofs.lemmas.List.{length-append}
 use Rattle.std.proofs.lemmas.List.FromFn.{length-map-range_with_len, map-range_with_len_more}
 use Rattle.crypt_core.proofs.CycleLemmas.{length-cond}
-use Rattle.crypt_core.specs.RoundMessage.{round_message, alternate_message}
+use Rattle.crypt_core.specs.RoundMessage.{alternate_message, digest_after, round_message}
 
 -- the first n messages
 unfoldable pub messages_to : (ℕ → List ℕ) → ℕ → List (List ℕ)
@@ -22,6 +22,16 @@ length-messages_to message n = length-map-range_with_len message 0 n
 
 pub length-alternate : (p s : List ℕ) → length (alternate_message p s) ≡ 2 * length p + length s
 length-alternate p s = omega (arith, length-append (p ++ s) p, length-append p s)
+
+-- the digest before the rounds, and after one round more
+pub digest_after-none : (h : List ℕ → List ℕ) (opening p q : List ℕ) → digest_after h opening p q 0 ≡ opening
+unfolding digest_after
+digest_after-none h opening p q = refl
+
+pub digest_after-more : (h : List ℕ → List ℕ) (opening p q : List ℕ) (i : ℕ)
+    → digest_after h opening p q (i + 1) ≡ h (round_message i (digest_after h opening p q i) p q)
+unfolding digest_after
+digest_after-more h opening p q i = let next : i + 1 ≡ suc i = omega arith in rw next refl
 
 -- the length of round i's message, by those of what it is made of
 abbrev pub round_length : ℕ → ℕ → ℕ → ℕ → ℕ

@@ -23,9 +23,9 @@ bytes_more a b c x y z p q e =
     q ∙ (ap (λ (m : Work). record m { bytes = m.bytes + y }) p ∙ ap (λ n. record a { bytes = n }) total)
 
 -- the bytes of a message, and then its digest
-pub digest_after : (a b c : Work) (message : List ℕ) (x : ℕ) → b ≡ record a { bytes = a.bytes + x } → c ≡ record b { digests = b.digests + 1 }
+pub digest_counted : (a b c : Work) (message : List ℕ) (x : ℕ) → b ≡ record a { bytes = a.bytes + x } → c ≡ record b { digests = b.digests + 1 }
     → x ≡ length message → c ≡ with_digest a message
-digest_after a b c message x p q e =
+digest_counted a b c message x p q e =
     q ∙ (ap (λ (m : Work). record m { digests = m.digests + 1 }) p ∙ ap (λ n. record a { digests = a.digests + 1; bytes = a.bytes + n }) e)
 
 -- the digests of some messages, and of one more

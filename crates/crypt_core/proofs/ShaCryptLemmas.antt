@@ -7,36 +7,19 @@ use Rattle.std.proofs.lemmas.List.{length-append}
 use Rattle.std.proofs.Math.Nat.{mul-le-mul_right}
 use Rattle.prims_core.specs.Meter.{HaveCountAndSum}
 use Rattle.crypt_core.specs.Cycle.{cycle, digit_bytes, digit_pieces}
-use Rattle.crypt_core.specs.RoundMessage.{round_message, alternate_message}
-use Rattle.crypt_core.specs.ShaCrypt.{sha_opening_byte, password_repeated, password_string, salt_repeated, salt_string, sha_opening_digest, sha_digest_before, sha_opening_message, sha_round_message, shacrypt_message, shacrypt_messages}
+use Rattle.crypt_core.specs.Messages.{password_repeated, salt_repeated, sha_digest_before, sha_opening_message, sha_round_message, shacrypt_message, shacrypt_messages}
+use Rattle.crypt_core.specs.RoundMessage.{alternate_message, digest_after, round_message}
+use Rattle.crypt_core.specs.ShaCrypt.{sha_opening_byte, password_string, salt_string}
 use Rattle.crypt_core.specs.Work.{greatest_byte, shacrypt_bytes}
 use Rattle.crypt_core.proofs.CycleLemmas.{digit_bytes-few, length-cycle, length-digit_pieces, length-repeat}
 use Rattle.crypt_core.proofs.MessageLists.{length-messages_to, length-round_message, length-alternate, messages_to, round_length}
 use Rattle.crypt_core.proofs.WorkSums.{rounds_sum}
-
-pub digest_before-zero : (h : List ℕ → List ℕ) (p s : List ℕ) → sha_digest_before h p s 0 ≡ sha_opening_digest h p s
-unfolding sha_digest_before
-digest_before-zero h p s = refl
-
-pub digest_before-more : (h : List ℕ → List ℕ) (p s : List ℕ) (i : ℕ)
-    → sha_digest_before h p s (i + 1) ≡ h (sha_round_message h p s i (sha_digest_before h p s i))
-unfolding sha_digest_before
-digest_before-more h p s i = let next : i + 1 ≡ suc i = omega arith in rw next refl
 
 -- the message of round i is number i + 4
 pub message-number : (h : List ℕ → List ℕ) (p s : List ℕ) (i : ℕ)
     → shacrypt_message h p s (i + 4) ≡ sha_round_message h p s i (sha_digest_before h p s i)
 unfolding shacrypt_message
 message-number h p s i = let number : i + 4 ≡ suc (suc (suc (suc i))) = omega arith in rw number refl
-
--- what would stand before one more round is the digest of the last message
-pub digest_last : (h : List ℕ → List ℕ) (p s : List ℕ) (rounds : ℕ) → 1 ≤ rounds
-    → sha_digest_before h p s rounds ≡ h (shacrypt_message h p s (rounds + 3))
-unfolding sha_digest_before
-digest_last h p s zero some = absurd (omega arith)
-digest_last h p s (suc i) some =
-    let number : suc i + 3 ≡ i + 4 = omega arith in
-    rw (number, message-number h p s i) refl
 
 pub messages-four : (h : List ℕ → List ℕ) (p s : List ℕ)
     → messages_to (shacrypt_message h p s) 4 ≡ alternate_message p s ∷ sha_opening_message h p s ∷ password_repeated p ∷ salt_repeated h p s ∷ []
@@ -97,7 +80,7 @@ module _ (h : List ℕ → List ℕ) (digest : ℕ) (length-digest : (m : List �
       bytes (sha_opening_message h p s) 0 0 (omega (arith, length-digest (sha_opening_message h p s), some))
 
   length-digest_before : (i : ℕ) → length (sha_digest_before h p s i) ≡ digest
-  unfolding sha_digest_before
+  unfolding digest_after
   length-digest_before zero = length-digest (sha_opening_message h p s)
   length-digest_before (suc i) = length-digest (sha_round_message h p s i (sha_digest_before h p s i))
 

@@ -7,6 +7,7 @@ pub mod HashFaults
 pub mod MadeSalts
 pub mod MadeSettings
 pub mod Md5crypt
+pub mod Messages
 pub mod Methods
 pub mod Packing
 pub mod PasswordFaults

@@ -3,7 +3,8 @@ ghost use Rattle.std.specs.Prelude.{◌≡◌, ℕ, ◌≤◌, ◌∷◌, ◌++�
 ghost use Rattle.prims_core.specs.Meter.{HasRoom};
 ghost use Rattle.kdf_core.specs.Params.{IsBounded};
 ghost use Rattle.kdf_core.specs.Scrypt.{scrypt};
-ghost use Rattle.kdf_core.specs.ScryptWork.{with_scrypt, IsAfterRefusal};
+ghost use Rattle.kdf_core.specs.ScryptMessages.{with_scrypt};
+ghost use Rattle.kdf_core.specs.ScryptWork.{IsAfterRefusal};
 ghost use Rattle.crypt_core.specs.declared.method.Method.TheVariants.{Scrypt};
 ghost use Rattle.crypt_core.specs.Crypt.{crypt, digest_by, hash_limit, IsAfterRefusedGrowth};
 ghost use Rattle.crypt_core.specs.Methods.{digest_len};

@@ -5,11 +5,12 @@ ghost use Rattle.std.specs.Prelude.{◌≡◌, ◌+◌, ◌*◌, ◌^◌, ◌<�
 ghost use Rattle.std.specs.List.{repeat};
 ghost use Rattle.prims_core.specs.Meter.{with_work, HaveCountAndSum, HasDigestRoom};
 ghost use Rattle.crypt_core.specs.Cycle.{cycle};
+ghost use Rattle.crypt_core.specs.Messages.{sha_opening_message, shacrypt_messages};
 ghost use Rattle.crypt_core.specs.Methods.{shacrypt_salt_limit};
 ghost use Rattle.crypt_core.specs.Passwords.{password_limit};
 ghost use Rattle.crypt_core.specs.RoundMessage.{alternate_message};
 ghost use Rattle.crypt_core.specs.Rounds.{max_rounds, min_rounds};
-ghost use Rattle.crypt_core.specs.ShaCrypt.{sha_opening_byte, sha_opening_digest, sha_opening_message, shacrypt_digest, shacrypt_messages};
+ghost use Rattle.crypt_core.specs.ShaCrypt.{sha_opening, sha_opening_byte, shacrypt_digest};
 ghost use Rattle.crypt_core.specs.Private.Counting.{with_digest};
 ghost use Rattle.crypt_core.specs.Work.{shacrypt_bytes, work_limit};
 
@@ -64,7 +65,7 @@ fn opening<H: Counted>(password: &[u8], salt: &[u8], meter: &mut Meter) -> Array
     requires password { length password.now ≤ password_limit }
     requires salt { length salt.now ≤ shacrypt_salt_limit }
     requires room { HasDigestRoom meter.old }
-    ensures digest { result.items ≡ sha_opening_digest H.digest password.now salt.now }
+    ensures digest { result.items ≡ sha_opening H.digest password.now salt.now }
     ensures length { length result.items ≡ H.LEN }
     ensures count { meter.new ≡ with_digest (with_digest meter.old (alternate_message password.now salt.now))
         (sha_opening_message H.digest password.now salt.now) }

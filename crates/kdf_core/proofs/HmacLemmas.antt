@@ -6,15 +6,16 @@ use Rattle.std.proofs.lemmas.Grind.{same_number_lists}
 use Rattle.std.proofs.lemmas.Simd.{get_or-zip2, length-zip2}
 use Rattle.prims_core.specs.Digests.{sha256}
 use Rattle.prims_core.specs.Words.{xor_lists}
-use Rattle.kdf_core.specs.Hmac.{hmac, hmac_sha256, ipad, opad, key_block, padded_key, PaddedKey, IsKeyOf}
+use Rattle.kdf_core.specs.Hmac.{hmac_sha256, key_block, padded_key}
+use Rattle.kdf_core.specs.HmacMessages.{PaddedKey, IsKeyOf}
 
 -- a tag is the digest of the outer pad and the digest of the inner pad and the text
 pub tag_is : (held : PaddedKey) (key a b text tag : List ℕ) → IsKeyOf held key → text ≡ sha256 (held.inner ++ a ++ b)
     → tag ≡ sha256 (held.outer ++ text ++ []) → tag ≡ hmac_sha256 key (a ++ b)
-unfolding hmac hmac_sha256
+unfolding hmac_sha256
 tag_is held key a b text tag of_key first second =
-    let inner = padded_key sha256 64 key ipad in
-    let outer = padded_key sha256 64 key opad in
+    let inner = padded_key key 0x36 in
+    let outer = padded_key key 0x5c in
     let text_is : text ≡ sha256 (inner ++ (a ++ b)) =
     first ∙ ap sha256 (append_assoc held.inner a b ∙ ap (λ (x : List ℕ). x ++ (a ++ b)) of_key.inner) in
     second ∙ ap sha256 (append-nil (held.outer ++ text)
@@ -26,7 +27,7 @@ filled kept = kept ++ replicate (64 - length kept) 0
 
 -- the block of a key that is longer than a block, whose digest is made in place of it
 pub long_block : (key kept : List ℕ) → 64 < length key → kept ≡ sha256 key → length kept ≡ 32
-    → kept ++ replicate 32 0 ≡ key_block sha256 64 key
+    → kept ++ replicate 32 0 ≡ key_block key
 unfolding key_block
 long_block key kept long is length_is =
     let zeros : 32 ≡ 64 - length kept = omega arith in
@@ -34,7 +35,7 @@ long_block key kept long is length_is =
 
 -- the block of any other key
 pub short_block : (key kept zeros : List ℕ) → length key ≤ 64 → kept ≡ key → zeros ≡ replicate 64 0
-    → kept ++ drop (length key) zeros ≡ key_block sha256 64 key
+    → kept ++ drop (length key) zeros ≡ key_block key
 unfolding key_block
 short_block key kept zeros short is zeros_are =
     let rest : drop (length key) zeros ≡ replicate (64 - length kept) 0 =
@@ -42,8 +43,8 @@ short_block key kept zeros short is zeros_are =
     ap (λ (x : List ℕ). kept ++ x) rest ∙ ap filled (cond_above 64 (length key) (sha256 key) key kept short is)
 
 -- a block under a pad
-pub padded_is : (key block padded : List ℕ) (pad : ℕ) → block ≡ key_block sha256 64 key
-    → padded ≡ xor_lists block (replicate 64 pad) → padded ≡ padded_key sha256 64 key pad
+pub padded_is : (key block padded : List ℕ) (pad : ℕ) → block ≡ key_block key
+    → padded ≡ xor_lists block (replicate 64 pad) → padded ≡ padded_key key pad
 unfolding padded_key
 padded_is key block padded pad is under = under ∙ ap (λ (b : List ℕ). xor_lists b (replicate 64 pad)) is
 

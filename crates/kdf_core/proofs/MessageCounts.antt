@@ -12,11 +12,14 @@ use Rattle.prims_core.specs.Digests.{sha256}
 use Rattle.prims_core.specs.Meter.{HaveCountAndSum}
 use Rattle.prims_core.specs.Words.{big_bytes, xor_lists}
 use Rattle.prims_core.specs.contracts.counted.counted_sha256.CountedSha256Counted.TheImpl.Laws as sha256_laws
-use Rattle.kdf_core.specs.Hmac.{hmac, hmac_sha256, ipad, opad, key_block, padded_key, key_messages, tag_messages, key_digests, key_bytes, tag_bytes}
+use Rattle.kdf_core.specs.Hmac.{hmac_sha256, key_block, padded_key, key_digests, tag_bytes}
+use Rattle.kdf_core.specs.HmacMessages.{key_messages, tag_messages, key_bytes}
 use Rattle.kdf_core.specs.Params.{ScryptCost, row_count}
-use Rattle.kdf_core.specs.Pbkdf2.{chain, block, pbkdf2, pbkdf2_sha256, block_messages, pbkdf2_messages, block_bytes, pbkdf2_digests, pbkdf2_bytes}
-use Rattle.kdf_core.specs.Scrypt.{part_bytes, parts_bytes, mixed_parts}
-use Rattle.kdf_core.specs.ScryptWork.{scrypt_messages, scrypt_digests, scrypt_bytes}
+use Rattle.kdf_core.specs.Pbkdf2.{chain, block, pbkdf2_sha256}
+use Rattle.kdf_core.specs.Pbkdf2Messages.{block_messages, pbkdf2_messages, block_bytes, pbkdf2_digests, pbkdf2_bytes}
+use Rattle.kdf_core.specs.Scrypt.{part_bytes, parts_bytes}
+use Rattle.kdf_core.specs.ScryptMessages.{mixed_parts, scrypt_messages}
+use Rattle.kdf_core.specs.ScryptWork.{scrypt_work}
 use Rattle.kdf_core.proofs.MixedLengths.{length-flat_map_same, length-mixed_parts}
 use Rattle.kdf_core.proofs.Pbkdf2Lemmas.{block-one}
 use Rattle.kdf_core.proofs.ScryptValue.{digests-are, bytes-are}
@@ -50,7 +53,7 @@ length-kept key = elim (cases_lt 64 (length key)) [
 ]
 
 -- so a key under a pad is a block
-length-padded_key : (key : List ℕ) (pad : ℕ) → length (padded_key sha256 64 key pad) ≡ 64
+length-padded_key : (key : List ℕ) (pad : ℕ) → length (padded_key key pad) ≡ 64
 unfolding padded_key key_block xor_lists
 length-padded_key key pad =
     let kept = if nat_lt 64 (length key) then sha256 key else key in
@@ -70,27 +73,27 @@ key-in_all key =
 -- a tag's two messages
 tag-in_all : (key text : List ℕ) → HaveCountAndSum (tag_messages key text) 2 (tag_bytes (length text))
 tag-in_all key text =
-    let inner = padded_key sha256 64 key ipad ++ text in
+    let inner = padded_key key 0x36 ++ text in
     record {
       count = refl;
       sum = omega (
         arith,
-        length-append (padded_key sha256 64 key ipad) text,
-        length-append (padded_key sha256 64 key opad) (sha256 inner),
-        length-padded_key key ipad,
-        length-padded_key key opad,
+        length-append (padded_key key 0x36) text,
+        length-append (padded_key key 0x5c) (sha256 inner),
+        length-padded_key key 0x36,
+        length-padded_key key 0x5c,
         length-sha256 inner,
       );
     }
 
 -- the first tag of a block is of the salt and the block's number
-length-chain_none : (password salt : List ℕ) (i : ℕ) → length (chain hmac_sha256 password salt i 0) ≡ length salt + 4
+length-chain_none : (password salt : List ℕ) (i : ℕ) → length (chain password salt i 0) ≡ length salt + 4
 unfolding chain
 length-chain_none password salt i = length-append salt (big_bytes 4 i)
 
 -- and each further one is of a tag
-length-chain : (password salt : List ℕ) (i j : ℕ) → 1 ≤ j → length (chain hmac_sha256 password salt i j) ≡ 32
-unfolding chain hmac hmac_sha256
+length-chain : (password salt : List ℕ) (i j : ℕ) → 1 ≤ j → length (chain password salt i j) ≡ 32
+unfolding chain hmac_sha256
 length-chain password salt i zero some = absurd (omega arith)
 length-chain password salt i (suc j) some = length-sha256 _
 
@@ -100,7 +103,7 @@ block-in_all : (password salt : List ℕ) (rounds i : ℕ) → 1 ≤ rounds
 unfolding block_messages
 block-in_all password salt zero i some = absurd (omega arith)
 block-in_all password salt (suc more) i some =
-    let u = chain hmac_sha256 password salt i in
+    let u = chain password salt i in
     let messages = λ (j : ℕ). tag_messages password (u j) in
     let tags : (j : ℕ) → 1 ≤ j → HaveCountAndSum (messages j) 2 (tag_bytes 32) =
     λ j above. record {
@@ -127,20 +130,20 @@ pbkdf2-in_all password salt rounds count some =
 
 -- derived bytes are as many as are wanted
 length-pbkdf2_sha256 : (password salt : List ℕ) (count : ℕ) → length (pbkdf2_sha256 password salt 1 count) ≡ count
-unfolding pbkdf2 pbkdf2_sha256
+unfolding pbkdf2_sha256
 length-pbkdf2_sha256 password salt count =
     let blocks = div_ceil count 32 in
-    let derived = flat_map (block hmac_sha256 password salt 1) (range_with_len 1 blocks) in
+    let derived = flat_map (block password salt 1) (range_with_len 1 blocks) in
     let whole : length derived ≡ blocks * 32 =
-    length-flat_map_same (block hmac_sha256 password salt 1) 32 (range_with_len 1 blocks)
+    length-flat_map_same (block password salt 1) 32 (range_with_len 1 blocks)
     (λ k d inside. ap length (block-one password salt _) ∙ length-chain password salt _ 1 (omega arith))
     ∙ ap (λ n. n * 32) (length-range_with_len 1 blocks) in
     length-take-le count derived (omega (arith, whole, (div_ceil_times count 32 (omega arith)).0))
 
 -- the password's message, and those of the two derivations, the second of which has all parts for its salt
 pub scrypt-in_all : (password salt : List ℕ) (cost : ScryptCost) (count : ℕ)
-    → HaveCountAndSum (scrypt_messages password salt cost count) (scrypt_digests cost (length password) count)
-    (scrypt_bytes cost (length password) (length salt) count)
+    → HaveCountAndSum (scrypt_messages password salt cost count) (scrypt_work cost (length password) (length salt) count).digests
+    (scrypt_work cost (length password) (length salt) count).bytes
 unfolding scrypt_messages
 scrypt-in_all password salt cost count =
     let first = parts_bytes cost in
@@ -155,6 +158,6 @@ scrypt-in_all password salt cost count =
     let all = both-in_all (key_messages password ++ pbkdf2_messages password salt 1 first) (pbkdf2_messages password last 1 count) _ _ _ _
     (both-in_all (key_messages password) (pbkdf2_messages password salt 1 first) _ _ _ _ key firsts) lasts in
     record {
-      count = all.count ∙ digests-are cost (length password) count first refl;
+      count = all.count ∙ digests-are cost (length password) (length salt) count first refl;
       sum = all.sum ∙ bytes-are cost (length password) (length salt) count first (length last) refl last_length;
     }

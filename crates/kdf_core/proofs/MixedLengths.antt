@@ -9,10 +9,11 @@ use Rattle.std.proofs.lemmas.List.Concat.{concat_is}
 use Rattle.std.proofs.lemmas.List.Elements.{All-append, All-head, All-map, All-tail}
 use Rattle.std.proofs.lemmas.List.FromFn.{get_or-enumerate_from, get_or-range_with_len, length-enumerate_from, length-map-range_with_len, length-range_with_len}
 use Rattle.std.proofs.lemmas.Simd.{length-zip2}
-use Rattle.prims_core.specs.BlockMix.{block_at, mixed_block, x_after, y_at, block_mix}
+use Rattle.prims_core.specs.BlockMix.{block_at, x_after, block_mix}
 use Rattle.prims_core.specs.Salsa.{sum_of_words, quarter_round, begun_at, row_round, transpose, column_round, double_round, salsa20_8}
 use Rattle.prims_core.specs.Words.{little_bytes, xor_lists, chunks_exact, words_of, bytes_of_words}
-use Rattle.kdf_core.specs.Scrypt.{integerify, mixed_back, romix, mixed_part, mixed_parts}
+use Rattle.kdf_core.specs.Scrypt.{integerify, mixed_back, romix, mixed_part}
+use Rattle.kdf_core.specs.ScryptMessages.{mixed_parts}
 
 -- each of the pieces has so many items
 abbrev HaveSize : ℕ → List (List ℕ) → Type 0
@@ -116,7 +117,7 @@ length-salsa20_8 words sixteen =
 
 -- The blocks of sixteen words that are mixed
 
-size-mixed_block : (x block : List ℕ) → length x ≡ 16 → length block ≡ 16 → length (mixed_block x block) ≡ 16
+size-mixed_block : (x block : List ℕ) → length x ≡ 16 → length block ≡ 16 → length (salsa20_8 (xor_lists x block)) ≡ 16
 unfolding xor_lists
 size-mixed_block x block first second =
     length-salsa20_8 (xor_lists x block) (length-zip2 _ x block (first ∙ sym second) ∙ first)
@@ -136,7 +137,7 @@ unfolding block_mix
 length-block_mix words r is =
     let n = length words / 32 in
     let number : n ≡ r = ap (λ m. m / 32) is ∙ mul-div_cancel_left r (omega arith) in
-    let y = y_at n words in
+    let y : ℕ → List ℕ = λ i. x_after n words (i + 1) in
     let evens = map (λ i. y (2 * i)) (range_with_len 0 n) in
     let odds = map (λ i. y (2 * i + 1)) (range_with_len 0 n) in
     let size = λ (piece : List ℕ). length piece ≡ 16 in

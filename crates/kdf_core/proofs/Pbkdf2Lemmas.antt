@@ -9,32 +9,32 @@ use Rattle.std.proofs.lemmas.List.{append-nil, length-take, take_all}
 use Rattle.std.proofs.lemmas.List.Sums.{fold-append}
 use Rattle.prims_core.specs.Words.{big_bytes, xor_lists}
 use Rattle.kdf_core.specs.Hmac.{hmac_sha256}
-use Rattle.kdf_core.specs.Pbkdf2.{chain, block, pbkdf2, pbkdf2_sha256}
+use Rattle.kdf_core.specs.Pbkdf2.{chain, block, pbkdf2_sha256}
 use Rattle.std.specs.Int.{div_ceil}
 
 -- U_1 is of the salt and the block's number
-pub chain-one : (password salt : List ℕ) (i : ℕ) → chain hmac_sha256 password salt i 1 ≡ hmac_sha256 password (salt ++ big_bytes 4 i)
+pub chain-one : (password salt : List ℕ) (i : ℕ) → chain password salt i 1 ≡ hmac_sha256 password (salt ++ big_bytes 4 i)
 unfolding chain
 chain-one password salt i = refl
 
 -- each further one is of the one before, to which no more bytes are joined
 pub chain-more : (password salt : List ℕ) (i j : ℕ)
-    → chain hmac_sha256 password salt i (j + 1) ≡ hmac_sha256 password (chain hmac_sha256 password salt i j ++ [])
+    → chain password salt i (j + 1) ≡ hmac_sha256 password (chain password salt i j ++ [])
 unfolding chain
 chain-more password salt i j =
     let next : j + 1 ≡ suc j = omega arith in
     rw (next, append-nil) refl
 
-pub block-one : (password salt : List ℕ) (i : ℕ) → block hmac_sha256 password salt 1 i ≡ chain hmac_sha256 password salt i 1
+pub block-one : (password salt : List ℕ) (i : ℕ) → block password salt 1 i ≡ chain password salt i 1
 unfolding block
 block-one password salt i = refl
 
 pub block-more : (password salt : List ℕ) (i rounds : ℕ) → 1 ≤ rounds
-    → block hmac_sha256 password salt (rounds + 1) i
-    ≡ xor_lists (block hmac_sha256 password salt rounds i) (chain hmac_sha256 password salt i (rounds + 1))
+    → block password salt (rounds + 1) i
+    ≡ xor_lists (block password salt rounds i) (chain password salt i (rounds + 1))
 unfolding block
 block-more password salt i rounds some =
-    let u : ℕ → List ℕ = chain hmac_sha256 password salt i in
+    let u : ℕ → List ℕ = chain password salt i in
     let count : rounds + 1 - 1 ≡ rounds - 1 + 1 = omega arith in
     let more : map u (range_with_len 2 (rounds - 1 + 1)) ≡ map u (range_with_len 2 (rounds - 1)) ++ u (rounds + 1) ∷ [] =
     map-range_with_len_more u 2 (rounds - 1) (rounds + 1) (omega arith) in
@@ -73,10 +73,10 @@ front_more block old new part room i inside length_is front is written =
 
 -- where all blocks are written, there is no room left
 pub front_all : (password salt out : List ℕ) (rounds room i : ℕ) → length out ≡ room → i ≡ div_ceil room 32
-    → take (32 * i) out ≡ take room (flat_map (block hmac_sha256 password salt rounds) (range_with_len 1 i))
+    → take (32 * i) out ≡ take room (flat_map (block password salt rounds) (range_with_len 1 i))
     → out ≡ pbkdf2_sha256 password salt rounds room
-unfolding pbkdf2 pbkdf2_sha256
+unfolding pbkdf2_sha256
 front_all password salt out rounds room i length_is all front =
     let within : length out ≤ 32 * i = omega (arith, (div_ceil_times room 32 (omega arith)).0) in
     sym (take_all (32 * i) out within) ∙ (front
-    ∙ ap (λ n. take room (flat_map (block hmac_sha256 password salt rounds) (range_with_len 1 n))) all)
+    ∙ ap (λ n. take room (flat_map (block password salt rounds) (range_with_len 1 n))) all)

@@ -4,8 +4,8 @@ use Rattle.std.proofs.Math.Nat.{le-mul_of_pos_right, mul-le-mul_left, mul-le-mul
 use Rattle.std.proofs.Math.Pow.{pow_mono}
 use Rattle.kdf_core.specs.Params.{ScryptCost, row_count, IsAccepted, IsBounded}
 use Rattle.kdf_core.specs.Private.Mixing.{IsPower}
-use Rattle.kdf_core.specs.Hmac.{key_bytes}
-use Rattle.kdf_core.specs.Pbkdf2.{block_bytes, pbkdf2_bytes}
+use Rattle.kdf_core.specs.HmacMessages.{key_bytes}
+use Rattle.kdf_core.specs.Pbkdf2Messages.{block_bytes, pbkdf2_bytes}
 use Rattle.kdf_core.specs.Scrypt.{parts_bytes}
 use Rattle.kdf_core.specs.ScryptWork.{table_bytes}
 use Rattle.std.specs.Int.{div_ceil}

@@ -12,10 +12,12 @@ use Rattle.std.proofs.Math.Nat.{add-mul-mod_self_left, mul-div_cancel, mul_assoc
 use Rattle.std.proofs.Math.Seq.{drop-cons}
 use Rattle.prims_core.specs.BlockMix.{block_mix}
 use Rattle.prims_core.specs.declared.meter.Work.{Work}
-use Rattle.prims_core.specs.Words.{chunks_exact}
+use Rattle.prims_core.specs.Words.{bytes_of_words, chunks_exact, little_number}
+use Rattle.prims_core.proofs.WordFacts.{number-from_word}
 use Rattle.kdf_core.proofs.Pbkdf2Lemmas.{range-more}
 use Rattle.kdf_core.specs.Private.Mixing.{HasShape, HoldsMixings, IsPower}
-use Rattle.kdf_core.specs.Scrypt.{number_of_words, integerify, mixed_part, mixed_parts}
+use Rattle.kdf_core.specs.Scrypt.{integerify, mixed_part}
+use Rattle.kdf_core.specs.ScryptMessages.{mixed_parts}
 
 -- one application more
 pub iterate-more : (h : List ℕ → List ℕ) (n : ℕ) (x : List ℕ) → iterate h (n + 1) x ≡ h (iterate h n x)
@@ -27,17 +29,24 @@ iterate-more h (suc n) x =
 -- the last block's number modulo a power of two is that of its first word
 pub integerify-mod : (words : List ℕ) (k : ℕ) → 16 ≤ length words → k ≤ 32
     → integerify words % 2 ^ k ≡ get_or words (length words - 16) 0 % 2 ^ k
-unfolding integerify number_of_words
+unfolding integerify
 integerify-mod words k some most =
     let at = length words - 16 in
     let inside : at < length words = omega arith in
-    let above : ℕ = number_of_words (drop (suc at) words) in
+    let word = get_or words at 0 in
+    let split = number-from_word 60 word (drop (suc at) words) in
+    let above : ℕ = split.0 in
     let bits : 32 ≡ k + (32 - k) = omega arith in
     let power : 2 ^ 32 ≡ 2 ^ k * 2 ^ (32 - k) = ap (λ e. 2 ^ e) bits ∙ pow-add 2 k (32 - k) in
-    let rest : 2 ^ 32 * above ≡ 2 ^ k * (2 ^ (32 - k) * above) = ap (λ q. q * above) power ∙ mul_assoc (2 ^ k) (2 ^ (32 - k)) above in
-    ap (λ ws. number_of_words ws % 2 ^ k) (drop-cons words at 0 inside)
-    ∙ (ap (λ n. (get_or words at 0 + n) % 2 ^ k) rest
-    ∙ add-mul-mod_self_left (get_or words at 0) (2 ^ k) (2 ^ (32 - k) * above))
+    let multiple : (n : ℕ) → 2 ^ 32 * n ≡ 2 ^ k * (2 ^ (32 - k) * n) =
+    λ n. ap (λ q. q * n) power ∙ mul_assoc (2 ^ k) (2 ^ (32 - k)) n in
+    let drops : (n m : ℕ) → (n + 2 ^ 32 * m) % 2 ^ k ≡ n % 2 ^ k =
+    λ n m. ap (λ q. (n + q) % 2 ^ k) (multiple m) ∙ add-mul-mod_self_left n (2 ^ k) (2 ^ (32 - k) * m) in
+    let word_is : word ≡ word % 2 ^ 32 + 2 ^ 32 * (word / 2 ^ 32) = omega arith in
+    ap (λ ws. little_number 64 (bytes_of_words ws) % 2 ^ k) (drop-cons words at 0 inside)
+    ∙ (ap (λ n. n % 2 ^ k) split.1
+    ∙ (drops (word % 2 ^ 32) above
+    ∙ (sym (drops (word % 2 ^ 32) (word / 2 ^ 32)) ∙ ap (λ n. n % 2 ^ k) (sym word_is))))
 
 -- the length of a row, where one is set
 length-row : (table : List (List ℕ)) (i : ℕ) (row : List ℕ) (k words : ℕ) → length row ≡ words → length (get_or table k []) ≡ words → i < length table

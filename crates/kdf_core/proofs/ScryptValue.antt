@@ -5,11 +5,14 @@ use Rattle.std.proofs.lemmas.List.{take_at}
 use Rattle.prims_core.specs.Memory.{written_over}
 use Rattle.prims_core.specs.Meter.{with_work}
 use Rattle.prims_core.specs.declared.meter.Work.{Work}
-use Rattle.kdf_core.specs.Hmac.{key_digests, key_bytes, tag_bytes}
+use Rattle.kdf_core.specs.Hmac.{key_digests, tag_bytes}
+use Rattle.kdf_core.specs.HmacMessages.{key_bytes}
 use Rattle.kdf_core.specs.Params.{ScryptCost, row_count}
-use Rattle.kdf_core.specs.Pbkdf2.{pbkdf2_sha256, block_bytes, pbkdf2_digests, pbkdf2_bytes}
-use Rattle.kdf_core.specs.Scrypt.{part_bytes, parts_bytes, mixed_parts, scrypt}
-use Rattle.kdf_core.specs.ScryptWork.{scrypt_digests, scrypt_bytes}
+use Rattle.kdf_core.specs.Pbkdf2.{pbkdf2_sha256}
+use Rattle.kdf_core.specs.Pbkdf2Messages.{block_bytes, pbkdf2_digests, pbkdf2_bytes}
+use Rattle.kdf_core.specs.Scrypt.{part_bytes, parts_bytes, scrypt}
+use Rattle.kdf_core.specs.ScryptMessages.{mixed_parts}
+use Rattle.kdf_core.specs.ScryptWork.{scrypt_work}
 use Rattle.kdf_core.proofs.ScryptBounds.{parts-blocks}
 
 -- what is written over a list of its length stands there as it is
@@ -31,7 +34,7 @@ pub value-is : (password salt : List ℕ) (cost : ScryptCost) (count n : ℕ) (z
     → derived ≡ pbkdf2_sha256 password salt 1 (length zeros) → length derived ≡ length zeros → parts ≡ written_over zeros derived
     → mixed ≡ mixed_parts n (2 * length halves) parts → length mixed ≡ length parts → last ≡ written_over (written_over zeros derived) mixed
     → out ≡ pbkdf2_sha256 password last 1 count → out ≡ scrypt password salt cost count
-unfolding scrypt
+unfolding scrypt mixed_parts
 value-is password salt cost count n zeros derived parts halves mixed last out n_is whole blocks first same parts_are mixing same_mixed lasting second =
     let size : 2 * length halves ≡ part_bytes cost = omega arith in
     let parts_derived : parts ≡ derived = parts_are ∙ written_over-same zeros derived same in
@@ -74,18 +77,16 @@ same_counts a b d y m t s =
     ∙ ap (λ n. record b { scratch = n }) s)))
 
 -- the digests of the two derivations, in closed form
-pub digests-are : (cost : ScryptCost) (password_length count first : ℕ) → first ≡ parts_bytes cost
-    → key_digests password_length + pbkdf2_digests 1 first + pbkdf2_digests 1 count ≡ scrypt_digests cost password_length count
-unfolding scrypt_digests
-digests-are cost password_length count first is =
+pub digests-are : (cost : ScryptCost) (password_length salt_length count first : ℕ) → first ≡ parts_bytes cost
+    → key_digests password_length + pbkdf2_digests 1 first + pbkdf2_digests 1 count ≡ (scrypt_work cost password_length salt_length count).digests
+digests-are cost password_length salt_length count first is =
     let blocks : div_ceil first 32 ≡ 4 * (cost.r * cost.p) = ap (λ n. div_ceil n 32) is ∙ parts-blocks cost in
     omega (arith, blocks)
 
 -- and their bytes
 pub bytes-are : (cost : ScryptCost) (password_length salt_length count first last : ℕ) → first ≡ parts_bytes cost → last ≡ parts_bytes cost
     → key_bytes password_length + pbkdf2_bytes salt_length 1 first + pbkdf2_bytes last 1 count
-    ≡ scrypt_bytes cost password_length salt_length count
-unfolding scrypt_bytes
+    ≡ (scrypt_work cost password_length salt_length count).bytes
 bytes-are cost password_length salt_length count first last is last_is =
     let blocks : div_ceil first 32 ≡ 4 * (cost.r * cost.p) = ap (λ n. div_ceil n 32) is ∙ parts-blocks cost in
     let derived : pbkdf2_bytes salt_length 1 first ≡ 4 * (cost.r * cost.p) * tag_bytes (salt_length + 4) =

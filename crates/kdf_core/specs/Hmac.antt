@@ -1,71 +1,34 @@
--- HMAC (RFC 2104, section 2), over a digest function that works on blocks of `size` bytes.
-use Rattle.std.specs.Prelude.{◌≡◌, ℕ, ◌+◌, ◌-◌, ◌*◌, List, [], ◌∷◌, ◌++◌, length, replicate, nat_lt, if◌then◌else◌}
+-- HMAC (RFC 2104, section 2) over SHA-256 (FIPS 180-4), and the digests and bytes that it takes.
+use Rattle.std.specs.Prelude.{ℕ, ◌+◌, ◌-◌, ◌*◌, List, ◌++◌, length, replicate, nat_lt, if◌then◌else◌}
 use Rattle.prims_core.specs.Digests.{sha256}
 use Rattle.prims_core.specs.Words.{xor_lists}
 
--- the key, digested first where it is longer than a block, and zeros up to a block
-unfoldable pub key_block : (List ℕ → List ℕ) → ℕ → List ℕ → List ℕ
-key_block digest size key =
-    let kept = if nat_lt size (length key) then digest key else key in
-    kept ++ replicate (size - length kept) 0
-
--- the byte that fills the inner pad, and the one that fills the outer pad
-abbrev pub ipad : ℕ
-ipad = 0x36
-
-abbrev pub opad : ℕ
-opad = 0x5c
-
--- K xor a pad
-unfoldable pub padded_key : (List ℕ → List ℕ) → ℕ → List ℕ → ℕ → List ℕ
-padded_key digest size key pad = xor_lists (key_block digest size key) (replicate size pad)
-
--- H(K xor opad, H(K xor ipad, text))
-unfoldable pub hmac : (List ℕ → List ℕ) → ℕ → List ℕ → List ℕ → List ℕ
-hmac digest size key text =
-    digest (padded_key digest size key opad ++ digest (padded_key digest size key ipad ++ text))
-
--- the bytes of a block of SHA-256, and of its digest (FIPS 180-4)
+-- a block of SHA-256 has 64 bytes
 abbrev pub sha256_block : ℕ
 sha256_block = 64
 
+-- a digest of SHA-256 has 32 bytes
 abbrev pub sha256_length : ℕ
 sha256_length = 32
 
--- HMAC over SHA-256
+-- K, the key as one block: SHA-256 digests a key that is longer than a block first, and zeros fill the rest of the block
+unfoldable pub key_block : List ℕ → List ℕ
+key_block key =
+    let kept = if nat_lt sha256_block (length key) then sha256 key else key in
+    kept ++ replicate (sha256_block - length kept) 0
+
+-- K xor a pad, which is one byte, as often as a block has bytes
+unfoldable pub padded_key : List ℕ → ℕ → List ℕ
+padded_key key pad = xor_lists (key_block key) (replicate sha256_block pad)
+
+-- H(K xor opad, H(K xor ipad, text)), where ipad is the byte 0x36 and opad the byte 0x5c
 unfoldable pub hmac_sha256 : List ℕ → List ℕ → List ℕ
-hmac_sha256 = hmac sha256 sha256_block
+hmac_sha256 key text = sha256 (padded_key key 0x5c ++ sha256 (padded_key key 0x36 ++ text))
 
--- a key as it is held: under the inner pad, and under the outer pad
-pub record PaddedKey : Type 0 where
-  pub inner : List ℕ
-  pub outer : List ℕ
-
--- what is held was made of this key, which may have any length
-pub record IsKeyOf (held : PaddedKey) (key : List ℕ) : Type 0 where
-  pub inner : held.inner ≡ padded_key sha256 sha256_block key ipad
-  pub outer : held.outer ≡ padded_key sha256 sha256_block key opad
-
--- The messages that are digested, and their work
-
--- for a key: the key itself, where it is longer than a block
-abbrev pub key_messages : List ℕ → List (List ℕ)
-key_messages key = if nat_lt sha256_block (length key) then key ∷ [] else []
-
--- for a tag: the text behind the inner pad, and the digest of that behind the outer pad
-abbrev pub tag_messages : List ℕ → List ℕ → List (List ℕ)
-tag_messages key text =
-    let inner = padded_key sha256 sha256_block key ipad ++ text in
-    inner ∷ (padded_key sha256 sha256_block key opad ++ sha256 inner) ∷ []
-
--- the digests that making a key takes: one where it is longer than a block
+-- the number of digests that a key of this length takes: one if it is longer than a block
 abbrev pub key_digests : ℕ → ℕ
 key_digests key_length = if nat_lt sha256_block key_length then 1 else 0
 
--- the bytes of that digest
-abbrev pub key_bytes : ℕ → ℕ
-key_bytes key_length = key_digests key_length * key_length
-
--- the bytes of a tag's two digests: two padded keys, the text and the inner digest
+-- the bytes that the two digests of a tag take, for a text of this length: two padded keys, the text and the inner digest
 abbrev pub tag_bytes : ℕ → ℕ
 tag_bytes text_length = 2 * sha256_block + sha256_length + text_length

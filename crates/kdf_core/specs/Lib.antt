@@ -1,7 +1,10 @@
 pub mod Hmac
+pub mod HmacMessages
 pub mod ParamFaults
 pub mod Params
 pub mod Pbkdf2
+pub mod Pbkdf2Messages
 pub mod Private
 pub mod Scrypt
+pub mod ScryptMessages
 pub mod ScryptWork

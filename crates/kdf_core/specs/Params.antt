@@ -23,19 +23,15 @@ pub record IsInRange (cost : ScryptCost) : Type 0 where
   pub some_block : 0 < cost.r
   pub some_part : 0 < cost.p
 
--- the largest product N * r * p: 2 ^ 23
-abbrev pub ceiling : ℕ
-ceiling = 8388608
-
 -- N * r * p, by which the time grows, and which bounds the memory
 abbrev pub product : ScryptCost → ℕ
 product cost = row_count cost * cost.r * cost.p
 
--- the product doesn't pass the ceiling
+-- the product is at most the ceiling, 2 ^ 23
 abbrev pub IsWithinCeiling : ScryptCost → Type 0
-IsWithinCeiling cost = product cost ≤ ceiling
+IsWithinCeiling cost = product cost ≤ 8388608
 
--- the numbers that scrypt is run with
+-- scrypt runs with numbers that are in range and within the ceiling
 pub record IsAccepted (cost : ScryptCost) : Type 0 where
   pub in_range : IsInRange cost
   pub within : IsWithinCeiling cost

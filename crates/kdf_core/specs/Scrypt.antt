@@ -1,20 +1,15 @@
 -- scrypt (RFC 7914, sections 5 and 6).
-use Rattle.std.specs.Prelude.{ℕ, ◌+◌, ◌-◌, ◌*◌, ◌^◌, ◌%◌, List, [], ◌∷◌, length, drop}
+use Rattle.std.specs.Prelude.{ℕ, ◌-◌, ◌*◌, ◌%◌, List, length, drop}
 use Rattle.std.specs.Fn.{iterate}
 use Rattle.std.specs.List.{flat_map}
 use Rattle.prims_core.specs.BlockMix.{block_mix}
-use Rattle.prims_core.specs.Words.{words_of, bytes_of_words, xor_lists, chunks_exact}
+use Rattle.prims_core.specs.Words.{words_of, bytes_of_words, little_number, xor_lists, chunks_exact}
 use Rattle.kdf_core.specs.Params.{ScryptCost, row_count}
 use Rattle.kdf_core.specs.Pbkdf2.{pbkdf2_sha256}
 
--- the number of which these are the 32-bit words, the lowest first
-unfoldable pub number_of_words : List ℕ → ℕ
-number_of_words [] = 0
-number_of_words (word ∷ words) = word + 2 ^ 32 * number_of_words words
-
 -- Integerify (X): the last 64-byte block of X, which is sixteen words, as a little-endian number
 unfoldable pub integerify : List ℕ → ℕ
-integerify words = number_of_words (drop (length words - 16) words)
+integerify words = little_number 64 (bytes_of_words (drop (length words - 16) words))
 
 -- F (X) = BlockMix (X xor V), where V is B after j mixings and j is Integerify (X) mod N
 unfoldable pub mixed_back : ℕ → List ℕ → List ℕ → List ℕ
@@ -24,13 +19,9 @@ mixed_back n start words = block_mix (xor_lists words (iterate block_mix (intege
 unfoldable pub romix : ℕ → List ℕ → List ℕ
 romix n start = iterate (mixed_back n start) n (iterate block_mix n start)
 
--- the bytes of two blocks, in which r counts
-abbrev pub unit_bytes : ℕ
-unit_bytes = 128
-
--- the bytes of a part, which is 2r blocks
+-- the bytes of a part, which is 2r blocks of 64 bytes
 abbrev pub part_bytes : ScryptCost → ℕ
-part_bytes cost = unit_bytes * cost.r
+part_bytes cost = 128 * cost.r
 
 -- the bytes of all p parts
 abbrev pub parts_bytes : ScryptCost → ℕ
@@ -40,13 +31,9 @@ parts_bytes cost = part_bytes cost * cost.p
 unfoldable pub mixed_part : ℕ → List ℕ → List ℕ
 mixed_part n bytes = bytes_of_words (romix n (words_of bytes))
 
--- each part of so many bytes under ROMix, joined
-unfoldable pub mixed_parts : ℕ → ℕ → List ℕ → List ℕ
-mixed_parts n size bytes = flat_map (mixed_part n) (chunks_exact bytes size)
-
 -- scrypt (P, S, N, r, p, dkLen): B = PBKDF2 (P, S, 1, 128rp), its p parts under ROMix, and then
--- PBKDF2 (P, B, 1, dkLen)
+-- PBKDF2 (P, B, 1, dkLen), where dkLen is count
 unfoldable pub scrypt : List ℕ → List ℕ → ScryptCost → ℕ → List ℕ
 scrypt password salt cost count =
     let derived = pbkdf2_sha256 password salt 1 (parts_bytes cost) in
-    pbkdf2_sha256 password (mixed_parts (row_count cost) (part_bytes cost) derived) 1 count
+    pbkdf2_sha256 password (flat_map (mixed_part (row_count cost)) (chunks_exact derived (part_bytes cost))) 1 count

@@ -7,7 +7,8 @@ ghost use Rattle.std.specs.Prelude.{◌≡◌, ℕ, ◌+◌, ◌^◌, ◌<◌, L
 ghost use Rattle.prims_core.specs.Digests.{sha256};
 ghost use Rattle.prims_core.specs.Meter.{with_work};
 ghost use Rattle.prims_core.specs.Words.{xor_lists};
-ghost use Rattle.kdf_core.specs.Hmac.{hmac_sha256, key_block, IsKeyOf, key_digests, key_bytes, tag_bytes};
+ghost use Rattle.kdf_core.specs.Hmac.{hmac_sha256, key_block, key_digests, tag_bytes};
+ghost use Rattle.kdf_core.specs.HmacMessages.{key_bytes, IsKeyOf};
 
 use prims_core::counted::{Counted, CountedSha256};
 use prims_core::meter::Meter;
@@ -34,7 +35,7 @@ pub struct HmacKey {
 }
 
 impl Model for HmacKey {
-    ghost use Rattle.kdf_core.specs.Hmac.{PaddedKey};
+    ghost use Rattle.kdf_core.specs.HmacMessages.{PaddedKey};
 
     ghost Value = { PaddedKey };
 
@@ -68,8 +69,8 @@ impl HmacKey {
         ensures tag { (key : List ℕ) → IsKeyOf self.now key → result ≡ hmac_sha256 key (a.now ++ b.now) }
         ensures count { meter.new ≡ with_work meter.old 2 (tag_bytes (length a.now + length b.now)) }
     {
-        let text = digest_of(&self.inner, a, b, meter);
-        digest_of(&self.outer, &text, &[], meter)
+        let text = sha256_of(&self.inner, a, b, meter);
+        sha256_of(&self.outer, &text, &[], meter)
     }
 }
 
@@ -77,12 +78,12 @@ impl HmacKey {
 fn block_of(key: &[u8], meter: &mut Meter) -> [u8; 64]
     requires digests_room { meter.old.digests + key_digests (length key.now) < 2 ^ 128 }
     requires bytes_room { meter.old.bytes + key_bytes (length key.now) < 2 ^ 128 }
-    ensures block { result ≡ key_block sha256 64 key.now }
+    ensures block { result ≡ key_block key.now }
     ensures count { meter.new ≡ with_work meter.old (key_digests (length key.now)) (key_bytes (length key.now)) }
 {
     let mut block = [0; 64];
     if key.len() > SHA256_BLOCK {
-        let digest = digest_of(key, &[], &[], meter);
+        let digest = sha256_of(key, &[], &[], meter);
         block[..SHA256_LENGTH].copy_from_slice(&digest);
     } else {
         block[..key.len()].copy_from_slice(key);
@@ -109,8 +110,8 @@ pub(crate) fn xor_into(sum: &mut [u8], bytes: &[u8])
     }
 }
 
-// The digest of three pieces as one message.
-fn digest_of(first: &[u8], second: &[u8], third: &[u8], meter: &mut Meter) -> [u8; 32]
+// The SHA-256 digest of three pieces as one message.
+fn sha256_of(first: &[u8], second: &[u8], third: &[u8], meter: &mut Meter) -> [u8; 32]
     requires digests_room { meter.old.digests + 1 < 2 ^ 128 }
     requires bytes_room { meter.old.bytes + (length first.now + length second.now + length third.now) < 2 ^ 128 }
     ensures digest { result ≡ sha256 (first.now ++ second.now ++ third.now) }

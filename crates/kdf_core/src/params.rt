@@ -4,7 +4,7 @@
 //! the memory that it stands for.
 
 ghost use Rattle.std.specs.Prelude.{◌≡◌, ◌↔◌, ◌≤◌, IfOk, IsOk, IsTrue};
-ghost use Rattle.kdf_core.specs.Params.{ceiling, cost_of, product, row_count, IsInRange, IsWithinCeiling, IsAccepted, IsBounded};
+ghost use Rattle.kdf_core.specs.Params.{cost_of, product, row_count, IsInRange, IsWithinCeiling, IsAccepted, IsBounded};
 
 use std::marker::Model;
 use thiserror::Error;
@@ -47,13 +47,13 @@ pub struct Params {
 }
 
 impl Model for Params {
-    ghost use Rattle.kdf_core.specs.Params.{ScryptCost, cost_of, IsAccepted};
+    ghost use Rattle.kdf_core.specs.Params.{ScryptCost, IsAccepted};
 
     ghost Value = { ScryptCost };
 
-    ghost view = { λ a. cost_of a.log_n a.r a.p };
+    ghost view = { λ a. record { log_n = a.log_n; r = a.r; p = a.p } };
 
-    ghost invariant = { λ a. IsAccepted (cost_of a.log_n a.r a.p) };
+    ghost invariant = { λ a. IsAccepted (record { log_n = a.log_n; r = a.r; p = a.p }) };
 
     ghost inverse = { λ c. record { log_n = c.log_n; r = c.r; p = c.p } };
 }
@@ -112,7 +112,7 @@ impl Params {
     /// The product `N * r * p`, by which scrypt's time grows, and which bounds its memory: at most 2^23.
     pub fn product(&self) -> u32
         ensures product { result ≡ product self.now }
-        ensures within { result ≤ ceiling }
+        ensures within { result ≤ 8388608 }
     {
         self.row_count() * self.r() * self.p()
     }

@@ -5,8 +5,9 @@
 
 ghost use Rattle.std.specs.Prelude.{◌≡◌, ℕ, ◌+◌, ◌-◌, ◌*◌, ◌^◌, ◌<◌, ◌≤◌, List, ◌++◌, length, take};
 ghost use Rattle.prims_core.specs.Meter.{with_work};
-ghost use Rattle.kdf_core.specs.Hmac.{hmac_sha256, IsKeyOf};
-ghost use Rattle.kdf_core.specs.Pbkdf2.{block, block_bytes, pbkdf2_sha256, pbkdf2_digests, pbkdf2_bytes};
+ghost use Rattle.kdf_core.specs.HmacMessages.{IsKeyOf};
+ghost use Rattle.kdf_core.specs.Pbkdf2.{block, pbkdf2_sha256};
+ghost use Rattle.kdf_core.specs.Pbkdf2Messages.{block_bytes, pbkdf2_digests, pbkdf2_bytes};
 
 use crate::hmac::{HmacKey, SHA256_LENGTH, xor_into};
 use prims_core::meter::Meter;
@@ -46,7 +47,7 @@ fn derived_block(
     requires digests_room { meter.old.digests + 2 * rounds < 2 ^ 128 }
     requires bytes_room { meter.old.bytes + block_bytes (length salt.now) rounds < 2 ^ 128 }
     ensures block { (password : List ℕ) → IsKeyOf key.now password
-        → result ≡ block hmac_sha256 password salt.now rounds number }
+        → result ≡ block password salt.now rounds number }
     ensures count { meter.new ≡ with_work meter.old (2 * rounds) (block_bytes (length salt.now) rounds) }
 {
     let mut last = key.tag(salt, &number_be(number), meter);

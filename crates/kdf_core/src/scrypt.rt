@@ -9,8 +9,9 @@ ghost use Rattle.prims_core.specs.BlockMix.{block_mix};
 ghost use Rattle.prims_core.specs.Meter.{HaveCountAndSum, HasRoom};
 ghost use Rattle.kdf_core.specs.Params.{IsBounded};
 ghost use Rattle.kdf_core.specs.Private.Mixing.{HasShape, HoldsMixings, AreHalves, IsPower, part_words};
-ghost use Rattle.kdf_core.specs.Scrypt.{scrypt, integerify, mixed_back, mixed_part, mixed_parts};
-ghost use Rattle.kdf_core.specs.ScryptWork.{scrypt_bytes, scrypt_digests, scrypt_messages, with_scrypt, IsAfterRefusal};
+ghost use Rattle.kdf_core.specs.Scrypt.{scrypt, integerify, mixed_back, mixed_part};
+ghost use Rattle.kdf_core.specs.ScryptMessages.{mixed_parts, scrypt_messages, with_scrypt};
+ghost use Rattle.kdf_core.specs.ScryptWork.{scrypt_work, IsAfterRefusal};
 
 use crate::hmac::HmacKey;
 use crate::params::Params;
@@ -54,9 +55,8 @@ pub fn scrypt(
     ensures bytes { OnOk result (out.new ≡ scrypt password.now salt.now params.now (length out.old)) }
     ensures count { OnOk result (meter.new
         ≡ with_scrypt meter.old params.now (length password.now) (length salt.now) (length out.old)) }
-    ensures specified { HaveCountAndSum (scrypt_messages password.now salt.now params.now (length out.old))
-        (scrypt_digests params.now (length password.now) (length out.old))
-        (scrypt_bytes params.now (length password.now) (length salt.now) (length out.old)) }
+    ensures specified { let work = scrypt_work params.now (length password.now) (length salt.now) (length out.old) in
+        HaveCountAndSum (scrypt_messages password.now salt.now params.now (length out.old)) work.digests work.bytes }
     ensures unchanged { OnErr result (out.new ≡ out.old) }
     ensures refused { OnErr result (IsAfterRefusal meter.old params.now meter.new) }
     ensures bounded { IsBounded params.now }

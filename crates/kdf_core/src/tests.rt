@@ -4,7 +4,8 @@
 ghost use Rattle.std.specs.Prelude.{◌≡◌, ◌+◌, ◌≤◌, ◌<◌, ◌++◌, length};
 ghost use Rattle.prims_core.specs.Meter.{with_work};
 ghost use Rattle.prims_core.specs.Work.{no_work};
-ghost use Rattle.kdf_core.specs.Hmac.{hmac_sha256, key_digests, key_bytes, tag_bytes};
+ghost use Rattle.kdf_core.specs.Hmac.{hmac_sha256, key_digests, tag_bytes};
+ghost use Rattle.kdf_core.specs.HmacMessages.{key_bytes};
 ghost use Rattle.kdf_core.specs.Pbkdf2.{pbkdf2_sha256};
 
 use crate::hmac::HmacKey;

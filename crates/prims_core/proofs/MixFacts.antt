@@ -6,9 +6,9 @@ use Rattle.std.proofs.lemmas.Bool.{cases_lt}
 use Rattle.std.proofs.lemmas.List.FromFn.{get_or-map-range_with_len, length-map-range_with_len}
 use Rattle.std.proofs.lemmas.Slice.{between-put_mid, drop-put_mid, take-put_mid_below}
 use Rattle.std.proofs.lemmas.List.{drop-take, get_or_append_left, get_or-append_right, length-append}
-use Rattle.prims_core.specs.Private.Mixing.{place_of, ArePlaced, IsXored}
+use Rattle.prims_core.specs.Private.Mixing.{mixed_block, place_of, ArePlaced, IsXored}
 use Rattle.prims_core.specs.Words.{chunks_exact, xor_lists}
-use Rattle.prims_core.specs.BlockMix.{block_at, mixed_block, x_after}
+use Rattle.prims_core.specs.BlockMix.{block_at, x_after}
 use Rattle.prims_core.proofs.ChunkFacts.{joined_from_pieces, concat-chunks_exact, length-chunks_exact, get_or-chunks_exact}
 use Rattle.prims_core.proofs.WordFacts.{part-xor_lists, length-xor_lists}
 

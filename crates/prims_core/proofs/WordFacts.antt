@@ -1,10 +1,11 @@
 -- Bytes as words, and a part of words under exclusive or.
-use Rattle.std.proofs.Common.{◌≡◌, ℕ, zero, suc, ◌*◌, ◌<◌, List, [], ◌∷◌, length, take, drop, get_or, map, bit_xor, refl, sym, ◌∙◌, ap, arith}
+use Rattle.std.proofs.Common.{◌≡◌, ℕ, zero, suc, ◌+◌, ◌*◌, ◌%◌, ◌^◌, ◌<◌, List, [], ◌∷◌, ◌++◌, length, take, drop, get_or, map, bit_xor, flat_map, refl, sym, ◌∙◌, ap, arith}
 use Rattle.std.proofs.lemmas.Grind.{same_number_lists}
 use Rattle.std.proofs.lemmas.List.{get_or-map, get_or-take, length-map}
 use Rattle.std.specs.Simd.Lanes.{zip2}
 use Rattle.std.proofs.lemmas.Simd.{length-zip2}
-use Rattle.prims_core.specs.Words.{chunks_exact, little_number, words_of, xor_lists}
+use Rattle.byteorder.specs.Endian.{little_from}
+use Rattle.prims_core.specs.Words.{bytes_of_words, chunks_exact, little_bytes, little_number, words_of, xor_lists}
 use Rattle.prims_core.proofs.ChunkFacts.{length-chunks_exact, get_or-chunks_exact}
 
 -- the number of four bytes reads no further byte
@@ -31,6 +32,15 @@ words_of-from_places bytes words four read =
     get_or-map (little_number 4) (chunks_exact bytes 4) k [] 0 (omega arith)
     ∙ ap (little_number 4) (get_or-chunks_exact bytes 4 (length words) k (omega arith) four inside)
     ∙ little_number-take_four (drop (4 * k) bytes)))
+
+-- the number of bytes that begin with those of a word: that word modulo 2 ^ 32, and a multiple of 2 ^ 32
+pub number-from_word : (count word : ℕ) (words : List ℕ)
+    → (above : ℕ) × (little_number (count + 4) (bytes_of_words (word ∷ words)) ≡ word % 2 ^ 32 + 2 ^ 32 * above)
+unfolding bytes_of_words
+number-from_word count word words =
+    let all : List ℕ = little_bytes 4 word ++ flat_map (little_bytes 4) words in
+    let number : count + 4 ≡ suc (suc (suc (suc count))) = omega arith in
+    (little_from 4 count all, rw number (omega arith))
 
 -- a part of the items that an operator makes is what it makes of those parts
 take-zip2 : (f : ℕ → ℕ → ℕ) (n : ℕ) (xs ys : List ℕ) → take n (zip2 f xs ys) ≡ zip2 f (take n xs) (take n ys)

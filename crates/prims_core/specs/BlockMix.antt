@@ -4,26 +4,20 @@ use Rattle.std.specs.List.{concat, range_with_len}
 use Rattle.prims_core.specs.Words.{xor_lists}
 use Rattle.prims_core.specs.Salsa.{salsa20_8}
 
--- B[i], the sixteen words of block i
+-- B[i], the sixteen words of block i of a list of words
 abbrev pub block_at : ℕ → List ℕ → List ℕ
 block_at i words = take 16 (drop (16 * i) words)
 
--- Salsa20/8 of X xor a block
-abbrev pub mixed_block : List ℕ → List ℕ → List ℕ
-mixed_block x block = salsa20_8 (xor_lists x block)
-
--- X once i blocks are mixed: the last block at first, and then Salsa20/8 of X xor B[i] (steps 1 and 2)
+-- X after i of the 2r blocks are mixed: it begins as the last block, and each block B[i] makes it Salsa20/8 of X xor B[i]
+-- (steps 1 and 2)
 unfoldable pub x_after : ℕ → List ℕ → ℕ → List ℕ
 x_after r words zero = block_at (2 * r - 1) words
-x_after r words (suc i) = mixed_block (x_after r words i) (block_at i words)
+x_after r words (suc i) = salsa20_8 (xor_lists (x_after r words i) (block_at i words))
 
--- Y[i], which is X once block i is mixed too
-abbrev pub y_at : ℕ → List ℕ → ℕ → List ℕ
-y_at r words i = x_after r words (i + 1)
-
--- Y[0], Y[2], .., and then Y[1], Y[3], .., of each r (step 3)
+-- r results at even places, Y[0], Y[2], .., and then r at odd places, Y[1], Y[3], .. (step 3). Y[i] is X after block i is
+-- mixed too
 unfoldable pub block_mix : List ℕ → List ℕ
 block_mix words =
     let r = length words / 32 in
-    let y = y_at r words in
+    let y : ℕ → List ℕ = λ i. x_after r words (i + 1) in
     concat (map (λ i. y (2 * i)) (range_with_len 0 r) ++ map (λ i. y (2 * i + 1)) (range_with_len 0 r))

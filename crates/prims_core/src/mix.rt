@@ -5,8 +5,8 @@
 //! exclusive or of blocks and a row of its table, which has a call of its own.
 
 ghost use Rattle.std.specs.Prelude.{◌≡◌, ℕ, ◌+◌, ◌*◌, ◌^◌, ◌<◌, ◌≤◌, ◌⊎◌, List, length};
-ghost use Rattle.prims_core.specs.BlockMix.{block_at, block_mix, mixed_block};
-ghost use Rattle.prims_core.specs.Private.Mixing.{ArePlaced, IsXored};
+ghost use Rattle.prims_core.specs.BlockMix.{block_at, block_mix};
+ghost use Rattle.prims_core.specs.Private.Mixing.{mixed_block, ArePlaced, IsXored};
 ghost use Rattle.prims_core.specs.Words.{xor_lists};
 
 use crate::diagonals::Diagonals;

@@ -1,8 +1,17 @@
--- Block mixing on its way: the results that are written, and the blocks that are made their exclusive or with
--- a row's.
+-- Block mixing on its way: the next result, the results that are written, and the blocks that are made their
+-- exclusive or with a row's.
 use Rattle.std.specs.Prelude.{◌≡◌, ℕ, ◌+◌, ◌*◌, ◌/◌, ◌%◌, ◌<◌, ◌≤◌, List}
-use Rattle.prims_core.specs.BlockMix.{block_at}
+use Rattle.prims_core.specs.BlockMix.{block_at, x_after}
+use Rattle.prims_core.specs.Salsa.{salsa20_8}
 use Rattle.prims_core.specs.Words.{xor_lists}
+
+-- the next X, of the X before it and a block: Salsa20/8 of their exclusive or
+abbrev pub mixed_block : List ℕ → List ℕ → List ℕ
+mixed_block x block = salsa20_8 (xor_lists x block)
+
+-- Y[i] of the 2r blocks in these words: X after block i is mixed
+abbrev pub y_at : ℕ → List ℕ → ℕ → List ℕ
+y_at r words i = x_after r words (i + 1)
 
 -- where result i stands, of 2r: those at even places before those at odd places
 abbrev pub place_of : ℕ → ℕ → ℕ

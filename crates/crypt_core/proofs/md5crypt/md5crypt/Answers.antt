@@ -1,17 +1,17 @@
 use Rattle.std.proofs.Common.{◌≡◌, ◌+◌, length, arith, refl, sym, ◌∙◌, ap}
 use Rattle.prims_core.specs.Digests.{md5}
-use Rattle.crypt_core.specs.Md5crypt.{md5crypt_digest, md5crypt_message, md5crypt_messages, opening_message, md5crypt_rounds}
+use Rattle.crypt_core.specs.Md5crypt.{md5crypt_digest, md5crypt_opening, md5crypt_rounds}
+use Rattle.crypt_core.specs.Messages.{md5crypt_message, md5crypt_messages, opening_message}
 use Rattle.crypt_core.specs.RoundMessage.{round_message, alternate_message}
 use Rattle.crypt_core.specs.Private.Counting.{with_digest}
 use Rattle.crypt_core.specs.Private.RoundStrings.{Strings}
 use Rattle.crypt_core.proofs.CycleLemmas.{digit_bytes-few}
 use Rattle.crypt_core.proofs.Md5cryptLemmas.{length-message_round, length-opening, message-round, messages-all, messages-in_all, messages-two}
-use Rattle.crypt_core.proofs.MessageLists.{length-messages_to, length-alternate, messages-more, round_length-small}
+use Rattle.crypt_core.proofs.MessageLists.{digest_after-more, digest_after-none, length-messages_to, length-alternate, messages-more, round_length-small}
 use Rattle.crypt_core.proofs.Metering.{digests_in_all, digests_more, two_digests}
 use Rattle.crypt_core.proofs.md5crypt.md5crypt.Goals as goal
 
 pub rounds-init : goal.rounds-init
-unfolding md5crypt_message
 rounds-init c =
     let p = c.args.password.now in
     let s = c.args.salt.now in
@@ -22,7 +22,7 @@ rounds-init c =
     let opened = rw is at c.opening-digest.ensures.count in
     let bytes = ap (λ m. m.bytes) opened in
     let short = c.bytes-password.ensures.password.length_fits in (
-      rw is at c.opening-digest.ensures.digest,
+      (rw is at c.opening-digest.ensures.digest) ∙ sym (digest_after-none md5 (md5crypt_opening p s) p s),
       c.opening-digest.ensures.length,
       rw (messages-two p s) (two_digests a (with_digest a first) c.opening-digest.new.meter first second refl opened),
       omega (arith, bytes, length-alternate p s, length-opening p s, digit_bytes-few 1 1 1 (length p) (omega arith) (omega arith), short, c.requires.salt),
@@ -43,11 +43,10 @@ rounds-preserved c =
     let same =
     ap (λ (x : Strings). round_message i before x.password x.salt) strings
     ∙ (ap (λ x. round_message i x p s) (c.as_slice.ensures.value ∙ c.rounds.invariant.0) ∙ sym (message-round p s i)) in
-    let next : c.rounds.i + 1 + 1 ≡ c.rounds.i + 2 = omega arith in
     let later : c.rounds.i + 1 + 2 ≡ c.rounds.i + 2 + 1 = omega arith in
     let counted = digests_more c.args.meter.now c.rounds.meter c.round-digest.new.meter _ _ c.rounds.invariant.2 c.round-digest.ensures.count in
     let bytes = ap (λ m. m.bytes) c.round-digest.ensures.count in (
-      rw next (c.round-digest.ensures.digest ∙ ap md5 same),
+      c.round-digest.ensures.digest ∙ (ap md5 (same ∙ message-round p s i) ∙ sym (digest_after-more md5 (md5crypt_opening p s) p s i)),
       c.round-digest.ensures.length,
       rw (later, messages-more (md5crypt_message p s) (i + 2), ← same) counted,
       omega (
@@ -65,7 +64,7 @@ rounds-preserved c =
 pub returns-clause-digest : goal.returns-clause-digest
 unfolding md5crypt_digest
 returns-clause-digest c =
-    let last : c.rounds.i + 1 ≡ md5crypt_rounds + 1 = omega arith in
+    let last : c.rounds.i ≡ md5crypt_rounds = omega arith in
     c.copy_from_slice.ensures.after ∙ (c.as_slice-2.ensures.value ∙ rw last at c.rounds.invariant.0)
 
 pub returns-clause-count : goal.returns-clause-count

@@ -3,12 +3,12 @@ use Rattle.std.proofs.lemmas.List.{take_min}
 use Rattle.std.proofs.Math.Nat.{min_comm}
 use Rattle.std.specs.Prelude.{min}
 use Rattle.crypt_core.specs.Cycle.{digit_pieces}
-use Rattle.crypt_core.specs.Md5crypt.{opening_message}
+use Rattle.crypt_core.specs.Messages.{opening_message}
 use Rattle.crypt_core.specs.Private.Counting.{with_digest}
 use Rattle.crypt_core.proofs.CycleLemmas.{digit_bytes-few}
 use Rattle.crypt_core.proofs.Md5cryptLemmas.{length-digits, length-opening}
 use Rattle.crypt_core.proofs.MessageLists.{length-alternate}
-use Rattle.crypt_core.proofs.Metering.{bytes_more, digest_after}
+use Rattle.crypt_core.proofs.Metering.{bytes_more, digest_counted}
 use Rattle.crypt_core.proofs.md5crypt.opening.Goals as goal
 
 -- the first byte of the password, as the code takes it
@@ -46,6 +46,6 @@ returns-clause-count c =
     let three = bytes_more before _ c.feed-3.new.meter _ _ _ two c.feed-3.ensures.count refl in
     let four = bytes_more before _ c.feed_cycle.new.meter _ _ _ three c.feed_cycle.ensures.count refl in
     let five = bytes_more before _ c.feed_digits.new.meter _ _ _ four last refl in
-    digest_after before c.feed_digits.new.meter c.finish.new.meter (opening_message p s) _ five c.finish.ensures.count
+    digest_counted before c.feed_digits.new.meter c.finish.new.meter (opening_message p s) _ five c.finish.ensures.count
     (omega (arith, length-opening p s, length-digits p, ap length c.row.ensures.prefix))
     ∙ ap (λ m. with_digest m (opening_message p s)) c.alternate_digest-alternate.ensures.count

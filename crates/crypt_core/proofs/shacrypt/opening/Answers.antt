@@ -1,11 +1,11 @@
 use Rattle.crypt_core.specs.Passwords.{password_limit}
 use Rattle.std.proofs.Common.{◌≤◌, length, arith, refl, ◌∙◌, ap}
 use Rattle.crypt_core.specs.RoundMessage.{alternate_message}
-use Rattle.crypt_core.specs.ShaCrypt.{sha_opening_message}
+use Rattle.crypt_core.specs.Messages.{sha_opening_message}
 use Rattle.crypt_core.specs.Private.Counting.{with_digest}
 use Rattle.crypt_core.proofs.CycleLemmas.{digit_bytes-few, length-digit_pieces}
 use Rattle.crypt_core.proofs.MessageLists.{length-alternate}
-use Rattle.crypt_core.proofs.Metering.{bytes_more, digest_after}
+use Rattle.crypt_core.proofs.Metering.{bytes_more, digest_counted}
 use Rattle.crypt_core.proofs.ShaCryptLemmas.{length-sha_opening}
 use Rattle.crypt_core.proofs.shacrypt.opening.Goals as goal
 
@@ -39,6 +39,6 @@ returns-clause-count g c =
     let two = bytes_more before _ c.feed-2.new.meter _ _ _ c.feed.ensures.count c.feed-2.ensures.count refl in
     let three = bytes_more before _ c.feed_cycle.new.meter _ _ _ two c.feed_cycle.ensures.count refl in
     let four = bytes_more before _ c.feed_digits.new.meter _ _ _ three last refl in
-    digest_after before c.feed_digits.new.meter c.finish.new.meter (sha_opening_message h p s) _ four c.finish.ensures.count
+    digest_counted before c.feed_digits.new.meter c.finish.new.meter (sha_opening_message h p s) _ four c.finish.ensures.count
     (omega (arith, length-sha_opening h p s, length-digit_pieces b p (length p)))
     ∙ ap (λ m. with_digest m (sha_opening_message h p s)) c.alternate_digest-alternate.ensures.count

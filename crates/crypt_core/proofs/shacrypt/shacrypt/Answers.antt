@@ -3,13 +3,14 @@ use Rattle.crypt_core.specs.Passwords.{password_limit}
 use Rattle.std.proofs.Common.{◌≡◌, ◌+◌, ◌≤◌, length, get_or, arith, refl, sym, ◌∙◌, ap}
 use Rattle.std.specs.List.{repeat}
 use Rattle.crypt_core.specs.RoundMessage.{alternate_message}
-use Rattle.crypt_core.specs.ShaCrypt.{password_repeated, salt_repeated, sha_opening_digest, sha_opening_message, shacrypt_digest, shacrypt_message, shacrypt_messages}
+use Rattle.crypt_core.specs.Messages.{password_repeated, salt_repeated, sha_opening_message, shacrypt_message, shacrypt_messages}
+use Rattle.crypt_core.specs.ShaCrypt.{password_string, salt_string, sha_opening, shacrypt_digest}
 use Rattle.crypt_core.specs.Private.Counting.{with_digest}
 use Rattle.crypt_core.specs.Private.RoundStrings.{Strings}
 use Rattle.crypt_core.proofs.CycleLemmas.{length-cycle, length-repeat}
-use Rattle.crypt_core.proofs.MessageLists.{length-messages_to, messages-more, round_length-small}
+use Rattle.crypt_core.proofs.MessageLists.{digest_after-more, digest_after-none, length-messages_to, messages-more, round_length-small}
 use Rattle.crypt_core.proofs.Metering.{digests_in_all, digests_more, four_digests}
-use Rattle.crypt_core.proofs.ShaCryptLemmas.{digest_before-more, digest_before-zero, digest_last, sha_opening_byte-below, length-message_round, message-number, messages-all, messages-four, messages-in_all, round_is, start_bytes}
+use Rattle.crypt_core.proofs.ShaCryptLemmas.{sha_opening_byte-below, length-message_round, message-number, messages-all, messages-four, messages-in_all, round_is, start_bytes}
 use Rattle.crypt_core.proofs.shacrypt.shacrypt.Goals as goal
 
 pub string_of-password_string-requires-clause-bytes_room : goal.string_of-password_string-requires-clause-bytes_room
@@ -70,8 +71,8 @@ rounds-init g c =
     let salted = rw first at c.string_of-salt_string.ensures.count in
     let short : length p ≤ password_limit = c.bytes-password.ensures.password.length_fits in
     let byte = sha_opening_byte-below h g.H.Counted.LEN g.met.H.Counted.length_digest p s g.met.H.Counted.at_least_1 g.met.H.Counted.digest_bytes in
-    let times : 16 + get_or (sha_opening_digest h p s) 0 0 ≤ 16 + greatest_byte = omega (arith, byte) in (
-      digest ∙ sym (digest_before-zero h p s),
+    let times : 16 + get_or (sha_opening h p s) 0 0 ≤ 16 + greatest_byte = omega (arith, byte) in (
+      digest ∙ sym (digest_after-none h (sha_opening h p s) (password_string h p) (salt_string h p s)),
       c.opening-digest.ensures.length,
       rw (messages-four h p s)
           (four_digests a (with_digest a (alternate_message p s)) c.opening-digest.new.meter c.string_of-password_string.new.meter c.string_of-salt_string.new.meter
@@ -82,8 +83,8 @@ rounds-init g c =
         ap (λ m. m.bytes) repeated,
         ap (λ m. m.bytes) salted,
         length-repeat (length p) p,
-        length-repeat (16 + get_or (sha_opening_digest h p s) 0 0) s,
-        start_bytes h g.H.Counted.LEN g.met.H.Counted.length_digest p s (16 + get_or (sha_opening_digest h p s) 0 0) g.met.H.Counted.at_most_64 short c.requires.salt times,
+        length-repeat (16 + get_or (sha_opening h p s) 0 0) s,
+        start_bytes h g.H.Counted.LEN g.met.H.Counted.length_digest p s (16 + get_or (sha_opening h p s) 0 0) g.met.H.Counted.at_most_64 short c.requires.salt times,
       ),
     )
 
@@ -105,7 +106,7 @@ returns-clause-digest g c =
     let p = c.args.password.now in
     let s = c.args.salt.now in
     let last : c.rounds.i ≡ c.args.rounds = omega arith in
-    rw last at c.rounds.invariant.0 ∙ digest_last h p s c.args.rounds (omega (arith, c.requires.least_rounds))
+    rw last at c.rounds.invariant.0
 
 pub returns-clause-count : goal.returns-clause-count
 returns-clause-count g c =
@@ -141,7 +142,7 @@ rounds-preserved g c =
     let same = round_is h p s i c.as_slice-in-rounds.result.now strings.password strings.salt digest_is password_is salt_is in
     let next : c.rounds.i + 1 + 4 ≡ c.rounds.i + 4 + 1 = omega arith in
     let counted = digests_more c.args.meter.now c.rounds.meter c.round-digest.new.meter _ _ c.rounds.invariant.2 c.round-digest.ensures.count in (
-      c.round-digest.ensures.digest ∙ (ap h same ∙ sym (digest_before-more h p s i)),
+      c.round-digest.ensures.digest ∙ (ap h same ∙ sym (digest_after-more h (sha_opening h p s) (password_string h p) (salt_string h p s) i)),
       c.round-digest.ensures.length,
       rw (next, messages-more (shacrypt_message h p s) (i + 4), message-number h p s i, ← same) counted,
       omega (

@@ -1,9 +1,9 @@
 use Rattle.std.proofs.Common.{sym}
 use Rattle.crypt_core.proofs.CycleLemmas.{length-repeat}
-use Rattle.crypt_core.proofs.Metering.{digest_after}
+use Rattle.crypt_core.proofs.Metering.{digest_counted}
 use Rattle.crypt_core.proofs.shacrypt.string_of.Goals as goal
 
 pub returns-clause-count : goal.returns-clause-count
 returns-clause-count g c =
-    digest_after c.args.meter.now c.feed_repeated.new.meter c.finish-digest.new.meter _ _ c.feed_repeated.ensures.count c.finish-digest.ensures.count
+    digest_counted c.args.meter.now c.feed_repeated.new.meter c.finish-digest.new.meter _ _ c.feed_repeated.ensures.count c.finish-digest.ensures.count
     (sym (length-repeat c.args.times c.args.piece.now))

@@ -6,9 +6,9 @@ use Rattle.kdf_core.proofs.hmac.block_of.Goals as goal
 
 pub returns-then-key-gt-SHA256_BLOCK-clause-block : goal.returns-then-key-gt-SHA256_BLOCK-clause-block
 returns-then-key-gt-SHA256_BLOCK-clause-block c =
-    let digest = c.digest_of-digest.result in
+    let digest = c.sha256_of-digest.result in
     let kept = c.copy_from_slice.new.self in
-    let digest_is : digest ≡ sha256 c.args.key.now = c.digest_of-digest.ensures.digest ∙ ap sha256 (append-nil _ ∙ append-nil _) in
+    let digest_is : digest ≡ sha256 c.args.key.now = c.sha256_of-digest.ensures.digest ∙ ap sha256 (append-nil _ ∙ append-nil _) in
     long_block c.args.key.now kept c.if-key-gt-SHA256_BLOCK.true (c.copy_from_slice.ensures.after ∙ digest_is) (omega arith)
 
 pub returns-else-key-gt-SHA256_BLOCK-clause-block : goal.returns-else-key-gt-SHA256_BLOCK-clause-block

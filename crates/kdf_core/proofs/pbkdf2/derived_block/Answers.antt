@@ -1,15 +1,17 @@
 use Rattle.std.proofs.Common.{◌≡◌, ◌≤◌, ℕ, List, [], ◌+◌, ◌++◌, length, sym, ap, ◌∙◌, arith}
 use Rattle.prims_core.specs.Meter.{with_work}
 use Rattle.prims_core.specs.Words.{xor_lists}
-use Rattle.kdf_core.specs.Hmac.{hmac_sha256, IsKeyOf, tag_bytes}
-use Rattle.kdf_core.specs.Pbkdf2.{chain, block, block_bytes}
+use Rattle.kdf_core.specs.Hmac.{hmac_sha256, tag_bytes}
+use Rattle.kdf_core.specs.HmacMessages.{IsKeyOf}
+use Rattle.kdf_core.specs.Pbkdf2.{chain, block}
+use Rattle.kdf_core.specs.Pbkdf2Messages.{block_bytes}
 use Rattle.kdf_core.proofs.Metering.{work_more}
 use Rattle.kdf_core.proofs.Pbkdf2Lemmas.{chain-one, chain-more, block-one, block-more}
 use Rattle.kdf_core.proofs.pbkdf2.derived_block.Goals as goal
 
 -- the first tag is U_1
 first_is : (c : goal.After-tag-last) (password : List ℕ) → IsKeyOf c.args.key.now password
-    → c.tag-last.result ≡ chain hmac_sha256 password c.args.salt.now c.args.number 1
+    → c.tag-last.result ≡ chain password c.args.salt.now c.args.number 1
 first_is c password of_key =
     c.tag-last.ensures.tag password of_key
     ∙ (ap (λ (x : List ℕ). hmac_sha256 password (c.args.salt.now ++ x)) c.number_be.ensures
@@ -33,14 +35,14 @@ rounds-preserved c =
     let n = c.rounds.counter in
     let before = c.rounds.invariant in
     let some : 1 ≤ n = omega arith in
-    let last : (password : List ℕ) → IsKeyOf c.args.key.now password → c.tag-last-in-rounds.result ≡ chain hmac_sha256 password salt i (n + 1) =
+    let last : (password : List ℕ) → IsKeyOf c.args.key.now password → c.tag-last-in-rounds.result ≡ chain password salt i (n + 1) =
     λ password of_key. c.tag-last-in-rounds.ensures.tag password of_key
     ∙ (ap (λ (x : List ℕ). hmac_sha256 password (x ++ [])) (before.last password of_key) ∙ sym (chain-more password salt i n)) in
     record {
       last = last;
       sum = λ password of_key. c.xor_into.ensures
           ∙ (ap (λ (x : List ℕ). xor_lists x c.tag-last-in-rounds.result) (before.sum password of_key)
-          ∙ (ap (λ (x : List ℕ). xor_lists (block hmac_sha256 password salt n i) x) (last password of_key)
+          ∙ (ap (λ (x : List ℕ). xor_lists (block password salt n i) x) (last password of_key)
           ∙ sym (block-more password salt i n some)));
       count = work_more c.args.meter.now c.rounds.meter c.tag-last-in-rounds.new.meter _ _ _ _ _ _ before.count
           c.tag-last-in-rounds.ensures.count (omega arith) (omega arith);

@@ -1,13 +1,14 @@
 use Rattle.std.proofs.Common.{◌≡◌, ℕ, ◌*◌, List, length}
 use Rattle.prims_core.specs.Meter.{with_work}
-use Rattle.kdf_core.specs.Hmac.{hmac_sha256, IsKeyOf}
-use Rattle.kdf_core.specs.Pbkdf2.{chain, block, block_bytes}
+use Rattle.kdf_core.specs.HmacMessages.{IsKeyOf}
+use Rattle.kdf_core.specs.Pbkdf2.{chain, block}
+use Rattle.kdf_core.specs.Pbkdf2Messages.{block_bytes}
 use Rattle.kdf_core.proofs.pbkdf2.derived_block.Given as goal
 
 -- the last tag, the block of so many rounds, and their work
 abbrev pub invariant-rounds : goal.invariant-rounds
 invariant-rounds l = record {
-  last : (password : List ℕ) → IsKeyOf l.key password → l.last ≡ chain hmac_sha256 password l.salt l.number l.counter;
-  sum : (password : List ℕ) → IsKeyOf l.key password → l.sum ≡ block hmac_sha256 password l.salt l.counter l.number;
+  last : (password : List ℕ) → IsKeyOf l.key password → l.last ≡ chain password l.salt l.number l.counter;
+  sum : (password : List ℕ) → IsKeyOf l.key password → l.sum ≡ block password l.salt l.counter l.number;
   count : l.meter ≡ with_work l.fn.meter (2 * l.counter) (block_bytes (length l.salt) l.counter);
 }

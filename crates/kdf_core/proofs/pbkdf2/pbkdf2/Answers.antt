@@ -2,8 +2,8 @@ use Rattle.std.proofs.Common.{◌≡◌, ℕ, ◌+◌, ◌*◌, ◌<◌, ◌≤�
 use Rattle.std.specs.Int.{div_ceil}
 use Rattle.std.proofs.Math.Nat.{mul-le-mul_left, mul-le-mul_right}
 use Rattle.std.proofs.lemmas.Grind.{div_ceil_times}
-use Rattle.kdf_core.specs.Hmac.{hmac_sha256}
-use Rattle.kdf_core.specs.Pbkdf2.{block, block_bytes}
+use Rattle.kdf_core.specs.Pbkdf2.{block}
+use Rattle.kdf_core.specs.Pbkdf2Messages.{block_bytes}
 use Rattle.kdf_core.proofs.Metering.{work_more}
 use Rattle.kdf_core.proofs.Pbkdf2Lemmas.{front_more, front_all}
 use Rattle.kdf_core.proofs.pbkdf2.pbkdf2.Goals as goal
@@ -31,7 +31,7 @@ filling-preserved c =
     let inside : 32 * i < room = omega (arith, (div_ceil_times room 32 (omega arith)).1) in
     let before = c.filling.invariant in
     record {
-      front = λ password of_key. front_more (block hmac_sha256 password salt rounds) c.filling.out c.put_block.new.out
+      front = λ password of_key. front_more (block password salt rounds) c.filling.out c.put_block.new.out
           c.derived_block-block.result room i inside c.filling.auto.out (before.front password of_key)
           (c.derived_block-block.ensures.block password of_key)
           (c.put_block.ensures ∙ ap (λ n. take (32 * i) c.filling.out ++ take (n - 32 * i) c.derived_block-block.result) c.filling.auto.out);

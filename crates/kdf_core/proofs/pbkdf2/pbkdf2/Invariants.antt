@@ -1,14 +1,15 @@
 use Rattle.std.proofs.Common.{◌≡◌, ℕ, ◌*◌, List, length, take}
 use Rattle.std.specs.List.{flat_map, range_with_len}
 use Rattle.prims_core.specs.Meter.{with_work}
-use Rattle.kdf_core.specs.Hmac.{hmac_sha256, IsKeyOf}
-use Rattle.kdf_core.specs.Pbkdf2.{block, block_bytes}
+use Rattle.kdf_core.specs.HmacMessages.{IsKeyOf}
+use Rattle.kdf_core.specs.Pbkdf2.{block}
+use Rattle.kdf_core.specs.Pbkdf2Messages.{block_bytes}
 use Rattle.kdf_core.proofs.pbkdf2.pbkdf2.Given as goal
 
 -- the blocks so far stand in front, as far as there is room, and their work is in the meter
 abbrev pub invariant-filling : goal.invariant-filling
 invariant-filling l = record {
   front : (password : List ℕ) → IsKeyOf l.key password
-      → take (32 * l.i) l.out ≡ take (length l.fn.out) (flat_map (block hmac_sha256 password l.salt l.rounds) (range_with_len 1 l.i));
+      → take (32 * l.i) l.out ≡ take (length l.fn.out) (flat_map (block password l.salt l.rounds) (range_with_len 1 l.i));
   count : l.meter ≡ with_work l.fn.meter (2 * l.rounds * l.i) (l.i * block_bytes (length l.salt) l.rounds);
 }

@@ -1,10 +1,13 @@
 use Rattle.std.proofs.Common.{◌≡◌, ℕ, ◌+◌, ◌*◌, ◌∙◌, List, length, ap, refl, replicate, inr, arith, rules}
 use Rattle.std.proofs.lemmas.List.{length-replicate}
 use Rattle.kdf_core.specs.Params.{row_count}
-use Rattle.kdf_core.specs.Scrypt.{parts_bytes}
-use Rattle.kdf_core.specs.ScryptWork.{table_bytes, halves_bytes, scrypt_mixes, with_scrypt, IsAfterRefusal}
-use Rattle.kdf_core.specs.Pbkdf2.{pbkdf2_sha256, pbkdf2_digests, pbkdf2_bytes}
-use Rattle.kdf_core.specs.Hmac.{key_digests, key_bytes}
+use Rattle.kdf_core.specs.Scrypt.{part_bytes, parts_bytes}
+use Rattle.kdf_core.specs.ScryptMessages.{with_scrypt}
+use Rattle.kdf_core.specs.ScryptWork.{table_bytes, IsAfterRefusal}
+use Rattle.kdf_core.specs.Pbkdf2.{pbkdf2_sha256}
+use Rattle.kdf_core.specs.Pbkdf2Messages.{pbkdf2_digests, pbkdf2_bytes}
+use Rattle.kdf_core.specs.Hmac.{key_digests}
+use Rattle.kdf_core.specs.HmacMessages.{key_bytes}
 use Rattle.kdf_core.proofs.MessageCounts.{scrypt-in_all}
 use Rattle.kdf_core.proofs.ScryptBounds.{rows_power, parts-product, parts-fit, table-product, all_bytes-fit}
 use Rattle.kdf_core.proofs.ScryptValue.{after_two_growths, same_length, counts-are, same_counts, digests-are, bytes-are, value-is}
@@ -109,12 +112,12 @@ returns-clause-count c =
     same_length c.in_ok-parts.parts c.pbkdf2.new.out c.bytes_mut-2.result.now c.mix_parts.new.parts c.bytes.result.now
     (c.pbkdf2.auto.out ∙ ap length held) c.bytes_mut-2.ensures.value c.mix_parts.auto.parts c.bytes.ensures in
     let table = table-product cost n r c.row_count-rows.ensures.number c.r-r.ensures.number in
-    let digests = digests-are cost password_length count (length c.bytes_mut.result.now) (ap length held ∙ whole) in
+    let digests = digests-are cost password_length salt_length count (length c.bytes_mut.result.now) (ap length held ∙ whole) in
     let bytes = bytes-are cost password_length salt_length count (length c.bytes_mut.result.now) (length c.bytes.result.now)
     (ap length held ∙ whole) (last ∙ whole) in
-    let mixes : 2 * n * c.p-p.result ≡ scrypt_mixes cost =
+    let mixes : 2 * n * c.p-p.result ≡ 2 * row_count cost * cost.p =
     ap (λ k. 2 * k * c.p-p.result) c.row_count-rows.ensures.number ∙ ap (λ k. 2 * row_count cost * k) c.p-p.ensures.number in
-    let halves : 4 * (64 * r) ≡ halves_bytes cost = omega (arith, c.r-r.ensures.number) in
+    let halves : 4 * (64 * r) ≡ 2 * part_bytes cost = omega (arith, c.r-r.ensures.number) in
     counts-are before c.new.new.meter c.new-2.new.meter c.new-3.new.meter c.new-key.new.meter c.pbkdf2.new.meter c.mix_parts.new.meter
     c.pbkdf2-2.new.meter (4 * (n * (32 * r))) (128 * r * c.p-p.result) (4 * (64 * r)) (key_digests password_length) (key_bytes password_length)
     (pbkdf2_digests 1 (length c.bytes_mut.result.now)) (pbkdf2_bytes salt_length 1 (length c.bytes_mut.result.now)) (2 * n * c.p-p.result)

@@ -1,7 +1,6 @@
 use Rattle.std.proofs.Common.{◌≡◌, ℕ, ◌*◌, ◌^◌, ◌≤◌, ◌∙◌, refl, arith, rules}
 use Rattle.std.proofs.Math.Nat.{mul-le-mul}
 use Rattle.kdf_core.specs.Hmac.{key_digests}
-use Rattle.kdf_core.specs.ScryptWork.{scrypt_bytes, scrypt_digests}
 use Rattle.kdf_core.proofs.ScryptBounds.{known_bytes-fit}
 use Rattle.kdf_core.proofs.work.scrypt_work.Goals as goal
 
@@ -26,7 +25,6 @@ overflow_add-result-4 c =
     omega (arith, fit)
 
 pub returns-clause-work : goal.returns-clause-work
-unfolding scrypt_bytes scrypt_digests
 returns-clause-work c =
     let n = c.from-rows.ensures ∙ c.row_count.ensures.number in
     let r = c.from-r.ensures ∙ c.r.ensures.number in

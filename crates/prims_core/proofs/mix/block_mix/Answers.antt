@@ -1,5 +1,6 @@
 use Rattle.std.proofs.Common.{◌≡◌, ◌+◌, ◌/◌, length, ap₂, sym, ◌∙◌, arith}
-use Rattle.prims_core.specs.BlockMix.{mixed_block, x_after, y_at, block_mix}
+use Rattle.prims_core.specs.BlockMix.{x_after, block_mix}
+use Rattle.prims_core.specs.Private.Mixing.{mixed_block, y_at}
 use Rattle.prims_core.proofs.MixFacts.{x_after-none, x_after-more, in_order}
 use Rattle.prims_core.proofs.mix.block_mix.Goals as goal
 

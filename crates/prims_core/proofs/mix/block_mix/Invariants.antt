@@ -1,6 +1,6 @@
 use Rattle.std.proofs.Common.{◌≡◌}
-use Rattle.prims_core.specs.BlockMix.{x_after, y_at}
-use Rattle.prims_core.specs.Private.Mixing.{ArePlaced}
+use Rattle.prims_core.specs.BlockMix.{x_after}
+use Rattle.prims_core.specs.Private.Mixing.{y_at, ArePlaced}
 use Rattle.prims_core.proofs.mix.block_mix.Given as goal
 
 -- x is X before block i is mixed, and the results before that block stand at their places

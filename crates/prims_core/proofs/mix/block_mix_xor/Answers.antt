@@ -1,6 +1,6 @@
 use Rattle.std.proofs.Common.{◌≡◌, ◌+◌, ◌-◌, ◌*◌, ◌/◌, length, ap, ap₂, sym, ◌∙◌, length-take, length-drop, arith}
-use Rattle.prims_core.specs.BlockMix.{mixed_block, x_after, y_at, block_mix}
-use Rattle.prims_core.specs.Private.Mixing.{IsXored}
+use Rattle.prims_core.specs.BlockMix.{x_after, block_mix}
+use Rattle.prims_core.specs.Private.Mixing.{mixed_block, y_at, IsXored}
 use Rattle.prims_core.specs.Words.{xor_lists}
 use Rattle.prims_core.specs.declared.mix.TheConstants.{AHEAD}
 use Rattle.prims_core.proofs.MixFacts.{x_after-none, x_after-more, in_order, xored_at, xored-all}

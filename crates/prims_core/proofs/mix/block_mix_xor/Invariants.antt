@@ -1,6 +1,6 @@
 use Rattle.std.proofs.Common.{◌≡◌, ◌+◌}
-use Rattle.prims_core.specs.BlockMix.{x_after, y_at}
-use Rattle.prims_core.specs.Private.Mixing.{ArePlaced, IsXored}
+use Rattle.prims_core.specs.BlockMix.{x_after}
+use Rattle.prims_core.specs.Private.Mixing.{y_at, ArePlaced, IsXored}
 use Rattle.prims_core.specs.Words.{xor_lists}
 use Rattle.prims_core.specs.declared.mix.TheConstants.{AHEAD}
 use Rattle.prims_core.proofs.mix.block_mix_xor.Given as goal

@@ -1,4 +1,3 @@
-use Rattle.kdf_core.specs.Hmac.{ipad, opad}
 use Rattle.kdf_core.proofs.HmacLemmas.{padded_is}
 use Rattle.kdf_core.proofs.hmac.HmacKey.new.Goals as goal
 
@@ -7,6 +6,6 @@ returns-clause-key c =
     let key = c.args.key.now in
     let block = c.block_of-block.result in
     record {
-      inner = padded_is key block c.padded.result ipad c.block_of-block.ensures.block c.padded.ensures;
-      outer = padded_is key block c.padded-2.result opad c.block_of-block.ensures.block c.padded-2.ensures;
+      inner = padded_is key block c.padded.result 0x36 c.block_of-block.ensures.block c.padded.ensures;
+      outer = padded_is key block c.padded-2.result 0x5c c.block_of-block.ensures.block c.padded-2.ensures;
     }

@@ -1,0 +1,70 @@
+-- The messages that md5crypt and SHA-crypt digest, by their numbers from 0 on: 1,002 in md5crypt, and R + 4 in SHA-crypt
+-- for R rounds.
+use Rattle.std.specs.Prelude.{ℕ, zero, suc, ◌+◌, List, [], ◌∷◌, ◌++◌, length, take, map}
+use Rattle.std.specs.List.{range_with_len, repeat}
+use Rattle.prims_core.specs.Digests.{md5}
+use Rattle.crypt_core.specs.Cycle.{cycle, digit_pieces}
+use Rattle.crypt_core.specs.Md5crypt.{md5crypt_opening, md5crypt_rounds}
+use Rattle.crypt_core.specs.Methods.{prefix}
+use Rattle.crypt_core.specs.RoundMessage.{alternate_message, digest_after, round_message}
+use Rattle.crypt_core.specs.ShaCrypt.{password_string, salt_string, sha_opening, sha_opening_byte}
+use Rattle.crypt_core.specs.declared.method.Method.TheVariants as methods
+
+-- md5crypt
+
+-- the second message, which `md5crypt_opening` is the digest of
+abbrev pub opening_message : List ℕ → List ℕ → List ℕ
+opening_message password salt =
+    password ++ prefix methods.Md5crypt ++ salt
+    ++ cycle (md5 (alternate_message password salt)) (length password)
+    ++ digit_pieces (0 ∷ []) (take 1 password) (length password)
+
+-- message k. That of round i is number i + 2
+unfoldable pub md5crypt_message : List ℕ → List ℕ → ℕ → List ℕ
+md5crypt_message password salt zero = alternate_message password salt
+md5crypt_message password salt (suc zero) = opening_message password salt
+md5crypt_message password salt (suc (suc i)) =
+    round_message i (digest_after md5 (md5crypt_opening password salt) password salt i) password salt
+
+-- all messages in order
+unfoldable pub md5crypt_messages : List ℕ → List ℕ → List (List ℕ)
+md5crypt_messages password salt = map (md5crypt_message password salt) (range_with_len 0 (md5crypt_rounds + 2))
+
+-- SHA-crypt over the digest function h
+
+-- the second message, which `sha_opening` is the digest of
+abbrev pub sha_opening_message : (List ℕ → List ℕ) → List ℕ → List ℕ → List ℕ
+sha_opening_message h password salt =
+    password ++ salt
+    ++ cycle (h (alternate_message password salt)) (length password)
+    ++ digit_pieces (h (alternate_message password salt)) password (length password)
+
+-- the third message, for `password_string`
+abbrev pub password_repeated : List ℕ → List ℕ
+password_repeated password = repeat (length password) password
+
+-- the fourth message, for `salt_string`
+abbrev pub salt_repeated : (List ℕ → List ℕ) → List ℕ → List ℕ → List ℕ
+salt_repeated h password salt = repeat (16 + sha_opening_byte h password salt) salt
+
+-- the digest before round i
+abbrev pub sha_digest_before : (List ℕ → List ℕ) → List ℕ → List ℕ → ℕ → List ℕ
+sha_digest_before h password salt i =
+    digest_after h (sha_opening h password salt) (password_string h password) (salt_string h password salt) i
+
+-- the message of round i, where x is the digest before it
+abbrev pub sha_round_message : (List ℕ → List ℕ) → List ℕ → List ℕ → ℕ → List ℕ → List ℕ
+sha_round_message h password salt i x = round_message i x (password_string h password) (salt_string h password salt)
+
+-- message k. That of round i is number i + 4
+unfoldable pub shacrypt_message : (List ℕ → List ℕ) → List ℕ → List ℕ → ℕ → List ℕ
+shacrypt_message h password salt zero = alternate_message password salt
+shacrypt_message h password salt (suc zero) = sha_opening_message h password salt
+shacrypt_message h password salt (suc (suc zero)) = password_repeated password
+shacrypt_message h password salt (suc (suc (suc zero))) = salt_repeated h password salt
+shacrypt_message h password salt (suc (suc (suc (suc i)))) =
+    sha_round_message h password salt i (sha_digest_before h password salt i)
+
+-- all messages of this many rounds, in order
+unfoldable pub shacrypt_messages : (List ℕ → List ℕ) → List ℕ → List ℕ → ℕ → List (List ℕ)
+shacrypt_messages h password salt rounds = map (shacrypt_message h password salt) (range_with_len 0 (rounds + 4))

@@ -1,0 +1,28 @@
+-- The messages that scrypt digests (RFC 7914, section 6), and the meter after scrypt.
+use Rattle.std.specs.Prelude.{ℕ, List, ◌++◌}
+use Rattle.std.specs.List.{flat_map}
+use Rattle.prims_core.specs.Words.{chunks_exact}
+use Rattle.prims_core.specs.Work.{raised_by}
+use Rattle.prims_core.specs.declared.meter.Work.{Work}
+use Rattle.kdf_core.specs.HmacMessages.{key_messages}
+use Rattle.kdf_core.specs.Params.{ScryptCost, row_count}
+use Rattle.kdf_core.specs.Pbkdf2.{pbkdf2_sha256}
+use Rattle.kdf_core.specs.Pbkdf2Messages.{pbkdf2_messages}
+use Rattle.kdf_core.specs.Scrypt.{mixed_part, part_bytes, parts_bytes}
+use Rattle.kdf_core.specs.ScryptWork.{scrypt_work}
+
+-- each part of size bytes under ROMix with N rows, joined
+unfoldable pub mixed_parts : ℕ → ℕ → List ℕ → List ℕ
+mixed_parts n size bytes = flat_map (mixed_part n) (chunks_exact bytes size)
+
+-- the messages: the password if it is longer than a block of SHA-256, and then those of both derivations
+unfoldable pub scrypt_messages : List ℕ → List ℕ → ScryptCost → ℕ → List (List ℕ)
+scrypt_messages password salt cost count =
+    let derived = pbkdf2_sha256 password salt 1 (parts_bytes cost) in
+    key_messages password ++ pbkdf2_messages password salt 1 (parts_bytes cost)
+    ++ pbkdf2_messages password (mixed_parts (row_count cost) (part_bytes cost) derived) 1 count
+
+-- the counts of a meter after scrypt
+abbrev pub with_scrypt : Work → ScryptCost → ℕ → ℕ → ℕ → Work
+with_scrypt counts cost password_length salt_length count =
+    raised_by counts (scrypt_work cost password_length salt_length count)
