@@ -1,5 +1,5 @@
 -- Lemmas on the messages of SHA-crypt.
-use Rattle.crypt_core.specs.Methods.{shacrypt_salt_limit}
+use Rattle.crypt_core.specs.MethodLimits.{shacrypt_salt_limit}
 use Rattle.crypt_core.specs.Passwords.{password_limit}
 use Rattle.std.proofs.Common.{◌≡◌, ℕ, zero, suc, ◌+◌, ◌*◌, ◌≤◌, ◌<◌, List, [], ◌∷◌, ◌++◌, length, arith, refl, ap, ◌∙◌}
 use Rattle.std.specs.Prelude.{sum_by, All}

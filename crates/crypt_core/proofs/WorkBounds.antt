@@ -1,5 +1,5 @@
 -- Lemmas on the bound of the work of a hash.
-use Rattle.crypt_core.specs.Methods.{scrypt_salt_limit}
+use Rattle.crypt_core.specs.MethodLimits.{scrypt_salt_limit}
 use Rattle.crypt_core.specs.Passwords.{password_limit}
 use Rattle.std.proofs.Common.{ℕ, ◌+◌, ◌*◌, ◌^◌, ◌<◌, ◌≤◌, arith}
 use Rattle.std.proofs.lemmas.Bool.Decides.{nat_tests}

@@ -10,7 +10,7 @@ use Rattle.prims_core.specs.declared.meter.Work.{Work}
 use Rattle.kdf_core.specs.ScryptWork.{mixed_bytes, scrypt_work}
 use Rattle.crypt_core.specs.Cycle.{digit_bytes}
 use Rattle.crypt_core.specs.Md5crypt.{md5crypt_rounds}
-use Rattle.crypt_core.specs.Methods.{digest_len}
+use Rattle.crypt_core.specs.Methods.{method_row}
 use Rattle.crypt_core.specs.Settings.{SettingValue}
 use Rattle.crypt_core.specs.ShaCrypt.{sha_opening_byte}
 use Rattle.crypt_core.specs.declared.method.Method.TheVariants as methods
@@ -30,7 +30,7 @@ rounds_bytes n digest_length password_length salt_length =
 abbrev pub md5crypt_bytes : ℕ → ℕ → ℕ
 md5crypt_bytes password_length salt_length =
     2 * password_length + salt_length + (2 * password_length + salt_length + 3 + digit_bytes 1 1 password_length)
-    + rounds_bytes md5crypt_rounds (digest_len methods.Md5crypt) password_length salt_length
+    + rounds_bytes md5crypt_rounds (method_row methods.Md5crypt).digest_len password_length salt_length
 
 -- SHA-crypt: two passwords and a salt; the same, with a digest for each binary digit 1 of the password's
 -- length and the password for each 0; the password as often as it has bytes; the salt 16 times and once more for
@@ -63,10 +63,10 @@ shacrypt_work digest_length a rounds password_length salt_length =
 abbrev pub work_by : Scheme → ℕ → ℕ → ℕ → Work
 work_by Md5crypt a password_length salt_length = md5crypt_work password_length salt_length
 work_by (Sha256crypt rounds) a password_length salt_length =
-    shacrypt_work (digest_len methods.Sha256crypt) a rounds.count password_length salt_length
+    shacrypt_work (method_row methods.Sha256crypt).digest_len a rounds.count password_length salt_length
 work_by (Sha512crypt rounds) a password_length salt_length =
-    shacrypt_work (digest_len methods.Sha512crypt) a rounds.count password_length salt_length
-work_by (Scrypt cost) a password_length salt_length = scrypt_work cost password_length salt_length (digest_len methods.Scrypt)
+    shacrypt_work (method_row methods.Sha512crypt).digest_len a rounds.count password_length salt_length
+work_by (Scrypt cost) a password_length salt_length = scrypt_work cost password_length salt_length (method_row methods.Scrypt).digest_len
 
 -- A's first byte in SHA-crypt, and 0 elsewhere, where the work has none
 abbrev pub first_byte_by : Scheme → List ℕ → List ℕ → ℕ

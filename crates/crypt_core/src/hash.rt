@@ -5,12 +5,13 @@ ghost use Rattle.kdf_core.specs.Params.{IsBounded};
 ghost use Rattle.kdf_core.specs.Scrypt.{scrypt};
 ghost use Rattle.kdf_core.specs.ScryptWork.{with_scrypt, IsAfterRefusal};
 ghost use Rattle.crypt_core.specs.declared.method.Method.TheVariants.{Scrypt};
-ghost use Rattle.crypt_core.specs.Crypt.{crypt, digest_by, hash_limit, IsAfterRefusedGrowth};
-ghost use Rattle.crypt_core.specs.Methods.{digest_len};
+ghost use Rattle.crypt_core.specs.Crypt.{crypt, digest_by, IsAfterRefusedGrowth};
+ghost use Rattle.crypt_core.specs.TextLimits.{hash_limit};
 ghost use Rattle.crypt_core.specs.Packing.{packed};
 ghost use Rattle.crypt_core.specs.Settings.{Spells, canonical_text, dollar};
 ghost use Rattle.crypt_core.specs.Schemes.{method_of};
 ghost use Rattle.crypt_core.specs.Work.{raised_by, work, work_limit, IsBelow};
+ghost use Rattle.crypt_core.specs.MethodLimits.{digest_len};
 
 use crate::md5crypt::md5crypt;
 use crate::pack::{SCRYPT_PACKED_LEN, pack, packed_len};
@@ -39,13 +40,12 @@ pub struct Hashed {
 
 impl Model for Hashed {
     ghost use Rattle.std.specs.Prelude.{ℕ, List, length, ◌≤◌};
-    ghost use Rattle.crypt_core.specs.Crypt.{hash_limit};
 
     ghost Value = { List ℕ };
 
     ghost view = { λ h. h.text.items };
 
-    ghost invariant = { λ h. length h.text.items ≤ hash_limit };
+    ghost invariant = { λ h. length h.text.items ≤ 144 };
 }
 
 impl Hashed {

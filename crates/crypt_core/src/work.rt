@@ -2,7 +2,7 @@
 //! too much. It is the closed form of what the meter counts, step by step of each scheme.
 ghost use Rattle.std.specs.Prelude.{◌≡◌, ℕ, ◌+◌, ◌*◌, ◌^◌, ◌<◌, ◌≤◌, List, length};
 ghost use Rattle.crypt_core.specs.Cycle.{by_digit, digit_bytes};
-ghost use Rattle.crypt_core.specs.Methods.{md5crypt_salt_limit, salt_limit, scrypt_salt_limit, shacrypt_salt_limit};
+ghost use Rattle.crypt_core.specs.MethodLimits.{md5crypt_salt_limit, salt_limit, scrypt_salt_limit, shacrypt_salt_limit};
 ghost use Rattle.crypt_core.specs.Passwords.{password_limit, IsPassword};
 ghost use Rattle.crypt_core.specs.Rounds.{max_rounds};
 ghost use Rattle.crypt_core.specs.Schemes.{method_of};
