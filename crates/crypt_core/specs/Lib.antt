@@ -25,3 +25,4 @@ pub mod ShaCrypt
 pub mod StoredFields
 pub mod TextLimits
 pub mod Work
+pub mod WorkBytes

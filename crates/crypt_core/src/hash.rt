@@ -1,6 +1,6 @@
 //! The text of crypt(3): a password, hashed by a setting.
-ghost use Rattle.std.specs.Prelude.{◌≡◌, ℕ, ◌≤◌, ◌∷◌, ◌++◌, List, length, IfOk, OnOk, OnErr};
-ghost use Rattle.prims_core.specs.Meter.{HasRoom};
+ghost use Rattle.std.specs.Prelude.{◌≡◌, ℕ, ◌^◌, ◌≤◌, ◌∷◌, ◌++◌, List, length, IfOk, OnOk, OnErr};
+ghost use Rattle.prims_core.specs.Work.{IsAtMost};
 ghost use Rattle.kdf_core.specs.Params.{IsBounded};
 ghost use Rattle.kdf_core.specs.Scrypt.{scrypt};
 ghost use Rattle.kdf_core.specs.ScryptWork.{with_scrypt, IsAfterRefusal};
@@ -97,7 +97,7 @@ pub fn hash(
     setting: &Setting,
     meter: &mut Meter,
 ) -> Result<Hashed, HashFault>
-    requires { HasRoom meter.old }
+    requires { IsAtMost meter.old (2 ^ 120) }
     ensures text { IfOk result (λ hashed. hashed ≡ crypt password.now setting.now) }
     ensures spells { IfOk result (λ hashed. Spells hashed setting.now) }
     ensures count { OnOk result (meter.new ≡ raised_by meter.old (work password.now setting.now)) }
@@ -129,7 +129,7 @@ fn digest_of(
     setting: &Setting,
     meter: &mut Meter,
 ) -> Result<ArrayVec<u8, 64>, AllocError>
-    requires { HasRoom meter.old }
+    requires { IsAtMost meter.old (2 ^ 120) }
     ensures digest { IfOk result (λ digest. digest.items
         ≡ digest_by setting.now.scheme password.now setting.now.salt) }
     ensures length { IfOk result (λ digest. length digest.items ≡ digest_len (method_of setting.now.scheme)) }
@@ -166,7 +166,7 @@ fn scrypt_digest(
     params: &Params,
     meter: &mut Meter,
 ) -> Result<ArrayVec<u8, 64>, AllocError>
-    requires { HasRoom meter.old }
+    requires { IsAtMost meter.old (2 ^ 120) }
     ensures digest { IfOk result (λ digest. digest.items ≡ scrypt password.now salt.now params.now (digest_len Scrypt)) }
     ensures length { IfOk result (λ digest. length digest.items ≡ digest_len Scrypt) }
     ensures count { OnOk result (meter.new

@@ -7,7 +7,8 @@ ghost use Rattle.crypt_core.specs.Passwords.{password_limit, IsPassword};
 ghost use Rattle.crypt_core.specs.Rounds.{max_rounds};
 ghost use Rattle.crypt_core.specs.Schemes.{method_of};
 ghost use Rattle.crypt_core.specs.ShaCrypt.{sha_opening_byte};
-ghost use Rattle.crypt_core.specs.Work.{bound_by, cost, cost_by, digests_alone, greatest_byte, md5crypt_work, rounds_bytes, shacrypt_work, work, work_bound, work_by, work_limit, IsBelow, IsWithin};
+ghost use Rattle.crypt_core.specs.Work.{cost, cost_by, digests_alone, md5crypt_work, rounds_bytes, shacrypt_work, work, work_bound, work_by, work_limit, IsBelow, IsWithin};
+ghost use Rattle.crypt_core.specs.WorkBytes.{greatest_byte};
 
 use crate::md5crypt::ROUNDS;
 use crate::scheme::Scheme;
@@ -32,7 +33,7 @@ impl Scheme {
     pub fn bound(&self, password_len: usize, salt_len: usize) -> Work
         requires password { password_len ≤ password_limit }
         requires salt { salt_len ≤ salt_limit (method_of self.now) }
-        ensures bound { result ≡ bound_by self.now password_len salt_len }
+        ensures bound { result ≡ work_by self.now 255 password_len salt_len }
         ensures never_passed { (password salt : List ℕ) → IsPassword password → length password ≡ password_len
             → length salt ≡ salt_len → IsWithin (work password (record { scheme = self.now; salt = salt })) result }
         ensures below { IsBelow result work_limit }
