@@ -8,9 +8,9 @@ use Rattle.prims_core.specs.Meter.{HaveCountAndSum}
 use Rattle.crypt_core.specs.Cycle.{cycle, digit_bytes, digit_pieces}
 use Rattle.crypt_core.specs.Md5crypt.{md5crypt_opening, md5crypt_rounds}
 use Rattle.crypt_core.specs.Messages.{md5crypt_message, md5crypt_messages, opening_message}
-use Rattle.crypt_core.specs.Methods.{prefix}
+use Rattle.crypt_core.specs.MethodLimits.{prefix}
 use Rattle.crypt_core.specs.RoundMessage.{alternate_message, digest_after, round_message}
-use Rattle.crypt_core.specs.Work.{md5crypt_bytes}
+use Rattle.crypt_core.specs.WorkBytes.{md5crypt_bytes}
 use Rattle.crypt_core.specs.declared.method.Method.TheVariants.{Md5crypt}
 use Rattle.crypt_core.proofs.CycleLemmas.{length-cycle, length-digit_pieces}
 use Rattle.crypt_core.proofs.MessageLists.{length-messages_to, length-round_message, length-alternate, messages_to, round_length}

@@ -1,5 +1,5 @@
 -- Lemmas on the messages of SHA-crypt.
-use Rattle.crypt_core.specs.Methods.{shacrypt_salt_limit}
+use Rattle.crypt_core.specs.MethodLimits.{shacrypt_salt_limit}
 use Rattle.crypt_core.specs.Passwords.{password_limit}
 use Rattle.std.proofs.Common.{◌≡◌, ℕ, zero, suc, ◌+◌, ◌*◌, ◌≤◌, ◌<◌, List, [], ◌∷◌, ◌++◌, length, arith, refl, ap, ◌∙◌}
 use Rattle.std.specs.Prelude.{sum_by, All}
@@ -10,7 +10,7 @@ use Rattle.crypt_core.specs.Cycle.{cycle, digit_bytes, digit_pieces}
 use Rattle.crypt_core.specs.Messages.{password_repeated, salt_repeated, sha_digest_before, sha_opening_message, sha_round_message, shacrypt_message, shacrypt_messages}
 use Rattle.crypt_core.specs.RoundMessage.{alternate_message, digest_after, round_message}
 use Rattle.crypt_core.specs.ShaCrypt.{sha_opening_byte, password_string, salt_string}
-use Rattle.crypt_core.specs.Work.{greatest_byte, shacrypt_bytes}
+use Rattle.crypt_core.specs.WorkBytes.{greatest_byte, shacrypt_bytes}
 use Rattle.crypt_core.proofs.CycleLemmas.{digit_bytes-few, length-cycle, length-digit_pieces, length-repeat}
 use Rattle.crypt_core.proofs.MessageLists.{length-messages_to, length-round_message, length-alternate, messages_to, round_length}
 use Rattle.crypt_core.proofs.WorkSums.{rounds_sum}

@@ -8,6 +8,7 @@ pub mod MadeSalts
 pub mod MadeSettings
 pub mod Md5crypt
 pub mod Messages
+pub mod MethodLimits
 pub mod Methods
 pub mod Packing
 pub mod PasswordFaults
@@ -23,4 +24,6 @@ pub mod SettingFaults
 pub mod Settings
 pub mod ShaCrypt
 pub mod StoredFields
+pub mod TextLimits
 pub mod Work
+pub mod WorkBytes

@@ -2,14 +2,14 @@
 use Rattle.std.specs.Prelude.{ℕ, List, [], ◌∷◌, ◌++◌, length, take}
 use Rattle.prims_core.specs.Digests.{md5}
 use Rattle.crypt_core.specs.Cycle.{cycle, digit_pieces}
-use Rattle.crypt_core.specs.Methods.{prefix}
+use Rattle.crypt_core.specs.Methods.{method_row}
 use Rattle.crypt_core.specs.RoundMessage.{alternate_message, digest_after}
 use Rattle.crypt_core.specs.declared.method.Method.TheVariants as methods
 
 -- the digest before the rounds. A digit 1 of the password's length stands for a zero byte, and a 0 for the password's
 -- first byte
 abbrev pub md5crypt_opening : List ℕ → List ℕ → List ℕ
-md5crypt_opening password salt = md5 (password ++ prefix methods.Md5crypt ++ salt
+md5crypt_opening password salt = md5 (password ++ (method_row methods.Md5crypt).prefix ++ salt
     ++ cycle (md5 (alternate_message password salt)) (length password)
     ++ digit_pieces (0 ∷ []) (take 1 password) (length password))
 

@@ -5,7 +5,7 @@ use Rattle.std.specs.List.{range_with_len, repeat}
 use Rattle.prims_core.specs.Digests.{md5}
 use Rattle.crypt_core.specs.Cycle.{cycle, digit_pieces}
 use Rattle.crypt_core.specs.Md5crypt.{md5crypt_opening, md5crypt_rounds}
-use Rattle.crypt_core.specs.Methods.{prefix}
+use Rattle.crypt_core.specs.MethodLimits.{prefix}
 use Rattle.crypt_core.specs.RoundMessage.{alternate_message, digest_after, round_message}
 use Rattle.crypt_core.specs.ShaCrypt.{password_string, salt_string, sha_opening, sha_opening_byte}
 use Rattle.crypt_core.specs.declared.method.Method.TheVariants as methods

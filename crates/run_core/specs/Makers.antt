@@ -2,8 +2,9 @@
 use Rattle.std.specs.Prelude.{◌≡◌, ℕ, List, [], length, Option, Some, None, is_some, option_map, if◌then◌else◌}
 use Rattle.std.specs.Borrow.{Bor}
 use Rattle.rand_core.specs.Stream.{Stream}
-use Rattle.crypt_core.specs.MadeSalts.{made_salt_length, three_words}
+use Rattle.crypt_core.specs.MadeSalts.{three_words}
 use Rattle.crypt_core.specs.MadeSettings.{IsMakeable, IsMakeRefused, TakesCost, TakesSalt, salted}
+use Rattle.crypt_core.specs.Methods.{method_row}
 use Rattle.crypt_core.specs.Schemes.{method_of}
 use Rattle.crypt_core.specs.Settings.{SettingValue}
 use Rattle.crypt_core.specs.Work.{cost_by}
@@ -49,7 +50,7 @@ setting_by recipe words = setting_with recipe.scheme recipe.salt words
 
 -- how many bytes of salt each setting has
 abbrev pub salt_length : Scheme → Option (List ℕ) → ℕ
-salt_length scheme None = made_salt_length (method_of scheme)
+salt_length scheme None = (method_row (method_of scheme)).made_salt_length
 salt_length scheme (Some salt) = length salt
 
 -- the greatest cost of a hash of a password of so many bytes
