@@ -4,7 +4,7 @@ use Rattle.std.specs.Borrow.{Bor}
 use Rattle.std.specs.Option.{option_map_or}
 use Rattle.rand_core.specs.Stream.{Stream}
 use Rattle.crypt_core.specs.MadeSalts.{made_salt_length, three_words}
-use Rattle.crypt_core.specs.MadeSettings.{IsMakeable, IsMakeRefused, TakesCost, TakesSalt, salted}
+use Rattle.crypt_core.specs.MadeSettings.{BreaksMake, IsMakeable, IsMakeRefused, TakesCost, TakesSalt, salted}
 use Rattle.crypt_core.specs.Schemes.{method_of}
 use Rattle.crypt_core.specs.Settings.{SettingValue}
 use Rattle.crypt_core.specs.Work.{cost_by}
@@ -36,6 +36,12 @@ IsRecipe method cost (Some salt) = IsMakeable method cost salt
 abbrev pub IsRecipeRefused : Method → ℕ → Option (List ℕ) → MakeFault → Type 0
 IsRecipeRefused method cost None fault = (fault ≡ Cost) × ¬ TakesCost method cost
 IsRecipeRefused method cost (Some salt) fault = IsMakeRefused method cost salt fault
+
+-- A method, a cost and the salt, if one was given, break the rule of a refusal. Without a salt only the cost can.
+abbrev pub BreaksRecipe : Method → ℕ → Option (List ℕ) → MakeFault → Type 0
+BreaksRecipe method cost given Cost = ¬ TakesCost method cost
+BreaksRecipe method cost None fault = ⊥
+BreaksRecipe method cost (Some salt) fault = BreaksMake fault method cost salt
 
 -- a setting with the salt that was given, or with a new one that these words make
 abbrev pub setting_by : Recipe → List ℕ → SettingValue
