@@ -1,5 +1,5 @@
 -- The canonical text of a setting spells it.
-use Rattle.crypt_core.specs.Crypt.{hash_limit}
+use Rattle.crypt_core.specs.TextLimits.{canonical_limit, hash_limit}
 use Rattle.std.proofs.Common.{◌≡◌, ◌≢◌, ℕ, ◌+◌, ◌≤◌, ◌<◌, ◌^◌, Bool, true, false, not, eqb, ◌&&◌, ◌⊎◌, inl, inr, List, [], ◌∷◌, ◌++◌, length, take, drop, get_or, All, length-append, append-nil, refl, sym, ap, subst, ◌∙◌, append_assoc, arith}
 use Rattle.std.specs.Prelude.{Contains, decimal, codes, nat_le}
 use Rattle.std.specs.List.{AllByRecursion, list_all}
@@ -16,10 +16,9 @@ use Rattle.crypt_core.specs.declared.method.Method.{Method}
 use Rattle.crypt_core.specs.declared.method.Method.TheVariants as methods
 use Rattle.crypt_core.specs.declared.scheme.Scheme.{Scheme}
 use Rattle.crypt_core.specs.declared.scheme.Scheme.TheVariants.{Md5crypt, Sha256crypt, Sha512crypt, Scrypt}
-use Rattle.crypt_core.specs.Methods.{prefix, salt_limit, md5crypt_salt_limit, shacrypt_salt_limit, scrypt_salt_limit}
-use Rattle.crypt_core.specs.Packing.{packed_len}
+use Rattle.crypt_core.specs.MethodLimits.{md5crypt_salt_limit, packed_len, prefix, salt_limit, scrypt_salt_limit, shacrypt_salt_limit}
 use Rattle.crypt_core.specs.Schemes.{IsScheme, method_of}
-use Rattle.crypt_core.specs.Settings.{SettingValue, IsSettingByte, dollar, IsEndOfField, IsField, BeginsWith, rounds_word, rounds_field, IsRoundsNumber, scrypt_part, SpellsRounds, SpellsCost, IsScryptSalt, KeepsSalt, Spells, IsSetting, cost_part, canonical_text, setting_limit, canonical_limit}
+use Rattle.crypt_core.specs.Settings.{SettingValue, IsSettingByte, dollar, IsEndOfField, IsField, BeginsWith, rounds_word, rounds_field, IsRoundsNumber, scrypt_part, SpellsRounds, SpellsCost, IsScryptSalt, KeepsSalt, Spells, IsSetting, cost_part, canonical_text, setting_limit}
 use Rattle.crypt_core.specs.Rounds.{IsRounds, default_rounds, rounds, clamped, min_rounds, max_rounds}
 use Rattle.crypt_core.proofs.EachMethod.{each_method}
 use Rattle.crypt_core.proofs.Numerals.{all_scrypt_part, length-scrypt_part}

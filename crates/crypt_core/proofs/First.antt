@@ -8,7 +8,7 @@ use Rattle.crypt_core.specs.declared.scheme.Scheme.{Scheme}
 use Rattle.crypt_core.specs.declared.scheme.Scheme.TheVariants.{Md5crypt, Sha256crypt, Sha512crypt, Scrypt}
 use Rattle.crypt_core.specs.declared.setting.fault.SettingFault.{SettingFault}
 use Rattle.crypt_core.specs.declared.setting.fault.SettingFault.TheVariants.{TooLong, BadCharacter, UnknownScheme, BadRounds, BadCost, ScryptRange, AboveCeiling, BadSalt}
-use Rattle.crypt_core.specs.Methods.{prefix}
+use Rattle.crypt_core.specs.MethodLimits.{prefix}
 use Rattle.crypt_core.specs.Refusals.{IsShaText, LacksRounds, LacksCost, IsScryptText, Breaks, IsRefused, rule_number}
 use Rattle.crypt_core.specs.Settings.{IsSettingByte, IsSettingText, IsField, BeginsWith, scrypt_part, IsScryptSalt, SpellsCost, SpellsScheme, scrypt_part_len, setting_limit}
 use Rattle.crypt_core.specs.Schemes.{method_of}

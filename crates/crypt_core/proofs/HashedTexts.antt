@@ -4,9 +4,10 @@ use Rattle.std.specs.Prelude.{All, Contains, codes}
 use Rattle.std.proofs.lemmas.List.Elements.{All-cons, All-contains, All-from_recursion, All-weaker}
 use Rattle.prims_core.specs.Alphabet.{alphabet}
 use Rattle.crypt_core.specs.Crypt.{crypt, digest_by}
-use Rattle.crypt_core.specs.Packing.{packed, packed_len}
+use Rattle.crypt_core.specs.Packing.{packed}
 use Rattle.crypt_core.specs.Settings.{SettingValue, Spells, IsSettingByte, canonical_text, dollar}
 use Rattle.crypt_core.specs.Schemes.{method_of}
+use Rattle.crypt_core.specs.MethodLimits.{packed_len}
 use Rattle.crypt_core.proofs.Canonical.{canonical_spells_before}
 use Rattle.crypt_core.proofs.Canonical.{character_is_byte}
 use Rattle.std.proofs.lemmas.List.{length-append}

@@ -1,16 +1,20 @@
 -- Lemmas on salts made of random words.
-use Rattle.std.proofs.Common.{◌≡◌, ◌≤◌, ℕ, ◌+◌, List, [], ◌∷◌, ◌++◌, All, arith, refl}
+use Rattle.std.proofs.Common.{◌≡◌, ◌≤◌, ℕ, ◌+◌, ◌*◌, ◌/◌, ◌%◌, ◌^◌, List, [], ◌∷◌, ◌++◌, All, arith, refl}
 use Rattle.std.specs.List.{range_with_len}
 use Rattle.std.proofs.lemmas.Bool.{leb-true}
 use Rattle.std.proofs.lemmas.List.FromFn.{map-range_with_len_more}
 use Rattle.std.proofs.lemmas.List.Elements.{All-map}
-use Rattle.prims_core.specs.Alphabet.{alphabet}
-use Rattle.std.specs.Prelude.{Contains, nat_le}
+use Rattle.prims_core.specs.Alphabet.{alphabet, character_of}
+use Rattle.std.specs.Prelude.{Contains, nat_le, slice_index}
 use Rattle.crypt_core.proofs.Numerals.{in_alphabet}
-use Rattle.crypt_core.specs.MadeSalts.{made_character, made_salt, made_salt_length}
-use Rattle.crypt_core.specs.Methods.{salt_limit}
+use Rattle.crypt_core.specs.MadeSalts.{made_salt}
+use Rattle.crypt_core.specs.MethodLimits.{made_salt_length, salt_limit}
 use Rattle.crypt_core.specs.declared.method.Method.{Method}
 use Rattle.crypt_core.proofs.EachMethod.{each_method}
+
+-- character i of a made salt
+abbrev made_character : List ℕ → ℕ → ℕ
+made_character words i = character_of (slice_index words (i / 10) / 2 ^ (6 * (i % 10)) % 64)
 
 -- one character more
 pub made_salt-more : (words : List ℕ) (n : ℕ) → made_salt words (n + 1) ≡ made_salt words n ++ made_character words n ∷ []

@@ -15,7 +15,7 @@ use Rattle.crypt_core.specs.declared.scheme.Scheme.{Scheme}
 use Rattle.crypt_core.specs.declared.scheme.Scheme.TheVariants.{Md5crypt, Sha256crypt, Sha512crypt, Scrypt}
 use Rattle.crypt_core.specs.declared.setting.fault.MakeFault.{MakeFault}
 use Rattle.crypt_core.specs.declared.setting.fault.MakeFault.TheVariants.{SaltLength, SaltCharacter, Cost}
-use Rattle.crypt_core.specs.Methods.{prefix, salt_limit, md5crypt_salt_limit, shacrypt_salt_limit, scrypt_salt_limit}
+use Rattle.crypt_core.specs.MethodLimits.{md5crypt_salt_limit, prefix, salt_limit, scrypt_salt_limit, shacrypt_salt_limit}
 use Rattle.crypt_core.specs.MadeSettings.{made_scheme, TakesCost, TakesSalt, IsMakeable, BreaksMake, IsMakeRefused, make_rule_number, max_cost, cost_at}
 use Rattle.crypt_core.specs.Schemes.{IsScheme, method_of}
 use Rattle.crypt_core.specs.Settings.{SettingValue, HasNumerals, IsSettingByte, dollar, BeginsWith, rounds_word, SpellsRounds, SpellsCost, KeepsSalt, IsSetting, cost_part, canonical_text}

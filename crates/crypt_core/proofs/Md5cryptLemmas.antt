@@ -7,9 +7,9 @@ use Rattle.prims_core.specs.Digests.{length-md5, md5}
 use Rattle.prims_core.specs.Meter.{HaveCountAndSum}
 use Rattle.crypt_core.specs.Cycle.{binary_digits, cycle, digit_bytes, digit_pieces}
 use Rattle.crypt_core.specs.Md5crypt.{md5crypt_message, md5crypt_messages, opening_message, md5crypt_rounds}
-use Rattle.crypt_core.specs.Methods.{prefix}
+use Rattle.crypt_core.specs.MethodLimits.{prefix}
 use Rattle.crypt_core.specs.RoundMessage.{round_message, alternate_message}
-use Rattle.crypt_core.specs.Work.{md5crypt_bytes}
+use Rattle.crypt_core.specs.WorkBytes.{md5crypt_bytes}
 use Rattle.crypt_core.specs.declared.method.Method.TheVariants.{Md5crypt}
 use Rattle.crypt_core.proofs.CycleLemmas.{length-cycle, length-digit_pieces}
 use Rattle.crypt_core.proofs.MessageLists.{length-messages_to, length-round_message, length-alternate, messages_to, round_length}

@@ -1,5 +1,5 @@
 -- Lists of messages that are given by their number, the first message, and the message of a round.
-use Rattle.crypt_core.specs.Methods.{shacrypt_salt_limit}
+use Rattle.crypt_core.specs.MethodLimits.{shacrypt_salt_limit}
 use Rattle.crypt_core.specs.Passwords.{password_limit}
 use Rattle.std.proofs.Common.{◌≡◌, ℕ, ◌+◌, ◌*◌, ◌%◌, ◌≤◌, Bool, true, false, cond, nat_eq, List, [], ◌∷◌, ◌++◌, length, map, arith}
 use Rattle.std.specs.List.{range_with_len}

@@ -4,17 +4,21 @@ use Rattle.std.proofs.lemmas.List.Sums.{sum_by-cons}
 use Rattle.std.proofs.lemmas.Bool.{and_parts, eqb-true, leb-true, ltb-true}
 use Rattle.std.proofs.lemmas.List.{append-nil, drop_all, length-append}
 use Rattle.std.proofs.lemmas.List.Elements.{All-nil, All-append}
-use Rattle.std.specs.Prelude.{All, Contains, nat_le, sum_by}
+use Rattle.std.specs.Prelude.{All, Contains, flat_map, nat_le, sum_by}
 use Rattle.std.proofs.Math.Seq.{drop-cons}
 use Rattle.std.specs.List.{list_all}
 use Rattle.crypt_core.specs.declared.method.Method.{Method}
 use Rattle.crypt_core.specs.declared.method.Method.TheVariants.{Sha512crypt}
 use Rattle.prims_core.specs.Alphabet.{alphabet}
-use Rattle.crypt_core.specs.Methods.{digest_len}
-use Rattle.crypt_core.specs.Packing.{packed, packed_by, packed_group, group_number, groups_of, packed_len}
+use Rattle.crypt_core.specs.MethodLimits.{digest_len, packed_len}
+use Rattle.crypt_core.specs.Packing.{packed, packed_group, groups_of}
 use Rattle.crypt_core.proofs.EachMethod.{each_method}
 use Rattle.crypt_core.proofs.Numerals.{all_numerals, length-numerals}
-use Rattle.crypt_core.specs.Private.Tables.{groups_in, is_group, AreGroups, IsGroup}
+use Rattle.crypt_core.specs.Private.Tables.{groups_in, is_group, AreGroups, IsGroup, group_number}
+
+-- packed_by groups digest: the text of a digest, packed by these groups.
+abbrev pub packed_by : List (List ℕ) → List ℕ → List ℕ
+packed_by groups digest = flat_map (packed_group digest) groups
 
 -- a group has one to three places
 pub group_size : (n : ℕ) (places : List ℕ) → IsGroup n places → (0 < length places) × (length places < 4)

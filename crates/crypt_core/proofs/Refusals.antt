@@ -10,7 +10,7 @@ use Rattle.crypt_core.specs.declared.scheme.Scheme.{Scheme}
 use Rattle.crypt_core.specs.declared.scheme.Scheme.TheVariants.{Md5crypt, Sha256crypt, Sha512crypt, Scrypt}
 use Rattle.crypt_core.specs.declared.setting.fault.SettingFault.{SettingFault}
 use Rattle.crypt_core.specs.declared.setting.fault.SettingFault.TheVariants.{TooLong, BadCharacter, UnknownScheme, BadRounds, BadCost, ScryptRange, AboveCeiling, BadSalt}
-use Rattle.crypt_core.specs.Methods.{prefix}
+use Rattle.crypt_core.specs.MethodLimits.{prefix}
 use Rattle.crypt_core.specs.Readings.{IsReadOneWay, IsReading}
 use Rattle.crypt_core.specs.Refusals.{IsShaText, LacksRounds, IsScryptText, Breaks, IsRefused, rule_number}
 use Rattle.crypt_core.specs.Settings.{SettingValue, rounds_word, SpellsRounds, scrypt_part, HasNumerals, IsScryptSalt, KeepsSalt, SpellsScheme, Spells}

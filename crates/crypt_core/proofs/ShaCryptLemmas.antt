@@ -1,5 +1,5 @@
 -- Lemmas on the messages of SHA-crypt.
-use Rattle.crypt_core.specs.Methods.{shacrypt_salt_limit}
+use Rattle.crypt_core.specs.MethodLimits.{shacrypt_salt_limit}
 use Rattle.crypt_core.specs.Passwords.{password_limit}
 use Rattle.std.proofs.Common.{◌≡◌, ℕ, zero, suc, ◌+◌, ◌*◌, ◌≤◌, ◌<◌, List, [], ◌∷◌, ◌++◌, length, arith, refl, ap, ◌∙◌}
 use Rattle.std.specs.Prelude.{sum_by, All}
@@ -9,7 +9,7 @@ use Rattle.prims_core.specs.Meter.{HaveCountAndSum}
 use Rattle.crypt_core.specs.Cycle.{cycle, digit_bytes, digit_pieces}
 use Rattle.crypt_core.specs.RoundMessage.{round_message, alternate_message}
 use Rattle.crypt_core.specs.ShaCrypt.{sha_opening_byte, password_repeated, password_string, salt_repeated, salt_string, sha_opening_digest, sha_digest_before, sha_opening_message, sha_round_message, shacrypt_message, shacrypt_messages}
-use Rattle.crypt_core.specs.Work.{greatest_byte, shacrypt_bytes}
+use Rattle.crypt_core.specs.WorkBytes.{greatest_byte, shacrypt_bytes}
 use Rattle.crypt_core.proofs.CycleLemmas.{digit_bytes-few, length-cycle, length-digit_pieces, length-repeat}
 use Rattle.crypt_core.proofs.MessageLists.{length-messages_to, length-round_message, length-alternate, messages_to, round_length}
 use Rattle.crypt_core.proofs.WorkSums.{rounds_sum}

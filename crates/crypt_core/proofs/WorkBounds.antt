@@ -1,5 +1,5 @@
 -- Lemmas on the bound of the work of a hash.
-use Rattle.crypt_core.specs.Methods.{scrypt_salt_limit}
+use Rattle.crypt_core.specs.MethodLimits.{scrypt_salt_limit}
 use Rattle.crypt_core.specs.Passwords.{password_limit}
 use Rattle.std.proofs.Common.{ℕ, ◌+◌, ◌*◌, ◌^◌, ◌<◌, ◌≤◌, arith}
 use Rattle.std.proofs.lemmas.Bool.Decides.{nat_tests}
@@ -7,7 +7,8 @@ use Rattle.std.proofs.Math.Nat.{mul-le-mul, mul-le-mul_right}
 use Rattle.kdf_core.specs.Hmac.{key_bytes, key_digests}
 use Rattle.kdf_core.specs.Params.{ScryptCost, IsBounded}
 use Rattle.kdf_core.specs.ScryptWork.{scrypt_bytes, scrypt_digests}
-use Rattle.crypt_core.specs.Work.{greatest_byte, shacrypt_work, work_by, work_limit, IsBelow, IsWithin}
+use Rattle.crypt_core.specs.Work.{shacrypt_work, work_by, work_limit, IsBelow, IsWithin}
+use Rattle.crypt_core.specs.WorkBytes.{greatest_byte}
 use Rattle.crypt_core.specs.declared.scheme.Scheme.TheVariants.{Scrypt}
 
 -- Work

@@ -7,6 +7,7 @@ pub mod HashFaults
 pub mod MadeSalts
 pub mod MadeSettings
 pub mod Md5crypt
+pub mod MethodLimits
 pub mod Methods
 pub mod Packing
 pub mod PasswordFaults
@@ -22,4 +23,6 @@ pub mod SettingFaults
 pub mod Settings
 pub mod ShaCrypt
 pub mod StoredFields
+pub mod TextLimits
 pub mod Work
+pub mod WorkBytes

@@ -11,8 +11,8 @@ use Rattle.crypt_core.specs.declared.scheme.Scheme.{Scheme}
 use Rattle.crypt_core.specs.declared.scheme.Scheme.TheVariants.{Md5crypt, Sha256crypt, Sha512crypt, Scrypt}
 use Rattle.crypt_core.specs.declared.setting.fault.MakeFault.{MakeFault}
 use Rattle.crypt_core.specs.declared.setting.fault.MakeFault.TheVariants.{SaltLength, SaltCharacter, Cost}
-use Rattle.crypt_core.specs.MadeSalts.{made_salt, made_salt_length}
-use Rattle.crypt_core.specs.Methods.{salt_limit}
+use Rattle.crypt_core.specs.MadeSalts.{made_salt}
+use Rattle.crypt_core.specs.Methods.{method_row}
 use Rattle.crypt_core.specs.Settings.{SettingValue}
 
 -- the default and no field for cost 0, and otherwise a field with the cost, clamped
@@ -50,7 +50,7 @@ made_setting method cost salt = record { scheme = made_scheme method cost; salt 
 
 -- a scheme with a new salt, which three random words make
 abbrev pub salted : Scheme → List ℕ → SettingValue
-salted scheme words = record { scheme = scheme; salt = made_salt words (made_salt_length (method_of scheme)) }
+salted scheme words = record { scheme = scheme; salt = made_salt words (method_row (method_of scheme)).made_salt_length }
 
 -- scrypt takes the costs 0 and from the least to the greatest, and the other methods take any
 abbrev pub TakesCost : Method → ℕ → Type 0
@@ -60,7 +60,7 @@ TakesCost method cost = Unit {0}
 -- one character of crypt's alphabet or more, and no more than the method keeps
 pub record TakesSalt (method : Method) (salt : List ℕ) : Type 0 where
   pub some : 0 < length salt
-  pub short : length salt ≤ salt_limit method
+  pub short : length salt ≤ (method_row method).salt_limit
   pub characters : All (Contains alphabet) salt
 
 -- a salt and a cost that the method takes
@@ -78,7 +78,7 @@ make_rule_number Cost = 3
 
 -- the rule of a refusal holds of a method, a cost and a salt
 abbrev pub BreaksMake : MakeFault → Method → ℕ → List ℕ → Type 0
-BreaksMake SaltLength method cost salt = (length salt ≡ 0) ⊎ (salt_limit method < length salt)
+BreaksMake SaltLength method cost salt = (length salt ≡ 0) ⊎ ((method_row method).salt_limit < length salt)
 BreaksMake SaltCharacter method cost salt = ¬ All (Contains alphabet) salt
 BreaksMake Cost method cost salt = ¬ TakesCost method cost
 

@@ -4,7 +4,7 @@ use Rattle.std.specs.Prelude.{ℕ, zero, suc, ◌+◌, List, [], ◌∷◌, ◌+
 use Rattle.std.specs.List.{range_with_len}
 use Rattle.prims_core.specs.Digests.{md5}
 use Rattle.crypt_core.specs.Cycle.{cycle, digit_pieces}
-use Rattle.crypt_core.specs.Methods.{prefix}
+use Rattle.crypt_core.specs.Methods.{method_row}
 use Rattle.crypt_core.specs.RoundMessage.{alternate_message, round_message}
 use Rattle.crypt_core.specs.declared.method.Method.TheVariants as methods
 
@@ -16,7 +16,7 @@ md5crypt_rounds = 1000
 -- password's first byte
 abbrev pub opening_message : List ℕ → List ℕ → List ℕ
 opening_message password salt =
-    password ++ prefix methods.Md5crypt ++ salt
+    password ++ (method_row methods.Md5crypt).prefix ++ salt
     ++ cycle (md5 (alternate_message password salt)) (length password)
     ++ digit_pieces (0 ∷ []) (take 1 password) (length password)
 

@@ -6,7 +6,7 @@ use Rattle.crypt_core.specs.declared.method.Method.{Method}
 use Rattle.crypt_core.specs.declared.method.Method.TheVariants as methods
 use Rattle.crypt_core.specs.declared.setting.fault.SettingFault.{SettingFault}
 use Rattle.crypt_core.specs.declared.setting.fault.SettingFault.TheVariants.{TooLong, BadCharacter, UnknownScheme, BadRounds, BadCost, ScryptRange, AboveCeiling, BadSalt}
-use Rattle.crypt_core.specs.Methods.{prefix}
+use Rattle.crypt_core.specs.Methods.{method_row}
 use Rattle.crypt_core.specs.Settings.{setting_limit, IsSettingByte, dollar, IsField, BeginsWith, rounds_word, IsRoundsNumber, scrypt_part, scrypt_part_len, HasNumerals, IsScryptSalt}
 
 -- the place of a refusal's rule in their order
@@ -22,7 +22,7 @@ rule_number BadSalt = 8
 
 -- a text of SHA-crypt, and what follows its prefix
 abbrev pub IsShaText : List ℕ → List ℕ → Type 0
-IsShaText text after = (text ≡ prefix methods.Sha256crypt ++ after) ⊎ (text ≡ prefix methods.Sha512crypt ++ after)
+IsShaText text after = (text ≡ (method_row methods.Sha256crypt).prefix ++ after) ⊎ (text ≡ (method_row methods.Sha512crypt).prefix ++ after)
 
 -- no digits of a number stand there with a `$` behind them
 abbrev pub LacksNumber : List ℕ → Type 0
@@ -38,16 +38,16 @@ LacksCost after = (part rest : List ℕ) → length part ≡ scrypt_part_len →
 
 -- a text of scrypt with these three numbers, and what follows them
 pub record IsScryptText (text : List ℕ) (cost : ScryptCost) (after : List ℕ) : Type 0 where
-  pub parts : text ≡ prefix methods.Scrypt ++ (scrypt_part cost ++ after)
+  pub parts : text ≡ (method_row methods.Scrypt).prefix ++ (scrypt_part cost ++ after)
   pub numbers : HasNumerals cost
 
 -- the rule of a refusal holds of the text
 abbrev pub Breaks : SettingFault → List ℕ → Type 0
 Breaks TooLong text = setting_limit < length text
 Breaks BadCharacter text = ¬ All IsSettingByte text
-Breaks UnknownScheme text = (method : Method) → ¬ BeginsWith text (prefix method)
+Breaks UnknownScheme text = (method : Method) → ¬ BeginsWith text (method_row method).prefix
 Breaks BadRounds text = (after : List ℕ) × IsShaText text after × LacksRounds after
-Breaks BadCost text = (after : List ℕ) × (text ≡ prefix methods.Scrypt ++ after) × LacksCost after
+Breaks BadCost text = (after : List ℕ) × (text ≡ (method_row methods.Scrypt).prefix ++ after) × LacksCost after
 Breaks ScryptRange text = (cost : ScryptCost) × (after : List ℕ) × IsScryptText text cost after × (¬ IsInRange cost)
 Breaks AboveCeiling text = (cost : ScryptCost) × (after : List ℕ) × IsScryptText text cost after × (¬ IsWithinCeiling cost)
 Breaks BadSalt text = (cost : ScryptCost) × (field rest : List ℕ) × IsScryptText text cost (field ++ rest) × IsField field rest × (¬ IsScryptSalt field)

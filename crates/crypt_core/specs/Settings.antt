@@ -9,7 +9,7 @@ use Rattle.crypt_core.specs.Rounds.{Rounds, clamped, default_rounds}
 use Rattle.crypt_core.specs.Schemes.{method_of}
 use Rattle.crypt_core.specs.declared.scheme.Scheme.{Scheme}
 use Rattle.crypt_core.specs.declared.scheme.Scheme.TheVariants.{Md5crypt, Sha256crypt, Sha512crypt, Scrypt}
-use Rattle.crypt_core.specs.Methods.{prefix, salt_limit, scrypt_salt_limit}
+use Rattle.crypt_core.specs.Methods.{method_row}
 
 -- what is kept of a text: the scheme with its cost, and the salt
 pub record SettingValue : Type 0 where
@@ -99,18 +99,18 @@ SpellsCost (Scrypt cost) part after = (part ≡ scrypt_part cost) × HasNumerals
 
 -- no more characters than scrypt keeps, all of crypt's alphabet
 pub record IsScryptSalt (salt : List ℕ) : Type 0 where
-  pub short : length salt ≤ scrypt_salt_limit
+  pub short : length salt ≤ (method_row methods.Scrypt).salt_limit
   pub characters : All (Contains alphabet) salt
 
 -- what is kept of the salt's field
 abbrev pub KeepsSalt : Method → List ℕ → List ℕ → Type 0
 KeepsSalt methods.Scrypt field salt = (salt ≡ field) × IsScryptSalt field
-KeepsSalt method field salt = salt ≡ take (salt_limit method) field
+KeepsSalt method field salt = salt ≡ take (method_row method).salt_limit field
 
 -- the text is the scheme's prefix, its cost part, and what comes after these
 pub record SpellsScheme (text : List ℕ) (scheme : Scheme) (after : List ℕ) : Type 0 where
   pub part : List ℕ
-  pub parts : text ≡ prefix (method_of scheme) ++ (part ++ after)
+  pub parts : text ≡ (method_row (method_of scheme)).prefix ++ (part ++ after)
   pub cost : SpellsCost scheme part after
 
 -- the text spells what is kept of it
@@ -137,8 +137,4 @@ cost_part (Scrypt cost) = scrypt_part cost
 
 -- it ends with the salt
 abbrev pub canonical_text : SettingValue → List ℕ
-canonical_text kept = prefix (method_of kept.scheme) ++ (cost_part kept.scheme ++ kept.salt)
-
--- the most bytes of a canonical text: scrypt's are the longest
-abbrev pub canonical_limit : ℕ
-canonical_limit = length (prefix methods.Scrypt) + scrypt_part_len + scrypt_salt_limit
+canonical_text kept = (method_row (method_of kept.scheme)).prefix ++ (cost_part kept.scheme ++ kept.salt)

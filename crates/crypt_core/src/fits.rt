@@ -1,7 +1,7 @@
 //! Checking a stored text, as crypt(3) is used for it: a password fits where its hash by the setting that the
 //! text spells is the text.
-ghost use Rattle.std.specs.Prelude.{◌≡◌, ◌↔◌, Err, IsTrue, IfOk};
-ghost use Rattle.prims_core.specs.Meter.{HasRoom};
+ghost use Rattle.std.specs.Prelude.{◌≡◌, ◌↔◌, ◌^◌, Err, IsTrue, IfOk};
+ghost use Rattle.prims_core.specs.Work.{IsAtMost};
 ghost use Rattle.crypt_core.specs.declared.setting.fault.SettingFault.{SettingFault as Refusal};
 ghost use Rattle.crypt_core.specs.Fits.{Compares, Fits};
 ghost use Rattle.crypt_core.specs.Readings.{IsReadOneWay};
@@ -79,7 +79,7 @@ pub fn fits(
     stored: &[u8],
     meter: &mut Meter,
 ) -> Result<bool, FitFault>
-    requires { HasRoom meter.old }
+    requires { IsAtMost meter.old (2 ^ 120) }
     ensures verdict { IfOk result (λ verdict. IsTrue verdict ↔ Fits password.now stored.now) }
     ensures compared { Compares password.now stored.now meter.old meter.new result }
     ensures below { (kept : SettingValue) → Spells stored.now kept → IsBelow (work password.now kept) work_limit }

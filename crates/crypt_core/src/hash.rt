@@ -1,16 +1,17 @@
 //! The text of crypt(3): a password, hashed by a setting.
-ghost use Rattle.std.specs.Prelude.{◌≡◌, ℕ, ◌≤◌, ◌∷◌, ◌++◌, List, length, IfOk, OnOk, OnErr};
-ghost use Rattle.prims_core.specs.Meter.{HasRoom};
+ghost use Rattle.std.specs.Prelude.{◌≡◌, ℕ, ◌^◌, ◌≤◌, ◌∷◌, ◌++◌, List, length, IfOk, OnOk, OnErr};
+ghost use Rattle.prims_core.specs.Work.{IsAtMost};
 ghost use Rattle.kdf_core.specs.Params.{IsBounded};
 ghost use Rattle.kdf_core.specs.Scrypt.{scrypt};
 ghost use Rattle.kdf_core.specs.ScryptWork.{with_scrypt, IsAfterRefusal};
 ghost use Rattle.crypt_core.specs.declared.method.Method.TheVariants.{Scrypt};
-ghost use Rattle.crypt_core.specs.Crypt.{crypt, digest_by, hash_limit, IsAfterRefusedGrowth};
-ghost use Rattle.crypt_core.specs.Methods.{digest_len};
+ghost use Rattle.crypt_core.specs.Crypt.{crypt, digest_by, IsAfterRefusedGrowth};
+ghost use Rattle.crypt_core.specs.TextLimits.{hash_limit};
 ghost use Rattle.crypt_core.specs.Packing.{packed};
 ghost use Rattle.crypt_core.specs.Settings.{Spells, canonical_text, dollar};
 ghost use Rattle.crypt_core.specs.Schemes.{method_of};
 ghost use Rattle.crypt_core.specs.Work.{raised_by, work, work_limit, IsBelow};
+ghost use Rattle.crypt_core.specs.MethodLimits.{digest_len};
 
 use crate::md5crypt::md5crypt;
 use crate::pack::{SCRYPT_PACKED_LEN, pack, packed_len};
@@ -39,13 +40,12 @@ pub struct Hashed {
 
 impl Model for Hashed {
     ghost use Rattle.std.specs.Prelude.{ℕ, List, length, ◌≤◌};
-    ghost use Rattle.crypt_core.specs.Crypt.{hash_limit};
 
     ghost Value = { List ℕ };
 
     ghost view = { λ h. h.text.items };
 
-    ghost invariant = { λ h. length h.text.items ≤ hash_limit };
+    ghost invariant = { λ h. length h.text.items ≤ 144 };
 }
 
 impl Hashed {
@@ -97,7 +97,7 @@ pub fn hash(
     setting: &Setting,
     meter: &mut Meter,
 ) -> Result<Hashed, HashFault>
-    requires { HasRoom meter.old }
+    requires { IsAtMost meter.old (2 ^ 120) }
     ensures text { IfOk result (λ hashed. hashed ≡ crypt password.now setting.now) }
     ensures spells { IfOk result (λ hashed. Spells hashed setting.now) }
     ensures count { OnOk result (meter.new ≡ raised_by meter.old (work password.now setting.now)) }
@@ -129,7 +129,7 @@ fn digest_of(
     setting: &Setting,
     meter: &mut Meter,
 ) -> Result<ArrayVec<u8, 64>, AllocError>
-    requires { HasRoom meter.old }
+    requires { IsAtMost meter.old (2 ^ 120) }
     ensures digest { IfOk result (λ digest. digest.items
         ≡ digest_by setting.now.scheme password.now setting.now.salt) }
     ensures length { IfOk result (λ digest. length digest.items ≡ digest_len (method_of setting.now.scheme)) }
@@ -166,7 +166,7 @@ fn scrypt_digest(
     params: &Params,
     meter: &mut Meter,
 ) -> Result<ArrayVec<u8, 64>, AllocError>
-    requires { HasRoom meter.old }
+    requires { IsAtMost meter.old (2 ^ 120) }
     ensures digest { IfOk result (λ digest. digest.items ≡ scrypt password.now salt.now params.now (digest_len Scrypt)) }
     ensures length { IfOk result (λ digest. length digest.items ≡ digest_len Scrypt) }
     ensures count { OnOk result (meter.new

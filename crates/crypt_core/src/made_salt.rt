@@ -3,7 +3,8 @@
 
 ghost use Rattle.std.specs.Prelude.{◌≡◌, ◌≤◌, length, All, Contains};
 ghost use Rattle.prims_core.specs.Alphabet.{alphabet};
-ghost use Rattle.crypt_core.specs.MadeSalts.{made_salt, made_salt_length, made_salt_limit, three_words};
+ghost use Rattle.crypt_core.specs.MadeSalts.{made_salt, three_words};
+ghost use Rattle.crypt_core.specs.MethodLimits.{made_salt_length, made_salt_limit};
 
 #[cfg(test)]
 mod tests;

@@ -6,11 +6,12 @@ ghost use Rattle.prims_core.specs.Digests.{md5};
 ghost use Rattle.prims_core.specs.Meter.{with_work, HaveCountAndSum, HasDigestRoom};
 ghost use Rattle.crypt_core.specs.declared.method.Method.TheVariants.{Md5crypt};
 ghost use Rattle.crypt_core.specs.Md5crypt.{md5crypt_digest, md5crypt_messages, md5crypt_rounds, opening_message};
-ghost use Rattle.crypt_core.specs.Methods.{digest_len, md5crypt_salt_limit};
+ghost use Rattle.crypt_core.specs.MethodLimits.{digest_len, md5crypt_salt_limit};
 ghost use Rattle.crypt_core.specs.Passwords.{password_limit};
 ghost use Rattle.crypt_core.specs.RoundMessage.{alternate_message};
 ghost use Rattle.crypt_core.specs.Private.Counting.{with_digest};
-ghost use Rattle.crypt_core.specs.Work.{md5crypt_bytes, work_limit};
+ghost use Rattle.crypt_core.specs.Work.{work_limit};
+ghost use Rattle.crypt_core.specs.WorkBytes.{md5crypt_bytes};
 
 use crate::messages::{RoundStrings, alternate_digest, feed_cycle, feed_digits, round};
 use crate::method::Method;

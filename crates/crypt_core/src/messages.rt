@@ -5,7 +5,7 @@ ghost use Rattle.std.specs.Prelude.{◌≡◌, ℕ, ◌+◌, ◌*◌, ◌^◌, �
 ghost use Rattle.std.specs.List.{repeat};
 ghost use Rattle.prims_core.specs.Meter.{HasDigestRoom};
 ghost use Rattle.crypt_core.specs.Cycle.{cycle, digit_pieces};
-ghost use Rattle.crypt_core.specs.Methods.{shacrypt_salt_limit};
+ghost use Rattle.crypt_core.specs.MethodLimits.{shacrypt_salt_limit};
 ghost use Rattle.crypt_core.specs.Passwords.{password_limit};
 ghost use Rattle.crypt_core.specs.RoundMessage.{alternate_message, round_message};
 ghost use Rattle.crypt_core.specs.Private.Counting.{with_digest};

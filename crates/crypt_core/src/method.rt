@@ -1,9 +1,10 @@
 //! The methods by which a password is hashed, and the words that name them.
 
 ghost use Rattle.std.specs.Prelude.{◌≡◌};
-ghost use Rattle.crypt_core.specs.Methods.{made_salt_length, method_named, method_numbered, method_row, packed_len, prefix, salt_limit};
+ghost use Rattle.crypt_core.specs.Methods.{method_named, method_numbered, method_row};
 ghost use Rattle.crypt_core.specs.Packing.{groups_of};
 ghost use Rattle.crypt_core.specs.Private.Tables.{groups_in};
+ghost use Rattle.crypt_core.specs.MethodLimits.{made_salt_length, packed_len, prefix, salt_limit};
 
 use crate::pack::{MD5CRYPT_GROUPS, SCRYPT_GROUPS, SHA256CRYPT_GROUPS, SHA512CRYPT_GROUPS};
 

@@ -1,8 +1,8 @@
 //! The text of a digest: its bytes in the method's own groups, each as base-64 numerals.
 ghost use Rattle.std.specs.Prelude.{◌≡◌, ◌+◌, ◌^◌, ◌<◌, length};
-ghost use Rattle.crypt_core.specs.Methods.{digest_len};
-ghost use Rattle.crypt_core.specs.Packing.{group_number, packed, packed_len};
-ghost use Rattle.crypt_core.specs.Private.Tables.{IsGroup};
+ghost use Rattle.crypt_core.specs.MethodLimits.{digest_len, packed_len};
+ghost use Rattle.crypt_core.specs.Packing.{packed};
+ghost use Rattle.crypt_core.specs.Private.Tables.{IsGroup, group_number};
 
 use crate::method::Method;
 pub use crate::method::{SCRYPT_PACKED_LEN, SHA512CRYPT_PACKED_LEN};

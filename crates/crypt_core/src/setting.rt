@@ -5,7 +5,7 @@
 
 ghost use Rattle.std.specs.Prelude.{◌≡◌, ◌≤◌, ◌↔◌, length, All, Contains, IsTrue};
 ghost use Rattle.prims_core.specs.Alphabet.{alphabet};
-ghost use Rattle.crypt_core.specs.Methods.{salt_limit};
+ghost use Rattle.crypt_core.specs.MethodLimits.{salt_limit};
 ghost use Rattle.crypt_core.specs.Schemes.{IsScheme, method_of};
 ghost use Rattle.crypt_core.specs.Replacements.{is_replaced_by};
 

@@ -5,13 +5,14 @@ ghost use Rattle.std.specs.Prelude.{◌≡◌, ◌+◌, ◌*◌, ◌^◌, ◌<�
 ghost use Rattle.std.specs.List.{repeat};
 ghost use Rattle.prims_core.specs.Meter.{with_work, HaveCountAndSum, HasDigestRoom};
 ghost use Rattle.crypt_core.specs.Cycle.{cycle};
-ghost use Rattle.crypt_core.specs.Methods.{shacrypt_salt_limit};
+ghost use Rattle.crypt_core.specs.MethodLimits.{shacrypt_salt_limit};
 ghost use Rattle.crypt_core.specs.Passwords.{password_limit};
 ghost use Rattle.crypt_core.specs.RoundMessage.{alternate_message};
 ghost use Rattle.crypt_core.specs.Rounds.{max_rounds, min_rounds};
 ghost use Rattle.crypt_core.specs.ShaCrypt.{sha_opening_byte, sha_opening_digest, sha_opening_message, shacrypt_digest, shacrypt_messages};
 ghost use Rattle.crypt_core.specs.Private.Counting.{with_digest};
-ghost use Rattle.crypt_core.specs.Work.{shacrypt_bytes, work_limit};
+ghost use Rattle.crypt_core.specs.Work.{work_limit};
+ghost use Rattle.crypt_core.specs.WorkBytes.{shacrypt_bytes};
 
 use crate::messages::{
     RoundStrings, alternate_digest, cycle_of, feed_cycle, feed_digits, feed_repeated, round,

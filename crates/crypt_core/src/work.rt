@@ -2,12 +2,13 @@
 //! too much. It is the closed form of what the meter counts, step by step of each scheme.
 ghost use Rattle.std.specs.Prelude.{◌≡◌, ℕ, ◌+◌, ◌*◌, ◌^◌, ◌<◌, ◌≤◌, List, length};
 ghost use Rattle.crypt_core.specs.Cycle.{by_digit, digit_bytes};
-ghost use Rattle.crypt_core.specs.Methods.{md5crypt_salt_limit, salt_limit, scrypt_salt_limit, shacrypt_salt_limit};
+ghost use Rattle.crypt_core.specs.MethodLimits.{md5crypt_salt_limit, salt_limit, scrypt_salt_limit, shacrypt_salt_limit};
 ghost use Rattle.crypt_core.specs.Passwords.{password_limit, IsPassword};
 ghost use Rattle.crypt_core.specs.Rounds.{max_rounds};
 ghost use Rattle.crypt_core.specs.Schemes.{method_of};
 ghost use Rattle.crypt_core.specs.ShaCrypt.{sha_opening_byte};
-ghost use Rattle.crypt_core.specs.Work.{bound_by, cost, cost_by, digests_alone, greatest_byte, md5crypt_work, rounds_bytes, shacrypt_work, work, work_bound, work_by, work_limit, IsBelow, IsWithin};
+ghost use Rattle.crypt_core.specs.Work.{cost, cost_by, digests_alone, md5crypt_work, rounds_bytes, shacrypt_work, work, work_bound, work_by, work_limit, IsBelow, IsWithin};
+ghost use Rattle.crypt_core.specs.WorkBytes.{greatest_byte};
 
 use crate::md5crypt::ROUNDS;
 use crate::scheme::Scheme;
@@ -32,7 +33,7 @@ impl Scheme {
     pub fn bound(&self, password_len: usize, salt_len: usize) -> Work
         requires password { password_len ≤ password_limit }
         requires salt { salt_len ≤ salt_limit (method_of self.now) }
-        ensures bound { result ≡ bound_by self.now password_len salt_len }
+        ensures bound { result ≡ work_by self.now 255 password_len salt_len }
         ensures never_passed { (password salt : List ℕ) → IsPassword password → length password ≡ password_len
             → length salt ≡ salt_len → IsWithin (work password (record { scheme = self.now; salt = salt })) result }
         ensures below { IsBelow result work_limit }

@@ -2,10 +2,11 @@
 use Rattle.std.proofs.Common.{◌≡◌, ℕ, Bool, true, false, not, List, length, Option, Some, None, is_some, refl, sym, ap, ◌∙◌}
 use Rattle.std.proofs.lemmas.List.FromFn.{length-map-range_with_len}
 use Rattle.rand_core.specs.Stream.{Stream}
-use Rattle.crypt_core.specs.MadeSalts.{made_character, made_salt, three_words, made_salt_length}
+use Rattle.crypt_core.specs.MadeSalts.{made_salt, three_words}
 use Rattle.crypt_core.specs.Schemes.{method_of}
 use Rattle.crypt_core.specs.Settings.{SettingValue}
 use Rattle.crypt_core.specs.Work.{cost, cost_by}
+use Rattle.crypt_core.specs.MethodLimits.{made_salt_length}
 use Rattle.run_core.specs.Makers.{Recipe, made_cost_by, next_setting, setting_by, stream_after}
 
 -- a given salt leaves the words no part in the setting
@@ -59,7 +60,7 @@ is_not_drawn recipe before after words kept draws is off same made =
 
 made_salt-length : (words : List ℕ) (n : ℕ) → length (made_salt words n) ≡ n
 unfolding made_salt
-made_salt-length words n = length-map-range_with_len (made_character words) 0 n
+made_salt-length words n = length-map-range_with_len _ 0 n
 
 -- it is known before any words are, since they make salts of one length
 pub made_cost : (recipe : Recipe) (words : List ℕ) (password : ℕ) → cost (setting_by recipe words) password ≡ made_cost_by recipe password

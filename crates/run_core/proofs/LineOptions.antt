@@ -2,7 +2,7 @@
 use Rattle.std.proofs.Common.{◌≡◌, ℕ, List, [], ◌++◌, Some, Result, Ok, Err, codes, slice_index, inl, inr, refl, sym, subst, ◌∙◌, ap, arith, ◌≤◌, ◌⊎◌, Bool, true, false, true≢false, length, Option, None}
 use Rattle.std.proofs.lemmas.Option.{none-some}
 use Rattle.rand_core.specs.Stream.{Stream}
-use Rattle.crypt_core.specs.Methods.{prefix}
+use Rattle.crypt_core.specs.MethodLimits.{prefix}
 use Rattle.crypt_core.specs.Settings.{BeginsWith, SettingValue, Spells}
 use Rattle.crypt_core.specs.Schemes.{method_of}
 use Rattle.crypt_core.specs.declared.method.Method.{Method}

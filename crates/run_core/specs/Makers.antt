@@ -3,8 +3,9 @@ use Rattle.std.specs.Prelude.{◌≡◌, ℕ, List, length, Option, Some, None, 
 use Rattle.std.specs.Borrow.{Bor}
 use Rattle.std.specs.Option.{option_map_or}
 use Rattle.rand_core.specs.Stream.{Stream}
-use Rattle.crypt_core.specs.MadeSalts.{made_salt_length, three_words}
+use Rattle.crypt_core.specs.MadeSalts.{three_words}
 use Rattle.crypt_core.specs.MadeSettings.{BreaksMake, IsMakeable, IsMakeRefused, TakesCost, TakesSalt, salted}
+use Rattle.crypt_core.specs.Methods.{method_row}
 use Rattle.crypt_core.specs.Schemes.{method_of}
 use Rattle.crypt_core.specs.Settings.{SettingValue}
 use Rattle.crypt_core.specs.Work.{cost_by}
@@ -59,4 +60,4 @@ stream_after recipe stream = if is_some recipe.salt then stream else (three_word
 -- the method's new salts have
 abbrev pub made_cost_by : Recipe → ℕ → ℕ
 made_cost_by recipe password_length =
-    cost_by recipe.scheme password_length (option_map_or length recipe.salt (made_salt_length (method_of recipe.scheme)))
+    cost_by recipe.scheme password_length (option_map_or length recipe.salt (method_row (method_of recipe.scheme)).made_salt_length)

@@ -3,9 +3,8 @@
 ghost use Rattle.std.specs.Prelude.{◌≡◌, ◌↔◌, ◌&&◌, ℕ, ◌^◌, ◌<◌, ◌≤◌, List, Err, IsOk, IfOk, IfErr, is_some, length, not};
 ghost use Rattle.std.specs.Option.{option_map_or};
 ghost use Rattle.crypt_core.specs.declared.setting.fault.MakeFault.{MakeFault as Fault};
-ghost use Rattle.crypt_core.specs.MadeSalts.{made_salt_length};
 ghost use Rattle.crypt_core.specs.MadeSettings.{made_scheme};
-ghost use Rattle.crypt_core.specs.Methods.{salt_limit};
+ghost use Rattle.crypt_core.specs.MethodLimits.{made_salt_length, salt_limit};
 ghost use Rattle.crypt_core.specs.Passwords.{password_limit};
 ghost use Rattle.crypt_core.specs.Replacements.{is_replaced_by};
 ghost use Rattle.crypt_core.specs.Schemes.{method_of};

@@ -1,5 +1,5 @@
--- What is known of a table of groups.
-use Rattle.std.specs.Prelude.{ℕ, ◌&&◌, Bool, IsTrue, nat_lt, List, length, map}
+-- What is known of a table of groups, and the number of a group.
+use Rattle.std.specs.Prelude.{ℕ, ◌+◌, ◌*◌, ◌&&◌, Bool, IsTrue, nat_lt, List, fold, length, map, slice_index}
 use Rattle.std.specs.List.{list_all}
 use Rattle.std.specs.Borrow.{Bor}
 
@@ -13,6 +13,10 @@ IsGroup len places = IsTrue (is_group len places)
 
 abbrev pub AreGroups : ℕ → List (List ℕ) → Type 0
 AreGroups len groups = IsTrue (list_all (is_group len) groups)
+
+-- group_number digest places: the number of the bytes at these places of the digest, the first place highest.
+abbrev pub group_number : List ℕ → List ℕ → ℕ
+group_number digest places = fold (λ number place. number * 256 + slice_index digest place) 0 places
 
 -- what a table of the code lists
 abbrev pub groups_in : List (Bor (List ℕ)) → List (List ℕ)

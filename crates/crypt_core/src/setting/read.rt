@@ -7,7 +7,7 @@ ghost use Rattle.std.specs.Prelude.{◌≡◌, ◌≤◌, ◌↔◌, length, ◌
 ghost use Rattle.std.specs.Str.Parse.{digits_value};
 ghost use Rattle.kdf_core.specs.Params.{cost_of, IsAccepted};
 ghost use Rattle.crypt_core.specs.declared.setting.fault.SettingFault.{SettingFault as Refusal};
-ghost use Rattle.crypt_core.specs.Methods.{prefix};
+ghost use Rattle.crypt_core.specs.MethodLimits.{prefix};
 ghost use Rattle.crypt_core.specs.Private.Parts.{AllRefused, HasField, HasNumber, HasNumbers, HasRounds, SpellsSalt, LacksSalt, field_rounds};
 ghost use Rattle.crypt_core.specs.Readings.{IsReadOneWay};
 ghost use Rattle.crypt_core.specs.Refusals.{IsRefused, IsShaText, LacksCost, LacksNumber};

@@ -2,10 +2,10 @@
 
 ghost use Rattle.std.specs.Prelude.{◌≡◌, ◌+◌, ◌<◌, ◌≤◌, ◌++◌, length, decimal};
 ghost use Rattle.arrayvec.specs.ArrayVec.{array_vec_len};
-ghost use Rattle.crypt_core.specs.Crypt.{hash_limit};
+ghost use Rattle.crypt_core.specs.TextLimits.{canonical_limit, hash_limit};
 ghost use Rattle.crypt_core.specs.Schemes.{IsScheme, method_of};
-ghost use Rattle.crypt_core.specs.Packing.{packed_len};
-ghost use Rattle.crypt_core.specs.Settings.{canonical_limit, cost_part, canonical_text, Spells};
+ghost use Rattle.crypt_core.specs.MethodLimits.{packed_len};
+ghost use Rattle.crypt_core.specs.Settings.{cost_part, canonical_text, Spells};
 
 use super::{ROUNDS_WORD, Setting, TEXT_CAPACITY};
 use crate::scheme::Scheme;

@@ -2,7 +2,7 @@
 use Rattle.std.specs.Prelude.{ℕ, ◌^◌, ◌+◌, ◌*◌, ◌≤◌}
 use Rattle.prims_core.specs.Work.{IsAtMost}
 use Rattle.prims_core.specs.declared.meter.Work.{Work}
-use Rattle.crypt_core.specs.Crypt.{hash_limit}
+use Rattle.crypt_core.specs.TextLimits.{hash_limit}
 use Rattle.crypt_core.specs.Work.{work_limit}
 use Rattle.run_core.specs.Devices.{Device, calls_limit}
 use Rattle.run_core.specs.Lines.{name_limit}

@@ -1,4 +1,4 @@
-use Rattle.crypt_core.specs.Methods.{scrypt_salt_limit}
+use Rattle.crypt_core.specs.MethodLimits.{scrypt_salt_limit}
 use Rattle.std.proofs.Common.{◌≡◌, ◌≤◌, ◌∙◌, length, sym}
 use Rattle.crypt_core.specs.declared.scheme.Scheme.TheVariants.{Scrypt}
 use Rattle.crypt_core.proofs.WorkBounds.{scrypt-small}

@@ -1,5 +1,5 @@
 use Rattle.std.proofs.Common.{◌≡◌, ◌^◌, ◌<◌, take}
-use Rattle.crypt_core.specs.Packing.{group_number}
+use Rattle.crypt_core.specs.Private.Tables.{group_number}
 use Rattle.crypt_core.proofs.pack.number_of.Given as goal
 
 -- the number of the places so far

@@ -1,9 +1,9 @@
 use Rattle.std.proofs.Common.{◌≡◌, ◌+◌, ◌≤◌, ◌++◌, [], length, arith, ap, Bor, List, ℕ, get_or, drop, ◌∙◌}
 use Rattle.std.proofs.lemmas.List.{length-append}
-use Rattle.crypt_core.specs.Methods.{packed_len}
-use Rattle.crypt_core.specs.Packing.{group_number, packed, packed_by, packed_group}
-use Rattle.crypt_core.specs.Private.Tables.{AreGroups, groups_in}
-use Rattle.crypt_core.proofs.PackingLemmas.{all_groups, group_at, group_size, groups_fit, length-packed, packed-drop, packed_len-small}
+use Rattle.crypt_core.specs.MethodLimits.{packed_len}
+use Rattle.crypt_core.specs.Packing.{packed, packed_group}
+use Rattle.crypt_core.specs.Private.Tables.{AreGroups, groups_in, group_number}
+use Rattle.crypt_core.proofs.PackingLemmas.{all_groups, group_at, group_size, groups_fit, length-packed, packed-drop, packed_len-small, packed_by}
 use Rattle.crypt_core.proofs.Numerals.{length-numerals}
 use Rattle.crypt_core.proofs.pack.pack.Goals as goal
 

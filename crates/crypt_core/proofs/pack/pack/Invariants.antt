@@ -1,5 +1,5 @@
 use Rattle.std.proofs.Common.{◌≡◌, ◌++◌, drop}
-use Rattle.crypt_core.specs.Packing.{packed_by}
+use Rattle.crypt_core.proofs.PackingLemmas.{packed_by}
 use Rattle.crypt_core.specs.Private.Tables.{groups_in}
 use Rattle.crypt_core.proofs.pack.pack.Given as goal
 

@@ -1,4 +1,4 @@
-use Rattle.crypt_core.specs.Work.{greatest_byte}
+use Rattle.crypt_core.specs.WorkBytes.{greatest_byte}
 use Rattle.crypt_core.specs.Passwords.{password_limit}
 use Rattle.std.proofs.Common.{◌≡◌, ◌+◌, ◌≤◌, length, get_or, arith, refl, sym, ◌∙◌, ap}
 use Rattle.std.specs.List.{repeat}

@@ -1,7 +1,6 @@
 use Rattle.std.proofs.Common.{◌≡◌, ◌≤◌, ◌∙◌, All, Contains, length, subst, ap, arith, rules}
 use Rattle.prims_core.specs.Alphabet.{alphabet}
-use Rattle.crypt_core.specs.MadeSalts.{made_salt_length}
-use Rattle.crypt_core.specs.Methods.{salt_limit}
+use Rattle.crypt_core.specs.MethodLimits.{made_salt_length, salt_limit}
 use Rattle.crypt_core.specs.Schemes.{method_of}
 use Rattle.crypt_core.specs.declared.method.Method.{Method}
 use Rattle.crypt_core.proofs.MadeSaltLemmas.{made_short}

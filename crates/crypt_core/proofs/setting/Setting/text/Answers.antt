@@ -1,8 +1,7 @@
-use Rattle.crypt_core.specs.Crypt.{hash_limit}
+use Rattle.crypt_core.specs.TextLimits.{hash_limit}
 use Rattle.std.proofs.Common.{◌≡◌, ◌+◌, ◌<◌, List, ℕ, ◌++◌, length, ap, subst, ◌∙◌, length-append, arith}
 use Rattle.crypt_core.specs.declared.method.Method.{Method}
-use Rattle.crypt_core.specs.Methods.{prefix}
-use Rattle.crypt_core.specs.Packing.{packed_len}
+use Rattle.crypt_core.specs.MethodLimits.{packed_len, prefix}
 use Rattle.crypt_core.specs.Settings.{SettingValue, Spells, canonical_text, cost_part}
 use Rattle.crypt_core.specs.Schemes.{method_of}
 use Rattle.crypt_core.proofs.Canonical.{setting_bounded, canonical_short, canonical_spells, packed_short}

@@ -1,7 +1,7 @@
 use Rattle.std.proofs.Common.{ℕ, List, ◌++◌, ap, ◌∙◌}
 use Rattle.kdf_core.specs.Params.{cost_of}
 use Rattle.crypt_core.specs.declared.method.Method.TheVariants as methods
-use Rattle.crypt_core.specs.Methods.{prefix}
+use Rattle.crypt_core.specs.MethodLimits.{prefix}
 use Rattle.crypt_core.proofs.First.{refused_cost, refused_range, refused_ceiling}
 use Rattle.crypt_core.proofs.setting.read.params_at.Goals as goal
 

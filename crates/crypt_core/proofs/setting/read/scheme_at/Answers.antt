@@ -1,7 +1,7 @@
 use Rattle.std.proofs.Common.{ℕ, ◌≡◌, ◌++◌, List, ◌∙◌, ap, sym, refl, subst}
 use Rattle.crypt_core.specs.declared.method.Method.TheVariants as methods
 use Rattle.crypt_core.specs.declared.scheme.Scheme.TheVariants.{Scrypt}
-use Rattle.crypt_core.specs.Methods.{prefix}
+use Rattle.crypt_core.specs.MethodLimits.{prefix}
 use Rattle.crypt_core.specs.Settings.{SpellsScheme, scrypt_part, scrypt_part_len}
 use Rattle.crypt_core.proofs.AfterFront.{begins}
 use Rattle.crypt_core.proofs.First.{after_numbers, spelled_front}

@@ -1,0 +1,44 @@
+-- Names for single columns of the table of methods, and for numbers in it.
+use Rattle.std.specs.Prelude.{ℕ, List}
+use Rattle.crypt_core.specs.declared.method.Method.{Method}
+use Rattle.crypt_core.specs.declared.method.Method.TheVariants.{Md5crypt, Sha256crypt, Sha512crypt, Scrypt}
+use Rattle.crypt_core.specs.Methods.{method_row}
+
+-- The most bytes of salt that md5crypt keeps.
+abbrev pub md5crypt_salt_limit : ℕ
+md5crypt_salt_limit = 8
+
+-- The most bytes of salt that SHA-crypt keeps, over either digest.
+abbrev pub shacrypt_salt_limit : ℕ
+shacrypt_salt_limit = 16
+
+-- The most bytes of salt that scrypt keeps. No method keeps more.
+abbrev pub scrypt_salt_limit : ℕ
+scrypt_salt_limit = 86
+
+-- The most characters of a made salt, which scrypt has.
+abbrev pub made_salt_limit : ℕ
+made_salt_limit = 22
+
+-- What a text of the method begins with.
+abbrev pub prefix : Method → List ℕ
+prefix method = (method_row method).prefix
+
+-- The most bytes of salt that the method keeps.
+abbrev pub salt_limit : Method → ℕ
+salt_limit method = (method_row method).salt_limit
+
+-- The characters of a made salt.
+abbrev pub made_salt_length : Method → ℕ
+made_salt_length method = (method_row method).made_salt_length
+
+-- The bytes of the method's digest.
+abbrev pub digest_len : Method → ℕ
+digest_len method = (method_row method).digest_len
+
+-- The characters of the packed digest of a method.
+abbrev pub packed_len : Method → ℕ
+packed_len Md5crypt = 22
+packed_len Sha256crypt = 43
+packed_len Sha512crypt = 86
+packed_len Scrypt = 43

@@ -1,0 +1,13 @@
+-- How long the texts of settings and of hashes get.
+use Rattle.std.specs.Prelude.{ℕ, ◌+◌, length}
+use Rattle.crypt_core.specs.MethodLimits.{packed_len, prefix, scrypt_salt_limit}
+use Rattle.crypt_core.specs.Settings.{scrypt_part_len}
+use Rattle.crypt_core.specs.declared.method.Method.TheVariants as methods
+
+-- The most bytes of a canonical text: scrypt's are the longest.
+abbrev pub canonical_limit : ℕ
+canonical_limit = length (prefix methods.Scrypt) + scrypt_part_len + scrypt_salt_limit
+
+-- The most bytes of a hash: such a text, a `$` and the packed digest.
+abbrev pub hash_limit : ℕ
+hash_limit = canonical_limit + 1 + packed_len methods.Scrypt
