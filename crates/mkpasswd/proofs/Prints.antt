@@ -11,7 +11,7 @@ use Rattle.crypt_core.specs.declared.method.Method.{Method}
 use Rattle.run_core.specs.Answers.{password_answer}
 use Rattle.mkpasswd.specs.Commands.{IsNoOption, IsWhole, PrintsHash, hash_words}
 use Rattle.mkpasswd.specs.Options.{IsJob, command}
-use Rattle.run_core.specs.Runs.{RunState, DeviceBytes}
+use Rattle.run_core.specs.Runs.{RunState}
 use Rattle.run_core.specs.Texts.{as_line}
 use Rattle.run_core.specs.declared.job.Job.{Job}
 use Rattle.run_core.specs.declared.job.PasswordFrom.TheVariants.{Word, Input}
@@ -36,7 +36,7 @@ text_by : (method : Method) (salt password : Text) (job : Job) (bytes : Text) (s
 text_by method salt password job bytes stream maker_is work_is bytes_is =
     rw (maker_is, work_is, bytes_is) (ap as_line (append-nil (crypt password (made_setting method 0 salt))))
 
-module _ {I O E : Type 0} (told : DeviceBytes I O E) (name salt password : Text) (method : Method) (named : method_named name ≡ Some method)
+module _ (name salt password : Text) (method : Method) (named : method_named name ≡ Some method)
     (salt_is : IsNoOption salt) (password_is : IsNoOption password) where
   name_is : IsNoOption name
   name_is = inr (no_hyphen name method named)
@@ -56,8 +56,8 @@ module _ {I O E : Type 0} (told : DeviceBytes I O E) (name salt password : Text)
   not_set : {set : Bool} → set ≡ false → set ≡ true → ⊥
   not_set off on = true≢false (sym on ∙ off)
 
-  pub prints_hash : (words : List Text) (old new : RunState I O E) → words ≡ hash_words name salt password
-      → IsWhole told words old new → PrintsHash told method salt password old new
+  pub prints_hash : {I O E : Type 0} (words : List Text) (old new : RunState I O E) → words ≡ hash_words name salt password
+      → IsWhole words old new → PrintsHash method salt password old new
   prints_hash words old new are (inr (error, refuses, by, text, gives)) =
       absurd (rw (are, given_fault name salt password name_is salt_is password_is) at refuses.called_for)
   prints_hash words old new are (inl (Methods, (taken, asks), done)) = absurd (not_help name method named (rw (finds words are).type at asks))

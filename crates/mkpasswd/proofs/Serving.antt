@@ -9,7 +9,7 @@ use Rattle.run_core.specs.Devices.{Device}
 use Rattle.mkpasswd.specs.Faults.{fault_status, parse_status}
 use Rattle.mkpasswd.specs.Options.{Plans}
 use Rattle.run_core.specs.Output.{Shows}
-use Rattle.run_core.specs.Runs.{RunState, DeviceBytes}
+use Rattle.run_core.specs.Runs.{RunState}
 use Rattle.run_core.specs.Tallies.{tally_status}
 use Rattle.mkpasswd.specs.declared.fault.Fault.{Fault}
 use Rattle.mkpasswd.specs.declared.fault.Fault.TheVariants.{Start, Usage, Run}
@@ -22,13 +22,13 @@ use Rattle.run_core.specs.declared.tally.Tally.{Tally}
 
 -- ---- a text that was shown
 
-module _ {T : Type 0} (contents : T → Option (List ℕ)) where
+module _ {T : Type 0} where
   -- the line of a fault was shown, in as many calls as it has bytes at most
   pub is_told : {A : Type 0} (fault : Fault) (old new : Device T) (line : List ℕ) (turns : ℕ) (result : Result A RunFault)
-      → line ≡ fault_line fault → turns ≡ length line → Shows contents turns old new line result → IsTold contents fault old new
+      → line ≡ fault_line fault → turns ≡ length line → Shows turns old new line result → IsTold fault old new
   is_told {A} fault old new line turns result line_is turns_is shows =
-      let tallied : Shows contents turns old new line (as_tally result) = shows-tally contents turns old new line result shows in
-      let shown : Shows contents (length line) old new line (as_tally result) = rw turns_is at tallied in
+      let tallied : Shows turns old new line (as_tally result) = shows-tally turns old new line result shows in
+      let shown : Shows (length line) old new line (as_tally result) = rw turns_is at tallied in
       (as_tally result, rw line_is at shown)
 
 -- ---- `clap`'s text
@@ -55,18 +55,18 @@ status_by_kind kind.Io = inl ((λ help. cc), (λ version. cc), refl)
 status_by_kind kind.Format = inl ((λ help. cc), (λ version. cc), refl)
 status_by_kind kind.OutOfMemory = inl ((λ help. cc), (λ version. cc), refl)
 
-module _ {O E : Type 0} (contents : O → Option (List ℕ)) (fault_contents : E → Option (List ℕ)) where
+module _ {O E : Type 0} where
   pub help_shown : (which : ErrorKind) (turns : ℕ) (out : Device O) (faults : Device E) (new_out : Device O) (new_faults : Device E) (status : ℕ)
-      → ¬ ((which ≢ kind.DisplayHelp) × (which ≢ kind.DisplayVersion)) → ShowsHelp contents fault_contents turns out faults new_out new_faults status
-      → ShowsError contents fault_contents (parse_status which) turns out faults new_out new_faults status
+      → ¬ ((which ≢ kind.DisplayHelp) × (which ≢ kind.DisplayVersion)) → ShowsHelp turns out faults new_out new_faults status
+      → ShowsError (parse_status which) turns out faults new_out new_faults status
   help_shown which turns out faults new_out new_faults status asked shown = elim (status_by_kind which) [
     | inl other ↦ absurd (asked (other.0, other.1))
     | inr own ↦ rw own.1 shown
   ]
 
   pub mistake_shown : (which : ErrorKind) (turns : ℕ) (out : Device O) (faults : Device E) (new_out : Device O) (new_faults : Device E) (status : ℕ)
-      → (which ≢ kind.DisplayHelp) × (which ≢ kind.DisplayVersion) → ShowsMistake contents fault_contents turns out faults new_out new_faults status
-      → ShowsError contents fault_contents (parse_status which) turns out faults new_out new_faults status
+      → (which ≢ kind.DisplayHelp) × (which ≢ kind.DisplayVersion) → ShowsMistake turns out faults new_out new_faults status
+      → ShowsError (parse_status which) turns out faults new_out new_faults status
   mistake_shown which turns out faults new_out new_faults status other shown = elim (status_by_kind which) [
     | inl own ↦ rw own.2 shown
     | inr asked ↦ absurd (asked.0 other)
@@ -75,8 +75,8 @@ module _ {O E : Type 0} (contents : O → Option (List ℕ)) (fault_contents : E
   -- any other refusal of the words has a line of its own
   pub refusal_shown : (fault : UsageFault) (turns : ℕ) (out : Device O) (faults : Device E) (new_out : Device O) (new_faults : Device E) (status : ℕ)
       → (fault ≡ UnknownMethod) ⊎ ((fault ≡ TwoSalts) ⊎ ((fault ≡ TwoModes) ⊎ (((cause : MakeFault) × (fault ≡ Make cause)) ⊎ (fault ≡ NoMemory))))
-      → TellsFault contents fault_contents (Usage fault) out faults new_out new_faults status
-      → RefusalShown contents fault_contents fault turns out faults new_out new_faults status
+      → TellsFault (Usage fault) out faults new_out new_faults status
+      → RefusalShown fault turns out faults new_out new_faults status
   refusal_shown fault turns out faults new_out new_faults status (inl is) only = rw is (rw is at only)
   refusal_shown fault turns out faults new_out new_faults status (inr (inl is)) only = rw is (rw is at only)
   refusal_shown fault turns out faults new_out new_faults status (inr (inr (inl is))) only = rw is (rw is at only)
@@ -85,7 +85,7 @@ module _ {O E : Type 0} (contents : O → Option (List ℕ)) (fault_contents : E
 
 -- ---- the command
 
-module _ {I O E : Type 0} (told : DeviceBytes I O E) where
+module _ {I O E : Type 0} where
   -- with other outputs
   abbrev pub with_faults : RunState I O E → Device E → RunState I O E
   with_faults old faults = record old { faults = faults }
@@ -94,27 +94,27 @@ module _ {I O E : Type 0} (told : DeviceBytes I O E) where
   with_outs old out faults = record old { out = out; faults = faults }
 
   pub serves_run : (turns : ℕ) (generates : Bool) (words : List Text) (plan : Plan) (old new : RunState I O E) (tally : Tally) (status : ℕ)
-      → Plans words (Ok plan) → RunsOrLacks told turns generates plan old new (Ok tally) → status ≡ tally_status tally
-      → Serves told turns generates words old new status
+      → Plans words (Ok plan) → RunsOrLacks turns generates plan old new (Ok tally) → status ≡ tally_status tally
+      → Serves turns generates words old new status
   serves_run turns generates words plan old new tally status planned runs status_is =
       (Ok plan, planned, rw runs.0 (new, Ok tally, runs.1, (refl, (refl, refl, status_is))))
 
   pub serves_fault : (turns : ℕ) (generates : Bool) (words : List Text) (plan : Plan) (old mid : RunState I O E) (faults : Device E) (fault : Fault) (status : ℕ)
-      → Plans words (Ok plan) → RunsOrLacks told turns generates plan old mid (Err fault) → IsTold told.fault_contents fault mid.faults faults
-      → status ≡ fault_status fault → Serves told turns generates words old (with_faults mid faults) status
-  serves_fault turns generates words plan old mid faults Start status planned runs device_bytes status_is =
-      (Ok plan, planned, rw (runs.0, ← runs.1) (refl, (device_bytes, refl, status_is)))
-  serves_fault turns generates words plan old mid faults (Run fault) status planned runs device_bytes status_is =
-      (Ok plan, planned, rw runs.0 (mid, Err fault, runs.1, (refl, (device_bytes, refl, status_is))))
-  serves_fault turns generates words plan old mid faults (Usage fault) status planned runs device_bytes status_is = absurd runs
+      → Plans words (Ok plan) → RunsOrLacks turns generates plan old mid (Err fault) → IsTold fault mid.faults faults
+      → status ≡ fault_status fault → Serves turns generates words old (with_faults mid faults) status
+  serves_fault turns generates words plan old mid faults Start status planned runs is_told status_is =
+      (Ok plan, planned, rw (runs.0, ← runs.1) (refl, (is_told, refl, status_is)))
+  serves_fault turns generates words plan old mid faults (Run fault) status planned runs is_told status_is =
+      (Ok plan, planned, rw runs.0 (mid, Err fault, runs.1, (refl, (is_told, refl, status_is))))
+  serves_fault turns generates words plan old mid faults (Usage fault) status planned runs is_told status_is = absurd runs
 
   pub serves_refusal : (turns : ℕ) (generates : Bool) (words : List Text) (fault : UsageFault) (old : RunState I O E) (out : Device O) (faults : Device E) (status : ℕ)
-      → Plans words (Err fault) → RefusalShown told.contents told.fault_contents fault turns old.out old.faults out faults status
-      → Serves told turns generates words old (with_outs old out faults) status
+      → Plans words (Err fault) → RefusalShown fault turns old.out old.faults out faults status
+      → Serves turns generates words old (with_outs old out faults) status
   serves_refusal turns generates words (Parse error) old out faults status planned (inl shown) = (Err (Parse error), planned, (refl, shown))
-  serves_refusal turns generates words (Parse error) old out faults status planned (inr device_bytes) = (Err NoMemory, tt, (refl, device_bytes))
-  serves_refusal turns generates words UnknownMethod old out faults status planned device_bytes = (Err UnknownMethod, planned, (refl, device_bytes))
-  serves_refusal turns generates words TwoSalts old out faults status planned device_bytes = (Err TwoSalts, planned, (refl, device_bytes))
-  serves_refusal turns generates words TwoModes old out faults status planned device_bytes = (Err TwoModes, planned, (refl, device_bytes))
-  serves_refusal turns generates words (Make fault) old out faults status planned device_bytes = (Err (Make fault), planned, (refl, device_bytes))
-  serves_refusal turns generates words NoMemory old out faults status planned device_bytes = (Err NoMemory, planned, (refl, device_bytes))
+  serves_refusal turns generates words (Parse error) old out faults status planned (inr is_told) = (Err NoMemory, tt, (refl, is_told))
+  serves_refusal turns generates words UnknownMethod old out faults status planned is_told = (Err UnknownMethod, planned, (refl, is_told))
+  serves_refusal turns generates words TwoSalts old out faults status planned is_told = (Err TwoSalts, planned, (refl, is_told))
+  serves_refusal turns generates words TwoModes old out faults status planned is_told = (Err TwoModes, planned, (refl, is_told))
+  serves_refusal turns generates words (Make fault) old out faults status planned is_told = (Err (Make fault), planned, (refl, is_told))
+  serves_refusal turns generates words NoMemory old out faults status planned is_told = (Err NoMemory, planned, (refl, is_told))

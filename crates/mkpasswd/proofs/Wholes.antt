@@ -10,7 +10,7 @@ use Rattle.mkpasswd.specs.Faults.{parse_status, run_status}
 use Rattle.run_core.specs.Input.{Reads}
 use Rattle.run_core.specs.LineRuns.{EndsWhole}
 use Rattle.mkpasswd.specs.Options.{Plans}
-use Rattle.run_core.specs.Runs.{Finishes, RunState, DeviceBytes}
+use Rattle.run_core.specs.Runs.{Finishes, RunState}
 use Rattle.run_core.specs.Tallies.{tally_status}
 use Rattle.run_core.specs.declared.fault.RunFault.{RunFault}
 use Rattle.run_core.specs.declared.fault.RunFault.TheVariants.{Read, Write, OutOfMemory, Turns, Password}
@@ -36,15 +36,15 @@ consumes_nothing : (known : Option (List ℕ)) → Consumes known known []
 consumes_nothing None = tt
 consumes_nothing (Some bytes) = refl
 
-reads_nothing : {I : Type 0} (remaining : I → Option (List ℕ)) (input : Device I) → Reads remaining input input []
-reads_nothing remaining input = record { shown = consumes_nothing (remaining input.inner); counted = omega arith }
+reads_nothing : {I : Type 0} (input : Device I) → Reads input input []
+reads_nothing input = record { shown = consumes_nothing input.shown; counted = omega arith }
 
-module _ {I O E : Type 0} (told : DeviceBytes I O E) where
+module _ {I O E : Type 0} where
   -- ---- a plan whose run has a tally of status 0
 
   succeeds : (answer : Answer) (read : List ℕ) (old new : RunState I O E) (tally : Tally) → tally_status tally ≡ 0
-      → Reads told.remaining old.input new.input read → Finishes told answer old new (Ok tally)
-      → Succeeds told read answer old new
+      → Reads old.input new.input read → Finishes answer old new (Ok tally)
+      → Succeeds read answer old new
   succeeds answer read old new tally well input (is, fails, flushes, after) = record {
     input = input;
     run = (refl, fails, flushes, after);
@@ -52,50 +52,50 @@ module _ {I O E : Type 0} (told : DeviceBytes I O E) where
   }
 
   by_lines : (kind : Kind) (job : Job) (bytes : List ℕ) (old new : RunState I O E) (tally : Tally) → tally_status tally ≡ 0
-      → Reads told.remaining old.input new.input bytes → EndsWhole told kind job bytes old new (Ok tally)
-      → SucceedsByLines told kind job old new
+      → Reads old.input new.input bytes → EndsWhole kind job bytes old new (Ok tally)
+      → SucceedsByLines kind job old new
   by_lines kind job bytes old new tally well reads (answers, read_out, are, finishes) =
       (bytes, answers, read_out, are, succeeds answers bytes old new tally well reads finishes)
 
   is_done : (turns : ℕ) (plan : Plan) (old new : RunState I O E) (tally : Tally) → tally_status tally ≡ 0
-      → Ends told turns plan old new (Ok tally) → IsDone told plan old new
+      → Ends turns plan old new (Ok tally) → IsDone plan old new
   is_done turns Methods old new tally well (shows, same, is) =
       record { others = same; gives = shows.gives; unfailed = shows.outcome }
   is_done turns (One job (Word password)) old new tally well ((same, (is_password, finishes)), within) =
-      (is_password, same, succeeds _ [] old new tally well (rw same (reads_nothing told.remaining old.input)) finishes)
+      (is_password, same, succeeds _ [] old new tally well (rw same (reads_nothing old.input)) finishes)
   is_done turns (One job Input) old new tally well ((bytes, reads, (decided, (is_password, finishes))), within) =
       (bytes, decided, is_password, succeeds _ bytes old new tally well reads finishes)
   is_done turns (Batch job) old new tally well ((bytes, reads, ends), within) = by_lines kinds.Batch job bytes old new tally well reads ends
   is_done turns (Check job) old new tally well ((bytes, reads, ends), within) = by_lines kinds.Check job bytes old new tally well reads ends
 
   of_plan : (lacks : Bool) (turns : ℕ) (plan : Plan) (words : List Text) (old new : RunState I O E) (status : ℕ) → status ≡ 0 → Plans words (Ok plan)
-      → RunsPlan lacks told turns plan old new status → IsWhole told words old new
-  of_plan true turns plan words old new status well planned (rest, (device_bytes, same, is)) = absurd (omega (arith, is, well))
+      → RunsPlan lacks turns plan old new status → IsWhole words old new
+  of_plan true turns plan words old new status well planned (rest, (is_told, same, is)) = absurd (omega (arith, is, well))
   of_plan false turns plan words old new status well planned (mid, Ok tally, ends, (rest, (out_same, faults_same, is))) =
       rw (rest, out_same, faults_same) (inl (plan, planned, is_done turns plan old mid tally (sym is ∙ well) ends))
-  of_plan false turns plan words old new status well planned (mid, Err fault, ends, (rest, (device_bytes, same, is))) =
+  of_plan false turns plan words old new status well planned (mid, Err fault, ends, (rest, (is_told, same, is))) =
       absurd (fault_of_run fault (sym is ∙ well))
 
   -- ---- words that are refused
 
   of_error : (kept : ℕ) (turns : ℕ) (words : List Text) (error : Error) (old new : RunState I O E) (status : ℕ) → status ≡ 0
       → Plans words (Err (Parse error)) → parse_status (kind_of error) ≡ kept
-      → InOutputs (ShowsError told.contents told.fault_contents kept turns) old new status → IsWhole told words old new
+      → InOutputs (ShowsError kept turns) old new status → IsWhole words old new
   of_error zero turns words error old new status well planned by (rest, (text, mid, Ok tally, shows, is_none, (out_same, faults_same, is))) =
       inr (error, planned, by, text, rw (rest, out_same, faults_same) (record { others = refl; gives = shows.gives; unfailed = shows.outcome }))
-  of_error zero turns words error old new status well planned by (rest, (text, mid, Err fault, shows, is_none, (device_bytes, same, is))) =
+  of_error zero turns words error old new status well planned by (rest, (text, mid, Err fault, shows, is_none, (is_told, same, is))) =
       absurd (fault_of_run fault (sym is ∙ well))
   of_error (suc n) turns words error old new status well planned by (rest, (text, result, shows, same, is)) =
       absurd (omega (arith, is, well))
 
   pub is_whole : (turns : ℕ) (generates : Bool) (words : List Text) (old new : RunState I O E) (status : ℕ) → status ≡ 0
-      → Serves told turns generates words old new status → IsWhole told words old new
+      → Serves turns generates words old new status → IsWhole words old new
   is_whole turns generates words old new status well (Ok plan, planned, follows) =
       of_plan (lacks_generator generates plan) turns plan words old new status well planned follows
   is_whole turns generates words old new status well (Err (Parse error), planned, follows) =
       of_error (parse_status (kind_of error)) turns words error old new status well planned refl follows
-  is_whole turns generates words old new status well (Err UnknownMethod, planned, (rest, (device_bytes, same, is))) = absurd (omega (arith, is, well))
-  is_whole turns generates words old new status well (Err TwoSalts, planned, (rest, (device_bytes, same, is))) = absurd (omega (arith, is, well))
-  is_whole turns generates words old new status well (Err TwoModes, planned, (rest, (device_bytes, same, is))) = absurd (omega (arith, is, well))
-  is_whole turns generates words old new status well (Err (Make fault), planned, (rest, (device_bytes, same, is))) = absurd (omega (arith, is, well))
-  is_whole turns generates words old new status well (Err NoMemory, planned, (rest, (device_bytes, same, is))) = absurd (omega (arith, is, well))
+  is_whole turns generates words old new status well (Err UnknownMethod, planned, (rest, (is_told, same, is))) = absurd (omega (arith, is, well))
+  is_whole turns generates words old new status well (Err TwoSalts, planned, (rest, (is_told, same, is))) = absurd (omega (arith, is, well))
+  is_whole turns generates words old new status well (Err TwoModes, planned, (rest, (is_told, same, is))) = absurd (omega (arith, is, well))
+  is_whole turns generates words old new status well (Err (Make fault), planned, (rest, (is_told, same, is))) = absurd (omega (arith, is, well))
+  is_whole turns generates words old new status well (Err NoMemory, planned, (rest, (is_told, same, is))) = absurd (omega (arith, is, well))

@@ -5,7 +5,7 @@ ghost use Rattle.crypt_core.specs.declared.method.Method.{Method};
 ghost use Rattle.mkpasswd.specs.Commands.{ErrorShown, IsNoOption, IsTold, IsWhole, PrintsHash, RefusalShown, RunsOrLacks, Serves, fault_line, hash_words, stream_in};
 ghost use Rattle.run_core.specs.Devices.{HasRoomWithinRun, HaveRoomBeforeRun, turns_limit};
 ghost use Rattle.mkpasswd.specs.Faults.{fault_status};
-ghost use Rattle.run_core.specs.Runs.{HasCountsForRun, run_state, device_bytes};
+ghost use Rattle.run_core.specs.Runs.{HasCountsForRun, run_state};
 
 use crate::fault::{Fault, UsageFault};
 use crate::job::Plan;
@@ -55,15 +55,15 @@ pub fn run_command<I: Read, O: Write, E: Write, R: Rng>(
     requires turns { turns ≤ turns_limit }
     requires devices { HaveRoomBeforeRun input.old out.old faults.old }
     requires counts { HasCountsForRun meter.old }
-    ensures serves { Serves (device_bytes I.remaining O.contents E.contents) turns (is_some generator.old) (map string_bytes words.now)
+    ensures serves { Serves turns (is_some generator.old) (map string_bytes words.now)
         (run_state input.old out.old faults.old (stream_in R.stream generator.old) meter.old)
         (run_state input.new out.new faults.new (stream_in R.stream generator.new) meter.new) result }
-    ensures whole { result ≡ 0 → IsWhole (device_bytes I.remaining O.contents E.contents) (map string_bytes words.now)
+    ensures whole { result ≡ 0 → IsWhole (map string_bytes words.now)
         (run_state input.old out.old faults.old (stream_in R.stream generator.old) meter.old)
         (run_state input.new out.new faults.new (stream_in R.stream generator.new) meter.new) }
     ensures prints { (name salt password : List ℕ) → (method : Method) → method_named name ≡ Some method
         → IsNoOption salt → IsNoOption password → map string_bytes words.now ≡ hash_words name salt password → result ≡ 0
-        → PrintsHash (device_bytes I.remaining O.contents E.contents) method salt password
+        → PrintsHash method salt password
         (run_state input.old out.old faults.old (stream_in R.stream generator.old) meter.old)
         (run_state input.new out.new faults.new (stream_in R.stream generator.new) meter.new) }
     ensures generator { is_some generator.new ≡ is_some generator.old }
@@ -93,7 +93,7 @@ fn run_plan<I: Read, O: Write, E: Write, R: Rng>(
     requires turns { turns ≤ turns_limit }
     requires devices { HaveRoomBeforeRun input.old out.old faults.old }
     requires counts { HasCountsForRun meter.old }
-    ensures runs { RunsOrLacks (device_bytes I.remaining O.contents E.contents) turns (is_some generator.old) plan.now
+    ensures runs { RunsOrLacks turns (is_some generator.old) plan.now
         (run_state input.old out.old faults.old (stream_in R.stream generator.old) meter.old)
         (run_state input.new out.new faults.new (stream_in R.stream generator.new) meter.new) result }
     ensures fault_room { HasRoomWithinRun faults.new }
@@ -125,7 +125,7 @@ fn show_refusal<O: Write, E: Write>(
     requires turns { turns ≤ turns_limit }
     requires out_room { HasRoomWithinRun out.old }
     requires fault_room { HasRoomWithinRun faults.old }
-    ensures { RefusalShown O.contents E.contents fault turns out.old faults.old out.new faults.new result }
+    ensures { RefusalShown fault turns out.old faults.old out.new faults.new result }
 {
     match fault {
         UsageFault::Parse(error) => show_error(alloc, &error, out, faults, turns),
@@ -148,7 +148,7 @@ fn show_error<O: Write, E: Write>(
     requires turns { turns ≤ turns_limit }
     requires out_room { HasRoomWithinRun out.old }
     requires fault_room { HasRoomWithinRun faults.old }
-    ensures { ErrorShown O.contents E.contents error.now turns out.old faults.old out.new faults.new result }
+    ensures { ErrorShown error.now turns out.old faults.old out.new faults.new result }
 {
     let Ok(text) = format!(in alloc; "{error}") else {
         return report_fault(&Fault::Usage(UsageFault::OutOfMemory), faults);
@@ -170,7 +170,7 @@ fn show_error<O: Write, E: Write>(
 /// The output's numbers have to leave room for these calls, as they do behind a run.
 pub fn report_fault<E: Write>(fault: &Fault, faults: &mut Output<E>) -> u8
     requires room { HasRoomWithinRun faults.old }
-    ensures told { IsTold E.contents fault.now faults.old faults.new }
+    ensures told { IsTold fault.now faults.old faults.new }
     ensures status { result ≡ fault_status fault.now }
 {
     let line = fault_line(fault);

@@ -92,13 +92,13 @@ module _ {O E : Type 0} where
   -- ---- an answer that was made
 
   -- whether it is given whole or cut short
-  pub answers-sent : (contents : O → Option (List ℕ)) (fault_contents : E → Option (List ℕ)) (left : ℕ) (answer : Answer) (old new : OutputState O E) {A : Type 0} (result : Result A RunFault)
+  pub answers-sent : (left : ℕ) (answer : Answer) (old new : OutputState O E) {A : Type 0} (result : Result A RunFault)
       → new.stream ≡ answer.stream → new.counts ≡ after_work old.counts answer.hashings
-      → Sends contents fault_contents left answer old.out old.faults new.out new.faults result
-      → AnswersOne contents fault_contents left answer old new result
-  answers-sent contents fault_contents left answer old new (Ok done) stream counts sends = (stream, counts, sends)
-  answers-sent contents fault_contents left answer old new (Err Read) stream counts sends = (stream, counts, sends)
-  answers-sent contents fault_contents left answer old new (Err Write) stream counts sends = (stream, counts, sends)
-  answers-sent contents fault_contents left answer old new (Err OutOfMemory) stream counts sends = absurd sends
-  answers-sent contents fault_contents left answer old new (Err Turns) stream counts sends = (stream, counts, sends)
-  answers-sent contents fault_contents left answer old new (Err (Password fault)) stream counts sends = (stream, counts, sends)
+      → Sends left answer old.out old.faults new.out new.faults result
+      → AnswersOne left answer old new result
+  answers-sent left answer old new (Ok done) stream counts sends = (stream, counts, sends)
+  answers-sent left answer old new (Err Read) stream counts sends = (stream, counts, sends)
+  answers-sent left answer old new (Err Write) stream counts sends = (stream, counts, sends)
+  answers-sent left answer old new (Err OutOfMemory) stream counts sends = absurd sends
+  answers-sent left answer old new (Err Turns) stream counts sends = (stream, counts, sends)
+  answers-sent left answer old new (Err (Password fault)) stream counts sends = (stream, counts, sends)

@@ -13,7 +13,7 @@ use Rattle.run_core.specs.One.{EndsBy, EndsOne, EndsByInput}
 use Rattle.run_core.specs.Output.{ShowsOutcome, Takes}
 use Rattle.run_core.specs.Private.Deliveries.{Delivers, FinishesBoth}
 use Rattle.run_core.specs.Private.Fetching.{ObtainsFrom}
-use Rattle.run_core.specs.Runs.{Fails, RunState, IsAfter, IsAfterBoth, TakesAnswer, DeviceBytes, run_state}
+use Rattle.run_core.specs.Runs.{Fails, RunState, IsAfter, IsAfterBoth, TakesAnswer, run_state}
 use Rattle.run_core.specs.Tallies.{one_line}
 use Rattle.run_core.specs.declared.fault.RunFault.{RunFault}
 use Rattle.run_core.specs.declared.fault.RunFault.TheVariants.{Read, Write, OutOfMemory, Turns, Password}
@@ -24,7 +24,13 @@ use Rattle.run_core.specs.declared.tally.Tally.{Tally}
 use Rattle.run_core.proofs.Finishing.{HasAnswered, finishes, finishes-with_fault}
 use Rattle.run_core.proofs.Sending.{takes-nothing}
 
-module _ {I O E : Type 0} (told : DeviceBytes I O E) (turns : ℕ) (job : Job) where
+-- the password is known, and was one
+is_password : {I : Type 0} (from : PasswordFrom) (old input : Device I) (left : ℕ) (password : List ℕ)
+    → ObtainsFrom from old input left (Ok password) → IsPassword password × (input.failures ≡ old.failures)
+is_password (Word bytes) old input left password (same, (is, ok)) = (subst IsPassword (sym is) ok, ap (λ d. d.failures) same)
+is_password Input old input left password (bytes, reads, (unfailed, decided, is, ok)) = (ok, unfailed)
+
+module _ {I O E : Type 0} (turns : ℕ) (job : Job) where
   -- the hands after a step that left the outputs alone
   abbrev before_giving : RunState I O E → Device I → Stream → Work → RunState I O E
   before_giving old input stream counts = run_state input old.out old.faults stream counts
@@ -36,10 +42,10 @@ module _ {I O E : Type 0} (told : DeviceBytes I O E) (turns : ℕ) (job : Job) w
       record { of_input = failures; of_out = sym (add-zero _); of_faults = sym (add-zero _) }
 
   takes-none : (old : RunState I O E) (input : Device I) (stream : Stream) (counts : Work)
-      → TakesAnswer told (no_answer old.stream) old (before_giving old input stream counts)
+      → TakesAnswer (no_answer old.stream) old (before_giving old input stream counts)
   takes-none old input stream counts = record {
-    text = takes-nothing told.contents old.out;
-    fault_text = takes-nothing told.fault_contents old.faults;
+    text = takes-nothing old.out;
+    fault_text = takes-nothing old.faults;
   }
 
   still : (old : RunState I O E) (input : Device I) → IsAfter (no_answer old.stream) old (before_giving old input old.stream old.counts)
@@ -49,8 +55,8 @@ module _ {I O E : Type 0} (told : DeviceBytes I O E) (turns : ℕ) (job : Job) w
 
   -- there is none
   pub ends-without_password : (from : PasswordFrom) (old : RunState I O E) (input : Device I) (left : ℕ) (fault : RunFault)
-      → ObtainsFrom told.remaining from old.input input left (Err fault) → input.calls + left ≡ old.input.calls + turns
-      → EndsOne told turns job from old (before_giving old input old.stream old.counts) (Err fault)
+      → ObtainsFrom from old.input input left (Err fault) → input.calls + left ≡ old.input.calls + turns
+      → EndsOne turns job from old (before_giving old input old.stream old.counts) (Err fault)
   ends-without_password (Word bytes) old input left (Password fault) (same, refused) calls = (
     same,
     (
@@ -104,8 +110,8 @@ module _ {I O E : Type 0} (told : DeviceBytes I O E) (turns : ℕ) (job : Job) w
         fails-in_input old input old.stream old.counts 0 (unfailed ∙ sym (add-zero _)),
         omega (arith, none, calls),
         record {
-          text = ([], [], refl, takes-nothing told.contents old.out);
-          fault_text = ([], [], refl, takes-nothing told.fault_contents old.faults);
+          text = ([], [], refl, takes-nothing old.out);
+          fault_text = ([], [], refl, takes-nothing old.faults);
         },
         record { stream = refl; counts = refl },
       ),
@@ -114,22 +120,16 @@ module _ {I O E : Type 0} (told : DeviceBytes I O E) (turns : ℕ) (job : Job) w
   ends-without_password Input old input left Write (bytes, reads, obtains) calls = absurd obtains
   ends-without_password Input old input left OutOfMemory (bytes, reads, obtains) calls = absurd obtains
 
-  -- it is known, and was one
-  is_password : (from : PasswordFrom) (old input : Device I) (left : ℕ) (password : List ℕ)
-      → ObtainsFrom told.remaining from old input left (Ok password) → IsPassword password × (input.failures ≡ old.failures)
-  is_password (Word bytes) old input left password (same, (is, ok)) = (subst IsPassword (sym is) ok, ap (λ d. d.failures) same)
-  is_password Input old input left password (bytes, reads, (unfailed, decided, is, ok)) = (ok, unfailed)
-
   -- the run ends as it does by that password
   ends-with_password : (from : PasswordFrom) (old new : RunState I O E) (left : ℕ) (password : List ℕ) (result : Result Tally RunFault)
-      → ObtainsFrom told.remaining from old.input new.input left (Ok password) → EndsBy told turns job password old new result
-      → EndsOne told turns job from old new result
+      → ObtainsFrom from old.input new.input left (Ok password) → EndsBy turns job password old new result
+      → EndsOne turns job from old new result
   ends-with_password (Word bytes) old new left password result (same, (is, ok)) ends =
-      (same, subst (λ (p : List ℕ). EndsBy told turns job p old new result) is ends)
+      (same, subst (λ (p : List ℕ). EndsBy turns job p old new result) is ends)
   ends-with_password Input old new left password result (bytes, reads, (unfailed, decided, is, ok)) ends =
-      (bytes, reads, go result (subst (λ (p : List ℕ). EndsBy told turns job p old new result) is ends))
+      (bytes, reads, go result (subst (λ (p : List ℕ). EndsBy turns job p old new result) is ends))
     where
-      go : (r : Result Tally RunFault) → EndsBy told turns job (first_line bytes) old new r → EndsByInput told turns job bytes old new r
+      go : (r : Result Tally RunFault) → EndsBy turns job (first_line bytes) old new r → EndsByInput turns job bytes old new r
       go (Ok tally) e = (decided, e)
       go (Err Read) e = absurd e
       go (Err Write) e = (decided, e)
@@ -141,9 +141,9 @@ module _ {I O E : Type 0} (told : DeviceBytes I O E) (turns : ℕ) (job : Job) w
 
   -- memory for it was refused
   pub ends-out_of_memory : (from : PasswordFrom) (password : List ℕ) (old : RunState I O E) (input : Device I) (stream : Stream) (counts : Work) (left : ℕ)
-      → ObtainsFrom told.remaining from old.input input left (Ok password) → stream ≡ stream_after job.maker old.stream
+      → ObtainsFrom from old.input input left (Ok password) → stream ≡ stream_after job.maker old.stream
       → IsAfterRefusedGrowth old.counts (next_setting job.maker old.stream).scheme counts
-      → EndsOne told turns job from old (before_giving old input stream counts) (Err OutOfMemory)
+      → EndsOne turns job from old (before_giving old input stream counts) (Err OutOfMemory)
   ends-out_of_memory from password old input stream counts left obtains drawn refused =
       let is = is_password from old.input input left password obtains in
       ends-with_password from old (before_giving old input stream counts) left password (Err OutOfMemory) obtains (
@@ -157,14 +157,14 @@ module _ {I O E : Type 0} (told : DeviceBytes I O E) (turns : ℕ) (job : Job) w
 
   -- it is made: the words are drawn, and its work is counted
   pub record HasHash (from : PasswordFrom) (password line : List ℕ) (old : RunState I O E) (input : Device I) (stream : Stream) (counts : Work) (left : ℕ) : Type 0 where
-    pub obtains : ObtainsFrom told.remaining from old.input input left (Ok password)
+    pub obtains : ObtainsFrom from old.input input left (Ok password)
     pub calls : input.calls + left ≡ old.input.calls + turns
     pub line_is : line ≡ (password_answer job password old.stream).text
     pub stream_is : stream ≡ (password_answer job password old.stream).stream
     pub counts_are : counts ≡ after_work old.counts (password_answer job password old.stream).hashings
 
   pub has_hash : (from : PasswordFrom) (password line : List ℕ) (old : RunState I O E) (input : Device I) (stream : Stream) (counts : Work) (left : ℕ)
-      → ObtainsFrom told.remaining from old.input input left (Ok password) → input.calls + left ≡ old.input.calls + turns
+      → ObtainsFrom from old.input input left (Ok password) → input.calls + left ≡ old.input.calls + turns
       → stream ≡ stream_after job.maker old.stream → counts ≡ raised_by old.counts (work password (next_setting job.maker old.stream))
       → line ≡ (password_answer job password old.stream).text
       → HasHash from password line old input stream counts left
@@ -181,8 +181,8 @@ module _ {I O E : Type 0} (told : DeviceBytes I O E) (turns : ℕ) (job : Job) w
   -- it was cut short
   pub ends-sending : (from : PasswordFrom) (password line : List ℕ) (old : RunState I O E) (input : Device I) (out : Device O) (stream : Stream) (counts : Work) (left : ℕ) (fault : RunFault)
       → HasHash from password line old input stream counts left
-      → Delivers told.contents old.out out line {A = Unit {0}} (Err fault) → ShowsOutcome {A = Unit {0}} left old.out out (Err fault)
-      → EndsOne told turns job from old (run_state input out old.faults stream counts) (Err fault)
+      → Delivers old.out out line {A = Unit {0}} (Err fault) → ShowsOutcome {A = Unit {0}} left old.out out (Err fault)
+      → EndsOne turns job from old (run_state input out old.faults stream counts) (Err fault)
   ends-sending from password line old input out stream counts left Write has (sent, unsent, split, takes) failed =
       let is = is_password from old.input input left password has.obtains in
       ends-with_password from old (run_state input out old.faults stream counts) left password (Err Write) has.obtains (
@@ -190,7 +190,7 @@ module _ {I O E : Type 0} (told : DeviceBytes I O E) (turns : ℕ) (job : Job) w
         inl (
           inl (
             record { of_input = is.1 ∙ sym (add-zero _); of_out = failed; of_faults = sym (add-zero _) },
-            record { text = (sent, unsent, split ∙ has.line_is, takes); fault_text = takes-nothing told.fault_contents old.faults },
+            record { text = (sent, unsent, split ∙ has.line_is, takes); fault_text = takes-nothing old.faults },
           ),
           after_answer from password line old input out stream counts left has,
         ),
@@ -202,7 +202,7 @@ module _ {I O E : Type 0} (told : DeviceBytes I O E) (turns : ℕ) (job : Job) w
         (
           record { of_input = is.1 ∙ sym (add-zero _); of_out = kept ∙ sym (add-zero _); of_faults = sym (add-zero _) },
           (let calls = has.calls in omega (arith, calls, made)),
-          record { text = (sent, unsent, split ∙ has.line_is, takes); fault_text = ([], [], refl, takes-nothing told.fault_contents old.faults) },
+          record { text = (sent, unsent, split ∙ has.line_is, takes); fault_text = ([], [], refl, takes-nothing old.faults) },
           after_answer from password line old input out stream counts left has,
         ),
         rw (← has.line_is) some,
@@ -213,38 +213,38 @@ module _ {I O E : Type 0} (told : DeviceBytes I O E) (turns : ℕ) (job : Job) w
 
   -- it is given
   answered : (from : PasswordFrom) (password line : List ℕ) (old : RunState I O E) (input : Device I) (out : Device O) (stream : Stream) (counts : Work) (left : ℕ)
-      → HasHash from password line old input stream counts left → Takes told.contents old.out out line → out.failures ≡ old.out.failures
-      → HasAnswered told (password_answer job password old.stream) old (run_state input out old.faults stream counts)
+      → HasHash from password line old input stream counts left → Takes old.out out line → out.failures ≡ old.out.failures
+      → HasAnswered (password_answer job password old.stream) old (run_state input out old.faults stream counts)
   answered from password line old input out stream counts left has takes unfailed =
       let is = is_password from old.input input left password has.obtains in
       record {
         fails = record { of_input = is.1 ∙ sym (add-zero _); of_out = unfailed ∙ sym (add-zero _); of_faults = sym (add-zero _) };
         takes = record {
-          text = subst (Takes told.contents old.out out) has.line_is takes;
-          fault_text = takes-nothing told.fault_contents old.faults;
+          text = subst (Takes old.out out) has.line_is takes;
+          fault_text = takes-nothing old.faults;
         };
         after = record { stream = has.stream_is; counts = has.counts_are };
       }
 
   -- and both outputs are flushed
   pub ends-finished : (from : PasswordFrom) (password line : List ℕ) (old : RunState I O E) (input : Device I) (out new_out : Device O) (faults : Device E) (stream : Stream) (counts : Work) (left : ℕ) {A : Type 0} (done : A)
-      → HasHash from password line old input stream counts left → Takes told.contents old.out out line → out.failures ≡ old.out.failures
-      → FinishesBoth told.contents told.fault_contents out old.faults new_out faults (Ok done)
-      → EndsOne told turns job from old (run_state input new_out faults stream counts) (Ok one_line)
+      → HasHash from password line old input stream counts left → Takes old.out out line → out.failures ≡ old.out.failures
+      → FinishesBoth out old.faults new_out faults (Ok done)
+      → EndsOne turns job from old (run_state input new_out faults stream counts) (Ok one_line)
   ends-finished from password line old input out new_out faults stream counts left done has takes unfailed flushes =
       ends-with_password from old (run_state input new_out faults stream counts) left password (Ok one_line) has.obtains (
         (is_password from old.input input left password has.obtains).0,
-        finishes told (password_answer job password old.stream) old (run_state input out old.faults stream counts) new_out faults one_line done
+        finishes (password_answer job password old.stream) old (run_state input out old.faults stream counts) new_out faults one_line done
             (answered from password line old input out stream counts left has takes unfailed) refl flushes,
       )
 
   -- or a flush failed
   pub ends-unfinished : (from : PasswordFrom) (password line : List ℕ) (old : RunState I O E) (input : Device I) (out new_out : Device O) (faults : Device E) (stream : Stream) (counts : Work) (left : ℕ) (A : Type 0) (fault : RunFault)
-      → HasHash from password line old input stream counts left → Takes told.contents old.out out line → out.failures ≡ old.out.failures
-      → FinishesBoth told.contents told.fault_contents out old.faults new_out faults {A = A} (Err fault)
-      → EndsOne told turns job from old (run_state input new_out faults stream counts) (Err fault)
+      → HasHash from password line old input stream counts left → Takes old.out out line → out.failures ≡ old.out.failures
+      → FinishesBoth out old.faults new_out faults {A = A} (Err fault)
+      → EndsOne turns job from old (run_state input new_out faults stream counts) (Err fault)
   ends-unfinished from password line old input out new_out faults stream counts left A fault has takes unfailed flushes =
-      let ends = finishes-with_fault told (password_answer job password old.stream) old (run_state input out old.faults stream counts) new_out faults A fault
+      let ends = finishes-with_fault (password_answer job password old.stream) old (run_state input out old.faults stream counts) new_out faults A fault
       (answered from password line old input out stream counts left has takes unfailed) flushes in
       let ok = (is_password from old.input input left password has.obtains).0 in
       rw ends.0 (ends-with_password from old (run_state input new_out faults stream counts) left password (Err Write) has.obtains

@@ -52,9 +52,9 @@ each : (a : Option (List ℕ)) (bytes : List ℕ) (P : List ℕ → Type 0) → 
 each None bytes P line holds = tt
 each (Some all) bytes P line holds = holds all line
 
-module _ {I : Type 0} (remaining : I → Option (List ℕ)) (old new : Device I) (bytes : List ℕ) (left : ℕ) where
-  pub taken_line : (result : Result (List ℕ) RunFault) → Reads remaining old new bytes → Obtains remaining old new bytes left result
-      → IfOk result (λ password. IfSome (remaining old.inner) (λ all. password ≡ first_line all))
+module _ {I : Type 0} (old new : Device I) (bytes : List ℕ) (left : ℕ) where
+  pub taken_line : (result : Result (List ℕ) RunFault) → Reads old new bytes → Obtains old new bytes left result
+      → IfOk result (λ password. IfSome old.shown (λ all. password ≡ first_line all))
   taken_line (Ok password) reads got =
       each _ bytes _ (decided _ _ bytes reads.shown got.1) (λ all line. elim line [
         | inl same ↦ got.2 ∙ sym same
@@ -62,8 +62,8 @@ module _ {I : Type 0} (remaining : I → Option (List ℕ)) (old new : Device I)
       ])
   taken_line (Err fault) reads got = tt
 
-  refused_as : (fault : PasswordFault) → Reads remaining old new bytes → Obtains remaining old new bytes left (Err (Password fault))
-      → IfSome (remaining old.inner) (λ all. IsPasswordRefused (first_line all) fault)
+  refused_as : (fault : PasswordFault) → Reads old new bytes → Obtains old new bytes left (Err (Password fault))
+      → IfSome old.shown (λ all. IsPasswordRefused (first_line all) fault)
   refused_as TooLong reads got = each _ bytes _ (decided _ _ bytes reads.shown got.1) (λ all line. elim line [
     | inl same ↦ omega (arith, ap length same, got.2)
     | inr long ↦ long.1
@@ -73,7 +73,7 @@ module _ {I : Type 0} (remaining : I → Option (List ℕ)) (old new : Device I)
     | inr long ↦ absurd (omega (arith, long.0, got.2.0))
   ])
 
-  pub refused_line : (result : Result (List ℕ) RunFault) → Reads remaining old new bytes → Obtains remaining old new bytes left result
+  pub refused_line : (result : Result (List ℕ) RunFault) → Reads old new bytes → Obtains old new bytes left result
       → (fault : PasswordFault) → IsErrOf result (Password fault)
-      → IfSome (remaining old.inner) (λ all. IsPasswordRefused (first_line all) fault)
-  refused_line result reads got fault is = refused_as fault reads (subst (Obtains remaining old new bytes left) is got)
+      → IfSome old.shown (λ all. IsPasswordRefused (first_line all) fault)
+  refused_line result reads got fault is = refused_as fault reads (subst (Obtains old new bytes left) is got)

@@ -10,14 +10,14 @@ use Rattle.run_core.proofs.LineAnswering.{AreAnswers-push}
 use Rattle.run_core.proofs.LinesOf.{lines_of-last, lines_of-nil, lines_of-with_line_feeds}
 use Rattle.run_core.proofs.LookingThrough.{AnswersBuffered, cut-answering, given-both}
 
-module _ {O E : Type 0} (contents : O → Option (List ℕ)) (fault_contents : E → Option (List ℕ)) (kind : Kind) (job : Job) where
-  lines-are : (start now : OutputState O E) (bytes : List ℕ) (position : Position) (at : IsAt contents fault_contents kind job start now bytes position)
+module _ {O E : Type 0} (kind : Kind) (job : Job) where
+  lines-are : (start now : OutputState O E) (bytes : List ℕ) (position : Position) (at : IsAt kind job start now bytes position)
       → lines_of bytes ≡ at.done ++ lines_of at.rest
   lines-are start now bytes position at = ap lines_of at.split ∙ lines_of-with_line_feeds at.done at.rest at.lines
 
   -- nothing is held
-  pub last-none : (start now : OutputState O E) (bytes : List ℕ) (position : Position) (at : IsAt contents fault_contents kind job start now bytes position)
-      → at.rest ≡ [] → IsAllAnswered contents fault_contents kind job start now bytes position.tally
+  pub last-none : (start now : OutputState O E) (bytes : List ℕ) (position : Position) (at : IsAt kind job start now bytes position)
+      → at.rest ≡ [] → IsAllAnswered kind job start now bytes position.tally
   last-none start now bytes position at none =
       let lines = lines-are start now bytes position at ∙ ap (λ rest. at.done ++ lines_of rest) none ∙ ap (λ others. at.done ++ others) lines_of-nil ∙ append-nil at.done in
       record {
@@ -29,9 +29,9 @@ module _ {O E : Type 0} (contents : O → Option (List ℕ)) (fault_contents : E
 
   -- what is held is answered
   pub last-answered : (start old new : OutputState O E) (bytes : List ℕ) (position next_position : Position) (A : Type 0) (result : Result A RunFault)
-      → (at : IsAt contents fault_contents kind job start old bytes position) → at.rest ≢ []
-      → AnswersBuffered contents fault_contents kind job old new position.tally position.buffer next_position {A = A} result
-      → AnswersLast contents fault_contents kind job start new bytes next_position {A = A} result
+      → (at : IsAt kind job start old bytes position) → at.rest ≢ []
+      → AnswersBuffered kind job old new position.tally position.buffer next_position {A = A} result
+      → AnswersLast kind job start new bytes next_position {A = A} result
   last-answered start old new bytes position next_position A (Ok done) at some answers =
       let got = answers at.rest at.held in
       let next = got.0 in
@@ -43,7 +43,7 @@ module _ {O E : Type 0} (contents : O → Option (List ℕ)) (fault_contents : E
         answers = both at.answers next;
         are = subst (λ of_bytes. AreAnswers kind job 1 of_bytes start.stream (both at.answers next)) (sym lines) are;
         tally_is = got.3 ∙ ap (λ t. both_tallies t next.tally) at.tally;
-        given = given-both contents fault_contents kind job start old new at.answers next next_position.turns_left done at.given got.2;
+        given = given-both kind job start old new at.answers next next_position.turns_left done at.given got.2;
       }
   last-answered start old new bytes position next_position A (Err fault) at some answers =
       let got = answers at.rest at.held in
@@ -59,7 +59,7 @@ module _ {O E : Type 0} (contents : O → Option (List ℕ)) (fault_contents : E
           no_feed = at.no_feed;
           are = at.are;
           is_next = rw (number, at.given.stream) at got.1;
-          cut = cut-answering contents fault_contents kind job start old new bytes [] position next_position.turns_left at.rest got.0 A fault
+          cut = cut-answering kind job start old new bytes [] position next_position.turns_left at.rest got.0 A fault
               (record { at = at; is_line = sym (append-nil at.rest); no_feed = at.no_feed; is_next = got.1 }) got.2;
         },
       )

@@ -5,7 +5,7 @@ use Rattle.run_core.specs.Devices.{Device, MovesBytes}
 use Rattle.run_core.specs.LineRuns.{EndsAnswering, EndsLines, EndsByLines, EndsReading, EndsWhole}
 use Rattle.run_core.specs.Private.Deliveries.{FinishesBoth, IsKept}
 use Rattle.run_core.specs.Private.LineProgress.{OutputState, TakesTurns, TakesTurnsOf, output_state_of, with_input}
-use Rattle.run_core.specs.Runs.{Fails, Finishes, RunState, IsCutShort, IsWithinTurns, DeviceBytes}
+use Rattle.run_core.specs.Runs.{Fails, Finishes, RunState, IsCutShort, IsWithinTurns}
 use Rattle.run_core.specs.declared.fault.RunFault.{RunFault}
 use Rattle.run_core.specs.declared.fault.RunFault.TheVariants.{Read, Write, OutOfMemory, Turns, Password}
 use Rattle.run_core.specs.declared.job.Job.{Job}
@@ -13,7 +13,7 @@ use Rattle.run_core.specs.declared.line.Kind.{Kind}
 use Rattle.run_core.specs.declared.tally.Tally.{Tally}
 use Rattle.run_core.proofs.Moving.{moves-none, moves-trans}
 
-module _ {I O E : Type 0} (told : DeviceBytes I O E) (kind : Kind) (job : Job) where
+module _ {I O E : Type 0} (kind : Kind) (job : Job) where
   abbrev failures_of : RunState I O E → ℕ
   failures_of now = now.input.failures + now.out.failures + now.faults.failures
 
@@ -27,7 +27,7 @@ module _ {I O E : Type 0} (told : DeviceBytes I O E) (kind : Kind) (job : Job) w
 
   -- a run ends with the first call that fails
   cut-once : (turns : ℕ) (done next : Answer) (start new : RunState I O E) (fault : RunFault)
-      → IsCutShort told turns done next start new fault → failures_of new ≤ failures_of start + 1
+      → IsCutShort turns done next start new fault → failures_of new ≤ failures_of start + 1
   cut-once turns done next start new Read ends = omega (arith, fails-of start new 1 0 0 ends.0)
   cut-once turns done next start new Write (inl cut, after) = omega (arith, fails-of start new 0 1 0 cut.0)
   cut-once turns done next start new Write (inr cut, after) = omega (arith, fails-of start new 0 0 1 cut.0)
@@ -36,7 +36,7 @@ module _ {I O E : Type 0} (told : DeviceBytes I O E) (kind : Kind) (job : Job) w
   cut-once turns done next start new (Password fault) ends = omega (arith, fails-of start new 0 0 0 ends.0)
 
   finished-once : (answers : Answer) (start new : RunState I O E) (result : Result Tally RunFault)
-      → Finishes told answers start new result → failures_of new ≤ failures_of start + 1
+      → Finishes answers start new result → failures_of new ≤ failures_of start + 1
   finished-once answers start new (Ok tally) ends = omega (arith, fails-of start new 0 0 0 ends.1)
   finished-once answers start new (Err Write) (inl ends, after) = omega (arith, fails-of start new 0 1 0 ends.0)
   finished-once answers start new (Err Write) (inr ends, after) = omega (arith, fails-of start new 0 0 1 ends.0)
@@ -47,20 +47,20 @@ module _ {I O E : Type 0} (told : DeviceBytes I O E) (kind : Kind) (job : Job) w
 
   -- the three ways of an end
   whole-once : (start new : RunState I O E) (bytes : List ℕ) (result : Result Tally RunFault)
-      → EndsWhole told kind job bytes start new result → failures_of new ≤ failures_of start + 1
+      → EndsWhole kind job bytes start new result → failures_of new ≤ failures_of start + 1
   whole-once start new bytes result (answers, read_out, are, ends) = finished-once answers start new result ends
 
   reading-once : (turns : ℕ) (start new : RunState I O E) (bytes : List ℕ) (fault : RunFault)
-      → EndsReading told turns kind job bytes start new fault → failures_of new ≤ failures_of start + 1
+      → EndsReading turns kind job bytes start new fault → failures_of new ≤ failures_of start + 1
   reading-once turns start new bytes fault (done, rest, answers, answered, no_feed, moved, ends) = cut-once turns answers _ start new fault ends
 
   answering-once : (turns : ℕ) (start new : RunState I O E) (bytes : List ℕ) (fault : RunFault)
-      → EndsAnswering told turns kind job bytes start new fault → failures_of new ≤ failures_of start + 1
+      → EndsAnswering turns kind job bytes start new fault → failures_of new ≤ failures_of start + 1
   answering-once turns start new bytes fault (done, line, rest, answers, next, answered, no_feed, is_line, is_next, owed, ends) =
       cut-once turns answers next start new fault ends
 
   lines-once : (turns : ℕ) (start new : RunState I O E) (bytes : List ℕ) (result : Result Tally RunFault)
-      → EndsByLines told turns kind job bytes start new result → failures_of new ≤ failures_of start + 1
+      → EndsByLines turns kind job bytes start new result → failures_of new ≤ failures_of start + 1
   lines-once turns start new bytes (Ok tally) ends = whole-once start new bytes (Ok tally) ends
   lines-once turns start new bytes (Err Read) ends = reading-once turns start new bytes Read ends
   lines-once turns start new bytes (Err Write) (inl ends) = answering-once turns start new bytes Write ends
@@ -71,7 +71,7 @@ module _ {I O E : Type 0} (told : DeviceBytes I O E) (kind : Kind) (job : Job) w
   lines-once turns start new bytes (Err (Password fault)) ends = absurd ends
 
   pub within-turns : (turns left : ℕ) (start new : RunState I O E) (result : Result Tally RunFault)
-      → EndsLines told turns kind job start new result → TakesTurnsOf 1 turns left start new → IsWithinTurns turns start new
+      → EndsLines turns kind job start new result → TakesTurnsOf 1 turns left start new → IsWithinTurns turns start new
   within-turns turns left start new result (bytes, reads, ends) took =
       let once = lines-once turns start new bytes result ends in
       record {
@@ -93,33 +93,33 @@ turns-last turns mid_left left start now new before more = record {
 }
 
 -- a flush takes none
-kept-moves : {T : Type 0} (contents : T → Option (List ℕ)) (old new : Device T) → IsKept contents old new → old.failures ≤ new.failures → MovesBytes 0 old new
-kept-moves contents old new kept failures = record {
+kept-moves : {T : Type 0} (old new : Device T) → IsKept old new → old.failures ≤ new.failures → MovesBytes 0 old new
+kept-moves old new kept failures = record {
   idle = omega (arith, kept.idle);
   calls = omega (arith, kept.calls, kept.bytes, failures);
 }
 
-module _ {O E : Type 0} (contents : O → Option (List ℕ)) (fault_contents : E → Option (List ℕ)) where
+module _ {O E : Type 0} where
   pub turns-flushed : (left : ℕ) (old : OutputState O E) (out : Device O) (faults : Device E) (A : Type 0) (result : Result A RunFault)
-      → FinishesBoth contents fault_contents old.out old.faults out faults {A = A} result
+      → FinishesBoth old.out old.faults out faults {A = A} result
       → TakesTurns left left old (record old { out = out; faults = faults })
   turns-flushed left old out faults A (Ok done) (first, second) = record {
     turns = omega (arith, first.kept.calls, second.kept.calls);
     fewer = omega arith;
-    out_moves = kept-moves contents old.out out first.kept (let unfailed = first.unfailed in omega (arith, unfailed));
-    faults_moves = kept-moves fault_contents old.faults faults second.kept (let unfailed = second.unfailed in omega (arith, unfailed));
+    out_moves = kept-moves old.out out first.kept (let unfailed = first.unfailed in omega (arith, unfailed));
+    faults_moves = kept-moves old.faults faults second.kept (let unfailed = second.unfailed in omega (arith, unfailed));
   }
   turns-flushed left old out faults A (Err Write) (inl (first, same)) = record {
     turns = omega (arith, first.kept.calls, ap (λ d. d.calls) same);
     fewer = omega arith;
-    out_moves = kept-moves contents old.out out first.kept (let failed = first.failed in omega (arith, failed));
+    out_moves = kept-moves old.out out first.kept (let failed = first.failed in omega (arith, failed));
     faults_moves = rw same (moves-none old.faults);
   }
   turns-flushed left old out faults A (Err Write) (inr (first, second)) = record {
     turns = omega (arith, first.kept.calls, second.kept.calls);
     fewer = omega arith;
-    out_moves = kept-moves contents old.out out first.kept (let unfailed = first.unfailed in omega (arith, unfailed));
-    faults_moves = kept-moves fault_contents old.faults faults second.kept (let failed = second.failed in omega (arith, failed));
+    out_moves = kept-moves old.out out first.kept (let unfailed = first.unfailed in omega (arith, unfailed));
+    faults_moves = kept-moves old.faults faults second.kept (let failed = second.failed in omega (arith, failed));
   }
   turns-flushed left old out faults A (Err Read) flushes = absurd flushes
   turns-flushed left old out faults A (Err OutOfMemory) flushes = absurd flushes

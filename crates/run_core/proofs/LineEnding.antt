@@ -8,7 +8,7 @@ use Rattle.run_core.specs.LineRuns.{EndsAnswering, EndsLines, EndsReading, IsNex
 use Rattle.run_core.specs.Private.Deliveries.{FinishesBoth}
 use Rattle.run_core.specs.Private.LineProgress.{AnswersLast, AreGiven, GoesOn, GoesToEnd, HasRoomToRead, IsAllAnswered, IsAt, IsAtInput, IsCutAt, IsInterrupted, LooksThrough, OutputState, Position, Represents, TakesTurns, TakesTurnsOf, output_state_of, spare_fetch, with_input}
 use Rattle.run_core.specs.Private.Fetching.{Fetches}
-use Rattle.run_core.specs.Runs.{Fails, RunState, IsCutShort, DeviceBytes, calls_of}
+use Rattle.run_core.specs.Runs.{Fails, RunState, IsCutShort, calls_of}
 use Rattle.run_core.specs.Tallies.{no_line}
 use Rattle.run_core.specs.Texts.{line_feed}
 use Rattle.run_core.specs.declared.fault.RunFault.{RunFault}
@@ -22,33 +22,33 @@ use Rattle.run_core.proofs.Moving.{moves-trans}
 use Rattle.run_core.proofs.Reading.{Reads-trans}
 use Rattle.run_core.proofs.Sending.{front-none, takes-nothing}
 
-module _ {I O E : Type 0} (told : DeviceBytes I O E) (kind : Kind) (job : Job) where
-  -- ---- between two fetches
+-- ---- between two fetches
 
-  -- what is told of a position doesn't hang on the turns that are left
-  pub at-turned : (start now : OutputState O E) (bytes : List ℕ) (position next : Position)
-      → IsAt told.contents told.fault_contents kind job start now bytes position
-      → next.buffer ≡ position.buffer → next.tally ≡ position.tally
-      → IsAt told.contents told.fault_contents kind job start now bytes next
-  at-turned start now bytes position next at held tally = record {
-    done = at.done;
-    rest = at.rest;
-    answers = at.answers;
-    split = at.split;
-    lines = at.lines;
-    no_feed = at.no_feed;
-    held = subst (λ h. Represents h at.rest) (sym held) at.held;
-    are = at.are;
-    tally = tally ∙ at.tally;
-    numbers = at.numbers;
-    given = at.given;
-  }
+-- what is told of a position doesn't hang on the turns that are left
+pub at-turned : {O E : Type 0} (kind : Kind) (job : Job) (start now : OutputState O E) (bytes : List ℕ) (position next : Position)
+    → IsAt kind job start now bytes position
+    → next.buffer ≡ position.buffer → next.tally ≡ position.tally
+    → IsAt kind job start now bytes next
+at-turned kind job start now bytes position next at held tally = record {
+  done = at.done;
+  rest = at.rest;
+  answers = at.answers;
+  split = at.split;
+  lines = at.lines;
+  no_feed = at.no_feed;
+  held = subst (λ h. Represents h at.rest) (sym held) at.held;
+  are = at.are;
+  tally = tally ∙ at.tally;
+  numbers = at.numbers;
+  given = at.given;
+}
 
+module _ {I O E : Type 0} (kind : Kind) (job : Job) where
   -- ---- the ends
 
   -- what failed, where it was the input or nothing
   fails-at_input : (start old : RunState I O E) (input : Device I) (answers : Answer) (failed : ℕ)
-      → AreGiven told.contents told.fault_contents answers (output_state_of start) (output_state_of old) → input.failures ≡ start.input.failures + failed
+      → AreGiven answers (output_state_of start) (output_state_of old) → input.failures ≡ start.input.failures + failed
       → Fails failed 0 0 start (with_input input (output_state_of old))
   fails-at_input start old input answers failed given failures = record {
     of_input = failures;
@@ -57,25 +57,25 @@ module _ {I O E : Type 0} (told : DeviceBytes I O E) (kind : Kind) (job : Job) w
   }
 
   -- a fetch that gave nothing leaves what was read
-  reads-none : (start old : RunState I O E) (input : Device I) (bytes : List ℕ) → Reads told.remaining start.input old.input bytes
-      → Reads told.remaining old.input input [] → Reads told.remaining start.input input bytes
+  reads-none : (start old : RunState I O E) (input : Device I) (bytes : List ℕ) → Reads start.input old.input bytes
+      → Reads old.input input [] → Reads start.input input bytes
   reads-none start old input bytes before none =
-      subst (Reads told.remaining start.input input) (append-nil bytes) (Reads-trans told.remaining start.input old.input input bytes [] before none)
+      subst (Reads start.input input) (append-nil bytes) (Reads-trans start.input old.input input bytes [] before none)
 
   -- more of the input was wanted
   ends-reading : (turns : ℕ) (start old : RunState I O E) (input : Device I) (bytes : List ℕ) (position : Position) (fault : RunFault)
-      → (before : IsAtInput told turns kind job start old bytes position) → MovesBytes 0 start.input input
-      → IsCutShort told turns before.answered.answers (no_answer before.answered.answers.stream) start (with_input input (output_state_of old)) fault
-      → EndsReading told turns kind job bytes start (with_input input (output_state_of old)) fault
+      → (before : IsAtInput turns kind job start old bytes position) → MovesBytes 0 start.input input
+      → IsCutShort turns before.answered.answers (no_answer before.answered.answers.stream) start (with_input input (output_state_of old)) fault
+      → EndsReading turns kind job bytes start (with_input input (output_state_of old)) fault
   ends-reading turns start old input bytes position fault before moved cut =
       let at = before.answered in
       (at.done, at.rest, at.answers, record { split = at.split; lines = at.lines; are = at.are }, at.no_feed, moved, cut)
 
   ends-in_fetch : (turns : ℕ) (start old : RunState I O E) (input : Device I) (bytes buffer : List ℕ) (position : Position) (left : ℕ) (fault : RunFault)
-      → IsAtInput told turns kind job start old bytes position → MovesBytes 0 start.input old.input
-      → Fetches told.remaining position.turns_left old.input input buffer (Err fault)
+      → IsAtInput turns kind job start old bytes position → MovesBytes 0 start.input old.input
+      → Fetches position.turns_left old.input input buffer (Err fault)
       → left ≡ position.turns_left - 1 → input.calls + left ≡ old.input.calls + position.turns_left
-      → Reads told.remaining start.input input bytes × EndsReading told turns kind job bytes start (with_input input (output_state_of old)) fault
+      → Reads start.input input bytes × EndsReading turns kind job bytes start (with_input input (output_state_of old)) fault
   ends-in_fetch turns start old input bytes buffer position left Read before moved fetched took calls =
       let given = before.answered.given in (
         reads-none start old input bytes before.reads fetched.1,
@@ -95,8 +95,8 @@ module _ {I O E : Type 0} (told : DeviceBytes I O E) (kind : Kind) (job : Job) w
               fails-at_input start old input answers 0 given (fetched.0 ∙ before.unfailed ∙ sym (add-zero _)),
               (let all = before.calls in omega (arith, all, fetched.2, took, calls)),
               record {
-                text = front-none told.contents start.out old.out answers.text given.text;
-                fault_text = front-none told.fault_contents start.faults old.faults answers.fault_text given.fault_text;
+                text = front-none start.out old.out answers.text given.text;
+                fault_text = front-none start.faults old.faults answers.fault_text given.fault_text;
               },
               record { stream = given.stream; counts = given.counts },
             ),
@@ -106,10 +106,10 @@ module _ {I O E : Type 0} (told : DeviceBytes I O E) (kind : Kind) (job : Job) w
   ends-in_fetch turns start old input bytes buffer position left (Password fault) before moved fetched took calls = absurd fetched
 
   pub ends-fetching : (turns : ℕ) (start old : RunState I O E) (input : Device I) (bytes buffer : List ℕ) (position : Position) (left : ℕ) (fault : RunFault)
-      → IsAtInput told turns kind job start old bytes position → MovesBytes 0 start.input old.input
-      → Fetches told.remaining position.turns_left old.input input buffer (Err fault)
+      → IsAtInput turns kind job start old bytes position → MovesBytes 0 start.input old.input
+      → Fetches position.turns_left old.input input buffer (Err fault)
       → left ≡ position.turns_left - 1 → input.calls + left ≡ old.input.calls + position.turns_left
-      → EndsLines told turns kind job start (with_input input (output_state_of old)) (Err fault)
+      → EndsLines turns kind job start (with_input input (output_state_of old)) (Err fault)
   ends-fetching turns start old input bytes buffer position left Read before moved fetched took calls =
       let ends = ends-in_fetch turns start old input bytes buffer position left Read before moved fetched took calls in (bytes, ends.0, ends.1)
   ends-fetching turns start old input bytes buffer position left Turns before moved fetched took calls =
@@ -121,8 +121,8 @@ module _ {I O E : Type 0} (told : DeviceBytes I O E) (kind : Kind) (job : Job) w
   -- an answer was cut short
   cut-ends : (turns : ℕ) (start new : RunState I O E) (left : ℕ) (done next : Answer) (fault : RunFault)
       → IsUnfailed start.input new.input → calls_of new + left ≡ calls_of start + turns
-      → IsInterrupted told.contents told.fault_contents left done next (output_state_of start) (output_state_of new) fault
-      → IsCutShort told turns done next start new fault
+      → IsInterrupted left done next (output_state_of start) (output_state_of new) fault
+      → IsCutShort turns done next start new fault
   cut-ends turns start new left done next Write unfailed calls (stream, counts, inl (failed, kept, text, fault_text)) = (
     inl (
       record { of_input = unfailed ∙ sym (add-zero _); of_out = failed; of_faults = kept ∙ sym (add-zero _) },
@@ -152,7 +152,7 @@ module _ {I O E : Type 0} (told : DeviceBytes I O E) (kind : Kind) (job : Job) w
   cut-ends turns start new left done next (Password fault) unfailed calls cut = absurd cut.2
 
   cut-owed : (left : ℕ) (start new : RunState I O E) (done next : Answer) (fault : RunFault)
-      → IsInterrupted told.contents told.fault_contents left done next (output_state_of start) (output_state_of new) fault → IsUnsent done next start new fault
+      → IsInterrupted left done next (output_state_of start) (output_state_of new) fault → IsUnsent done next start new fault
   cut-owed left start new done next Turns (stream, counts, (kept, faults_kept, none, text, fault_text, owed)) = owed
   cut-owed left start new done next Write cut = tt
   cut-owed left start new done next OutOfMemory cut = tt
@@ -160,9 +160,9 @@ module _ {I O E : Type 0} (told : DeviceBytes I O E) (kind : Kind) (job : Job) w
   cut-owed left start new done next (Password fault) cut = absurd cut.2
 
   ends-line : (turns : ℕ) (start new : RunState I O E) (bytes line rest : List ℕ) (left : ℕ) (fault : RunFault)
-      → IsUnfailed start.input new.input → calls_of new + left ≡ calls_of start + turns → IsNext told new line rest
-      → IsCutAt told.contents told.fault_contents kind job (output_state_of start) (output_state_of new) bytes line rest left fault
-      → EndsAnswering told turns kind job bytes start new fault
+      → IsUnfailed start.input new.input → calls_of new + left ≡ calls_of start + turns → IsNext new line rest
+      → IsCutAt kind job (output_state_of start) (output_state_of new) bytes line rest left fault
+      → EndsAnswering turns kind job bytes start new fault
   ends-line turns start new bytes line rest left fault unfailed calls is_line at = (
     at.done,
     line,
@@ -179,10 +179,10 @@ module _ {I O E : Type 0} (told : DeviceBytes I O E) (kind : Kind) (job : Job) w
 
   -- a line was being answered
   pub ends-answering : (turns : ℕ) (start new : RunState I O E) (bytes line rest : List ℕ) (left : ℕ) (fault : RunFault)
-      → Reads told.remaining start.input new.input bytes → IsUnfailed start.input new.input
-      → calls_of new + left ≡ calls_of start + turns → IsNext told new line rest
-      → IsCutAt told.contents told.fault_contents kind job (output_state_of start) (output_state_of new) bytes line rest left fault
-      → EndsLines told turns kind job start new (Err fault)
+      → Reads start.input new.input bytes → IsUnfailed start.input new.input
+      → calls_of new + left ≡ calls_of start + turns → IsNext new line rest
+      → IsCutAt kind job (output_state_of start) (output_state_of new) bytes line rest left fault
+      → EndsLines turns kind job start new (Err fault)
   ends-answering turns start new bytes line rest left Write reads unfailed calls is_line at =
       (bytes, reads, inl (ends-line turns start new bytes line rest left Write unfailed calls is_line at))
   ends-answering turns start new bytes line rest left Turns reads unfailed calls is_line at =
@@ -196,29 +196,29 @@ module _ {I O E : Type 0} (told : DeviceBytes I O E) (kind : Kind) (job : Job) w
 
   -- a run before a fetch, and what that gave
   pub record HasFetched (turns : ℕ) (start old : RunState I O E) (new_input : Device I) (bytes buffer : List ℕ) (count : ℕ) (position : Position) (left : ℕ) : Type 0 where
-    pub before : IsAtInput told turns kind job start old bytes position
-    pub fetched : Fetches told.remaining position.turns_left old.input new_input buffer (Ok count)
+    pub before : IsAtInput turns kind job start old bytes position
+    pub fetched : Fetches position.turns_left old.input new_input buffer (Ok count)
     pub calls : new_input.calls + left ≡ old.input.calls + position.turns_left
 
   read_then : (turns : ℕ) (start old : RunState I O E) (new_input : Device I) (bytes buffer : List ℕ) (count : ℕ) (position : Position) (left : ℕ)
       → HasFetched turns start old new_input bytes buffer count position left
-      → Reads told.remaining start.input new_input (bytes ++ take count buffer)
+      → Reads start.input new_input (bytes ++ take count buffer)
   read_then turns start old new_input bytes buffer count position left h =
-      Reads-trans told.remaining start.input old.input new_input bytes (take count buffer) h.before.reads h.fetched.2
+      Reads-trans start.input old.input new_input bytes (take count buffer) h.before.reads h.fetched.2
 
   -- it had no byte: all was read
   pub reads-out : (turns : ℕ) (start old : RunState I O E) (input : Device I) (bytes buffer : List ℕ) (position : Position) (left count : ℕ)
-      → IsAtInput told turns kind job start old bytes position
-      → Fetches told.remaining position.turns_left old.input input buffer (Ok count) → count ≡ 0
+      → IsAtInput turns kind job start old bytes position
+      → Fetches position.turns_left old.input input buffer (Ok count) → count ≡ 0
       → input.calls + left ≡ old.input.calls + position.turns_left
-      → GoesOn told turns kind job start (with_input input (output_state_of old)) (record position { turns_left = left }) (Ok false)
+      → GoesOn turns kind job start (with_input input (output_state_of old)) (record position { turns_left = left }) (Ok false)
   reads-out turns start old input bytes buffer position left count before fetched none calls = (
     bytes,
     record {
-      reads = reads-none start old input bytes before.reads (subst (λ n. Reads told.remaining old.input input (take n buffer)) none fetched.2);
+      reads = reads-none start old input bytes before.reads (subst (λ n. Reads old.input input (take n buffer)) none fetched.2);
       unfailed = fetched.1 ∙ before.unfailed;
       calls = (let all = before.calls in omega (arith, all, calls));
-      answered = at-turned (output_state_of start) (output_state_of old) bytes position (record position { turns_left = left }) before.answered refl refl;
+      answered = at-turned kind job (output_state_of start) (output_state_of old) bytes position (record position { turns_left = left }) before.answered refl refl;
     },
     fetched.3 none,
   )
@@ -227,8 +227,8 @@ module _ {I O E : Type 0} (told : DeviceBytes I O E) (kind : Kind) (job : Job) w
   pub goes-piece : (turns : ℕ) (start old : RunState I O E) (new_input : Device I) (new : OutputState O E) (bytes buffer : List ℕ) (count : ℕ) (position : Position) (left : ℕ) (next : Position)
       → HasFetched turns start old new_input bytes buffer count position left
       → TakesTurns left next.turns_left (output_state_of old) new
-      → LooksThrough told.contents told.fault_contents kind job (output_state_of start) new (bytes ++ take count buffer) next {A = Unit {0}} (Ok tt)
-      → (read : List ℕ) × IsAtInput told turns kind job start (with_input new_input new) read next
+      → LooksThrough kind job (output_state_of start) new (bytes ++ take count buffer) next {A = Unit {0}} (Ok tt)
+      → (read : List ℕ) × IsAtInput turns kind job start (with_input new_input new) read next
   goes-piece turns start old new_input new bytes buffer count position left next h calls looked = (
     bytes ++ take count buffer,
     record {
@@ -242,8 +242,8 @@ module _ {I O E : Type 0} (told : DeviceBytes I O E) (kind : Kind) (job : Job) w
   pub ends-piece : (turns : ℕ) (start old : RunState I O E) (new_input : Device I) (new : OutputState O E) (bytes buffer : List ℕ) (count : ℕ) (position : Position) (left : ℕ) (next : Position) (fault : RunFault)
       → HasFetched turns start old new_input bytes buffer count position left
       → TakesTurns left next.turns_left (output_state_of old) new
-      → LooksThrough told.contents told.fault_contents kind job (output_state_of start) new (bytes ++ take count buffer) next {A = Unit {0}} (Err fault)
-      → EndsLines told turns kind job start (with_input new_input new) (Err fault)
+      → LooksThrough kind job (output_state_of start) new (bytes ++ take count buffer) next {A = Unit {0}} (Err fault)
+      → EndsLines turns kind job start (with_input new_input new) (Err fault)
   ends-piece turns start old new_input new bytes buffer count position left next fault h calls (line, behind, few, cut) =
       ends-answering turns start (with_input new_input new) (bytes ++ take count buffer) line (line ++ line_feed ∷ behind) next.turns_left fault
       (read_then turns start old new_input bytes buffer count position left h)
@@ -256,7 +256,7 @@ module _ {I O E : Type 0} (told : DeviceBytes I O E) (kind : Kind) (job : Job) w
 
   -- nothing was read
   pub at-start : (start : RunState I O E) (position : Position) → Represents position.buffer [] → position.tally ≡ no_line
-      → IsAtInput told position.turns_left kind job start start [] position
+      → IsAtInput position.turns_left kind job start start [] position
   at-start start position none_held no_line = record {
     reads = record { shown = Consumes-nil _; counted = omega arith };
     unfailed = refl;
@@ -275,8 +275,8 @@ module _ {I O E : Type 0} (told : DeviceBytes I O E) (kind : Kind) (job : Job) w
       given = record {
         out_unfailed = refl;
         faults_unfailed = refl;
-        text = takes-nothing told.contents start.out;
-        fault_text = takes-nothing told.fault_contents start.faults;
+        text = takes-nothing start.out;
+        fault_text = takes-nothing start.faults;
         stream = refl;
         counts = refl;
       };
@@ -286,7 +286,7 @@ module _ {I O E : Type 0} (told : DeviceBytes I O E) (kind : Kind) (job : Job) w
   -- the fetches so far, each of which gave a byte
   pub record IsFetching (turns : ℕ) (start now : RunState I O E) (position : Position) : Type 0 where
     pub read : List ℕ
-    pub at_input : IsAtInput told turns kind job start now read position
+    pub at_input : IsAtInput turns kind job start now read position
     pub room : HasRoomToRead position now
     pub takes_turns : TakesTurnsOf 0 turns position.turns_left start now
 
@@ -304,12 +304,12 @@ module _ {I O E : Type 0} (told : DeviceBytes I O E) (kind : Kind) (job : Job) w
   abbrev pub IsFetched : ℕ → RunState I O E → RunState I O E → Position → Bool → Type 0
   IsFetched turns start now position true = IsFetching turns start now position
   IsFetched turns start now position false =
-      GoesToEnd told turns kind job start now position {A = Unit {0}} (Ok tt) × HasRoomToRead position now
+      GoesToEnd turns kind job start now position {A = Unit {0}} (Ok tt) × HasRoomToRead position now
       × TakesTurnsOf 1 turns position.turns_left start now
 
   -- one more
   pub fetched-more : (turns : ℕ) (start now new : RunState I O E) (position next : Position) (has_more more : Bool) → has_more ≡ true
-      → IsFetched turns start now position has_more → GoesOn told turns kind job start new next (Ok more) → HasRoomToRead next new
+      → IsFetched turns start now position has_more → GoesOn turns kind job start new next (Ok more) → HasRoomToRead next new
       → TakesTurnsOf (spare_fetch (Ok more)) position.turns_left next.turns_left now new
       → IsFetched turns start new next more
   fetched-more turns start now new position next true true is before goes room took = record {
@@ -331,19 +331,19 @@ module _ {I O E : Type 0} (told : DeviceBytes I O E) (kind : Kind) (job : Job) w
 
   -- the last line was being answered
   pub ends-last : (turns : ℕ) (start now : RunState I O E) (new : OutputState O E) (position next : Position) (fault : RunFault)
-      → (all : GoesToEnd told turns kind job start now position {A = Unit {0}} (Ok tt))
+      → (all : GoesToEnd turns kind job start now position {A = Unit {0}} (Ok tt))
       → TakesTurns position.turns_left next.turns_left (output_state_of now) new
-      → AnswersLast told.contents told.fault_contents kind job (output_state_of start) new all.0 next {A = Unit {0}} (Err fault)
-      → EndsLines told turns kind job start (with_input now.input new) (Err fault)
+      → AnswersLast kind job (output_state_of start) new all.0 next {A = Unit {0}} (Err fault)
+      → EndsLines turns kind job start (with_input now.input new) (Err fault)
   ends-last turns start now new position next fault all calls (line, some, cut) =
       ends-answering turns start (with_input now.input new) all.0 line line next.turns_left fault
       all.1.reads all.1.unfailed (let before = all.1.calls in omega (arith, before, calls.turns)) (inr (refl, some, all.2)) cut
 
   -- all lines are answered
   answered : (turns : ℕ) (start now : RunState I O E) (new : OutputState O E) (position : Position) (tally : Tally)
-      → (all : GoesToEnd told turns kind job start now position {A = Unit {0}} (Ok tt))
-      → (last : IsAllAnswered told.contents told.fault_contents kind job (output_state_of start) new all.0 tally)
-      → HasAnswered told last.answers start (with_input now.input new)
+      → (all : GoesToEnd turns kind job start now position {A = Unit {0}} (Ok tt))
+      → (last : IsAllAnswered kind job (output_state_of start) new all.0 tally)
+      → HasAnswered last.answers start (with_input now.input new)
   answered turns start now new position tally all last = record {
     fails = record {
       of_input = all.1.unfailed ∙ sym (add-zero _);
@@ -356,10 +356,10 @@ module _ {I O E : Type 0} (told : DeviceBytes I O E) (kind : Kind) (job : Job) w
 
   -- and both outputs are flushed
   pub ends-finished : (turns : ℕ) (start now : RunState I O E) (new : OutputState O E) (position : Position) (tally : Tally) (out : Device O) (faults : Device E) {A : Type 0} (done : A)
-      → (all : GoesToEnd told turns kind job start now position {A = Unit {0}} (Ok tt))
-      → IsAllAnswered told.contents told.fault_contents kind job (output_state_of start) new all.0 tally
-      → FinishesBoth told.contents told.fault_contents new.out new.faults out faults (Ok done)
-      → EndsLines told turns kind job start (with_input now.input (record new { out = out; faults = faults })) (Ok tally)
+      → (all : GoesToEnd turns kind job start now position {A = Unit {0}} (Ok tt))
+      → IsAllAnswered kind job (output_state_of start) new all.0 tally
+      → FinishesBoth new.out new.faults out faults (Ok done)
+      → EndsLines turns kind job start (with_input now.input (record new { out = out; faults = faults })) (Ok tally)
   ends-finished turns start now new position tally out faults done all last flushes = (
     all.0,
     all.1.reads,
@@ -367,16 +367,16 @@ module _ {I O E : Type 0} (told : DeviceBytes I O E) (kind : Kind) (job : Job) w
       last.answers,
       all.2,
       last.are,
-      finishes told last.answers start (with_input now.input new) out faults tally done (answered turns start now new position tally all last) last.tally_is flushes,
+      finishes last.answers start (with_input now.input new) out faults tally done (answered turns start now new position tally all last) last.tally_is flushes,
     ),
   )
 
   -- or a flush failed
   pub ends-unfinished : (turns : ℕ) (start now : RunState I O E) (new : OutputState O E) (position : Position) (tally : Tally) (out : Device O) (faults : Device E) (A : Type 0) (fault : RunFault)
-      → (all : GoesToEnd told turns kind job start now position {A = Unit {0}} (Ok tt))
-      → IsAllAnswered told.contents told.fault_contents kind job (output_state_of start) new all.0 tally
-      → FinishesBoth told.contents told.fault_contents new.out new.faults out faults {A = A} (Err fault)
-      → EndsLines told turns kind job start (with_input now.input (record new { out = out; faults = faults })) (Err fault)
+      → (all : GoesToEnd turns kind job start now position {A = Unit {0}} (Ok tt))
+      → IsAllAnswered kind job (output_state_of start) new all.0 tally
+      → FinishesBoth new.out new.faults out faults {A = A} (Err fault)
+      → EndsLines turns kind job start (with_input now.input (record new { out = out; faults = faults })) (Err fault)
   ends-unfinished turns start now new position tally out faults A fault all last flushes =
-      let ends = finishes-with_fault told last.answers start (with_input now.input new) out faults A fault (answered turns start now new position tally all last) flushes in
+      let ends = finishes-with_fault last.answers start (with_input now.input new) out faults A fault (answered turns start now new position tally all last) flushes in
       rw ends.0 (all.0, all.1.reads, inr (last.answers, all.2, last.are, rw ends.0 at ends.1))

@@ -14,7 +14,7 @@ use Rattle.run_core.specs.LineOptions.{OnlyRefuses, IsRenewable, OnlyRenews, Ren
 use Rattle.crypt_core.specs.StoredFields.{IsStored}
 use Rattle.run_core.specs.Lines.{HasParts, Parts}
 use Rattle.run_core.specs.One.{EndsBy, EndsByInput, EndsOne}
-use Rattle.run_core.specs.Runs.{RunState, DeviceBytes}
+use Rattle.run_core.specs.Runs.{RunState}
 use Rattle.run_core.specs.declared.fault.RunFault.{RunFault}
 use Rattle.run_core.specs.declared.fault.RunFault.TheVariants.{Read, Write, OutOfMemory, Turns, Password}
 use Rattle.run_core.specs.declared.job.Job.{Job}
@@ -127,30 +127,30 @@ only_refuses kind job = record {
 -- ---- a single password
 
 module _ {I O E : Type 0} where
-  unoptioned-by : (device_bytes : DeviceBytes I O E) (turns : ℕ) (job : Job) (password : List ℕ) (old new : RunState I O E) (result : Result Tally RunFault)
-      → EndsBy device_bytes turns job password old new result → EndsBy device_bytes turns (without_rehash (without_budget job)) password old new result
-  unoptioned-by device_bytes turns job password old new (Ok tally) ends = ends
-  unoptioned-by device_bytes turns job password old new (Err Read) ends = ends
-  unoptioned-by device_bytes turns job password old new (Err Write) ends = ends
-  unoptioned-by device_bytes turns job password old new (Err OutOfMemory) ends = ends
-  unoptioned-by device_bytes turns job password old new (Err Turns) ends = ends
-  unoptioned-by device_bytes turns job password old new (Err (Password fault)) ends = ends
+  unoptioned-by : (turns : ℕ) (job : Job) (password : List ℕ) (old new : RunState I O E) (result : Result Tally RunFault)
+      → EndsBy turns job password old new result → EndsBy turns (without_rehash (without_budget job)) password old new result
+  unoptioned-by turns job password old new (Ok tally) ends = ends
+  unoptioned-by turns job password old new (Err Read) ends = ends
+  unoptioned-by turns job password old new (Err Write) ends = ends
+  unoptioned-by turns job password old new (Err OutOfMemory) ends = ends
+  unoptioned-by turns job password old new (Err Turns) ends = ends
+  unoptioned-by turns job password old new (Err (Password fault)) ends = ends
 
-  unoptioned-input : (device_bytes : DeviceBytes I O E) (turns : ℕ) (job : Job) (bytes : List ℕ) (old new : RunState I O E) (result : Result Tally RunFault)
-      → EndsByInput device_bytes turns job bytes old new result → EndsByInput device_bytes turns (without_rehash (without_budget job)) bytes old new result
-  unoptioned-input device_bytes turns job bytes old new (Ok tally) ends = ends
-  unoptioned-input device_bytes turns job bytes old new (Err Read) ends = ends
-  unoptioned-input device_bytes turns job bytes old new (Err Write) ends = ends
-  unoptioned-input device_bytes turns job bytes old new (Err OutOfMemory) ends = ends
-  unoptioned-input device_bytes turns job bytes old new (Err Turns) ends = ends
-  unoptioned-input device_bytes turns job bytes old new (Err (Password fault)) ends = ends
+  unoptioned-input : (turns : ℕ) (job : Job) (bytes : List ℕ) (old new : RunState I O E) (result : Result Tally RunFault)
+      → EndsByInput turns job bytes old new result → EndsByInput turns (without_rehash (without_budget job)) bytes old new result
+  unoptioned-input turns job bytes old new (Ok tally) ends = ends
+  unoptioned-input turns job bytes old new (Err Read) ends = ends
+  unoptioned-input turns job bytes old new (Err Write) ends = ends
+  unoptioned-input turns job bytes old new (Err OutOfMemory) ends = ends
+  unoptioned-input turns job bytes old new (Err Turns) ends = ends
+  unoptioned-input turns job bytes old new (Err (Password fault)) ends = ends
 
   -- its run ends as without what only lines have
-  pub unoptioned : (device_bytes : DeviceBytes I O E) (turns : ℕ) (job : Job) (from : PasswordFrom) (old new : RunState I O E) (result : Result Tally RunFault)
-      → EndsOne device_bytes turns job from old new result → EndsOne device_bytes turns (without_rehash (without_budget job)) from old new result
-  unoptioned device_bytes turns job (Word bytes) old new result ends = (ends.0, unoptioned-by device_bytes turns job bytes.items old new result ends.1)
-  unoptioned device_bytes turns job Input old new result ends =
-      (ends.0, ends.1, unoptioned-input device_bytes turns job ends.0 old new result ends.2)
+  pub unoptioned : (turns : ℕ) (job : Job) (from : PasswordFrom) (old new : RunState I O E) (result : Result Tally RunFault)
+      → EndsOne turns job from old new result → EndsOne turns (without_rehash (without_budget job)) from old new result
+  unoptioned turns job (Word bytes) old new result ends = (ends.0, unoptioned-by turns job bytes.items old new result ends.1)
+  unoptioned turns job Input old new result ends =
+      (ends.0, ends.1, unoptioned-input turns job ends.0 old new result ends.2)
 
 -- ---- new hashes
 

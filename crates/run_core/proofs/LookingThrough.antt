@@ -35,24 +35,29 @@ same-trans old mid new before more = record {
 pub for-same : {O E R : Type 0} (old new : LineRun O E R) (P : Kind → Job → Type 0) → IsSameRun old new → P new.kind new.job.now → P old.kind old.job.now
 for-same old new P same says = subst (λ kind. P kind old.job.now) same.kind (subst (λ job. P new.kind job) same.job says)
 
-module _ {O E : Type 0} (contents : O → Option (List ℕ)) (fault_contents : E → Option (List ℕ)) (kind : Kind) (job : Job) where
+-- the piece, from the front before the line, the end of the line, and what is behind it
+piece-parts : (front rest piece : List ℕ) (end : ℕ) → front ++ rest ≡ piece → IsCutAtFeed rest end
+    → front ++ (take end rest ++ line_feed ∷ drop (end + 1) rest) ≡ piece
+piece-parts front rest piece end split cut = ap (λ others. front ++ others) (sym cut.parts) ∙ split
+
+module _ {O E : Type 0} (kind : Kind) (job : Job) where
   -- where the run is before the step for a line
   pub record IsAtLine (start old : OutputState O E) (bytes front : List ℕ) (position : Position) (line : List ℕ) (next : Answer) : Type 0 where
-    pub at : IsAt contents fault_contents kind job start old bytes position
+    pub at : IsAt kind job start old bytes position
     pub is_line : line ≡ at.rest ++ front
     pub no_feed : HasNoLineFeed line
     pub is_next : IsAnswer kind job (position.tally.lines + 1) line old.stream next
 
   -- the next answer is given, behind those that were
   pub given-both : (start old new : OutputState O E) (answers next : Answer) (left : ℕ) {A : Type 0} (done : A)
-      → AreGiven contents fault_contents answers start old
-      → AnswersOne contents fault_contents left next old new (Ok done)
-      → AreGiven contents fault_contents (both answers next) start new
+      → AreGiven answers start old
+      → AnswersOne left next old new (Ok done)
+      → AreGiven (both answers next) start new
   given-both start old new answers next left done before given = record {
     out_unfailed = given.2.0 ∙ before.out_unfailed;
     faults_unfailed = given.2.1 ∙ before.faults_unfailed;
-    text = Takes-trans contents start.out old.out new.out answers.text next.text before.text given.2.2;
-    fault_text = Takes-trans fault_contents start.faults old.faults new.faults answers.fault_text next.fault_text before.fault_text given.2.3;
+    text = Takes-trans start.out old.out new.out answers.text next.text before.text given.2.2;
+    fault_text = Takes-trans start.faults old.faults new.faults answers.fault_text next.fault_text before.fault_text given.2.3;
     stream = given.0;
     counts = given.1 ∙ (ap (λ c. after_work c next.hashings) before.counts ∙ sym (after_work-append start.counts answers.hashings next.hashings));
   }
@@ -64,10 +69,10 @@ module _ {O E : Type 0} (contents : O → Option (List ℕ)) (fault_contents : E
 
   pub at-answered : (start old new : OutputState O E) (bytes front : List ℕ) (position next_position : Position) (line : List ℕ) (next : Answer) {A : Type 0} (done : A)
       → IsAtLine start old bytes front position line next
-      → AnswersOne contents fault_contents next_position.turns_left next old new (Ok done)
+      → AnswersOne next_position.turns_left next old new (Ok done)
       → next_position.tally ≡ both_tallies position.tally next.tally
       → Represents next_position.buffer []
-      → IsAt contents fault_contents kind job start new (bytes ++ (front ++ line_feed ∷ [])) next_position
+      → IsAt kind job start new (bytes ++ (front ++ line_feed ∷ [])) next_position
   at-answered start old new bytes front position next_position line next done before given counted cleared =
       let at = before.at in
       let number : position.tally.lines + 1 ≡ 1 + length at.done = omega (arith, ap (λ t. t.lines) at.tally, at.numbers) in
@@ -90,8 +95,8 @@ module _ {O E : Type 0} (contents : O → Option (List ℕ)) (fault_contents : E
   -- how it is cut short
   pub cut-answering : (start old new : OutputState O E) (bytes front : List ℕ) (position : Position) (left : ℕ) (line : List ℕ) (next : Answer) (A : Type 0) (fault : RunFault)
       → (before : IsAtLine start old bytes front position line next)
-      → AnswersOne contents fault_contents left next old new {A = A} (Err fault)
-      → IsInterrupted contents fault_contents left before.at.answers next start new fault
+      → AnswersOne left next old new {A = A} (Err fault)
+      → IsInterrupted left before.at.answers next start new fault
   cut-answering start old new bytes front position left line next A Write before given =
       let at = before.at in
       let done = at.answers in (
@@ -101,14 +106,14 @@ module _ {O E : Type 0} (contents : O → Option (List ℕ)) (fault_contents : E
           | inl cut ↦ inl (
             cut.0 ∙ ap (λ n. n + 1) at.given.out_unfailed,
             cut.1 ∙ at.given.faults_unfailed,
-            TakesFront-behind contents start.out old.out new.out done.text next.text at.given.text cut.2,
-            Takes-trans fault_contents start.faults old.faults new.faults done.fault_text next.fault_text at.given.fault_text cut.3,
+            TakesFront-behind start.out old.out new.out done.text next.text at.given.text cut.2,
+            Takes-trans start.faults old.faults new.faults done.fault_text next.fault_text at.given.fault_text cut.3,
           )
           | inr cut ↦ inr (
             cut.0 ∙ at.given.out_unfailed,
             cut.1 ∙ ap (λ n. n + 1) at.given.faults_unfailed,
-            Takes-trans contents start.out old.out new.out done.text next.text at.given.text cut.2,
-            TakesFront-behind fault_contents start.faults old.faults new.faults done.fault_text next.fault_text at.given.fault_text cut.3,
+            Takes-trans start.out old.out new.out done.text next.text at.given.text cut.2,
+            TakesFront-behind start.faults old.faults new.faults done.fault_text next.fault_text at.given.fault_text cut.3,
           )
         ],
       )
@@ -122,8 +127,8 @@ module _ {O E : Type 0} (contents : O → Option (List ℕ)) (fault_contents : E
           cut.0 ∙ at.given.out_unfailed,
           cut.1 ∙ at.given.faults_unfailed,
           cut.2,
-          TakesFront-behind contents start.out old.out new.out done.text next.text at.given.text cut.3,
-          TakesFront-behind fault_contents start.faults old.faults new.faults done.fault_text next.fault_text at.given.fault_text cut.4,
+          TakesFront-behind start.out old.out new.out done.text next.text at.given.text cut.3,
+          TakesFront-behind start.faults old.faults new.faults done.fault_text next.fault_text at.given.fault_text cut.4,
           (let taken = at.given.text.counted in let told = at.given.fault_text.counted in
               omega (arith, cut.5, taken, told, length-append done.text next.text, length-append done.fault_text next.fault_text)),
         ),
@@ -133,17 +138,17 @@ module _ {O E : Type 0} (contents : O → Option (List ℕ)) (fault_contents : E
         subst (λ counts. IsRefusedAmong counts next.hashings new.counts new.stream) at.given.counts given.2,
         ap (λ d. d.failures) given.0 ∙ at.given.out_unfailed,
         ap (λ d. d.failures) given.1 ∙ at.given.faults_unfailed,
-        subst (λ d. Takes contents start.out d at.answers.text) (sym given.0) at.given.text,
-        subst (λ d. Takes fault_contents start.faults d at.answers.fault_text) (sym given.1) at.given.fault_text,
+        subst (λ d. Takes start.out d at.answers.text) (sym given.0) at.given.text,
+        subst (λ d. Takes start.faults d at.answers.fault_text) (sym given.1) at.given.fault_text,
       )
   cut-answering start old new bytes front position left line next A Read before given = absurd given.2
   cut-answering start old new bytes front position left line next A (Password fault) before given = absurd given.2
 
   pub looks-cut : (start old new : OutputState O E) (bytes front behind : List ℕ) (position next_position : Position) (line : List ℕ) (next : Answer) (A : Type 0) (fault : RunFault)
       → IsAtLine start old bytes front position line next
-      → AnswersOne contents fault_contents next_position.turns_left next old new {A = A} (Err fault)
+      → AnswersOne next_position.turns_left next old new {A = A} (Err fault)
       → length behind < piece_size
-      → LooksThrough contents fault_contents kind job start new (bytes ++ (front ++ line_feed ∷ behind)) next_position {A = A} (Err fault)
+      → LooksThrough kind job start new (bytes ++ (front ++ line_feed ∷ behind)) next_position {A = A} (Err fault)
   looks-cut start old new bytes front behind position next_position line next A fault before given small =
       let at = before.at in
       let number : position.tally.lines + 1 ≡ length at.done + 1 = omega (arith, ap (λ t. t.lines) at.tally, at.numbers) in (
@@ -172,8 +177,8 @@ module _ {O E : Type 0} (contents : O → Option (List ℕ)) (fault_contents : E
     pub lines : position.tally.lines + length rest ≤ old_position.tally.lines + length piece
     pub room : HasRoomIn position.tally now
     pub turns : TakesTurns old_position.turns_left position.turns_left old now
-    pub at : (start : OutputState O E) (bytes : List ℕ) → IsAt contents fault_contents kind job start old bytes old_position
-        → IsAt contents fault_contents kind job start now (bytes ++ front) position
+    pub at : (start : OutputState O E) (bytes : List ℕ) → IsAt kind job start old bytes old_position
+        → IsAt kind job start now (bytes ++ front) position
 
   pub looking-start : (old : OutputState O E) (position : Position) (piece : List ℕ) → HasRoomIn position.tally old → IsLooking old old position position piece piece
   looking-start old position piece room = record {
@@ -182,7 +187,7 @@ module _ {O E : Type 0} (contents : O → Option (List ℕ)) (fault_contents : E
     lines = omega arith;
     room = room;
     turns = record { turns = refl; fewer = omega arith; out_moves = moves-none old.out; faults_moves = moves-none old.faults };
-    at = λ start bytes is. subst (λ b. IsAt contents fault_contents kind job start old b position) (sym (append-nil bytes)) is;
+    at = λ start bytes is. subst (λ b. IsAt kind job start old b position) (sym (append-nil bytes)) is;
   }
 
   -- what the answer to a line that is buffer leaves, as far as that can be told of any result
@@ -190,7 +195,7 @@ module _ {O E : Type 0} (contents : O → Option (List ℕ)) (fault_contents : E
   AnswersBuffered old new tally buffer next_position result =
       (line : List ℕ) → Represents buffer line
       → (answer : Answer) × IsAnswer kind job (tally.lines + 1) line old.stream answer
-      × AnswersOne contents fault_contents next_position.turns_left answer old new result
+      × AnswersOne next_position.turns_left answer old new result
       × OnOk result (next_position.tally ≡ both_tallies tally answer.tally)
 
   -- the step for one line of the piece, which ends at its first line feed
@@ -202,10 +207,10 @@ module _ {O E : Type 0} (contents : O → Option (List ℕ)) (fault_contents : E
 
   line-answered : (old mid new : OutputState O E) (old_position position next_position : Position) (buffer : LineBuffer) (piece rest : List ℕ) (end : ℕ) {A : Type 0} (result : Result A RunFault)
       → (step : IsStep old mid new old_position position next_position buffer piece rest end result)
-      → (start : OutputState O E) (bytes : List ℕ) → IsAt contents fault_contents kind job start old bytes old_position
+      → (start : OutputState O E) (bytes : List ℕ) → IsAt kind job start old bytes old_position
       → (line : List ℕ) × (next : Answer)
       × IsAtLine start mid (bytes ++ step.before.front) (take end rest) position line next
-      × AnswersOne contents fault_contents next_position.turns_left next mid new result
+      × AnswersOne next_position.turns_left next mid new result
       × OnOk result (next_position.tally ≡ both_tallies position.tally next.tally)
   line-answered old mid new old_position position next_position buffer piece rest end result step start bytes is =
       let at = step.before.at start bytes is in
@@ -223,23 +228,18 @@ module _ {O E : Type 0} (contents : O → Option (List ℕ)) (fault_contents : E
         got.3,
       )
 
-  -- the piece, from the front before the line, the end of the line, and what is behind it
-  piece-parts : (front rest piece : List ℕ) (end : ℕ) → front ++ rest ≡ piece → IsCutAtFeed rest end
-      → front ++ (take end rest ++ line_feed ∷ drop (end + 1) rest) ≡ piece
-  piece-parts front rest piece end split cut = ap (λ others. front ++ others) (sym cut.parts) ∙ split
-
   pub looking-cut : (old mid new : OutputState O E) (old_position position next_position : Position) (buffer : LineBuffer) (piece rest : List ℕ) (end : ℕ) (A : Type 0) (fault : RunFault)
       → IsStep old mid new old_position position next_position buffer piece rest end {A = A} (Err fault)
       → length piece ≤ piece_size
-      → (start : OutputState O E) (bytes : List ℕ) → IsAt contents fault_contents kind job start old bytes old_position
-      → LooksThrough contents fault_contents kind job start new (bytes ++ piece) next_position {A = A} (Err fault)
+      → (start : OutputState O E) (bytes : List ℕ) → IsAt kind job start old bytes old_position
+      → LooksThrough kind job start new (bytes ++ piece) next_position {A = A} (Err fault)
   looking-cut old mid new old_position position next_position buffer piece rest end A fault step small start bytes is =
       let front = step.before.front in
       let behind = drop (end + 1) rest in
       let within = step.cut.within in
       let few : length behind < piece_size = omega (arith, small, within, length-drop (end + 1) rest, length-append front rest, ap length step.before.split) in
       let answered = line-answered old mid new old_position position next_position buffer piece rest end (Err fault) step start bytes is in
-      subst (λ b. LooksThrough contents fault_contents kind job start new b next_position {A = A} (Err fault))
+      subst (λ b. LooksThrough kind job start new b next_position {A = A} (Err fault))
       (append_assoc bytes front (take end rest ++ line_feed ∷ behind)
       ∙ ap (λ others. bytes ++ others) (piece-parts front rest piece end step.before.split step.cut))
       (looks-cut start mid new (bytes ++ front) (take end rest) behind position next_position answered.0 answered.1 A fault answered.2 answered.3 few)
@@ -274,7 +274,7 @@ module _ {O E : Type 0} (contents : O → Option (List ℕ)) (fault_contents : E
         turns = turns-trans old mid new old_position.turns_left position.turns_left next_position.turns_left before.turns turns;
         at = λ start bytes is.
             let answered = line-answered old mid new old_position position next_position buffer piece rest end (Ok done) step start bytes is in
-            subst (λ b. IsAt contents fault_contents kind job start new b next_position)
+            subst (λ b. IsAt kind job start new b next_position)
             (append_assoc bytes front line)
             (at-answered start mid new (bytes ++ front) (take end rest) position next_position answered.0 answered.1 done answered.2 answered.3 answered.4 cleared);
       }
@@ -283,8 +283,8 @@ module _ {O E : Type 0} (contents : O → Option (List ℕ)) (fault_contents : E
   pub looking-end : (old now : OutputState O E) (old_position position : Position) (buffer : LineBuffer) (piece rest : List ℕ)
       → IsLooking old now old_position position piece rest → HasNoLineFeed rest
       → ((line : List ℕ) → Represents position.buffer line → Represents buffer (line ++ rest))
-      → (start : OutputState O E) (bytes : List ℕ) → IsAt contents fault_contents kind job start old bytes old_position
-      → IsAt contents fault_contents kind job start now (bytes ++ piece) (record { buffer = buffer; tally = position.tally; turns_left = position.turns_left })
+      → (start : OutputState O E) (bytes : List ℕ) → IsAt kind job start old bytes old_position
+      → IsAt kind job start now (bytes ++ piece) (record { buffer = buffer; tally = position.tally; turns_left = position.turns_left })
   looking-end old now old_position position buffer piece rest looking none holds start bytes is =
       let at = looking.at start bytes is in
       record {

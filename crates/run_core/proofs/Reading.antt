@@ -12,26 +12,29 @@ use Rattle.run_core.specs.declared.fault.RunFault.TheVariants.{Read, Write, OutO
 use Rattle.run_core.proofs.LineFeeds.{feed_at, feed_at-append, first_line-is, first_line-whole, has_feed, lacks_feed, position-feed, position-none}
 use Rattle.run_core.proofs.Moving.{moves-trans}
 
-module _ {I : Type 0} (remaining : I → Option (List ℕ)) where
+piece_is : (next : List ℕ) (filled count : ℕ) → slice_range next filled (filled + count) ≡ take count (drop filled next)
+piece_is next filled count = ap (λ n. take n (drop filled next)) (omega arith)
+
+module _ {I : Type 0} where
   -- the front of the buffer was read and has no line feed, in calls that did not fail and that each gave a
   -- byte
   pub record IsReading (old new : Device I) (buffer : List ℕ) (filled turns left : ℕ) : Type 0 where
     pub size : length buffer ≡ buffer_size
     pub within : filled ≤ buffer_size
-    pub reads : Reads remaining old new (take filled buffer)
+    pub reads : Reads old new (take filled buffer)
     pub no_line_feed : feed_at (take filled buffer) ≡ filled
     pub unfailed : IsUnfailed old new
     pub calls : new.calls + left ≡ old.calls + turns
     pub fewer : left ≤ turns
     pub moves : MovesBytes 0 old new
 
-  pub Reads-trans : (old mid new : Device I) (front piece : List ℕ) → Reads remaining old mid front → Reads remaining mid new piece
-      → Reads remaining old new (front ++ piece)
+  pub Reads-trans : (old mid new : Device I) (front piece : List ℕ) → Reads old mid front → Reads mid new piece
+      → Reads old new (front ++ piece)
   Reads-trans old mid new front piece before more =
       let counted = before.counted in
       let more_counted = more.counted in
       record {
-        shown = Consumes-trans _ (remaining mid.inner) _ front piece before.shown more.shown;
+        shown = Consumes-trans _ mid.shown _ front piece before.shown more.shown;
         counted = omega (arith, length-append front piece, counted, more_counted);
       }
 
@@ -41,7 +44,7 @@ module _ {I : Type 0} (remaining : I → Option (List ℕ)) where
     pub room : filled < buffer_size
     pub size : length next ≡ buffer_size
     pub kept : take filled next ≡ take filled buffer
-    pub fetched : Fetches remaining left mid new (drop filled next) (Ok count)
+    pub fetched : Fetches left mid new (drop filled next) (Ok count)
 
   -- all that was read by then
   read_so_far : (old mid new : Device I) (buffer next : List ℕ) (filled count turns left : ℕ)
@@ -51,7 +54,7 @@ module _ {I : Type 0} (remaining : I → Option (List ℕ)) where
       × (length (take filled next) ≡ filled)
       × (length (take count (drop filled next)) ≡ count)
       × (feed_at (take filled next) ≡ filled)
-      × Reads remaining old new (take (filled + count) next)
+      × Reads old new (take (filled + count) next)
   read_so_far old mid new buffer next filled count turns left h =
       let piece = take count (drop filled next) in
       let size = h.size in
@@ -59,23 +62,20 @@ module _ {I : Type 0} (remaining : I → Option (List ℕ)) where
       let rest : length (drop filled next) ≡ buffer_size - filled = omega (arith, length-drop filled next, size) in
       let within : filled + count ≤ buffer_size = omega (arith, rest, h.fetched.0, room) in
       let parts : take (filled + count) next ≡ take filled next ++ piece = take-add filled count next in
-      let front_reads : Reads remaining old mid (take filled next) = subst (Reads remaining old mid) (sym h.kept) h.before.reads in (
+      let front_reads : Reads old mid (take filled next) = subst (Reads old mid) (sym h.kept) h.before.reads in (
         within,
         parts,
         length-take-le filled next (omega (arith, size, room)),
         length-take-le count (drop filled next) h.fetched.0,
         ap feed_at h.kept ∙ h.before.no_line_feed,
-        subst (Reads remaining old new) (sym parts) (Reads-trans old mid new _ piece front_reads h.fetched.2),
+        subst (Reads old new) (sym parts) (Reads-trans old mid new _ piece front_reads h.fetched.2),
       )
-
-  piece_is : (next : List ℕ) (filled count : ℕ) → slice_range next filled (filled + count) ≡ take count (drop filled next)
-  piece_is next filled count = ap (λ n. take n (drop filled next)) (omega arith)
 
   -- a line feed is in the piece
   pub reading-found : (old mid new : Device I) (buffer next : List ℕ) (filled count turns left left_new at : ℕ)
       → HasFetched old mid new buffer next filled count turns left
       → position (λ b. eqb b 10) (slice_range next filled (filled + count)) ≡ Some at
-      → (bytes : List ℕ) × Reads remaining old new bytes × FindsLine remaining old new bytes left_new next (Ok (filled + at))
+      → (bytes : List ℕ) × Reads old new bytes × FindsLine old new bytes left_new next (Ok (filled + at))
   reading-found old mid new buffer next filled count turns left left_new at h found =
       let so_far = read_so_far old mid new buffer next filled count turns left h in
       let bytes = take (filled + count) next in
@@ -110,7 +110,7 @@ module _ {I : Type 0} (remaining : I → Option (List ℕ)) where
   pub reading-end : (old mid new : Device I) (buffer next : List ℕ) (filled count turns left left_new : ℕ)
       → HasFetched old mid new buffer next filled count turns left
       → position (λ b. eqb b 10) (slice_range next filled (filled + count)) ≡ None → count ≡ 0
-      → (bytes : List ℕ) × Reads remaining old new bytes × FindsLine remaining old new bytes left_new next (Ok filled)
+      → (bytes : List ℕ) × Reads old new bytes × FindsLine old new bytes left_new next (Ok filled)
   reading-end old mid new buffer next filled count turns left left_new h none ended =
       let so_far = read_so_far old mid new buffer next filled count turns left h in
       let bytes = take (filled + count) next in
@@ -157,11 +157,11 @@ module _ {I : Type 0} (remaining : I → Option (List ℕ)) where
   -- a fetch failed, or no turn was left for it
   pub reading-cut : (old mid new : Device I) (buffer next : List ℕ) (filled turns left left_new : ℕ) (fault : RunFault)
       → IsReading old mid buffer filled turns left → filled < buffer_size
-      → Fetches remaining left mid new (drop filled next) (Err fault) → left_new ≡ left - 1
-      → (bytes : List ℕ) × Reads remaining old new bytes × FindsLine remaining old new bytes left_new next (Err fault)
+      → Fetches left mid new (drop filled next) (Err fault) → left_new ≡ left - 1
+      → (bytes : List ℕ) × Reads old new bytes × FindsLine old new bytes left_new next (Err fault)
   reading-cut old mid new buffer next filled turns left left_new Read before room fetched took = (
     take filled buffer,
-    subst (Reads remaining old new) (append-nil _) (Reads-trans old mid new _ [] before.reads fetched.1),
+    subst (Reads old new) (append-nil _) (Reads-trans old mid new _ [] before.reads fetched.1),
     (
       (let unfailed = before.unfailed in omega (arith, unfailed, fetched.0)),
       undecided old mid buffer filled turns left before room,
@@ -170,7 +170,7 @@ module _ {I : Type 0} (remaining : I → Option (List ℕ)) where
   )
   reading-cut old mid new buffer next filled turns left left_new Turns before room fetched took = (
     take filled buffer,
-    subst (Reads remaining old new) (append-nil _) (Reads-trans old mid new _ [] before.reads fetched.1),
+    subst (Reads old new) (append-nil _) (Reads-trans old mid new _ [] before.reads fetched.1),
     (
       fetched.0 ∙ before.unfailed,
       undecided old mid buffer filled turns left before room,
@@ -185,7 +185,7 @@ module _ {I : Type 0} (remaining : I → Option (List ℕ)) where
   -- the buffer is full
   pub reading-full : (old mid : Device I) (buffer : List ℕ) (filled turns left : ℕ)
       → IsReading old mid buffer filled turns left → buffer_size ≤ filled
-      → (bytes : List ℕ) × Reads remaining old mid bytes × FindsLine remaining old mid bytes left buffer (Ok filled)
+      → (bytes : List ℕ) × Reads old mid bytes × FindsLine old mid bytes left buffer (Ok filled)
   reading-full old mid buffer filled turns left before full =
       let bytes = take filled buffer in
       let long = before.size in

@@ -14,24 +14,24 @@ module _ {T : Type 0} where
   pub unflushed-trans : (old mid new : Device T) → IsUnflushed old mid → IsUnflushed mid new → IsUnflushed old new
   unflushed-trans old mid new before more = record { flushes = more.flushes ∙ before.flushes; flushed = more.flushed ∙ before.flushed }
 
-module _ {T : Type 0} (contents : T → Option (List ℕ)) where
-  pub takes-nothing : (d : Device T) → Takes contents d d []
+module _ {T : Type 0} where
+  pub takes-nothing : (d : Device T) → Takes d d []
   takes-nothing d = record { shown = Appends-nil _; counted = omega arith; flush = record { flushes = refl; flushed = refl } }
 
-  pub Takes-trans : (old mid new : Device T) (bytes others : List ℕ) → Takes contents old mid bytes → Takes contents mid new others
-      → Takes contents old new (bytes ++ others)
+  pub Takes-trans : (old mid new : Device T) (bytes others : List ℕ) → Takes old mid bytes → Takes mid new others
+      → Takes old new (bytes ++ others)
   Takes-trans old mid new bytes others before more =
       let counted = before.counted in
       let more_counted = more.counted in
       record {
-        shown = Appends-trans _ (contents mid.inner) _ bytes others before.shown more.shown;
+        shown = Appends-trans _ mid.shown _ bytes others before.shown more.shown;
         counted = omega (arith, length-append bytes others, counted, more_counted);
         flush = unflushed-trans old mid new before.flush more.flush;
       }
 
   -- the first bytes of a text, behind what was taken before
-  pub TakesFront-behind : (old mid new : Device T) (whole text : List ℕ) → Takes contents old mid whole → TakesFront contents mid new [] text
-      → TakesFront contents old new whole text
+  pub TakesFront-behind : (old mid new : Device T) (whole text : List ℕ) → Takes old mid whole → TakesFront mid new [] text
+      → TakesFront old new whole text
   TakesFront-behind old mid new whole text before front = (
     front.0,
     front.1,
@@ -40,31 +40,31 @@ module _ {T : Type 0} (contents : T → Option (List ℕ)) where
   )
 
   -- nothing of a next text was taken
-  pub front-none : (old new : Device T) (whole : List ℕ) → Takes contents old new whole → TakesFront contents old new whole []
-  front-none old new whole takes = ([], [], refl, subst (Takes contents old new) (sym (append-nil whole)) takes)
+  pub front-none : (old new : Device T) (whole : List ℕ) → Takes old new whole → TakesFront old new whole []
+  front-none old new whole takes = ([], [], refl, subst (Takes old new) (sym (append-nil whole)) takes)
 
 -- ---- the giving of a text
 
 module _ {T : Type 0} where
   -- the front of the text was taken, in calls that did not fail and that each took a byte
-  pub record IsUnderWay (contents : T → Option (List ℕ)) (old new : Device T) (text rest : List ℕ) (turns left : ℕ) : Type 0 where
+  pub record IsUnderWay (old new : Device T) (text rest : List ℕ) (turns left : ℕ) : Type 0 where
     pub sent : List ℕ
     pub split : sent ++ rest ≡ text
-    pub takes : Takes contents old new sent
+    pub takes : Takes old new sent
     pub unfailed : new.failures ≡ old.failures
     pub calls : new.calls + left ≡ old.calls + turns
     pub fewer : left ≤ turns
     pub moves : MovesBytes 0 old new
 
   -- a `give` that took some bytes of the rest
-  pub under_way-step : (contents : T → Option (List ℕ)) (old mid new : Device T) (text rest next : List ℕ) (turns left count : ℕ)
-      → IsUnderWay contents old mid text rest turns left → 0 < left → 0 < count → count ≤ length rest
-      → Appends (contents mid.inner) (contents new.inner) (take count rest)
+  pub under_way-step : (old mid new : Device T) (text rest next : List ℕ) (turns left count : ℕ)
+      → IsUnderWay old mid text rest turns left → 0 < left → 0 < count → count ≤ length rest
+      → Appends mid.shown new.shown (take count rest)
       → new.failures ≡ mid.failures + as_count (nat_eq count 0 && nat_lt 0 (length rest))
       → new.calls ≡ mid.calls + 1 → new.bytes ≡ mid.bytes + count → new.idle ≡ mid.idle + as_count (nat_eq count 0 && nat_eq (length rest) 0)
       → IsUnflushed mid new → next ≡ drop count rest
-      → IsUnderWay contents old new text next turns (left - 1)
-  under_way-step contents old mid new text rest next turns left count before some_left some_taken within appends failures calls bytes idle unflushed next_is =
+      → IsUnderWay old new text next turns (left - 1)
+  under_way-step old mid new text rest next turns left count before some_left some_taken within appends failures calls bytes idle unflushed next_is =
       let sent = before.sent in
       let took = take count rest in
       let some : nat_eq count 0 ≡ false = grind (arith, nat_tests) in
@@ -77,7 +77,7 @@ module _ {T : Type 0} where
         sent = sent ++ took;
         split = rw next_is (append_assoc sent took (drop count rest) ∙ (ap (λ l. sent ++ l) (take-append-drop count rest) ∙ before.split));
         takes = record {
-          shown = Appends-trans _ (contents mid.inner) _ sent took before.takes.shown appends;
+          shown = Appends-trans _ mid.shown _ sent took before.takes.shown appends;
           counted = omega (arith, length-append sent took, size, counted, bytes);
           flush = unflushed-trans old mid new before.takes.flush unflushed;
         };
@@ -90,12 +90,12 @@ module _ {T : Type 0} where
         });
       }
 
-  pub under_way-start : (contents : T → Option (List ℕ)) (old : Device T) (text : List ℕ) (turns : ℕ)
-      → IsUnderWay contents old old text text turns turns
-  under_way-start contents old text turns = record {
+  pub under_way-start : (old : Device T) (text : List ℕ) (turns : ℕ)
+      → IsUnderWay old old text text turns turns
+  under_way-start old text turns = record {
     sent = [];
     split = refl;
-    takes = takes-nothing contents old;
+    takes = takes-nothing old;
     unfailed = refl;
     calls = refl;
     fewer = omega arith;

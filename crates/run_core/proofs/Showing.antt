@@ -12,9 +12,9 @@ abbrev pub as_tally : {A : Type 0} → Result A RunFault → Result Tally RunFau
 as_tally (Ok done) = Ok no_line
 as_tally (Err fault) = Err fault
 
-module _ {T : Type 0} (contents : T → Option (List ℕ)) where
+module _ {T : Type 0} where
   pub shows-tally : {A : Type 0} (turns : ℕ) (old new : Device T) (text : List ℕ) (result : Result A RunFault)
-      → Shows contents turns old new text result → Shows contents turns old new text (as_tally result)
+      → Shows turns old new text result → Shows turns old new text (as_tally result)
   shows-tally turns old new text (Ok done) s = record { gives = s.gives; outcome = s.outcome; turns_taken = s.turns_taken; moves = s.moves }
   shows-tally turns old new text (Err Read) s = record { gives = s.gives; outcome = s.outcome; turns_taken = s.turns_taken; moves = s.moves }
   shows-tally turns old new text (Err Write) s = record { gives = s.gives; outcome = s.outcome; turns_taken = s.turns_taken; moves = s.moves }

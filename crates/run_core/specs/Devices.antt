@@ -1,6 +1,6 @@
 -- What a contract sees of a device behind its wrapper.
-use Rattle.std.specs.Prelude.{◌≡◌, ℕ, ◌+◌, ◌^◌, ◌≤◌, ◌==◌, ◌&&◌, Bool, true, false, nat_lt, List, length, Result, Ok, Err, refl, if◌then◌else◌}
-use Rattle.std.specs.Coded.{Coded, code_by, coded×, coded_ℕ}
+use Rattle.std.specs.Prelude.{◌≡◌, ℕ, ◌+◌, ◌^◌, ◌≤◌, ◌==◌, ◌&&◌, Bool, true, false, nat_lt, List, length, Option, Result, Ok, Err, refl, if◌then◌else◌}
+use Rattle.std.specs.Coded.{Coded, code_by, coded×, coded_ℕ, coded_list, coded_option}
 
 -- the device; how many of its calls failed; how many calls were made to move bytes, failed ones
 -- among them; how many bytes these moved; how many of these calls moved none and didn't fail; how many
@@ -8,6 +8,7 @@ use Rattle.std.specs.Coded.{Coded, code_by, coded×, coded_ℕ}
 -- bytes by `fetch`, and is never flushed; an output by `give`, and not by `flush`
 pub record Device (T : Type 0) : Type 0 where
   pub inner : T
+  pub shown : Option (List ℕ)
   pub failures : ℕ
   pub calls : ℕ
   pub bytes : ℕ
@@ -18,13 +19,23 @@ pub record Device (T : Type 0) : Type 0 where
 -- a device is stored as its parts
 abbrev pub device_code : {T : Type 0} → Coded T → Coded (Device T)
 device_code {T} code =
-    code_by (T × (ℕ × (ℕ × (ℕ × (ℕ × (ℕ × ℕ)))))) (coded× code (coded× coded_ℕ (coded× coded_ℕ (coded× coded_ℕ (coded× coded_ℕ (coded× coded_ℕ coded_ℕ))))))
-    (λ d. (d.inner, (d.failures, (d.calls, (d.bytes, (d.idle, (d.flushes, d.flushed)))))))
-    (λ p. record { inner = p.0; failures = p.1.0; calls = p.1.1.0; bytes = p.1.1.1.0; idle = p.1.1.1.1.0; flushes = p.1.1.1.1.1.0; flushed = p.1.1.1.1.1.1 }) (λ _. refl)
+    code_by (T × (Option (List ℕ) × (ℕ × (ℕ × (ℕ × (ℕ × (ℕ × ℕ)))))))
+    (coded× code (coded× (coded_option (coded_list coded_ℕ)) (coded× coded_ℕ (coded× coded_ℕ (coded× coded_ℕ (coded× coded_ℕ (coded× coded_ℕ coded_ℕ)))))))
+    (λ d. (d.inner, (d.shown, (d.failures, (d.calls, (d.bytes, (d.idle, (d.flushes, d.flushed))))))))
+    (λ p. record {
+      inner = p.0;
+      shown = p.1.0;
+      failures = p.1.1.0;
+      calls = p.1.1.1.0;
+      bytes = p.1.1.1.1.0;
+      idle = p.1.1.1.1.1.0;
+      flushes = p.1.1.1.1.1.1.0;
+      flushed = p.1.1.1.1.1.1.1;
+    }) (λ _. refl)
 
 -- a device of which nothing was seen
-abbrev pub new_device : {T : Type 0} → T → Device T
-new_device inner = record { inner = inner; failures = 0; calls = 0; bytes = 0; idle = 0; flushes = 0; flushed = 0 }
+abbrev pub new_device : {T : Type 0} → T → Option (List ℕ) → Device T
+new_device inner shown = record { inner = inner; shown = shown; failures = 0; calls = 0; bytes = 0; idle = 0; flushes = 0; flushed = 0 }
 
 -- 1 where it was seen, else 0
 abbrev pub as_count : Bool → ℕ

@@ -15,13 +15,13 @@ pub record IsUndecided (bytes : List ℕ) : Type 0 where
   pub no_line_feed : HasNoLineFeed bytes
   pub short : length bytes ≤ password_limit
 
-module _ {I : Type 0} (remaining : I → Option (List ℕ)) where
+module _ {I : Type 0} where
   -- the fetches gave these bytes: the input's next ones, where it tells them
   pub record Reads (old new : Device I) (bytes : List ℕ) : Type 0 where
-    pub shown : Consumes (remaining old.inner) (remaining new.inner) bytes
+    pub shown : Consumes old.shown new.shown bytes
     pub counted : new.bytes ≡ old.bytes + length bytes
 
   -- they do tell it: a line feed is among them, or nothing is left to read, or they are too many without one
   abbrev pub IsDecided : Device I → List ℕ → Type 0
   IsDecided input bytes =
-      Contains bytes line_feed ⊎ (IsAtEnd (remaining input.inner) ⊎ (password_limit < length (first_line bytes)))
+      Contains bytes line_feed ⊎ (IsAtEnd input.shown ⊎ (password_limit < length (first_line bytes)))

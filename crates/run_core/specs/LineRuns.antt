@@ -8,7 +8,7 @@ use Rattle.run_core.specs.Devices.{MovesBytes}
 use Rattle.run_core.specs.Input.{Reads}
 use Rattle.run_core.specs.LineAnswers.{IsAnswer}
 use Rattle.run_core.specs.Texts.{HasNoLineFeed, line_feed}
-use Rattle.run_core.specs.Runs.{Finishes, RunState, IsCutShort, DeviceBytes}
+use Rattle.run_core.specs.Runs.{Finishes, RunState, IsCutShort}
 use Rattle.run_core.specs.Tallies.{both_tallies}
 use Rattle.run_core.specs.declared.fault.RunFault.{RunFault}
 use Rattle.run_core.specs.declared.fault.RunFault.TheVariants.{Read, Write, OutOfMemory, Turns, Password}
@@ -66,31 +66,31 @@ module _ {I O E : Type 0} where
   -- ---- where a run is
 
   -- nothing is left to read
-  abbrev pub IsReadOut : DeviceBytes I O E → RunState I O E → Type 0
-  IsReadOut device_bytes new = IsAtEnd (device_bytes.remaining new.input.inner)
+  abbrev pub IsReadOut : RunState I O E → Type 0
+  IsReadOut new = IsAtEnd new.input.shown
 
   -- a line stands in front of what was read and isn't answered, with its line feed among the last bytes, as many as a piece has;
   -- or it is all of that, and the end of the input
-  abbrev pub IsNext : DeviceBytes I O E → RunState I O E → List ℕ → List ℕ → Type 0
-  IsNext device_bytes new line rest =
+  abbrev pub IsNext : RunState I O E → List ℕ → List ℕ → Type 0
+  IsNext new line rest =
       ((behind : List ℕ) × (rest ≡ line ++ line_feed ∷ behind) × (length behind < piece_size))
-      ⊎ ((rest ≡ line) × (line ≢ []) × IsReadOut device_bytes new)
+      ⊎ ((rest ≡ line) × (line ≢ []) × IsReadOut new)
 
   -- ---- how it ends, where it has read these bytes
 
   -- All lines are answered.
-  abbrev pub EndsWhole : DeviceBytes I O E → Kind → Job → List ℕ → RunState I O E → RunState I O E → Result Tally RunFault → Type 0
-  EndsWhole device_bytes kind job bytes old new result =
-      (answers : Answer) × IsReadOut device_bytes new × AreAnswers kind job 1 (lines_of bytes) old.stream answers
-      × Finishes device_bytes answers old new result
+  abbrev pub EndsWhole : Kind → Job → List ℕ → RunState I O E → RunState I O E → Result Tally RunFault → Type 0
+  EndsWhole kind job bytes old new result =
+      (answers : Answer) × IsReadOut new × AreAnswers kind job 1 (lines_of bytes) old.stream answers
+      × Finishes answers old new result
 
   -- The lines whose line feeds were read are answered, and more of the input was wanted. Each fetch that worked gave a
   -- byte, so the end of the input was not found.
-  abbrev pub EndsReading : DeviceBytes I O E → ℕ → Kind → Job → List ℕ → RunState I O E → RunState I O E → RunFault → Type 0
-  EndsReading device_bytes turns kind job bytes old new fault =
+  abbrev pub EndsReading : ℕ → Kind → Job → List ℕ → RunState I O E → RunState I O E → RunFault → Type 0
+  EndsReading turns kind job bytes old new fault =
       (done : List (List ℕ)) × (rest : List ℕ) × (answers : Answer)
       × AreAnswered kind job old.stream bytes done rest answers × HasNoLineFeed rest × MovesBytes 0 old.input new.input
-      × IsCutShort device_bytes turns answers (no_answer answers.stream) old new fault
+      × IsCutShort turns answers (no_answer answers.stream) old new fault
 
   -- where the turns were over, some of these two answers is still to come
   abbrev pub IsUnsent : Answer → Answer → RunState I O E → RunState I O E → RunFault → Type 0
@@ -100,26 +100,26 @@ module _ {I O E : Type 0} where
   IsUnsent done next old new fault = ⊤
 
   -- Some lines are answered, and the next one was being answered.
-  abbrev pub EndsAnswering : DeviceBytes I O E → ℕ → Kind → Job → List ℕ → RunState I O E → RunState I O E → RunFault → Type 0
-  EndsAnswering device_bytes turns kind job bytes old new fault =
+  abbrev pub EndsAnswering : ℕ → Kind → Job → List ℕ → RunState I O E → RunState I O E → RunFault → Type 0
+  EndsAnswering turns kind job bytes old new fault =
       (done : List (List ℕ)) × (line : List ℕ) × (rest : List ℕ) × (answers : Answer) × (next : Answer)
-      × AreAnswered kind job old.stream bytes done rest answers × HasNoLineFeed line × IsNext device_bytes new line rest
+      × AreAnswered kind job old.stream bytes done rest answers × HasNoLineFeed line × IsNext new line rest
       × IsAnswer kind job (length done + 1) line answers.stream next
-      × IsUnsent answers next old new fault × IsCutShort device_bytes turns answers next old new fault
+      × IsUnsent answers next old new fault × IsCutShort turns answers next old new fault
 
   -- A read fails where more is wanted, a write where an answer is given, and a flush at the end of all; the turns end
   -- where more is wanted or an answer is given; memory is wanted for a hash.
-  abbrev pub EndsByLines : DeviceBytes I O E → ℕ → Kind → Job → List ℕ → RunState I O E → RunState I O E → Result Tally RunFault → Type 0
-  EndsByLines device_bytes turns kind job bytes old new (Ok tally) = EndsWhole device_bytes kind job bytes old new (Ok tally)
-  EndsByLines device_bytes turns kind job bytes old new (Err Read) = EndsReading device_bytes turns kind job bytes old new Read
-  EndsByLines device_bytes turns kind job bytes old new (Err Write) =
-      EndsAnswering device_bytes turns kind job bytes old new Write ⊎ EndsWhole device_bytes kind job bytes old new (Err Write)
-  EndsByLines device_bytes turns kind job bytes old new (Err Turns) =
-      EndsReading device_bytes turns kind job bytes old new Turns ⊎ EndsAnswering device_bytes turns kind job bytes old new Turns
-  EndsByLines device_bytes turns kind job bytes old new (Err OutOfMemory) = EndsAnswering device_bytes turns kind job bytes old new OutOfMemory
-  EndsByLines device_bytes turns kind job bytes old new (Err (Password fault)) = ⊥
+  abbrev pub EndsByLines : ℕ → Kind → Job → List ℕ → RunState I O E → RunState I O E → Result Tally RunFault → Type 0
+  EndsByLines turns kind job bytes old new (Ok tally) = EndsWhole kind job bytes old new (Ok tally)
+  EndsByLines turns kind job bytes old new (Err Read) = EndsReading turns kind job bytes old new Read
+  EndsByLines turns kind job bytes old new (Err Write) =
+      EndsAnswering turns kind job bytes old new Write ⊎ EndsWhole kind job bytes old new (Err Write)
+  EndsByLines turns kind job bytes old new (Err Turns) =
+      EndsReading turns kind job bytes old new Turns ⊎ EndsAnswering turns kind job bytes old new Turns
+  EndsByLines turns kind job bytes old new (Err OutOfMemory) = EndsAnswering turns kind job bytes old new OutOfMemory
+  EndsByLines turns kind job bytes old new (Err (Password fault)) = ⊥
 
   -- the run over the lines of an input
-  abbrev pub EndsLines : DeviceBytes I O E → ℕ → Kind → Job → RunState I O E → RunState I O E → Result Tally RunFault → Type 0
-  EndsLines device_bytes turns kind job old new result =
-      (bytes : List ℕ) × Reads device_bytes.remaining old.input new.input bytes × EndsByLines device_bytes turns kind job bytes old new result
+  abbrev pub EndsLines : ℕ → Kind → Job → RunState I O E → RunState I O E → Result Tally RunFault → Type 0
+  EndsLines turns kind job old new result =
+      (bytes : List ℕ) × Reads old.input new.input bytes × EndsByLines turns kind job bytes old new result

@@ -4,7 +4,7 @@ use Rattle.crypt_core.specs.Passwords.{IsPassword, IsPasswordRefused}
 use Rattle.run_core.specs.Answers.{no_answer, password_answer}
 use Rattle.run_core.specs.Devices.{MovesBytes}
 use Rattle.run_core.specs.Input.{first_line, IsDecided, IsUndecided, Reads}
-use Rattle.run_core.specs.Runs.{Finishes, RunState, IsCutShort, DeviceBytes}
+use Rattle.run_core.specs.Runs.{Finishes, RunState, IsCutShort}
 use Rattle.run_core.specs.declared.fault.RunFault.{RunFault}
 use Rattle.run_core.specs.declared.fault.RunFault.TheVariants.{Read, Write, OutOfMemory, Turns, Password}
 use Rattle.run_core.specs.declared.job.Job.{Job}
@@ -15,43 +15,43 @@ use Rattle.run_core.specs.declared.tally.Tally.{Tally}
 module _ {I O E : Type 0} where
   -- the password is these bytes, if they are one: they are tested before a word is drawn, and only then
   -- comes the answer
-  abbrev pub EndsBy : DeviceBytes I O E → ℕ → Job → List ℕ → RunState I O E → RunState I O E → Result Tally RunFault → Type 0
-  EndsBy device_bytes turns job password old new (Ok tally) =
-      IsPassword password × Finishes device_bytes (password_answer job password old.stream) old new (Ok tally)
-  EndsBy device_bytes turns job password old new (Err Write) =
+  abbrev pub EndsBy : ℕ → Job → List ℕ → RunState I O E → RunState I O E → Result Tally RunFault → Type 0
+  EndsBy turns job password old new (Ok tally) =
+      IsPassword password × Finishes (password_answer job password old.stream) old new (Ok tally)
+  EndsBy turns job password old new (Err Write) =
       let answer = password_answer job password old.stream in
       IsPassword password
-      × (IsCutShort device_bytes turns (no_answer old.stream) answer old new Write ⊎ Finishes device_bytes answer old new (Err Write))
-  EndsBy device_bytes turns job password old new (Err Turns) =
+      × (IsCutShort turns (no_answer old.stream) answer old new Write ⊎ Finishes answer old new (Err Write))
+  EndsBy turns job password old new (Err Turns) =
       let answer = password_answer job password old.stream in
-      IsPassword password × IsCutShort device_bytes turns (no_answer old.stream) answer old new Turns
+      IsPassword password × IsCutShort turns (no_answer old.stream) answer old new Turns
       × (new.out.bytes < old.out.bytes + length answer.text)
-  EndsBy device_bytes turns job password old new (Err OutOfMemory) =
-      IsPassword password × IsCutShort device_bytes turns (no_answer old.stream) (password_answer job password old.stream) old new OutOfMemory
-  EndsBy device_bytes turns job password old new (Err (Password fault)) =
+  EndsBy turns job password old new (Err OutOfMemory) =
+      IsPassword password × IsCutShort turns (no_answer old.stream) (password_answer job password old.stream) old new OutOfMemory
+  EndsBy turns job password old new (Err (Password fault)) =
       let none = no_answer old.stream in
-      IsPasswordRefused password fault × IsCutShort device_bytes turns none none old new (Password fault)
-  EndsBy device_bytes turns job password old new (Err Read) = ⊥
+      IsPasswordRefused password fault × IsCutShort turns none none old new (Password fault)
+  EndsBy turns job password old new (Err Read) = ⊥
 
   -- nothing is answered or drawn, since a read failed or no turn was left before the password was known; each fetch that
   -- worked gave a byte, so the end of the input was not found
-  abbrev pub EndsUndecided : DeviceBytes I O E → ℕ → List ℕ → RunState I O E → RunState I O E → RunFault → Type 0
-  EndsUndecided device_bytes turns bytes old new fault =
+  abbrev pub EndsUndecided : ℕ → List ℕ → RunState I O E → RunState I O E → RunFault → Type 0
+  EndsUndecided turns bytes old new fault =
       let none = no_answer old.stream in
-      IsUndecided bytes × MovesBytes 0 old.input new.input × IsCutShort device_bytes turns none none old new fault
+      IsUndecided bytes × MovesBytes 0 old.input new.input × IsCutShort turns none none old new fault
 
   -- the input gave these bytes, whose first line is the password
-  abbrev pub EndsByInput : DeviceBytes I O E → ℕ → Job → List ℕ → RunState I O E → RunState I O E → Result Tally RunFault → Type 0
-  EndsByInput device_bytes turns job bytes old new (Err Read) = EndsUndecided device_bytes turns bytes old new Read
-  EndsByInput device_bytes turns job bytes old new (Err Turns) =
-      EndsUndecided device_bytes turns bytes old new Turns
-      ⊎ (IsDecided device_bytes.remaining new.input bytes × EndsBy device_bytes turns job (first_line bytes) old new (Err Turns))
-  EndsByInput device_bytes turns job bytes old new result =
-      IsDecided device_bytes.remaining new.input bytes × EndsBy device_bytes turns job (first_line bytes) old new result
+  abbrev pub EndsByInput : ℕ → Job → List ℕ → RunState I O E → RunState I O E → Result Tally RunFault → Type 0
+  EndsByInput turns job bytes old new (Err Read) = EndsUndecided turns bytes old new Read
+  EndsByInput turns job bytes old new (Err Turns) =
+      EndsUndecided turns bytes old new Turns
+      ⊎ (IsDecided new.input bytes × EndsBy turns job (first_line bytes) old new (Err Turns))
+  EndsByInput turns job bytes old new result =
+      IsDecided new.input bytes × EndsBy turns job (first_line bytes) old new result
 
   -- a word is the password itself, and the input is left alone
-  abbrev pub EndsOne : DeviceBytes I O E → ℕ → Job → PasswordFrom → RunState I O E → RunState I O E → Result Tally RunFault → Type 0
-  EndsOne device_bytes turns job (Word bytes) old new result =
-      (new.input ≡ old.input) × EndsBy device_bytes turns job bytes.items old new result
-  EndsOne device_bytes turns job Input old new result =
-      (bytes : List ℕ) × Reads device_bytes.remaining old.input new.input bytes × EndsByInput device_bytes turns job bytes old new result
+  abbrev pub EndsOne : ℕ → Job → PasswordFrom → RunState I O E → RunState I O E → Result Tally RunFault → Type 0
+  EndsOne turns job (Word bytes) old new result =
+      (new.input ≡ old.input) × EndsBy turns job bytes.items old new result
+  EndsOne turns job Input old new result =
+      (bytes : List ℕ) × Reads old.input new.input bytes × EndsByInput turns job bytes old new result

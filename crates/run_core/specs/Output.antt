@@ -5,11 +5,11 @@ use Rattle.run_core.specs.Devices.{Device, FailsOnce, FailsToFlush, IsFlushed, I
 use Rattle.run_core.specs.declared.fault.RunFault.{RunFault}
 use Rattle.run_core.specs.declared.fault.RunFault.TheVariants.{Write, Turns}
 
-module _ {T : Type 0} (contents : T → Option (List ℕ)) where
+module _ {T : Type 0} where
   -- the output has taken these bytes and no others: the device shows them at its end, where it shows
   -- what it holds, and so many were counted. Of its flushes there is this to say
   pub record TakesThen (Flush : Device T → Device T → Type 0) (old new : Device T) (bytes : List ℕ) : Type 0 where
-    pub shown : Appends (contents old.inner) (contents new.inner) bytes
+    pub shown : Appends old.shown new.shown bytes
     pub counted : new.bytes ≡ old.bytes + length bytes
     pub flush : Flush old new
 
@@ -47,11 +47,11 @@ module _ {T : Type 0} where
   ShowsOutcome turns old new (Err Turns) = IsUnfailed old new × (new.calls ≡ old.calls + turns)
   ShowsOutcome turns old new (Err fault) = ⊥
 
-module _ {T : Type 0} (contents : T → Option (List ℕ)) where
+module _ {T : Type 0} where
   -- A text was shown on an output: given in at most so many calls, and flushed; or that failed. Each call moved a byte
   -- or failed.
   pub record Shows {A : Type 0} (turns : ℕ) (old new : Device T) (text : List ℕ) (result : Result A RunFault) : Type 0 where
-    pub gives : GivesAll contents old new text result
+    pub gives : GivesAll old new text result
     pub outcome : ShowsOutcome turns old new result
     pub turns_taken : new.calls ≤ old.calls + turns
     pub moves : MovesBytes 0 old new

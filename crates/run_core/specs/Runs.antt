@@ -19,20 +19,10 @@ pub record RunState (I O E : Type 0) : Type 0 where
   pub stream : Stream
   pub counts : Work
 
--- what the three devices tell of their bytes
-pub record DeviceBytes (I O E : Type 0) : Type 0 where
-  pub remaining : I → Option (List ℕ)
-  pub contents : O → Option (List ℕ)
-  pub fault_contents : E → Option (List ℕ)
-
--- the same two from what clauses name
+-- the same from what clauses name
 abbrev pub run_state : {I O E : Type 0} → Device I → Device O → Device E → Stream → Work → RunState I O E
 run_state input out faults stream counts =
     record { input = input; out = out; faults = faults; stream = stream; counts = counts }
-
-abbrev pub device_bytes : {I O E : Type 0} → (I → Option (List ℕ)) → (O → Option (List ℕ)) → (E → Option (List ℕ)) → DeviceBytes I O E
-device_bytes remaining contents fault_contents =
-    record { remaining = remaining; contents = contents; fault_contents = fault_contents }
 
 -- the counts leave room for any run
 abbrev pub HasCountsForRun : Work → Type 0
@@ -67,28 +57,28 @@ module _ {I O E : Type 0} where
 
   -- the outputs have taken an answer whole, and nothing else; of their flushes there is this to say
   pub record TakesAnswerThen (Flush : Device O → Device O → Type 0) (FaultFlush : Device E → Device E → Type 0)
-      (device_bytes : DeviceBytes I O E) (answer : Answer) (old new : RunState I O E) : Type 0 where
-    pub text : TakesThen device_bytes.contents Flush old.out new.out answer.text
-    pub fault_text : TakesThen device_bytes.fault_contents FaultFlush old.faults new.faults answer.fault_text
+      (answer : Answer) (old new : RunState I O E) : Type 0 where
+    pub text : TakesThen Flush old.out new.out answer.text
+    pub fault_text : TakesThen FaultFlush old.faults new.faults answer.fault_text
 
   -- that none was tried
-  abbrev pub TakesAnswer : DeviceBytes I O E → Answer → RunState I O E → RunState I O E → Type 0
+  abbrev pub TakesAnswer : Answer → RunState I O E → RunState I O E → Type 0
   TakesAnswer = TakesAnswerThen IsUnflushed IsUnflushed
 
   -- they have taken one answer whole, and of the next one the first bytes of its text and all of its fault text
-  pub record TakesTextFront (device_bytes : DeviceBytes I O E) (done next : Answer) (old new : RunState I O E) : Type 0 where
-    pub text : TakesFront device_bytes.contents old.out new.out done.text next.text
-    pub fault_text : Takes device_bytes.fault_contents old.faults new.faults (done.fault_text ++ next.fault_text)
+  pub record TakesTextFront (done next : Answer) (old new : RunState I O E) : Type 0 where
+    pub text : TakesFront old.out new.out done.text next.text
+    pub fault_text : Takes old.faults new.faults (done.fault_text ++ next.fault_text)
 
   -- or all of its text and the first bytes of its fault text
-  pub record TakesFaultFront (device_bytes : DeviceBytes I O E) (done next : Answer) (old new : RunState I O E) : Type 0 where
-    pub text : Takes device_bytes.contents old.out new.out (done.text ++ next.text)
-    pub fault_text : TakesFront device_bytes.fault_contents old.faults new.faults done.fault_text next.fault_text
+  pub record TakesFaultFront (done next : Answer) (old new : RunState I O E) : Type 0 where
+    pub text : Takes old.out new.out (done.text ++ next.text)
+    pub fault_text : TakesFront old.faults new.faults done.fault_text next.fault_text
 
   -- or the first bytes of either
-  pub record TakesAnswerFront (device_bytes : DeviceBytes I O E) (done next : Answer) (old new : RunState I O E) : Type 0 where
-    pub text : TakesFront device_bytes.contents old.out new.out done.text next.text
-    pub fault_text : TakesFront device_bytes.fault_contents old.faults new.faults done.fault_text next.fault_text
+  pub record TakesAnswerFront (done next : Answer) (old new : RunState I O E) : Type 0 where
+    pub text : TakesFront old.out new.out done.text next.text
+    pub fault_text : TakesFront old.faults new.faults done.fault_text next.fault_text
 
   -- the words of one answer were drawn and its hashes made, and no others
   pub record IsAfter (done : Answer) (old new : RunState I O E) : Type 0 where
@@ -103,42 +93,42 @@ module _ {I O E : Type 0} where
   -- ---- the end of a run
 
   -- both outputs were flushed when they had taken all answers
-  abbrev pub FlushesBoth : DeviceBytes I O E → Answer → RunState I O E → RunState I O E → Type 0
+  abbrev pub FlushesBoth : Answer → RunState I O E → RunState I O E → Type 0
   FlushesBoth = TakesAnswerThen IsFlushed IsFlushed
 
   -- or the flush of the output failed, and the fault output was left
-  abbrev pub FirstFlushFails : DeviceBytes I O E → Answer → RunState I O E → RunState I O E → Type 0
+  abbrev pub FirstFlushFails : Answer → RunState I O E → RunState I O E → Type 0
   FirstFlushFails = TakesAnswerThen FailsToFlush IsUnflushed
 
   -- or only the flush of the fault output failed, which is the second
-  abbrev pub SecondFlushFails : DeviceBytes I O E → Answer → RunState I O E → RunState I O E → Type 0
+  abbrev pub SecondFlushFails : Answer → RunState I O E → RunState I O E → Type 0
   SecondFlushFails = TakesAnswerThen IsFlushed FailsToFlush
 
   -- A run has given all its answers. A tally comes where no call failed, and both outputs are flushed; `Write`
   -- where one of these two flushes failed.
-  abbrev pub Finishes : DeviceBytes I O E → Answer → RunState I O E → RunState I O E → Result Tally RunFault → Type 0
-  Finishes device_bytes answers old new (Ok tally) =
-      (tally ≡ answers.tally) × Fails 0 0 0 old new × FlushesBoth device_bytes answers old new × IsAfter answers old new
-  Finishes device_bytes answers old new (Err Write) =
-      ((Fails 0 1 0 old new × FirstFlushFails device_bytes answers old new) ⊎ (Fails 0 0 1 old new × SecondFlushFails device_bytes answers old new))
+  abbrev pub Finishes : Answer → RunState I O E → RunState I O E → Result Tally RunFault → Type 0
+  Finishes answers old new (Ok tally) =
+      (tally ≡ answers.tally) × Fails 0 0 0 old new × FlushesBoth answers old new × IsAfter answers old new
+  Finishes answers old new (Err Write) =
+      ((Fails 0 1 0 old new × FirstFlushFails answers old new) ⊎ (Fails 0 0 1 old new × SecondFlushFails answers old new))
       × IsAfter answers old new
-  Finishes device_bytes answers old new (Err fault) = ⊥
+  Finishes answers old new (Err fault) = ⊥
 
   -- A run was cut short before that, and flushed nothing. A fault comes with its cause: one call of the input or
   -- of an output failed, `turns` calls were made, memory for the next hash was refused, or the one password is
   -- none. No byte of the next answer is written before its hash is there.
-  abbrev pub IsCutShort : DeviceBytes I O E → ℕ → Answer → Answer → RunState I O E → RunState I O E → RunFault → Type 0
-  IsCutShort device_bytes turns done next old new Read =
-      Fails 1 0 0 old new × TakesAnswer device_bytes done old new × IsAfter done old new
-  IsCutShort device_bytes turns done next old new Write =
-      ((Fails 0 1 0 old new × TakesTextFront device_bytes done next old new)
-      ⊎ (Fails 0 0 1 old new × TakesFaultFront device_bytes done next old new))
+  abbrev pub IsCutShort : ℕ → Answer → Answer → RunState I O E → RunState I O E → RunFault → Type 0
+  IsCutShort turns done next old new Read =
+      Fails 1 0 0 old new × TakesAnswer done old new × IsAfter done old new
+  IsCutShort turns done next old new Write =
+      ((Fails 0 1 0 old new × TakesTextFront done next old new)
+      ⊎ (Fails 0 0 1 old new × TakesFaultFront done next old new))
       × IsAfterBoth done next old new
-  IsCutShort device_bytes turns done next old new Turns =
-      Fails 0 0 0 old new × (calls_of new ≡ calls_of old + turns) × TakesAnswerFront device_bytes done next old new
+  IsCutShort turns done next old new Turns =
+      Fails 0 0 0 old new × (calls_of new ≡ calls_of old + turns) × TakesAnswerFront done next old new
       × IsAfterBoth done next old new
-  IsCutShort device_bytes turns done next old new OutOfMemory =
-      Fails 0 0 0 old new × TakesAnswer device_bytes done old new
+  IsCutShort turns done next old new OutOfMemory =
+      Fails 0 0 0 old new × TakesAnswer done old new
       × IsRefusedAmong (after_work old.counts done.hashings) next.hashings new.counts new.stream
-  IsCutShort device_bytes turns done next old new (Password fault) =
-      Fails 0 0 0 old new × TakesAnswer device_bytes done old new × IsAfter done old new
+  IsCutShort turns done next old new (Password fault) =
+      Fails 0 0 0 old new × TakesAnswer done old new × IsAfter done old new

@@ -15,7 +15,7 @@ use std::marker::Model;
 /// bytes that these gave, and of the `fetch` calls that gave none and didn't fail. A new wrapper has seen
 /// nothing. It has no flushes.
 #[derive(Drop)]
-pub struct Input<I> {
+pub struct Input<I: Read> {
     inner: I,
     failures: u64,
     calls: u64,
@@ -23,7 +23,7 @@ pub struct Input<I> {
     idle: u64,
 }
 
-impl<I> Model for Input<I> {
+impl<I: Read> Model for Input<I> {
     ghost use Rattle.std.specs.Prelude.{◌≤◌};
     ghost use Rattle.run_core.specs.Devices.{Device, device_code};
 
@@ -31,7 +31,7 @@ impl<I> Model for Input<I> {
 
     ghost coded = { device_code I.code };
 
-    ghost view = { λ i. record { inner = i.inner; failures = i.failures; calls = i.calls; bytes = i.bytes; idle = i.idle; flushes = 0; flushed = 0 } };
+    ghost view = { λ i. record { inner = i.inner; shown = I.remaining i.inner; failures = i.failures; calls = i.calls; bytes = i.bytes; idle = i.idle; flushes = 0; flushed = 0 } };
 
     ghost invariant = { λ i. i.idle ≤ i.calls };
 }
@@ -39,7 +39,7 @@ impl<I> Model for Input<I> {
 impl<I: Read> Input<I> {
     /// Wraps a reader.
     pub fn new(inner: I) -> Input<I>
-        ensures { result ≡ new_device inner }
+        ensures { result ≡ new_device inner (I.remaining inner) }
     {
         Input {
             inner,
@@ -59,7 +59,8 @@ impl<I: Read> Input<I> {
 
     /// Gives the reader back.
     pub fn into_inner(self) -> I
-        ensures { result ≡ self.inner }
+        ensures inner { result ≡ self.inner }
+        ensures shown { I.remaining result ≡ self.shown }
     {
         self.inner
     }
@@ -72,7 +73,7 @@ impl<I: Read> Input<I> {
         requires calls_room { self.old.calls < 2 ^ 64 - 1 }
         requires bytes_room { self.old.bytes + length buffer.old < 2 ^ 64 }
         ensures within { ReadsAtMost result buffer.new }
-        ensures gives { ReadConsumes (I.remaining self.old.inner) (I.remaining self.new.inner) result buffer.new }
+        ensures gives { ReadConsumes self.old.shown self.new.shown result buffer.new }
         ensures failures { self.new.failures ≡ self.old.failures + as_count (is_err result) }
         ensures calls { self.new.calls ≡ self.old.calls + 1 }
         ensures bytes { self.new.bytes ≡ self.old.bytes + moved_by result }
@@ -94,7 +95,7 @@ impl<I: Read> Input<I> {
 /// ones among them, and how many bytes it had taken at the last flush that worked. A new wrapper has seen
 /// nothing.
 #[derive(Drop)]
-pub struct Output<O> {
+pub struct Output<O: Write> {
     inner: O,
     failures: u64,
     calls: u64,
@@ -104,7 +105,7 @@ pub struct Output<O> {
     flushed: u64,
 }
 
-impl<O> Model for Output<O> {
+impl<O: Write> Model for Output<O> {
     ghost use Rattle.std.specs.Prelude.{◌≤◌};
     ghost use Rattle.run_core.specs.Devices.{Device, device_code};
 
@@ -112,7 +113,7 @@ impl<O> Model for Output<O> {
 
     ghost coded = { device_code O.code };
 
-    ghost view = { λ o. record { inner = o.inner; failures = o.failures; calls = o.calls; bytes = o.bytes; idle = o.idle; flushes = o.flushes; flushed = o.flushed } };
+    ghost view = { λ o. record { inner = o.inner; shown = O.contents o.inner; failures = o.failures; calls = o.calls; bytes = o.bytes; idle = o.idle; flushes = o.flushes; flushed = o.flushed } };
 
     ghost invariant = { λ o. o.idle ≤ o.calls };
 }
@@ -120,7 +121,7 @@ impl<O> Model for Output<O> {
 impl<O: Write> Output<O> {
     /// Wraps a writer.
     pub fn new(inner: O) -> Output<O>
-        ensures { result ≡ new_device inner }
+        ensures { result ≡ new_device inner (O.contents inner) }
     {
         Output {
             inner,
@@ -142,7 +143,8 @@ impl<O: Write> Output<O> {
 
     /// Gives the writer back.
     pub fn into_inner(self) -> O
-        ensures { result ≡ self.inner }
+        ensures inner { result ≡ self.inner }
+        ensures shown { O.contents result ≡ self.shown }
     {
         self.inner
     }
@@ -155,7 +157,7 @@ impl<O: Write> Output<O> {
         requires calls_room { self.old.calls < 2 ^ 64 - 1 }
         requires bytes_room { self.old.bytes + length piece.now < 2 ^ 64 }
         ensures within { WritesAtMost result piece.now }
-        ensures takes { WriteAppends (O.contents self.old.inner) (O.contents self.new.inner) result piece.now }
+        ensures takes { WriteAppends self.old.shown self.new.shown result piece.now }
         ensures failures { self.new.failures ≡ self.old.failures + as_count (is_failed_give result piece.now) }
         ensures calls { self.new.calls ≡ self.old.calls + 1 }
         ensures bytes { self.new.bytes ≡ self.old.bytes + moved_by result }
@@ -177,7 +179,7 @@ impl<O: Write> Output<O> {
     pub fn flush(&mut self) -> io::Result<()>
         requires failures_room { self.old.failures < 2 ^ 64 - 1 }
         requires flushes_room { self.old.flushes < 2 ^ 64 - 1 }
-        ensures keeps { Keeps (O.contents self.old.inner) (O.contents self.new.inner) }
+        ensures keeps { Keeps self.old.shown self.new.shown }
         ensures failures { self.new.failures ≡ self.old.failures + as_count (is_err result) }
         ensures calls { self.new.calls ≡ self.old.calls }
         ensures bytes { self.new.bytes ≡ self.old.bytes }

@@ -12,7 +12,7 @@ ghost use Rattle.run_core.specs.Private.Answers.{IsDecisionOf};
 ghost use Rattle.run_core.specs.Private.Deliveries.{Sends};
 ghost use Rattle.run_core.specs.Private.Headroom.{answer_limit, lines_limit};
 ghost use Rattle.run_core.specs.Private.LineProgress.{AnswersLast, AnswersOne, GoesToEnd, HasRoomIn, HasRoomToAnswer, HasRoomToRead, IsAt, IsSameRun, LooksThrough, OutputState, ReadsPiece, Represents, TakesTurns, TakesTurnsOf, position_of, spare_fetch, state_of, with_input};
-ghost use Rattle.run_core.specs.Runs.{HasCountsForRun, IsWithinTurns, run_state, device_bytes};
+ghost use Rattle.run_core.specs.Runs.{HasCountsForRun, IsWithinTurns, run_state};
 ghost use Rattle.run_core.specs.Tallies.{both_tallies, no_line};
 ghost use Rattle.run_core.specs.declared.line.Kind.TheVariants.{Batch, Check};
 
@@ -75,7 +75,7 @@ pub fn run_batch<I: Read, O: Write, E: Write, R: Rng>(
     requires turns { turns ≤ turns_limit }
     requires devices { HaveRoomBeforeRun input.old out.old faults.old }
     requires counts { HasCountsForRun meter.old }
-    ensures ends { EndsLines (device_bytes I.remaining O.contents E.contents) turns Batch job.now
+    ensures ends { EndsLines turns Batch job.now
         (run_state input.old out.old faults.old (R.stream rng.old) meter.old)
         (run_state input.new out.new faults.new (R.stream rng.new) meter.new) result }
     ensures within_turns { IsWithinTurns turns
@@ -117,7 +117,7 @@ pub fn run_check<I: Read, O: Write, E: Write, R: Rng>(
     requires turns { turns ≤ turns_limit }
     requires devices { HaveRoomBeforeRun input.old out.old faults.old }
     requires counts { HasCountsForRun meter.old }
-    ensures ends { EndsLines (device_bytes I.remaining O.contents E.contents) turns Check job.now
+    ensures ends { EndsLines turns Check job.now
         (run_state input.old out.old faults.old (R.stream rng.old) meter.old)
         (run_state input.new out.new faults.new (R.stream rng.new) meter.new) result }
     ensures within_turns { IsWithinTurns turns
@@ -133,7 +133,7 @@ pub fn run_check<I: Read, O: Write, E: Write, R: Rng>(
 
 /// A run over lines: what it does with each line, what it works on beside its input, and how far it is.
 #[derive(Drop)]
-struct LineRun<'j, 'o, 'e, 'r, 'm, O, E, R> {
+struct LineRun<'j, 'o, 'e, 'r, 'm, O: Write, E: Write, R> {
     /// Gives the memory of scrypt.
     alloc: Global,
     kind: Kind,
@@ -154,7 +154,7 @@ struct LineRun<'j, 'o, 'e, 'r, 'm, O, E, R> {
     turns_left: u64,
 }
 
-impl<'j, 'o, 'e, 'r, 'm, O, E, R> LineRun<'j, 'o, 'e, 'r, 'm, O, E, R> {
+impl<'j, 'o, 'e, 'r, 'm, O: Write, E: Write, R> LineRun<'j, 'o, 'e, 'r, 'm, O, E, R> {
     /// A run that has read and answered nothing.
     fn new(
         alloc: Global,
@@ -199,7 +199,7 @@ impl<O: Write, E: Write, R: Rng> LineRun<'_, '_, '_, '_, '_, O, E, R> {
         requires turns { self.old.turns_left ≤ turns_limit }
         requires devices { HaveRoomBeforeRun input.old self.old.out.now self.old.faults.now }
         requires counts { HasCountsForRun self.old.meter.now }
-        ensures ends { EndsLines (device_bytes I.remaining O.contents E.contents) self.old.turns_left self.old.kind self.old.job.now
+        ensures ends { EndsLines self.old.turns_left self.old.kind self.old.job.now
             (with_input input.old (state_of R.stream self.old)) (with_input input.new (state_of R.stream self.new)) result }
         ensures within_turns { IsWithinTurns self.old.turns_left
             (with_input input.old (state_of R.stream self.old)) (with_input input.new (state_of R.stream self.new)) }
@@ -217,7 +217,7 @@ impl<O: Write, E: Write, R: Rng> LineRun<'_, '_, '_, '_, '_, O, E, R> {
         requires none_held { Represents self.old.buffer [] }
         requires no_line { self.old.tally ≡ no_line }
         requires room { HasRoomToRead (position_of self.old) (with_input input.old (state_of R.stream self.old)) }
-        ensures goes { GoesToEnd (device_bytes I.remaining O.contents E.contents) self.old.turns_left self.old.kind self.old.job.now
+        ensures goes { GoesToEnd self.old.turns_left self.old.kind self.old.job.now
             (with_input input.old (state_of R.stream self.old)) (with_input input.new (state_of R.stream self.new)) (position_of self.new) result }
         ensures room { OnOk result (HasRoomToRead (position_of self.new) (with_input input.new (state_of R.stream self.new))) }
         ensures turns { TakesTurnsOf 1 self.old.turns_left self.new.turns_left
@@ -235,7 +235,7 @@ impl<O: Write, E: Write, R: Rng> LineRun<'_, '_, '_, '_, '_, O, E, R> {
     // Makes one fetch, and answers each line that ends in what it gives. Returns whether it gave any.
     fn read_piece<I: Read>(&mut self, input: &mut Input<I>) -> Result<bool, RunFault>
         requires room { HasRoomToRead (position_of self.old) (with_input input.old (state_of R.stream self.old)) }
-        ensures reads { ReadsPiece (device_bytes I.remaining O.contents E.contents) self.old.kind self.old.job.now
+        ensures reads { ReadsPiece self.old.kind self.old.job.now
             (with_input input.old (state_of R.stream self.old)) (position_of self.old)
             (with_input input.new (state_of R.stream self.new)) (position_of self.new) result }
         ensures room { OnOk result (HasRoomToRead (position_of self.new) (with_input input.new (state_of R.stream self.new))) }
@@ -259,8 +259,8 @@ impl<O: Write, E: Write, R: Rng> LineRun<'_, '_, '_, '_, '_, O, E, R> {
         requires size { length piece.now ≤ piece_size }
         requires room { HasRoomToAnswer (length piece.now) (position_of self.old) (state_of R.stream self.old) }
         ensures looked { (start : OutputState O E) → (bytes : List ℕ)
-            → IsAt O.contents E.contents self.old.kind self.old.job.now start (state_of R.stream self.old) bytes (position_of self.old)
-            → LooksThrough O.contents E.contents self.old.kind self.old.job.now start (state_of R.stream self.new) (bytes ++ piece.now) (position_of self.new) result }
+            → IsAt self.old.kind self.old.job.now start (state_of R.stream self.old) bytes (position_of self.old)
+            → LooksThrough self.old.kind self.old.job.now start (state_of R.stream self.new) (bytes ++ piece.now) (position_of self.new) result }
         ensures room { OnOk result (HasRoomIn self.new.tally (state_of R.stream self.new)) }
         ensures lines { self.new.tally.lines ≤ self.old.tally.lines + length piece.now }
         ensures turns { TakesTurns self.old.turns_left self.new.turns_left (state_of R.stream self.old) (state_of R.stream self.new) }
@@ -281,8 +281,8 @@ impl<O: Write, E: Write, R: Rng> LineRun<'_, '_, '_, '_, '_, O, E, R> {
     fn end(&mut self) -> Result<(), RunFault>
         requires room { HasRoomToAnswer 1 (position_of self.old) (state_of R.stream self.old) }
         ensures answers { (start : OutputState O E) → (bytes : List ℕ)
-            → IsAt O.contents E.contents self.old.kind self.old.job.now start (state_of R.stream self.old) bytes (position_of self.old)
-            → AnswersLast O.contents E.contents self.old.kind self.old.job.now start (state_of R.stream self.new) bytes (position_of self.new) result }
+            → IsAt self.old.kind self.old.job.now start (state_of R.stream self.old) bytes (position_of self.old)
+            → AnswersLast self.old.kind self.old.job.now start (state_of R.stream self.new) bytes (position_of self.new) result }
         ensures room { OnOk result (HasRoomIn self.new.tally (state_of R.stream self.new)) }
         ensures turns { TakesTurns self.old.turns_left self.new.turns_left (state_of R.stream self.old) (state_of R.stream self.new) }
         ensures fault_room { HasRoomWithinRun self.new.faults.now }
@@ -299,7 +299,7 @@ impl<O: Write, E: Write, R: Rng> LineRun<'_, '_, '_, '_, '_, O, E, R> {
         requires room { HasRoomToAnswer 1 (position_of self.old) (state_of R.stream self.old) }
         ensures answers { (line : List ℕ) → Represents self.old.buffer line
             → (answer : Answer) × IsAnswer self.old.kind self.old.job.now (self.old.tally.lines + 1) line (R.stream self.old.rng.now) answer
-            × AnswersOne O.contents E.contents self.new.turns_left answer (state_of R.stream self.old) (state_of R.stream self.new) result
+            × AnswersOne self.new.turns_left answer (state_of R.stream self.old) (state_of R.stream self.new) result
             × OnOk result (self.new.tally ≡ both_tallies self.old.tally answer.tally) }
         ensures held { OnOk result (Represents self.new.buffer []) }
         ensures room { OnOk result (HasRoomIn self.new.tally (state_of R.stream self.new)) }
@@ -344,7 +344,7 @@ fn give<O: Write, E: Write>(
     requires faults_room { HasRoomWithinRun faults.old }
     requires short { length answer.now.name.now ≤ name_limit }
     ensures sends { (made : Decision) → IsDecisionOf made answer.now → work_of made.hashings ≡ work.now
-        → Sends O.contents E.contents left.new (decided_answer job.now number made) out.old faults.old out.new faults.new result }
+        → Sends left.new (decided_answer job.now number made) out.old faults.old out.new faults.new result }
     ensures unfailed { OnOk result (IsUnfailed out.old out.new × IsUnfailed faults.old faults.new) }
     ensures unflushed { IsUnflushed out.old out.new × IsUnflushed faults.old faults.new }
     ensures calls { out.new.calls + faults.new.calls + left.new ≡ out.old.calls + faults.old.calls + left.old }

@@ -22,7 +22,7 @@ const METHODS: &str = "Available methods:\nmd5crypt\nsha256crypt\nsha512crypt\ns
 pub fn run_methods<O: Write>(out: &mut Output<O>, turns: u64) -> Result<Tally, RunFault>
     requires turns { turns ≤ turns_limit }
     requires room { HasRoomBeforeRun out.old }
-    ensures shows { Shows O.contents turns out.old out.new methods_text result }
+    ensures shows { Shows turns out.old out.new methods_text result }
     ensures tally { IfOk result (λ tally. tally ≡ no_line) }
 {
     show(out, METHODS.as_bytes(), turns)?;

@@ -5,7 +5,7 @@ ghost use Rattle.run_core.specs.JobOptions.{without_budget, without_rehash};
 ghost use Rattle.run_core.specs.Devices.{HasRoomBeforeRun, HasRoomWithinRun, HaveRoomBeforeRun, MovesBytes, turns_limit};
 ghost use Rattle.run_core.specs.One.{EndsOne};
 ghost use Rattle.run_core.specs.Private.Fetching.{ObtainsFrom};
-ghost use Rattle.run_core.specs.Runs.{run_state, device_bytes, HasCountsForRun, IsWithinTurns};
+ghost use Rattle.run_core.specs.Runs.{run_state, HasCountsForRun, IsWithinTurns};
 
 mod password;
 
@@ -57,10 +57,10 @@ pub fn run_one<I: Read, O: Write, E: Write, R: Rng>(
     requires turns { turns ≤ turns_limit }
     requires devices { HaveRoomBeforeRun input.old out.old faults.old }
     requires counts { HasCountsForRun meter.old }
-    ensures ends { EndsOne (device_bytes I.remaining O.contents E.contents) turns job.now from.now
+    ensures ends { EndsOne turns job.now from.now
         (run_state input.old out.old faults.old (R.stream rng.old) meter.old)
         (run_state input.new out.new faults.new (R.stream rng.new) meter.new) result }
-    ensures options { EndsOne (device_bytes I.remaining O.contents E.contents) turns (without_rehash (without_budget job.now)) from.now
+    ensures options { EndsOne turns (without_rehash (without_budget job.now)) from.now
         (run_state input.old out.old faults.old (R.stream rng.old) meter.old)
         (run_state input.new out.new faults.new (R.stream rng.new) meter.new) result }
     ensures within_turns { IsWithinTurns turns
@@ -91,7 +91,7 @@ fn obtain<I: Read>(
 ) -> Result<Password, RunFault>
     requires turns { left.old ≤ turns_limit }
     requires room { HasRoomBeforeRun input.old }
-    ensures password { ObtainsFrom I.remaining from.now input.old input.new left.new result }
+    ensures password { ObtainsFrom from.now input.old input.new left.new result }
     ensures turns { input.new.calls + left.new ≡ input.old.calls + left.old }
     ensures fewer { left.new ≤ left.old }
     ensures moves { MovesBytes 1 input.old input.new }

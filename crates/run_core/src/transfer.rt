@@ -24,7 +24,7 @@ pub(crate) fn fetch_piece<I: Read>(
     requires calls_room { input.old.calls < 2 ^ 64 - 1 }
     requires bytes_room { input.old.bytes + length buffer.old < 2 ^ 64 }
     requires buffer_room { 0 < length buffer.old }
-    ensures fetches { Fetches I.remaining left.old input.old input.new buffer.new result }
+    ensures fetches { Fetches left.old input.old input.new buffer.new result }
     ensures some_left { OnOk result (0 < left.old) }
     ensures takes_turn { left.new ≡ left.old - 1 }
     ensures turns { input.new.calls + left.new ≡ input.old.calls + left.old }
@@ -59,7 +59,7 @@ pub(crate) fn send<O: Write>(
     requires turns { left.old ≤ turns_limit }
     requires room { HasRoomWithinRun out.old }
     requires short { length text.now < 2 ^ 63 }
-    ensures delivers { Delivers O.contents out.old out.new text.now result }
+    ensures delivers { Delivers out.old out.new text.now result }
     ensures outcome { ShowsOutcome left.old out.old out.new result }
     ensures turns { out.new.calls + left.new ≡ out.old.calls + left.old }
     ensures fewer { left.new ≤ left.old }
@@ -88,7 +88,7 @@ pub fn show<O: Write>(out: &mut Output<O>, text: &[u8], turns: u64) -> Result<()
     requires turns { turns ≤ turns_limit }
     requires room { HasRoomWithinRun out.old }
     requires short { length text.now < 2 ^ 63 }
-    ensures { Shows O.contents turns out.old out.new text.now result }
+    ensures { Shows turns out.old out.new text.now result }
 {
     let mut left = turns;
     send(out, text, &mut left)?;
@@ -106,7 +106,7 @@ pub(crate) fn finish_both<O: Write, E: Write>(
 ) -> Result<(), RunFault>
     requires out_room { (out.old.failures < 2 ^ 64 - 1) × (out.old.flushes < 2 ^ 64 - 1) }
     requires faults_room { (faults.old.failures < 2 ^ 64 - 1) × (faults.old.flushes < 2 ^ 64 - 1) }
-    ensures finishes { FinishesBoth O.contents E.contents out.old faults.old out.new faults.new result }
+    ensures finishes { FinishesBoth out.old faults.old out.new faults.new result }
 {
     let Ok(()) = out.flush() else {
         return Err(RunFault::Write);

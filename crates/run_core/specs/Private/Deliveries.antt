@@ -7,18 +7,18 @@ use Rattle.run_core.specs.Output.{Takes, TakesFront}
 use Rattle.run_core.specs.declared.fault.RunFault.{RunFault}
 use Rattle.run_core.specs.declared.fault.RunFault.TheVariants.{Write, Turns}
 
-module _ {T : Type 0} (contents : T → Option (List ℕ)) where
+module _ {T : Type 0} where
   -- a text was given: whole where there is an answer; its first bytes where a call failed; and with some
   -- still to come where the turns were over
   abbrev pub Delivers : Device T → Device T → List ℕ → {A : Type 0} → Result A RunFault → Type 0
-  Delivers old new text (Ok answer) = Takes contents old new text
-  Delivers old new text (Err Write) = TakesFront contents old new [] text
-  Delivers old new text (Err Turns) = TakesFront contents old new [] text × (new.bytes < old.bytes + length text)
+  Delivers old new text (Ok answer) = Takes old new text
+  Delivers old new text (Err Write) = TakesFront old new [] text
+  Delivers old new text (Err Turns) = TakesFront old new [] text × (new.bytes < old.bytes + length text)
   Delivers old new text (Err fault) = ⊥
 
   -- a flush changes nothing that is told or counted, but for its own counts
   pub record IsKept (old new : Device T) : Type 0 where
-    pub shown : Keeps (contents old.inner) (contents new.inner)
+    pub shown : Keeps old.shown new.shown
     pub calls : new.calls ≡ old.calls
     pub bytes : new.bytes ≡ old.bytes
     pub idle : new.idle ≡ old.idle
@@ -34,14 +34,14 @@ module _ {T : Type 0} (contents : T → Option (List ℕ)) where
     pub failed : FailsOnce old new
     pub flush_failed : FailsToFlush old new
 
-module _ {O E : Type 0} (contents : O → Option (List ℕ)) (fault_contents : E → Option (List ℕ)) where
+module _ {O E : Type 0} where
   -- both outputs are flushed; or only up to the first flush that failed
   abbrev pub FinishesBoth : Device O → Device E → Device O → Device E → {A : Type 0} → Result A RunFault → Type 0
   FinishesBoth out faults new_out new_faults (Ok done) =
-      IsFinished contents out new_out × IsFinished fault_contents faults new_faults
+      IsFinished out new_out × IsFinished faults new_faults
   FinishesBoth out faults new_out new_faults (Err Write) =
-      (IsUnfinished contents out new_out × (new_faults ≡ faults))
-      ⊎ (IsFinished contents out new_out × IsUnfinished fault_contents faults new_faults)
+      (IsUnfinished out new_out × (new_faults ≡ faults))
+      ⊎ (IsFinished out new_out × IsUnfinished faults new_faults)
   FinishesBoth out faults new_out new_faults (Err fault) = ⊥
 
   -- Behind an answer that was given, the first bytes of the next one were: a call failed; or the turns were over, with
@@ -49,15 +49,15 @@ module _ {O E : Type 0} (contents : O → Option (List ℕ)) (fault_contents : E
   abbrev pub IsSentInPart : ℕ → Answer → Answer → Device O → Device E → Device O → Device E → RunFault → Type 0
   IsSentInPart left done next out faults new_out new_faults Write =
       (FailsOnce out new_out × IsUnfailed faults new_faults
-      × TakesFront contents out new_out done.text next.text
-      × Takes fault_contents faults new_faults (done.fault_text ++ next.fault_text))
+      × TakesFront out new_out done.text next.text
+      × Takes faults new_faults (done.fault_text ++ next.fault_text))
       ⊎ (IsUnfailed out new_out × FailsOnce faults new_faults
-      × Takes contents out new_out (done.text ++ next.text)
-      × TakesFront fault_contents faults new_faults done.fault_text next.fault_text)
+      × Takes out new_out (done.text ++ next.text)
+      × TakesFront faults new_faults done.fault_text next.fault_text)
   IsSentInPart left done next out faults new_out new_faults Turns =
       IsUnfailed out new_out × IsUnfailed faults new_faults × (left ≡ 0)
-      × TakesFront contents out new_out done.text next.text
-      × TakesFront fault_contents faults new_faults done.fault_text next.fault_text
+      × TakesFront out new_out done.text next.text
+      × TakesFront faults new_faults done.fault_text next.fault_text
       × (new_out.bytes + new_faults.bytes
       < out.bytes + faults.bytes + length (done.text ++ next.text) + length (done.fault_text ++ next.fault_text))
   IsSentInPart left done next out faults new_out new_faults fault = ⊥
@@ -66,6 +66,6 @@ module _ {O E : Type 0} (contents : O → Option (List ℕ)) (fault_contents : E
   abbrev pub Sends : ℕ → Answer → Device O → Device E → Device O → Device E → {A : Type 0} → Result A RunFault → Type 0
   Sends left answer out faults new_out new_faults (Ok done) =
       IsUnfailed out new_out × IsUnfailed faults new_faults
-      × Takes contents out new_out answer.text × Takes fault_contents faults new_faults answer.fault_text
+      × Takes out new_out answer.text × Takes faults new_faults answer.fault_text
   Sends left answer out faults new_out new_faults (Err fault) =
       IsSentInPart left (no_answer answer.stream) answer out faults new_out new_faults fault

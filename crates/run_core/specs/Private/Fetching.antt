@@ -19,31 +19,31 @@ IsStopped old new bytes left Read = FailsOnce old new × IsUndecided bytes × Mo
 IsStopped old new bytes left Turns = IsUnfailed old new × IsUndecided bytes × (left ≡ 0) × MovesBytes 0 old new
 IsStopped old new bytes left fault = ⊥
 
-module _ {I : Type 0} (remaining : I → Option (List ℕ)) where
+module _ {I : Type 0} where
   -- the first so many bytes of the buffer were read, none only at the end, and only then was the fetch idle; or nothing
   -- was, since the fetch failed or no turn was left for it
   abbrev pub Fetches : ℕ → Device I → Device I → List ℕ → Result ℕ RunFault → Type 0
   Fetches left old new buffer (Ok count) =
-      (count ≤ length buffer) × IsUnfailed old new × Reads remaining old new (take count buffer)
-      × (count ≡ 0 → IsAtEnd (remaining new.inner)) × (count ≢ 0 → MovesBytes 0 old new) × MovesBytes 1 old new
-  Fetches left old new buffer (Err Read) = FailsOnce old new × Reads remaining old new [] × MovesBytes 0 old new
-  Fetches left old new buffer (Err Turns) = IsUnfailed old new × Reads remaining old new [] × (left ≡ 0) × MovesBytes 0 old new
+      (count ≤ length buffer) × IsUnfailed old new × Reads old new (take count buffer)
+      × (count ≡ 0 → IsAtEnd new.shown) × (count ≢ 0 → MovesBytes 0 old new) × MovesBytes 1 old new
+  Fetches left old new buffer (Err Read) = FailsOnce old new × Reads old new [] × MovesBytes 0 old new
+  Fetches left old new buffer (Err Turns) = IsUnfailed old new × Reads old new [] × (left ≡ 0) × MovesBytes 0 old new
   Fetches left old new buffer (Err fault) = ⊥
 
   -- the fetches gave these bytes, and their first line is so many first bytes of the buffer; or they were stopped before
   -- it was known
   abbrev pub FindsLine : Device I → Device I → List ℕ → ℕ → List ℕ → Result ℕ RunFault → Type 0
   FindsLine old new bytes left buffer (Ok count) =
-      IsUnfailed old new × IsDecided remaining new bytes × (count ≤ length buffer) × (take count buffer ≡ first_line bytes)
+      IsUnfailed old new × IsDecided new bytes × (count ≤ length buffer) × (take count buffer ≡ first_line bytes)
   FindsLine old new bytes left buffer (Err fault) = IsStopped old new bytes left fault
 
   -- the fetches gave these bytes, and their first line is the password, or is refused as one; or they were stopped
   -- before that was known
   abbrev pub Obtains : Device I → Device I → List ℕ → ℕ → Result (List ℕ) RunFault → Type 0
   Obtains old new bytes left (Ok password) =
-      IsUnfailed old new × IsDecided remaining new bytes × (password ≡ first_line bytes) × IsPassword password
+      IsUnfailed old new × IsDecided new bytes × (password ≡ first_line bytes) × IsPassword password
   Obtains old new bytes left (Err (Password fault)) =
-      IsUnfailed old new × IsDecided remaining new bytes × IsPasswordRefused (first_line bytes) fault
+      IsUnfailed old new × IsDecided new bytes × IsPasswordRefused (first_line bytes) fault
   Obtains old new bytes left (Err fault) = IsStopped old new bytes left fault
 
 -- bytes are a password, or are refused as one
@@ -54,7 +54,7 @@ TakesAsPassword bytes (Err fault) = ⊥
 
 -- the bytes of a word are the password, or are refused as one; the input is left alone. Or the password is
 -- the first line of the input.
-abbrev pub ObtainsFrom : {I : Type 0} → (I → Option (List ℕ)) → PasswordFrom → Device I → Device I → ℕ → Result (List ℕ) RunFault → Type 0
-ObtainsFrom remaining (Word bytes) old new left result = (new ≡ old) × TakesAsPassword bytes.items result
-ObtainsFrom remaining Input old new left result =
-    (bytes : List ℕ) × Reads remaining old new bytes × Obtains remaining old new bytes left result
+abbrev pub ObtainsFrom : {I : Type 0} → PasswordFrom → Device I → Device I → ℕ → Result (List ℕ) RunFault → Type 0
+ObtainsFrom (Word bytes) old new left result = (new ≡ old) × TakesAsPassword bytes.items result
+ObtainsFrom Input old new left result =
+    (bytes : List ℕ) × Reads old new bytes × Obtains old new bytes left result

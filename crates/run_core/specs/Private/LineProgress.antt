@@ -12,7 +12,7 @@ use Rattle.run_core.specs.Lines.{IsTooLong}
 use Rattle.run_core.specs.Output.{Takes}
 use Rattle.run_core.specs.Private.Deliveries.{IsSentInPart, Sends}
 use Rattle.run_core.specs.Private.Headroom.{HasCountsFor, HasRoomFor, IsTallied, lines_limit}
-use Rattle.run_core.specs.Runs.{RunState, DeviceBytes, calls_of, run_state}
+use Rattle.run_core.specs.Runs.{RunState, calls_of, run_state}
 use Rattle.run_core.specs.Texts.{HasNoLineFeed, line_feed}
 use Rattle.run_core.specs.declared.fault.RunFault.{RunFault}
 use Rattle.run_core.specs.declared.fault.RunFault.TheVariants.{OutOfMemory}
@@ -98,26 +98,26 @@ module _ {O E : Type 0} where
   -- ---- one answer
 
   -- it is made and given; or memory was refused before any of it was
-  abbrev pub AnswersOne : (O → Option (List ℕ)) → (E → Option (List ℕ)) → ℕ → Answer → OutputState O E → OutputState O E → {A : Type 0} → Result A RunFault → Type 0
-  AnswersOne contents fault_contents left answer old new (Err OutOfMemory) =
+  abbrev pub AnswersOne : ℕ → Answer → OutputState O E → OutputState O E → {A : Type 0} → Result A RunFault → Type 0
+  AnswersOne left answer old new (Err OutOfMemory) =
       (new.out ≡ old.out) × (new.faults ≡ old.faults) × IsRefusedAmong old.counts answer.hashings new.counts new.stream
-  AnswersOne contents fault_contents left answer old new result =
+  AnswersOne left answer old new result =
       (new.stream ≡ answer.stream) × (new.counts ≡ after_work old.counts answer.hashings)
-      × Sends contents fault_contents left answer old.out old.faults new.out new.faults result
+      × Sends left answer old.out old.faults new.out new.faults result
 
   -- ---- all answers so far
 
   -- they are given, and nothing failed
-  pub record AreGiven (contents : O → Option (List ℕ)) (fault_contents : E → Option (List ℕ)) (answers : Answer) (start now : OutputState O E) : Type 0 where
+  pub record AreGiven (answers : Answer) (start now : OutputState O E) : Type 0 where
     pub out_unfailed : IsUnfailed start.out now.out
     pub faults_unfailed : IsUnfailed start.faults now.faults
-    pub text : Takes contents start.out now.out answers.text
-    pub fault_text : Takes fault_contents start.faults now.faults answers.fault_text
+    pub text : Takes start.out now.out answers.text
+    pub fault_text : Takes start.faults now.faults answers.fault_text
     pub stream : now.stream ≡ answers.stream
     pub counts : now.counts ≡ after_work start.counts answers.hashings
 
   -- Of these bytes, the lines with a line feed are answered; what follows them is held.
-  pub record IsAt (contents : O → Option (List ℕ)) (fault_contents : E → Option (List ℕ)) (kind : Kind) (job : Job)
+  pub record IsAt (kind : Kind) (job : Job)
       (start now : OutputState O E) (bytes : List ℕ) (position : Position) : Type 0 where
     pub done : List (List ℕ)
     pub rest : List ℕ
@@ -129,20 +129,20 @@ module _ {O E : Type 0} where
     pub are : AreAnswers kind job 1 done start.stream answers
     pub tally : position.tally ≡ answers.tally
     pub numbers : answers.tally.lines ≡ length done
-    pub given : AreGiven contents fault_contents answers start now
+    pub given : AreGiven answers start now
 
   -- how the outputs, the stream and the counts are left by a fault: after these answers, in the next one
-  abbrev pub IsInterrupted : (O → Option (List ℕ)) → (E → Option (List ℕ)) → ℕ → Answer → Answer → OutputState O E → OutputState O E → RunFault → Type 0
-  IsInterrupted contents fault_contents left done next start new OutOfMemory =
+  abbrev pub IsInterrupted : ℕ → Answer → Answer → OutputState O E → OutputState O E → RunFault → Type 0
+  IsInterrupted left done next start new OutOfMemory =
       IsRefusedAmong (after_work start.counts done.hashings) next.hashings new.counts new.stream
       × IsUnfailed start.out new.out × IsUnfailed start.faults new.faults
-      × Takes contents start.out new.out done.text × Takes fault_contents start.faults new.faults done.fault_text
-  IsInterrupted contents fault_contents left done next start new fault =
+      × Takes start.out new.out done.text × Takes start.faults new.faults done.fault_text
+  IsInterrupted left done next start new fault =
       (new.stream ≡ next.stream) × (new.counts ≡ after_work (after_work start.counts done.hashings) next.hashings)
-      × IsSentInPart contents fault_contents left done next start.out start.faults new.out new.faults fault
+      × IsSentInPart left done next start.out start.faults new.out new.faults fault
 
   -- some of the lines in these bytes are answered, and the next one, which begins the rest, was being answered
-  pub record IsCutAt (contents : O → Option (List ℕ)) (fault_contents : E → Option (List ℕ)) (kind : Kind) (job : Job)
+  pub record IsCutAt (kind : Kind) (job : Job)
       (start new : OutputState O E) (bytes line rest : List ℕ) (left : ℕ) (fault : RunFault) : Type 0 where
     pub done : List (List ℕ)
     pub answers : Answer
@@ -152,32 +152,32 @@ module _ {O E : Type 0} where
     pub no_feed : HasNoLineFeed line
     pub are : AreAnswers kind job 1 done start.stream answers
     pub is_next : IsAnswer kind job (length done + 1) line answers.stream next
-    pub cut : IsInterrupted contents fault_contents left answers next start new fault
+    pub cut : IsInterrupted left answers next start new fault
 
   -- a piece of the input was looked through
-  abbrev pub LooksThrough : (O → Option (List ℕ)) → (E → Option (List ℕ)) → Kind → Job → OutputState O E → OutputState O E → List ℕ → Position → {A : Type 0} → Result A RunFault → Type 0
-  LooksThrough contents fault_contents kind job start new bytes position (Ok done) =
-      IsAt contents fault_contents kind job start new bytes position
-  LooksThrough contents fault_contents kind job start new bytes position (Err fault) =
+  abbrev pub LooksThrough : Kind → Job → OutputState O E → OutputState O E → List ℕ → Position → {A : Type 0} → Result A RunFault → Type 0
+  LooksThrough kind job start new bytes position (Ok done) =
+      IsAt kind job start new bytes position
+  LooksThrough kind job start new bytes position (Err fault) =
       (line behind : List ℕ) × (length behind < piece_size)
-      × IsCutAt contents fault_contents kind job start new bytes line (line ++ line_feed ∷ behind) position.turns_left fault
+      × IsCutAt kind job start new bytes line (line ++ line_feed ∷ behind) position.turns_left fault
 
   -- ---- the last line
 
   -- all lines in these bytes are answered
-  pub record IsAllAnswered (contents : O → Option (List ℕ)) (fault_contents : E → Option (List ℕ)) (kind : Kind) (job : Job)
+  pub record IsAllAnswered (kind : Kind) (job : Job)
       (start now : OutputState O E) (bytes : List ℕ) (tally : Tally) : Type 0 where
     pub answers : Answer
     pub are : AreAnswers kind job 1 (lines_of bytes) start.stream answers
     pub tally_is : tally ≡ answers.tally
-    pub given : AreGiven contents fault_contents answers start now
+    pub given : AreGiven answers start now
 
   -- the last line is answered, where that has no line feed
-  abbrev pub AnswersLast : (O → Option (List ℕ)) → (E → Option (List ℕ)) → Kind → Job → OutputState O E → OutputState O E → List ℕ → Position → {A : Type 0} → Result A RunFault → Type 0
-  AnswersLast contents fault_contents kind job start new bytes position (Ok done) =
-      IsAllAnswered contents fault_contents kind job start new bytes position.tally
-  AnswersLast contents fault_contents kind job start new bytes position (Err fault) =
-      (line : List ℕ) × (line ≢ []) × IsCutAt contents fault_contents kind job start new bytes line line position.turns_left fault
+  abbrev pub AnswersLast : Kind → Job → OutputState O E → OutputState O E → List ℕ → Position → {A : Type 0} → Result A RunFault → Type 0
+  AnswersLast kind job start new bytes position (Ok done) =
+      IsAllAnswered kind job start new bytes position.tally
+  AnswersLast kind job start new bytes position (Err fault) =
+      (line : List ℕ) × (line ≢ []) × IsCutAt kind job start new bytes line line position.turns_left fault
 
 -- ---- between two fetches
 
@@ -205,31 +205,31 @@ module _ {I O E : Type 0} where
 
   -- These bytes were read. Of them the lines with a line feed are answered, and nothing failed; what follows
   -- them is held.
-  pub record IsAtInput (device_bytes : DeviceBytes I O E) (turns : ℕ) (kind : Kind) (job : Job) (start now : RunState I O E)
+  pub record IsAtInput (turns : ℕ) (kind : Kind) (job : Job) (start now : RunState I O E)
       (bytes : List ℕ) (position : Position) : Type 0 where
-    pub reads : Reads device_bytes.remaining start.input now.input bytes
+    pub reads : Reads start.input now.input bytes
     pub unfailed : IsUnfailed start.input now.input
     pub calls : calls_of now + position.turns_left ≡ calls_of start + turns
-    pub answered : IsAt device_bytes.contents device_bytes.fault_contents kind job (output_state_of start) (output_state_of now) bytes position
+    pub answered : IsAt kind job (output_state_of start) (output_state_of now) bytes position
 
   -- ---- steps
 
   -- one fetch, and the answers to the lines that end in what it gave; or the run is over
-  abbrev pub GoesOn : DeviceBytes I O E → ℕ → Kind → Job → RunState I O E → RunState I O E → Position → Result Bool RunFault → Type 0
-  GoesOn device_bytes turns kind job start new position (Ok true) =
-      (bytes : List ℕ) × IsAtInput device_bytes turns kind job start new bytes position
-  GoesOn device_bytes turns kind job start new position (Ok false) =
-      (bytes : List ℕ) × IsAtInput device_bytes turns kind job start new bytes position × IsReadOut device_bytes new
-  GoesOn device_bytes turns kind job start new position (Err fault) = EndsLines device_bytes turns kind job start new (Err fault)
+  abbrev pub GoesOn : ℕ → Kind → Job → RunState I O E → RunState I O E → Position → Result Bool RunFault → Type 0
+  GoesOn turns kind job start new position (Ok true) =
+      (bytes : List ℕ) × IsAtInput turns kind job start new bytes position
+  GoesOn turns kind job start new position (Ok false) =
+      (bytes : List ℕ) × IsAtInput turns kind job start new bytes position × IsReadOut new
+  GoesOn turns kind job start new position (Err fault) = EndsLines turns kind job start new (Err fault)
 
   -- a step of a run that has come so far, wherever it began
-  abbrev pub ReadsPiece : DeviceBytes I O E → Kind → Job → RunState I O E → Position → RunState I O E → Position → Result Bool RunFault → Type 0
-  ReadsPiece device_bytes kind job old position new new_position result =
-      (start : RunState I O E) → (turns : ℕ) → (bytes : List ℕ) → IsAtInput device_bytes turns kind job start old bytes position
-      → MovesBytes 0 start.input old.input → GoesOn device_bytes turns kind job start new new_position result
+  abbrev pub ReadsPiece : Kind → Job → RunState I O E → Position → RunState I O E → Position → Result Bool RunFault → Type 0
+  ReadsPiece kind job old position new new_position result =
+      (start : RunState I O E) → (turns : ℕ) → (bytes : List ℕ) → IsAtInput turns kind job start old bytes position
+      → MovesBytes 0 start.input old.input → GoesOn turns kind job start new new_position result
 
   -- the fetches to the end of the input
-  abbrev pub GoesToEnd : DeviceBytes I O E → ℕ → Kind → Job → RunState I O E → RunState I O E → Position → {A : Type 0} → Result A RunFault → Type 0
-  GoesToEnd device_bytes turns kind job start new position (Ok done) =
-      (bytes : List ℕ) × IsAtInput device_bytes turns kind job start new bytes position × IsReadOut device_bytes new
-  GoesToEnd device_bytes turns kind job start new position (Err fault) = EndsLines device_bytes turns kind job start new (Err fault)
+  abbrev pub GoesToEnd : ℕ → Kind → Job → RunState I O E → RunState I O E → Position → {A : Type 0} → Result A RunFault → Type 0
+  GoesToEnd turns kind job start new position (Ok done) =
+      (bytes : List ℕ) × IsAtInput turns kind job start new bytes position × IsReadOut new
+  GoesToEnd turns kind job start new position (Err fault) = EndsLines turns kind job start new (Err fault)

@@ -26,8 +26,8 @@ pub(crate) fn read_password<I: Read>(
 ) -> Result<Password, RunFault>
     requires turns { left.old ≤ turns_limit }
     requires room { HasRoomBeforeRun input.old }
-    ensures read { (bytes : List ℕ) × Reads I.remaining input.old input.new bytes
-        × Obtains I.remaining input.old input.new bytes left.new result }
+    ensures read { (bytes : List ℕ) × Reads input.old input.new bytes
+        × Obtains input.old input.new bytes left.new result }
     ensures turns { input.new.calls + left.new ≡ input.old.calls + left.old }
     ensures fewer { left.new ≤ left.old }
     ensures moves { MovesBytes 1 input.old input.new }
@@ -46,8 +46,8 @@ fn read_line<I: Read>(
     requires turns { left.old ≤ turns_limit }
     requires room { HasRoomBeforeRun input.old }
     requires size { length buffer.old ≡ buffer_size }
-    ensures read { (bytes : List ℕ) × Reads I.remaining input.old input.new bytes
-        × FindsLine I.remaining input.old input.new bytes left.new buffer.new result }
+    ensures read { (bytes : List ℕ) × Reads input.old input.new bytes
+        × FindsLine input.old input.new bytes left.new buffer.new result }
     ensures turns { input.new.calls + left.new ≡ input.old.calls + left.old }
     ensures fewer { left.new ≤ left.old }
     ensures moves { MovesBytes 1 input.old input.new }
@@ -79,7 +79,7 @@ fn fetch_after<I: Read>(
     requires bytes_room { input.old.bytes + length buffer.old < 2 ^ 64 }
     requires buffer_room { filled < length buffer.old }
     ensures kept { take filled buffer.new ≡ take filled buffer.old }
-    ensures fetches { Fetches I.remaining left.old input.old input.new (drop filled buffer.new) result }
+    ensures fetches { Fetches left.old input.old input.new (drop filled buffer.new) result }
     ensures takes_turn { left.new ≡ left.old - 1 }
     ensures turns { input.new.calls + left.new ≡ input.old.calls + left.old }
 {

@@ -4,5 +4,5 @@ use Rattle.mkpasswd.proofs.command.report_fault.Goals as goal
 
 pub returns-clause-told : goal.returns-clause-told
 returns-clause-told g c =
-    is_told g.E.Write.contents c.args.fault.now c.args.faults.now c.show.new.out c.as_slice.result.now c.len.result c.show.result
+    is_told c.args.fault.now c.args.faults.now c.show.new.out c.as_slice.result.now c.len.result c.show.result
     (c.as_slice.ensures.value ∙ c.fault_line-line.ensures) (c.len.ensures.value ∙ ap length (sym c.as_slice.ensures.value)) c.show.ensures

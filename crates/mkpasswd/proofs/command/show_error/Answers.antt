@@ -9,17 +9,17 @@ use Rattle.mkpasswd.proofs.command.show_error.Goals as goal
 pub returns-then-use_stderr : goal.returns-then-use_stderr
 returns-then-use_stderr g c =
     let kinds = c.use_stderr.ensures.0 c.if-use_stderr.true in
-    inl (mistake_shown g.O.Write.contents g.E.Write.contents _ c.args.turns c.args.out.now c.args.faults.now c.args.out.now c.show.new.out 2 kinds
-    (c.as_bytes.result.now, as_tally c.show.result, shows-tally g.E.Write.contents c.args.turns c.args.faults.now c.show.new.out c.as_bytes.result.now c.show.result c.show.ensures, refl, refl))
+    inl (mistake_shown _ c.args.turns c.args.out.now c.args.faults.now c.args.out.now c.show.new.out 2 kinds
+    (c.as_bytes.result.now, as_tally c.show.result, shows-tally c.args.turns c.args.faults.now c.show.new.out c.as_bytes.result.now c.show.result c.show.ensures, refl, refl))
 
 pub returns-in-Ok-show : goal.returns-in-Ok-show
 returns-in-Ok-show g c =
     let asked : ¬ ((kind_of c.args.error.now ≢ kind.DisplayHelp) × (kind_of c.args.error.now ≢ kind.DisplayVersion)) = λ both. true≢false (sym (c.use_stderr.ensures.1 both) ∙ c.if-use_stderr.false) in
-    inl (help_shown g.O.Write.contents g.E.Write.contents _ c.args.turns c.args.out.now c.args.faults.now c.show-2.new.out c.args.faults.now 0 asked
-    (c.as_bytes-2.result.now, c.show-2.new.out, Ok no_line, shows-tally g.O.Write.contents c.args.turns c.args.out.now c.show-2.new.out c.as_bytes-2.result.now _ c.in-Ok-show.ensures, refl, (refl, refl, refl)))
+    inl (help_shown _ c.args.turns c.args.out.now c.args.faults.now c.show-2.new.out c.args.faults.now 0 asked
+    (c.as_bytes-2.result.now, c.show-2.new.out, Ok no_line, shows-tally c.args.turns c.args.out.now c.show-2.new.out c.as_bytes-2.result.now _ c.in-Ok-show.ensures, refl, (refl, refl, refl)))
 
 pub returns : goal.returns
 returns g c =
     let asked : ¬ ((kind_of c.args.error.now ≢ kind.DisplayHelp) × (kind_of c.args.error.now ≢ kind.DisplayVersion)) = λ both. true≢false (sym (c.use_stderr.ensures.1 both) ∙ c.if-use_stderr.false) in
-    inl (help_shown g.O.Write.contents g.E.Write.contents _ c.args.turns c.args.out.now c.args.faults.now c.show-2.new.out c.report_fault-in-Err.new.faults c.report_fault-in-Err.result asked
-    (c.as_bytes-2.result.now, c.show-2.new.out, Err c.in-Err.fault, shows-tally g.O.Write.contents c.args.turns c.args.out.now c.show-2.new.out c.as_bytes-2.result.now _ c.in-Err.ensures, tt, (c.report_fault-in-Err.ensures.told, refl, c.report_fault-in-Err.ensures.status)))
+    inl (help_shown _ c.args.turns c.args.out.now c.args.faults.now c.show-2.new.out c.report_fault-in-Err.new.faults c.report_fault-in-Err.result asked
+    (c.as_bytes-2.result.now, c.show-2.new.out, Err c.in-Err.fault, shows-tally c.args.turns c.args.out.now c.show-2.new.out c.as_bytes-2.result.now _ c.in-Err.ensures, tt, (c.report_fault-in-Err.ensures.told, refl, c.report_fault-in-Err.ensures.status)))

@@ -4,5 +4,5 @@ use Rattle.mkpasswd.proofs.command.show_refusal.Goals as goal
 
 pub returns-in-Method : goal.returns-in-Method
 returns-in-Method g c =
-    refusal_shown g.O.Write.contents g.E.Write.contents c.args.fault c.args.turns c.args.out.now c.args.faults.now c.args.out.now c.report_fault.new.faults c.report_fault.result
+    refusal_shown c.args.fault c.args.turns c.args.out.now c.args.faults.now c.args.out.now c.report_fault.new.faults c.report_fault.result
     c.in-Method.is (c.report_fault.ensures.told, refl, c.report_fault.ensures.status)

@@ -12,19 +12,19 @@ use Rattle.run_core.proofs.Sending.{takes-nothing}
 use Rattle.run_core.proofs.lines.give.Goals as goal
 
 -- a text for the fault output alone is sent, or a first part of it
-sends_fault : {O E : Type 0} (contents : O → Option (List ℕ)) (fault_contents : E → Option (List ℕ)) (answer : Answer) (text : List ℕ) (out : Device O) (faults new_faults : Device E)
+sends_fault : {O E : Type 0} (answer : Answer) (text : List ℕ) (out : Device O) (faults new_faults : Device E)
     (left new_left : ℕ) {A : Type 0} (result : Result A RunFault) → answer.text ≡ [] → answer.fault_text ≡ text
-    → Delivers fault_contents faults new_faults text result → ShowsOutcome left faults new_faults result → new_faults.calls + new_left ≡ faults.calls + left
-    → Sends contents fault_contents new_left answer out faults out new_faults result
-sends_fault contents fault_contents answer text out faults new_faults left new_left (Ok done) none is delivers outcome calls =
-    rw (none, is) (refl {a = out.failures}, outcome, takes-nothing contents out, delivers)
-sends_fault contents fault_contents answer text out faults new_faults left new_left (Err Write) none is delivers outcome calls =
-    rw (none, is) (inr (refl {a = out.failures}, outcome, takes-nothing contents out, delivers))
-sends_fault contents fault_contents answer text out faults new_faults left new_left (Err Turns) none is (front, some) (unfailed, made) calls =
-    rw (none, is) (refl {a = out.failures}, unfailed, omega (arith, made, calls), ([], [], refl, takes-nothing contents out), front, omega (arith, some))
-sends_fault contents fault_contents answer text out faults new_faults left new_left (Err Read) none is delivers outcome calls = absurd delivers
-sends_fault contents fault_contents answer text out faults new_faults left new_left (Err OutOfMemory) none is delivers outcome calls = absurd delivers
-sends_fault contents fault_contents answer text out faults new_faults left new_left (Err (Password fault)) none is delivers outcome calls = absurd delivers
+    → Delivers faults new_faults text result → ShowsOutcome left faults new_faults result → new_faults.calls + new_left ≡ faults.calls + left
+    → Sends new_left answer out faults out new_faults result
+sends_fault answer text out faults new_faults left new_left (Ok done) none is delivers outcome calls =
+    rw (none, is) (refl {a = out.failures}, outcome, takes-nothing out, delivers)
+sends_fault answer text out faults new_faults left new_left (Err Write) none is delivers outcome calls =
+    rw (none, is) (inr (refl {a = out.failures}, outcome, takes-nothing out, delivers))
+sends_fault answer text out faults new_faults left new_left (Err Turns) none is (front, some) (unfailed, made) calls =
+    rw (none, is) (refl {a = out.failures}, unfailed, omega (arith, made, calls), ([], [], refl, takes-nothing out), front, omega (arith, some))
+sends_fault answer text out faults new_faults left new_left (Err Read) none is delivers outcome calls = absurd delivers
+sends_fault answer text out faults new_faults left new_left (Err OutOfMemory) none is delivers outcome calls = absurd delivers
+sends_fault answer text out faults new_faults left new_left (Err (Password fault)) none is delivers outcome calls = absurd delivers
 
 pub returns-in-Refused-clause-sends : goal.returns-in-Refused-clause-sends
 returns-in-Refused-clause-sends g c = λ made decided work_is.
@@ -34,5 +34,5 @@ returns-in-Refused-clause-sends g c = λ made decided work_is.
     let none : answer.text ≡ [] = ap (λ (o : Outcome). output_text job.work made.name o (work_of made.hashings)) is in
     let some : answer.fault_text ≡ c.as_slice.result.now =
     ap (λ (o : Outcome). fault_output_text c.args.number o) is ∙ sym (c.as_slice.ensures.value ∙ c.render_refusal.ensures) in
-    sends_fault g.O.Write.contents g.E.Write.contents answer c.as_slice.result.now c.args.out.now c.args.faults.now c.send.new.out c.args.left.now c.send.new.left c.send.result
+    sends_fault answer c.as_slice.result.now c.args.out.now c.args.faults.now c.send.new.out c.args.left.now c.send.new.left c.send.result
     none some c.send.ensures.delivers c.send.ensures.outcome c.send.ensures.turns

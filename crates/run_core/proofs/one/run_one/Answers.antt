@@ -9,7 +9,7 @@ use Rattle.run_core.specs.Texts.{as_line}
 use Rattle.run_core.specs.declared.answer.Outcome.TheVariants.{Hashed}
 use Rattle.run_core.specs.declared.job.Job.{Job}
 use Rattle.std.proofs.lemmas.Result.{err_from_is_err_and}
-use Rattle.run_core.specs.Runs.{run_state, device_bytes}
+use Rattle.run_core.specs.Runs.{run_state}
 use Rattle.run_core.proofs.LineOptions.{unoptioned}
 use Rattle.run_core.proofs.Ending as ending
 use Rattle.run_core.proofs.Counting.{after_hashings, small_rise}
@@ -32,14 +32,14 @@ send-requires-clause-turns g c = omega (arith, c.obtain.ensures.fewer, c.require
 pub returns-in_err-password-clause-ends : goal.returns-in_err-password-clause-ends
 returns-in_err-password-clause-ends g c =
     let p = err_from_is_err_and c.from_residual.result c.from_residual.ensures.1 in
-    rw (p.1, p.2) (ending.ends-without_password (device_bytes g.I.Read.remaining g.O.Write.contents g.E.Write.contents) c.args.turns c.args.job.now c.args.from.now
+    rw (p.1, p.2) (ending.ends-without_password c.args.turns c.args.job.now c.args.from.now
     (run_state c.args.input.now c.args.out.now c.args.faults.now (g.R.Rng.stream c.args.rng.now) c.args.meter.now)
     c.obtain.new.input c.obtain.new.left c.in_err-password.field-0.0 c.in_err-password.ensures.password c.obtain.ensures.turns)
 
 pub returns-in_err-hash-clause-ends : goal.returns-in_err-hash-clause-ends
 returns-in_err-hash-clause-ends g c =
     let p = err_from_is_err_and c.from_residual-in_err-hash.result c.from_residual-in_err-hash.ensures.1 in
-    rw (p.1, p.2) (ending.ends-out_of_memory (device_bytes g.I.Read.remaining g.O.Write.contents g.E.Write.contents) c.args.turns c.args.job.now c.args.from.now c.in_ok-password.password
+    rw (p.1, p.2) (ending.ends-out_of_memory c.args.turns c.args.job.now c.args.from.now c.in_ok-password.password
     (run_state c.args.input.now c.args.out.now c.args.faults.now (g.R.Rng.stream c.args.rng.now) c.args.meter.now)
     c.obtain.new.input (g.R.Rng.stream c.make_hash.new.rng) c.make_hash.new.meter c.obtain.new.left c.in_ok-password.ensures.password
     c.make_hash.ensures.stream c.in_err-hash.ensures.refused)
@@ -52,40 +52,37 @@ work_since-work-requires g c = record {
 
 pub returns-in_err-send-clause-ends : goal.returns-in_err-send-clause-ends
 returns-in_err-send-clause-ends g c =
-    let told = device_bytes g.I.Read.remaining g.O.Write.contents g.E.Write.contents in
     let old = run_state c.args.input.now c.args.out.now c.args.faults.now (g.R.Rng.stream c.args.rng.now) c.args.meter.now in
-    let has = ending.has_hash told c.args.turns c.args.job.now c.args.from.now c.in_ok-password.password c.as_slice.result.now old c.obtain.new.input (g.R.Rng.stream c.make_hash.new.rng) c.make_hash.new.meter
+    let has = ending.has_hash c.args.turns c.args.job.now c.args.from.now c.in_ok-password.password c.as_slice.result.now old c.obtain.new.input (g.R.Rng.stream c.make_hash.new.rng) c.make_hash.new.meter
     c.obtain.new.left c.in_ok-password.ensures.password c.obtain.ensures.turns c.make_hash.ensures.stream
     c.in_ok-hash.ensures.count (c.as_slice.ensures.value ∙ (c.render-line.ensures ∙ the_line c.args.job.now c.in_ok-password.password (g.R.Rng.stream c.args.rng.now) c.in_ok-hash.hash
     c.args.meter.now c.make_hash.new.meter c.reading-before.result c.work_since-work.result c.in_ok-hash.ensures.hash c.in_ok-hash.ensures.count c.reading-before.ensures c.work_since-work.ensures.raised)) in
     let p = err_from_is_err_and c.from_residual-in_err-send.result c.from_residual-in_err-send.ensures.1 in
-    rw (p.1, p.2) (ending.ends-sending told c.args.turns c.args.job.now c.args.from.now c.in_ok-password.password c.as_slice.result.now old
+    rw (p.1, p.2) (ending.ends-sending c.args.turns c.args.job.now c.args.from.now c.in_ok-password.password c.as_slice.result.now old
     c.obtain.new.input c.send.new.out (g.R.Rng.stream c.make_hash.new.rng) c.make_hash.new.meter c.obtain.new.left c.in_err-send.field-0.0
     has c.in_err-send.ensures.delivers c.in_err-send.ensures.outcome)
 
 pub returns-in_err-finish_both-clause-ends : goal.returns-in_err-finish_both-clause-ends
 returns-in_err-finish_both-clause-ends g c =
-    let told = device_bytes g.I.Read.remaining g.O.Write.contents g.E.Write.contents in
     let old = run_state c.args.input.now c.args.out.now c.args.faults.now (g.R.Rng.stream c.args.rng.now) c.args.meter.now in
-    let has = ending.has_hash told c.args.turns c.args.job.now c.args.from.now c.in_ok-password.password c.as_slice.result.now old c.obtain.new.input (g.R.Rng.stream c.make_hash.new.rng) c.make_hash.new.meter
+    let has = ending.has_hash c.args.turns c.args.job.now c.args.from.now c.in_ok-password.password c.as_slice.result.now old c.obtain.new.input (g.R.Rng.stream c.make_hash.new.rng) c.make_hash.new.meter
     c.obtain.new.left c.in_ok-password.ensures.password c.obtain.ensures.turns c.make_hash.ensures.stream
     c.in_ok-hash.ensures.count (c.as_slice.ensures.value ∙ (c.render-line.ensures ∙ the_line c.args.job.now c.in_ok-password.password (g.R.Rng.stream c.args.rng.now) c.in_ok-hash.hash
     c.args.meter.now c.make_hash.new.meter c.reading-before.result c.work_since-work.result c.in_ok-hash.ensures.hash c.in_ok-hash.ensures.count c.reading-before.ensures c.work_since-work.ensures.raised)) in
     let p = err_from_is_err_and c.from_residual-in_err-finish_both.result c.from_residual-in_err-finish_both.ensures.1 in
-    rw (p.1, p.2) (ending.ends-unfinished told c.args.turns c.args.job.now c.args.from.now c.in_ok-password.password c.as_slice.result.now old
+    rw (p.1, p.2) (ending.ends-unfinished c.args.turns c.args.job.now c.args.from.now c.in_ok-password.password c.as_slice.result.now old
     c.obtain.new.input c.send.new.out c.finish_both.new.out c.finish_both.new.faults
     (g.R.Rng.stream c.make_hash.new.rng) c.make_hash.new.meter c.obtain.new.left (Unit {0}) c.in_err-finish_both.field-0.0
     has c.in_ok-send.ensures.delivers c.in_ok-send.ensures.outcome c.in_err-finish_both.ensures.finishes)
 
 pub returns-clause-ends : goal.returns-clause-ends
 returns-clause-ends g c =
-    let told = device_bytes g.I.Read.remaining g.O.Write.contents g.E.Write.contents in
     let old = run_state c.args.input.now c.args.out.now c.args.faults.now (g.R.Rng.stream c.args.rng.now) c.args.meter.now in
-    let has = ending.has_hash told c.args.turns c.args.job.now c.args.from.now c.in_ok-password.password c.as_slice.result.now old c.obtain.new.input (g.R.Rng.stream c.make_hash.new.rng) c.make_hash.new.meter
+    let has = ending.has_hash c.args.turns c.args.job.now c.args.from.now c.in_ok-password.password c.as_slice.result.now old c.obtain.new.input (g.R.Rng.stream c.make_hash.new.rng) c.make_hash.new.meter
     c.obtain.new.left c.in_ok-password.ensures.password c.obtain.ensures.turns c.make_hash.ensures.stream
     c.in_ok-hash.ensures.count (c.as_slice.ensures.value ∙ (c.render-line.ensures ∙ the_line c.args.job.now c.in_ok-password.password (g.R.Rng.stream c.args.rng.now) c.in_ok-hash.hash
     c.args.meter.now c.make_hash.new.meter c.reading-before.result c.work_since-work.result c.in_ok-hash.ensures.hash c.in_ok-hash.ensures.count c.reading-before.ensures c.work_since-work.ensures.raised)) in
-    ending.ends-finished told c.args.turns c.args.job.now c.args.from.now c.in_ok-password.password c.as_slice.result.now old
+    ending.ends-finished c.args.turns c.args.job.now c.args.from.now c.in_ok-password.password c.as_slice.result.now old
     c.obtain.new.input c.send.new.out c.finish_both.new.out c.finish_both.new.faults
     (g.R.Rng.stream c.make_hash.new.rng) c.make_hash.new.meter c.obtain.new.left c.in_ok-finish_both.field-0
     has c.in_ok-send.ensures.delivers c.in_ok-send.ensures.outcome c.in_ok-finish_both.ensures.finishes
@@ -94,20 +91,20 @@ returns-clause-ends g c =
 
 pub returns-in_err-password-clause-options : goal.returns-in_err-password-clause-options
 returns-in_err-password-clause-options g c =
-    unoptioned (device_bytes g.I.Read.remaining g.O.Write.contents g.E.Write.contents) c.args.turns c.args.job.now c.args.from.now _ _ c.from_residual.result (returns-in_err-password-clause-ends g c)
+    unoptioned c.args.turns c.args.job.now c.args.from.now _ _ c.from_residual.result (returns-in_err-password-clause-ends g c)
 
 pub returns-in_err-hash-clause-options : goal.returns-in_err-hash-clause-options
 returns-in_err-hash-clause-options g c =
-    unoptioned (device_bytes g.I.Read.remaining g.O.Write.contents g.E.Write.contents) c.args.turns c.args.job.now c.args.from.now _ _ c.from_residual-in_err-hash.result (returns-in_err-hash-clause-ends g c)
+    unoptioned c.args.turns c.args.job.now c.args.from.now _ _ c.from_residual-in_err-hash.result (returns-in_err-hash-clause-ends g c)
 
 pub returns-in_err-send-clause-options : goal.returns-in_err-send-clause-options
 returns-in_err-send-clause-options g c =
-    unoptioned (device_bytes g.I.Read.remaining g.O.Write.contents g.E.Write.contents) c.args.turns c.args.job.now c.args.from.now _ _ c.from_residual-in_err-send.result (returns-in_err-send-clause-ends g c)
+    unoptioned c.args.turns c.args.job.now c.args.from.now _ _ c.from_residual-in_err-send.result (returns-in_err-send-clause-ends g c)
 
 pub returns-in_err-finish_both-clause-options : goal.returns-in_err-finish_both-clause-options
 returns-in_err-finish_both-clause-options g c =
-    unoptioned (device_bytes g.I.Read.remaining g.O.Write.contents g.E.Write.contents) c.args.turns c.args.job.now c.args.from.now _ _ c.from_residual-in_err-finish_both.result (returns-in_err-finish_both-clause-ends g c)
+    unoptioned c.args.turns c.args.job.now c.args.from.now _ _ c.from_residual-in_err-finish_both.result (returns-in_err-finish_both-clause-ends g c)
 
 pub returns-clause-options : goal.returns-clause-options
 returns-clause-options g c =
-    unoptioned (device_bytes g.I.Read.remaining g.O.Write.contents g.E.Write.contents) c.args.turns c.args.job.now c.args.from.now _ _ _ (returns-clause-ends g c)
+    unoptioned c.args.turns c.args.job.now c.args.from.now _ _ _ (returns-clause-ends g c)

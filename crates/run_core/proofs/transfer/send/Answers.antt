@@ -4,11 +4,11 @@ use Rattle.run_core.proofs.Sending.{under_way-start, under_way-step}
 use Rattle.run_core.proofs.transfer.send.Goals as goal
 
 pub pieces-init : goal.pieces-init
-pieces-init g c = under_way-start g.O.Write.contents c.args.out.now c.args.text.now c.args.left.now
+pieces-init g c = under_way-start c.args.out.now c.args.text.now c.args.left.now
 
 pub pieces-preserved : goal.pieces-preserved
 pieces-preserved g c =
     let gave = c.in-Ok.ensures in
-    under_way-step g.O.Write.contents c.args.out.now c.pieces.out c.give.new.self c.args.text.now c.pieces.rest.now _ c.args.left.now c.pieces.left c.in-Ok.count
+    under_way-step c.args.out.now c.pieces.out c.give.new.self c.args.text.now c.pieces.rest.now _ c.args.left.now c.pieces.left c.in-Ok.count
     c.pieces.invariant (omega arith) c.if-count-gt0.true gave.within gave.takes gave.failures gave.calls gave.bytes gave.idle gave.unflushed
     (take_rest c.pieces.rest.now c.in-Ok.count)

@@ -40,7 +40,7 @@ returns-in_err-give-clause-answers g c line stands =
     let old = state_of g.R.Rng.stream c.args.self.now in
     let new : OutputState g.row.O.Denot g.row.E.Denot = record { out = c.give.new.out; faults = c.give.new.faults; stream = g.R.Rng.stream c.answer.new.rng; counts = c.answer.new.meter } in
     let work_is = rendered_work c.args.self.now.meter.now c.answer.new.meter c.reading-before.result c.work_since-work.result decides.0.hashings decides.3.0 c.reading-before.ensures c.work_since-work.ensures.raised in
-    let sent = answers-sent g.O.Write.contents g.E.Write.contents c.give.new.left answer old new c.give.result decides.3.1 decides.3.0 (c.give.ensures.sends decides.0 decides.2 work_is) in
+    let sent = answers-sent c.give.new.left answer old new c.give.result decides.3.1 decides.3.0 (c.give.ensures.sends decides.0 decides.2 work_is) in
     rw (p.1, p.2) (answer, (decides.0, decides.1, refl), rw c.in_err-give.was at sent, tt)
 
 pub returns-clause-answers : goal.returns-clause-answers

@@ -8,7 +8,7 @@ use Rattle.run_core.proofs.lines.LineRun.answer_lines_in.Goals as goal
 
 pub lines-init : goal.lines-init
 lines-init g c = (
-  looking-start g.O.Write.contents g.E.Write.contents c.args.self.now.kind c.args.self.now.job.now
+  looking-start c.args.self.now.kind c.args.self.now.job.now
       (state_of g.R.Rng.stream c.args.self.now) (position_of c.args.self.now) c.args.piece.now c.requires.room.outs,
   record { kind = refl; job = refl; out = refl; faults = refl; rng = refl; meter = refl },
 )
@@ -17,7 +17,7 @@ pub returns-in_err-answer_buffered-clause-looked : goal.returns-in_err-answer_bu
 returns-in_err-answer_buffered-clause-looked g c =
     let same = c.lines.invariant.1 in
     let p = err_from_is_err_and c.from_residual.result c.from_residual.ensures.1 in
-    rw (p.1, p.2) (looking-cut g.O.Write.contents g.E.Write.contents c.args.self.now.kind c.args.self.now.job.now
+    rw (p.1, p.2) (looking-cut c.args.self.now.kind c.args.self.now.job.now
     (state_of g.R.Rng.stream c.args.self.now) (state_of g.R.Rng.stream c.lines.self) (state_of g.R.Rng.stream c.answer_buffered.new.self)
     (position_of c.args.self.now) (position_of c.lines.self) (position_of c.answer_buffered.new.self) c.append.new.self c.args.piece.now c.lines.rest.now c.in-Some.end (Unit {0}) c.in_err-answer_buffered.field-0.0
     (record {
@@ -36,7 +36,7 @@ pub lines-preserved : goal.lines-preserved
 lines-preserved g c =
     let same = c.lines.invariant.1 in
     let next = c.in_ok-answer_buffered.ensures in (
-      looking-step g.O.Write.contents g.E.Write.contents c.args.self.now.kind c.args.self.now.job.now
+      looking-step c.args.self.now.kind c.args.self.now.job.now
           (state_of g.R.Rng.stream c.args.self.now) (state_of g.R.Rng.stream c.lines.self) (state_of g.R.Rng.stream c.answer_buffered.new.self)
           (position_of c.args.self.now) (position_of c.lines.self) (position_of c.answer_buffered.new.self) c.append.new.self c.args.piece.now c.lines.rest.now _ c.in-Some.end c.in_ok-answer_buffered.field-0
           (record {
@@ -58,7 +58,7 @@ lines-preserved g c =
 
 pub returns-clause-looked : goal.returns-clause-looked
 returns-clause-looked g c =
-    looking-end g.O.Write.contents g.E.Write.contents c.args.self.now.kind c.args.self.now.job.now
+    looking-end c.args.self.now.kind c.args.self.now.job.now
     (state_of g.R.Rng.stream c.args.self.now) (state_of g.R.Rng.stream c.lines.self)
     (position_of c.args.self.now) (position_of c.lines.self) c.append-2.new.self c.args.piece.now c.lines.rest.now
     c.lines.invariant.0 (HasNoLineFeed-position c.lines.rest.now (sym c.line_feed_at.ensures ∙ c.in_default.is)) c.append-2.ensures

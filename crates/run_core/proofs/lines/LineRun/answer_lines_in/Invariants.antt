@@ -5,7 +5,7 @@ use Rattle.run_core.proofs.lines.LineRun.answer_lines_in.Given as goal
 
 abbrev pub invariant-lines : goal.invariant-lines
 invariant-lines g l =
-    IsLooking g.O.Write.contents g.E.Write.contents l.fn.self.kind l.fn.self.job.now
+    IsLooking l.fn.self.kind l.fn.self.job.now
     (state_of g.R.Rng.stream l.fn.self) (state_of g.R.Rng.stream l.self) (position_of l.fn.self) (position_of l.self) l.piece l.rest
     × IsSameRun l.fn.self l.self
 

@@ -1,9 +1,8 @@
-use Rattle.std.proofs.Common.{◌≡◌, ℕ, List, OnOk, Result, Ok, Err, ap}
-use Rattle.std.specs.Io.KnownBytes.{Appends}
+use Rattle.std.proofs.Common.{◌≡◌, ℕ, List, ◌++◌, OnOk, Option, Some, Result, Ok, Err, ap, sym}
 use Rattle.run_core.specs.Answers.{password_answer}
 use Rattle.run_core.specs.Devices.{Device}
 use Rattle.run_core.specs.One.{EndsBy}
-use Rattle.run_core.specs.Runs.{RunState, DeviceBytes}
+use Rattle.run_core.specs.Runs.{RunState}
 use Rattle.run_core.specs.declared.fault.RunFault.{RunFault}
 use Rattle.run_core.specs.declared.job.Job.{Job}
 use Rattle.run_core.specs.declared.tally.Tally.{Tally}
@@ -11,11 +10,11 @@ use Rattle.run_core.proofs.one.tests.run_on.Goals as goal
 use Rattle.run_core.proofs.one.tests.run_on.Goals.{in-Some, in-None}
 
 -- what the output has after a tally
-has_answer : {I O E : Type 0} (device_bytes : DeviceBytes I O E) (turns : ℕ) (job : Job) (password : List ℕ) (old new : RunState I O E)
-    (result : Result Tally RunFault) → EndsBy device_bytes turns job password old new result
-    → OnOk result (Appends (device_bytes.contents old.out.inner) (device_bytes.contents new.out.inner) (password_answer job password old.stream).text)
-has_answer device_bytes turns job password old new (Ok tally) (ok, (is, fails, takes, after)) = takes.text.shown
-has_answer device_bytes turns job password old new (Err fault) ends = tt
+has_answer : {I O E : Type 0} (turns : ℕ) (job : Job) (password before after : List ℕ) (old new : RunState I O E)
+    (result : Result Tally RunFault) → old.out.shown ≡ Some before → new.out.shown ≡ Some after → EndsBy turns job password old new result
+    → OnOk result (after ≡ before ++ (password_answer job password old.stream).text)
+has_answer turns job password before after old new (Ok tally) was now (ok, (is, fails, takes, done)) = rw (was, now) at takes.text.shown
+has_answer turns job password before after old new (Err fault) was now ends = tt
 
 no_word : (result : Result Tally RunFault) → OnOk result (Unit {0})
 no_word (Ok tally) = tt
@@ -24,9 +23,9 @@ no_word (Err fault) = tt
 pub returns : goal.returns
 returns g c = elim c.match-word.branch [
   | in-Some w ↦
-      let wrapped : c.new-out.result.inner ≡ c.args.given.writer = ap (λ (d : Device _). d.inner) c.new-out.ensures in
+      let was : c.new-out.result.shown ≡ Some c.args.given.writer.taken.items = ap (λ (d : Device _). d.shown) c.new-out.ensures in
       let ends = rw w.from-is at c.run_one-outcome.ensures.ends in
-      rw (w.in-Some.is, c.into_inner.ensures, ← wrapped)
-      (has_answer _ c.args.given.turns c.args.job.now w.in-Some.bytes.items _ _ c.run_one-outcome.result ends.1)
+      rw w.in-Some.is
+      (has_answer c.args.given.turns c.args.job.now w.in-Some.bytes.items _ _ _ _ c.run_one-outcome.result was (sym c.into_inner.ensures.shown) ends.1)
   | in-None w ↦ rw w.in-None.is (no_word c.run_one-outcome.result)
 ]
