@@ -5,11 +5,12 @@ use Rattle.std.specs.Str.{bytes_eq}
 use Rattle.clap.specs.declared.builder.value_parser.ValueParser.TheVariants.{Signed, Unsigned}
 use Rattle.std.specs.List.{list_all, slice_index_or}
 use Rattle.clap.specs.Simple.{is_ready, is_ready_leaf}
-use Rattle.clap.specs.Words.{Rule, Text, fault_of, is_simple, is_simple_and_free, matches_of, takes}
+use Rattle.clap.specs.Words.{Row, Rule, Text, fault_of, first_of, is_simple, is_simple_and_free, matches_of, takes}
 use Rattle.clap.specs.declared.error.kind.ErrorKind.TheVariants as kind
 use Rattle.clap.proofs.OnLiterals.{clap_on_literals}
 use Rattle.clap.proofs.WalkLemmas.{both}
-use Rattle.mkpasswd.specs.Options.{Values, budget_rule, command, rounds_rule, values_in}
+use Rattle.mkpasswd.specs.Options.{command, cost_of, given_salt, is_set, mode_count, number_in, type_of}
+use Rattle.mkpasswd.specs.Private.Options.{budget_rule, rounds_rule}
 use Rattle.mkpasswd.proofs.PassedValues.{IsOnlyRule, all_free}
 
 -- ---- a simple command, without exclusions
@@ -88,22 +89,6 @@ is_budget = record {
 
 -- ---- what it makes of some words
 
--- nothing was given
-abbrev pub no_values : Values
-no_values = record {
-  method = None;
-  salt = None;
-  salt_word = None;
-  cost = 0;
-  stdin = false;
-  batch = false;
-  check = false;
-  rehash = false;
-  work = false;
-  budget = None;
-  password = None;
-}
-
 abbrev words : List Text
 words =
     codes "-m" ∷ codes "md5" ∷ codes "-R" ∷ codes "+07" ∷ codes "--work" ∷ codes "--budget" ∷ codes "+036" ∷ codes "--check" ∷ codes "--rehash" ∷ codes "x" ∷ codes "ab" ∷ []
@@ -116,26 +101,30 @@ no_fault : fault_of command words ≡ []
 unfolding command clap_on_literals
 no_fault = refl
 
-values_of_words : values_in (matches_of command words) ≡ record no_values {
-  method = Some (codes "md5");
-  salt_word = Some (codes "ab");
-  cost = 7;
-  check = true;
-  rehash = true;
-  work = true;
-  budget = Some 36;
-  password = Some (codes "x");
-}
+-- what they give
+abbrev HasWords : List Row → Type 0
+HasWords rows =
+    (type_of rows ≡ codes "md5") × (given_salt rows ≡ Some (codes "ab")) × (cost_of rows ≡ 7) × (number_in (codes "budget") rows ≡ Some 36)
+    × (is_set (codes "check") rows ≡ true) × (is_set (codes "rehash") rows ≡ true) × (is_set (codes "work") rows ≡ true)
+    × (first_of (codes "password") rows ≡ Some (codes "x")) × (mode_count rows ≡ 2)
+
+rows_of_words : HasWords (matches_of command words)
 unfolding command clap_on_literals
-values_of_words = refl
+rows_of_words = (refl, refl, refl, refl, refl, refl, refl, refl, refl)
 
 no_words_taken : fault_of command [] ≡ []
 unfolding command clap_on_literals
 no_words_taken = refl
 
-values_of_no_words : values_in (matches_of command []) ≡ no_values
+-- and what no words give
+abbrev HasNoWords : List Row → Type 0
+HasNoWords rows =
+    (type_of rows ≡ codes "sha512crypt") × (given_salt rows ≡ None) × (cost_of rows ≡ 0) × (number_in (codes "budget") rows ≡ None)
+    × (is_set (codes "rehash") rows ≡ false) × (is_set (codes "work") rows ≡ false) × (mode_count rows ≡ 0)
+
+rows_of_no_words : HasNoWords (matches_of command [])
 unfolding command clap_on_literals
-values_of_no_words = refl
+rows_of_no_words = (refl, refl, refl, refl, refl, refl, refl)
 
 asks_for_help : fault_of command (codes "--help" ∷ []) ≡ kind.DisplayHelp ∷ []
 unfolding command clap_on_literals

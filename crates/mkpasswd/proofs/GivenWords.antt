@@ -6,12 +6,11 @@ use Rattle.std.specs.Str.{bytes_eq}
 use Rattle.clap.specs.Faults.{defaults_fault, turn_fault, walk_fault}
 use Rattle.clap.specs.Lexer.{long_of, short_of}
 use Rattle.clap.specs.Simple.{built}
-use Rattle.clap.specs.Walk.{Row, Walk, Waiting, idle, nothing_held, option, used, walk_from, walked}
-use Rattle.clap.specs.Words.{Shape, Text, fault_of, matches_of}
+use Rattle.clap.specs.Walk.{Row, Walk, Waiting, finished, idle, nothing_held, option, used, walk_from, walked}
+use Rattle.clap.specs.Words.{Shape, Text, fault_of, first_of, matches_of}
 use Rattle.clap.proofs.OnLiterals.{clap_on_literals}
 use Rattle.mkpasswd.specs.Commands.{IsNoOption, hash_words}
-use Rattle.mkpasswd.specs.Options.{Values, command, method_rule, salt_rule, values_in}
-use Rattle.mkpasswd.proofs.CommandFacts.{no_values}
+use Rattle.mkpasswd.specs.Options.{command, cost_of, given_salt, is_set, mode_count, option_rule, type_of}
 
 -- ---- a word that is no option
 
@@ -75,7 +74,7 @@ abbrev behind_type : Text → Walk
 behind_type name = at [] (codes "method") (name ∷ []) idle 1
 
 abbrev type_row : Text → List Row
-type_row name = used method_rule (name ∷ []) []
+type_row name = used (option_rule (codes "method") (Some 109)) (name ∷ []) []
 
 abbrev at_salt : Text → Walk
 at_salt name = at (type_row name) (codes "salt") [] (option (codes "salt")) 1
@@ -83,9 +82,11 @@ at_salt name = at (type_row name) (codes "salt") [] (option (codes "salt")) 1
 abbrev behind_salt : Text → Text → Walk
 behind_salt name salt = at (type_row name) (codes "salt") (salt ∷ []) idle 1
 
+abbrev salt_row : Text → Text → List Row
+salt_row name salt = used (option_rule (codes "salt") (Some 83)) (salt ∷ []) (type_row name)
+
 abbrev behind_password : Text → Text → Text → Walk
-behind_password name salt password =
-    at (used salt_rule (salt ∷ []) (type_row name)) (codes "password") (password ∷ []) idle 2
+behind_password name salt password = at (salt_row name salt) (codes "password") (password ∷ []) idle 2
 
 word_1 : Goes start (codes "-m") at_type
 unfolding shape command clap_on_literals
@@ -126,9 +127,6 @@ all_words name salt password n s p =
 
 -- ---- what the command makes of them
 
-abbrev pub given : Text → Text → Text → Values
-given name salt password = record no_values { method = Some name; salt = Some salt; password = Some password }
-
 pub given_fault : (name salt password : Text) → IsNoOption name → IsNoOption salt → IsNoOption password
     → fault_of command (hash_words name salt password) ≡ []
 unfolding shape command defaults_fault
@@ -136,7 +134,32 @@ given_fault name salt password n s p =
     let on = all_words name salt password n s p in
     rw (goes-faultless _ _ _ on, goes-fold _ _ _ on)
 
-pub given_values : (name salt password : Text) → IsNoOption name → IsNoOption salt → IsNoOption password
-    → values_in (matches_of command (hash_words name salt password)) ≡ given name salt password
+-- the three texts are found, and nothing else was given
+pub record IsGiven (name salt password : Text) (rows : List Row) : Type 0 where
+  pub type : type_of rows ≡ name
+  pub salt_is : given_salt rows ≡ Some salt
+  pub cost : cost_of rows ≡ 0
+  pub word : first_of (codes "password") rows ≡ Some password
+  pub stdin : is_set (codes "stdin") rows ≡ false
+  pub batch : is_set (codes "batch") rows ≡ false
+  pub check : is_set (codes "check") rows ≡ false
+  pub work : is_set (codes "work") rows ≡ false
+  pub modes : mode_count rows ≡ 1
+
+abbrev rows_behind : Text → Text → Text → List Row
+rows_behind name salt password = finished shape.rules (behind_password name salt password).held
+
+finds : (name salt password : Text) → IsGiven name salt password (rows_behind name salt password)
 unfolding shape command
-given_values name salt password n s p = rw (goes-fold _ _ _ (all_words name salt password n s p))
+finds name salt password = record { type = refl; salt_is = refl; cost = refl; word = refl; stdin = refl; batch = refl; check = refl; work = refl; modes = refl }
+
+given_rows : (name salt password : Text) → IsNoOption name → IsNoOption salt → IsNoOption password
+    → matches_of command (hash_words name salt password) ≡ rows_behind name salt password
+unfolding shape command
+given_rows name salt password n s p =
+    ap (λ (w : Walk). finished shape.rules w.held) (goes-fold _ _ _ (all_words name salt password n s p))
+
+pub is_given : (name salt password : Text) (words : List Text) → words ≡ hash_words name salt password
+    → IsNoOption name → IsNoOption salt → IsNoOption password → IsGiven name salt password (matches_of command words)
+is_given name salt password words are n s p =
+    rw (are, given_rows name salt password n s p) (finds name salt password)

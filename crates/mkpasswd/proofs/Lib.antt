@@ -1,6 +1,7 @@
 pub mod CommandFacts
 pub mod GivenWords
 pub mod PassedValues
+pub mod Planning
 pub mod Prints
 pub mod Serving
 pub mod Wholes

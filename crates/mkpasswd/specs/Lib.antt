@@ -2,6 +2,7 @@ pub mod Commands
 pub mod Faults
 pub mod Options
 pub mod Private
+pub mod Rules
 pub use Rattle.run_core.specs.Answers
 pub use Rattle.run_core.specs.Devices
 pub use Rattle.run_core.specs.Input

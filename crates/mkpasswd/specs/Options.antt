@@ -1,6 +1,5 @@
 -- The words after the program's name: the command, what `clap` finds in them, and what they mean.
-use Rattle.std.specs.Prelude.{◌≡◌, ◌≢◌, ◌<◌, ◌≤◌, ⊤, ℕ, pos, Bool, true, false, List, [], ◌∷◌, ◌++◌, length, fold, Option, Some, None, IsSome, is_some, Result, Ok, Err, codes, unwrap_or, if◌then◌else◌}
-use Rattle.std.specs.List.{slice_index_or}
+use Rattle.std.specs.Prelude.{◌≡◌, ◌≢◌, ◌<◌, ◌⊎◌, ⊤, ℕ, pos, Bool, true, false, List, [], ◌∷◌, count_by, fold, Option, Some, None, IsSome, is_some, Result, Ok, Err, codes, unwrap_or, if◌then◌else◌}
 use Rattle.std.specs.Option.{option_map, option_map_or}
 use Rattle.std.specs.Str.{bytes_eq}
 use Rattle.std.specs.Str.Parse.{digits_value, without_leading_plus}
@@ -14,16 +13,15 @@ use Rattle.clap.specs.declared.error.kind.ErrorKind.TheVariants as kind
 use Rattle.crypt_core.specs.MadeSettings.{made_scheme}
 use Rattle.crypt_core.specs.Methods.{method_named}
 use Rattle.crypt_core.specs.declared.method.Method.{Method}
-use Rattle.run_core.specs.Makers.{IsRecipe, IsRecipeRefused}
+use Rattle.crypt_core.specs.declared.setting.fault.MakeFault.TheVariants as make
+use Rattle.run_core.specs.Makers.{BreaksRecipe}
+use Rattle.run_core.specs.declared.job.Job.{Job}
+use Rattle.run_core.specs.declared.job.PasswordFrom.TheVariants.{Word, Input}
+use Rattle.mkpasswd.specs.Rules.{IsFirstBroken}
 use Rattle.mkpasswd.specs.declared.fault.UsageFault.{UsageFault}
 use Rattle.mkpasswd.specs.declared.fault.UsageFault.TheVariants.{Parse, Method as UnknownMethod, TwoSalts, TwoModes, Make, OutOfMemory}
-use Rattle.run_core.specs.declared.job.Job.{Job}
-use Rattle.run_core.specs.declared.job.PasswordFrom.{PasswordFrom}
-use Rattle.run_core.specs.declared.job.PasswordFrom.TheVariants.{Word, Input}
 use Rattle.mkpasswd.specs.declared.job.Plan.{Plan}
 use Rattle.mkpasswd.specs.declared.job.Plan.TheVariants.{Methods, One, Batch, Check}
-use Rattle.run_core.specs.declared.line.Kind.{Kind}
-use Rattle.run_core.specs.declared.line.Kind.TheVariants as kinds
 
 -- ---- the command, as `clap` reads it
 
@@ -31,220 +29,104 @@ use Rattle.run_core.specs.declared.line.Kind.TheVariants as kinds
 abbrev pub value_rule : Text → Rule
 value_rule id = record (new_rule id) { action = Some Set; value_names = 1 }
 
-abbrev pub flag_rule : Text → Rule
-flag_rule id = record (new_rule id) { action = Some SetTrue }
+-- an option that takes one value: its long name is its id, and it may have a short one of one character
+abbrev pub option_rule : Text → Option ℕ → Rule
+option_rule id letter = record (value_rule id) { short = letter; long = Some id }
 
--- -m (109), --method TYPE
-abbrev pub method_rule : Rule
-method_rule = record (value_rule (codes "method")) { short = Some 109; long = Some (codes "method") }
+-- a flag, whose names are those of an option
+abbrev pub flag_rule : Text → Option ℕ → Rule
+flag_rule id letter = record (new_rule id) { action = Some SetTrue; short = letter; long = Some id }
 
--- -S (83), --salt SALT
-abbrev pub salt_rule : Rule
-salt_rule = record (value_rule (codes "salt")) { short = Some 83; long = Some (codes "salt") }
-
--- -R (82), --rounds NUMBER, from 0 to 4294967295
-abbrev pub rounds_rule : Rule
-rounds_rule = record (value_rule (codes "rounds")) {
-  short = Some 82;
-  long = Some (codes "rounds");
-  parser = Some (Signed (pos 0) (pos 4294967295));
-}
-
--- -s (115), --stdin
-abbrev pub stdin_rule : Rule
-stdin_rule = record (flag_rule (codes "stdin")) { short = Some 115; long = Some (codes "stdin") }
-
--- --batch, and --check
-abbrev pub batch_rule : Rule
-batch_rule = record (flag_rule (codes "batch")) { long = Some (codes "batch") }
-
-abbrev pub check_rule : Rule
-check_rule = record (flag_rule (codes "check")) { long = Some (codes "check") }
-
--- --rehash
-abbrev pub rehash_rule : Rule
-rehash_rule = record (flag_rule (codes "rehash")) { long = Some (codes "rehash") }
-
--- --work
-abbrev pub work_rule : Rule
-work_rule = record (flag_rule (codes "work")) { long = Some (codes "work") }
-
--- --budget NUMBER, from 0 to 18446744073709551615
-abbrev pub budget_rule : Rule
-budget_rule = record (value_rule (codes "budget")) {
-  long = Some (codes "budget");
-  parser = Some (Unsigned 0 18446744073709551615);
-}
-
--- PASSWORD, and then SALT
-abbrev pub password_rule : Rule
-password_rule = value_rule (codes "password")
-
-abbrev pub salt_word_rule : Rule
-salt_word_rule = value_rule (codes "salt-word")
-
--- a command with a version, whose first word is no program's name
-abbrev pub bare_command : App
-bare_command = on_top (λ s. record s { no_binary_name = true; has_version = true })
-    (new_app (codes "mkpasswd"))
-
--- what is hashed, and how
-abbrev pub hash_rules : List Rule
-hash_rules = method_rule ∷ salt_rule ∷ rounds_rule ∷ stdin_rule ∷ []
-
--- what is done with lines, and what is told
-abbrev pub line_rules : List Rule
-line_rules = batch_rule ∷ check_rule ∷ rehash_rule ∷ work_rule ∷ budget_rule ∷ []
-
+-- The command has a version, and its first word is not the program's name. Its short options are `-m` (109), `-S` (83),
+-- `-R` (82) and `-s` (115); the number of `-R` is at most 2^32 - 1, and that of `--budget` at most 2^64 - 1. Of the words
+-- that are no options, the first is the password and the second the salt.
 unfoldable pub command : App
-command = fold with_rule bare_command (hash_rules ++ line_rules ++ password_rule ∷ salt_word_rule ∷ [])
+command = fold with_rule (on_top (λ s. record s { no_binary_name = true; has_version = true }) (new_app (codes "mkpasswd")))
+    (option_rule (codes "method") (Some 109) ∷ option_rule (codes "salt") (Some 83)
+    ∷ record (option_rule (codes "rounds") (Some 82)) { parser = Some (Signed (pos 0) (pos 4294967295)) }
+    ∷ flag_rule (codes "stdin") (Some 115) ∷ flag_rule (codes "batch") None ∷ flag_rule (codes "check") None
+    ∷ flag_rule (codes "rehash") None ∷ flag_rule (codes "work") None
+    ∷ record (option_rule (codes "budget") None) { parser = Some (Unsigned 0 18446744073709551615) }
+    ∷ value_rule (codes "password") ∷ value_rule (codes "salt-word") ∷ [])
 
--- ---- what `clap` finds
+-- ---- what `clap` finds in the words: a row for each argument that was given
 
--- the values of its matches
-pub record Values : Type 0 where
-  -- TYPE
-  pub method : Option Text
-  -- the value of -S, and the second word
-  pub salt : Option Text
-  pub salt_word : Option Text
-  -- the number of -R, or 0
-  pub cost : ℕ
-  -- -s, --batch, --check, --rehash, and --work
-  pub stdin : Bool
-  pub batch : Bool
-  pub check : Bool
-  pub rehash : Bool
-  pub work : Bool
-  -- the number of --budget
-  pub budget : Option ℕ
-  -- the first word
-  pub password : Option Text
-
+-- the flag with this id was given
 abbrev pub is_set : Text → List Row → Bool
 is_set id rows = option_map_or (bytes_eq (codes "true")) (one_of id rows) false
 
--- the number that a text is, where there may be a plus before its digits
-abbrev pub number_of : Text → ℕ
-number_of text = digits_value 10 (without_leading_plus text)
-
+-- the number of the option with this id, if it was given; a plus may be before its digits
 abbrev pub number_in : Text → List Row → Option ℕ
-number_in id rows = option_map number_of (one_of id rows)
+number_in id rows = option_map (λ text. digits_value 10 (without_leading_plus text)) (one_of id rows)
 
-abbrev pub number_or_0 : Text → List Row → ℕ
-number_or_0 id rows = option_map_or number_of (one_of id rows) 0
+-- TYPE, the value of `-m`; the default is sha512crypt
+abbrev pub type_of : List Row → Text
+type_of rows = unwrap_or (first_of (codes "method") rows) (codes "sha512crypt")
 
-abbrev pub values_in : List Row → Values
-values_in rows = record {
-  method = first_of (codes "method") rows;
-  salt = first_of (codes "salt") rows;
-  salt_word = first_of (codes "salt-word") rows;
-  cost = number_or_0 (codes "rounds") rows;
-  stdin = is_set (codes "stdin") rows;
-  batch = is_set (codes "batch") rows;
-  check = is_set (codes "check") rows;
-  rehash = is_set (codes "rehash") rows;
-  work = is_set (codes "work") rows;
-  budget = number_in (codes "budget") rows;
-  password = first_of (codes "password") rows;
-}
+-- the cost, which is the number of `-R`, or 0
+abbrev pub cost_of : List Row → ℕ
+cost_of rows = unwrap_or (number_in (codes "rounds") rows) 0
 
--- the command takes the words, and its matches have these values
-pub record Gives (words : List Text) (values : Values) : Type 0 where
-  pub taken : fault_of command words ≡ []
-  pub found : values ≡ values_in (matches_of command words)
+-- the salt, if one was given: the value of `-S`, or else the second word
+abbrev pub given_salt : List Row → Option Text
+given_salt rows = if is_some (first_of (codes "salt") rows) then first_of (codes "salt") rows else first_of (codes "salt-word") rows
 
--- the command does not take the words: they call for an error of this kind, or for help or the
--- version
+-- how many of PASSWORD, `--stdin`, `--batch` and `--check` were given
+abbrev pub mode_count : List Row → ℕ
+mode_count rows = count_by (λ given. given)
+    (is_some (first_of (codes "password") rows) ∷ is_set (codes "stdin") rows ∷ is_set (codes "batch") rows ∷ is_set (codes "check") rows ∷ [])
+
+-- ---- what the words mean
+
+-- the refusals, in the order of their rules
+abbrev pub usage_faults : List UsageFault
+usage_faults = UnknownMethod ∷ TwoSalts ∷ TwoModes ∷ Make make.SaltLength ∷ Make make.SaltCharacter ∷ Make make.Cost ∷ []
+
+-- The words break the rule of a refusal: TYPE names no method; the salt was given in both ways; more than one mode was
+-- asked for; or no setting can be made of the method, the cost and the salt. `Parse` and `OutOfMemory` have no rule here.
+abbrev pub BreaksUsage : List Row → UsageFault → Type 0
+BreaksUsage rows UnknownMethod = method_named (type_of rows) ≡ None
+BreaksUsage rows TwoSalts = IsSome (first_of (codes "salt") rows) × IsSome (first_of (codes "salt-word") rows)
+BreaksUsage rows TwoModes = 1 < mode_count rows
+BreaksUsage rows (Make fault) =
+    (method : Method) × (method_named (type_of rows) ≡ Some method) × BreaksRecipe method (cost_of rows) (given_salt rows) fault
+BreaksUsage rows fault = ⊥
+
+-- The job that the words ask for: settings are made of the method, the cost and the salt; new hashes are wanted if
+-- `--rehash` was given, the counts if `--work` was; and the budget is the number of `--budget`.
+pub record IsJob (rows : List Row) (job : Job) : Type 0 where
+  pub method : Method
+  pub named : method_named (type_of rows) ≡ Some method
+  pub maker : job.maker ≡ record { scheme = made_scheme method (cost_of rows); salt = given_salt rows }
+  pub rehash : job.rehash ≡ is_set (codes "rehash") rows
+  pub work : job.work ≡ is_set (codes "work") rows
+  pub budget : job.budget ≡ number_in (codes "budget") rows
+
+-- The plan for that job, in the mode that was asked for: the password is PASSWORD, or a line of the input, or there are
+-- lines to hash or to check. Without a mode the password comes from the input.
+abbrev pub IsPlan : List Row → Plan → Type 0
+IsPlan rows (One job (Word word)) = IsJob rows job × (first_of (codes "password") rows ≡ Some word.items)
+IsPlan rows (One job Input) = IsJob rows job × ((is_set (codes "stdin") rows ≡ true) ⊎ (mode_count rows ≡ 0))
+IsPlan rows (Batch job) = IsJob rows job × (is_set (codes "batch") rows ≡ true)
+IsPlan rows (Check job) = IsJob rows job × (is_set (codes "check") rows ≡ true)
+IsPlan rows Methods = ⊥
+
+-- TYPE `help` asks for the list of the methods, whatever else was given. Otherwise the words mean the refusal of the first
+-- rule that they break, or if they break none a plan.
+abbrev pub Means : List Row → Result Plan UsageFault → Type 0
+Means rows (Ok Methods) = type_of rows ≡ codes "help"
+Means rows (Ok plan) = (type_of rows ≢ codes "help") × ((fault : UsageFault) → ¬ BreaksUsage rows fault) × IsPlan rows plan
+Means rows (Err fault) = (type_of rows ≢ codes "help") × IsFirstBroken usage_faults (BreaksUsage rows) fault
+
+-- the command does not take the words: they call for an error of this kind, or for help or the version
 pub record Refuses (words : List Text) (error : Error) : Type 0 where
   pub called_for : IsAmong (kind_of error) (fault_of command words)
   pub not_taken : takes command words ≢ true
   pub not_memory : kind_of error ≢ kind.OutOfMemory
 
--- ---- what they mean
-
--- TYPE, or the default
-abbrev pub type_of : Values → Text
-type_of values = unwrap_or values.method (codes "sha512crypt")
-
--- the salt, given in one of the two ways
-abbrev pub given_salt : Values → Option Text
-given_salt values = if is_some values.salt then values.salt else values.salt_word
-
--- what a plan does: it hashes the password of a word or that of the input, or goes through lines
-pub data Mode : Type 0 where
-  word : Text → Mode
-  input : Mode
-  lines : Kind → Mode
-
--- the modes that were asked for
-abbrev pub modes_of : Values → List Mode
-modes_of values =
-    option_map_or (λ password. word password ∷ []) values.password []
-    ++ (if values.stdin then input ∷ [] else [])
-    ++ (if values.batch then lines kinds.Batch ∷ [] else [])
-    ++ (if values.check then lines kinds.Check ∷ [] else [])
-
--- ---- the rules, in their order, and the plan
-
--- TYPE asks for the list of methods, whatever else was given
-abbrev pub AsksForMethods : Values → Type 0
-AsksForMethods values = type_of values ≡ codes "help"
-
--- TYPE names a method
-pub record Names (values : Values) (method : Method) : Type 0 where
-  pub not_help : ¬ AsksForMethods values
-  pub named : method_named (type_of values) ≡ Some method
-
--- the salt was given in both ways
-abbrev pub HasTwoSalts : Values → Type 0
-HasTwoSalts values = IsSome values.salt × IsSome values.salt_word
-
--- the salt was given once, or not at all
-pub record HasSalt (values : Values) (method : Method) : Type 0 where
-  pub names : Names values method
-  pub few_salts : ¬ HasTwoSalts values
-
--- one mode was asked for, or none, which stands for the input
-pub record HasMode (values : Values) (method : Method) (mode : Mode) : Type 0 where
-  pub salt : HasSalt values method
-  pub few_modes : length (modes_of values) ≤ 1
-  pub mode_is : mode ≡ slice_index_or (modes_of values) 0 input
-
--- where the password comes from, in a mode
-abbrev pub IsFrom : Mode → PasswordFrom → Type 0
-IsFrom (word password) (Word bytes) = bytes.items ≡ password
-IsFrom input Input = ⊤
-IsFrom mode from = ⊥
-
--- settings are made of the method, the cost and the salt; new hashes are wanted where `--rehash` was given, the counts
--- where `--work` was, and the budget is that of `--budget`
-pub record IsJob (values : Values) (method : Method) (job : Job) : Type 0 where
-  pub accepted : IsRecipe method values.cost (given_salt values)
-  pub maker : job.maker ≡ record { scheme = made_scheme method values.cost; salt = given_salt values }
-  pub rehash : job.rehash ≡ values.rehash
-  pub work : job.work ≡ values.work
-  pub budget : job.budget ≡ values.budget
-
--- the first refusal whose rule holds, or else the plan
-abbrev pub Means : Values → Result Plan UsageFault → Type 0
-Means values (Ok Methods) = AsksForMethods values
-Means values (Ok (One job from)) =
-    (method : Method) × (mode : Mode) × HasMode values method mode × IsJob values method job
-    × IsFrom mode from
-Means values (Ok (Batch job)) = (method : Method) × HasMode values method (lines kinds.Batch) × IsJob values method job
-Means values (Ok (Check job)) = (method : Method) × HasMode values method (lines kinds.Check) × IsJob values method job
-Means values (Err UnknownMethod) = ¬ AsksForMethods values × (method_named (type_of values) ≡ None)
-Means values (Err TwoSalts) = (method : Method) × Names values method × HasTwoSalts values
-Means values (Err TwoModes) = (method : Method) × HasSalt values method × (1 < length (modes_of values))
-Means values (Err (Make fault)) =
-    (method : Method) × (mode : Mode) × HasMode values method mode
-    × IsRecipeRefused method values.cost (given_salt values) fault
-Means values (Err (Parse error)) = ⊥
-Means values (Err OutOfMemory) = ⊥
-
--- what is answered to the words; memory may run out at any of them
+-- What `plan` may answer to the words: the command refuses them, or takes them and they mean this. Memory may run out at any
+-- words.
 abbrev pub Plans : List Text → Result Plan UsageFault → Type 0
 Plans words (Err (Parse error)) = Refuses words error
 Plans words (Err OutOfMemory) = ⊤
-Plans words answer = (values : Values) × Gives words values × Means values answer
+Plans words answer = (fault_of command words ≡ []) × Means (matches_of command words) answer

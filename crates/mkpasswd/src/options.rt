@@ -1,14 +1,12 @@
 //! The words after the program's name: the command that `clap` reads them by, and what they ask the
 //! program to do. Each refusal has its place in one order; want of memory comes where it arises.
-ghost use Rattle.std.specs.Prelude.{◌≡◌, ◌≢◌, ◌<◌, ◌≤◌, None, Some, false, fold, length, map, string_bytes};
+ghost use Rattle.std.specs.Prelude.{◌≡◌, ◌≢◌, List, [], None, Some, codes, false, fold, map, string_bytes};
 ghost use Rattle.std.specs.Prelude.{IfErr, IfOk, MatchOption};
-ghost use Rattle.std.specs.List.{slice_index_or};
-ghost use Rattle.clap.specs.Words.{app_of, kind_of, rule_of, with_rule};
+ghost use Rattle.clap.specs.Words.{Row, app_of, fault_of, kind_of, matches_of, rule_of, with_rule};
 ghost use Rattle.crypt_core.specs.Methods.{method_named};
 ghost use Rattle.run_core.specs.Makers.{bytes_of};
-ghost use Rattle.mkpasswd.specs.Options.{AsksForMethods, Gives, HasTwoSalts, Names, Plans, Refuses};
-ghost use Rattle.mkpasswd.specs.Options.{command, flag_rule, given_salt, hash_rules, input, line_rules, modes_of, type_of, value_rule};
-ghost use Rattle.mkpasswd.specs.Private.Options.{mode_of, values_of};
+ghost use Rattle.mkpasswd.specs.Options.{BreaksUsage, Plans, Refuses, command, flag_rule, given_salt, type_of, value_rule};
+ghost use Rattle.mkpasswd.specs.Private.Options.{AsksFor, Keeps, Names, hash_rules, line_rules};
 
 use crate::fault::UsageFault;
 use crate::job::{Job, Maker, PasswordFrom, Plan};
@@ -89,7 +87,8 @@ pub fn plan(alloc: Global, words: &[String]) -> Result<Plan, UsageFault>
 
 // Reads the words by the command. An error is `clap`'s own; where memory runs out, its kind says so.
 fn read_words<'a>(alloc: Global, words: &'a [String]) -> Result<Arguments<'a>, clap::Error>
-    ensures ok { IfOk result (λ given. Gives (map string_bytes words.entry.now) (values_of given)) }
+    ensures taken { IfOk result (λ given. fault_of command (map string_bytes words.entry.now) ≡ []) }
+    ensures ok { IfOk result (Keeps (matches_of command (map string_bytes words.entry.now))) }
     ensures err { IfErr result (λ error. kind_of error ≢ ErrorKind.OutOfMemory
         → Refuses (map string_bytes words.entry.now) error) }
 {
@@ -112,10 +111,10 @@ fn read_words<'a>(alloc: Global, words: &'a [String]) -> Result<Arguments<'a>, c
 
 // The method that TYPE names, or `None` where it asks for the list of methods.
 fn one_method(given: &Arguments<'_>) -> Result<Option<Method>, UsageFault>
-    ensures known { IfOk result (λ method.
-        MatchOption method (AsksForMethods (values_of given.now)) (Names (values_of given.now))) }
-    ensures unknown { IfErr result (λ fault. (fault ≡ UsageFault.Method)
-        × ¬ AsksForMethods (values_of given.now) × (method_named (type_of (values_of given.now)) ≡ None)) }
+    ensures known { (rows : List Row) → Keeps rows given.now
+        → IfOk result (λ method. MatchOption method (type_of rows ≡ codes "help") (Names rows)) }
+    ensures unknown { (rows : List Row) → Keeps rows given.now
+        → IfErr result (λ fault. (fault ≡ UsageFault.Method) × (type_of rows ≢ codes "help") × BreaksUsage rows UsageFault.Method) }
 {
     let name = given.method.unwrap_or(DEFAULT_TYPE);
     if name == "help" {
@@ -129,10 +128,10 @@ fn one_method(given: &Arguments<'_>) -> Result<Option<Method>, UsageFault>
 
 // The salt that was given, in one of the two ways at most.
 fn one_salt<'a>(given: &Arguments<'a>) -> Result<Option<&'a [u8]>, UsageFault>
-    ensures once { IfOk result (λ salt. ¬ HasTwoSalts (values_of given.now)
-        × (bytes_of salt ≡ given_salt (values_of given.now))) }
-    ensures twice { IfErr result (λ fault. (fault ≡ UsageFault.TwoSalts)
-        × HasTwoSalts (values_of given.now)) }
+    ensures once { (rows : List Row) → Keeps rows given.now
+        → IfOk result (λ salt. (¬ BreaksUsage rows UsageFault.TwoSalts) × (bytes_of salt ≡ given_salt rows)) }
+    ensures twice { (rows : List Row) → Keeps rows given.now
+        → IfErr result (λ fault. (fault ≡ UsageFault.TwoSalts) × BreaksUsage rows UsageFault.TwoSalts) }
 {
     match (given.salt, given.salt_word) {
         (Some(_), Some(_)) => Err(UsageFault::TwoSalts),
@@ -143,10 +142,10 @@ fn one_salt<'a>(given: &Arguments<'a>) -> Result<Option<&'a [u8]>, UsageFault>
 
 // The mode that was asked for, or the input where none was.
 fn one_mode<'a>(given: &Arguments<'a>) -> Result<Mode<'a>, UsageFault>
-    ensures one { IfOk result (λ mode. (length (modes_of (values_of given.now)) ≤ 1)
-        × (mode_of mode ≡ slice_index_or (modes_of (values_of given.now)) 0 input)) }
-    ensures more { IfErr result (λ fault. (fault ≡ UsageFault.TwoModes)
-        × (1 < length (modes_of (values_of given.now)))) }
+    ensures one { (rows : List Row) → Keeps rows given.now
+        → IfOk result (λ mode. (¬ BreaksUsage rows UsageFault.TwoModes) × AsksFor rows mode) }
+    ensures more { (rows : List Row) → Keeps rows given.now
+        → IfErr result (λ fault. (fault ≡ UsageFault.TwoModes) × BreaksUsage rows UsageFault.TwoModes) }
 {
     let flags = u32::from(given.stdin) + u32::from(given.batch) + u32::from(given.check);
     if u32::from(given.password.is_some()) + flags > 1 {
@@ -231,7 +230,7 @@ fn with_line_options<'a>(alloc: Global, command: Command<'a>) -> Result<Command<
 
 // A flag whose long name is its id.
 fn flag<'a>(alloc: Global, id: &'a str) -> Arg<'a>
-    ensures rule { rule_of result ≡ record (flag_rule id.entry.now) { long = Some id.entry.now } }
+    ensures rule { rule_of result ≡ flag_rule id.entry.now None }
     ensures local { result.global ≡ false }
 {
     Arg::new(alloc, id).long(id).action(ArgAction::SetTrue)

@@ -1,5 +1,5 @@
 -- The words that a setting takes from a stream, and what it costs whatever they are.
-use Rattle.std.proofs.Common.{◌≡◌, ℕ, Bool, true, false, not, List, [], length, Option, Some, None, is_some, refl, sym, ap, ◌∙◌}
+use Rattle.std.proofs.Common.{◌≡◌, ℕ, Bool, true, false, not, List, length, Option, Some, None, is_some, refl, sym, ap, ◌∙◌}
 use Rattle.std.proofs.lemmas.List.FromFn.{length-map-range_with_len}
 use Rattle.rand_core.specs.Stream.{Stream}
 use Rattle.crypt_core.specs.MadeSalts.{made_salt, three_words}
@@ -7,7 +7,7 @@ use Rattle.crypt_core.specs.Schemes.{method_of}
 use Rattle.crypt_core.specs.Settings.{SettingValue}
 use Rattle.crypt_core.specs.Work.{cost, cost_by}
 use Rattle.crypt_core.specs.MethodLimits.{made_salt_length}
-use Rattle.run_core.specs.Makers.{Recipe, made_cost_by, setting_by, words_for}
+use Rattle.run_core.specs.Makers.{Recipe, made_cost_by, next_setting, setting_by, stream_after}
 
 -- a given salt leaves the words no part in the setting
 same_setting : (recipe : Recipe) (words others : List ℕ) → is_some recipe.salt ≡ true → setting_by recipe words ≡ setting_by recipe others
@@ -17,11 +17,11 @@ same_setting recipe words others given = go recipe.salt given where
   go None given = cc
   go (Some salt) given = refl
 
-given_words : (recipe : Recipe) (stream : Stream) → is_some recipe.salt ≡ true → words_for recipe stream ≡ ([], stream)
-given_words recipe stream given = rw given refl
+given_stream : (recipe : Recipe) (stream : Stream) → is_some recipe.salt ≡ true → stream_after recipe stream ≡ stream
+given_stream recipe stream given = rw given refl
 
-drawn_words : (recipe : Recipe) (stream : Stream) → is_some recipe.salt ≡ false → words_for recipe stream ≡ three_words stream
-drawn_words recipe stream none = rw none refl
+drawn_stream : (recipe : Recipe) (stream : Stream) → is_some recipe.salt ≡ false → stream_after recipe stream ≡ (three_words stream).1
+drawn_stream recipe stream none = rw none refl
 
 not_true : (b : Bool) → not b ≡ true → b ≡ false
 not_true true e = cc
@@ -33,19 +33,17 @@ not_false false e = cc
 
 -- the setting and the stream, as the recipe has them
 pub record IsDrawn (recipe : Recipe) (before after : Stream) (kept : SettingValue) : Type 0 where
-  pub kept_is : kept ≡ setting_by recipe (words_for recipe before).0
-  pub stream_is : after ≡ (words_for recipe before).1
+  pub kept_is : kept ≡ next_setting recipe before
+  pub stream_is : after ≡ stream_after recipe before
 
 -- words were drawn for a salt
 pub is_drawn : (recipe : Recipe) (before after : Stream) (words : List ℕ) (kept : SettingValue) (draws : Bool)
     → draws ≡ not (is_some recipe.salt) → draws ≡ true → (words, after) ≡ three_words before → kept ≡ setting_by recipe words
     → IsDrawn recipe before after kept
-is_drawn recipe before after words kept draws is on drawn made =
-    let words_are = drawn_words recipe before (not_true (is_some recipe.salt) (sym is ∙ on)) in
-    record {
-      kept_is = made ∙ ap (λ (p : List ℕ × Stream). setting_by recipe p.0) (drawn ∙ sym words_are);
-      stream_is = ap (λ (p : List ℕ × Stream). p.1) (drawn ∙ sym words_are);
-    }
+is_drawn recipe before after words kept draws is on drawn made = record {
+  kept_is = made ∙ ap (λ (p : List ℕ × Stream). setting_by recipe p.0) drawn;
+  stream_is = ap (λ (p : List ℕ × Stream). p.1) drawn ∙ sym (drawn_stream recipe before (not_true (is_some recipe.salt) (sym is ∙ on)));
+}
 
 -- a given salt takes none
 pub is_not_drawn : (recipe : Recipe) (before after : Stream) (words : List ℕ) (kept : SettingValue) (draws : Bool)
@@ -53,10 +51,9 @@ pub is_not_drawn : (recipe : Recipe) (before after : Stream) (words : List ℕ) 
     → IsDrawn recipe before after kept
 is_not_drawn recipe before after words kept draws is off same made =
     let given = not_false (is_some recipe.salt) (sym is ∙ off) in
-    let words_are = given_words recipe before given in
     record {
-      kept_is = made ∙ same_setting recipe words (words_for recipe before).0 given;
-      stream_is = same ∙ ap (λ (p : List ℕ × Stream). p.1) (sym words_are);
+      kept_is = made ∙ same_setting recipe words (three_words before).0 given;
+      stream_is = same ∙ sym (given_stream recipe before given);
     }
 
 -- ---- the cost of a made setting

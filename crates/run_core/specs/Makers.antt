@@ -1,9 +1,10 @@
 -- How a run gets the setting of each hash: a scheme, and a salt that was given once or is made for each hash.
-use Rattle.std.specs.Prelude.{◌≡◌, ℕ, List, [], length, Option, Some, None, is_some, option_map, if◌then◌else◌}
+use Rattle.std.specs.Prelude.{◌≡◌, ℕ, List, length, Option, Some, None, is_some, option_map, if◌then◌else◌}
 use Rattle.std.specs.Borrow.{Bor}
+use Rattle.std.specs.Option.{option_map_or}
 use Rattle.rand_core.specs.Stream.{Stream}
 use Rattle.crypt_core.specs.MadeSalts.{three_words}
-use Rattle.crypt_core.specs.MadeSettings.{IsMakeable, IsMakeRefused, TakesCost, TakesSalt, salted}
+use Rattle.crypt_core.specs.MadeSettings.{BreaksMake, IsMakeable, IsMakeRefused, TakesCost, TakesSalt, salted}
 use Rattle.crypt_core.specs.Methods.{method_row}
 use Rattle.crypt_core.specs.Schemes.{method_of}
 use Rattle.crypt_core.specs.Settings.{SettingValue}
@@ -13,13 +14,10 @@ use Rattle.crypt_core.specs.declared.scheme.Scheme.{Scheme}
 use Rattle.crypt_core.specs.declared.setting.fault.MakeFault.{MakeFault}
 use Rattle.crypt_core.specs.declared.setting.fault.MakeFault.TheVariants.{Cost}
 
--- what settings are made of; without a salt each gets a new one
+-- What settings are made of: a scheme, and a salt if one was given. Without one each setting gets a new salt.
 pub record Recipe : Type 0 where
   pub scheme : Scheme
   pub salt : Option (List ℕ)
-
-abbrev pub recipe : Scheme → Option (List ℕ) → Recipe
-recipe scheme salt = record { scheme = scheme; salt = salt }
 
 -- the bytes of a reference, if there is one
 abbrev pub bytes_of : Option (Bor (List ℕ)) → Option (List ℕ)
@@ -40,31 +38,26 @@ abbrev pub IsRecipeRefused : Method → ℕ → Option (List ℕ) → MakeFault 
 IsRecipeRefused method cost None fault = (fault ≡ Cost) × ¬ TakesCost method cost
 IsRecipeRefused method cost (Some salt) fault = IsMakeRefused method cost salt fault
 
--- the setting: with the salt that was given, or with one made of the words
-abbrev pub setting_with : Scheme → Option (List ℕ) → List ℕ → SettingValue
-setting_with scheme None words = salted scheme words
-setting_with scheme (Some salt) words = record { scheme = scheme; salt = salt }
+-- A method, a cost and the salt, if one was given, break the rule of a refusal. Without a salt only the cost can.
+abbrev pub BreaksRecipe : Method → ℕ → Option (List ℕ) → MakeFault → Type 0
+BreaksRecipe method cost given Cost = ¬ TakesCost method cost
+BreaksRecipe method cost None fault = ⊥
+BreaksRecipe method cost (Some salt) fault = BreaksMake fault method cost salt
 
+-- a setting with the salt that was given, or with a new one that these words make
 abbrev pub setting_by : Recipe → List ℕ → SettingValue
-setting_by recipe words = setting_with recipe.scheme recipe.salt words
+setting_by recipe words = option_map_or (λ salt. record { scheme = recipe.scheme; salt = salt }) recipe.salt (salted recipe.scheme words)
 
--- how many bytes of salt each setting has
-abbrev pub salt_length : Scheme → Option (List ℕ) → ℕ
-salt_length scheme None = (method_row (method_of scheme)).made_salt_length
-salt_length scheme (Some salt) = length salt
-
--- the greatest cost of a hash of a password of so many bytes
-abbrev pub made_cost_by : Recipe → ℕ → ℕ
-made_cost_by recipe password_length = cost_by recipe.scheme password_length (salt_length recipe.scheme recipe.salt)
-
--- the words that a hash takes from a stream, and what is left of it: three if the salt is made, and none otherwise
-abbrev pub words_for : Recipe → Stream → List ℕ × Stream
-words_for recipe stream = if is_some recipe.salt then ([], stream) else three_words stream
-
--- the setting of the next hash
+-- the setting of the next hash; the next three words of the stream make its salt if none was given
 abbrev pub next_setting : Recipe → Stream → SettingValue
-next_setting recipe stream = setting_by recipe (words_for recipe stream).0
+next_setting recipe stream = setting_by recipe (three_words stream).0
 
--- what the stream has left after its words
+-- the stream after that setting: three words further if they make its salt, and otherwise the same
 abbrev pub stream_after : Recipe → Stream → Stream
-stream_after recipe stream = (words_for recipe stream).1
+stream_after recipe stream = if is_some recipe.salt then stream else (three_words stream).1
+
+-- the greatest cost of a hash of a password of this length: the salt has the length of the given one, or else the length that
+-- the method's new salts have
+abbrev pub made_cost_by : Recipe → ℕ → ℕ
+made_cost_by recipe password_length =
+    cost_by recipe.scheme password_length (option_map_or length recipe.salt (method_row (method_of recipe.scheme)).made_salt_length)

@@ -1,14 +1,15 @@
 //! The job of a run, and what makes the setting of each hash: a scheme with a salt that was given once or is made of
 //! random numbers for each hash.
-ghost use Rattle.std.specs.Prelude.{◌≡◌, ◌↔◌, ◌&&◌, ℕ, ◌^◌, ◌<◌, ◌≤◌, List, Err, IsOk, IfOk, IfErr, is_some, not};
+ghost use Rattle.std.specs.Prelude.{◌≡◌, ◌↔◌, ◌&&◌, ℕ, ◌^◌, ◌<◌, ◌≤◌, List, Err, IsOk, IfOk, IfErr, is_some, length, not};
+ghost use Rattle.std.specs.Option.{option_map_or};
 ghost use Rattle.crypt_core.specs.declared.setting.fault.MakeFault.{MakeFault as Fault};
 ghost use Rattle.crypt_core.specs.MadeSettings.{made_scheme};
-ghost use Rattle.crypt_core.specs.MethodLimits.{salt_limit};
+ghost use Rattle.crypt_core.specs.MethodLimits.{made_salt_length, salt_limit};
 ghost use Rattle.crypt_core.specs.Passwords.{password_limit};
 ghost use Rattle.crypt_core.specs.Replacements.{is_replaced_by};
 ghost use Rattle.crypt_core.specs.Schemes.{method_of};
 ghost use Rattle.crypt_core.specs.Work.{cost};
-ghost use Rattle.run_core.specs.Makers.{IsRecipe, IsRecipeRefused, bytes_of, made_cost_by, next_setting, recipe, salt_length, setting_by, stream_after};
+ghost use Rattle.run_core.specs.Makers.{IsRecipe, IsRecipeRefused, bytes_of, made_cost_by, next_setting, setting_by, stream_after};
 
 use arrayvec::ArrayVec;
 use crypt_core::made_salt::{draw, made_salt_length};
@@ -61,11 +62,11 @@ pub struct Maker {
 impl Model for Maker {
     ghost use Rattle.std.specs.Prelude.{option_map};
     ghost use Rattle.crypt_core.specs.Schemes.{method_of};
-    ghost use Rattle.run_core.specs.Makers.{Recipe, TakesGiven, recipe};
+    ghost use Rattle.run_core.specs.Makers.{Recipe, TakesGiven};
 
     ghost Value = { Recipe };
 
-    ghost view = { λ a. recipe a.scheme (option_map (λ salt. salt.items) a.salt) };
+    ghost view = { λ a. record { scheme = a.scheme; salt = option_map (λ salt. salt.items) a.salt } };
 
     ghost invariant = { λ a. TakesGiven (method_of a.scheme) (option_map (λ salt. salt.items) a.salt) };
 }
@@ -79,7 +80,7 @@ impl Maker {
     ///
     /// As [`Setting::make`] returns them. Without a salt `Cost` is the only one.
     pub fn new(method: Method, cost: u32, salt: Option<&[u8]>) -> Result<Maker, MakeFault>
-        ensures made { IfOk result (λ maker. maker ≡ recipe (made_scheme method cost) (bytes_of salt.entry)) }
+        ensures made { IfOk result (λ maker. maker ≡ record { scheme = made_scheme method cost; salt = bytes_of salt.entry }) }
         ensures accepted { IsOk result ↔ IsRecipe method cost (bytes_of salt.entry) }
         ensures refused { IfErr result (IsRecipeRefused method cost (bytes_of salt.entry)) }
         ensures each_refusal { (fault : Fault) → IsRecipeRefused method cost (bytes_of salt.entry) fault
@@ -140,7 +141,7 @@ impl Maker {
 
     // How many bytes of salt each setting has.
     fn salt_len(&self) -> usize
-        ensures number { result ≡ salt_length self.now.scheme self.now.salt }
+        ensures number { result ≡ option_map_or length self.now.salt (made_salt_length (method_of self.now.scheme)) }
         ensures short { result ≤ salt_limit (method_of self.now.scheme) }
     {
         match &self.salt {

@@ -1,26 +1,62 @@
--- What the program keeps of the matches, beside the values that they stand for.
+-- The command's rules in two parts, as the code adds them, and what the code keeps of the rows that `clap` finds.
+use Rattle.std.specs.Prelude.{◌≡◌, ◌≢◌, ◌⊎◌, pos, true, List, [], ◌∷◌, Some, None, codes}
+use Rattle.clap.specs.Words.{Row, Rule, first_of}
+use Rattle.clap.specs.declared.builder.value_parser.ValueParser.TheVariants.{Signed, Unsigned}
+use Rattle.crypt_core.specs.Methods.{method_named}
+use Rattle.crypt_core.specs.declared.method.Method.{Method}
 use Rattle.run_core.specs.Makers.{bytes_of}
-use Rattle.mkpasswd.specs.Options.{Mode, Values, input, lines, word}
+use Rattle.run_core.specs.declared.line.Kind.TheVariants as kinds
+use Rattle.mkpasswd.specs.Options.{cost_of, flag_rule, is_set, mode_count, number_in, option_rule, type_of}
 use Rattle.mkpasswd.specs.declared.options.Arguments.{Arguments}
-use Rattle.mkpasswd.specs.declared.options.Mode.{Mode as KeptMode}
-use Rattle.mkpasswd.specs.declared.options.Mode.TheVariants as kept
+use Rattle.mkpasswd.specs.declared.options.Mode.{Mode}
+use Rattle.mkpasswd.specs.declared.options.Mode.TheVariants.{Word, Input, Lines}
 
-abbrev pub values_of : Arguments → Values
-values_of given = record {
-  method = bytes_of given.method;
-  salt = bytes_of given.salt;
-  salt_word = bytes_of given.salt_word;
-  cost = given.cost;
-  stdin = given.stdin;
-  batch = given.batch;
-  check = given.check;
-  rehash = given.rehash;
-  work = given.work;
-  budget = given.budget;
-  password = bytes_of given.password;
-}
+-- ---- rules of the command
 
-abbrev pub mode_of : KeptMode → Mode
-mode_of (kept.Word password) = word password.now
-mode_of kept.Input = input
-mode_of (kept.Lines kind) = lines kind
+-- `--rounds`, whose numbers are those of 32 bits
+abbrev pub rounds_rule : Rule
+rounds_rule = record (option_rule (codes "rounds") (Some 82)) { parser = Some (Signed (pos 0) (pos 4294967295)) }
+
+-- `--budget`, whose numbers are those of 64 bits
+abbrev pub budget_rule : Rule
+budget_rule = record (option_rule (codes "budget") None) { parser = Some (Unsigned 0 18446744073709551615) }
+
+-- the options that say what is hashed, and how
+abbrev pub hash_rules : List Rule
+hash_rules =
+    option_rule (codes "method") (Some 109) ∷ option_rule (codes "salt") (Some 83) ∷ rounds_rule
+    ∷ flag_rule (codes "stdin") (Some 115) ∷ []
+
+-- the options that say what is done with lines, and what is told
+abbrev pub line_rules : List Rule
+line_rules =
+    flag_rule (codes "batch") None ∷ flag_rule (codes "check") None ∷ flag_rule (codes "rehash") None
+    ∷ flag_rule (codes "work") None ∷ budget_rule ∷ []
+
+-- ---- what is kept
+
+-- the values that the code keeps are those of the rows
+pub record Keeps (rows : List Row) (given : Arguments) : Type 0 where
+  pub method : bytes_of given.method ≡ first_of (codes "method") rows
+  pub salt : bytes_of given.salt ≡ first_of (codes "salt") rows
+  pub salt_word : bytes_of given.salt_word ≡ first_of (codes "salt-word") rows
+  pub cost : given.cost ≡ cost_of rows
+  pub stdin : given.stdin ≡ is_set (codes "stdin") rows
+  pub batch : given.batch ≡ is_set (codes "batch") rows
+  pub check : given.check ≡ is_set (codes "check") rows
+  pub rehash : given.rehash ≡ is_set (codes "rehash") rows
+  pub work : given.work ≡ is_set (codes "work") rows
+  pub budget : given.budget ≡ number_in (codes "budget") rows
+  pub password : bytes_of given.password ≡ first_of (codes "password") rows
+
+-- TYPE does not ask for the list of the methods, and names this one
+pub record Names (rows : List Row) (method : Method) : Type 0 where
+  pub not_help : type_of rows ≢ codes "help"
+  pub named : method_named (type_of rows) ≡ Some method
+
+-- the mode was asked for; the input also where none was
+abbrev pub AsksFor : List Row → Mode → Type 0
+AsksFor rows (Word password) = first_of (codes "password") rows ≡ Some password.now
+AsksFor rows Input = (is_set (codes "stdin") rows ≡ true) ⊎ (mode_count rows ≡ 0)
+AsksFor rows (Lines kinds.Batch) = is_set (codes "batch") rows ≡ true
+AsksFor rows (Lines kinds.Check) = is_set (codes "check") rows ≡ true

@@ -4,7 +4,7 @@ use Rattle.std.specs.List.{list_all}
 use Rattle.std.specs.Option.{option_map, option_map_or}
 use Rattle.std.specs.Prelude.{pos}
 use Rattle.std.specs.Str.{bytes_eq}
-use Rattle.std.specs.Str.Parse.{ExplainsUnsignedError, HasUnsignedDigitsIfOk, ParsesBool, ParsesUnsigned}
+use Rattle.std.specs.Str.Parse.{ExplainsUnsignedError, HasUnsignedDigitsIfOk, ParsesBool, ParsesUnsigned, digits_value, without_leading_plus}
 use Rattle.std.specs.declared.num.ParseIntError.{ParseIntError}
 use Rattle.std.proofs.lemmas.Bool.{cases_Bool}
 use Rattle.std.proofs.lemmas.Result.{err_from_is_err_and}
@@ -20,7 +20,8 @@ use Rattle.clap.specs.declared.error.kind.ErrorKind.TheVariants as kind
 use Rattle.clap.specs.declared.parser.matches.ArgMatches.{ArgMatches}
 use Rattle.clap.proofs.CallerReads.{signed_reads}
 use Rattle.clap.proofs.WalkLemmas.{first_value-rows, one_text-rows}
-use Rattle.mkpasswd.specs.Options.{Refuses, budget_rule, command, number_of, rounds_rule}
+use Rattle.mkpasswd.specs.Options.{Refuses, command}
+use Rattle.mkpasswd.specs.Private.Options.{budget_rule, rounds_rule}
 use Rattle.mkpasswd.proofs.CommandFacts as facts
 use Rattle.mkpasswd.proofs.PassedValues.{IsOnlyRule, Passed, all_free, passed}
 use Rattle.mkpasswd.proofs.options.read_words.Goals as goal
@@ -63,10 +64,14 @@ option_passed c m k rule parser is parsed only =
 abbrev Parses : ℕ → Text → Result ℕ ParseIntError → Type 0
 Parses bits text read = ParsesUnsigned bits 10 text read × ExplainsUnsignedError 10 text read × HasUnsignedDigitsIfOk text read
 
+-- the number that a text is
+abbrev number_of : Text → ℕ
+number_of text = digits_value 10 (without_leading_plus text)
+
 -- so `parse` reads it, as its digits say
 number_read : (value : Option Text) (read : Option ℕ) → (value ≡ None → read ≡ None) → ((text : Text) → value ≡ Some text → ReadsOne (Parses 32) text read)
     → ((text : Text) → value ≡ Some text → Passed (Signed (pos 0) (pos 4294967295)) text)
-    → unwrap_or read 0 ≡ option_map_or number_of value 0
+    → unwrap_or read 0 ≡ unwrap_or (option_map number_of value) 0
 number_read None read none some takes = ap (λ (r : Option ℕ). unwrap_or r 0) (none refl)
 number_read (Some text) read none some takes =
     let value = takes text refl in
@@ -104,6 +109,11 @@ flag_of_value : (E : Type 0) (value : Option Text) (read : Option Bool) → (val
 flag_of_value E None read none some = ap (λ (r : Option Bool). unwrap_or r false) (none refl)
 flag_of_value E (Some text) read none some = flag_of_text E text read (some text refl)
 
+pub returns-clause-taken : goal.returns-clause-taken
+returns-clause-taken c =
+    subst (λ (a : App). fault_of a (map string_bytes c.args.words.now) ≡ []) c.in_ok-command.ensures
+    (c.in_ok-matches.ensures.kinds (ap is_simple_and_free c.in_ok-command.ensures ∙ facts.simple_and_free))
+
 pub returns-clause-ok : goal.returns-clause-ok
 returns-clause-ok c =
     let is = c.in_ok-command.ensures in
@@ -114,22 +124,19 @@ returns-clause-ok c =
     let text_is = λ (id : Text). first_value-rows (found_of m) id ∙ ap (first_of id) rows in
     let set_is = λ (id : Text). ap (λ (value : Option Text). option_map_or is_true value false) (one_text-rows (found_of m) id ∙ ap (one_of id) rows) in
     let cost_is = c.unwrap_or.ensures ∙ number_read _ c.get_one.result c.get_one.ensures.none c.get_one.ensures.value (option_passed _ m 2 rounds_rule (Signed (pos 0) (pos 4294967295)) is clauses.parsed facts.is_rounds)
-    ∙ ap (λ (value : Option Text). option_map_or number_of value 0) (one_text-rows (found_of m) (codes "rounds") ∙ ap (one_of (codes "rounds")) rows) in
+    ∙ ap (λ (value : Option Text). unwrap_or (option_map number_of value) 0) (one_text-rows (found_of m) (codes "rounds") ∙ ap (one_of (codes "rounds")) rows) in
     let budget_is = budget_read _ c.get_one-7.result c.get_one-7.ensures.none c.get_one-7.ensures.value (option_passed _ m 8 budget_rule (Unsigned 0 18446744073709551615) is clauses.parsed facts.is_budget)
     ∙ ap (λ (value : Option Text). option_map number_of value) (one_text-rows (found_of m) (codes "budget") ∙ ap (one_of (codes "budget")) rows) in
     record {
-      taken = subst (λ (a : App). fault_of a words ≡ []) is (clauses.kinds (ap is_simple_and_free is ∙ facts.simple_and_free));
-      found = rw (
-        c.get_str.ensures ∙ text_is (codes "method"),
-        c.get_str-2.ensures ∙ text_is (codes "salt"),
-        c.get_str-3.ensures ∙ text_is (codes "salt-word"),
-        cost_is,
-        c.unwrap_or-2.ensures ∙ flag_of_value _ _ c.get_one-2.result c.get_one-2.ensures.none c.get_one-2.ensures.value ∙ set_is (codes "stdin"),
-        c.unwrap_or-3.ensures ∙ flag_of_value _ _ c.get_one-3.result c.get_one-3.ensures.none c.get_one-3.ensures.value ∙ set_is (codes "batch"),
-        c.unwrap_or-4.ensures ∙ flag_of_value _ _ c.get_one-4.result c.get_one-4.ensures.none c.get_one-4.ensures.value ∙ set_is (codes "check"),
-        c.unwrap_or-5.ensures ∙ flag_of_value _ _ c.get_one-5.result c.get_one-5.ensures.none c.get_one-5.ensures.value ∙ set_is (codes "rehash"),
-        c.unwrap_or-6.ensures ∙ flag_of_value _ _ c.get_one-6.result c.get_one-6.ensures.none c.get_one-6.ensures.value ∙ set_is (codes "work"),
-        budget_is,
-        c.get_str-4.ensures ∙ text_is (codes "password"),
-      );
+      method = c.get_str.ensures ∙ text_is (codes "method");
+      salt = c.get_str-2.ensures ∙ text_is (codes "salt");
+      salt_word = c.get_str-3.ensures ∙ text_is (codes "salt-word");
+      cost = cost_is;
+      stdin = c.unwrap_or-2.ensures ∙ flag_of_value _ _ c.get_one-2.result c.get_one-2.ensures.none c.get_one-2.ensures.value ∙ set_is (codes "stdin");
+      batch = c.unwrap_or-3.ensures ∙ flag_of_value _ _ c.get_one-3.result c.get_one-3.ensures.none c.get_one-3.ensures.value ∙ set_is (codes "batch");
+      check = c.unwrap_or-4.ensures ∙ flag_of_value _ _ c.get_one-4.result c.get_one-4.ensures.none c.get_one-4.ensures.value ∙ set_is (codes "check");
+      rehash = c.unwrap_or-5.ensures ∙ flag_of_value _ _ c.get_one-5.result c.get_one-5.ensures.none c.get_one-5.ensures.value ∙ set_is (codes "rehash");
+      work = c.unwrap_or-6.ensures ∙ flag_of_value _ _ c.get_one-6.result c.get_one-6.ensures.none c.get_one-6.ensures.value ∙ set_is (codes "work");
+      budget = budget_is;
+      password = c.get_str-4.ensures ∙ text_is (codes "password");
     }

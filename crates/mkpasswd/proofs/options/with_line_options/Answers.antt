@@ -1,9 +1,10 @@
-use Rattle.std.proofs.Common.{Option, Some, codes, false, ap, ap₂, refl, ◌≡◌, ◌∙◌}
+use Rattle.std.proofs.Common.{Option, Some, None, codes, false, ap, ap₂, refl, ◌≡◌, ◌∙◌}
 use Rattle.std.proofs.lemmas.Result.{IfOk-weaker}
 use Rattle.clap.specs.Simple.{with_rule}
 use Rattle.clap.specs.Walk.{Rule, Text, rule_of}
 use Rattle.clap.specs.declared.builder.value_parser.ValueParser.{ValueParser}
-use Rattle.mkpasswd.specs.Options.{batch_rule, budget_rule, check_rule, rehash_rule, value_rule, work_rule}
+use Rattle.mkpasswd.specs.Options.{flag_rule, value_rule}
+use Rattle.mkpasswd.specs.Private.Options.{budget_rule}
 use Rattle.mkpasswd.proofs.options.with_line_options.Goals as goal
 
 abbrev with_long : Text → Rule → Rule
@@ -14,13 +15,13 @@ with_parser_of rule parser = record rule { parser = parser }
 
 pub returns : goal.returns
 returns c =
-    let batch_is : rule_of c.help-batch.result ≡ batch_rule = rw c.help-batch.ensures c.flag.ensures.rule in
+    let batch_is : rule_of c.help-batch.result ≡ flag_rule (codes "batch") None = rw c.help-batch.ensures c.flag.ensures.rule in
     let batch_local : c.help-batch.result.global ≡ false = rw c.help-batch.ensures c.flag.ensures.local in
-    let check_is : rule_of c.help-check.result ≡ check_rule = rw c.help-check.ensures c.flag-2.ensures.rule in
+    let check_is : rule_of c.help-check.result ≡ flag_rule (codes "check") None = rw c.help-check.ensures c.flag-2.ensures.rule in
     let check_local : c.help-check.result.global ≡ false = rw c.help-check.ensures c.flag-2.ensures.local in
-    let rehash_is : rule_of c.help-rehash.result ≡ rehash_rule = rw c.help-rehash.ensures c.flag-3.ensures.rule in
+    let rehash_is : rule_of c.help-rehash.result ≡ flag_rule (codes "rehash") None = rw c.help-rehash.ensures c.flag-3.ensures.rule in
     let rehash_local : c.help-rehash.result.global ≡ false = rw c.help-rehash.ensures c.flag-3.ensures.local in
-    let work_is : rule_of c.help-work.result ≡ work_rule = rw c.help-work.ensures c.flag-4.ensures.rule in
+    let work_is : rule_of c.help-work.result ≡ flag_rule (codes "work") None = rw c.help-work.ensures c.flag-4.ensures.rule in
     let work_local : c.help-work.result.global ≡ false = rw c.help-work.ensures c.flag-4.ensures.local in
     let given = c.value_parser-2.ensures.given in
     let parser_is = given.1 ∙ ap (λ (p : ValueParser). Some p) (given.2 ∙ c.value_parser.ensures) in
