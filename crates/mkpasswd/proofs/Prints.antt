@@ -81,7 +81,7 @@ module _ (name salt password : Text) (method : Method) (named : method_named nam
   prints_hash words old new are (inl (One job (Word typed), (values, gives, (own, word own_word, has, is_job, from)), done)) =
       let same : word own_word ≡ word password = one_mode words values own (word own_word) are gives has in
       let typed_is : typed.items ≡ password = from ∙ ap text_of same in
-      rw (prints_job words values own (word own_word) job typed.items old.stream are gives has is_job typed_is) at done.2.run.2.text.shown
+      rw (prints_job words values own (word own_word) job typed.items old.stream are gives has is_job typed_is, append-nil) at done.2.run.1.text.shown
   prints_hash words old new are (inl (One job (Word typed), (values, gives, (own, input, has, is_job, from)), done)) = absurd from
   prints_hash words old new are (inl (One job (Word typed), (values, gives, (own, lines kind, has, is_job, from)), done)) = absurd from
   prints_hash words old new are (inl (One job Input, (values, gives, (own, word own_word, has, is_job, from)), done)) = absurd from
