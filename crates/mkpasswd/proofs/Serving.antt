@@ -1,5 +1,5 @@
 -- The command: from what its steps leave to what it leaves.
-use Rattle.std.proofs.Common.{◌≡◌, ◌≢◌, ◌⊎◌, ℕ, List, length, Bool, Result, Ok, Err, ap, refl, inl, inr}
+use Rattle.std.proofs.Common.{◌≡◌, ◌≢◌, ◌⊎◌, ℕ, List, [], length, Bool, Result, Ok, Err, ap, refl, inl, inr}
 use Rattle.clap.specs.Words.{Text}
 use Rattle.clap.specs.declared.error.kind.ErrorKind.{ErrorKind}
 use Rattle.clap.specs.declared.error.kind.ErrorKind.TheVariants as kind
@@ -13,7 +13,8 @@ use Rattle.mkpasswd.specs.Faults.{fault_status, parse_status}
 use Rattle.mkpasswd.specs.Options.{Plans}
 use Rattle.run_core.specs.Output.{Shows}
 use Rattle.run_core.specs.Runs.{RunState}
-use Rattle.run_core.specs.Tallies.{no_line, tally_status}
+use Rattle.run_core.specs.Answers.{tally_of}
+use Rattle.run_core.specs.Tallies.{tally_status}
 use Rattle.mkpasswd.specs.declared.fault.Fault.{Fault}
 use Rattle.mkpasswd.specs.declared.fault.Fault.TheVariants.{Start, Usage, Run}
 use Rattle.run_core.specs.declared.fault.RunFault.{RunFault}
@@ -125,7 +126,7 @@ module _ {I O E : Type 0} where
     rw by (
       text,
       with_outs old out old.faults,
-      Ok no_line,
+      Ok (tally_of []),
       (shows, refl, refl),
       (ap (λ (f : Device E). with_outs old out f) same, status_is),
     ),

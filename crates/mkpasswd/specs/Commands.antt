@@ -1,17 +1,18 @@
 -- The whole command: from the words and the devices to the exit status.
-use Rattle.std.specs.Prelude.{◌≡◌, ℕ, ◌&&◌, zero, suc, Bool, true, false, not, List, [], ◌++◌, length, Option, MatchBool, Result, Ok, Err, IfOk}
+use Rattle.std.specs.Prelude.{◌≡◌, ℕ, ◌&&◌, zero, suc, Bool, true, false, not, List, [], ◌++◌, length, codes, Option, MatchBool, Result, Ok, Err, IfOk}
 use Rattle.std.specs.Option.{option_map_or}
 use Rattle.clap.specs.Words.{Text, kind_of}
 use Rattle.rand_core.specs.Stream.{Stream}
 use Rattle.mkpasswd.specs.Faults.{fault_status, fault_text, parse_status}
+use Rattle.run_core.specs.Answers.{tally_of}
 use Rattle.run_core.specs.LineRuns.{EndsLines}
 use Rattle.run_core.specs.Methods.{methods_text}
 use Rattle.run_core.specs.One.{EndsOne}
 use Rattle.mkpasswd.specs.Options.{Plans}
 use Rattle.run_core.specs.Output.{Shows}
 use Rattle.run_core.specs.Runs.{RunState, IsWithinTurns}
-use Rattle.run_core.specs.Tallies.{no_line, tally_status}
-use Rattle.run_core.specs.Texts.{as_line, program_front}
+use Rattle.run_core.specs.Tallies.{tally_status}
+use Rattle.run_core.specs.Texts.{as_line}
 use Rattle.mkpasswd.specs.declared.fault.Fault.{Fault}
 use Rattle.mkpasswd.specs.declared.fault.Fault.TheVariants.{Start, Usage, Run}
 use Rattle.run_core.specs.declared.fault.RunFault.{RunFault}
@@ -36,13 +37,13 @@ module _ {I O E : Type 0} where
   -- written. Only the output changes.
   abbrev pub Prints : ℕ → List ℕ → RunState I O E → RunState I O E → Result Tally RunFault → Type 0
   Prints turns text old new result =
-      Shows turns old.out new.out text result × (new ≡ record old { out = new.out }) × IfOk result (λ tally. tally ≡ no_line)
+      Shows turns old.out new.out text result × (new ≡ record old { out = new.out }) × IfOk result (λ tally. tally ≡ tally_of [])
 
   -- The line of a fault is written to the fault output, in at most as many calls as it has bytes; if that fails, a first part
   -- of it is. Only the fault output changes, and the status is that of the fault.
   abbrev pub Tells : Fault → RunState I O E → RunState I O E → ℕ → Type 0
   Tells fault old new status =
-      let line = as_line (program_front ++ fault_text fault) in
+      let line = as_line (codes "mkpasswd: " ++ fault_text fault) in
       (result : Result Tally RunFault) × Shows (length line) old.faults new.faults line result
       × (new ≡ record old { faults = new.faults }) × (status ≡ fault_status fault)
 

@@ -1,11 +1,11 @@
 -- What the steps of the command leave in its devices.
-use Rattle.std.specs.Prelude.{◌≡◌, ℕ, ◌&&◌, Bool, true, false, not, List, Result, Ok, Err}
+use Rattle.std.specs.Prelude.{◌≡◌, ℕ, ◌&&◌, Bool, true, false, not, List, [], Result, Ok, Err}
 use Rattle.clap.specs.Words.{kind_of}
 use Rattle.clap.specs.declared.error.Error.{Error}
 use Rattle.run_core.specs.Devices.{Device}
 use Rattle.run_core.specs.Output.{Shows}
 use Rattle.run_core.specs.Runs.{RunState}
-use Rattle.run_core.specs.Tallies.{no_line}
+use Rattle.run_core.specs.Answers.{tally_of}
 use Rattle.run_core.specs.declared.fault.RunFault.{RunFault}
 use Rattle.run_core.specs.declared.tally.Tally.{Tally}
 use Rattle.mkpasswd.specs.Commands.{Ends, wants_generator}
@@ -37,7 +37,7 @@ pub data ErrorShown {O E : Type 0} (error : Error) (turns : ℕ) (out : Device O
       → Shows turns faults new_faults text result → new_out ≡ out → status ≡ 2
       → ErrorShown error turns out faults new_out new_faults status
   help : (text : List ℕ) → parse_status (kind_of error) ≡ 0
-      → Shows turns out new_out text (Ok no_line) → new_faults ≡ faults → status ≡ 0
+      → Shows turns out new_out text (Ok (tally_of [])) → new_faults ≡ faults → status ≡ 0
       → ErrorShown error turns out faults new_out new_faults status
   front : (text : List ℕ) → (fault : RunFault) → parse_status (kind_of error) ≡ 0
       → Shows {A = Tally} turns out new_out text (Err fault) → IsTold (Run fault) faults new_faults → status ≡ fault_status (Run fault)

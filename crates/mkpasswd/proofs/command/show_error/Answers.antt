@@ -1,4 +1,4 @@
-use Rattle.std.proofs.Common.{◌≢◌, ◌∙◌, true≢false, refl, sym}
+use Rattle.std.proofs.Common.{◌≢◌, ◌∙◌, true≢false, Ok, Err, refl, sym}
 use Rattle.clap.specs.Words.{kind_of}
 use Rattle.clap.specs.declared.error.kind.ErrorKind.TheVariants as kind
 use Rattle.mkpasswd.specs.Private.Commands.{front, help, mistake}
@@ -15,11 +15,11 @@ pub returns-in-Ok-show : goal.returns-in-Ok-show
 returns-in-Ok-show g c =
     let asked : ¬ ((kind_of c.args.error.now ≢ kind.DisplayHelp) × (kind_of c.args.error.now ≢ kind.DisplayVersion)) = λ both. true≢false (sym (c.use_stderr.ensures.1 both) ∙ c.if-use_stderr.false) in
     help c.as_bytes-2.result.now (status_of_help _ asked)
-    (shows-tally c.args.turns c.args.out.now c.show-2.new.out c.as_bytes-2.result.now _ c.in-Ok-show.ensures) refl refl
+    (shows-tally {A = Unit {0}} c.args.turns c.args.out.now c.show-2.new.out c.as_bytes-2.result.now (Ok tt) c.in-Ok-show.ensures) refl refl
 
 pub returns : goal.returns
 returns g c =
     let asked : ¬ ((kind_of c.args.error.now ≢ kind.DisplayHelp) × (kind_of c.args.error.now ≢ kind.DisplayVersion)) = λ both. true≢false (sym (c.use_stderr.ensures.1 both) ∙ c.if-use_stderr.false) in
     front c.as_bytes-2.result.now c.in-Err.fault (status_of_help _ asked)
-    (shows-tally c.args.turns c.args.out.now c.show-2.new.out c.as_bytes-2.result.now _ c.in-Err.ensures)
+    (shows-tally {A = Unit {0}} c.args.turns c.args.out.now c.show-2.new.out c.as_bytes-2.result.now (Err c.in-Err.fault) c.in-Err.ensures)
     c.report_fault-in-Err.ensures.told c.report_fault-in-Err.ensures.status
