@@ -11,7 +11,7 @@ use Suite;
 my ($readme_sentence, $sentence, $paragraph) = (40, 45, 120);
 
 # These are not as short yet. A document that is goes from here, so the list only gets shorter.
-my %later = map { $_ => 1 } 'CONTRIBUTING.md', map { "docs/$_.md" } qw(ARCHITECTURE DECISIONS FORMATS PROOFS);
+my %later = map { $_ => 1 } map { "docs/$_.md" } qw(ARCHITECTURE DECISIONS FORMATS);
 
 # The pieces of a document: paragraphs, items of lists, quotes and cells of tables, each in one line.
 sub pieces_of {
