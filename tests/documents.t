@@ -7,8 +7,14 @@ use FindBin qw($Bin);
 use lib "$Bin/lib";
 use Suite;
 
-# The most words of a guarantee.
+# The most words of a guarantee, and the most files of changes that were longer once.
 my $guarantee = 25;
+my %most = ('an option' => 47, 'a scheme' => 58, 'a limit' => 21);
+
+# The files that docs/ARCHITECTURE.md leaves out of every list, and those that it leaves out but for a call for C.
+my $made = qr{^(?:CHANGELOG\.md|docs/(?:ARCHITECTURE|MUTANTS|SPECIFICATION)\.md|tools/specification\.md)$};
+my $on_top = qr{^(?:c|crates/crypt_c|debian|dist|include|python|tests/c|tests/python)/
+    |^(?:docs/PYTHON\.md|libmkpasswd\.map|man/.*\.3|tests/(?:calls|deb|python)\.t|tools/bench-python)$}x;
 
 my @crates = slurp("$root/crates.txt") =~ /^(\w+)/mg;
 
@@ -114,5 +120,36 @@ while ($text =~ /`([\w:]+)` \(((?:`\w+`(?:, )?)+)\)/g) {
     }
 }
 none(\@wrong, 'PROOFS.md: the clauses of the headline');
+
+# ---- docs/ARCHITECTURE.md
+
+# All files but what git and builds keep. In a copy of the tree crates/ may be a link.
+my @skipped = map { ('-name', $_, '-prune', '-o') } qw(.git out build __pycache__ .*_cache *.egg-info);
+my @files = map { s{^\./}{}r } split /\n/, run({ dir => $root }, 'find', '-L', '.', @skipped, '-type', 'f', '-print')->{out};
+my %content = map { ($_ => slurp("$root/$_")) } sort grep { !/$made/ && -T "$root/$_" } @files;
+
+# The files as they are listed: an item for each folder, or crate.
+sub listed {
+    my %names;
+    for (@_) {
+        my ($folder, $name) = m{^((?:crates/)?[^/]+/)?(.*)};
+        push @{ $names{ $folder ? "`$folder`: " : '' } }, "`$name`";
+    }
+    return map { "- $_" . join ', ', @{ $names{$_} } } sort keys %names;
+}
+
+my ($changes) = slurp("$root/docs/ARCHITECTURE.md") =~ /^## One change, and its files\n(.*?)(?=^## )/ms;
+my (undef, @changes) = split /^### /m, $changes;
+my @kinds;
+for (@changes) {
+    my ($kind, $pattern) = /^(An? [\w ]+).*\n\n\d+ files have `([^`]+)`:\n/ or next;
+    my @found = grep { $content{$_} =~ $pattern && ($kind eq 'A call for C' || !/$on_top/) } sort keys %content;
+    push @kinds, lc $kind;
+    my ($list) = /(^\d.*)/ms;
+    my $wanted = @found . " files have `$pattern`:\n\n" . join '', map { "$_\n" } listed(@found);
+    is($list =~ s/\n+\z//r, $wanted =~ s/\n+\z//r, "ARCHITECTURE.md: the files of $kinds[-1]");
+    cmp_ok(scalar @found, '<=', $most{$kinds[-1]}, "ARCHITECTURE.md: no more files of $kinds[-1]") if $most{$kinds[-1]};
+}
+is(join(', ', @kinds), 'a scheme, an option, a refusal, a limit, a default, a call for c, a shown count', 'ARCHITECTURE.md: the usual changes');
 
 done_testing;
