@@ -64,7 +64,7 @@ module _ (name salt password : Text) (method : Method) (named : method_named nam
   prints_hash words old new are (inl (One job (Word typed), (taken, (other, unbroken, (is_job, is))), done)) =
       let found = finds words are in
       let same : Some typed.items ≡ Some password = sym is ∙ found.word in
-      rw (prints_job (matches_of command words) job typed.items old.stream found is_job cc) at done.2.run.2.text.shown
+      rw (prints_job (matches_of command words) job typed.items old.stream found is_job cc, append-nil) at done.2.run.1.text.shown
   prints_hash words old new are (inl (One job Input, (taken, (other, unbroken, (is_job, inl is))), done)) =
       absurd (not_set (finds words are).stdin is)
   prints_hash words old new are (inl (One job Input, (taken, (other, unbroken, (is_job, inr none))), done)) =

@@ -1,14 +1,16 @@
 -- Status 0: all that the words ask for was done, and told nowhere else.
-use Rattle.std.proofs.Common.{◌≡◌, ℕ, Bool, true, false, List, [], Option, Some, None, Ok, Err, refl, zero, suc, inl, inr, sym, ◌∙◌, arith}
+use Rattle.std.proofs.Common.{◌≡◌, ℕ, Bool, true, false, List, [], Option, Some, None, Ok, Err, refl, zero, suc, inl, inr, subst, sym, ◌∙◌, arith}
 use Rattle.std.specs.Io.KnownBytes.{Consumes}
 use Rattle.clap.specs.Words.{Text, kind_of}
 use Rattle.clap.specs.declared.error.Error.{Error}
-use Rattle.run_core.specs.Answers.{Answer}
+use Rattle.std.specs.Io.KnownBytes.{IsAtEnd}
+use Rattle.run_core.specs.Answers.{Answer, tally_of}
 use Rattle.mkpasswd.specs.Commands.{Ends, InOutputs, IsDone, IsWhole, RunsPlan, Serves, ShowsError, Succeeds, SucceedsByLines, lacks_generator}
 use Rattle.run_core.specs.Devices.{Device}
 use Rattle.mkpasswd.specs.Faults.{parse_status, run_status}
 use Rattle.run_core.specs.Input.{Reads}
-use Rattle.run_core.specs.LineRuns.{EndsWhole}
+use Rattle.run_core.specs.LineAnswers.{AreAnswers}
+use Rattle.run_core.specs.LineRuns.{lines_of}
 use Rattle.mkpasswd.specs.Options.{Plans}
 use Rattle.run_core.specs.Runs.{Finishes, RunState}
 use Rattle.run_core.specs.Tallies.{tally_status}
@@ -42,29 +44,38 @@ reads_nothing input = record { shown = consumes_nothing input.shown; counted = o
 module _ {I O E : Type 0} where
   -- ---- a plan whose run has a tally of status 0
 
-  succeeds : (answer : Answer) (read : List ℕ) (old new : RunState I O E) (tally : Tally) → tally_status tally ≡ 0
-      → Reads old.input new.input read → Finishes answer old new (Ok tally)
-      → Succeeds read answer old new
-  succeeds answer read old new tally well input (is, fails, flushes, after) = record {
+  succeeds : (answers : List Answer) (read : List ℕ) (old new : RunState I O E) (tally : Tally) → tally_status tally ≡ 0
+      → Reads old.input new.input read → Finishes answers old new (Ok tally)
+      → Succeeds read answers old new
+  succeeds answers read old new tally well input (is, takes, after) = record {
     input = input;
-    run = (refl, fails, flushes, after);
+    run = (refl, takes, after);
     status = rw is at well;
   }
 
   by_lines : (kind : Kind) (job : Job) (bytes : List ℕ) (old new : RunState I O E) (tally : Tally) → tally_status tally ≡ 0
-      → Reads old.input new.input bytes → EndsWhole kind job bytes old new (Ok tally)
+      → Reads old.input new.input bytes
+      → (answers : List Answer) × (IsAtEnd new.input.shown × AreAnswers kind job 1 (lines_of bytes) old.stream answers)
+      × Finishes answers old new (Ok tally)
       → SucceedsByLines kind job old new
-  by_lines kind job bytes old new tally well reads (answers, read_out, are, finishes) =
+  by_lines kind job bytes old new tally well reads (answers, (read_out, are), finishes) =
       (bytes, answers, read_out, are, succeeds answers bytes old new tally well reads finishes)
 
   is_done : (turns : ℕ) (plan : Plan) (old new : RunState I O E) (tally : Tally) → tally_status tally ≡ 0
       → Ends turns plan old new (Ok tally) → IsDone plan old new
   is_done turns Methods old new tally well (shows, same, is) =
-      record { others = same; gives = shows.gives; unfailed = shows.outcome }
-  is_done turns (One job (Word password)) old new tally well ((same, (is_password, finishes)), within) =
-      (is_password, same, succeeds _ [] old new tally well (rw same (reads_nothing old.input)) finishes)
-  is_done turns (One job Input) old new tally well ((bytes, reads, (decided, (is_password, finishes))), within) =
-      (bytes, decided, is_password, succeeds _ bytes old new tally well reads finishes)
+      record { others = same; gives = shows.0 }
+  is_done turns (One job (Word password)) old new tally well ((same, (answers, (known, is_password, are), finishes)), within) = (
+    is_password,
+    same,
+    succeeds _ [] old new tally well (rw same (reads_nothing old.input)) (subst (λ (a : List Answer). Finishes a old new (Ok tally)) are finishes),
+  )
+  is_done turns (One job Input) old new tally well ((bytes, reads, (answers, (decided, is_password, are), finishes)), within) = (
+    bytes,
+    decided,
+    is_password,
+    succeeds _ bytes old new tally well reads (subst (λ (a : List Answer). Finishes a old new (Ok tally)) are finishes),
+  )
   is_done turns (Batch job) old new tally well ((bytes, reads, ends), within) = by_lines kinds.Batch job bytes old new tally well reads ends
   is_done turns (Check job) old new tally well ((bytes, reads, ends), within) = by_lines kinds.Check job bytes old new tally well reads ends
 
@@ -82,7 +93,7 @@ module _ {I O E : Type 0} where
       → Plans words (Err (Parse error)) → parse_status (kind_of error) ≡ kept
       → InOutputs (ShowsError kept turns) old new status → IsWhole words old new
   of_error zero turns words error old new status well planned by (rest, (text, mid, Ok tally, shows, is_none, (out_same, faults_same, is))) =
-      inr (error, planned, by, text, rw (rest, out_same, faults_same) (record { others = refl; gives = shows.gives; unfailed = shows.outcome }))
+      inr (error, planned, by, text, rw (rest, out_same, faults_same) (record { others = refl; gives = shows.0 }))
   of_error zero turns words error old new status well planned by (rest, (text, mid, Err fault, shows, is_none, (is_told, same, is))) =
       absurd (fault_of_run fault (sym is ∙ well))
   of_error (suc n) turns words error old new status well planned by (rest, (text, result, shows, same, is)) =

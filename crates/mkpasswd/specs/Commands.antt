@@ -1,6 +1,6 @@
 -- The whole command: from the words and the devices to the exit status.
 use Rattle.std.specs.Prelude.{◌≡◌, ℕ, ◌⊎◌, ◌&&◌, zero, suc, Bool, true, false, not, List, [], ◌∷◌, ◌++◌, length, codes, Option, Some, None, Result, Ok, Err, IfOk}
-use Rattle.std.specs.Io.KnownBytes.{Appends}
+use Rattle.std.specs.Io.KnownBytes.{Appends, IsAtEnd}
 use Rattle.clap.specs.Words.{Text, kind_of}
 use Rattle.clap.specs.declared.error.Error.{Error}
 use Rattle.rand_core.specs.Stream.{Stream}
@@ -9,18 +9,19 @@ use Rattle.crypt_core.specs.MadeSettings.{made_setting}
 use Rattle.crypt_core.specs.Passwords.{IsPassword}
 use Rattle.crypt_core.specs.Settings.{BeginsWith}
 use Rattle.crypt_core.specs.declared.method.Method.{Method}
-use Rattle.run_core.specs.Answers.{Answer, password_answer}
-use Rattle.run_core.specs.Devices.{Device, IsUnfailed}
+use Rattle.run_core.specs.Answers.{Answer, password_answer, tally_of}
+use Rattle.run_core.specs.Devices.{Device}
 use Rattle.mkpasswd.specs.Faults.{fault_status, fault_text, parse_status}
 use Rattle.run_core.specs.Input.{IsDecided, Reads, first_line}
-use Rattle.run_core.specs.LineRuns.{AreAnswers, EndsLines, IsReadOut, lines_of}
+use Rattle.run_core.specs.LineAnswers.{AreAnswers}
+use Rattle.run_core.specs.LineRuns.{EndsLines, lines_of}
 use Rattle.run_core.specs.Methods.{methods_text}
 use Rattle.run_core.specs.One.{EndsOne}
 use Rattle.mkpasswd.specs.Options.{Plans}
-use Rattle.run_core.specs.Output.{Shows, TakesAndFlushes}
+use Rattle.run_core.specs.Output.{Shows, Takes}
 use Rattle.run_core.specs.Runs.{Finishes, RunState, IsWithinTurns}
-use Rattle.run_core.specs.Tallies.{no_line, tally_status}
-use Rattle.run_core.specs.Texts.{as_line, program_front}
+use Rattle.run_core.specs.Tallies.{tally_status}
+use Rattle.run_core.specs.Texts.{as_line}
 use Rattle.mkpasswd.specs.declared.fault.Fault.{Fault}
 use Rattle.mkpasswd.specs.declared.fault.Fault.TheVariants.{Start, Usage, Run}
 use Rattle.run_core.specs.declared.fault.RunFault.{RunFault}
@@ -59,7 +60,7 @@ stream_in stream (Some rng) = stream rng
 
 -- a fault's line
 abbrev pub fault_line : Fault → List ℕ
-fault_line fault = as_line (program_front ++ fault_text fault)
+fault_line fault = as_line (codes "mkpasswd: " ++ fault_text fault)
 
 -- It goes to the fault output, in no more calls than it has bytes; of a fault output that fails there is a first part of it.
 abbrev pub IsTold : {E : Type 0} → Fault → Device E → Device E → Type 0
@@ -82,7 +83,7 @@ module _ {O E : Type 0} where
   abbrev pub ShowsHelp : ℕ → Device O → Device E → Device O → Device E → ℕ → Type 0
   ShowsHelp turns out faults new_out new_faults status =
       (text : List ℕ) × (mid : Device O) × (result : Result Tally RunFault) × Shows turns out mid text result
-      × IfOk result (λ tally. tally ≡ no_line) × Concludes result mid faults new_out new_faults status
+      × IfOk result (λ tally. tally ≡ tally_of []) × Concludes result mid faults new_out new_faults status
 
   -- what is wrong with the words is some text for the fault output, as well as that takes it
   abbrev pub ShowsMistake : ℕ → Device O → Device E → Device O → Device E → ℕ → Type 0
@@ -107,7 +108,7 @@ module _ {I O E : Type 0} where
   abbrev pub Ends : ℕ → Plan → RunState I O E → RunState I O E → Result Tally RunFault → Type 0
   Ends turns Methods old new result =
       Shows turns old.out new.out methods_text result × (new ≡ record old { out = new.out })
-      × IfOk result (λ tally. tally ≡ no_line)
+      × IfOk result (λ tally. tally ≡ tally_of [])
   Ends turns (One job from) old new result = EndsOne turns job from old new result × IsWithinTurns turns old new
   Ends turns (Batch job) old new result =
       EndsLines turns kinds.Batch job old new result × IsWithinTurns turns old new
@@ -141,19 +142,18 @@ module _ {I O E : Type 0} where
   -- a text was given to the output, which was flushed; no call failed, and nothing else was done
   pub record GivesOnly (text : List ℕ) (old new : RunState I O E) : Type 0 where
     pub others : new ≡ record old { out = new.out }
-    pub gives : TakesAndFlushes old.out new.out text
-    pub unfailed : IsUnfailed old.out new.out
+    pub gives : Takes 0 1 old.out new.out text
 
-  -- these bytes were read, and a run has given this answer, in which no line is refused or answered `no`
-  pub record Succeeds (read : List ℕ) (answer : Answer) (old new : RunState I O E) : Type 0 where
+  -- these bytes were read, and a run has given these answers, none of which is refused or `no`
+  pub record Succeeds (read : List ℕ) (answers : List Answer) (old new : RunState I O E) : Type 0 where
     pub input : Reads old.input new.input read
-    pub run : Finishes answer old new (Ok answer.tally)
-    pub status : tally_status answer.tally ≡ 0
+    pub run : Finishes answers old new (Ok (tally_of answers))
+    pub status : tally_status (tally_of answers) ≡ 0
 
   -- the input was read to its end, and each of its lines answered
   abbrev pub SucceedsByLines : Kind → Job → RunState I O E → RunState I O E → Type 0
   SucceedsByLines kind job old new =
-      (bytes : List ℕ) × (answers : Answer) × IsReadOut new × AreAnswers kind job 1 (lines_of bytes) old.stream answers
+      (bytes : List ℕ) × (answers : List Answer) × IsAtEnd new.input.shown × AreAnswers kind job 1 (lines_of bytes) old.stream answers
       × Succeeds bytes answers old new
 
   -- all that a plan asks for was done; for a word the input is left alone, and for a password of the input what decides
@@ -162,10 +162,10 @@ module _ {I O E : Type 0} where
   IsDone Methods old new = GivesOnly methods_text old new
   IsDone (One job (Word password)) old new =
       IsPassword password.items × (new.input ≡ old.input)
-      × Succeeds [] (password_answer job password.items old.stream) old new
+      × Succeeds [] (password_answer job password.items old.stream ∷ []) old new
   IsDone (One job Input) old new =
       (bytes : List ℕ) × IsDecided new.input bytes × IsPassword (first_line bytes)
-      × Succeeds bytes (password_answer job (first_line bytes) old.stream) old new
+      × Succeeds bytes (password_answer job (first_line bytes) old.stream ∷ []) old new
   IsDone (Batch job) old new = SucceedsByLines kinds.Batch job old new
   IsDone (Check job) old new = SucceedsByLines kinds.Check job old new
 

@@ -15,7 +15,6 @@ pub use Rattle.run_core.specs.Lines
 pub use Rattle.run_core.specs.Makers
 pub use Rattle.run_core.specs.Methods
 pub use Rattle.run_core.specs.One
-pub use Rattle.run_core.specs.Outcomes
 pub use Rattle.run_core.specs.Output
 pub use Rattle.run_core.specs.Runs
 pub use Rattle.run_core.specs.Tallies

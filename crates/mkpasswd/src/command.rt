@@ -1,11 +1,12 @@
 //! The whole command: the words are planned, the plan is run, and what went wrong is told.
-ghost use Rattle.std.specs.Prelude.{◌≡◌, ℕ, ◌<◌, ◌≤◌, List, Some, is_some, map, string_bytes};
+ghost use Rattle.std.specs.Prelude.{◌≡◌, ℕ, ◌^◌, ◌<◌, ◌≤◌, List, Some, is_some, map, string_bytes};
 ghost use Rattle.crypt_core.specs.Methods.{method_named};
 ghost use Rattle.crypt_core.specs.declared.method.Method.{Method};
 ghost use Rattle.mkpasswd.specs.Commands.{ErrorShown, IsNoOption, IsTold, IsWhole, PrintsHash, RefusalShown, RunsOrLacks, Serves, fault_line, hash_words, stream_in};
-ghost use Rattle.run_core.specs.Devices.{HasRoomWithinRun, HaveRoomBeforeRun, turns_limit};
+ghost use Rattle.run_core.specs.Devices.{HasRoomBeforeRun, HasRoomWithinRun, turns_limit};
 ghost use Rattle.mkpasswd.specs.Faults.{fault_status};
-ghost use Rattle.run_core.specs.Runs.{HasCountsForRun, run_state};
+ghost use Rattle.prims_core.specs.Work.{IsAtMost};
+ghost use Rattle.run_core.specs.Runs.{run_state};
 
 use crate::fault::{Fault, UsageFault};
 use crate::job::Plan;
@@ -53,8 +54,8 @@ pub fn run_command<I: Read, O: Write, E: Write, R: Rng>(
     turns: u64,
 ) -> u8
     requires turns { turns ≤ turns_limit }
-    requires devices { HaveRoomBeforeRun input.old out.old faults.old }
-    requires counts { HasCountsForRun meter.old }
+    requires devices { HasRoomBeforeRun input.old × HasRoomBeforeRun out.old × HasRoomBeforeRun faults.old }
+    requires counts { IsAtMost meter.old (2 ^ 100) }
     ensures serves { Serves turns (is_some generator.old) (map string_bytes words.now)
         (run_state input.old out.old faults.old (stream_in R.stream generator.old) meter.old)
         (run_state input.new out.new faults.new (stream_in R.stream generator.new) meter.new) result }
@@ -91,8 +92,8 @@ fn run_plan<I: Read, O: Write, E: Write, R: Rng>(
     turns: u64,
 ) -> Result<Tally, Fault>
     requires turns { turns ≤ turns_limit }
-    requires devices { HaveRoomBeforeRun input.old out.old faults.old }
-    requires counts { HasCountsForRun meter.old }
+    requires devices { HasRoomBeforeRun input.old × HasRoomBeforeRun out.old × HasRoomBeforeRun faults.old }
+    requires counts { IsAtMost meter.old (2 ^ 100) }
     ensures runs { RunsOrLacks turns (is_some generator.old) plan.now
         (run_state input.old out.old faults.old (stream_in R.stream generator.old) meter.old)
         (run_state input.new out.new faults.new (stream_in R.stream generator.new) meter.new) result }

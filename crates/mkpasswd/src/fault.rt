@@ -36,12 +36,13 @@ pub enum UsageFault {
 }
 
 impl UsageFault {
-    ghost use Rattle.mkpasswd.specs.Faults.{usage_status, usage_text};
+    ghost use Rattle.mkpasswd.specs.Faults.{fault_status, fault_text};
+    ghost use Rattle.mkpasswd.specs.declared.fault.Fault.TheVariants.{Usage};
 
     /// The exit status: 0 after help or the version, 2 after a mistake in the words, and 3 where
     /// memory ran out.
     pub fn status(&self) -> u8
-        ensures { result ≡ usage_status self.now }
+        ensures { result ≡ fault_status (Usage self.now) }
     {
         match self {
             UsageFault::Parse(error) => if error.use_stderr() { 2 } else { 0 },
@@ -55,7 +56,7 @@ impl UsageFault {
 
     /// What is wrong, in words for the user. It is empty after `Parse`, where `clap` has the text.
     pub fn text(&self) -> &'static str
-        ensures { result.now ≡ usage_text self.now }
+        ensures { result.now ≡ fault_text (Usage self.now) }
     {
         match self {
             UsageFault::Parse(_) => "",

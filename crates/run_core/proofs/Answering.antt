@@ -1,53 +1,23 @@
--- The texts of outcomes, how far an answer raises the counts, and the room that it leaves.
-use Rattle.std.proofs.Common.{◌≡◌, ◌≢◌, Bool, ℕ, ◌+◌, ◌≤◌, List, [], Option, Result, Ok, Err, refl, arith}
+-- How far an answer raises the counts, and the room that it leaves.
+use Rattle.std.proofs.Common.{◌≡◌, Bool, true, false, ℕ, ◌+◌, ◌≤◌, Option, Result, Ok, Err, arith}
 use Rattle.prims_core.specs.declared.meter.Work.{Work}
-use Rattle.run_core.specs.Answers.{Answer, after_work}
-use Rattle.run_core.specs.Devices.{Device, IsUnfailed, IsUnflushed, calls_limit}
-use Rattle.run_core.specs.LineAnswers.{fault_output_text, outcome_text, output_text}
-use Rattle.run_core.specs.Outcomes.{tally_of}
-use Rattle.run_core.specs.Private.Answers.{IsRaisedBelow}
-use Rattle.run_core.specs.Private.Deliveries.{Sends}
+use Rattle.run_core.specs.Answers.{Answer, after_work, is_misfit, is_refusal, stream_left}
+use Rattle.run_core.specs.DeviceCalls.{IsUnflushed, as_count}
+use Rattle.run_core.specs.Devices.{Device}
+use Rattle.run_core.specs.Private.Answers.{IsRaisedBelow, counted}
+use Rattle.run_core.specs.Private.Deliveries.{IsUnfailed, Sends}
 use Rattle.run_core.specs.Private.LineProgress.{AnswersOne, HasRoomIn, OutputState}
-use Rattle.run_core.specs.Private.Headroom.{HasCountsFor, HasRoomFor, answer_limit, line_work_limit}
-use Rattle.run_core.specs.Tallies.{both_tallies}
+use Rattle.run_core.specs.Private.Headroom.{HasCountsFor, HasRoomFor, answer_limit, calls_limit, line_work_limit}
 use Rattle.run_core.specs.declared.answer.Outcome.{Outcome}
-use Rattle.run_core.specs.declared.answer.Outcome.TheVariants.{Hashed, Match, Rehashed, Mismatch, NoHash, Locked, Refused}
 use Rattle.run_core.specs.declared.fault.RunFault.{RunFault}
 use Rattle.run_core.specs.declared.fault.RunFault.TheVariants.{Read, Write, OutOfMemory, Turns, Password}
-use Rattle.run_core.specs.declared.line.LineFault.{LineFault}
 use Rattle.run_core.specs.declared.tally.Tally.{Tally}
 
 -- ---- one more line
 
--- every outcome is of one line
-pub record IsOfOneLine (tally : Tally) : Type 0 where
-  pub lines : tally.lines ≡ 1
-  pub refused : tally.refused ≤ 1
-  pub misfits : tally.misfits ≤ 1
-
-pub one_line-of : (outcome : Outcome) → IsOfOneLine (tally_of outcome)
-one_line-of (Hashed hash) = record { lines = refl; refused = omega arith; misfits = omega arith }
-one_line-of Match = record { lines = refl; refused = omega arith; misfits = omega arith }
-one_line-of (Rehashed hash) = record { lines = refl; refused = omega arith; misfits = omega arith }
-one_line-of Mismatch = record { lines = refl; refused = omega arith; misfits = omega arith }
-one_line-of NoHash = record { lines = refl; refused = omega arith; misfits = omega arith }
-one_line-of Locked = record { lines = refl; refused = omega arith; misfits = omega arith }
-one_line-of (Refused fault) = record { lines = refl; refused = omega arith; misfits = omega arith }
-
--- the texts of an outcome that is no refusal
-pub record IsPrinted (wanted : Bool) (number : ℕ) (name : List ℕ) (outcome : Outcome) (work : Work) : Type 0 where
-  pub text : output_text wanted name outcome work ≡ outcome_text wanted name outcome work
-  pub fault_text : fault_output_text number outcome ≡ []
-
-pub is_printed : (wanted : Bool) (number : ℕ) (name : List ℕ) (outcome : Outcome) (work : Work) → ((fault : LineFault) → outcome ≢ Refused fault)
-    → IsPrinted wanted number name outcome work
-is_printed wanted number name (Hashed hash) work other = record { text = refl; fault_text = refl }
-is_printed wanted number name Match work other = record { text = refl; fault_text = refl }
-is_printed wanted number name (Rehashed hash) work other = record { text = refl; fault_text = refl }
-is_printed wanted number name Mismatch work other = record { text = refl; fault_text = refl }
-is_printed wanted number name NoHash work other = record { text = refl; fault_text = refl }
-is_printed wanted number name Locked work other = record { text = refl; fault_text = refl }
-is_printed wanted number name (Refused fault) work other = absurd (other fault refl)
+at_most_one : (seen : Bool) → as_count seen ≤ 1
+at_most_one true = omega arith
+at_most_one false = omega arith
 
 one_more-device : {T : Type 0} (lines : ℕ) (old new : Device T) → HasRoomFor lines old → IsUnfailed old new → IsUnflushed old new → new.calls ≤ calls_limit
     → new.bytes ≤ old.bytes + answer_limit → HasRoomFor (lines + 1) new
@@ -74,26 +44,24 @@ module _ {O E : Type 0} where
       → old.out.calls + old.faults.calls + left ≤ calls_limit
       → new.out.calls + new.faults.calls + new_left ≡ old.out.calls + old.faults.calls + left
       → new.out.bytes ≤ old.out.bytes + answer_limit → new.faults.bytes ≤ old.faults.bytes + answer_limit
-      → HasRoomIn (both_tallies tally (tally_of outcome)) new
+      → HasRoomIn (counted tally outcome) new
   room-after tally outcome old new left new_left room small unfailed unflushed calls turns bytes fault_bytes =
-      let one = one_line-of outcome in
-      let line = one.lines in
       let were_refused = room.tallied.refused in
-      let refused_now = one.refused in
+      let refused_now = at_most_one (is_refusal outcome) in
       let were_misfits = room.tallied.misfits in
-      let misfits_now = one.misfits in
+      let misfits_now = at_most_one (is_misfit outcome) in
       record {
         tallied = record { refused = omega arith; misfits = omega arith };
-        out = rw line (one_more-device tally.lines old.out new.out room.out unfailed.0 unflushed.0 (omega (arith, calls, turns)) bytes);
-        faults = rw line (one_more-device tally.lines old.faults new.faults room.faults unfailed.1 unflushed.1 (omega (arith, calls, turns)) fault_bytes);
-        counts = rw line (one_more-counts tally.lines old.counts new.counts room.counts small);
+        out = one_more-device tally.lines old.out new.out room.out unfailed.0 unflushed.0 (omega (arith, calls, turns)) bytes;
+        faults = one_more-device tally.lines old.faults new.faults room.faults unfailed.1 unflushed.1 (omega (arith, calls, turns)) fault_bytes;
+        counts = one_more-counts tally.lines old.counts new.counts room.counts small;
       }
 
   -- ---- an answer that was made
 
   -- whether it is given whole or cut short
   pub answers-sent : (left : ℕ) (answer : Answer) (old new : OutputState O E) {A : Type 0} (result : Result A RunFault)
-      → new.stream ≡ answer.stream → new.counts ≡ after_work old.counts answer.hashings
+      → new.stream ≡ stream_left old.stream answer.hashings → new.counts ≡ after_work old.counts answer.hashings
       → Sends left answer old.out old.faults new.out new.faults result
       → AnswersOne left answer old new result
   answers-sent left answer old new (Ok done) stream counts sends = (stream, counts, sends)

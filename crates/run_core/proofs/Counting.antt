@@ -1,9 +1,9 @@
 -- How the counts of an answer are told from a meter, and written.
-use Rattle.std.proofs.Common.{◌≡◌, ℕ, ◌<◌, ◌^◌, List, [], ◌∷◌, ◌++◌, ap, ◌∙◌, append_assoc, add_assoc, arith, rules}
+use Rattle.std.proofs.Common.{◌≡◌, ℕ, ◌<◌, ◌^◌, List, [], ◌∷◌, ◌++◌, ap, sym, ◌∙◌, append_assoc, add_assoc, zero-add, arith, rules}
 use Rattle.prims_core.specs.Work.{no_work, raised_by, work_between, IsBelow}
 use Rattle.prims_core.specs.declared.meter.Work.{Work}
 use Rattle.crypt_core.specs.Work.{work}
-use Rattle.run_core.specs.Answers.{Hashing, after_work, work_of}
+use Rattle.run_core.specs.Answers.{Hashing, after_work}
 use Rattle.run_core.specs.Private.Answers.{IsRaisedBelow}
 
 -- a text behind a line, and then a text more
@@ -17,11 +17,17 @@ raised_by_none counts = search rules
 raised_twice : (counts one other : Work) → raised_by (raised_by counts one) other ≡ raised_by counts (raised_by one other)
 raised_twice counts one other = simp add_assoc
 
+raised_from_none : (own : Work) → raised_by no_work own ≡ own
+raised_from_none own = simp zero-add
+
 -- the counts after hashes are raised by the sum of their work
-pub after_hashings : (counts : Work) (hashings : List Hashing) → after_work counts hashings ≡ raised_by counts (work_of hashings)
+pub after_hashings : (counts : Work) (hashings : List Hashing) → after_work counts hashings ≡ raised_by counts (after_work no_work hashings)
 after_hashings counts [] = raised_by_none counts
 after_hashings counts (next ∷ others) =
-    after_hashings (raised_by counts (work next.password next.setting)) others ∙ raised_twice counts (work next.password next.setting) (work_of others)
+    let own = work next.password next.setting in
+    let sum : raised_by own (after_work no_work others) ≡ after_work (raised_by no_work own) others =
+    sym (after_hashings own others) ∙ ap (λ (w : Work). after_work w others) (sym (raised_from_none own)) in
+    after_hashings (raised_by counts own) others ∙ raised_twice counts own (after_work no_work others) ∙ ap (raised_by counts) sum
 
 -- a rise of less than a line's
 pub small_rise : (limit : ℕ) (before after : Work) → limit < 2 ^ 64 → IsRaisedBelow limit before after → IsBelow (work_between before after) (2 ^ 64)

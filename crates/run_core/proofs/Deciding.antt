@@ -16,7 +16,7 @@ use Rattle.run_core.specs.JobOptions.{IsAbove, check_cost, is_outdated}
 use Rattle.run_core.specs.LineAnswers.{IsCostly, IsDecision, HasSoundParts, decision}
 use Rattle.run_core.specs.LineAnswers.IsDecision.{hashed, none, locked, ok, rehashed, no}
 use Rattle.run_core.specs.Lines.{Parts}
-use Rattle.run_core.specs.Makers.{made_cost_by, stream_after}
+use Rattle.run_core.specs.Makers.{made_cost_by}
 use Rattle.run_core.specs.Private.Answers.{IsChecked, IsSettled, field_cost}
 use Rattle.run_core.specs.Private.Lines.{IsFieldOf, IsLine}
 use Rattle.run_core.specs.declared.answer.Outcome.{Outcome}
@@ -96,55 +96,54 @@ cheap_stored kind job line name password field stored taken spells once within c
 
 -- ---- what it comes to
 
-same_decision : (name : List ℕ) (outcome other : Outcome) (hashings others : List Hashing) (left stream : Stream)
-    → outcome ≡ other → hashings ≡ others → left ≡ stream → decision name outcome hashings left ≡ decision name other others stream
-same_decision name outcome other hashings others left stream one two three = cc
+same_decision : (name : List ℕ) (outcome other : Outcome) (hashings others : List Hashing)
+    → outcome ≡ other → hashings ≡ others → decision name outcome hashings ≡ decision name other others
+same_decision name outcome other hashings others one two = cc
 
-stored_by : (kind : Kind) (job : Job) (line : List ℕ) (stream left : Stream) (name password field : List ℕ) (stored : StoredHash) (hashings : List Hashing) (outcome : Outcome)
+stored_by : (kind : Kind) (job : Job) (line : List ℕ) (stream : Stream) (name password field : List ℕ) (stored : StoredHash) (hashings : List Hashing) (outcome : Outcome)
     → HasSoundParts kind line (parts_with name password (Some field)) → stored.text ≡ field → Spells field stored.setting → ¬ IsCostly kind job line
-    → IsChecked job password stored stream hashings left outcome → IsDecision kind job line stream (decision name outcome hashings left)
-stored_by kind job line stream left name password field stored hashings Mismatch taken is spells cheap checked =
+    → IsChecked job password stored stream hashings outcome → IsDecision kind job line stream (decision name outcome hashings)
+stored_by kind job line stream name password field stored hashings Mismatch taken is spells cheap checked =
     no (parts_with name password (Some field)) field stored.setting (record { taken = taken; has = refl; spells = spells }) cheap
-    (λ equal. checked.0 (equal ∙ sym is)) (same_decision name Mismatch Mismatch _ _ _ _ refl checked.1 checked.2)
-stored_by kind job line stream left name password field stored hashings Match taken is spells cheap checked =
+    (λ equal. checked.0 (equal ∙ sym is)) (same_decision name Mismatch Mismatch _ _ refl checked.1)
+stored_by kind job line stream name password field stored hashings Match taken is spells cheap checked =
     ok (parts_with name password (Some field)) field stored.setting (record { taken = taken; has = refl; spells = spells }) cheap
-    (checked.0 ∙ is) checked.1 (same_decision name Match Match _ _ _ _ refl checked.2 checked.3)
-stored_by kind job line stream left name password field stored hashings (Rehashed hash) taken is spells cheap checked =
+    (checked.0 ∙ is) checked.1 (same_decision name Match Match _ _ refl checked.2)
+stored_by kind job line stream name password field stored hashings (Rehashed hash) taken is spells cheap checked =
     rehashed (parts_with name password (Some field)) field stored.setting (record { taken = taken; has = refl; spells = spells }) cheap
-    (checked.0 ∙ is) checked.1 (same_decision name (Rehashed hash) _ _ _ _ _ (ap (λ (h : List ℕ). Rehashed h) checked.2) checked.3 checked.4)
-stored_by kind job line stream left name password field stored hashings outcome taken is spells cheap checked = absurd checked
+    (checked.0 ∙ is) checked.1 (same_decision name (Rehashed hash) _ _ _ (ap (λ (h : List ℕ). Rehashed h) checked.2) checked.3)
+stored_by kind job line stream name password field stored hashings outcome taken is spells cheap checked = absurd checked
 
-settled_by : (kind : Kind) (job : Job) (line : List ℕ) (stream left : Stream) (name password : List ℕ) (field : Option (List ℕ)) (stored : Option StoredField)
+settled_by : (kind : Kind) (job : Job) (line : List ℕ) (stream : Stream) (name password : List ℕ) (field : Option (List ℕ)) (stored : Option StoredField)
     (hashings : List Hashing) (outcome : Outcome) → HasSoundParts kind line (parts_with name password field) → IsFieldOf field stored
     → ¬ IsAbove job.budget (field_cost job stored (length password))
-    → IsSettled job password stored stream hashings left outcome → IsDecision kind job line stream (decision name outcome hashings left)
-settled_by kind job line stream left name password None None hashings outcome taken of within settled =
+    → IsSettled job password stored stream hashings outcome → IsDecision kind job line stream (decision name outcome hashings)
+settled_by kind job line stream name password None None hashings outcome taken of within settled =
     hashed (parts_with name password None) taken refl (cheap_unfielded kind job line name password taken within)
-    (same_decision name outcome _ _ _ _ _ settled.0 settled.1 settled.2)
-settled_by kind job line stream left name password (Some field) (Some fields.Empty) hashings outcome taken of within settled =
-    none (parts_with name password (Some field)) taken (ap Some of.0) (same_decision name outcome _ _ _ _ _ settled.0 settled.1 settled.2)
-settled_by kind job line stream left name password (Some field) (Some fields.Locked) hashings outcome taken of within settled =
-    locked (parts_with name password (Some field)) field taken refl of.0 (same_decision name outcome _ _ _ _ _ settled.0 settled.1 settled.2)
-settled_by kind job line stream left name password (Some field) (Some (fields.Hash stored)) hashings outcome taken of within settled =
-    stored_by kind job line stream left name password field stored hashings outcome taken of.0.1.is_text of.0.1.spells
+    (same_decision name outcome _ _ _ settled.0 settled.1)
+settled_by kind job line stream name password (Some field) (Some fields.Empty) hashings outcome taken of within settled =
+    none (parts_with name password (Some field)) taken (ap Some of.0) (same_decision name outcome _ _ _ settled.0 settled.1)
+settled_by kind job line stream name password (Some field) (Some fields.Locked) hashings outcome taken of within settled =
+    locked (parts_with name password (Some field)) field taken refl of.0 (same_decision name outcome _ _ _ settled.0 settled.1)
+settled_by kind job line stream name password (Some field) (Some (fields.Hash stored)) hashings outcome taken of within settled =
+    stored_by kind job line stream name password field stored hashings outcome taken of.0.1.is_text of.0.1.spells
     (cheap_stored kind job line name password field stored taken of.0.1.spells of.1 within) settled
-settled_by kind job line stream left name password None (Some stored) hashings outcome taken of within settled = absurd of
-settled_by kind job line stream left name password (Some field) None hashings outcome taken of within settled = absurd of
+settled_by kind job line stream name password None (Some stored) hashings outcome taken of within settled = absurd of
+settled_by kind job line stream name password (Some field) None hashings outcome taken of within settled = absurd of
 
-pub decided : (kind : Kind) (job : Job) (line : List ℕ) (stream left : Stream) (name password : List ℕ) (stored : Option StoredField)
+pub decided : (kind : Kind) (job : Job) (line : List ℕ) (stream : Stream) (name password : List ℕ) (stored : Option StoredField)
     (hashings : List Hashing) (outcome : Outcome) → IsLine kind line name password stored
     → ¬ IsAbove job.budget (field_cost job stored (length password))
-    → IsSettled job password stored stream hashings left outcome → IsDecision kind job line stream (decision name outcome hashings left)
-decided kind job line stream left name password stored hashings outcome is within settled =
-    settled_by kind job line stream left name password is.field stored hashings outcome is.taken is.field_of within settled
+    → IsSettled job password stored stream hashings outcome → IsDecision kind job line stream (decision name outcome hashings)
+decided kind job line stream name password stored hashings outcome is within settled =
+    settled_by kind job line stream name password is.field stored hashings outcome is.taken is.field_of within settled
 
 -- ---- what a check would come to, if its memory were not refused
 
 pub record WouldCheck (job : Job) (password : List ℕ) (stored : StoredHash) (stream : Stream) : Type 0 where
   pub outcome : Outcome
   pub more : List Hashing
-  pub left : Stream
-  pub checked : IsChecked job password stored stream (hashing password stored.setting stream ∷ more) left outcome
+  pub checked : IsChecked job password stored stream (hashing password stored.setting stream ∷ more) outcome
 
 pub would_check : (job : Job) (password : List ℕ) (stored : StoredHash) (stream : Stream) → WouldCheck job password stored stream
 would_check job password stored stream =
@@ -155,13 +154,7 @@ would_check job password stored stream =
     go true decides true old = record {
       outcome = Rehashed (new_hash job password stream);
       more = new_hashing job password stream ∷ [];
-      left = stream_after job.maker stream;
-      checked = (decides.0 refl, old, refl, refl, refl);
+      checked = (decides.0 refl, old, refl, refl);
     }
-    go true decides false recent = record { outcome = Match; more = []; left = stream; checked = (decides.0 refl, recent, refl, refl) }
-    go false decides outdated any = record {
-      outcome = Mismatch;
-      more = [];
-      left = stream;
-      checked = (λ equal. true≢false (sym (decides.1 equal)), refl, refl);
-    }
+    go true decides false recent = record { outcome = Match; more = []; checked = (decides.0 refl, recent, refl) }
+    go false decides outdated any = record { outcome = Mismatch; more = []; checked = (λ equal. true≢false (sym (decides.1 equal)), refl) }

@@ -1,63 +1,77 @@
 -- The answers to the lines of an input, one after another.
-use Rattle.std.proofs.Common.{◌≡◌, ℕ, suc, ◌+◌, List, [], ◌∷◌, ◌++◌, length, refl, sym, ap, ◌∙◌, append_assoc, append-nil, add_assoc, add-zero, zero-add, arith}
+use Rattle.std.proofs.Common.{◌≡◌, Bool, true, false, ℕ, suc, ◌+◌, List, [], ◌∷◌, ◌++◌, length, count_by, refl, sym, ap, ◌∙◌, append-nil, add-zero, zero-add, arith}
+use Rattle.std.proofs.lemmas.List.{length-append}
+use Rattle.std.proofs.lemmas.List.Concat.{flat_map-append}
+use Rattle.std.proofs.lemmas.List.Sums.{fold-append, sum_by-append}
 use Rattle.rand_core.specs.Stream.{Stream}
 use Rattle.prims_core.specs.declared.meter.Work.{Work}
-use Rattle.crypt_core.specs.Work.{raised_by, work}
-use Rattle.run_core.specs.Answers.{Answer, Hashing, after_work, no_answer}
-use Rattle.run_core.specs.LineAnswers.{IsAnswer}
-use Rattle.run_core.specs.LineRuns.{AreAnswers, both}
+use Rattle.run_core.specs.Answers.{Answer, Hashing, after_work, fault_texts, hashings_of, is_misfit, is_refusal, stream_left, tally_of, texts}
+use Rattle.run_core.specs.DeviceCalls.{as_count}
+use Rattle.run_core.specs.LineAnswers.{AreAnswers, IsAnswer}
+use Rattle.run_core.specs.Private.Answers.{counted}
 use Rattle.run_core.specs.declared.job.Job.{Job}
 use Rattle.run_core.specs.declared.line.Kind.{Kind}
-use Rattle.run_core.proofs.Answering.{one_line-of}
+use Rattle.run_core.specs.declared.tally.Tally.{Tally}
 
--- ---- one answer and others
+-- ---- one more answer
 
-pub both-assoc : (a b c : Answer) → both (both a b) c ≡ both a (both b c)
-both-assoc a b c = simp (append_assoc, add_assoc)
+pub texts-push : (answers : List Answer) (next : Answer) → texts (answers ++ next ∷ []) ≡ texts answers ++ texts (next ∷ [])
+texts-push answers next = flat_map-append _ answers (next ∷ [])
 
-pub both-nothing : (a : Answer) → both a (no_answer a.stream) ≡ a
-both-nothing a = simp (append-nil, add-zero)
+pub fault_texts-push : (answers : List Answer) (next : Answer) → fault_texts (answers ++ next ∷ []) ≡ fault_texts answers ++ fault_texts (next ∷ [])
+fault_texts-push answers next = flat_map-append _ answers (next ∷ [])
 
-pub nothing-both : (stream : Stream) (a : Answer) → both (no_answer stream) a ≡ a
-nothing-both stream a = simp zero-add
+hashings-push : (answers : List Answer) (next : Answer) → hashings_of (answers ++ next ∷ []) ≡ hashings_of answers ++ next.hashings
+hashings-push answers next =
+    flat_map-append (λ (answer : Answer). answer.hashings) answers (next ∷ []) ∙ ap (λ (made : List Hashing). hashings_of answers ++ made) (append-nil next.hashings)
 
-pub after_work-append : (counts : Work) (hashings others : List Hashing) → after_work counts (hashings ++ others) ≡ after_work (after_work counts hashings) others
-after_work-append counts [] others = refl
-after_work-append counts (hashing ∷ hashings) others = after_work-append (raised_by counts (work hashing.password hashing.setting)) hashings others
+pub stream-push : (stream : Stream) (answers : List Answer) (next : Answer)
+    → stream_left stream (hashings_of (answers ++ next ∷ [])) ≡ stream_left (stream_left stream (hashings_of answers)) next.hashings
+stream-push stream answers next =
+    ap (stream_left stream) (hashings-push answers next) ∙ fold-append _ stream (hashings_of answers) next.hashings
+
+pub counts-push : (counts : Work) (answers : List Answer) (next : Answer)
+    → after_work counts (hashings_of (answers ++ next ∷ [])) ≡ after_work (after_work counts (hashings_of answers)) next.hashings
+counts-push counts answers next =
+    ap (after_work counts) (hashings-push answers next) ∙ fold-append _ counts (hashings_of answers) next.hashings
+
+count-one : (seen : Answer → Bool) (next : Answer) → count_by seen (next ∷ []) ≡ as_count (seen next)
+count-one seen next = zero-add (as_count (seen next))
+
+count-push : (seen : Answer → Bool) (answers : List Answer) (next : Answer)
+    → count_by seen (answers ++ next ∷ []) ≡ count_by seen answers + as_count (seen next)
+count-push seen answers next = sum_by-append _ answers (next ∷ []) ∙ ap (λ (n : ℕ). count_by seen answers + n) (count-one seen next)
+
+same_tally : (a b c d e f : ℕ) → a ≡ d → b ≡ e → c ≡ f
+    → ◌≡◌ {A = Tally} (record { lines = a; refused = b; misfits = c }) (record { lines = d; refused = e; misfits = f })
+same_tally a b c d e f one two three = cc
+
+-- the tally counts it
+pub tally-push : (answers : List Answer) (next : Answer) → tally_of (answers ++ next ∷ []) ≡ counted (tally_of answers) next.outcome
+tally-push answers next = same_tally _ _ _ _ _ _ (length-append answers (next ∷ []))
+    (count-push (λ (answer : Answer). is_refusal answer.outcome) answers next) (count-push (λ (answer : Answer). is_misfit answer.outcome) answers next)
 
 -- ---- the answers to lines
 
-pub lines-of_answer : (kind : Kind) (job : Job) (number : ℕ) (line : List ℕ) (stream : Stream) (answer : Answer)
-    → IsAnswer kind job number line stream answer → answer.tally.lines ≡ 1
-lines-of_answer kind job number line stream answer (made, decides, is) = ap (λ a. a.tally.lines) is ∙ (one_line-of made.outcome).lines
-
--- the tally counts each line
-pub lines-of_answers : (kind : Kind) (job : Job) (number : ℕ) (lines : List (List ℕ)) (stream : Stream) (answers : Answer)
-    → AreAnswers kind job number lines stream answers → answers.tally.lines ≡ length lines
-lines-of_answers kind job number [] stream answers are = ap (λ a. a.tally.lines) are
-lines-of_answers kind job number (line ∷ lines) stream answers (first, others, is, are, all) =
-    let one = lines-of_answer kind job number line stream first is in
-    let more = lines-of_answers kind job (number + 1) lines first.stream others are in
-    let sum = ap (λ a. a.tally.lines) all in
-    omega (arith, one, more, sum)
+-- each line has one
+pub same-length : (kind : Kind) (job : Job) (number : ℕ) (lines : List (List ℕ)) (stream : Stream) (answers : List Answer)
+    → AreAnswers kind job number lines stream answers → length answers ≡ length lines
+same-length kind job number [] stream [] are = refl
+same-length kind job number (line ∷ lines) stream (answer ∷ answers) are =
+    ap (λ (n : ℕ). suc n) (same-length kind job (number + 1) lines (stream_left stream answer.hashings) answers are.1)
+same-length kind job number [] stream (answer ∷ answers) are = absurd are
+same-length kind job number (line ∷ lines) stream [] are = absurd are
 
 -- and one more line
-pub AreAnswers-push : (kind : Kind) (job : Job) (number : ℕ) (lines : List (List ℕ)) (line : List ℕ) (stream : Stream) (answers next : Answer)
-    → AreAnswers kind job number lines stream answers → IsAnswer kind job (number + length lines) line answers.stream next
-    → AreAnswers kind job number (lines ++ line ∷ []) stream (both answers next)
-AreAnswers-push kind job number [] line stream answers next are is = (
-  next,
-  no_answer next.stream,
-  rw (are, add-zero) at is,
-  refl,
-  ap (λ a. both a next) are ∙ (nothing-both stream next ∙ sym (both-nothing next)),
-)
-AreAnswers-push kind job number (other ∷ lines) line stream answers next (first, others, first_is, are, all) is =
+pub AreAnswers-push : (kind : Kind) (job : Job) (number : ℕ) (lines : List (List ℕ)) (line : List ℕ) (stream : Stream) (answers : List Answer) (next : Answer)
+    → AreAnswers kind job number lines stream answers
+    → IsAnswer kind job (number + length lines) line (stream_left stream (hashings_of answers)) next
+    → AreAnswers kind job number (lines ++ line ∷ []) stream (answers ++ next ∷ [])
+AreAnswers-push kind job number [] line stream [] next are is = (rw add-zero at is, tt)
+AreAnswers-push kind job number (first ∷ lines) line stream (answer ∷ answers) next are is =
     let place : number + suc (length lines) ≡ number + 1 + length lines = omega arith in
-    let is_next = rw (all, place) at is in (
-      first,
-      both others next,
-      first_is,
-      AreAnswers-push kind job (number + 1) lines line first.stream others next are is_next,
-      ap (λ a. both a next) all ∙ both-assoc first others next,
-    )
+    let left : stream_left stream (answer.hashings ++ hashings_of answers) ≡ stream_left (stream_left stream answer.hashings) (hashings_of answers) =
+    fold-append _ stream answer.hashings (hashings_of answers) in
+    (are.0, AreAnswers-push kind job (number + 1) lines line (stream_left stream answer.hashings) answers next are.1 (rw (place, left) at is))
+AreAnswers-push kind job number [] line stream (answer ∷ answers) next are is = absurd are
+AreAnswers-push kind job number (first ∷ lines) line stream [] next are is = absurd are

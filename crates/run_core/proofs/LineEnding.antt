@@ -1,16 +1,15 @@
 -- How a run over lines ends, from what its steps leave.
-use Rattle.std.proofs.Common.{◌≡◌, ℕ, ◌+◌, ◌-◌, Bool, true, false, List, [], ◌∷◌, ◌++◌, take, Ok, Err, refl, sym, subst, ◌∙◌, add-zero, append-nil, arith, inl, inr}
+use Rattle.std.proofs.Common.{◌≡◌, ℕ, ◌+◌, ◌-◌, ◌<◌, ◌⊎◌, Bool, true, false, List, [], ◌++◌, length, take, Ok, Err, refl, sym, subst, ◌∙◌, add-zero, append-nil, arith, inl, inr}
 use Rattle.std.proofs.KnownBytes.{Consumes-nil}
-use Rattle.run_core.specs.Answers.{Answer, no_answer}
-use Rattle.run_core.specs.Devices.{Device, IsUnfailed, MovesBytes}
+use Rattle.std.specs.Io.KnownBytes.{IsAtEnd}
+use Rattle.run_core.specs.Answers.{tally_of}
+use Rattle.run_core.specs.Devices.{Device, MovesBytes}
 use Rattle.run_core.specs.Input.{Reads}
-use Rattle.run_core.specs.LineRuns.{EndsAnswering, EndsLines, EndsReading, IsNext, IsUnsent}
-use Rattle.run_core.specs.Private.Deliveries.{FinishesBoth}
-use Rattle.run_core.specs.Private.LineProgress.{AnswersLast, AreGiven, GoesOn, GoesToEnd, HasRoomToRead, IsAllAnswered, IsAt, IsAtInput, IsCutAt, IsInterrupted, LooksThrough, OutputState, Position, Represents, TakesTurns, TakesTurnsOf, output_state_of, spare_fetch, with_input}
+use Rattle.run_core.specs.LineRuns.{EndsLines, HasLines, lines_of, piece_size}
+use Rattle.run_core.specs.Private.Deliveries.{FinishesBoth, IsUnfailed}
+use Rattle.run_core.specs.Private.LineProgress.{AnswersLast, GoesOn, GoesToEnd, HasRoomToRead, IsAllAnswered, IsAt, IsAtInput, IsCutAt, LooksThrough, OutputState, Position, Represents, TakesTurns, TakesTurnsOf, output_state_of, spare_fetch, with_input}
 use Rattle.run_core.specs.Private.Fetching.{Fetches}
-use Rattle.run_core.specs.Runs.{Fails, RunState, IsCutShort, calls_of}
-use Rattle.run_core.specs.Tallies.{no_line}
-use Rattle.run_core.specs.Texts.{line_feed}
+use Rattle.run_core.specs.Runs.{RunState, calls_of}
 use Rattle.run_core.specs.declared.fault.RunFault.{RunFault}
 use Rattle.run_core.specs.declared.fault.RunFault.TheVariants.{Read, Write, OutOfMemory, Turns, Password}
 use Rattle.run_core.specs.declared.job.Job.{Job}
@@ -20,7 +19,7 @@ use Rattle.run_core.proofs.Finishing.{HasAnswered, finishes, finishes-with_fault
 use Rattle.run_core.proofs.LinesOf.{HasNoLineFeed-nil}
 use Rattle.run_core.proofs.Moving.{moves-trans}
 use Rattle.run_core.proofs.Reading.{Reads-trans}
-use Rattle.run_core.proofs.Sending.{front-none, takes-nothing}
+use Rattle.run_core.proofs.Sending.{takes-nothing}
 
 -- ---- between two fetches
 
@@ -33,28 +32,16 @@ at-turned kind job start now bytes position next at held tally = record {
   done = at.done;
   rest = at.rest;
   answers = at.answers;
-  split = at.split;
-  lines = at.lines;
+  has = at.has;
   no_feed = at.no_feed;
   held = subst (λ h. Represents h at.rest) (sym held) at.held;
   are = at.are;
   tally = tally ∙ at.tally;
-  numbers = at.numbers;
   given = at.given;
 }
 
 module _ {I O E : Type 0} (kind : Kind) (job : Job) where
   -- ---- the ends
-
-  -- what failed, where it was the input or nothing
-  fails-at_input : (start old : RunState I O E) (input : Device I) (answers : Answer) (failed : ℕ)
-      → AreGiven answers (output_state_of start) (output_state_of old) → input.failures ≡ start.input.failures + failed
-      → Fails failed 0 0 start (with_input input (output_state_of old))
-  fails-at_input start old input answers failed given failures = record {
-    of_input = failures;
-    of_out = given.out_unfailed ∙ sym (add-zero _);
-    of_faults = given.faults_unfailed ∙ sym (add-zero _);
-  }
 
   -- a fetch that gave nothing leaves what was read
   reads-none : (start old : RunState I O E) (input : Device I) (bytes : List ℕ) → Reads start.input old.input bytes
@@ -63,134 +50,92 @@ module _ {I O E : Type 0} (kind : Kind) (job : Job) where
       subst (Reads start.input input) (append-nil bytes) (Reads-trans start.input old.input input bytes [] before none)
 
   -- more of the input was wanted
-  ends-reading : (turns : ℕ) (start old : RunState I O E) (input : Device I) (bytes : List ℕ) (position : Position) (fault : RunFault)
-      → (before : IsAtInput turns kind job start old bytes position) → MovesBytes 0 start.input input
-      → IsCutShort turns before.answered.answers (no_answer before.answered.answers.stream) start (with_input input (output_state_of old)) fault
-      → EndsReading turns kind job bytes start (with_input input (output_state_of old)) fault
-  ends-reading turns start old input bytes position fault before moved cut =
-      let at = before.answered in
-      (at.done, at.rest, at.answers, record { split = at.split; lines = at.lines; are = at.are }, at.no_feed, moved, cut)
-
-  ends-in_fetch : (turns : ℕ) (start old : RunState I O E) (input : Device I) (bytes buffer : List ℕ) (position : Position) (left : ℕ) (fault : RunFault)
-      → IsAtInput turns kind job start old bytes position → MovesBytes 0 start.input old.input
-      → Fetches position.turns_left old.input input buffer (Err fault)
-      → left ≡ position.turns_left - 1 → input.calls + left ≡ old.input.calls + position.turns_left
-      → Reads start.input input bytes × EndsReading turns kind job bytes start (with_input input (output_state_of old)) fault
-  ends-in_fetch turns start old input bytes buffer position left Read before moved fetched took calls =
-      let given = before.answered.given in (
-        reads-none start old input bytes before.reads fetched.1,
-        ends-reading turns start old input bytes position Read before
-            (moves-trans 0 start.input old.input input moved fetched.2) (
-              fails-at_input start old input before.answered.answers 1 given (let unfailed = before.unfailed in omega (arith, unfailed, fetched.0)),
-              record { text = given.text; fault_text = given.fault_text },
-              record { stream = given.stream; counts = given.counts },
-            ),
-      )
-  ends-in_fetch turns start old input bytes buffer position left Turns before moved fetched took calls =
-      let given = before.answered.given in
-      let answers = before.answered.answers in (
-        reads-none start old input bytes before.reads fetched.1,
-        ends-reading turns start old input bytes position Turns before
-            (moves-trans 0 start.input old.input input moved fetched.3) (
-              fails-at_input start old input answers 0 given (fetched.0 ∙ before.unfailed ∙ sym (add-zero _)),
-              (let all = before.calls in omega (arith, all, fetched.2, took, calls)),
-              record {
-                text = front-none start.out old.out answers.text given.text;
-                fault_text = front-none start.faults old.faults answers.fault_text given.fault_text;
-              },
-              record { stream = given.stream; counts = given.counts },
-            ),
-      )
-  ends-in_fetch turns start old input bytes buffer position left Write before moved fetched took calls = absurd fetched
-  ends-in_fetch turns start old input bytes buffer position left OutOfMemory before moved fetched took calls = absurd fetched
-  ends-in_fetch turns start old input bytes buffer position left (Password fault) before moved fetched took calls = absurd fetched
-
   pub ends-fetching : (turns : ℕ) (start old : RunState I O E) (input : Device I) (bytes buffer : List ℕ) (position : Position) (left : ℕ) (fault : RunFault)
       → IsAtInput turns kind job start old bytes position → MovesBytes 0 start.input old.input
       → Fetches position.turns_left old.input input buffer (Err fault)
       → left ≡ position.turns_left - 1 → input.calls + left ≡ old.input.calls + position.turns_left
       → EndsLines turns kind job start (with_input input (output_state_of old)) (Err fault)
   ends-fetching turns start old input bytes buffer position left Read before moved fetched took calls =
-      let ends = ends-in_fetch turns start old input bytes buffer position left Read before moved fetched took calls in (bytes, ends.0, ends.1)
+      let at = before.answered in
+      let given = at.given in (
+        bytes,
+        reads-none start old input bytes before.reads fetched.1,
+        inr (inl (
+          at.answers,
+          (at.done, at.rest, at.has, at.no_feed, at.are),
+          (
+            record {
+              of_input = (let unfailed = before.unfailed in omega (arith, unfailed, fetched.0));
+              text = given.text;
+              fault_text = given.fault_text;
+            },
+            record { stream = given.stream; counts = given.counts },
+            moves-trans 0 start.input old.input input moved fetched.2,
+          ),
+        )),
+      )
   ends-fetching turns start old input bytes buffer position left Turns before moved fetched took calls =
-      let ends = ends-in_fetch turns start old input bytes buffer position left Turns before moved fetched took calls in (bytes, ends.0, inl ends.1)
+      let at = before.answered in
+      let given = at.given in (
+        bytes,
+        reads-none start old input bytes before.reads fetched.1,
+        inr (inl (
+          at.answers,
+          (at.done, at.rest, at.has, at.no_feed, at.are),
+          (
+            record {
+              of_input = fetched.0 ∙ before.unfailed ∙ sym (add-zero _);
+              text = given.text;
+              fault_text = given.fault_text;
+            },
+            record { stream = given.stream; counts = given.counts },
+            moves-trans 0 start.input old.input input moved fetched.3,
+            (let all = before.calls in omega (arith, all, fetched.2, took, calls)),
+          ),
+        )),
+      )
   ends-fetching turns start old input bytes buffer position left Write before moved fetched took calls = absurd fetched
   ends-fetching turns start old input bytes buffer position left OutOfMemory before moved fetched took calls = absurd fetched
   ends-fetching turns start old input bytes buffer position left (Password fault) before moved fetched took calls = absurd fetched
 
-  -- an answer was cut short
-  cut-ends : (turns : ℕ) (start new : RunState I O E) (left : ℕ) (done next : Answer) (fault : RunFault)
-      → IsUnfailed start.input new.input → calls_of new + left ≡ calls_of start + turns
-      → IsInterrupted left done next (output_state_of start) (output_state_of new) fault
-      → IsCutShort turns done next start new fault
-  cut-ends turns start new left done next Write unfailed calls (stream, counts, inl (failed, kept, text, fault_text)) = (
-    inl (
-      record { of_input = unfailed ∙ sym (add-zero _); of_out = failed; of_faults = kept ∙ sym (add-zero _) },
-      record { text = text; fault_text = fault_text },
-    ),
-    record { stream = stream; counts = counts },
-  )
-  cut-ends turns start new left done next Write unfailed calls (stream, counts, inr (kept, failed, text, fault_text)) = (
-    inr (
-      record { of_input = unfailed ∙ sym (add-zero _); of_out = kept ∙ sym (add-zero _); of_faults = failed },
-      record { text = text; fault_text = fault_text },
-    ),
-    record { stream = stream; counts = counts },
-  )
-  cut-ends turns start new left done next Turns unfailed calls (stream, counts, (kept, faults_kept, none, text, fault_text, owed)) = (
-    record { of_input = unfailed ∙ sym (add-zero _); of_out = kept ∙ sym (add-zero _); of_faults = faults_kept ∙ sym (add-zero _) },
-    omega (arith, calls, none),
-    record { text = text; fault_text = fault_text },
-    record { stream = stream; counts = counts },
-  )
-  cut-ends turns start new left done next OutOfMemory unfailed calls (refused, kept, faults_kept, text, fault_text) = (
-    record { of_input = unfailed ∙ sym (add-zero _); of_out = kept ∙ sym (add-zero _); of_faults = faults_kept ∙ sym (add-zero _) },
-    record { text = text; fault_text = fault_text },
-    refused,
-  )
-  cut-ends turns start new left done next Read unfailed calls cut = absurd cut.2
-  cut-ends turns start new left done next (Password fault) unfailed calls cut = absurd cut.2
-
-  cut-owed : (left : ℕ) (start new : RunState I O E) (done next : Answer) (fault : RunFault)
-      → IsInterrupted left done next (output_state_of start) (output_state_of new) fault → IsUnsent done next start new fault
-  cut-owed left start new done next Turns (stream, counts, (kept, faults_kept, none, text, fault_text, owed)) = owed
-  cut-owed left start new done next Write cut = tt
-  cut-owed left start new done next OutOfMemory cut = tt
-  cut-owed left start new done next Read cut = absurd cut.2
-  cut-owed left start new done next (Password fault) cut = absurd cut.2
-
-  ends-line : (turns : ℕ) (start new : RunState I O E) (bytes line rest : List ℕ) (left : ℕ) (fault : RunFault)
-      → IsUnfailed start.input new.input → calls_of new + left ≡ calls_of start + turns → IsNext new line rest
-      → IsCutAt kind job (output_state_of start) (output_state_of new) bytes line rest left fault
-      → EndsAnswering turns kind job bytes start new fault
-  ends-line turns start new bytes line rest left fault unfailed calls is_line at = (
-    at.done,
-    line,
-    rest,
-    at.answers,
-    at.next,
-    record { split = at.split; lines = at.lines; are = at.are },
-    at.no_feed,
-    is_line,
-    at.is_next,
-    cut-owed left start new at.answers at.next fault at.cut,
-    cut-ends turns start new left at.answers at.next fault unfailed calls at.cut,
-  )
+  -- where the answer to a line is: its line feed is among the last bytes, or the input is at its end
+  abbrev IsPlace : RunState I O E → List ℕ → List (List ℕ) → Type 0
+  IsPlace new bytes lines =
+      ((rest : List ℕ) × HasLines bytes lines rest × (length rest < piece_size)) ⊎ (IsAtEnd new.input.shown × (lines ≡ lines_of bytes))
 
   -- a line was being answered
-  pub ends-answering : (turns : ℕ) (start new : RunState I O E) (bytes line rest : List ℕ) (left : ℕ) (fault : RunFault)
+  pub ends-answering : (turns : ℕ) (start new : RunState I O E) (bytes : List ℕ) (lines : List (List ℕ)) (left : ℕ) (fault : RunFault)
       → Reads start.input new.input bytes → IsUnfailed start.input new.input
-      → calls_of new + left ≡ calls_of start + turns → IsNext new line rest
-      → IsCutAt kind job (output_state_of start) (output_state_of new) bytes line rest left fault
+      → calls_of new + left ≡ calls_of start + turns → IsPlace new bytes lines
+      → IsCutAt kind job (output_state_of start) (output_state_of new) lines left fault
       → EndsLines turns kind job start new (Err fault)
-  ends-answering turns start new bytes line rest left Write reads unfailed calls is_line at =
-      (bytes, reads, inl (ends-line turns start new bytes line rest left Write unfailed calls is_line at))
-  ends-answering turns start new bytes line rest left Turns reads unfailed calls is_line at =
-      (bytes, reads, inr (ends-line turns start new bytes line rest left Turns unfailed calls is_line at))
-  ends-answering turns start new bytes line rest left OutOfMemory reads unfailed calls is_line at =
-      (bytes, reads, ends-line turns start new bytes line rest left OutOfMemory unfailed calls is_line at)
-  ends-answering turns start new bytes line rest left Read reads unfailed calls is_line at = absurd at.cut.2
-  ends-answering turns start new bytes line rest left (Password fault) reads unfailed calls is_line at = absurd at.cut.2
+  ends-answering turns start new bytes lines left Write reads unfailed calls place at = (
+    bytes,
+    reads,
+    inr (inr (at.done, at.next, (lines, at.are, place), (unfailed, at.cut.2, record { stream = at.cut.0; counts = at.cut.1 }))),
+  )
+  ends-answering turns start new bytes lines left Turns reads unfailed calls place at = (
+    bytes,
+    reads,
+    inr (inr (
+      at.done,
+      at.next,
+      (lines, at.are, place),
+      (unfailed, at.cut.2.1, record { stream = at.cut.0; counts = at.cut.1 }, (let none = at.cut.2.0 in omega (arith, calls, none))),
+    )),
+  )
+  ends-answering turns start new bytes lines left OutOfMemory reads unfailed calls place at = (
+    bytes,
+    reads,
+    inr (inr (
+      at.done,
+      at.next,
+      (lines, at.are, place),
+      (record { of_input = unfailed ∙ sym (add-zero _); text = at.cut.1; fault_text = at.cut.2 }, at.cut.0),
+    )),
+  )
+  ends-answering turns start new bytes lines left Read reads unfailed calls place at = absurd at.cut.2
+  ends-answering turns start new bytes lines left (Password fault) reads unfailed calls place at = absurd at.cut.2
 
   -- ---- a piece that was fetched
 
@@ -244,18 +189,18 @@ module _ {I O E : Type 0} (kind : Kind) (job : Job) where
       → TakesTurns left next.turns_left (output_state_of old) new
       → LooksThrough kind job (output_state_of start) new (bytes ++ take count buffer) next {A = Unit {0}} (Err fault)
       → EndsLines turns kind job start (with_input new_input new) (Err fault)
-  ends-piece turns start old new_input new bytes buffer count position left next fault h calls (line, behind, few, cut) =
-      ends-answering turns start (with_input new_input new) (bytes ++ take count buffer) line (line ++ line_feed ∷ behind) next.turns_left fault
+  ends-piece turns start old new_input new bytes buffer count position left next fault h calls (lines, behind, has, few, cut) =
+      ends-answering turns start (with_input new_input new) (bytes ++ take count buffer) lines next.turns_left fault
       (read_then turns start old new_input bytes buffer count position left h)
       (h.fetched.1 ∙ h.before.unfailed)
       (let before = h.before.calls in let fetch = h.calls in omega (arith, before, fetch, calls.turns))
-      (inl (behind, refl, few))
+      (inl (behind, has, few))
       cut
 
   -- ---- the fetches
 
   -- nothing was read
-  pub at-start : (start : RunState I O E) (position : Position) → Represents position.buffer [] → position.tally ≡ no_line
+  pub at-start : (start : RunState I O E) (position : Position) → Represents position.buffer [] → position.tally ≡ tally_of []
       → IsAtInput position.turns_left kind job start start [] position
   at-start start position none_held no_line = record {
     reads = record { shown = Consumes-nil _; counted = omega arith };
@@ -264,22 +209,13 @@ module _ {I O E : Type 0} (kind : Kind) (job : Job) where
     answered = record {
       done = [];
       rest = [];
-      answers = no_answer start.stream;
-      split = refl;
-      lines = tt;
+      answers = [];
+      has = record { split = refl; lack_feeds = tt };
       no_feed = HasNoLineFeed-nil;
       held = none_held;
-      are = refl;
+      are = tt;
       tally = no_line;
-      numbers = refl;
-      given = record {
-        out_unfailed = refl;
-        faults_unfailed = refl;
-        text = takes-nothing start.out;
-        fault_text = takes-nothing start.faults;
-        stream = refl;
-        counts = refl;
-      };
+      given = record { text = takes-nothing start.out; fault_text = takes-nothing start.faults; stream = refl; counts = refl };
     };
   }
 
@@ -335,9 +271,9 @@ module _ {I O E : Type 0} (kind : Kind) (job : Job) where
       → TakesTurns position.turns_left next.turns_left (output_state_of now) new
       → AnswersLast kind job (output_state_of start) new all.0 next {A = Unit {0}} (Err fault)
       → EndsLines turns kind job start (with_input now.input new) (Err fault)
-  ends-last turns start now new position next fault all calls (line, some, cut) =
-      ends-answering turns start (with_input now.input new) all.0 line line next.turns_left fault
-      all.1.reads all.1.unfailed (let before = all.1.calls in omega (arith, before, calls.turns)) (inr (refl, some, all.2)) cut
+  ends-last turns start now new position next fault all calls cut =
+      ends-answering turns start (with_input now.input new) all.0 (lines_of all.0) next.turns_left fault
+      all.1.reads all.1.unfailed (let before = all.1.calls in omega (arith, before, calls.turns)) (inr (all.2, refl)) cut
 
   -- all lines are answered
   answered : (turns : ℕ) (start now : RunState I O E) (new : OutputState O E) (position : Position) (tally : Tally)
@@ -345,12 +281,7 @@ module _ {I O E : Type 0} (kind : Kind) (job : Job) where
       → (last : IsAllAnswered kind job (output_state_of start) new all.0 tally)
       → HasAnswered last.answers start (with_input now.input new)
   answered turns start now new position tally all last = record {
-    fails = record {
-      of_input = all.1.unfailed ∙ sym (add-zero _);
-      of_out = last.given.out_unfailed ∙ sym (add-zero _);
-      of_faults = last.given.faults_unfailed ∙ sym (add-zero _);
-    };
-    takes = record { text = last.given.text; fault_text = last.given.fault_text };
+    takes = record { of_input = all.1.unfailed ∙ sym (add-zero _); text = last.given.text; fault_text = last.given.fault_text };
     after = record { stream = last.given.stream; counts = last.given.counts };
   }
 
@@ -365,8 +296,7 @@ module _ {I O E : Type 0} (kind : Kind) (job : Job) where
     all.1.reads,
     (
       last.answers,
-      all.2,
-      last.are,
+      (all.2, last.are),
       finishes last.answers start (with_input now.input new) out faults tally done (answered turns start now new position tally all last) last.tally_is flushes,
     ),
   )
@@ -379,4 +309,4 @@ module _ {I O E : Type 0} (kind : Kind) (job : Job) where
       → EndsLines turns kind job start (with_input now.input (record new { out = out; faults = faults })) (Err fault)
   ends-unfinished turns start now new position tally out faults A fault all last flushes =
       let ends = finishes-with_fault last.answers start (with_input now.input new) out faults A fault (answered turns start now new position tally all last) flushes in
-      rw ends.0 (all.0, all.1.reads, inr (last.answers, all.2, last.are, rw ends.0 at ends.1))
+      rw ends.0 (all.0, all.1.reads, inl (last.answers, (all.2, last.are), rw ends.0 at ends.1))

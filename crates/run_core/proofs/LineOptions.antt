@@ -1,5 +1,5 @@
 -- What a budget and new hashes change of the answers to lines, and that they change nothing for a single password.
-use Rattle.std.proofs.Common.{◌≡◌, ℕ, List, [], ◌++◌, Some, Result, Ok, Err, codes, slice_index, inl, inr, refl, sym, subst, ◌∙◌, ap, arith, ◌≤◌, ◌⊎◌, Bool, true, false, true≢false, length, Option, None}
+use Rattle.std.proofs.Common.{◌≡◌, ℕ, List, [], ◌++◌, Some, Result, codes, slice_index, inl, inr, refl, sym, subst, ◌∙◌, ap, arith, ◌≤◌, ◌⊎◌, Bool, true, false, true≢false, length, Option, None}
 use Rattle.std.proofs.lemmas.Option.{none-some}
 use Rattle.rand_core.specs.Stream.{Stream}
 use Rattle.crypt_core.specs.MethodLimits.{prefix}
@@ -13,10 +13,9 @@ use Rattle.run_core.specs.LineAnswers.IsDecision.{refused, over, hashed, none, l
 use Rattle.run_core.specs.LineOptions.{OnlyRefuses, IsRenewable, OnlyRenews, RenewsNone}
 use Rattle.crypt_core.specs.StoredFields.{IsStored}
 use Rattle.run_core.specs.Lines.{HasParts, Parts}
-use Rattle.run_core.specs.One.{EndsBy, EndsByInput, EndsOne}
+use Rattle.run_core.specs.One.{EndsOne}
 use Rattle.run_core.specs.Runs.{RunState}
 use Rattle.run_core.specs.declared.fault.RunFault.{RunFault}
-use Rattle.run_core.specs.declared.fault.RunFault.TheVariants.{Read, Write, OutOfMemory, Turns, Password}
 use Rattle.run_core.specs.declared.job.Job.{Job}
 use Rattle.run_core.specs.declared.job.PasswordFrom.{PasswordFrom}
 use Rattle.run_core.specs.declared.job.PasswordFrom.TheVariants.{Word, Input}
@@ -101,7 +100,7 @@ unstored-cheap kind job line parts field has is unstored costly =
 
 -- what breaks no rule and costs too much is refused
 costly-refused : (kind : Kind) (job : Job) (line : List ℕ) (stream : Stream) (made : Decision) → IsCostly kind job line
-    → IsDecision kind job line stream made → made ≡ refusal OverBudget stream
+    → IsDecision kind job line stream made → made ≡ refusal OverBudget
 costly-refused kind job line stream made costly (refused fault breaks is) = absurd (costly.taken.sound fault breaks.breaks)
 costly-refused kind job line stream made costly (over other is) = is
 costly-refused kind job line stream made costly (hashed parts taken lacks cheap is) = absurd (cheap costly)
@@ -126,31 +125,11 @@ only_refuses kind job = record {
 
 -- ---- a single password
 
-module _ {I O E : Type 0} where
-  unoptioned-by : (turns : ℕ) (job : Job) (password : List ℕ) (old new : RunState I O E) (result : Result Tally RunFault)
-      → EndsBy turns job password old new result → EndsBy turns (without_rehash (without_budget job)) password old new result
-  unoptioned-by turns job password old new (Ok tally) ends = ends
-  unoptioned-by turns job password old new (Err Read) ends = ends
-  unoptioned-by turns job password old new (Err Write) ends = ends
-  unoptioned-by turns job password old new (Err OutOfMemory) ends = ends
-  unoptioned-by turns job password old new (Err Turns) ends = ends
-  unoptioned-by turns job password old new (Err (Password fault)) ends = ends
-
-  unoptioned-input : (turns : ℕ) (job : Job) (bytes : List ℕ) (old new : RunState I O E) (result : Result Tally RunFault)
-      → EndsByInput turns job bytes old new result → EndsByInput turns (without_rehash (without_budget job)) bytes old new result
-  unoptioned-input turns job bytes old new (Ok tally) ends = ends
-  unoptioned-input turns job bytes old new (Err Read) ends = ends
-  unoptioned-input turns job bytes old new (Err Write) ends = ends
-  unoptioned-input turns job bytes old new (Err OutOfMemory) ends = ends
-  unoptioned-input turns job bytes old new (Err Turns) ends = ends
-  unoptioned-input turns job bytes old new (Err (Password fault)) ends = ends
-
-  -- its run ends as without what only lines have
-  pub unoptioned : (turns : ℕ) (job : Job) (from : PasswordFrom) (old new : RunState I O E) (result : Result Tally RunFault)
-      → EndsOne turns job from old new result → EndsOne turns (without_rehash (without_budget job)) from old new result
-  unoptioned turns job (Word bytes) old new result ends = (ends.0, unoptioned-by turns job bytes.items old new result ends.1)
-  unoptioned turns job Input old new result ends =
-      (ends.0, ends.1, unoptioned-input turns job ends.0 old new result ends.2)
+-- its run ends as without what only lines have
+pub unoptioned : {I O E : Type 0} (turns : ℕ) (job : Job) (from : PasswordFrom) (old new : RunState I O E) (result : Result Tally RunFault)
+    → EndsOne turns job from old new result → EndsOne turns (without_rehash (without_budget job)) from old new result
+unoptioned turns job (Word word) old new result ends = ends
+unoptioned turns job Input old new result ends = ends
 
 -- ---- new hashes
 

@@ -237,5 +237,5 @@ too_long-refused kind line long = record {
 
 -- so its refusal is what it comes to, whatever its bytes are
 pub too_long-decided : (kind : Kind) (job : Job) (line : List ℕ) (stream : Stream) → IsTooLong line
-    → IsDecision kind job line stream (refusal LineTooLong stream)
+    → IsDecision kind job line stream (refusal LineTooLong)
 too_long-decided kind job line stream long = decided-refused LineTooLong (too_long-refused kind line long) refl

@@ -1,5 +1,5 @@
 -- The lines of an input, from the parts of it that were read.
-use Rattle.std.proofs.Common.{◌≡◌, ◌≢◌, ℕ, ◌+◌, ◌<◌, false, eqb, List, [], ◌∷◌, ◌++◌, length, take, drop, get_or, Some, None, refl, sym, ap, ◌∙◌, append_assoc, append-nil, add-one, get_or-take, arith, inl, inr}
+use Rattle.std.proofs.Common.{◌≡◌, ◌≢◌, ℕ, ◌+◌, ◌<◌, false, eqb, List, [], ◌∷◌, ◌++◌, length, take, drop, get_or, flat_map, Some, None, refl, sym, ap, ◌∙◌, append_assoc, append-nil, add-one, get_or-take, arith, inl, inr}
 use Rattle.std.specs.List.{All, AllByRecursion, position, slice_split}
 use Rattle.std.proofs.Math.Seq.{split_at}
 use Rattle.std.proofs.lemmas.Bool.{eqb-false, eqb-true, ne_eqb}
@@ -8,28 +8,35 @@ use Rattle.std.proofs.lemmas.List.Concat.{flat_map-append}
 use Rattle.std.proofs.lemmas.List.Elements.{Contains-append_cases}
 use Rattle.std.proofs.lemmas.List.Splits.{length-slice_split, slice_split_at, slice_split_none}
 use Rattle.std.proofs.lemmas.List.Sums.{fails_before_first, passes_at_first}
-use Rattle.run_core.specs.LineRuns.{lines_of, with_line_feeds, without_empty_end}
+use Rattle.run_core.specs.LineRuns.{lines_of, without_empty_end}
 use Rattle.run_core.specs.Texts.{HasNoLineFeed, line_feed}
 use Rattle.run_core.proofs.LineFeeds.{feed_at, lacks_feed, position-feed, position-none}
 
 -- ---- lines with their line feeds
 
-pub with_line_feeds-push : (lines : List (List ℕ)) (line : List ℕ) → with_line_feeds (lines ++ line ∷ []) ≡ with_line_feeds lines ++ (line ++ line_feed ∷ [])
+-- lines as they stand in an input
+abbrev pub with_line_feeds : List (List ℕ) → List ℕ
+with_line_feeds = flat_map (λ line. line ++ line_feed ∷ [])
+
+with_line_feeds-push : (lines : List (List ℕ)) (line : List ℕ) → with_line_feeds (lines ++ line ∷ []) ≡ with_line_feeds lines ++ (line ++ line_feed ∷ [])
 with_line_feeds-push lines line =
     flat_map-append (λ line. line ++ line_feed ∷ []) lines (line ∷ []) ∙ ap (λ bytes. with_line_feeds lines ++ bytes) (append-nil (line ++ line_feed ∷ []))
 
 -- a line that ends in what comes behind some bytes
-pub with_line_feeds-behind : (bytes : List ℕ) (lines : List (List ℕ)) (rest front line behind : List ℕ) → bytes ≡ with_line_feeds lines ++ rest → line ≡ rest ++ front
+with_line_feeds-behind : (bytes : List ℕ) (lines : List (List ℕ)) (rest front line behind : List ℕ) → bytes ≡ with_line_feeds lines ++ rest → line ≡ rest ++ front
     → bytes ++ (front ++ line_feed ∷ behind) ≡ with_line_feeds lines ++ (line ++ line_feed ∷ behind)
 with_line_feeds-behind bytes lines rest front line behind split is_line = rw (split, is_line) (
     append_assoc (with_line_feeds lines) rest (front ++ line_feed ∷ behind)
     ∙ ap (λ others. with_line_feeds lines ++ others) (sym (append_assoc rest front (line_feed ∷ behind))))
 
-pub with_line_feeds-behind_all : (bytes : List ℕ) (lines : List (List ℕ)) (rest front line : List ℕ) → bytes ≡ with_line_feeds lines ++ rest → line ≡ rest ++ front
-    → bytes ++ (front ++ line_feed ∷ []) ≡ with_line_feeds (lines ++ line ∷ []) ++ []
-with_line_feeds-behind_all bytes lines rest front line split is_line =
-    with_line_feeds-behind bytes lines rest front line [] split is_line
-    ∙ (sym (with_line_feeds-push lines line) ∙ sym (append-nil (with_line_feeds (lines ++ line ∷ []))))
+-- and with that line among them
+pub with_line_feeds-behind_line : (bytes : List ℕ) (lines : List (List ℕ)) (rest front line behind : List ℕ) → bytes ≡ with_line_feeds lines ++ rest → line ≡ rest ++ front
+    → bytes ++ (front ++ line_feed ∷ behind) ≡ with_line_feeds (lines ++ line ∷ []) ++ behind
+with_line_feeds-behind_line bytes lines rest front line behind split is_line =
+    with_line_feeds-behind bytes lines rest front line behind split is_line
+    ∙ sym (ap (λ b. b ++ behind) (with_line_feeds-push lines line)
+    ∙ append_assoc (with_line_feeds lines) (line ++ line_feed ∷ []) behind
+    ∙ ap (λ others. with_line_feeds lines ++ others) (append_assoc line (line_feed ∷ []) behind))
 
 pub AllByRecursion-append : {A : Type 0} (P : A → Type 0) (xs ys : List A) → AllByRecursion P xs → AllByRecursion P ys → AllByRecursion P (xs ++ ys)
 AllByRecursion-append P [] ys firsts others = others

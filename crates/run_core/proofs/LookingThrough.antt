@@ -1,12 +1,14 @@
 -- How far the looking through a piece of the input has come.
-use Rattle.std.proofs.Common.{◌≡◌, ℕ, ◌+◌, ◌<◌, ◌≤◌, List, [], ◌∷◌, ◌++◌, length, take, drop, Option, Result, Ok, Err, OnOk, refl, sym, ap, subst, ◌∙◌, append_assoc, append-nil, arith, inl, inr}
+use Rattle.std.proofs.Common.{◌≡◌, Bool, true, false, MatchBool, ℕ, ◌+◌, ◌<◌, ◌≤◌, List, [], ◌∷◌, ◌++◌, length, take, drop, Option, Result, Ok, Err, OnOk, refl, sym, ap, subst, ◌∙◌, append_assoc, append-nil, arith, inl, inr}
 use Rattle.std.proofs.lemmas.List.{length-append, length-drop}
-use Rattle.run_core.specs.Answers.{Answer, IsRefusedAmong, after_work}
-use Rattle.run_core.specs.LineAnswers.{IsAnswer}
-use Rattle.run_core.specs.LineRuns.{AreAnswers, both, piece_size, with_line_feeds}
-use Rattle.run_core.specs.Output.{Takes}
+use Rattle.run_core.specs.Answers.{Answer, IsRefusedAmong, after_work, fault_texts, is_refusal, stream_left, texts}
+use Rattle.run_core.specs.Devices.{Device}
+use Rattle.run_core.specs.LineAnswers.{AreAnswers, IsAnswer}
+use Rattle.run_core.specs.LineRuns.{piece_size}
+use Rattle.run_core.specs.Output.{Takes, TakesFront}
+use Rattle.run_core.specs.Private.Answers.{counted}
 use Rattle.run_core.specs.Private.LineProgress.{AnswersOne, AreGiven, HasRoomIn, IsAt, IsInterrupted, IsSameRun, LooksThrough, OutputState, Position, Represents, TakesTurns}
-use Rattle.run_core.specs.Tallies.{both_tallies}
+use Rattle.run_core.specs.Runs.{TakeFront}
 use Rattle.run_core.specs.Texts.{HasNoLineFeed, line_feed}
 use Rattle.run_core.specs.declared.lines.LineRun.{LineRun}
 use Rattle.run_core.specs.declared.fault.RunFault.{RunFault}
@@ -15,8 +17,8 @@ use Rattle.run_core.specs.declared.job.Job.{Job}
 use Rattle.run_core.specs.declared.line.Kind.{Kind}
 use Rattle.run_core.specs.declared.lines.buffer.LineBuffer.{LineBuffer}
 use Rattle.run_core.specs.declared.tally.Tally.{Tally}
-use Rattle.run_core.proofs.LineAnswering.{AreAnswers-push, after_work-append, lines-of_answers}
-use Rattle.run_core.proofs.LinesOf.{AllByRecursion-push, HasNoLineFeed-append, HasNoLineFeed-nil, IsCutAtFeed, with_line_feeds-behind, with_line_feeds-behind_all}
+use Rattle.run_core.proofs.LineAnswering.{AreAnswers-push, counts-push, fault_texts-push, same-length, stream-push, tally-push, texts-push}
+use Rattle.run_core.proofs.LinesOf.{AllByRecursion-push, HasNoLineFeed-append, HasNoLineFeed-nil, IsCutAtFeed, with_line_feeds, with_line_feeds-behind_line}
 use Rattle.run_core.proofs.Moving.{moves-none, moves-trans}
 use Rattle.run_core.proofs.Sending.{Takes-trans, TakesFront-behind}
 
@@ -40,6 +42,26 @@ piece-parts : (front rest piece : List ℕ) (end : ℕ) → front ++ rest ≡ pi
     → front ++ (take end rest ++ line_feed ∷ drop (end + 1) rest) ≡ piece
 piece-parts front rest piece end split cut = ap (λ others. front ++ others) (sym cut.parts) ∙ split
 
+-- an answer that was given in part, behind those that were given whole
+front-after : {O E : Type 0} (failures : ℕ) (done : List Answer) (next : Answer) (start old new : Device O) (fault_start faults new_faults : Device E)
+    → Takes 0 0 start old (texts done) → Takes 0 0 fault_start faults (fault_texts done)
+    → TakeFront failures [] next old faults new new_faults → TakeFront failures done next start fault_start new new_faults
+front-after failures done next start old new fault_start faults new_faults text fault_text front = go (is_refusal next.outcome) front where
+  go : (refused : Bool) → MatchBool refused
+      (Takes 0 0 old new [] × TakesFront failures faults new_faults [] next.text)
+      (TakesFront failures old new [] next.text × Takes 0 0 faults new_faults [])
+      → MatchBool refused
+      (Takes 0 0 start new (texts done) × TakesFront failures fault_start new_faults (fault_texts done) next.text)
+      (TakesFront failures start new (texts done) next.text × Takes 0 0 fault_start new_faults (fault_texts done))
+  go true (none, part) = (
+    subst (Takes 0 0 start new) (append-nil (texts done)) (Takes-trans start old new (texts done) [] text none),
+    TakesFront-behind fault_start faults new_faults (fault_texts done) next.text fault_text part,
+  )
+  go false (part, none) = (
+    TakesFront-behind start old new (texts done) next.text text part,
+    subst (Takes 0 0 fault_start new_faults) (append-nil (fault_texts done)) (Takes-trans fault_start faults new_faults (fault_texts done) [] fault_text none),
+  )
+
 module _ {O E : Type 0} (kind : Kind) (job : Job) where
   -- where the run is before the step for a line
   pub record IsAtLine (start old : OutputState O E) (bytes front : List ℕ) (position : Position) (line : List ℕ) (next : Answer) : Type 0 where
@@ -48,101 +70,77 @@ module _ {O E : Type 0} (kind : Kind) (job : Job) where
     pub no_feed : HasNoLineFeed line
     pub is_next : IsAnswer kind job (position.tally.lines + 1) line old.stream next
 
+  -- what is answered with the next line
+  pub answers-with : (start old : OutputState O E) (bytes : List ℕ) (position : Position) (line : List ℕ) (next : Answer)
+      → (at : IsAt kind job start old bytes position) → IsAnswer kind job (position.tally.lines + 1) line old.stream next
+      → AreAnswers kind job 1 (at.done ++ line ∷ []) start.stream (at.answers ++ next ∷ [])
+  answers-with start old bytes position line next at is_next =
+      let lengths = same-length kind job 1 at.done start.stream at.answers at.are in
+      let number : position.tally.lines + 1 ≡ 1 + length at.done = omega (arith, ap (λ t. t.lines) at.tally, lengths) in
+      AreAnswers-push kind job 1 at.done line start.stream at.answers next at.are (rw (number, at.given.stream) at is_next)
+
   -- the next answer is given, behind those that were
-  pub given-both : (start old new : OutputState O E) (answers next : Answer) (left : ℕ) {A : Type 0} (done : A)
+  pub given-both : (start old new : OutputState O E) (answers : List Answer) (next : Answer) (left : ℕ) {A : Type 0} (done : A)
       → AreGiven answers start old
       → AnswersOne left next old new (Ok done)
-      → AreGiven (both answers next) start new
+      → AreGiven (answers ++ next ∷ []) start new
   given-both start old new answers next left done before given = record {
-    out_unfailed = given.2.0 ∙ before.out_unfailed;
-    faults_unfailed = given.2.1 ∙ before.faults_unfailed;
-    text = Takes-trans start.out old.out new.out answers.text next.text before.text given.2.2;
-    fault_text = Takes-trans start.faults old.faults new.faults answers.fault_text next.fault_text before.fault_text given.2.3;
-    stream = given.0;
-    counts = given.1 ∙ (ap (λ c. after_work c next.hashings) before.counts ∙ sym (after_work-append start.counts answers.hashings next.hashings));
+    text = subst (Takes 0 0 start.out new.out) (sym (texts-push answers next))
+        (Takes-trans start.out old.out new.out (texts answers) (texts (next ∷ [])) before.text given.2.0);
+    fault_text = subst (Takes 0 0 start.faults new.faults) (sym (fault_texts-push answers next))
+        (Takes-trans start.faults old.faults new.faults (fault_texts answers) (fault_texts (next ∷ [])) before.fault_text given.2.1);
+    stream = given.0 ∙ (ap (λ s. stream_left s next.hashings) before.stream ∙ sym (stream-push start.stream answers next));
+    counts = given.1 ∙ (ap (λ c. after_work c next.hashings) before.counts ∙ sym (counts-push start.counts answers next));
   }
-
-  counts-after : (start old new : OutputState O E) (bytes front : List ℕ) (position : Position) (line : List ℕ) (next : Answer)
-      → (before : IsAtLine start old bytes front position line next) → new.counts ≡ after_work old.counts next.hashings
-      → new.counts ≡ after_work (after_work start.counts before.at.answers.hashings) next.hashings
-  counts-after start old new bytes front position line next before after = after ∙ ap (λ c. after_work c next.hashings) before.at.given.counts
 
   pub at-answered : (start old new : OutputState O E) (bytes front : List ℕ) (position next_position : Position) (line : List ℕ) (next : Answer) {A : Type 0} (done : A)
       → IsAtLine start old bytes front position line next
       → AnswersOne next_position.turns_left next old new (Ok done)
-      → next_position.tally ≡ both_tallies position.tally next.tally
+      → next_position.tally ≡ counted position.tally next.outcome
       → Represents next_position.buffer []
       → IsAt kind job start new (bytes ++ (front ++ line_feed ∷ [])) next_position
-  at-answered start old new bytes front position next_position line next done before given counted cleared =
+  at-answered start old new bytes front position next_position line next done before given is_counted cleared =
       let at = before.at in
-      let number : position.tally.lines + 1 ≡ 1 + length at.done = omega (arith, ap (λ t. t.lines) at.tally, at.numbers) in
-      let are : AreAnswers kind job 1 (at.done ++ line ∷ []) start.stream (both at.answers next) =
-      AreAnswers-push kind job 1 at.done line start.stream at.answers next at.are (rw (number, at.given.stream) at before.is_next) in
       record {
         done = at.done ++ line ∷ [];
         rest = [];
-        answers = both at.answers next;
-        split = with_line_feeds-behind_all bytes at.done at.rest front line at.split before.is_line;
-        lines = AllByRecursion-push HasNoLineFeed at.done line at.lines before.no_feed;
+        answers = at.answers ++ next ∷ [];
+        has = record {
+          split = with_line_feeds-behind_line bytes at.done at.rest front line [] at.has.split before.is_line;
+          lack_feeds = AllByRecursion-push HasNoLineFeed at.done line at.has.lack_feeds before.no_feed;
+        };
         no_feed = HasNoLineFeed-nil;
         held = cleared;
-        are = are;
-        tally = counted ∙ ap (λ t. both_tallies t next.tally) at.tally;
-        numbers = lines-of_answers kind job 1 (at.done ++ line ∷ []) start.stream (both at.answers next) are;
+        are = answers-with start old bytes position line next at before.is_next;
+        tally = is_counted ∙ (ap (λ t. counted t next.outcome) at.tally ∙ sym (tally-push at.answers next));
         given = given-both start old new at.answers next next_position.turns_left done at.given given;
       }
 
   -- how it is cut short
-  pub cut-answering : (start old new : OutputState O E) (bytes front : List ℕ) (position : Position) (left : ℕ) (line : List ℕ) (next : Answer) (A : Type 0) (fault : RunFault)
-      → (before : IsAtLine start old bytes front position line next)
+  pub cut-answering : (start old new : OutputState O E) (answers : List Answer) (next : Answer) (left : ℕ) (A : Type 0) (fault : RunFault)
+      → AreGiven answers start old
       → AnswersOne left next old new {A = A} (Err fault)
-      → IsInterrupted left before.at.answers next start new fault
-  cut-answering start old new bytes front position left line next A Write before given =
-      let at = before.at in
-      let done = at.answers in (
-        given.0,
-        counts-after start old new bytes front position line next before given.1,
-        elim given.2 [
-          | inl cut ↦ inl (
-            cut.0 ∙ ap (λ n. n + 1) at.given.out_unfailed,
-            cut.1 ∙ at.given.faults_unfailed,
-            TakesFront-behind start.out old.out new.out done.text next.text at.given.text cut.2,
-            Takes-trans start.faults old.faults new.faults done.fault_text next.fault_text at.given.fault_text cut.3,
-          )
-          | inr cut ↦ inr (
-            cut.0 ∙ at.given.out_unfailed,
-            cut.1 ∙ ap (λ n. n + 1) at.given.faults_unfailed,
-            Takes-trans start.out old.out new.out done.text next.text at.given.text cut.2,
-            TakesFront-behind start.faults old.faults new.faults done.fault_text next.fault_text at.given.fault_text cut.3,
-          )
-        ],
-      )
-  cut-answering start old new bytes front position left line next A Turns before given =
-      let at = before.at in
-      let done = at.answers in
-      let cut = given.2 in (
-        given.0,
-        counts-after start old new bytes front position line next before given.1,
-        (
-          cut.0 ∙ at.given.out_unfailed,
-          cut.1 ∙ at.given.faults_unfailed,
-          cut.2,
-          TakesFront-behind start.out old.out new.out done.text next.text at.given.text cut.3,
-          TakesFront-behind start.faults old.faults new.faults done.fault_text next.fault_text at.given.fault_text cut.4,
-          (let taken = at.given.text.counted in let told = at.given.fault_text.counted in
-              omega (arith, cut.5, taken, told, length-append done.text next.text, length-append done.fault_text next.fault_text)),
-        ),
-      )
-  cut-answering start old new bytes front position left line next A OutOfMemory before given =
-      let at = before.at in (
-        subst (λ counts. IsRefusedAmong counts next.hashings new.counts new.stream) at.given.counts given.2,
-        ap (λ d. d.failures) given.0 ∙ at.given.out_unfailed,
-        ap (λ d. d.failures) given.1 ∙ at.given.faults_unfailed,
-        subst (λ d. Takes start.out d at.answers.text) (sym given.0) at.given.text,
-        subst (λ d. Takes start.faults d at.answers.fault_text) (sym given.1) at.given.fault_text,
-      )
-  cut-answering start old new bytes front position left line next A Read before given = absurd given.2
-  cut-answering start old new bytes front position left line next A (Password fault) before given = absurd given.2
+      → IsInterrupted left answers next start new fault
+  cut-answering start old new answers next left A Write before given = (
+    given.0 ∙ (ap (λ s. stream_left s next.hashings) before.stream ∙ sym (stream-push start.stream answers next)),
+    given.1 ∙ (ap (λ c. after_work c next.hashings) before.counts ∙ sym (counts-push start.counts answers next)),
+    front-after 1 answers next start.out old.out new.out start.faults old.faults new.faults before.text before.fault_text given.2,
+  )
+  cut-answering start old new answers next left A Turns before given = (
+    given.0 ∙ (ap (λ s. stream_left s next.hashings) before.stream ∙ sym (stream-push start.stream answers next)),
+    given.1 ∙ (ap (λ c. after_work c next.hashings) before.counts ∙ sym (counts-push start.counts answers next)),
+    (
+      given.2.0,
+      front-after 0 answers next start.out old.out new.out start.faults old.faults new.faults before.text before.fault_text given.2.1,
+    ),
+  )
+  cut-answering start old new answers next left A OutOfMemory before given = (
+    subst (λ counts. IsRefusedAmong counts next.hashings new.counts new.stream) before.counts given.2,
+    subst (λ d. Takes 0 0 start.out d (texts answers)) (sym given.0) before.text,
+    subst (λ d. Takes 0 0 start.faults d (fault_texts answers)) (sym given.1) before.fault_text,
+  )
+  cut-answering start old new answers next left A Read before given = absurd given.2
+  cut-answering start old new answers next left A (Password fault) before given = absurd given.2
 
   pub looks-cut : (start old new : OutputState O E) (bytes front behind : List ℕ) (position next_position : Position) (line : List ℕ) (next : Answer) (A : Type 0) (fault : RunFault)
       → IsAtLine start old bytes front position line next
@@ -150,21 +148,19 @@ module _ {O E : Type 0} (kind : Kind) (job : Job) where
       → length behind < piece_size
       → LooksThrough kind job start new (bytes ++ (front ++ line_feed ∷ behind)) next_position {A = A} (Err fault)
   looks-cut start old new bytes front behind position next_position line next A fault before given small =
-      let at = before.at in
-      let number : position.tally.lines + 1 ≡ length at.done + 1 = omega (arith, ap (λ t. t.lines) at.tally, at.numbers) in (
-        line,
+      let at = before.at in (
+        at.done ++ line ∷ [],
         behind,
+        record {
+          split = with_line_feeds-behind_line bytes at.done at.rest front line behind at.has.split before.is_line;
+          lack_feeds = AllByRecursion-push HasNoLineFeed at.done line at.has.lack_feeds before.no_feed;
+        },
         small,
         record {
-          done = at.done;
-          answers = at.answers;
+          done = at.answers;
           next = next;
-          split = with_line_feeds-behind bytes at.done at.rest front line behind at.split before.is_line;
-          lines = at.lines;
-          no_feed = before.no_feed;
-          are = at.are;
-          is_next = rw (number, at.given.stream) at before.is_next;
-          cut = cut-answering start old new bytes front position next_position.turns_left line next A fault before given;
+          are = answers-with start old bytes position line next at before.is_next;
+          cut = cut-answering start old new at.answers next next_position.turns_left A fault at.given given;
         },
       )
 
@@ -196,7 +192,7 @@ module _ {O E : Type 0} (kind : Kind) (job : Job) where
       (line : List ℕ) → Represents buffer line
       → (answer : Answer) × IsAnswer kind job (tally.lines + 1) line old.stream answer
       × AnswersOne next_position.turns_left answer old new result
-      × OnOk result (next_position.tally ≡ both_tallies tally answer.tally)
+      × OnOk result (next_position.tally ≡ counted tally answer.outcome)
 
   -- the step for one line of the piece, which ends at its first line feed
   pub record IsStep (old mid new : OutputState O E) (old_position position next_position : Position) (buffer : LineBuffer) (piece rest : List ℕ) (end : ℕ) {A : Type 0} (result : Result A RunFault) : Type 0 where
@@ -211,7 +207,7 @@ module _ {O E : Type 0} (kind : Kind) (job : Job) where
       → (line : List ℕ) × (next : Answer)
       × IsAtLine start mid (bytes ++ step.before.front) (take end rest) position line next
       × AnswersOne next_position.turns_left next mid new result
-      × OnOk result (next_position.tally ≡ both_tallies position.tally next.tally)
+      × OnOk result (next_position.tally ≡ counted position.tally next.outcome)
   line-answered old mid new old_position position next_position buffer piece rest end result step start bytes is =
       let at = step.before.at start bytes is in
       let line = at.rest ++ take end rest in
@@ -291,15 +287,16 @@ module _ {O E : Type 0} (kind : Kind) (job : Job) where
         done = at.done;
         rest = at.rest ++ rest;
         answers = at.answers;
-        split = ap (λ others. bytes ++ others) (sym looking.split)
-            ∙ (sym (append_assoc bytes looking.front rest)
-            ∙ (ap (λ b. b ++ rest) at.split
-            ∙ append_assoc (with_line_feeds at.done) at.rest rest));
-        lines = at.lines;
+        has = record {
+          split = ap (λ others. bytes ++ others) (sym looking.split)
+              ∙ (sym (append_assoc bytes looking.front rest)
+              ∙ (ap (λ b. b ++ rest) at.has.split
+              ∙ append_assoc (with_line_feeds at.done) at.rest rest));
+          lack_feeds = at.has.lack_feeds;
+        };
         no_feed = HasNoLineFeed-append at.rest rest at.no_feed none;
         held = holds at.rest at.held;
         are = at.are;
         tally = at.tally;
-        numbers = at.numbers;
         given = at.given;
       }

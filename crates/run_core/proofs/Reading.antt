@@ -4,9 +4,10 @@ use Rattle.std.specs.List.{position, slice_range}
 use Rattle.std.proofs.KnownBytes.{Consumes-trans}
 use Rattle.std.proofs.Math.Seq.{take-add}
 use Rattle.std.proofs.lemmas.List.{length-append, length-drop, length-take-le, take-take}
-use Rattle.run_core.specs.Devices.{Device, IsUnfailed, MovesBytes}
-use Rattle.run_core.specs.Input.{first_line, IsUndecided, Reads}
-use Rattle.run_core.specs.Private.Fetching.{Fetches, FindsLine, buffer_size}
+use Rattle.run_core.specs.Devices.{Device, MovesBytes}
+use Rattle.run_core.specs.Input.{first_line, Reads}
+use Rattle.run_core.specs.Private.Deliveries.{IsUnfailed}
+use Rattle.run_core.specs.Private.Fetching.{Fetches, FindsLine, IsUndecided, buffer_size}
 use Rattle.run_core.specs.declared.fault.RunFault.{RunFault}
 use Rattle.run_core.specs.declared.fault.RunFault.TheVariants.{Read, Write, OutOfMemory, Turns, Password}
 use Rattle.run_core.proofs.LineFeeds.{feed_at, feed_at-append, first_line-is, first_line-whole, has_feed, lacks_feed, position-feed, position-none}
@@ -152,7 +153,7 @@ module _ {I : Type 0} where
   undecided old mid buffer filled turns left before room =
       let long = before.size in
       let size : length (take filled buffer) ≡ filled = length-take-le filled buffer (omega (arith, long, room)) in
-      record { no_line_feed = lacks_feed _ (before.no_line_feed ∙ sym size); short = omega (arith, size, room) }
+      (lacks_feed _ (before.no_line_feed ∙ sym size), omega (arith, size, room))
 
   -- a fetch failed, or no turn was left for it
   pub reading-cut : (old mid new : Device I) (buffer next : List ℕ) (filled turns left left_new : ℕ) (fault : RunFault)

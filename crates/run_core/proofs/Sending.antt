@@ -1,57 +1,55 @@
 -- What an output has taken, one text after another, and how far the giving of a text has come.
-use Rattle.std.proofs.Common.{◌≡◌, ℕ, ◌+◌, ◌<◌, ◌≤◌, List, [], ◌++◌, length, take, drop, arith, refl, sym, subst, ◌∙◌, ap, append-nil, append_assoc, Option, false, nat_eq, nat_lt, ◌&&◌, ◌-◌, add-zero}
+use Rattle.std.proofs.Common.{◌≡◌, ◌≢◌, ℕ, ◌+◌, ◌<◌, ◌≤◌, List, [], ◌++◌, length, take, drop, arith, refl, sym, subst, ◌∙◌, ap, append-nil, append_assoc, false, nat_eq, nat_lt, ◌&&◌, ◌-◌, add-zero}
 use Rattle.std.proofs.lemmas.List.{length-append, length-take-le, take-append-drop}
 use Rattle.std.specs.Io.KnownBytes.{Appends}
 use Rattle.std.proofs.KnownBytes.{Appends-nil, Appends-trans}
 use Rattle.std.proofs.lemmas.Bool.Decides.{nat_tests}
-use Rattle.run_core.specs.Devices.{Device, IsUnflushed, MovesBytes, as_count}
+use Rattle.run_core.specs.DeviceCalls.{IsUnflushed, as_count}
+use Rattle.run_core.specs.Devices.{Device, MovesBytes}
 use Rattle.run_core.specs.Output.{Takes, TakesFront}
 use Rattle.run_core.proofs.Moving.{moves-none, moves-trans}
 
--- ---- what an output has taken
-
 module _ {T : Type 0} where
-  pub unflushed-trans : (old mid new : Device T) → IsUnflushed old mid → IsUnflushed mid new → IsUnflushed old new
-  unflushed-trans old mid new before more = record { flushes = more.flushes ∙ before.flushes; flushed = more.flushed ∙ before.flushed }
+  -- ---- what an output has taken
 
-module _ {T : Type 0} where
-  pub takes-nothing : (d : Device T) → Takes d d []
-  takes-nothing d = record { shown = Appends-nil _; counted = omega arith; flush = record { flushes = refl; flushed = refl } }
+  pub takes-nothing : (d : Device T) → Takes 0 0 d d []
+  takes-nothing d = record { shown = Appends-nil _; counted = omega arith; failed = omega arith; tried = omega arith; flushed = refl }
 
-  pub Takes-trans : (old mid new : Device T) (bytes others : List ℕ) → Takes old mid bytes → Takes mid new others
-      → Takes old new (bytes ++ others)
-  Takes-trans old mid new bytes others before more =
+  pub Takes-trans : {failures : ℕ} (old mid new : Device T) (bytes others : List ℕ) → Takes 0 0 old mid bytes → Takes failures 0 mid new others
+      → Takes failures 0 old new (bytes ++ others)
+  Takes-trans {failures} old mid new bytes others before more =
       let counted = before.counted in
       let more_counted = more.counted in
+      let failed = before.failed in
+      let more_failed = more.failed in
+      let tried = before.tried in
+      let more_tried = more.tried in
       record {
         shown = Appends-trans _ mid.shown _ bytes others before.shown more.shown;
         counted = omega (arith, length-append bytes others, counted, more_counted);
-        flush = unflushed-trans old mid new before.flush more.flush;
+        failed = omega (arith, failed, more_failed);
+        tried = omega (arith, tried, more_tried);
+        flushed = more.flushed ∙ before.flushed;
       }
 
   -- the first bytes of a text, behind what was taken before
-  pub TakesFront-behind : (old mid new : Device T) (whole text : List ℕ) → Takes old mid whole → TakesFront mid new [] text
-      → TakesFront old new whole text
+  pub TakesFront-behind : {failures : ℕ} (old mid new : Device T) (whole text : List ℕ) → Takes 0 0 old mid whole → TakesFront failures mid new [] text
+      → TakesFront failures old new whole text
   TakesFront-behind old mid new whole text before front = (
     front.0,
     front.1,
     front.2,
-    Takes-trans old mid new whole front.0 before front.3,
+    front.3,
+    Takes-trans old mid new whole front.0 before front.4,
   )
 
-  -- nothing of a next text was taken
-  pub front-none : (old new : Device T) (whole : List ℕ) → Takes old new whole → TakesFront old new whole []
-  front-none old new whole takes = ([], [], refl, subst (Takes old new) (sym (append-nil whole)) takes)
+  -- ---- the giving of a text
 
--- ---- the giving of a text
-
-module _ {T : Type 0} where
   -- the front of the text was taken, in calls that did not fail and that each took a byte
   pub record IsUnderWay (old new : Device T) (text rest : List ℕ) (turns left : ℕ) : Type 0 where
     pub sent : List ℕ
     pub split : sent ++ rest ≡ text
-    pub takes : Takes old new sent
-    pub unfailed : new.failures ≡ old.failures
+    pub takes : Takes 0 0 old new sent
     pub calls : new.calls + left ≡ old.calls + turns
     pub fewer : left ≤ turns
     pub moves : MovesBytes 0 old new
@@ -68,20 +66,20 @@ module _ {T : Type 0} where
       let sent = before.sent in
       let took = take count rest in
       let some : nat_eq count 0 ≡ false = grind (arith, nat_tests) in
-      let no_failure : new.failures ≡ mid.failures = rw some at failures ∙ add-zero mid.failures in
+      let no_failure : new.failures ≡ mid.failures + 0 = rw some at failures in
       let size : length took ≡ count = length-take-le count rest within in
-      let counted = before.takes.counted in
       let no_idle : new.idle ≡ mid.idle = rw some at idle ∙ add-zero mid.idle in
       let were_fewer = before.fewer in
       record {
         sent = sent ++ took;
         split = rw next_is (append_assoc sent took (drop count rest) ∙ (ap (λ l. sent ++ l) (take-append-drop count rest) ∙ before.split));
-        takes = record {
-          shown = Appends-trans _ mid.shown _ sent took before.takes.shown appends;
-          counted = omega (arith, length-append sent took, size, counted, bytes);
-          flush = unflushed-trans old mid new before.takes.flush unflushed;
-        };
-        unfailed = no_failure ∙ before.unfailed;
+        takes = Takes-trans old mid new sent took before.takes (record {
+          shown = appends;
+          counted = omega (arith, size, bytes);
+          failed = no_failure;
+          tried = unflushed.flushes ∙ sym (add-zero mid.flushes);
+          flushed = unflushed.flushed;
+        });
         calls = omega (arith, before.calls, calls);
         fewer = omega (arith, were_fewer);
         moves = moves-trans 0 old mid new before.moves (record {
@@ -90,14 +88,32 @@ module _ {T : Type 0} where
         });
       }
 
-  pub under_way-start : (old : Device T) (text : List ℕ) (turns : ℕ)
-      → IsUnderWay old old text text turns turns
+  pub under_way-start : (old : Device T) (text : List ℕ) (turns : ℕ) → IsUnderWay old old text text turns turns
   under_way-start old text turns = record {
     sent = [];
     split = refl;
     takes = takes-nothing old;
-    unfailed = refl;
     calls = refl;
     fewer = omega arith;
     moves = moves-none old;
   }
+
+  -- nothing is left to give
+  pub under_way-whole : (old new : Device T) (text rest : List ℕ) (turns left : ℕ) → IsUnderWay old new text rest turns left → rest ≡ []
+      → Takes 0 0 old new text
+  under_way-whole old new text rest turns left under_way none =
+      let sent = under_way.sent in
+      subst (Takes 0 0 old new) (sym (append-nil sent) ∙ (ap (λ l. sent ++ l) (sym none) ∙ under_way.split)) under_way.takes
+
+  -- no turn is left, and some of it is still to come
+  pub under_way-over : (old new : Device T) (text rest : List ℕ) (turns left : ℕ) → IsUnderWay old new text rest turns left → rest ≢ [] → left ≡ 0
+      → TakesFront 0 old new [] text × (new.calls ≡ old.calls + turns)
+  under_way-over old new text rest turns left under_way some none =
+      ((under_way.sent, rest, under_way.split, some, under_way.takes), omega (arith, none, under_way.calls))
+
+  -- a `give` failed
+  pub under_way-failed : (old mid new : Device T) (text rest : List ℕ) (turns left : ℕ) → IsUnderWay old mid text rest turns left → rest ≢ []
+      → Takes 1 0 mid new [] → TakesFront 1 old new [] text
+  under_way-failed old mid new text rest turns left under_way some failed =
+      let sent = under_way.sent in
+      (sent, rest, under_way.split, some, subst (Takes 1 0 old new) (append-nil sent) (Takes-trans old mid new sent [] under_way.takes failed))

@@ -1,95 +1,123 @@
--- What is answered to one item: a password or a line.
-use Rattle.std.specs.Prelude.{Bool, ℕ, List, [], ◌∷◌, ◌++◌, ◌⊎◌, ◌≡◌, decimal, if◌then◌else◌}
+-- What is answered to one item, a password or a line, and what that takes.
+use Rattle.std.specs.Prelude.{◌≡◌, Bool, ℕ, List, [], ◌∷◌, ◌++◌, length, fold, count_by, flat_map, decimal, codes, if◌then◌else◌, true, false}
 use Rattle.rand_core.specs.Stream.{Stream}
 use Rattle.prims_core.specs.Work.{no_work}
 use Rattle.prims_core.specs.declared.meter.Work.{Work}
 use Rattle.crypt_core.specs.Crypt.{crypt, IsAfterRefusedGrowth}
 use Rattle.crypt_core.specs.Settings.{SettingValue}
 use Rattle.crypt_core.specs.Work.{raised_by, work}
+use Rattle.run_core.specs.LineFaults.{line_fault_text}
 use Rattle.run_core.specs.Makers.{next_setting, stream_after}
-use Rattle.run_core.specs.Tallies.{no_line, one_line}
 use Rattle.run_core.specs.Texts.{as_line, colon}
+use Rattle.run_core.specs.declared.answer.Outcome.{Outcome}
+use Rattle.run_core.specs.declared.answer.Outcome.TheVariants.{Hashed, Match, Rehashed, Mismatch, NoHash, Locked, Refused}
 use Rattle.run_core.specs.declared.job.Job.{Job}
 use Rattle.run_core.specs.declared.tally.Tally.{Tally}
 
 -- ---- the hashes behind answers
 
--- a hash that is made: of which password, by which setting, and what is left of the stream when it begins
+-- A hash that is made.
+--   password  what is hashed
+--   setting   by what
+--   stream    the random numbers that are left when it begins
 pub record Hashing : Type 0 where
   pub password : List ℕ
   pub setting : SettingValue
   pub stream : Stream
 
+-- hashing password kept stream is the same from its parts.
 abbrev pub hashing : List ℕ → SettingValue → Stream → Hashing
 hashing password kept stream = record { password = password; setting = kept; stream = stream }
 
--- the counts after the work of these hashes
+-- after_work counts made are the counts after the work of these hashes, from `counts` on.
 abbrev pub after_work : Work → List Hashing → Work
-after_work counts [] = counts
-after_work counts (next ∷ others) = after_work (raised_by counts (work next.password next.setting)) others
+after_work counts made = fold (λ before next. raised_by before (work next.password next.setting)) counts made
 
--- the counts and the stream where memory was refused for one of them, and the ones before it were made
+-- stream_left stream made are the random numbers that these hashes leave of `stream`.
+abbrev pub stream_left : Stream → List Hashing → Stream
+stream_left stream made = fold (λ before next. next.stream) stream made
+
+-- IsRefusedAmong before hashings after stream: memory was refused for one of these hashes, and the ones before it were made.
+--   before, after  the counts
+--   stream         the random numbers that are left
 abbrev pub IsRefusedAmong : Work → List Hashing → Work → Stream → Type 0
-IsRefusedAmong before [] after stream = ⊥
-IsRefusedAmong before (next ∷ others) after stream =
-    (IsAfterRefusedGrowth before next.setting.scheme after × (stream ≡ next.stream))
-    ⊎ IsRefusedAmong (raised_by before (work next.password next.setting)) others after stream
-
--- the work of these hashes
-abbrev pub work_of : List Hashing → Work
-work_of [] = no_work
-work_of (next ∷ others) = raised_by (work next.password next.setting) (work_of others)
+IsRefusedAmong before hashings after stream =
+    (made : List Hashing) × (next : Hashing) × (others : List Hashing) × (hashings ≡ made ++ next ∷ others)
+    × IsAfterRefusedGrowth (after_work before made) next.setting.scheme after × (stream ≡ next.stream)
 
 -- ---- answers
 
--- what goes to the output and to the fault output, what it adds to the tally, the hashes that are made for
--- it, in order, and what it leaves of the stream of random words
+-- An answer to a password or a line.
+--   text      what is written
+--   outcome   what it stands for
+--   hashings  the hashes that are made for it, in order
 pub record Answer : Type 0 where
   pub text : List ℕ
-  pub fault_text : List ℕ
-  pub tally : Tally
+  pub outcome : Outcome
   pub hashings : List Hashing
-  pub stream : Stream
 
--- one that goes to the output alone
-abbrev pub printed : List ℕ → Tally → List Hashing → Stream → Answer
-printed text tally hashings stream =
-    record { text = text; fault_text = []; tally = tally; hashings = hashings; stream = stream }
+-- A refusal goes to the fault output, and every other answer to the output.
+abbrev pub is_refusal : Outcome → Bool
+is_refusal (Refused fault) = true
+is_refusal outcome = false
 
--- nothing is answered
-abbrev pub no_answer : Stream → Answer
-no_answer = printed [] no_line []
+-- The password doesn't match its stored hash.
+abbrev pub is_misfit : Outcome → Bool
+is_misfit Mismatch = true
+is_misfit outcome = false
 
--- ---- the counts behind an answer
+-- texts answers is what these answers give to the output, one after another.
+abbrev pub texts : List Answer → List ℕ
+texts answers = flat_map (λ answer. if is_refusal answer.outcome then [] else answer.text) answers
 
--- a colon and a number in decimal
-abbrev pub count_text : ℕ → List ℕ
-count_text count = colon ∷ decimal count
+-- fault_texts answers is what they give to the fault output.
+abbrev pub fault_texts : List Answer → List ℕ
+fault_texts answers = flat_map (λ answer. if is_refusal answer.outcome then answer.text else []) answers
 
--- four counts, as they are written behind an answer
-abbrev pub counts_text : ℕ → ℕ → ℕ → ℕ → List ℕ
-counts_text digests bytes mixes table =
-    count_text digests ++ count_text bytes ++ count_text mixes ++ count_text table
+-- hashings_of answers are the hashes that are made for them, in order.
+abbrev pub hashings_of : List Answer → List Hashing
+hashings_of answers = flat_map (λ answer. answer.hashings) answers
 
-abbrev pub work_text : Work → List ℕ
-work_text work = counts_text work.digests work.bytes work.mixes work.table
+-- tally_of answers is how many they are, how many of them are refusals, and how many are `no`.
+abbrev pub tally_of : List Answer → Tally
+tally_of answers = record {
+  lines = length answers;
+  refused = count_by (λ answer. is_refusal answer.outcome) answers;
+  misfits = count_by (λ answer. is_misfit answer.outcome) answers;
+}
 
--- and only if they are wanted
-abbrev pub wanted_text : Bool → Work → List ℕ
-wanted_text wanted work = if wanted then work_text work else []
+-- ---- texts
+
+-- rendered outcome is what stands after a name, without the counts.
+abbrev pub rendered : Outcome → List ℕ
+rendered (Hashed hash) = hash
+rendered Match = codes "ok"
+rendered (Rehashed hash) = codes "ok" ++ colon ∷ hash
+rendered Mismatch = codes "no"
+rendered NoHash = codes "none"
+rendered Locked = codes "locked"
+rendered (Refused fault) = line_fault_text fault
+
+-- counts_text wanted made has a colon and a number for each of four counts of the work of these hashes, if they are wanted.
+abbrev pub counts_text : Bool → List Hashing → List ℕ
+counts_text wanted made =
+    let work = after_work no_work made in
+    if wanted then flat_map (λ count. colon ∷ decimal count) (work.digests ∷ work.bytes ∷ work.mixes ∷ work.table ∷ []) else []
 
 -- ---- the hash of a password
 
--- the text that crypt(3) gives with the next setting that the job makes
+-- new_hash job password stream is the hash that crypt(3) gives with the next setting that the job makes.
 abbrev pub new_hash : Job → List ℕ → Stream → List ℕ
 new_hash job password stream = crypt password (next_setting job.maker stream)
 
--- how it is made: the words for its setting are drawn first
+-- new_hashing job password stream is how it is made: the random numbers for its setting are drawn first.
 abbrev pub new_hashing : Job → List ℕ → Stream → Hashing
 new_hashing job password stream = hashing password (next_setting job.maker stream) (stream_after job.maker stream)
 
--- the line for a single password: its hash, and the counts of its work if they are wanted
+-- password_answer job password stream is the line for a single password: its hash, and the counts of its work if the job
+-- wants them.
 abbrev pub password_answer : Job → List ℕ → Stream → Answer
 password_answer job password stream =
-    printed (as_line (new_hash job password stream ++ wanted_text job.work (work_of (new_hashing job password stream ∷ [])))) one_line
-    (new_hashing job password stream ∷ []) (stream_after job.maker stream)
+    let hash = new_hash job password stream in
+    let made = new_hashing job password stream ∷ [] in
+    record { text = as_line (hash ++ counts_text job.work made); outcome = Hashed hash; hashings = made }

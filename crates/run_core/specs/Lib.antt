@@ -1,4 +1,5 @@
 pub mod Answers
+pub mod DeviceCalls
 pub mod Devices
 pub mod Input
 pub mod JobOptions
@@ -10,7 +11,6 @@ pub mod Lines
 pub mod Makers
 pub mod Methods
 pub mod One
-pub mod Outcomes
 pub mod Output
 pub mod Private
 pub mod RunFaults

@@ -1,17 +1,14 @@
--- What a line comes to, by the parts that it has, and the answer to it.
-use Rattle.std.specs.Prelude.{◌≡◌, ◌≢◌, Bool, ℕ, ◌⊎◌, List, [], ◌∷◌, ◌++◌, length, codes, decimal, true, false, Some, None}
+-- What a line comes to, by the parts that it has, and the answers to the lines of an input.
+use Rattle.std.specs.Prelude.{◌≡◌, ◌≢◌, Bool, ℕ, ◌+◌, ◌⊎◌, ⊤, List, [], ◌∷◌, ◌++◌, length, codes, decimal, true, false, Some, None}
 use Rattle.rand_core.specs.Stream.{Stream}
-use Rattle.prims_core.specs.declared.meter.Work.{Work}
 use Rattle.crypt_core.specs.Crypt.{crypt}
 use Rattle.crypt_core.specs.Settings.{SettingValue, Spells}
 use Rattle.crypt_core.specs.StoredFields.{IsLocked}
-use Rattle.run_core.specs.Answers.{Answer, Hashing, hashing, new_hash, new_hashing, no_answer, wanted_text, work_of}
+use Rattle.run_core.specs.Answers.{Answer, Hashing, counts_text, hashing, new_hash, new_hashing, rendered, stream_left}
 use Rattle.run_core.specs.JobOptions.{IsAbove, check_cost, is_outdated}
 use Rattle.run_core.specs.Lines.{Parts, HasParts, IsLineRefused, IsSound}
-use Rattle.run_core.specs.Makers.{made_cost_by, stream_after}
-use Rattle.run_core.specs.Outcomes.{rendered, tally_of}
-use Rattle.run_core.specs.Tallies.{refused_line}
-use Rattle.run_core.specs.Texts.{as_line, colon, program_front}
+use Rattle.run_core.specs.Makers.{made_cost_by}
+use Rattle.run_core.specs.Texts.{as_line, colon}
 use Rattle.run_core.specs.declared.answer.Outcome.{Outcome}
 use Rattle.run_core.specs.declared.answer.Outcome.TheVariants.{Hashed, Match, Rehashed, Mismatch, NoHash, Locked, Refused}
 use Rattle.run_core.specs.declared.job.Job.{Job}
@@ -19,58 +16,41 @@ use Rattle.run_core.specs.declared.line.Kind.{Kind}
 use Rattle.run_core.specs.declared.line.LineFault.{LineFault}
 use Rattle.run_core.specs.declared.line.LineFault.TheVariants.{OverBudget}
 
--- ---- texts
+-- ---- decisions and answers
 
--- the message of a refusal, with the number of its line
-abbrev pub refusal_text : ℕ → LineFault → List ℕ
-refusal_text number fault = as_line (program_front ++ codes "line " ++ decimal number ++ codes ": " ++ rendered (Refused fault))
-
--- what comes before the text of an outcome
-abbrev pub front_of : List ℕ → List ℕ
-front_of name = name ++ colon ∷ []
-
--- the line for a name: its outcome, and the counts of the work for it if they are wanted
-abbrev pub outcome_text : Bool → List ℕ → Outcome → Work → List ℕ
-outcome_text wanted name outcome work = as_line (front_of name ++ (rendered outcome ++ wanted_text wanted work))
-
--- ---- decisions
-
--- what a line comes to: the name and the outcome, the hashes that are made for it, in order, and what is left of the
--- stream
+-- What a line comes to.
+--   name      whose line it is; a refusal has none
+--   outcome   what its answer stands for
+--   hashings  the hashes that are made for it, in order
 pub record Decision : Type 0 where
   pub name : List ℕ
   pub outcome : Outcome
   pub hashings : List Hashing
-  pub stream : Stream
 
-abbrev pub decision : List ℕ → Outcome → List Hashing → Stream → Decision
-decision name outcome hashings stream = record { name = name; outcome = outcome; hashings = hashings; stream = stream }
+-- decision name outcome hashings is the same from its parts.
+abbrev pub decision : List ℕ → Outcome → List Hashing → Decision
+decision name outcome hashings = record { name = name; outcome = outcome; hashings = hashings }
 
--- a refusal draws no word and makes no hash
-abbrev pub refusal : LineFault → Stream → Decision
+-- refusal fault draws no random number and makes no hash.
+abbrev pub refusal : LineFault → Decision
 refusal fault = decision [] (Refused fault) []
 
--- what is written of it: a refusal goes to the fault output, and every other outcome to the output
-abbrev pub output_text : Bool → List ℕ → Outcome → Work → List ℕ
-output_text wanted name (Refused fault) work = []
-output_text wanted name outcome work = outcome_text wanted name outcome work
+-- refusal_text number fault is the message of a refusal, with the number of its line.
+abbrev pub refusal_text : ℕ → LineFault → List ℕ
+refusal_text number fault = as_line (codes "mkpasswd: line " ++ decimal number ++ codes ": " ++ rendered (Refused fault))
 
-abbrev pub fault_output_text : ℕ → Outcome → List ℕ
-fault_output_text number (Refused fault) = refusal_text number fault
-fault_output_text number outcome = []
+-- answer_text wanted number name outcome hashings is the line that is written: the message of a refusal, or else the name, the outcome, and the counts of the work for it if they are wanted.
+abbrev pub answer_text : Bool → ℕ → List ℕ → Outcome → List Hashing → List ℕ
+answer_text wanted number name (Refused fault) hashings = refusal_text number fault
+answer_text wanted number name outcome hashings = as_line (name ++ colon ∷ rendered outcome ++ counts_text wanted hashings)
 
+-- decided_answer job number made is the answer to the line with this number, which comes to `made`.
 abbrev pub decided_answer : Job → ℕ → Decision → Answer
 decided_answer job number made = record {
-  text = output_text job.work made.name made.outcome (work_of made.hashings);
-  fault_text = fault_output_text number made.outcome;
-  tally = tally_of made.outcome;
+  text = answer_text job.work number made.name made.outcome made.hashings;
+  outcome = made.outcome;
   hashings = made.hashings;
-  stream = made.stream;
 }
-
--- a refusal of the line with this number
-abbrev pub refused_answer : ℕ → LineFault → Stream → Answer
-refused_answer number fault stream = record (no_answer stream) { fault_text = refusal_text number fault; tally = refused_line }
 
 -- ---- what a line comes to
 
@@ -107,40 +87,49 @@ pub record IsCostly (kind : Kind) (job : Job) (line : List ℕ) : Type 0 where
 -- again, with a setting that the job makes.
 pub data IsDecision (kind : Kind) (job : Job) (line : List ℕ) (stream : Stream) (made : Decision) : Type 0 where
   refused : (fault : LineFault) → IsLineRefused kind line fault
-      → made ≡ refusal fault stream
+      → made ≡ refusal fault
       → IsDecision kind job line stream made
   over : IsCostly kind job line
-      → made ≡ refusal OverBudget stream
+      → made ≡ refusal OverBudget
       → IsDecision kind job line stream made
   hashed : (parts : Parts) → HasSoundParts kind line parts → parts.field ≡ None
       → ¬ IsCostly kind job line
       → made ≡ decision parts.name (Hashed (new_hash job parts.password stream))
-      (new_hashing job parts.password stream ∷ []) (stream_after job.maker stream)
+      (new_hashing job parts.password stream ∷ [])
       → IsDecision kind job line stream made
   none : (parts : Parts) → HasSoundParts kind line parts → parts.field ≡ Some []
-      → made ≡ decision parts.name NoHash [] stream
+      → made ≡ decision parts.name NoHash []
       → IsDecision kind job line stream made
   locked : (parts : Parts) → (field : List ℕ) → HasSoundParts kind line parts → parts.field ≡ Some field → IsLocked field
-      → made ≡ decision parts.name Locked [] stream
+      → made ≡ decision parts.name Locked []
       → IsDecision kind job line stream made
   ok : (parts : Parts) → (field : List ℕ) → (kept : SettingValue) → HasSetting kind line parts field kept
       → ¬ IsCostly kind job line
       → crypt parts.password kept ≡ field → is_outdated job kept ≡ false
-      → made ≡ decision parts.name Match (hashing parts.password kept stream ∷ []) stream
+      → made ≡ decision parts.name Match (hashing parts.password kept stream ∷ [])
       → IsDecision kind job line stream made
   rehashed : (parts : Parts) → (field : List ℕ) → (kept : SettingValue) → HasSetting kind line parts field kept
       → ¬ IsCostly kind job line
       → crypt parts.password kept ≡ field → is_outdated job kept ≡ true
       → made ≡ decision parts.name (Rehashed (new_hash job parts.password stream))
-      (hashing parts.password kept stream ∷ new_hashing job parts.password stream ∷ []) (stream_after job.maker stream)
+      (hashing parts.password kept stream ∷ new_hashing job parts.password stream ∷ [])
       → IsDecision kind job line stream made
   no : (parts : Parts) → (field : List ℕ) → (kept : SettingValue) → HasSetting kind line parts field kept
       → ¬ IsCostly kind job line
       → crypt parts.password kept ≢ field
-      → made ≡ decision parts.name Mismatch (hashing parts.password kept stream ∷ []) stream
+      → made ≡ decision parts.name Mismatch (hashing parts.password kept stream ∷ [])
       → IsDecision kind job line stream made
 
--- the answer to the line with this number
+-- IsAnswer kind job number line stream answer: the answer to the line with this number, by what it comes to.
 abbrev pub IsAnswer : Kind → Job → ℕ → List ℕ → Stream → Answer → Type 0
 IsAnswer kind job number line stream answer =
     (made : Decision) × IsDecision kind job line stream made × (answer ≡ decided_answer job number made)
+
+-- AreAnswers kind job number lines stream answers: the answers to lines with numbers from this one on. Each begins with the
+-- random numbers that the one before it left.
+abbrev pub AreAnswers : Kind → Job → ℕ → List (List ℕ) → Stream → List Answer → Type 0
+AreAnswers kind job number [] stream [] = ⊤
+AreAnswers kind job number (line ∷ lines) stream (answer ∷ answers) =
+    IsAnswer kind job number line stream answer
+    × AreAnswers kind job (number + 1) lines (stream_left stream answer.hashings) answers
+AreAnswers kind job number lines stream answers = ⊥

@@ -1,17 +1,18 @@
--- How a run leaves its three devices, the stream of its generator and its meter. The answers are arguments:
--- those that it gave whole, and the one that it was at where it was cut short.
-use Rattle.std.specs.Prelude.{◌≡◌, ℕ, ◌+◌, ◌^◌, ◌≤◌, ◌⊎◌, List, ◌++◌, Option, Result, Ok, Err}
+-- How a run leaves its three devices, the stream of its generator and its meter. The answers are arguments: those that it
+-- gave whole, and the one that it was at when it was cut short.
+use Rattle.std.specs.Prelude.{◌≡◌, ℕ, ◌+◌, ◌≤◌, ◌⊎◌, List, [], ◌∷◌, ◌++◌, MatchBool, Result, Ok, Err}
 use Rattle.rand_core.specs.Stream.{Stream}
-use Rattle.prims_core.specs.Work.{IsAtMost}
 use Rattle.prims_core.specs.declared.meter.Work.{Work}
-use Rattle.run_core.specs.Answers.{Answer, IsRefusedAmong, after_work}
-use Rattle.run_core.specs.Devices.{Device, FailsToFlush, IsFlushed, IsUnflushed, MovesBytes}
-use Rattle.run_core.specs.Output.{Takes, TakesFront, TakesThen}
+use Rattle.crypt_core.specs.declared.password.PasswordFault.{PasswordFault}
+use Rattle.run_core.specs.Answers.{Answer, Hashing, IsRefusedAmong, after_work, fault_texts, hashings_of, is_refusal, stream_left, tally_of, texts}
+use Rattle.run_core.specs.Devices.{Device, MovesBytes}
+use Rattle.run_core.specs.Output.{Takes, TakesFront}
 use Rattle.run_core.specs.declared.fault.RunFault.{RunFault}
 use Rattle.run_core.specs.declared.fault.RunFault.TheVariants.{Read, Write, OutOfMemory, Turns, Password}
 use Rattle.run_core.specs.declared.tally.Tally.{Tally}
 
--- what a run has in its hands
+-- What a run works on: its input, its output and its fault output, the random numbers that are left, and the counts of the
+-- meter.
 pub record RunState (I O E : Type 0) : Type 0 where
   pub input : Device I
   pub out : Device O
@@ -19,116 +20,100 @@ pub record RunState (I O E : Type 0) : Type 0 where
   pub stream : Stream
   pub counts : Work
 
--- the same from what clauses name
+-- run_state input out faults stream counts is the same from what clauses name.
 abbrev pub run_state : {I O E : Type 0} → Device I → Device O → Device E → Stream → Work → RunState I O E
-run_state input out faults stream counts =
-    record { input = input; out = out; faults = faults; stream = stream; counts = counts }
+run_state input out faults stream counts = record { input = input; out = out; faults = faults; stream = stream; counts = counts }
 
--- the counts leave room for any run
-abbrev pub HasCountsForRun : Work → Type 0
-HasCountsForRun counts = IsAtMost counts (2 ^ 100)
+-- TakeFront failures done next out faults new_out new_faults: the outputs have taken the answers `done`, and the one that
+-- `next` goes to has taken the first bytes of it, but not all. So many calls of that output failed, and none of the other.
+abbrev pub TakeFront : {O E : Type 0} → ℕ → List Answer → Answer → Device O → Device E → Device O → Device E → Type 0
+TakeFront failures done next out faults new_out new_faults = MatchBool (is_refusal next.outcome)
+    (Takes 0 0 out new_out (texts done) × TakesFront failures faults new_faults (fault_texts done) next.text)
+    (TakesFront failures out new_out (texts done) next.text × Takes 0 0 faults new_faults (fault_texts done))
 
 module _ {I O E : Type 0} where
   -- ---- the calls of the devices
 
-  -- the calls that move bytes, and the bytes that they moved
+  -- calls_of state is how many calls were made to move bytes.
   abbrev pub calls_of : RunState I O E → ℕ
   calls_of state = state.input.calls + state.out.calls + state.faults.calls
 
-  abbrev pub moved_of : RunState I O E → ℕ
-  moved_of state = state.input.bytes + state.out.bytes + state.faults.bytes
-
-  -- at most `turns` such calls were made, and at most two more than bytes were moved. Each moved a byte or
-  -- failed, but for one of the input, which a run needs to find the end
+  -- IsWithinTurns turns old new: at most `turns` such calls were made, and at most two more than bytes were moved. Each
+  -- moved a byte or failed, except one of the input, which a run needs to find the end.
   pub record IsWithinTurns (turns : ℕ) (old new : RunState I O E) : Type 0 where
     pub at_most_turns : calls_of new ≤ calls_of old + turns
-    pub at_most_bytes : calls_of new + moved_of old ≤ calls_of old + moved_of new + 2
+    pub at_most_bytes : calls_of new + old.input.bytes + old.out.bytes + old.faults.bytes ≤ calls_of old + new.input.bytes + new.out.bytes + new.faults.bytes + 2
     pub of_input : MovesBytes 1 old.input new.input
     pub of_out : MovesBytes 0 old.out new.out
     pub of_faults : MovesBytes 0 old.faults new.faults
 
-  -- so many calls failed: of the input, of the output, and of the fault output
-  pub record Fails (input out faults : ℕ) (old new : RunState I O E) : Type 0 where
-    pub of_input : new.input.failures ≡ old.input.failures + input
-    pub of_out : new.out.failures ≡ old.out.failures + out
-    pub of_faults : new.faults.failures ≡ old.faults.failures + faults
-
   -- ---- what the answers leave
 
-  -- the outputs have taken an answer whole, and nothing else; of their flushes there is this to say
-  pub record TakesAnswerThen (Flush : Device O → Device O → Type 0) (FaultFlush : Device E → Device E → Type 0)
-      (answer : Answer) (old new : RunState I O E) : Type 0 where
-    pub text : TakesThen Flush old.out new.out answer.text
-    pub fault_text : TakesThen FaultFlush old.faults new.faults answer.fault_text
+  -- TakeAll input out faults out_flushes fault_flushes answers old new: the outputs have taken these answers and no other
+  -- bytes.
+  --   input, out, faults          how many calls of each device failed
+  --   out_flushes, fault_flushes  how many flushes of each output were tried
+  pub record TakeAll (input out faults out_flushes fault_flushes : ℕ) (answers : List Answer) (old new : RunState I O E) : Type 0 where
+    pub of_input : new.input.failures ≡ old.input.failures + input
+    pub text : Takes out out_flushes old.out new.out (texts answers)
+    pub fault_text : Takes faults fault_flushes old.faults new.faults (fault_texts answers)
 
-  -- that none was tried
-  abbrev pub TakesAnswer : Answer → RunState I O E → RunState I O E → Type 0
-  TakesAnswer = TakesAnswerThen IsUnflushed IsUnflushed
-
-  -- they have taken one answer whole, and of the next one the first bytes of its text and all of its fault text
-  pub record TakesTextFront (done next : Answer) (old new : RunState I O E) : Type 0 where
-    pub text : TakesFront old.out new.out done.text next.text
-    pub fault_text : Takes old.faults new.faults (done.fault_text ++ next.fault_text)
-
-  -- or all of its text and the first bytes of its fault text
-  pub record TakesFaultFront (done next : Answer) (old new : RunState I O E) : Type 0 where
-    pub text : Takes old.out new.out (done.text ++ next.text)
-    pub fault_text : TakesFront old.faults new.faults done.fault_text next.fault_text
-
-  -- or the first bytes of either
-  pub record TakesAnswerFront (done next : Answer) (old new : RunState I O E) : Type 0 where
-    pub text : TakesFront old.out new.out done.text next.text
-    pub fault_text : TakesFront old.faults new.faults done.fault_text next.fault_text
-
-  -- the words of one answer were drawn and its hashes made, and no others
-  pub record IsAfter (done : Answer) (old new : RunState I O E) : Type 0 where
-    pub stream : new.stream ≡ done.stream
-    pub counts : new.counts ≡ after_work old.counts done.hashings
-
-  -- those of one answer and of the next
-  pub record IsAfterBoth (done next : Answer) (old new : RunState I O E) : Type 0 where
-    pub stream : new.stream ≡ next.stream
-    pub counts : new.counts ≡ after_work (after_work old.counts done.hashings) next.hashings
+  -- IsAfter made old new: exactly these hashes were made, with the random numbers that they take.
+  pub record IsAfter (made : List Hashing) (old new : RunState I O E) : Type 0 where
+    pub stream : new.stream ≡ stream_left old.stream made
+    pub counts : new.counts ≡ after_work old.counts made
 
   -- ---- the end of a run
 
-  -- both outputs were flushed when they had taken all answers
-  abbrev pub FlushesBoth : Answer → RunState I O E → RunState I O E → Type 0
-  FlushesBoth = TakesAnswerThen IsFlushed IsFlushed
-
-  -- or the flush of the output failed, and the fault output was left
-  abbrev pub FirstFlushFails : Answer → RunState I O E → RunState I O E → Type 0
-  FirstFlushFails = TakesAnswerThen FailsToFlush IsUnflushed
-
-  -- or only the flush of the fault output failed, which is the second
-  abbrev pub SecondFlushFails : Answer → RunState I O E → RunState I O E → Type 0
-  SecondFlushFails = TakesAnswerThen IsFlushed FailsToFlush
-
-  -- A run has given all its answers. A tally comes where no call failed, and both outputs are flushed; `Write`
-  -- where one of these two flushes failed.
-  abbrev pub Finishes : Answer → RunState I O E → RunState I O E → Result Tally RunFault → Type 0
+  -- Finishes answers old new result: a run has given all its answers.
+  --   Ok     both outputs are flushed, and no call failed
+  --   Write  one of these two flushes failed: that of the output, and then that of the fault output was not tried; or that
+  --          of the fault output
+  abbrev pub Finishes : List Answer → RunState I O E → RunState I O E → Result Tally RunFault → Type 0
   Finishes answers old new (Ok tally) =
-      (tally ≡ answers.tally) × Fails 0 0 0 old new × FlushesBoth answers old new × IsAfter answers old new
+      (tally ≡ tally_of answers) × TakeAll 0 0 0 1 1 answers old new × IsAfter (hashings_of answers) old new
   Finishes answers old new (Err Write) =
-      ((Fails 0 1 0 old new × FirstFlushFails answers old new) ⊎ (Fails 0 0 1 old new × SecondFlushFails answers old new))
-      × IsAfter answers old new
+      (TakeAll 0 1 0 1 0 answers old new ⊎ TakeAll 0 0 1 1 1 answers old new) × IsAfter (hashings_of answers) old new
   Finishes answers old new (Err fault) = ⊥
 
-  -- A run was cut short before that, and flushed nothing. A fault comes with its cause: one call of the input or
-  -- of an output failed, `turns` calls were made, memory for the next hash was refused, or the one password is
-  -- none. No byte of the next answer is written before its hash is there.
-  abbrev pub IsCutShort : ℕ → Answer → Answer → RunState I O E → RunState I O E → RunFault → Type 0
-  IsCutShort turns done next old new Read =
-      Fails 1 0 0 old new × TakesAnswer done old new × IsAfter done old new
-  IsCutShort turns done next old new Write =
-      ((Fails 0 1 0 old new × TakesTextFront done next old new)
-      ⊎ (Fails 0 0 1 old new × TakesFaultFront done next old new))
-      × IsAfterBoth done next old new
-  IsCutShort turns done next old new Turns =
-      Fails 0 0 0 old new × (calls_of new ≡ calls_of old + turns) × TakesAnswerFront done next old new
-      × IsAfterBoth done next old new
-  IsCutShort turns done next old new OutOfMemory =
-      Fails 0 0 0 old new × TakesAnswer done old new
-      × IsRefusedAmong (after_work old.counts done.hashings) next.hashings new.counts new.stream
-  IsCutShort turns done next old new (Password fault) =
-      Fails 0 0 0 old new × TakesAnswer done old new × IsAfter done old new
+  -- StopsReading turns done old new fault: a run was cut short while it read, and flushed nothing. The answers `done` are
+  -- given. Each fetch gave a byte, so the end of the input was not found.
+  --   Read   one read failed
+  --   Turns  `turns` calls were made, and none failed
+  abbrev pub StopsReading : ℕ → List Answer → RunState I O E → RunState I O E → RunFault → Type 0
+  StopsReading turns done old new Read =
+      TakeAll 1 0 0 0 0 done old new × IsAfter (hashings_of done) old new × MovesBytes 0 old.input new.input
+  StopsReading turns done old new Turns = TakeAll 0 0 0 0 0 done old new × IsAfter (hashings_of done) old new
+      × MovesBytes 0 old.input new.input × (calls_of new ≡ calls_of old + turns)
+  StopsReading turns done old new fault = ⊥
+
+  -- StopsAt turns done next old new fault: a run was cut short at the answer `next`, and flushed nothing. The answers
+  -- `done` are given whole.
+  --   Write        one call of the output of `next` failed
+  --   Turns        `turns` calls were made, and none failed
+  --   OutOfMemory  a hash for `next` got no memory, and nothing of it is written
+  abbrev pub StopsAt : ℕ → List Answer → Answer → RunState I O E → RunState I O E → RunFault → Type 0
+  StopsAt turns done next old new Write = (new.input.failures ≡ old.input.failures)
+      × TakeFront 1 done next old.out old.faults new.out new.faults × IsAfter (hashings_of (done ++ next ∷ [])) old new
+  StopsAt turns done next old new Turns = (new.input.failures ≡ old.input.failures)
+      × TakeFront 0 done next old.out old.faults new.out new.faults × IsAfter (hashings_of (done ++ next ∷ [])) old new
+      × (calls_of new ≡ calls_of old + turns)
+  StopsAt turns done next old new OutOfMemory = TakeAll 0 0 0 0 0 done old new
+      × IsRefusedAmong (after_work old.counts (hashings_of done)) next.hashings new.counts new.stream
+  StopsAt turns done next old new fault = ⊥
+
+  -- EndsBy AreAll AreBefore AreUpTo IsBad turns old new result: how a run ends, by what is answered.
+  --   AreAll     all answers, after which it finishes
+  --   AreBefore  the answers before it is cut short while it reads
+  --   AreUpTo    the answers up to the one that it is cut short at
+  --   IsBad      what is wrong with the password; then nothing is written, drawn or hashed
+  abbrev pub EndsBy : (List Answer → Type 0) → (List Answer → Type 0) → (List Answer → Type 0) → (PasswordFault → Type 0)
+      → ℕ → RunState I O E → RunState I O E → Result Tally RunFault → Type 0
+  EndsBy AreAll AreBefore AreUpTo IsBad turns old new (Ok tally) =
+      (answers : List Answer) × AreAll answers × Finishes answers old new (Ok tally)
+  EndsBy AreAll AreBefore AreUpTo IsBad turns old new (Err (Password fault)) =
+      IsBad fault × TakeAll 0 0 0 0 0 [] old new × IsAfter [] old new
+  EndsBy AreAll AreBefore AreUpTo IsBad turns old new (Err fault) =
+      ((answers : List Answer) × AreAll answers × Finishes answers old new (Err fault))
+      ⊎ (((done : List Answer) × AreBefore done × StopsReading turns done old new fault)
+      ⊎ ((done : List Answer) × (next : Answer) × AreUpTo (done ++ next ∷ []) × StopsAt turns done next old new fault))

@@ -1,20 +1,18 @@
 -- Bytes that stand between texts.
-use Rattle.std.specs.Prelude.{ℕ, List, [], ◌∷◌, ◌++◌, Contains, codes}
+use Rattle.std.specs.Prelude.{ℕ, List, [], ◌∷◌, ◌++◌, Contains}
 
+-- What ends a line.
 abbrev pub line_feed : ℕ
 line_feed = 10
 
--- as a line has none of its own, nor what is read of it
+-- The bytes have no line feed, as a line has none of its own.
 abbrev pub HasNoLineFeed : List ℕ → Type 0
 HasNoLineFeed bytes = ¬ Contains bytes line_feed
 
+-- What stands between the parts of a line.
 abbrev pub colon : ℕ
 colon = 58
 
--- what each line on the fault output begins with, but for those that `clap` has
-abbrev pub program_front : List ℕ
-program_front = codes "mkpasswd: "
-
--- a text and a line feed
+-- as_line text is the text and a line feed.
 abbrev pub as_line : List ℕ → List ℕ
 as_line text = text ++ line_feed ∷ []

@@ -6,13 +6,12 @@ ghost use Rattle.crypt_core.specs.Passwords.{password_limit};
 ghost use Rattle.crypt_core.specs.Work.{raised_by, work, work_limit};
 ghost use Rattle.prims_core.specs.Meter.{HasRoom};
 ghost use Rattle.prims_core.specs.Work.{IsWithin};
-ghost use Rattle.run_core.specs.Answers.{count_text, new_hash, wanted_text, work_text};
+ghost use Rattle.run_core.specs.Answers.{new_hash, rendered};
 ghost use Rattle.run_core.specs.JobOptions.{IsAbove};
 ghost use Rattle.run_core.specs.LineAnswers.{refusal_text};
 ghost use Rattle.run_core.specs.Lines.{name_limit};
 ghost use Rattle.run_core.specs.Makers.{bytes_of, next_setting, stream_after};
-ghost use Rattle.run_core.specs.Outcomes.{rendered};
-ghost use Rattle.run_core.specs.Private.Answers.{Decides, IsRaisedBelow, Settles, field_cost, front_by};
+ghost use Rattle.run_core.specs.Private.Answers.{Decides, IsRaisedBelow, Settles, count_text, field_cost, front_by, wanted_text, work_text};
 ghost use Rattle.run_core.specs.Private.Headroom.{HasCountsForLine, answer_limit, count_limit, front_limit, line_work_limit};
 ghost use Rattle.run_core.specs.Texts.{as_line};
 

@@ -5,7 +5,7 @@ ghost use Rattle.std.specs.Prelude.{◌≡◌, ◌+◌, ◌-◌, ◌^◌, ◌<�
 ghost use Rattle.std.specs.Result.{is_err};
 ghost use Rattle.std.specs.Io.{ReadsAtMost, WritesAtMost};
 ghost use Rattle.std.specs.Io.KnownBytes.{Keeps, ReadConsumes, WriteAppends};
-ghost use Rattle.run_core.specs.Devices.{FailsToFlush, IsFlushed, IsUnflushed, as_count, is_failed_give, is_idle_fetch, is_idle_give, moved_by, new_device};
+ghost use Rattle.run_core.specs.DeviceCalls.{FailsToFlush, IsFlushed, IsUnflushed, as_count, is_failed_give, is_idle_fetch, is_idle_give, moved_by, new_device};
 
 use std::io;
 use std::io::{Read, Write};
@@ -25,7 +25,8 @@ pub struct Input<I: Read> {
 
 impl<I: Read> Model for Input<I> {
     ghost use Rattle.std.specs.Prelude.{◌≤◌};
-    ghost use Rattle.run_core.specs.Devices.{Device, device_code};
+    ghost use Rattle.run_core.specs.DeviceCalls.{device_code};
+    ghost use Rattle.run_core.specs.Devices.{Device};
 
     ghost Value = { Device I };
 
@@ -107,7 +108,8 @@ pub struct Output<O: Write> {
 
 impl<O: Write> Model for Output<O> {
     ghost use Rattle.std.specs.Prelude.{◌≤◌};
-    ghost use Rattle.run_core.specs.Devices.{Device, device_code};
+    ghost use Rattle.run_core.specs.DeviceCalls.{device_code};
+    ghost use Rattle.run_core.specs.Devices.{Device};
 
     ghost Value = { Device O };
 

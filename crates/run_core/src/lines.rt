@@ -1,19 +1,19 @@
 //! The runs over the lines of an input. Each line is answered once its end was read, before more is read, so
 //! that a run holds one line and one piece of its input, whatever that is.
-ghost use Rattle.std.specs.Prelude.{◌≡◌, ℕ, ◌+◌, ◌<◌, ◌≤◌, ◌++◌, [], List, length, OnOk};
-ghost use Rattle.run_core.specs.Answers.{Answer, work_of};
-ghost use Rattle.run_core.specs.Devices.{HasRoomWithinRun, HaveRoomBeforeRun, IsUnfailed, IsUnflushed, MovesBytes, turns_limit};
+ghost use Rattle.std.specs.Prelude.{◌≡◌, ℕ, ◌+◌, ◌^◌, ◌<◌, ◌≤◌, ◌++◌, [], List, length, OnOk};
+ghost use Rattle.prims_core.specs.Work.{IsAtMost, no_work};
+ghost use Rattle.run_core.specs.Answers.{Answer, after_work, tally_of};
+ghost use Rattle.run_core.specs.DeviceCalls.{IsUnflushed};
+ghost use Rattle.run_core.specs.Devices.{HasRoomBeforeRun, HasRoomWithinRun, MovesBytes, turns_limit};
 ghost use Rattle.run_core.specs.LineAnswers.{Decision, IsAnswer, decided_answer};
 ghost use Rattle.run_core.specs.LineOptions.{OnlyRefuses, OnlyRenews, RenewsNone};
 ghost use Rattle.run_core.specs.LineRuns.{EndsLines, piece_size};
 ghost use Rattle.run_core.specs.Lines.{name_limit};
-ghost use Rattle.run_core.specs.Outcomes.{tally_of};
-ghost use Rattle.run_core.specs.Private.Answers.{IsDecisionOf};
-ghost use Rattle.run_core.specs.Private.Deliveries.{Sends};
+ghost use Rattle.run_core.specs.Private.Answers.{IsDecisionOf, counted};
+ghost use Rattle.run_core.specs.Private.Deliveries.{IsUnfailed, Sends};
 ghost use Rattle.run_core.specs.Private.Headroom.{answer_limit, lines_limit};
 ghost use Rattle.run_core.specs.Private.LineProgress.{AnswersLast, AnswersOne, GoesToEnd, HasRoomIn, HasRoomToAnswer, HasRoomToRead, IsAt, IsSameRun, LooksThrough, OutputState, ReadsPiece, Represents, TakesTurns, TakesTurnsOf, position_of, spare_fetch, state_of, with_input};
-ghost use Rattle.run_core.specs.Runs.{HasCountsForRun, IsWithinTurns, run_state};
-ghost use Rattle.run_core.specs.Tallies.{both_tallies, no_line};
+ghost use Rattle.run_core.specs.Runs.{IsWithinTurns, run_state};
 ghost use Rattle.run_core.specs.declared.line.Kind.TheVariants.{Batch, Check};
 
 mod buffer;
@@ -73,8 +73,8 @@ pub fn run_batch<I: Read, O: Write, E: Write, R: Rng>(
     turns: u64,
 ) -> Result<Tally, RunFault>
     requires turns { turns ≤ turns_limit }
-    requires devices { HaveRoomBeforeRun input.old out.old faults.old }
-    requires counts { HasCountsForRun meter.old }
+    requires devices { HasRoomBeforeRun input.old × HasRoomBeforeRun out.old × HasRoomBeforeRun faults.old }
+    requires counts { IsAtMost meter.old (2 ^ 100) }
     ensures ends { EndsLines turns Batch job.now
         (run_state input.old out.old faults.old (R.stream rng.old) meter.old)
         (run_state input.new out.new faults.new (R.stream rng.new) meter.new) result }
@@ -115,8 +115,8 @@ pub fn run_check<I: Read, O: Write, E: Write, R: Rng>(
     turns: u64,
 ) -> Result<Tally, RunFault>
     requires turns { turns ≤ turns_limit }
-    requires devices { HaveRoomBeforeRun input.old out.old faults.old }
-    requires counts { HasCountsForRun meter.old }
+    requires devices { HasRoomBeforeRun input.old × HasRoomBeforeRun out.old × HasRoomBeforeRun faults.old }
+    requires counts { IsAtMost meter.old (2 ^ 100) }
     ensures ends { EndsLines turns Check job.now
         (run_state input.old out.old faults.old (R.stream rng.old) meter.old)
         (run_state input.new out.new faults.new (R.stream rng.new) meter.new) result }
@@ -173,7 +173,7 @@ impl<'j, 'o, 'e, 'r, 'm, O: Write, E: Write, R> LineRun<'j, 'o, 'e, 'r, 'm, O, E
         ensures rng { (result.rng.ghost_name ≡ rng.entry.ghost_name) × (result.rng.now ≡ rng.old) }
         ensures meter { (result.meter.ghost_name ≡ meter.entry.ghost_name) × (result.meter.now ≡ meter.old) }
         ensures none_held { Represents result.buffer [] }
-        ensures no_line { result.tally ≡ no_line }
+        ensures no_line { result.tally ≡ tally_of [] }
         ensures turns { result.turns_left ≡ turns }
     {
         LineRun {
@@ -195,10 +195,10 @@ impl<O: Write, E: Write, R: Rng> LineRun<'_, '_, '_, '_, '_, O, E, R> {
     /// Answers all lines of the input, and flushes both outputs.
     fn answer_all<I: Read>(&mut self, input: &mut Input<I>) -> Result<Tally, RunFault>
         requires none_held { Represents self.old.buffer [] }
-        requires no_line { self.old.tally ≡ no_line }
+        requires no_line { self.old.tally ≡ tally_of [] }
         requires turns { self.old.turns_left ≤ turns_limit }
-        requires devices { HaveRoomBeforeRun input.old self.old.out.now self.old.faults.now }
-        requires counts { HasCountsForRun self.old.meter.now }
+        requires devices { HasRoomBeforeRun input.old × HasRoomBeforeRun self.old.out.now × HasRoomBeforeRun self.old.faults.now }
+        requires counts { IsAtMost self.old.meter.now (2 ^ 100) }
         ensures ends { EndsLines self.old.turns_left self.old.kind self.old.job.now
             (with_input input.old (state_of R.stream self.old)) (with_input input.new (state_of R.stream self.new)) result }
         ensures within_turns { IsWithinTurns self.old.turns_left
@@ -215,7 +215,7 @@ impl<O: Write, E: Write, R: Rng> LineRun<'_, '_, '_, '_, '_, O, E, R> {
     // Reads the whole input, and answers each line that has a line feed.
     fn read_all<I: Read>(&mut self, input: &mut Input<I>) -> Result<(), RunFault>
         requires none_held { Represents self.old.buffer [] }
-        requires no_line { self.old.tally ≡ no_line }
+        requires no_line { self.old.tally ≡ tally_of [] }
         requires room { HasRoomToRead (position_of self.old) (with_input input.old (state_of R.stream self.old)) }
         ensures goes { GoesToEnd self.old.turns_left self.old.kind self.old.job.now
             (with_input input.old (state_of R.stream self.old)) (with_input input.new (state_of R.stream self.new)) (position_of self.new) result }
@@ -300,7 +300,7 @@ impl<O: Write, E: Write, R: Rng> LineRun<'_, '_, '_, '_, '_, O, E, R> {
         ensures answers { (line : List ℕ) → Represents self.old.buffer line
             → (answer : Answer) × IsAnswer self.old.kind self.old.job.now (self.old.tally.lines + 1) line (R.stream self.old.rng.now) answer
             × AnswersOne self.new.turns_left answer (state_of R.stream self.old) (state_of R.stream self.new) result
-            × OnOk result (self.new.tally ≡ both_tallies self.old.tally answer.tally) }
+            × OnOk result (self.new.tally ≡ counted self.old.tally answer.outcome) }
         ensures held { OnOk result (Represents self.new.buffer []) }
         ensures room { OnOk result (HasRoomIn self.new.tally (state_of R.stream self.new)) }
         ensures lines { self.new.tally.lines ≤ self.old.tally.lines + 1 }
@@ -343,7 +343,7 @@ fn give<O: Write, E: Write>(
     requires out_room { HasRoomWithinRun out.old }
     requires faults_room { HasRoomWithinRun faults.old }
     requires short { length answer.now.name.now ≤ name_limit }
-    ensures sends { (made : Decision) → IsDecisionOf made answer.now → work_of made.hashings ≡ work.now
+    ensures sends { (made : Decision) → IsDecisionOf made answer.now → after_work no_work made.hashings ≡ work.now
         → Sends left.new (decided_answer job.now number made) out.old faults.old out.new faults.new result }
     ensures unfailed { OnOk result (IsUnfailed out.old out.new × IsUnfailed faults.old faults.new) }
     ensures unflushed { IsUnflushed out.old out.new × IsUnflushed faults.old faults.new }
@@ -371,7 +371,7 @@ fn count_line(tally: &mut Tally, outcome: &Outcome)
     requires room { tally.old.lines < lines_limit }
     requires refused { tally.old.refused ≤ tally.old.lines }
     requires misfits { tally.old.misfits ≤ tally.old.lines }
-    ensures { tally.new ≡ both_tallies tally.old (tally_of outcome.now) }
+    ensures { tally.new ≡ counted tally.old outcome.now }
 {
     tally.lines += 1;
     match outcome {

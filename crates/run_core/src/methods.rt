@@ -1,9 +1,9 @@
 //! The list of the methods, which TYPE `help` asks for.
-ghost use Rattle.std.specs.Prelude.{◌≡◌, ◌≤◌, IfOk};
+ghost use Rattle.std.specs.Prelude.{◌≡◌, ◌≤◌, [], IfOk};
+ghost use Rattle.run_core.specs.Answers.{tally_of};
 ghost use Rattle.run_core.specs.Devices.{HasRoomBeforeRun, turns_limit};
 ghost use Rattle.run_core.specs.Methods.{methods_text};
 ghost use Rattle.run_core.specs.Output.{Shows};
-ghost use Rattle.run_core.specs.Tallies.{no_line};
 
 use crate::device::Output;
 use crate::fault::RunFault;
@@ -23,7 +23,7 @@ pub fn run_methods<O: Write>(out: &mut Output<O>, turns: u64) -> Result<Tally, R
     requires turns { turns ≤ turns_limit }
     requires room { HasRoomBeforeRun out.old }
     ensures shows { Shows turns out.old out.new methods_text result }
-    ensures tally { IfOk result (λ tally. tally ≡ no_line) }
+    ensures tally { IfOk result (λ tally. tally ≡ tally_of []) }
 {
     show(out, METHODS.as_bytes(), turns)?;
     Ok(Tally::new())

@@ -1,11 +1,12 @@
 //! The run for a single password: its hash, with its counts where they are wanted, and a line feed go to
 //! the output.
-ghost use Rattle.std.specs.Prelude.{◌≡◌, ◌+◌, ◌≤◌};
+ghost use Rattle.std.specs.Prelude.{◌≡◌, ◌+◌, ◌^◌, ◌≤◌};
+ghost use Rattle.prims_core.specs.Work.{IsAtMost};
 ghost use Rattle.run_core.specs.JobOptions.{without_budget, without_rehash};
-ghost use Rattle.run_core.specs.Devices.{HasRoomBeforeRun, HasRoomWithinRun, HaveRoomBeforeRun, MovesBytes, turns_limit};
+ghost use Rattle.run_core.specs.Devices.{HasRoomBeforeRun, HasRoomWithinRun, MovesBytes, turns_limit};
 ghost use Rattle.run_core.specs.One.{EndsOne};
 ghost use Rattle.run_core.specs.Private.Fetching.{ObtainsFrom};
-ghost use Rattle.run_core.specs.Runs.{run_state, HasCountsForRun, IsWithinTurns};
+ghost use Rattle.run_core.specs.Runs.{IsWithinTurns, run_state};
 
 mod password;
 
@@ -55,8 +56,8 @@ pub fn run_one<I: Read, O: Write, E: Write, R: Rng>(
     turns: u64,
 ) -> Result<Tally, RunFault>
     requires turns { turns ≤ turns_limit }
-    requires devices { HaveRoomBeforeRun input.old out.old faults.old }
-    requires counts { HasCountsForRun meter.old }
+    requires devices { HasRoomBeforeRun input.old × HasRoomBeforeRun out.old × HasRoomBeforeRun faults.old }
+    requires counts { IsAtMost meter.old (2 ^ 100) }
     ensures ends { EndsOne turns job.now from.now
         (run_state input.old out.old faults.old (R.stream rng.old) meter.old)
         (run_state input.new out.new faults.new (R.stream rng.new) meter.new) result }

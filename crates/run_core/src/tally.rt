@@ -1,5 +1,5 @@
 //! What a run counts of its lines.
-ghost use Rattle.std.specs.Prelude.{◌≡◌};
+ghost use Rattle.std.specs.Prelude.{◌≡◌, []};
 
 /// Lines seen, lines refused, and answers `no`. A single password is one line.
 #[derive(Clone, Copy, Debug, PartialEq, Eq)]
@@ -13,11 +13,12 @@ pub struct Tally {
 }
 
 impl Tally {
-    ghost use Rattle.run_core.specs.Tallies.{no_line, tally_status};
+    ghost use Rattle.run_core.specs.Answers.{tally_of};
+    ghost use Rattle.run_core.specs.Tallies.{tally_status};
 
     /// No line was seen.
     pub fn new() -> Tally
-        ensures { result ≡ no_line }
+        ensures { result ≡ tally_of [] }
     {
         Tally {
             lines: 0,

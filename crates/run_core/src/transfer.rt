@@ -2,7 +2,7 @@
 //! texts to an output, and flushes both outputs at the end. A fetch or a give takes one of the turns that are left.
 ghost use Rattle.std.specs.Prelude.{◌≡◌, ◌+◌, ◌-◌, ◌^◌, ◌<◌, ◌≤◌, ◌==◌, length, position, OnOk};
 ghost use Rattle.run_core.specs.Devices.{HasRoomWithinRun, MovesBytes, turns_limit};
-ghost use Rattle.run_core.specs.Output.{Shows, ShowsOutcome};
+ghost use Rattle.run_core.specs.Output.{Shows};
 ghost use Rattle.run_core.specs.Private.Deliveries.{Delivers, FinishesBoth};
 ghost use Rattle.run_core.specs.Private.Fetching.{Fetches};
 ghost use Rattle.run_core.specs.Texts.{line_feed};
@@ -59,8 +59,7 @@ pub(crate) fn send<O: Write>(
     requires turns { left.old ≤ turns_limit }
     requires room { HasRoomWithinRun out.old }
     requires short { length text.now < 2 ^ 63 }
-    ensures delivers { Delivers out.old out.new text.now result }
-    ensures outcome { ShowsOutcome left.old out.old out.new result }
+    ensures delivers { Delivers left.old out.old out.new text.now result }
     ensures turns { out.new.calls + left.new ≡ out.old.calls + left.old }
     ensures fewer { left.new ≤ left.old }
     ensures moves { MovesBytes 0 out.old out.new }

@@ -4,7 +4,7 @@ ghost use Rattle.crypt_core.specs.MadeSettings.{made_setting};
 ghost use Rattle.crypt_core.specs.Methods.{method_named};
 ghost use Rattle.crypt_core.specs.declared.method.Method.{Method};
 ghost use Rattle.mkpasswd.specs.Commands.{IsNoOption, hash_words};
-ghost use Rattle.run_core.specs.Runs.{HasCountsForRun};
+ghost use Rattle.prims_core.specs.Work.{IsAtMost};
 ghost use Rattle.run_core.specs.Texts.{as_line};
 
 mod devices;
@@ -38,7 +38,7 @@ fn run_on<'a, R: Rng>(
     generator: &mut Option<R>,
     meter: &mut Meter,
 ) -> Ran<'a>
-    requires { (given.turns ≤ 2 ^ 40) × HasCountsForRun meter.old }
+    requires { (given.turns ≤ 2 ^ 40) × IsAtMost meter.old (2 ^ 100) }
     ensures { (name salt password : List ℕ) → (method : Method) → method_named name ≡ Some method
         → IsNoOption salt → IsNoOption password → map string_bytes words.now ≡ hash_words name salt password → result.0 ≡ 0
         → result.1.taken.items ≡ given.entry.writer.taken.items ++ as_line (crypt password (made_setting method 0 salt)) }

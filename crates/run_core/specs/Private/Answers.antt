@@ -1,5 +1,5 @@
 -- How the steps that decide an answer can end.
-use Rattle.std.specs.Prelude.{◌≡◌, ◌≢◌, ℕ, ◌+◌, ◌<◌, true, false, List, [], ◌∷◌, Option, Some, None, Result, Ok, Err}
+use Rattle.std.specs.Prelude.{◌≡◌, ◌≢◌, Bool, ℕ, ◌+◌, ◌<◌, true, false, List, [], ◌∷◌, ◌++◌, decimal, flat_map, if◌then◌else◌, Option, Some, None, Result, Ok, Err}
 use Rattle.rand_core.specs.Stream.{Stream}
 use Rattle.prims_core.specs.declared.meter.Work.{Work}
 use Rattle.crypt_core.specs.Crypt.{crypt}
@@ -7,15 +7,18 @@ use Rattle.crypt_core.specs.declared.hash.HashFault.{HashFault}
 use Rattle.crypt_core.specs.StoredFields.{StoredHash}
 use Rattle.crypt_core.specs.declared.stored.StoredField.{StoredField}
 use Rattle.crypt_core.specs.declared.stored.StoredField.TheVariants as fields
-use Rattle.run_core.specs.Answers.{Hashing, IsRefusedAmong, after_work, hashing, new_hash, new_hashing}
-use Rattle.run_core.specs.LineAnswers.{Decision, IsDecision, front_of}
-use Rattle.run_core.specs.Makers.{made_cost_by, stream_after}
+use Rattle.run_core.specs.Answers.{Hashing, IsRefusedAmong, after_work, hashing, is_misfit, is_refusal, new_hash, new_hashing, stream_left}
+use Rattle.run_core.specs.DeviceCalls.{as_count}
+use Rattle.run_core.specs.LineAnswers.{Decision, IsDecision}
+use Rattle.run_core.specs.Makers.{made_cost_by}
 use Rattle.run_core.specs.JobOptions.{check_cost, is_outdated}
 use Rattle.run_core.specs.declared.answer.LineAnswer.{LineAnswer}
 use Rattle.run_core.specs.declared.answer.Outcome.{Outcome}
 use Rattle.run_core.specs.declared.answer.Outcome.TheVariants.{Hashed, Match, Rehashed, Mismatch, NoHash, Locked}
 use Rattle.run_core.specs.declared.job.Job.{Job}
 use Rattle.run_core.specs.declared.line.Kind.{Kind}
+use Rattle.run_core.specs.declared.tally.Tally.{Tally}
+use Rattle.run_core.specs.Texts.{colon}
 
 -- each count has risen by less than a number
 pub record IsRaisedBelow (limit : ℕ) (before after : Work) : Type 0 where
@@ -33,22 +36,20 @@ field_cost job (Some other) password_length = 0
 
 -- hashes are made, in order, with their work and their words; or memory for one of them was refused
 abbrev pub Makes : List Hashing → Stream → Work → Work → Stream → {A : Type 0} → Result A HashFault → Type 0
-Makes hashings left before after stream (Ok made) = (after ≡ after_work before hashings) × (stream ≡ left)
-Makes hashings left before after stream (Err fault) = IsRefusedAmong before hashings after stream
+Makes hashings stream before after new_stream (Ok made) = (after ≡ after_work before hashings) × (new_stream ≡ stream_left stream hashings)
+Makes hashings stream before after new_stream (Err fault) = IsRefusedAmong before hashings after new_stream
 
 -- what the comparison of a password with its stored hash comes to; if memory was refused, what it would have come to
-abbrev pub IsChecked : Job → List ℕ → StoredHash → Stream → List Hashing → Stream → Outcome → Type 0
-IsChecked job password stored stream hashings left Mismatch =
-    (crypt password stored.setting ≢ stored.text)
-    × (hashings ≡ hashing password stored.setting stream ∷ []) × (left ≡ stream)
-IsChecked job password stored stream hashings left Match =
+abbrev pub IsChecked : Job → List ℕ → StoredHash → Stream → List Hashing → Outcome → Type 0
+IsChecked job password stored stream hashings Mismatch =
+    (crypt password stored.setting ≢ stored.text) × (hashings ≡ hashing password stored.setting stream ∷ [])
+IsChecked job password stored stream hashings Match =
     (crypt password stored.setting ≡ stored.text) × (is_outdated job stored.setting ≡ false)
-    × (hashings ≡ hashing password stored.setting stream ∷ []) × (left ≡ stream)
-IsChecked job password stored stream hashings left (Rehashed hash) =
+    × (hashings ≡ hashing password stored.setting stream ∷ [])
+IsChecked job password stored stream hashings (Rehashed hash) =
     (crypt password stored.setting ≡ stored.text) × (is_outdated job stored.setting ≡ true) × (hash ≡ new_hash job password stream)
     × (hashings ≡ hashing password stored.setting stream ∷ new_hashing job password stream ∷ [])
-    × (left ≡ stream_after job.maker stream)
-IsChecked job password stored stream hashings left outcome = ⊥
+IsChecked job password stored stream hashings outcome = ⊥
 
 -- an outcome that is there, or that would have been if memory had not been refused
 abbrev pub IsResult : (Outcome → Type 0) → Result Outcome HashFault → Outcome → Type 0
@@ -56,20 +57,18 @@ IsResult Is (Ok made) outcome = Is outcome × (made ≡ outcome)
 IsResult Is (Err fault) outcome = Is outcome
 
 -- what a password comes to, by its field
-abbrev pub IsSettled : Job → List ℕ → Option StoredField → Stream → List Hashing → Stream → Outcome → Type 0
-IsSettled job password None stream hashings left outcome =
+abbrev pub IsSettled : Job → List ℕ → Option StoredField → Stream → List Hashing → Outcome → Type 0
+IsSettled job password None stream hashings outcome =
     (outcome ≡ Hashed (new_hash job password stream)) × (hashings ≡ new_hashing job password stream ∷ [])
-    × (left ≡ stream_after job.maker stream)
-IsSettled job password (Some fields.Empty) stream hashings left outcome = (outcome ≡ NoHash) × (hashings ≡ []) × (left ≡ stream)
-IsSettled job password (Some fields.Locked) stream hashings left outcome = (outcome ≡ Locked) × (hashings ≡ []) × (left ≡ stream)
-IsSettled job password (Some (fields.Hash stored)) stream hashings left outcome =
-    IsChecked job password stored stream hashings left outcome
+IsSettled job password (Some fields.Empty) stream hashings outcome = (outcome ≡ NoHash) × (hashings ≡ [])
+IsSettled job password (Some fields.Locked) stream hashings outcome = (outcome ≡ Locked) × (hashings ≡ [])
+IsSettled job password (Some (fields.Hash stored)) stream hashings outcome = IsChecked job password stored stream hashings outcome
 
 abbrev pub Settles : Job → List ℕ → Option StoredField → Stream → Work → Work → Stream → Result Outcome HashFault → Type 0
 Settles job password field stream before after new_stream result =
-    (outcome : Outcome) × (hashings : List Hashing) × (left : Stream)
-    × IsResult (IsSettled job password field stream hashings left) result outcome
-    × Makes hashings left before after new_stream result
+    (outcome : Outcome) × (hashings : List Hashing)
+    × IsResult (IsSettled job password field stream hashings) result outcome
+    × Makes hashings stream before after new_stream result
 
 -- a line's answer is the decision, without its hashes
 pub record IsDecisionOf (made : Decision) (answer : LineAnswer) : Type 0 where
@@ -84,9 +83,33 @@ IsDecidedBy made (Err fault) = Unit {0}
 abbrev pub Decides : Kind → Job → List ℕ → Stream → Work → Work → Stream → Result LineAnswer HashFault → Type 0
 Decides kind job line stream before after new_stream result =
     (made : Decision) × IsDecision kind job line stream made × IsDecidedBy made result
-    × Makes made.hashings made.stream before after new_stream result
+    × Makes made.hashings stream before after new_stream result
 
--- what comes before the text of an outcome; a single password has no name
+-- ---- texts
+
+-- a name, with the colon behind it; a single password has none
 abbrev pub front_by : Option (List ℕ) → List ℕ
 front_by None = []
-front_by (Some name) = front_of name
+front_by (Some name) = name ++ colon ∷ []
+
+-- a colon and a number in decimal
+abbrev pub count_text : ℕ → List ℕ
+count_text count = colon ∷ decimal count
+
+-- the counts of some work
+abbrev pub work_text : Work → List ℕ
+work_text work = flat_map (λ count. colon ∷ decimal count) (work.digests ∷ work.bytes ∷ work.mixes ∷ work.table ∷ [])
+
+-- and only if they are wanted
+abbrev pub wanted_text : Bool → Work → List ℕ
+wanted_text wanted work = if wanted then work_text work else []
+
+-- ---- the tally
+
+-- the tally after one more line, which came to this
+abbrev pub counted : Tally → Outcome → Tally
+counted tally outcome = record {
+  lines = tally.lines + 1;
+  refused = tally.refused + as_count (is_refusal outcome);
+  misfits = tally.misfits + as_count (is_misfit outcome);
+}

@@ -2,8 +2,10 @@
 use Rattle.std.specs.Prelude.{◌≡◌, ◌≢◌, ℕ, ◌+◌, ◌≤◌, List, [], length, take, Option, Result, Ok, Err}
 use Rattle.std.specs.Io.KnownBytes.{IsAtEnd}
 use Rattle.crypt_core.specs.Passwords.{IsPassword, IsPasswordRefused, password_limit}
-use Rattle.run_core.specs.Devices.{Device, FailsOnce, IsUnfailed, MovesBytes}
-use Rattle.run_core.specs.Input.{first_line, IsDecided, IsUndecided, Reads}
+use Rattle.run_core.specs.Devices.{Device, MovesBytes}
+use Rattle.run_core.specs.Input.{first_line, IsDecided, Reads}
+use Rattle.run_core.specs.Private.Deliveries.{FailsOnce, IsUnfailed}
+use Rattle.run_core.specs.Texts.{HasNoLineFeed}
 use Rattle.run_core.specs.declared.fault.RunFault.{RunFault}
 use Rattle.run_core.specs.declared.fault.RunFault.TheVariants.{Read, Turns, Password}
 use Rattle.run_core.specs.declared.job.PasswordFrom.{PasswordFrom}
@@ -12,6 +14,10 @@ use Rattle.run_core.specs.declared.job.PasswordFrom.TheVariants.{Word, Input}
 -- so many bytes without a line feed are one too many for a password
 abbrev pub buffer_size : ℕ
 buffer_size = password_limit + 1
+
+-- the bytes that were read don't tell the password yet: they have no line feed, and could still be one
+abbrev pub IsUndecided : List ℕ → Type 0
+IsUndecided bytes = HasNoLineFeed bytes × (length bytes ≤ password_limit)
 
 -- a fetch failed, or no turn was left, before the password was known, and each fetch that worked had given a byte
 abbrev pub IsStopped : {I : Type 0} → Device I → Device I → List ℕ → ℕ → RunFault → Type 0

@@ -4,9 +4,13 @@ use Rattle.prims_core.specs.Work.{IsAtMost}
 use Rattle.prims_core.specs.declared.meter.Work.{Work}
 use Rattle.crypt_core.specs.TextLimits.{hash_limit}
 use Rattle.crypt_core.specs.Work.{work_limit}
-use Rattle.run_core.specs.Devices.{Device, calls_limit}
+use Rattle.run_core.specs.Devices.{Device, turns_limit}
 use Rattle.run_core.specs.Lines.{name_limit}
 use Rattle.run_core.specs.declared.tally.Tally.{Tally}
+
+-- the most calls that two outputs can count in a run: those that both had before, and the turns
+abbrev pub calls_limit : ℕ
+calls_limit = 2 ^ 63 + turns_limit
 
 -- more lines than a run can read
 abbrev pub lines_limit : ℕ

@@ -1,17 +1,17 @@
 -- Where a run over lines is between two of its steps, and how a step can end.
 use Rattle.std.specs.Prelude.{◌≡◌, ◌≢◌, ℕ, ◌+◌, ◌*◌, ◌^◌, ◌<◌, ◌≤◌, Bool, true, false, List, [], ◌∷◌, ◌++◌, length, Option, Result, Ok, Err}
-use Rattle.std.specs.List.{AllByRecursion}
+use Rattle.std.specs.Io.KnownBytes.{IsAtEnd}
 use Rattle.rand_core.specs.Stream.{Stream}
 use Rattle.prims_core.specs.declared.meter.Work.{Work}
-use Rattle.run_core.specs.Answers.{Answer, IsRefusedAmong, after_work}
-use Rattle.run_core.specs.Devices.{Device, IsUnfailed, MovesBytes, calls_limit, turns_limit}
+use Rattle.run_core.specs.Answers.{Answer, IsRefusedAmong, after_work, fault_texts, hashings_of, stream_left, tally_of, texts}
+use Rattle.run_core.specs.Devices.{Device, MovesBytes, turns_limit}
 use Rattle.run_core.specs.Input.{Reads}
-use Rattle.run_core.specs.LineAnswers.{IsAnswer}
-use Rattle.run_core.specs.LineRuns.{AreAnswers, EndsLines, IsReadOut, lines_of, piece_size, with_line_feeds}
+use Rattle.run_core.specs.LineAnswers.{AreAnswers, IsAnswer}
+use Rattle.run_core.specs.LineRuns.{EndsLines, HasLines, lines_of, piece_size}
 use Rattle.run_core.specs.Lines.{IsTooLong}
 use Rattle.run_core.specs.Output.{Takes}
-use Rattle.run_core.specs.Private.Deliveries.{IsSentInPart, Sends}
-use Rattle.run_core.specs.Private.Headroom.{HasCountsFor, HasRoomFor, IsTallied, lines_limit}
+use Rattle.run_core.specs.Private.Deliveries.{IsSentInPart, IsUnfailed, Sends}
+use Rattle.run_core.specs.Private.Headroom.{HasCountsFor, HasRoomFor, IsTallied, calls_limit, lines_limit}
 use Rattle.run_core.specs.Runs.{RunState, calls_of, run_state}
 use Rattle.run_core.specs.Texts.{HasNoLineFeed, line_feed}
 use Rattle.run_core.specs.declared.fault.RunFault.{RunFault}
@@ -102,82 +102,67 @@ module _ {O E : Type 0} where
   AnswersOne left answer old new (Err OutOfMemory) =
       (new.out ≡ old.out) × (new.faults ≡ old.faults) × IsRefusedAmong old.counts answer.hashings new.counts new.stream
   AnswersOne left answer old new result =
-      (new.stream ≡ answer.stream) × (new.counts ≡ after_work old.counts answer.hashings)
+      (new.stream ≡ stream_left old.stream answer.hashings) × (new.counts ≡ after_work old.counts answer.hashings)
       × Sends left answer old.out old.faults new.out new.faults result
 
   -- ---- all answers so far
 
   -- they are given, and nothing failed
-  pub record AreGiven (answers : Answer) (start now : OutputState O E) : Type 0 where
-    pub out_unfailed : IsUnfailed start.out now.out
-    pub faults_unfailed : IsUnfailed start.faults now.faults
-    pub text : Takes start.out now.out answers.text
-    pub fault_text : Takes start.faults now.faults answers.fault_text
-    pub stream : now.stream ≡ answers.stream
-    pub counts : now.counts ≡ after_work start.counts answers.hashings
+  pub record AreGiven (answers : List Answer) (start now : OutputState O E) : Type 0 where
+    pub text : Takes 0 0 start.out now.out (texts answers)
+    pub fault_text : Takes 0 0 start.faults now.faults (fault_texts answers)
+    pub stream : now.stream ≡ stream_left start.stream (hashings_of answers)
+    pub counts : now.counts ≡ after_work start.counts (hashings_of answers)
 
   -- Of these bytes, the lines with a line feed are answered; what follows them is held.
-  pub record IsAt (kind : Kind) (job : Job)
-      (start now : OutputState O E) (bytes : List ℕ) (position : Position) : Type 0 where
+  pub record IsAt (kind : Kind) (job : Job) (start now : OutputState O E) (bytes : List ℕ) (position : Position) : Type 0 where
     pub done : List (List ℕ)
     pub rest : List ℕ
-    pub answers : Answer
-    pub split : bytes ≡ with_line_feeds done ++ rest
-    pub lines : AllByRecursion HasNoLineFeed done
+    pub answers : List Answer
+    pub has : HasLines bytes done rest
     pub no_feed : HasNoLineFeed rest
     pub held : Represents position.buffer rest
     pub are : AreAnswers kind job 1 done start.stream answers
-    pub tally : position.tally ≡ answers.tally
-    pub numbers : answers.tally.lines ≡ length done
+    pub tally : position.tally ≡ tally_of answers
     pub given : AreGiven answers start now
 
   -- how the outputs, the stream and the counts are left by a fault: after these answers, in the next one
-  abbrev pub IsInterrupted : ℕ → Answer → Answer → OutputState O E → OutputState O E → RunFault → Type 0
+  abbrev pub IsInterrupted : ℕ → List Answer → Answer → OutputState O E → OutputState O E → RunFault → Type 0
   IsInterrupted left done next start new OutOfMemory =
-      IsRefusedAmong (after_work start.counts done.hashings) next.hashings new.counts new.stream
-      × IsUnfailed start.out new.out × IsUnfailed start.faults new.faults
-      × Takes start.out new.out done.text × Takes start.faults new.faults done.fault_text
+      IsRefusedAmong (after_work start.counts (hashings_of done)) next.hashings new.counts new.stream
+      × Takes 0 0 start.out new.out (texts done) × Takes 0 0 start.faults new.faults (fault_texts done)
   IsInterrupted left done next start new fault =
-      (new.stream ≡ next.stream) × (new.counts ≡ after_work (after_work start.counts done.hashings) next.hashings)
+      (new.stream ≡ stream_left start.stream (hashings_of (done ++ next ∷ [])))
+      × (new.counts ≡ after_work start.counts (hashings_of (done ++ next ∷ [])))
       × IsSentInPart left done next start.out start.faults new.out new.faults fault
 
-  -- some of the lines in these bytes are answered, and the next one, which begins the rest, was being answered
-  pub record IsCutAt (kind : Kind) (job : Job)
-      (start new : OutputState O E) (bytes line rest : List ℕ) (left : ℕ) (fault : RunFault) : Type 0 where
-    pub done : List (List ℕ)
-    pub answers : Answer
+  -- some lines are answered, and the next one was being answered
+  pub record IsCutAt (kind : Kind) (job : Job) (start new : OutputState O E) (lines : List (List ℕ)) (left : ℕ) (fault : RunFault) : Type 0 where
+    pub done : List Answer
     pub next : Answer
-    pub split : bytes ≡ with_line_feeds done ++ rest
-    pub lines : AllByRecursion HasNoLineFeed done
-    pub no_feed : HasNoLineFeed line
-    pub are : AreAnswers kind job 1 done start.stream answers
-    pub is_next : IsAnswer kind job (length done + 1) line answers.stream next
-    pub cut : IsInterrupted left answers next start new fault
+    pub are : AreAnswers kind job 1 lines start.stream (done ++ next ∷ [])
+    pub cut : IsInterrupted left done next start new fault
 
   -- a piece of the input was looked through
   abbrev pub LooksThrough : Kind → Job → OutputState O E → OutputState O E → List ℕ → Position → {A : Type 0} → Result A RunFault → Type 0
-  LooksThrough kind job start new bytes position (Ok done) =
-      IsAt kind job start new bytes position
+  LooksThrough kind job start new bytes position (Ok done) = IsAt kind job start new bytes position
   LooksThrough kind job start new bytes position (Err fault) =
-      (line behind : List ℕ) × (length behind < piece_size)
-      × IsCutAt kind job start new bytes line (line ++ line_feed ∷ behind) position.turns_left fault
+      (lines : List (List ℕ)) × (behind : List ℕ) × HasLines bytes lines behind × (length behind < piece_size)
+      × IsCutAt kind job start new lines position.turns_left fault
 
   -- ---- the last line
 
   -- all lines in these bytes are answered
-  pub record IsAllAnswered (kind : Kind) (job : Job)
-      (start now : OutputState O E) (bytes : List ℕ) (tally : Tally) : Type 0 where
-    pub answers : Answer
+  pub record IsAllAnswered (kind : Kind) (job : Job) (start now : OutputState O E) (bytes : List ℕ) (tally : Tally) : Type 0 where
+    pub answers : List Answer
     pub are : AreAnswers kind job 1 (lines_of bytes) start.stream answers
-    pub tally_is : tally ≡ answers.tally
+    pub tally_is : tally ≡ tally_of answers
     pub given : AreGiven answers start now
 
   -- the last line is answered, where that has no line feed
   abbrev pub AnswersLast : Kind → Job → OutputState O E → OutputState O E → List ℕ → Position → {A : Type 0} → Result A RunFault → Type 0
-  AnswersLast kind job start new bytes position (Ok done) =
-      IsAllAnswered kind job start new bytes position.tally
-  AnswersLast kind job start new bytes position (Err fault) =
-      (line : List ℕ) × (line ≢ []) × IsCutAt kind job start new bytes line line position.turns_left fault
+  AnswersLast kind job start new bytes position (Ok done) = IsAllAnswered kind job start new bytes position.tally
+  AnswersLast kind job start new bytes position (Err fault) = IsCutAt kind job start new (lines_of bytes) position.turns_left fault
 
 -- ---- between two fetches
 
@@ -219,7 +204,7 @@ module _ {I O E : Type 0} where
   GoesOn turns kind job start new position (Ok true) =
       (bytes : List ℕ) × IsAtInput turns kind job start new bytes position
   GoesOn turns kind job start new position (Ok false) =
-      (bytes : List ℕ) × IsAtInput turns kind job start new bytes position × IsReadOut new
+      (bytes : List ℕ) × IsAtInput turns kind job start new bytes position × IsAtEnd new.input.shown
   GoesOn turns kind job start new position (Err fault) = EndsLines turns kind job start new (Err fault)
 
   -- a step of a run that has come so far, wherever it began
@@ -231,5 +216,5 @@ module _ {I O E : Type 0} where
   -- the fetches to the end of the input
   abbrev pub GoesToEnd : ℕ → Kind → Job → RunState I O E → RunState I O E → Position → {A : Type 0} → Result A RunFault → Type 0
   GoesToEnd turns kind job start new position (Ok done) =
-      (bytes : List ℕ) × IsAtInput turns kind job start new bytes position × IsReadOut new
+      (bytes : List ℕ) × IsAtInput turns kind job start new bytes position × IsAtEnd new.input.shown
   GoesToEnd turns kind job start new position (Err fault) = EndsLines turns kind job start new (Err fault)

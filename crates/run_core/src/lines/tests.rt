@@ -1,7 +1,8 @@
 ghost use Rattle.std.specs.Prelude.{◌≡◌, ℕ, ◌^◌, ◌≤◌, List, ◌++◌, Some, OnOk};
-ghost use Rattle.run_core.specs.Answers.{Answer};
-ghost use Rattle.run_core.specs.LineRuns.{AreAnswers, lines_of};
-ghost use Rattle.run_core.specs.Runs.{HasCountsForRun};
+ghost use Rattle.prims_core.specs.Work.{IsAtMost};
+ghost use Rattle.run_core.specs.Answers.{Answer, fault_texts, texts};
+ghost use Rattle.run_core.specs.LineAnswers.{AreAnswers};
+ghost use Rattle.run_core.specs.LineRuns.{lines_of};
 ghost use Rattle.run_core.specs.declared.line.Kind.TheVariants.{Batch};
 
 mod budget;
@@ -38,11 +39,11 @@ fn run_on<'a, R: Rng>(
     rng: &mut R,
     meter: &mut Meter,
 ) -> Ran<'a>
-    requires { (given.turns ≤ 2 ^ 40) × HasCountsForRun meter.old }
+    requires { (given.turns ≤ 2 ^ 40) × IsAtMost meter.old (2 ^ 100) }
     ensures { OnOk result.0 ((bytes : List ℕ) → given.entry.reader ≡ Some bytes
-        → (answers : Answer) × AreAnswers Batch job.now 1 (lines_of bytes) (R.stream rng.old) answers
-        × (result.1.taken.items ≡ given.entry.writer.taken.items ++ answers.text)
-        × (result.2.taken.items ≡ given.entry.fault_writer.taken.items ++ answers.fault_text)) }
+        → (answers : List Answer) × AreAnswers Batch job.now 1 (lines_of bytes) (R.stream rng.old) answers
+        × (result.1.taken.items ≡ given.entry.writer.taken.items ++ texts answers)
+        × (result.2.taken.items ≡ given.entry.fault_writer.taken.items ++ fault_texts answers)) }
 {
     let mut input = Input::new(given.reader);
     let mut out = Output::new(given.writer);

@@ -1,6 +1,6 @@
 ghost use Rattle.std.specs.Prelude.{◌≡◌, ◌^◌, ◌≤◌, ◌++◌, OnOk, IfSome};
 ghost use Rattle.run_core.specs.Answers.{password_answer};
-ghost use Rattle.run_core.specs.Runs.{HasCountsForRun};
+ghost use Rattle.prims_core.specs.Work.{IsAtMost};
 
 mod calls;
 
@@ -38,7 +38,7 @@ fn run_on<'a, R: Rng>(
     meter: &mut Meter,
 ) -> Ran<'a>
     requires turns { given.turns ≤ 2 ^ 40 }
-    requires counts { HasCountsForRun meter.old }
+    requires counts { IsAtMost meter.old (2 ^ 100) }
     ensures { OnOk result.0 (IfSome word (λ password. result.1.taken.items
         ≡ given.entry.writer.taken.items ++ (password_answer job.now password.items (R.stream rng.old)).text)) }
 {

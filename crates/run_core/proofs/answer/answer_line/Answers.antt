@@ -9,19 +9,17 @@ use Rattle.run_core.proofs.Deciding.{costly, decided}
 use Rattle.run_core.proofs.answer.answer_line.Goals as goal
 
 pub returns-in-Err-clause-decides : goal.returns-in-Err-clause-decides
-returns-in-Err-clause-decides g c =
-    let stream = g.R.Rng.stream c.args.rng.now in (
-      refusal c.in-Err.fault stream,
-      refused c.in-Err.fault c.in-Err.ensures.refused refl,
-      record { name = sym c.refused.ensures.name; outcome = sym c.refused.ensures.outcome },
-      (refl, refl),
-    )
+returns-in-Err-clause-decides g c = (
+  refusal c.in-Err.fault,
+  refused c.in-Err.fault c.in-Err.ensures.refused refl,
+  record { name = sym c.refused.ensures.name; outcome = sym c.refused.ensures.outcome },
+  (refl, refl),
+)
 
 pub returns-then-is_over_budget-clause-decides : goal.returns-then-is_over_budget-clause-decides
 returns-then-is_over_budget-clause-decides g c =
-    let stream = g.R.Rng.stream c.args.rng.now in
     let above = c.is_over_budget.ensures.0 c.if-is_over_budget.true in (
-      refusal OverBudget stream,
+      refusal OverBudget,
       over (costly c.args.kind c.args.job.now c.args.bytes.now _ _ _ c.in-Ok.ensures.read above) refl,
       record { name = sym c.refused-then-is_over_budget.ensures.name; outcome = sym c.refused-then-is_over_budget.ensures.outcome },
       (refl, refl),
@@ -35,10 +33,10 @@ returns-in_err-outcome-clause-decides g c =
     let within : ¬ IsAbove c.args.job.now.budget (field_cost c.args.job.now c.in-Ok.line.field (length c.in-Ok.line.password)) =
     λ above. true≢false (sym (c.is_over_budget.ensures.1 above) ∙ c.if-is_over_budget.false) in
     rw p.1 (
-      decision c.in-Ok.line.name.now settles.0 settles.1 settles.2,
-      decided c.args.kind c.args.job.now c.args.bytes.now stream settles.2 _ _ _ settles.1 settles.0 c.in-Ok.ensures.read within settles.3,
+      decision c.in-Ok.line.name.now settles.0 settles.1,
+      decided c.args.kind c.args.job.now c.args.bytes.now stream _ _ _ settles.1 settles.0 c.in-Ok.ensures.read within settles.2,
       tt,
-      settles.4,
+      settles.3,
     )
 
 pub returns-clause-decides : goal.returns-clause-decides
@@ -47,8 +45,8 @@ returns-clause-decides g c =
     let settles = c.in_ok-outcome.ensures.settles in
     let within : ¬ IsAbove c.args.job.now.budget (field_cost c.args.job.now c.in-Ok.line.field (length c.in-Ok.line.password)) =
     λ above. true≢false (sym (c.is_over_budget.ensures.1 above) ∙ c.if-is_over_budget.false) in (
-      decision c.in-Ok.line.name.now settles.0 settles.1 settles.2,
-      decided c.args.kind c.args.job.now c.args.bytes.now stream settles.2 _ _ _ settles.1 settles.0 c.in-Ok.ensures.read within settles.3.0,
-      record { name = refl; outcome = sym settles.3.1 },
-      settles.4,
+      decision c.in-Ok.line.name.now settles.0 settles.1,
+      decided c.args.kind c.args.job.now c.args.bytes.now stream _ _ _ settles.1 settles.0 c.in-Ok.ensures.read within settles.2.0,
+      record { name = refl; outcome = sym settles.2.1 },
+      settles.3,
     )

@@ -1,4 +1,4 @@
-use Rattle.std.proofs.Common.{◌≡◌, ℕ, List, [], ◌∷◌, Some, true, false, true≢false, ◌&&◌, inl, inr, refl, sym, ap, subst, ◌∙◌}
+use Rattle.std.proofs.Common.{◌≡◌, ℕ, List, [], ◌∷◌, Some, true, false, true≢false, ◌&&◌, refl, sym, ap, subst, ◌∙◌}
 use Rattle.std.proofs.lemmas.Result.{err_from_is_err_and}
 use Rattle.prims_core.specs.declared.meter.Work.{Work}
 use Rattle.crypt_core.specs.Crypt.{IsAfterRefusedGrowth, crypt}
@@ -10,7 +10,7 @@ use Rattle.crypt_core.specs.declared.stored.StoredField.{StoredField}
 use Rattle.crypt_core.specs.declared.stored.StoredField.TheVariants.{Hash}
 use Rattle.run_core.specs.Answers.{hashing, new_hash, new_hashing}
 use Rattle.run_core.specs.JobOptions.{is_outdated}
-use Rattle.run_core.specs.Makers.{next_setting, stream_after}
+use Rattle.run_core.specs.Makers.{next_setting}
 use Rattle.run_core.specs.declared.answer.Outcome.TheVariants.{Hashed, Match, Mismatch, Rehashed}
 use Rattle.run_core.proofs.Deciding.{would_check}
 use Rattle.run_core.proofs.answer.outcome_of.Goals as goal
@@ -26,9 +26,8 @@ returns-in_err-make_hash-clause-settles g c =
     rw (p.1, c.in_default.is) (
       Hashed (new_hash job password stream),
       new_hashing job password stream ∷ [],
-      stream_after job.maker stream,
-      (refl, refl, refl),
-      inl (c.in_err-make_hash.ensures.refused, c.make_hash.ensures.stream),
+      (refl, refl),
+      ([], new_hashing job password stream, [], refl, c.in_err-make_hash.ensures.refused, c.make_hash.ensures.stream),
     )
 
 pub returns-in_default-clause-settles : goal.returns-in_default-clause-settles
@@ -39,8 +38,7 @@ returns-in_default-clause-settles g c =
     rw c.in_default.is (
       Hashed (new_hash job password stream),
       new_hashing job password stream ∷ [],
-      stream_after job.maker stream,
-      ((refl, refl, refl), ap (λ (h : List ℕ). Hashed h) c.in_ok-make_hash.ensures.hash),
+      ((refl, refl), ap (λ (h : List ℕ). Hashed h) c.in_ok-make_hash.ensures.hash),
       (c.in_ok-make_hash.ensures.count, c.make_hash.ensures.stream),
     )
 
@@ -55,7 +53,12 @@ returns-in_err-fits-clause-settles g c =
     let stream = g.R.Rng.stream c.args.rng.now in
     let p = err_from_is_err_and c.from_residual-in_err-fits.result c.from_residual-in_err-fits.ensures.1 in
     let would = would_check job password stored stream in
-    rw (p.1, field_is) (would.outcome, hashing password stored.setting stream ∷ would.more, would.left, would.checked, inl (c.in_err-fits.ensures.refused, refl))
+    rw (p.1, field_is) (
+      would.outcome,
+      hashing password stored.setting stream ∷ would.more,
+      would.checked,
+      ([], hashing password stored.setting stream, would.more, refl, c.in_err-fits.ensures.refused, refl),
+    )
 
 pub returns-then-not-branch-clause-settles : goal.returns-then-not-branch-clause-settles
 returns-then-not-branch-clause-settles g c =
@@ -67,8 +70,7 @@ returns-then-not-branch-clause-settles g c =
     rw field_is (
       Mismatch,
       hashing password stored.setting stream ∷ [],
-      stream,
-      (((λ same. true≢false (sym (verdict.1 same) ∙ c.if-not-branch.true)), refl, refl), refl),
+      (((λ same. true≢false (sym (verdict.1 same) ∙ c.if-not-branch.true)), refl), refl),
       (c.in_ok-fits.ensures.count, refl),
     )
 
@@ -86,8 +88,7 @@ returns-then-not-renews-clause-settles g c =
     rw field_is (
       Match,
       hashing password stored.setting stream ∷ [],
-      stream,
-      ((same, recent, refl, refl), refl),
+      ((same, recent, refl), refl),
       (c.in_ok-fits.ensures.count, refl),
     )
 
@@ -107,9 +108,8 @@ returns-in_err-make_hash-2-clause-settles g c =
     rw (p.1, field_is) (
       Rehashed (new_hash job password stream),
       hashing password stored.setting stream ∷ new_hashing job password stream ∷ [],
-      stream_after job.maker stream,
-      (same, outdated, refl, refl, refl),
-      inr (inl (refused, c.make_hash-2.ensures.stream)),
+      (same, outdated, refl, refl),
+      (hashing password stored.setting stream ∷ [], new_hashing job password stream, [], refl, refused, c.make_hash-2.ensures.stream),
     )
 
 pub returns-clause-settles : goal.returns-clause-settles
@@ -127,7 +127,6 @@ returns-clause-settles g c =
     rw field_is (
       Rehashed (new_hash job password stream),
       hashing password stored.setting stream ∷ new_hashing job password stream ∷ [],
-      stream_after job.maker stream,
-      ((same, outdated, refl, refl, refl), ap (λ (h : List ℕ). Rehashed h) c.in_ok-make_hash-2.ensures.hash),
+      ((same, outdated, refl, refl), ap (λ (h : List ℕ). Rehashed h) c.in_ok-make_hash-2.ensures.hash),
       (count, c.make_hash-2.ensures.stream),
     )

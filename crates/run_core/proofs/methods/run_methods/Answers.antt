@@ -1,16 +1,16 @@
-use Rattle.std.proofs.Common.{Err}
+use Rattle.std.proofs.Common.{ℕ, List, Ok, Err, subst}
 use Rattle.std.proofs.lemmas.Result.{err_from_is_err_and}
 use Rattle.run_core.specs.Methods.{methods_text}
+use Rattle.run_core.specs.Output.{Shows}
 use Rattle.run_core.proofs.Showing.{shows-tally}
 use Rattle.run_core.proofs.methods.run_methods.Goals as goal
 
 pub returns-in_err-show-clause-shows : goal.returns-in_err-show-clause-shows
 returns-in_err-show-clause-shows g c =
     let p = err_from_is_err_and c.from_residual.result c.from_residual.ensures.1 in
-    rw (p.1, p.2) (shows-tally c.args.turns c.args.out.now c.show.new.out methods_text (Err c.in_err-show.field-0.0)
-    (rw c.as_bytes.ensures.value at c.in_err-show.ensures))
+    rw (p.1, p.2) (shows-tally {A = Unit {0}} c.args.turns c.args.out.now c.show.new.out methods_text (Err c.in_err-show.field-0.0)
+    (subst (λ (text : List ℕ). Shows {A = Unit {0}} c.args.turns c.args.out.now c.show.new.out text (Err c.in_err-show.field-0.0)) c.as_bytes.ensures.value c.in_err-show.ensures))
 
 pub returns-clause-shows : goal.returns-clause-shows
 returns-clause-shows g c =
-    rw c.new.ensures (shows-tally c.args.turns c.args.out.now c.show.new.out methods_text _
-    (rw c.as_bytes.ensures.value at c.in_ok-show.ensures))
+    subst (λ (text : List ℕ). Shows {A = Unit {0}} c.args.turns c.args.out.now c.show.new.out text (Ok tt)) c.as_bytes.ensures.value c.in_ok-show.ensures

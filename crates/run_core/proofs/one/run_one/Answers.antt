@@ -1,10 +1,11 @@
 use Rattle.std.proofs.Common.{◌≡◌, ℕ, List, [], ◌∷◌, ◌++◌, ap, sym, ◌∙◌, arith}
 use Rattle.rand_core.specs.Stream.{Stream}
+use Rattle.prims_core.specs.Work.{no_work}
 use Rattle.prims_core.specs.declared.meter.Work.{Work}
 use Rattle.crypt_core.specs.Work.{raised_by, work, work_limit}
-use Rattle.run_core.specs.Answers.{new_hash, new_hashing, password_answer, wanted_text, work_of}
+use Rattle.run_core.specs.Answers.{after_work, new_hash, new_hashing, password_answer, rendered}
 use Rattle.run_core.specs.Makers.{next_setting}
-use Rattle.run_core.specs.Outcomes.{rendered}
+use Rattle.run_core.specs.Private.Answers.{wanted_text}
 use Rattle.run_core.specs.Texts.{as_line}
 use Rattle.run_core.specs.declared.answer.Outcome.TheVariants.{Hashed}
 use Rattle.run_core.specs.declared.job.Job.{Job}
@@ -21,7 +22,7 @@ the_line : (job : Job) (password : List ℕ) (stream : Stream) (hash : List ℕ)
     → ((more : Work) → after ≡ raised_by reading more → told ≡ more)
     → as_line (rendered (Hashed hash) ++ wanted_text job.work told) ≡ (password_answer job password stream).text
 the_line job password stream hash before after reading told is counted read raised =
-    let more = work_of (new_hashing job password stream ∷ []) in
+    let more = after_work no_work (new_hashing job password stream ∷ []) in
     let risen : after ≡ raised_by reading more = counted ∙ (after_hashings before (new_hashing job password stream ∷ []) ∙ ap (λ (w : Work). raised_by w more) (sym read)) in
     ap (λ (h : List ℕ). as_line (h ++ wanted_text job.work told)) is
     ∙ ap (λ (w : Work). as_line (new_hash job password stream ++ wanted_text job.work w)) (raised more risen)
@@ -60,7 +61,7 @@ returns-in_err-send-clause-ends g c =
     let p = err_from_is_err_and c.from_residual-in_err-send.result c.from_residual-in_err-send.ensures.1 in
     rw (p.1, p.2) (ending.ends-sending c.args.turns c.args.job.now c.args.from.now c.in_ok-password.password c.as_slice.result.now old
     c.obtain.new.input c.send.new.out (g.R.Rng.stream c.make_hash.new.rng) c.make_hash.new.meter c.obtain.new.left c.in_err-send.field-0.0
-    has c.in_err-send.ensures.delivers c.in_err-send.ensures.outcome)
+    has c.in_err-send.ensures.delivers)
 
 pub returns-in_err-finish_both-clause-ends : goal.returns-in_err-finish_both-clause-ends
 returns-in_err-finish_both-clause-ends g c =
@@ -73,7 +74,7 @@ returns-in_err-finish_both-clause-ends g c =
     rw (p.1, p.2) (ending.ends-unfinished c.args.turns c.args.job.now c.args.from.now c.in_ok-password.password c.as_slice.result.now old
     c.obtain.new.input c.send.new.out c.finish_both.new.out c.finish_both.new.faults
     (g.R.Rng.stream c.make_hash.new.rng) c.make_hash.new.meter c.obtain.new.left (Unit {0}) c.in_err-finish_both.field-0.0
-    has c.in_ok-send.ensures.delivers c.in_ok-send.ensures.outcome c.in_err-finish_both.ensures.finishes)
+    has c.in_ok-send.ensures.delivers c.in_err-finish_both.ensures.finishes)
 
 pub returns-clause-ends : goal.returns-clause-ends
 returns-clause-ends g c =
@@ -85,7 +86,7 @@ returns-clause-ends g c =
     ending.ends-finished c.args.turns c.args.job.now c.args.from.now c.in_ok-password.password c.as_slice.result.now old
     c.obtain.new.input c.send.new.out c.finish_both.new.out c.finish_both.new.faults
     (g.R.Rng.stream c.make_hash.new.rng) c.make_hash.new.meter c.obtain.new.left c.in_ok-finish_both.field-0
-    has c.in_ok-send.ensures.delivers c.in_ok-send.ensures.outcome c.in_ok-finish_both.ensures.finishes
+    has c.in_ok-send.ensures.delivers c.in_ok-finish_both.ensures.finishes
 
 -- ---- what only lines have has no effect
 

@@ -1,13 +1,13 @@
 use Rattle.std.proofs.Common.{◌≡◌, ◌+◌, List, refl, sym, ap, ◌∙◌, arith}
 use Rattle.std.proofs.lemmas.Result.{err_from_is_err_and}
 use Rattle.crypt_core.specs.Work.{raised_by}
+use Rattle.prims_core.specs.Work.{no_work}
 use Rattle.prims_core.specs.declared.meter.Work.{Work}
-use Rattle.run_core.specs.Answers.{Hashing, after_work, work_of}
+use Rattle.run_core.specs.Answers.{Hashing, after_work}
 use Rattle.run_core.specs.LineAnswers.{decided_answer}
-use Rattle.run_core.specs.Outcomes.{tally_of}
+use Rattle.run_core.specs.Private.Answers.{counted}
 use Rattle.run_core.specs.Private.Headroom.{line_work_limit}
 use Rattle.run_core.specs.Private.LineProgress.{OutputState, state_of}
-use Rattle.run_core.specs.Tallies.{both_tallies}
 use Rattle.run_core.specs.declared.answer.Outcome.{Outcome}
 use Rattle.run_core.proofs.Answering.{answers-sent, room-after}
 use Rattle.run_core.proofs.Counting.{after_hashings, small_rise}
@@ -15,9 +15,9 @@ use Rattle.run_core.proofs.lines.LineRun.answer_buffered.Goals as goal
 
 -- the work that is rendered is that of the hashes
 rendered_work : (before after reading told : Work) (hashings : List Hashing) → after ≡ after_work before hashings → reading ≡ before
-    → ((more : Work) → after ≡ raised_by reading more → told ≡ more) → work_of hashings ≡ told
+    → ((more : Work) → after ≡ raised_by reading more → told ≡ more) → after_work no_work hashings ≡ told
 rendered_work before after reading told hashings made read raised =
-    sym (raised (work_of hashings) (made ∙ (after_hashings before hashings ∙ ap (λ (w : Work). raised_by w (work_of hashings)) (sym read))))
+    sym (raised (after_work no_work hashings) (made ∙ (after_hashings before hashings ∙ ap (λ (w : Work). raised_by w (after_work no_work hashings)) (sym read))))
 
 pub work_since-work-requires : goal.work_since-work-requires
 work_since-work-requires g c = record {
@@ -50,7 +50,7 @@ returns-clause-answers g c line stands =
       decided_answer c.args.self.now.job.now (c.args.self.now.tally.lines + 1) decides.0,
       (decides.0, decides.1, refl),
       (decides.3.1, decides.3.0, c.in_ok-give.ensures.sends decides.0 decides.2 work_is),
-      c.count_line.ensures ∙ ap (λ (o : Outcome). both_tallies c.args.self.now.tally (tally_of o)) (sym decides.2.outcome),
+      c.count_line.ensures ∙ ap (λ (o : Outcome). counted c.args.self.now.tally o) (sym decides.2.outcome),
     )
 
 pub returns-clause-room : goal.returns-clause-room

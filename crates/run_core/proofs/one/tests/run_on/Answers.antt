@@ -1,7 +1,8 @@
-use Rattle.std.proofs.Common.{◌≡◌, ℕ, List, ◌++◌, OnOk, Option, Some, Result, Ok, Err, ap, sym}
+use Rattle.std.proofs.Common.{◌≡◌, ℕ, List, ◌++◌, append-nil, OnOk, Option, Some, Result, Ok, Err, ap, sym}
+use Rattle.std.specs.Prelude.{⊤}
 use Rattle.run_core.specs.Answers.{password_answer}
 use Rattle.run_core.specs.Devices.{Device}
-use Rattle.run_core.specs.One.{EndsBy}
+use Rattle.run_core.specs.One.{EndsPassword}
 use Rattle.run_core.specs.Runs.{RunState}
 use Rattle.run_core.specs.declared.fault.RunFault.{RunFault}
 use Rattle.run_core.specs.declared.job.Job.{Job}
@@ -11,9 +12,10 @@ use Rattle.run_core.proofs.one.tests.run_on.Goals.{in-Some, in-None}
 
 -- what the output has after a tally
 has_answer : {I O E : Type 0} (turns : ℕ) (job : Job) (password before after : List ℕ) (old new : RunState I O E)
-    (result : Result Tally RunFault) → old.out.shown ≡ Some before → new.out.shown ≡ Some after → EndsBy turns job password old new result
+    (result : Result Tally RunFault) → old.out.shown ≡ Some before → new.out.shown ≡ Some after → EndsPassword ⊤ ⊥ turns job password old new result
     → OnOk result (after ≡ before ++ (password_answer job password old.stream).text)
-has_answer turns job password before after old new (Ok tally) was now (ok, (is, fails, takes, done)) = rw (was, now) at takes.text.shown
+has_answer turns job password before after old new (Ok tally) was now (answers, (decided, ok, are), (is, takes, done)) =
+    rw (was, now, are, append-nil) at takes.text.shown
 has_answer turns job password before after old new (Err fault) was now ends = tt
 
 no_word : (result : Result Tally RunFault) → OnOk result (Unit {0})

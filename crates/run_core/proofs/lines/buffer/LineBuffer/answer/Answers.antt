@@ -8,10 +8,9 @@ use Rattle.run_core.proofs.lines.buffer.LineBuffer.answer.Goals as goal
 
 pub returns-in-TooLong-clause-decides : goal.returns-in-TooLong-clause-decides
 returns-in-TooLong-clause-decides g c = λ line stands.
-    let stream = g.R.Rng.stream c.args.rng.now in
     let long = subst (λ (buffer : LineBuffer). Represents buffer line) c.in-TooLong.is stands in (
-      refusal LineTooLong stream,
-      too_long-decided c.args.kind c.args.job.now line stream long,
+      refusal LineTooLong,
+      too_long-decided c.args.kind c.args.job.now line (g.R.Rng.stream c.args.rng.now) long,
       record { name = sym c.refused.ensures.name; outcome = sym c.refused.ensures.outcome },
       (refl, refl),
     )
