@@ -1,6 +1,6 @@
 #!/usr/bin/env perl
 # What the documents say of the tree is there: the mutants of docs/MUTANTS.md, the calls, clauses and numbers of
-# docs/PROOFS.md, and the files of each usual change in docs/ARCHITECTURE.md.
+# docs/PROOFS.md, and the files of each usual change in docs/ARCHITECTURE.md. With WRITE=1 it writes these lists anew instead.
 use strict;
 use warnings;
 use FindBin qw($Bin);
@@ -22,8 +22,9 @@ my @crates = slurp("$root/crates.txt") =~ /^(\w+)/mg;
 sub tables_of {
     my (%tables, $heading);
     for (split /\n/, slurp("$root/$_[0]")) {
-        if (/^## (.*)/) { $heading = $1 }
-        elsif (defined $heading && /^\|(?!-)(.*)\|$/) { push @{ $tables{$heading} }, [map { s/^\s+|\s+$//gr } split /(?<!\\)\|/, $1, -1] }
+        $heading = $1 if /^## (.*)/;
+        next if !defined $heading || !/^\|(?!-)(.*)\|$/;
+        push @{ $tables{$heading} }, [map { s/^\s+|\s+$//gr } split /(?<!\\)\|/, $1, -1];
     }
     shift @$_ for values %tables;
     return %tables;
@@ -36,7 +37,7 @@ sub codes { return grep { defined } $_[0] =~ /`([^`]+)`/g }
 sub functions_of {
     my ($crate) = @_;
     my @functions;
-    my @files = grep { !m{/tests(?:/|\.rt)} } split /\n/, run('find', "$root/crates/$crate/src", '-name', '*.rt')->{out};
+    my @files = grep { !m{/src/(?:.*/)?tests(?:/|\.rt)} } split /\n/, run('find', "$root/crates/$crate/src", '-name', '*.rt')->{out};
     for my $path (sort @files) {
         my $file = $path =~ s{.*?/src/}{}r;
         my ($module) = $file =~ m{([^/]+)\.rt$};
@@ -69,16 +70,17 @@ sub named {
 # ---- docs/MUTANTS.md
 
 my %mutants = tables_of('docs/MUTANTS.md');
+
+# The file and the first function that a mutant's row names.
+sub changed { return join ' ', map { (codes($_))[0] } @{ $_[0] }[1, 2] }
+
 is(run("$root/tools/mutants")->{out}, slurp("$root/docs/MUTANTS.md"), 'MUTANTS.md is what make mutants writes');
 for my $crate (@crates) {
     my @rows = @{ $mutants{$crate} // [] };
     my @edits = map { s{.*/(.*)\.edit$}{$1}r } glob "$root/crates/$crate/must-fail/*.edit";
     is_deeply([sort map { codes($_->[0]) } @rows], [sort @edits], "MUTANTS.md: the mutants of $crate");
-    my @unknown = grep {
-        my ($file, $name) = map { (codes($_))[0] } @$_[1, 2];
-        !grep { $_->{file} eq $file && $_->{name} eq $name } @{ $functions{$crate} };
-    } @rows;
-    none([map { $_->[0] } @unknown], "MUTANTS.md: the functions of $crate");
+    my %is_there = map { ("$_->{file} $_->{name}" => 1) } @{ $functions{$crate} };
+    none([grep { !$is_there{$_} } map { changed($_) } @rows], "MUTANTS.md: the functions of $crate");
 }
 
 # ---- docs/PROOFS.md
@@ -89,7 +91,7 @@ for my $crate (@crates) {
     for (@{ $proofs{$crate} // [] }) {
         my ($call, $clauses, $says, $number) = @$_;
         push @long, $says if split(' ', $says) > $guarantee;
-        my (@here, @new);
+        my @here;
         for my $name (grep { /^\w+(?:::\w+)*$/ } codes($call)) {
             my @named = named($name, $crate);
             push @unknown, $name if !@named || $name =~ /^[a-z]/ && @named > 1;
@@ -99,11 +101,10 @@ for my $crate (@crates) {
             push @unknown, "$call: $clause" if !grep { $_->{clauses}{$clause} } @here;
         }
         my %is_new = map { ("$_->{file} $_->{name}" => 1) } grep { !$counted{"$_->{file} $_->{name}"}++ } @here;
-        my $mutants = grep { my ($file, $name) = map { (codes($_))[0] } @$_[1, 2]; $is_new{"$file $name"} } @{ $mutants{$crate} // [] };
-        my $there = %is_new ? $mutants : '–';
+        my $there = %is_new ? grep { $is_new{ changed($_) } } @{ $mutants{$crate} // [] } : '–';
         push @numbers, "$call: $number, there are $there" if $number ne $there;
     }
-    my @left = grep { my ($file, $name) = map { (codes($_))[0] } @$_[1, 2]; !$counted{"$file $name"} } @{ $mutants{$crate} // [] };
+    my @left = grep { !$counted{ changed($_) } } @{ $mutants{$crate} // [] };
     none(\@long, "PROOFS.md: a guarantee of $crate has at most $guarantee words");
     none(\@unknown, "PROOFS.md: the calls and clauses of $crate");
     none(\@numbers, "PROOFS.md: the numbers of mutants of $crate");
@@ -138,18 +139,21 @@ sub listed {
     return map { "- $_" . join ', ', @{ $names{$_} } } sort keys %names;
 }
 
-my ($changes) = slurp("$root/docs/ARCHITECTURE.md") =~ /^## One change, and its files\n(.*?)(?=^## )/ms;
+my $architecture = slurp("$root/docs/ARCHITECTURE.md");
+my ($changes) = $architecture =~ /^## One change, and its files\n(.*?)(?=^## )/ms;
 my (undef, @changes) = split /^### /m, $changes;
 my @kinds;
 for (@changes) {
-    my ($kind, $pattern) = /^(An? [\w ]+).*\n\n\d+ files have `([^`]+)`:\n/ or next;
+    my ($kind, $list, $pattern) = /^(An? [\w ]+).*\n\n(\d+ files have `([^`]+)`:\n(?:\n- .*(?:\n- .*)*)?)/ or next;
     my @found = grep { $content{$_} =~ $pattern && ($kind eq 'A call for C' || !/$on_top/) } sort keys %content;
-    push @kinds, lc $kind;
-    my ($list) = /(^\d.*)/ms;
-    my $wanted = @found . " files have `$pattern`:\n\n" . join '', map { "$_\n" } listed(@found);
-    is($list =~ s/\n+\z//r, $wanted =~ s/\n+\z//r, "ARCHITECTURE.md: the files of $kinds[-1]");
+    my $wanted = join "\n", @found . " files have `$pattern`:", '', listed(@found);
+    if ($ENV{WRITE}) { $architecture =~ s/\Q$list\E/$wanted/ }
+    else { is($list, $wanted, "ARCHITECTURE.md: the files of \l$kind") }
+    push @kinds, lcfirst $kind;
     cmp_ok(scalar @found, '<=', $most{$kinds[-1]}, "ARCHITECTURE.md: no more files of $kinds[-1]") if $most{$kinds[-1]};
 }
-is(join(', ', @kinds), 'a scheme, an option, a refusal, a limit, a default, a call for c, a shown count', 'ARCHITECTURE.md: the usual changes');
+spew("$root/docs/ARCHITECTURE.md", $architecture) if $ENV{WRITE};
+is(join(', ', @kinds), 'a scheme, an option, a refusal, a limit, a default, a call for C, a shown count',
+    'ARCHITECTURE.md: the usual changes');
 
 done_testing;
