@@ -5,6 +5,7 @@
 # make check      the layers, the gate, make test, and planted faults, which the tests have to see; with ANEW=1 the gate
 #                 proves all, also what an earlier one on this machine has passed
 # make specification  writes docs/SPECIFICATION.md anew, from the clauses and definitions
+# make mutants    writes docs/MUTANTS.md anew; with LOG=FILE from a log of the gate, what refuses each mutant
 # make gate       proves all that no gate on this machine has passed, runs the tests, tries the edits that must fail, and
 #                 without CPU leaves ./mkpasswd
 # make bench      measures against libxcrypt, in some two minutes
@@ -38,7 +39,7 @@ T = $(filter-out tests/planted.t,$(wildcard tests/*.t))
 PROVE = PERL5LIB=tests/lib prove --harness Tally -j4
 FIRST = tests/layers.t tests/specification.t
 
-.PHONY: all run lib fuzz test check layers specification gate bench soak install dist wheel deb clean FORCE
+.PHONY: all run lib fuzz test check layers specification mutants gate bench soak install dist wheel deb clean FORCE
 .DELETE_ON_ERROR:
 # rt takes all cores for itself.
 .NOTPARALLEL:
@@ -108,6 +109,11 @@ specification:
 	@mkdir -p build
 	tools/specification > build/SPECIFICATION.md
 	mv build/SPECIFICATION.md docs/SPECIFICATION.md
+
+mutants:
+	@mkdir -p build
+	tools/mutants $(LOG) > build/MUTANTS.md
+	mv build/MUTANTS.md docs/MUTANTS.md
 
 # The gate leaves the program that it proved, so there is none to prove again but for other processors.
 gate: build/cpu

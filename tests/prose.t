@@ -10,9 +10,6 @@ use Suite;
 # The most words of a sentence, and of a paragraph or a cell.
 my ($readme_sentence, $sentence, $paragraph) = (40, 45, 120);
 
-# These are not as short yet. A document that is goes from here, so the list only gets shorter.
-my %later = map { $_ => 1 } 'CONTRIBUTING.md', map { "docs/$_.md" } qw(ARCHITECTURE DECISIONS FORMATS PROOFS);
-
 # The pieces of a document: paragraphs, items of lists, quotes and cells of tables, each in one line.
 sub pieces_of {
     my ($text) = @_;
@@ -44,11 +41,8 @@ cmp_ok(slurp("$root/README.md") =~ tr/\n//, '<=', 200, 'README.md: lines');
 
 my @documents = map { s/^\Q$root\E\///r } glob "$root/*.md $root/docs/*.md";
 for my $path (grep { $_ ne 'docs/SPECIFICATION.md' } @documents) {
-    my @long = too_long($path);
-    if ($later{$path}) { isnt("@long", '', "$path: is still too long, and otherwise goes from the list") }
-    else { is(join("\n", @long), '', "$path: sentences, paragraphs and cells") }
+    is(join("\n", too_long($path)), '', "$path: sentences, paragraphs and cells");
 }
-is_deeply([grep { !-e "$root/$_" } keys %later], [], 'the list has only documents that are there');
 
 for my $path (@documents) {
     my ($folder) = $path =~ m{^(.*/)?};
