@@ -324,7 +324,7 @@ subtest 'compilers' => sub {
         needs($compiler => s/clang\K\+\+//r) ? map { [$compiler, $_, $language] } @standards : ();
     } qw(gcc clang g++ clang++);
     my @sanitize = ('-g', '-O1', '-DSANITIZED', '-fsanitize=address,undefined', '-fno-sanitize-recover=all');
-    my @kinds = (['static', '-O2', @wrapped, @static], ['shared', '-O0', '-DREPLACE', '-fvisibility=hidden', @shared],
+    my @kinds = (['static', '-O2', @wrapped, @static], ['shared', '-O0', '-DREPLACE', @shared],
         ['sanitized', @sanitize, @wrapped, @static]);
     my @results = in_processes(4, sub {
         my ($compiler, $standard, $language) = @{ $_[0] };
@@ -343,9 +343,9 @@ subtest 'compilers' => sub {
 
 # The targets of `make fuzz`, for as many calls as take a few seconds.
 subtest 'fuzzing' => sub {
-    my @command = qw(clang -fsanitize=fuzzer,address,undefined);
-    needs('the runtime of libFuzzer' => 'libclang-rt-14-dev', run(@command, '-xc', '/dev/null', '-o', "$scratch/empty")->{err} !~ /libclang_rt/) or return;
-    my ($options) = slurp("$root/Makefile") =~ /^\tclang (.*?) -Iinclude/ms;
+    my ($runtime) = run('clang', '-print-runtime-dir')->{out} =~ /(.*)/;
+    needs('the runtime of libFuzzer' => 'libclang-rt-14-dev', scalar glob "$runtime/libclang_rt.fuzzer*") or return;
+    my ($options) = slurp("$root/Makefile") =~ /^\tclang (.*?)\s-Iinclude/ms;
     for my $source (glob "$root/tests/c/fuzz_*.c") {
         my ($name) = $source =~ m{(\w+)\.c$};
         my $target = build($name, 'clang', split(/[\s\\]+/, $options), $source, @static, '-lcrypt') or next;

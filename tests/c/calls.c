@@ -16,14 +16,17 @@
 #ifndef _GNU_SOURCE
 #define _GNU_SOURCE
 #endif
-#include <mkpasswd.h>
 #include <inttypes.h>
 #include <pthread.h>
 #include <stdio.h>
 #include <stdlib.h>
+#include <string.h>
 #include <sys/mman.h>
 #include <sys/syscall.h>
 #include <unistd.h>
+#pragma GCC visibility push(hidden) /* the calls are in a shared library all the same */
+#include <mkpasswd.h>
+#pragma GCC visibility pop
 
 #define PAGE 4096
 #define PATTERN 0xa5
@@ -61,6 +64,7 @@ static char entropy_kind = 'r'; /* of "real", "none", or digits */
 #ifdef __cplusplus
 extern "C" {
 #endif
+void *SYSTEM(malloc)(size_t size);
 void *SYSTEM(realloc)(void *old, size_t size);
 void SYSTEM(free)(void *block);
 void *NAMED(realloc)(void *old, size_t size) __THROW;
@@ -68,17 +72,25 @@ void *NAMED(malloc)(size_t size) __THROW;
 void NAMED(free)(void *block) __THROW;
 int NAMED(getentropy)(void *bytes, size_t len);
 
-void *__NTH(NAMED(realloc)(void *old, size_t size))
+static int is_refused(void)
 {
-    void *block = is_in_call && ++allocations == refused ? NULL : SYSTEM(realloc)(old, size);
-
-    blocks += is_in_call && block && !old;
-    return block;
+    return is_in_call && ++allocations == refused;
 }
 
 void *__NTH(NAMED(malloc)(size_t size))
 {
-    return NAMED(realloc)(NULL, size);
+    void *block = is_refused() ? NULL : SYSTEM(malloc)(size);
+
+    blocks += is_in_call && block;
+    return block;
+}
+
+void *__NTH(NAMED(realloc)(void *old, size_t size))
+{
+    void *block = is_refused() ? NULL : SYSTEM(realloc)(old, size);
+
+    blocks += is_in_call && block && !old;
+    return block;
 }
 
 void __NTH(NAMED(free)(void *block))
