@@ -9,7 +9,7 @@ use Rattle.clap.specs.Simple.{built}
 use Rattle.clap.specs.Walk.{Row, Walk, Waiting, finished, idle, nothing_held, option, used, walk_from, walked}
 use Rattle.clap.specs.Words.{Shape, Text, fault_of, first_of, matches_of}
 use Rattle.clap.proofs.OnLiterals.{clap_on_literals}
-use Rattle.mkpasswd.specs.Commands.{IsNoOption, hash_words}
+use Rattle.mkpasswd.specs.Corollaries.{IsNoOption, hash_words}
 use Rattle.mkpasswd.specs.Options.{command, cost_of, given_salt, is_set, mode_count, option_rule, type_of}
 
 -- ---- a word that is no option

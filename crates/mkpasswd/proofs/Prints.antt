@@ -9,7 +9,7 @@ use Rattle.crypt_core.specs.Methods.{method_named}
 use Rattle.crypt_core.specs.Settings.{BeginsWith}
 use Rattle.crypt_core.specs.declared.method.Method.{Method}
 use Rattle.run_core.specs.Answers.{password_answer}
-use Rattle.mkpasswd.specs.Commands.{IsNoOption, IsWhole, PrintsHash, hash_words}
+use Rattle.mkpasswd.specs.Corollaries.{IsNoOption, IsWhole, PrintsHash, hash_words}
 use Rattle.mkpasswd.specs.Options.{IsJob, command}
 use Rattle.run_core.specs.Runs.{RunState}
 use Rattle.run_core.specs.Texts.{as_line}

@@ -1,15 +1,19 @@
 -- The command: from what its steps leave to what it leaves.
-use Rattle.std.proofs.Common.{◌≡◌, ◌≢◌, ◌⊎◌, ℕ, List, length, Option, Bool, Result, Ok, Err, refl, inl, inr}
+use Rattle.std.proofs.Common.{◌≡◌, ◌≢◌, ◌⊎◌, ℕ, List, [], length, Bool, Result, Ok, Err, ap, refl, inl, inr}
 use Rattle.clap.specs.Words.{Text}
 use Rattle.clap.specs.declared.error.kind.ErrorKind.{ErrorKind}
 use Rattle.clap.specs.declared.error.kind.ErrorKind.TheVariants as kind
 use Rattle.crypt_core.specs.declared.setting.fault.MakeFault.{MakeFault}
-use Rattle.mkpasswd.specs.Commands.{IsTold, RefusalShown, RunsOrLacks, Serves, ShowsError, ShowsHelp, ShowsMistake, TellsFault, fault_line}
+use Rattle.clap.specs.declared.error.Error.{Error}
+use Rattle.mkpasswd.specs.Commands.{Serves, Tells}
+use Rattle.mkpasswd.specs.FaultLines.{IsTold, fault_line}
+use Rattle.mkpasswd.specs.Private.Commands.{ErrorShown, RefusalShown, RunsOrLacks, front, help, mistake, no_text}
 use Rattle.run_core.specs.Devices.{Device}
 use Rattle.mkpasswd.specs.Faults.{fault_status, parse_status}
 use Rattle.mkpasswd.specs.Options.{Plans}
 use Rattle.run_core.specs.Output.{Shows}
 use Rattle.run_core.specs.Runs.{RunState}
+use Rattle.run_core.specs.Answers.{tally_of}
 use Rattle.run_core.specs.Tallies.{tally_status}
 use Rattle.mkpasswd.specs.declared.fault.Fault.{Fault}
 use Rattle.mkpasswd.specs.declared.fault.Fault.TheVariants.{Start, Usage, Run}
@@ -55,33 +59,32 @@ status_by_kind kind.Io = inl ((λ help. cc), (λ version. cc), refl)
 status_by_kind kind.Format = inl ((λ help. cc), (λ version. cc), refl)
 status_by_kind kind.OutOfMemory = inl ((λ help. cc), (λ version. cc), refl)
 
+-- `clap` says which errors are help or the version
+pub status_of_help : (which : ErrorKind) → ¬ ((which ≢ kind.DisplayHelp) × (which ≢ kind.DisplayVersion)) → parse_status which ≡ 0
+status_of_help which asked = elim (status_by_kind which) [
+  | inl other ↦ absurd (asked (other.0, other.1))
+  | inr own ↦ own.1
+]
+
+pub status_of_mistake : (which : ErrorKind) → (which ≢ kind.DisplayHelp) × (which ≢ kind.DisplayVersion) → parse_status which ≡ 2
+status_of_mistake which other = elim (status_by_kind which) [
+  | inl own ↦ own.2
+  | inr asked ↦ absurd (asked.0 other)
+]
+
 module _ {O E : Type 0} where
-  pub help_shown : (which : ErrorKind) (turns : ℕ) (out : Device O) (faults : Device E) (new_out : Device O) (new_faults : Device E) (status : ℕ)
-      → ¬ ((which ≢ kind.DisplayHelp) × (which ≢ kind.DisplayVersion)) → ShowsHelp turns out faults new_out new_faults status
-      → ShowsError (parse_status which) turns out faults new_out new_faults status
-  help_shown which turns out faults new_out new_faults status asked shown = elim (status_by_kind which) [
-    | inl other ↦ absurd (asked (other.0, other.1))
-    | inr own ↦ rw own.1 shown
-  ]
-
-  pub mistake_shown : (which : ErrorKind) (turns : ℕ) (out : Device O) (faults : Device E) (new_out : Device O) (new_faults : Device E) (status : ℕ)
-      → (which ≢ kind.DisplayHelp) × (which ≢ kind.DisplayVersion) → ShowsMistake turns out faults new_out new_faults status
-      → ShowsError (parse_status which) turns out faults new_out new_faults status
-  mistake_shown which turns out faults new_out new_faults status other shown = elim (status_by_kind which) [
-    | inl own ↦ rw own.2 shown
-    | inr asked ↦ absurd (asked.0 other)
-  ]
-
   -- any other refusal of the words has a line of its own
   pub refusal_shown : (fault : UsageFault) (turns : ℕ) (out : Device O) (faults : Device E) (new_out : Device O) (new_faults : Device E) (status : ℕ)
       → (fault ≡ UnknownMethod) ⊎ ((fault ≡ TwoSalts) ⊎ ((fault ≡ TwoModes) ⊎ (((cause : MakeFault) × (fault ≡ Make cause)) ⊎ (fault ≡ NoMemory))))
-      → TellsFault (Usage fault) out faults new_out new_faults status
+      → IsTold (Usage fault) faults new_faults → new_out ≡ out → status ≡ fault_status (Usage fault)
       → RefusalShown fault turns out faults new_out new_faults status
-  refusal_shown fault turns out faults new_out new_faults status (inl is) only = rw is (rw is at only)
-  refusal_shown fault turns out faults new_out new_faults status (inr (inl is)) only = rw is (rw is at only)
-  refusal_shown fault turns out faults new_out new_faults status (inr (inr (inl is))) only = rw is (rw is at only)
-  refusal_shown fault turns out faults new_out new_faults status (inr (inr (inr (inl (cause, is))))) only = rw is (rw is at only)
-  refusal_shown fault turns out faults new_out new_faults status (inr (inr (inr (inr is)))) only = rw is (rw is at only)
+  refusal_shown fault turns out faults new_out new_faults status (inl is) told same status_is = rw is (rw is at told, same, rw is at status_is)
+  refusal_shown fault turns out faults new_out new_faults status (inr (inl is)) told same status_is = rw is (rw is at told, same, rw is at status_is)
+  refusal_shown fault turns out faults new_out new_faults status (inr (inr (inl is))) told same status_is = rw is (rw is at told, same, rw is at status_is)
+  refusal_shown fault turns out faults new_out new_faults status (inr (inr (inr (inl (cause, is))))) told same status_is =
+      rw is (rw is at told, same, rw is at status_is)
+  refusal_shown fault turns out faults new_out new_faults status (inr (inr (inr (inr is)))) told same status_is =
+      rw is (rw is at told, same, rw is at status_is)
 
 -- ---- the command
 
@@ -97,24 +100,63 @@ module _ {I O E : Type 0} where
       → Plans words (Ok plan) → RunsOrLacks turns generates plan old new (Ok tally) → status ≡ tally_status tally
       → Serves turns generates words old new status
   serves_run turns generates words plan old new tally status planned runs status_is =
-      (Ok plan, planned, rw runs.0 (new, Ok tally, runs.1, (refl, (refl, refl, status_is))))
+      (Ok plan, planned, rw runs.0 (new, Ok tally, runs.1, (refl, status_is)))
+
+  tells : (fault : Fault) (old : RunState I O E) (faults : Device E) (status : ℕ) → IsTold fault old.faults faults → status ≡ fault_status fault
+      → Tells fault old (with_faults old faults) status
+  tells fault old faults status (result, shows) status_is = (result, shows, refl, status_is)
 
   pub serves_fault : (turns : ℕ) (generates : Bool) (words : List Text) (plan : Plan) (old mid : RunState I O E) (faults : Device E) (fault : Fault) (status : ℕ)
       → Plans words (Ok plan) → RunsOrLacks turns generates plan old mid (Err fault) → IsTold fault mid.faults faults
       → status ≡ fault_status fault → Serves turns generates words old (with_faults mid faults) status
   serves_fault turns generates words plan old mid faults Start status planned runs is_told status_is =
-      (Ok plan, planned, rw (runs.0, ← runs.1) (refl, (is_told, refl, status_is)))
+      (Ok plan, planned, rw (runs.0, ← runs.1) (tells Start mid faults status is_told status_is))
   serves_fault turns generates words plan old mid faults (Run fault) status planned runs is_told status_is =
-      (Ok plan, planned, rw runs.0 (mid, Err fault, runs.1, (refl, (is_told, refl, status_is))))
+      (Ok plan, planned, rw runs.0 (mid, Err fault, runs.1, tells (Run fault) mid faults status is_told status_is))
   serves_fault turns generates words plan old mid faults (Usage fault) status planned runs is_told status_is = absurd runs
+
+  pub serves_error : (turns : ℕ) (generates : Bool) (words : List Text) (error : Error) (old : RunState I O E) (out : Device O) (faults : Device E) (status : ℕ)
+      → Plans words (Err (Parse error)) → ErrorShown error turns old.out old.faults out faults status
+      → Serves turns generates words old (with_outs old out faults) status
+  serves_error turns generates words error old out faults status planned (mistake text result by shows same status_is) =
+      (Err (Parse error), planned, rw by (text, result, shows, ap (λ (o : Device O). with_outs old o faults) same, status_is))
+  serves_error turns generates words error old out faults status planned (help text by shows same status_is) = (
+    Err (Parse error),
+    planned,
+    rw by (
+      text,
+      with_outs old out old.faults,
+      Ok (tally_of []),
+      (shows, refl, refl),
+      (ap (λ (f : Device E). with_outs old out f) same, status_is),
+    ),
+  )
+  serves_error turns generates words error old out faults status planned (front text fault by shows told status_is) = (
+    Err (Parse error),
+    planned,
+    rw by (
+      text,
+      with_outs old out old.faults,
+      Err fault,
+      (shows, refl, tt),
+      tells (Run fault) (with_outs old out old.faults) faults status told status_is,
+    ),
+  )
+  serves_error turns generates words error old out faults status planned (no_text told same status_is) =
+      (Err NoMemory, tt, rw same (tells (Usage NoMemory) old faults status told status_is))
 
   pub serves_refusal : (turns : ℕ) (generates : Bool) (words : List Text) (fault : UsageFault) (old : RunState I O E) (out : Device O) (faults : Device E) (status : ℕ)
       → Plans words (Err fault) → RefusalShown fault turns old.out old.faults out faults status
       → Serves turns generates words old (with_outs old out faults) status
-  serves_refusal turns generates words (Parse error) old out faults status planned (inl shown) = (Err (Parse error), planned, (refl, shown))
-  serves_refusal turns generates words (Parse error) old out faults status planned (inr is_told) = (Err NoMemory, tt, (refl, is_told))
-  serves_refusal turns generates words UnknownMethod old out faults status planned is_told = (Err UnknownMethod, planned, (refl, is_told))
-  serves_refusal turns generates words TwoSalts old out faults status planned is_told = (Err TwoSalts, planned, (refl, is_told))
-  serves_refusal turns generates words TwoModes old out faults status planned is_told = (Err TwoModes, planned, (refl, is_told))
-  serves_refusal turns generates words (Make fault) old out faults status planned is_told = (Err (Make fault), planned, (refl, is_told))
-  serves_refusal turns generates words NoMemory old out faults status planned is_told = (Err NoMemory, planned, (refl, is_told))
+  serves_refusal turns generates words (Parse error) old out faults status planned shown =
+      serves_error turns generates words error old out faults status planned shown
+  serves_refusal turns generates words UnknownMethod old out faults status planned (told, same, status_is) =
+      (Err UnknownMethod, planned, rw same (tells (Usage UnknownMethod) old faults status told status_is))
+  serves_refusal turns generates words TwoSalts old out faults status planned (told, same, status_is) =
+      (Err TwoSalts, planned, rw same (tells (Usage TwoSalts) old faults status told status_is))
+  serves_refusal turns generates words TwoModes old out faults status planned (told, same, status_is) =
+      (Err TwoModes, planned, rw same (tells (Usage TwoModes) old faults status told status_is))
+  serves_refusal turns generates words (Make fault) old out faults status planned (told, same, status_is) =
+      (Err (Make fault), planned, rw same (tells (Usage (Make fault)) old faults status told status_is))
+  serves_refusal turns generates words NoMemory old out faults status planned (told, same, status_is) =
+      (Err NoMemory, planned, rw same (tells (Usage NoMemory) old faults status told status_is))

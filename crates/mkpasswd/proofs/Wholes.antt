@@ -1,11 +1,13 @@
 -- Status 0: all that the words ask for was done, and told nowhere else.
-use Rattle.std.proofs.Common.{◌≡◌, ℕ, Bool, true, false, List, [], Option, Some, None, Ok, Err, refl, zero, suc, inl, inr, subst, sym, ◌∙◌, arith}
-use Rattle.std.specs.Io.KnownBytes.{Consumes}
+use Rattle.std.proofs.Common.{◌≡◌, ℕ, Bool, true, false, not, ◌&&◌, Result, List, [], Option, Some, None, Ok, Err, refl, zero, suc, inl, inr, subst, sym, ◌∙◌, arith}
+use Rattle.std.specs.Prelude.{MatchBool}
+use Rattle.std.specs.Io.KnownBytes.{Consumes, IsAtEnd}
 use Rattle.clap.specs.Words.{Text, kind_of}
 use Rattle.clap.specs.declared.error.Error.{Error}
-use Rattle.std.specs.Io.KnownBytes.{IsAtEnd}
-use Rattle.run_core.specs.Answers.{Answer, tally_of}
-use Rattle.mkpasswd.specs.Commands.{Ends, InOutputs, IsDone, IsWhole, RunsPlan, Serves, ShowsError, Succeeds, SucceedsByLines, lacks_generator}
+use Rattle.run_core.specs.Answers.{Answer}
+use Rattle.mkpasswd.specs.Commands.{Concludes, Ends, Serves, ShowsError, Tells, wants_generator}
+use Rattle.mkpasswd.specs.Corollaries.{IsDone, IsWhole, Succeeds, SucceedsByLines}
+use Rattle.mkpasswd.specs.declared.fault.Fault.TheVariants.{Start}
 use Rattle.run_core.specs.Devices.{Device}
 use Rattle.mkpasswd.specs.Faults.{parse_status, run_status}
 use Rattle.run_core.specs.Input.{Reads}
@@ -80,33 +82,35 @@ module _ {I O E : Type 0} where
   is_done turns (Check job) old new tally well ((bytes, reads, ends), within) = by_lines kinds.Check job bytes old new tally well reads ends
 
   of_plan : (lacks : Bool) (turns : ℕ) (plan : Plan) (words : List Text) (old new : RunState I O E) (status : ℕ) → status ≡ 0 → Plans words (Ok plan)
-      → RunsPlan lacks turns plan old new status → IsWhole words old new
-  of_plan true turns plan words old new status well planned (rest, (is_told, same, is)) = absurd (omega (arith, is, well))
-  of_plan false turns plan words old new status well planned (mid, Ok tally, ends, (rest, (out_same, faults_same, is))) =
-      rw (rest, out_same, faults_same) (inl (plan, planned, is_done turns plan old mid tally (sym is ∙ well) ends))
-  of_plan false turns plan words old new status well planned (mid, Err fault, ends, (rest, (is_told, same, is))) =
+      → MatchBool lacks (Tells Start old new status)
+      ((mid : RunState I O E) × (result : Result Tally RunFault) × Ends turns plan old mid result × Concludes result mid new status)
+      → IsWhole words old new
+  of_plan true turns plan words old new status well planned (result, shows, same, is) = absurd (omega (arith, is, well))
+  of_plan false turns plan words old new status well planned (mid, Ok tally, ends, (same, is)) =
+      rw same (inl (plan, planned, is_done turns plan old mid tally (sym is ∙ well) ends))
+  of_plan false turns plan words old new status well planned (mid, Err fault, ends, (result, shows, same, is)) =
       absurd (fault_of_run fault (sym is ∙ well))
 
   -- ---- words that are refused
 
   of_error : (kept : ℕ) (turns : ℕ) (words : List Text) (error : Error) (old new : RunState I O E) (status : ℕ) → status ≡ 0
       → Plans words (Err (Parse error)) → parse_status (kind_of error) ≡ kept
-      → InOutputs (ShowsError kept turns) old new status → IsWhole words old new
-  of_error zero turns words error old new status well planned by (rest, (text, mid, Ok tally, shows, is_none, (out_same, faults_same, is))) =
-      inr (error, planned, by, text, rw (rest, out_same, faults_same) (record { others = refl; gives = shows.0 }))
-  of_error zero turns words error old new status well planned by (rest, (text, mid, Err fault, shows, is_none, (is_told, same, is))) =
+      → ShowsError kept turns old new status → IsWhole words old new
+  of_error zero turns words error old new status well planned by (text, mid, Ok tally, (shows, rest, none), (same, is)) =
+      inr (error, planned, by, text, rw same (record { others = rest; gives = shows.0 }))
+  of_error zero turns words error old new status well planned by (text, mid, Err fault, prints, (result, shows, same, is)) =
       absurd (fault_of_run fault (sym is ∙ well))
-  of_error (suc n) turns words error old new status well planned by (rest, (text, result, shows, same, is)) =
+  of_error (suc n) turns words error old new status well planned by (text, result, shows, same, is) =
       absurd (omega (arith, is, well))
 
   pub is_whole : (turns : ℕ) (generates : Bool) (words : List Text) (old new : RunState I O E) (status : ℕ) → status ≡ 0
       → Serves turns generates words old new status → IsWhole words old new
   is_whole turns generates words old new status well (Ok plan, planned, follows) =
-      of_plan (lacks_generator generates plan) turns plan words old new status well planned follows
+      of_plan (wants_generator plan && not generates) turns plan words old new status well planned follows
   is_whole turns generates words old new status well (Err (Parse error), planned, follows) =
       of_error (parse_status (kind_of error)) turns words error old new status well planned refl follows
-  is_whole turns generates words old new status well (Err UnknownMethod, planned, (rest, (is_told, same, is))) = absurd (omega (arith, is, well))
-  is_whole turns generates words old new status well (Err TwoSalts, planned, (rest, (is_told, same, is))) = absurd (omega (arith, is, well))
-  is_whole turns generates words old new status well (Err TwoModes, planned, (rest, (is_told, same, is))) = absurd (omega (arith, is, well))
-  is_whole turns generates words old new status well (Err (Make fault), planned, (rest, (is_told, same, is))) = absurd (omega (arith, is, well))
-  is_whole turns generates words old new status well (Err NoMemory, planned, (rest, (is_told, same, is))) = absurd (omega (arith, is, well))
+  is_whole turns generates words old new status well (Err UnknownMethod, planned, (result, shows, same, is)) = absurd (omega (arith, is, well))
+  is_whole turns generates words old new status well (Err TwoSalts, planned, (result, shows, same, is)) = absurd (omega (arith, is, well))
+  is_whole turns generates words old new status well (Err TwoModes, planned, (result, shows, same, is)) = absurd (omega (arith, is, well))
+  is_whole turns generates words old new status well (Err (Make fault), planned, (result, shows, same, is)) = absurd (omega (arith, is, well))
+  is_whole turns generates words old new status well (Err NoMemory, planned, (result, shows, same, is)) = absurd (omega (arith, is, well))

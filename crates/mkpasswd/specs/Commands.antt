@@ -1,220 +1,85 @@
 -- The whole command: from the words and the devices to the exit status.
-use Rattle.std.specs.Prelude.{◌≡◌, ℕ, ◌⊎◌, ◌&&◌, zero, suc, Bool, true, false, not, List, [], ◌∷◌, ◌++◌, length, codes, Option, Some, None, Result, Ok, Err, IfOk}
-use Rattle.std.specs.Io.KnownBytes.{Appends, IsAtEnd}
+use Rattle.std.specs.Prelude.{◌≡◌, ℕ, ◌&&◌, zero, suc, Bool, true, false, not, List, [], ◌++◌, length, codes, Option, MatchBool, Result, Ok, Err, IfOk}
+use Rattle.std.specs.Option.{option_map_or}
 use Rattle.clap.specs.Words.{Text, kind_of}
-use Rattle.clap.specs.declared.error.Error.{Error}
 use Rattle.rand_core.specs.Stream.{Stream}
-use Rattle.crypt_core.specs.Crypt.{crypt}
-use Rattle.crypt_core.specs.MadeSettings.{made_setting}
-use Rattle.crypt_core.specs.Passwords.{IsPassword}
-use Rattle.crypt_core.specs.Settings.{BeginsWith}
-use Rattle.crypt_core.specs.declared.method.Method.{Method}
-use Rattle.run_core.specs.Answers.{Answer, password_answer, tally_of}
-use Rattle.run_core.specs.Devices.{Device}
 use Rattle.mkpasswd.specs.Faults.{fault_status, fault_text, parse_status}
-use Rattle.run_core.specs.Input.{IsDecided, Reads, first_line}
-use Rattle.run_core.specs.LineAnswers.{AreAnswers}
-use Rattle.run_core.specs.LineRuns.{EndsLines, lines_of}
+use Rattle.run_core.specs.Answers.{tally_of}
+use Rattle.run_core.specs.LineRuns.{EndsLines}
 use Rattle.run_core.specs.Methods.{methods_text}
 use Rattle.run_core.specs.One.{EndsOne}
 use Rattle.mkpasswd.specs.Options.{Plans}
-use Rattle.run_core.specs.Output.{Shows, Takes}
-use Rattle.run_core.specs.Runs.{Finishes, RunState, IsWithinTurns}
+use Rattle.run_core.specs.Output.{Shows}
+use Rattle.run_core.specs.Runs.{RunState, IsWithinTurns}
 use Rattle.run_core.specs.Tallies.{tally_status}
 use Rattle.run_core.specs.Texts.{as_line}
 use Rattle.mkpasswd.specs.declared.fault.Fault.{Fault}
 use Rattle.mkpasswd.specs.declared.fault.Fault.TheVariants.{Start, Usage, Run}
 use Rattle.run_core.specs.declared.fault.RunFault.{RunFault}
 use Rattle.mkpasswd.specs.declared.fault.UsageFault.{UsageFault}
-use Rattle.mkpasswd.specs.declared.fault.UsageFault.TheVariants.{Parse, OutOfMemory}
-use Rattle.run_core.specs.declared.job.Job.{Job}
-use Rattle.run_core.specs.declared.job.PasswordFrom.TheVariants.{Word, Input}
+use Rattle.mkpasswd.specs.declared.fault.UsageFault.TheVariants.{Parse}
 use Rattle.mkpasswd.specs.declared.job.Plan.{Plan}
 use Rattle.mkpasswd.specs.declared.job.Plan.TheVariants.{Methods, One, Batch, Check}
-use Rattle.run_core.specs.declared.line.Kind.{Kind}
 use Rattle.run_core.specs.declared.line.Kind.TheVariants as kinds
 use Rattle.run_core.specs.declared.tally.Tally.{Tally}
 
--- ---- the generator
-
--- any plan but the list of the methods wants a generator
+-- a plan needs a generator unless it is to list the methods
 abbrev pub wants_generator : Plan → Bool
 wants_generator Methods = false
-wants_generator (One job from) = true
-wants_generator (Batch job) = true
-wants_generator (Check job) = true
+wants_generator plan = true
 
--- and it may lack one
-abbrev pub lacks_generator : Bool → Plan → Bool
-lacks_generator generates plan = wants_generator plan && not generates
-
--- where there is no generator, a stream from which nothing is drawn
-abbrev pub no_stream : Stream
-no_stream = record { u32_after = λ calls. 0; u64_after = λ calls. 0; bytes_after = λ calls count. [] }
-
+-- the stream of the generator, or if there is none a stream from which nothing is drawn
 abbrev pub stream_in : {R : Type 0} → (R → Stream) → Option R → Stream
-stream_in stream None = no_stream
-stream_in stream (Some rng) = stream rng
-
--- ---- texts on the outputs
-
--- a fault's line
-abbrev pub fault_line : Fault → List ℕ
-fault_line fault = as_line (codes "mkpasswd: " ++ fault_text fault)
-
--- It goes to the fault output, in no more calls than it has bytes; of a fault output that fails there is a first part of it.
-abbrev pub IsTold : {E : Type 0} → Fault → Device E → Device E → Type 0
-IsTold fault old new =
-    (result : Result Tally RunFault) × Shows (length (fault_line fault)) old new (fault_line fault) result
-
-module _ {O E : Type 0} where
-  -- that is all that is done, and the fault's status is the answer
-  abbrev pub TellsFault : Fault → Device O → Device E → Device O → Device E → ℕ → Type 0
-  TellsFault fault out faults new_out new_faults status =
-      IsTold fault faults new_faults × (new_out ≡ out) × (status ≡ fault_status fault)
-
-  -- behind a run nothing more is done, and its tally has the status; or its fault is told
-  abbrev pub Concludes : Result Tally RunFault → Device O → Device E → Device O → Device E → ℕ → Type 0
-  Concludes (Ok tally) out faults new_out new_faults status =
-      (new_out ≡ out) × (new_faults ≡ faults) × (status ≡ tally_status tally)
-  Concludes (Err fault) out faults new_out new_faults status = TellsFault (Run fault) out faults new_out new_faults status
-
-  -- help and the version are some text for the output, where one that can't be given is a fault
-  abbrev pub ShowsHelp : ℕ → Device O → Device E → Device O → Device E → ℕ → Type 0
-  ShowsHelp turns out faults new_out new_faults status =
-      (text : List ℕ) × (mid : Device O) × (result : Result Tally RunFault) × Shows turns out mid text result
-      × IfOk result (λ tally. tally ≡ tally_of []) × Concludes result mid faults new_out new_faults status
-
-  -- what is wrong with the words is some text for the fault output, as well as that takes it
-  abbrev pub ShowsMistake : ℕ → Device O → Device E → Device O → Device E → ℕ → Type 0
-  ShowsMistake turns out faults new_out new_faults status =
-      (text : List ℕ) × (result : Result Tally RunFault) × Shows turns faults new_faults text result
-      × (new_out ≡ out) × (status ≡ 2)
-
-  -- by the status of `clap`'s error, which is 0 for help and the version alone
-  abbrev pub ShowsError : ℕ → ℕ → Device O → Device E → Device O → Device E → ℕ → Type 0
-  ShowsError zero = ShowsHelp
-  ShowsError (suc n) = ShowsMistake
+stream_in stream generator = option_map_or stream generator (record { u32_after = λ calls. 0; u64_after = λ calls. 0; bytes_after = λ calls count. [] })
 
 module _ {I O E : Type 0} where
-  -- only the outputs have changed, as is said here
-  abbrev pub InOutputs : (Device O → Device E → Device O → Device E → ℕ → Type 0) → RunState I O E → RunState I O E → ℕ → Type 0
-  InOutputs Does old new status =
-      (new ≡ record old { out = new.out; faults = new.faults }) × Does old.out old.faults new.out new.faults status
+  -- A text is written to the output, which is flushed; if that fails, `result` is the error, and a first part of the text is
+  -- written. Only the output changes.
+  abbrev pub Prints : ℕ → List ℕ → RunState I O E → RunState I O E → Result Tally RunFault → Type 0
+  Prints turns text old new result =
+      Shows turns old.out new.out text result × (new ≡ record old { out = new.out }) × IfOk result (λ tally. tally ≡ tally_of [])
 
-  -- ---- a plan is run
+  -- The line of a fault is written to the fault output, in at most as many calls as it has bytes; if that fails, a first part
+  -- of it is. Only the fault output changes, and the status is that of the fault.
+  abbrev pub Tells : Fault → RunState I O E → RunState I O E → ℕ → Type 0
+  Tells fault old new status =
+      let line = as_line (codes "mkpasswd: " ++ fault_text fault) in
+      (result : Result Tally RunFault) × Shows (length line) old.faults new.faults line result
+      × (new ≡ record old { faults = new.faults }) × (status ≡ fault_status fault)
 
-  -- each plan has its run, within the turns
+  -- After a run with a tally nothing changes any more, and the status is that of the tally. The fault of a run is told.
+  abbrev pub Concludes : Result Tally RunFault → RunState I O E → RunState I O E → ℕ → Type 0
+  Concludes (Ok tally) old new status = (new ≡ old) × (status ≡ tally_status tally)
+  Concludes (Err fault) old new status = Tells (Run fault) old new status
+
+  -- How each plan ends: the list of the methods is printed, one password is hashed, or lines are hashed or checked; within
+  -- the turns.
   abbrev pub Ends : ℕ → Plan → RunState I O E → RunState I O E → Result Tally RunFault → Type 0
-  Ends turns Methods old new result =
-      Shows turns old.out new.out methods_text result × (new ≡ record old { out = new.out })
-      × IfOk result (λ tally. tally ≡ tally_of [])
+  Ends turns Methods old new result = Prints turns methods_text old new result
   Ends turns (One job from) old new result = EndsOne turns job from old new result × IsWithinTurns turns old new
-  Ends turns (Batch job) old new result =
-      EndsLines turns kinds.Batch job old new result × IsWithinTurns turns old new
-  Ends turns (Check job) old new result =
-      EndsLines turns kinds.Check job old new result × IsWithinTurns turns old new
+  Ends turns (Batch job) old new result = EndsLines turns kinds.Batch job old new result × IsWithinTurns turns old new
+  Ends turns (Check job) old new result = EndsLines turns kinds.Check job old new result × IsWithinTurns turns old new
 
-  -- There is a state in between, in which the run has ended. A plan that lacks its generator, which the first argument
-  -- says, is not run.
-  abbrev pub RunsPlan : Bool → ℕ → Plan → RunState I O E → RunState I O E → ℕ → Type 0
-  RunsPlan true turns plan = InOutputs (TellsFault Start)
-  RunsPlan false turns plan = λ old new status.
-      (mid : RunState I O E) × (result : Result Tally RunFault) × Ends turns plan old mid result
-      × InOutputs (Concludes result) mid new status
+  -- What an error of `clap` with this exit status leaves. Help and the version, which have status 0, are some text for the
+  -- output, and a failure to print it is told. For any other error some text goes to the fault output, even if that fails.
+  abbrev pub ShowsError : ℕ → ℕ → RunState I O E → RunState I O E → ℕ → Type 0
+  ShowsError zero turns old new status =
+      (text : List ℕ) × (mid : RunState I O E) × (result : Result Tally RunFault)
+      × Prints turns text old mid result × Concludes result mid new status
+  ShowsError (suc n) turns old new status =
+      (text : List ℕ) × (result : Result Tally RunFault) × Shows turns old.faults new.faults text result
+      × (new ≡ record old { faults = new.faults }) × (status ≡ 2)
 
-  -- ---- the command
-
-  -- what is done where the words mean this; `generates` says whether there is a generator
+  -- What follows from the plan or refusal of the words; `generates` says whether there is a generator. A plan that lacks the
+  -- generator that it needs is not run, but told of; any other is run, up to a state `mid`, and its result concluded.
   abbrev pub Follows : ℕ → Bool → Result Plan UsageFault → RunState I O E → RunState I O E → ℕ → Type 0
-  Follows turns generates (Ok plan) = RunsPlan (lacks_generator generates plan) turns plan
-  Follows turns generates (Err (Parse error)) =
-      InOutputs (ShowsError (parse_status (kind_of error)) turns)
-  Follows turns generates (Err fault) = InOutputs (TellsFault (Usage fault))
+  Follows turns generates (Ok plan) old new status =
+      MatchBool (wants_generator plan && not generates) (Tells Start old new status)
+      ((mid : RunState I O E) × (result : Result Tally RunFault) × Ends turns plan old mid result × Concludes result mid new status)
+  Follows turns generates (Err (Parse error)) old new status = ShowsError (parse_status (kind_of error)) turns old new status
+  Follows turns generates (Err fault) old new status = Tells (Usage fault) old new status
 
-  -- The words are planned, and what follows from that is done. That memory ran out may be told of any words.
+  -- The words are planned, and what follows from that is done. `Plans` allows that memory runs out at any words.
   abbrev pub Serves : ℕ → Bool → List Text → RunState I O E → RunState I O E → ℕ → Type 0
   Serves turns generates words old new status =
       (planned : Result Plan UsageFault) × Plans words planned × Follows turns generates planned old new status
-
-  -- ---- status 0
-
-  -- a text was given to the output, which was flushed; no call failed, and nothing else was done
-  pub record GivesOnly (text : List ℕ) (old new : RunState I O E) : Type 0 where
-    pub others : new ≡ record old { out = new.out }
-    pub gives : Takes 0 1 old.out new.out text
-
-  -- these bytes were read, and a run has given these answers, none of which is refused or `no`
-  pub record Succeeds (read : List ℕ) (answers : List Answer) (old new : RunState I O E) : Type 0 where
-    pub input : Reads old.input new.input read
-    pub run : Finishes answers old new (Ok (tally_of answers))
-    pub status : tally_status (tally_of answers) ≡ 0
-
-  -- the input was read to its end, and each of its lines answered
-  abbrev pub SucceedsByLines : Kind → Job → RunState I O E → RunState I O E → Type 0
-  SucceedsByLines kind job old new =
-      (bytes : List ℕ) × (answers : List Answer) × IsAtEnd new.input.shown × AreAnswers kind job 1 (lines_of bytes) old.stream answers
-      × Succeeds bytes answers old new
-
-  -- all that a plan asks for was done; for a word the input is left alone, and for a password of the input what decides
-  -- it is read
-  abbrev pub IsDone : Plan → RunState I O E → RunState I O E → Type 0
-  IsDone Methods old new = GivesOnly methods_text old new
-  IsDone (One job (Word password)) old new =
-      IsPassword password.items × (new.input ≡ old.input)
-      × Succeeds [] (password_answer job password.items old.stream ∷ []) old new
-  IsDone (One job Input) old new =
-      (bytes : List ℕ) × IsDecided new.input bytes × IsPassword (first_line bytes)
-      × Succeeds bytes (password_answer job (first_line bytes) old.stream ∷ []) old new
-  IsDone (Batch job) old new = SucceedsByLines kinds.Batch job old new
-  IsDone (Check job) old new = SucceedsByLines kinds.Check job old new
-
-  -- the words ask for help or the version, and some text is given
-  abbrev pub IsHelped : List Text → RunState I O E → RunState I O E → Type 0
-  IsHelped words old new =
-      (error : Error) × Plans words (Err (Parse error)) × (parse_status (kind_of error) ≡ 0)
-      × (text : List ℕ) × GivesOnly text old new
-
-  -- the words have a plan, which is done; or they ask for help or the version, which is given
-  abbrev pub IsWhole : List Text → RunState I O E → RunState I O E → Type 0
-  IsWhole words old new =
-      ((plan : Plan) × Plans words (Ok plan) × IsDone plan old new) ⊎ IsHelped words old new
-
--- ---- one hash in a line
-
--- -m TYPE -S SALT PASSWORD
-abbrev pub hash_words : Text → Text → Text → List Text
-hash_words method salt password = codes "-m" ∷ method ∷ codes "-S" ∷ salt ∷ password ∷ []
-
--- the command takes such a word for a value: it does not begin with a hyphen, or is no more than one
-abbrev pub IsNoOption : Text → Type 0
-IsNoOption word = (word ≡ codes "-") ⊎ ¬ BeginsWith word (codes "-")
-
--- the output has taken the hash of the password by the setting of the method and the salt, and a line feed
-abbrev pub PrintsHash : {I O E : Type 0} → Method → Text → Text → RunState I O E → RunState I O E → Type 0
-PrintsHash method salt password old new =
-    Appends old.out.shown new.out.shown (as_line (crypt password (made_setting method 0 salt)))
-
--- ---- steps of the code
-
-module _ {I O E : Type 0} where
-  -- the plan's run has ended; or it lacks a generator, and nothing was done
-  abbrev pub RunsOrLacks : ℕ → Bool → Plan → RunState I O E → RunState I O E → Result Tally Fault → Type 0
-  RunsOrLacks turns generates plan old new (Ok tally) =
-      (lacks_generator generates plan ≡ false) × Ends turns plan old new (Ok tally)
-  RunsOrLacks turns generates plan old new (Err (Run fault)) =
-      (lacks_generator generates plan ≡ false) × Ends turns plan old new (Err fault)
-  RunsOrLacks turns generates plan old new (Err Start) = (lacks_generator generates plan ≡ true) × (new ≡ old)
-  RunsOrLacks turns generates plan old new (Err (Usage fault)) = ⊥
-
-module _ {O E : Type 0} where
-  -- the text of `clap`'s error was shown; or memory for it ran out, which was told
-  abbrev pub ErrorShown : Error → ℕ → Device O → Device E → Device O → Device E → ℕ → Type 0
-  ErrorShown error turns out faults new_out new_faults status =
-      ShowsError (parse_status (kind_of error)) turns out faults new_out new_faults status
-      ⊎ TellsFault (Usage OutOfMemory) out faults new_out new_faults status
-
-  -- why the words have no plan
-  abbrev pub RefusalShown : UsageFault → ℕ → Device O → Device E → Device O → Device E → ℕ → Type 0
-  RefusalShown (Parse error) = ErrorShown error
-  RefusalShown fault = λ turns. TellsFault (Usage fault)

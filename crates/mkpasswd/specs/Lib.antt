@@ -1,4 +1,6 @@
 pub mod Commands
+pub mod Corollaries
+pub mod FaultLines
 pub mod Faults
 pub mod Options
 pub mod Private

@@ -2,7 +2,10 @@
 ghost use Rattle.std.specs.Prelude.{◌≡◌, ℕ, ◌^◌, ◌<◌, ◌≤◌, List, Some, is_some, map, string_bytes};
 ghost use Rattle.crypt_core.specs.Methods.{method_named};
 ghost use Rattle.crypt_core.specs.declared.method.Method.{Method};
-ghost use Rattle.mkpasswd.specs.Commands.{ErrorShown, IsNoOption, IsTold, IsWhole, PrintsHash, RefusalShown, RunsOrLacks, Serves, fault_line, hash_words, stream_in};
+ghost use Rattle.mkpasswd.specs.Commands.{Serves, stream_in};
+ghost use Rattle.mkpasswd.specs.Corollaries.{IsNoOption, IsWhole, PrintsHash, hash_words};
+ghost use Rattle.mkpasswd.specs.FaultLines.{IsTold, fault_line};
+ghost use Rattle.mkpasswd.specs.Private.Commands.{ErrorShown, RefusalShown, RunsOrLacks};
 ghost use Rattle.run_core.specs.Devices.{HasRoomBeforeRun, HasRoomWithinRun, turns_limit};
 ghost use Rattle.mkpasswd.specs.Faults.{fault_status};
 ghost use Rattle.prims_core.specs.Work.{IsAtMost};

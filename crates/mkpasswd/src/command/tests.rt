@@ -3,7 +3,7 @@ ghost use Rattle.crypt_core.specs.Crypt.{crypt};
 ghost use Rattle.crypt_core.specs.MadeSettings.{made_setting};
 ghost use Rattle.crypt_core.specs.Methods.{method_named};
 ghost use Rattle.crypt_core.specs.declared.method.Method.{Method};
-ghost use Rattle.mkpasswd.specs.Commands.{IsNoOption, hash_words};
+ghost use Rattle.mkpasswd.specs.Corollaries.{IsNoOption, hash_words};
 ghost use Rattle.prims_core.specs.Work.{IsAtMost};
 ghost use Rattle.run_core.specs.Texts.{as_line};
 

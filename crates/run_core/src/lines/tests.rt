@@ -9,7 +9,7 @@ mod budget;
 mod calls;
 mod cut_short;
 mod hostile;
-mod rehash;
+mod new_hashes;
 
 use super::*;
 use crate::test_devices::{ListedWords, MemoryReader, MemoryWriter};
