@@ -412,6 +412,7 @@ with_parallel 'an output that is not read' => sub {
 };
 
 with_parallel 'killed processes' => sub {
+    needs(ps => 'procps') or return;
     my %told = (
         'the script' => [137, qr/the process that reads was killed; answered up/],
         'the process that prints' => [3, qr/the process that prints was killed; answered up to line \d+ or more$/],
@@ -590,7 +591,7 @@ CONFIG
         my $begun = time;
         my $down = spread({ stdin => $sixty }, '--program', program(), qw(--jobs 1 --sshlogin down --block-lines 30), @batch);
         is_deeply([$down->{status}, $down->{out}, (split /\n/, $down->{err})[-1]], [3, '',
-            'mkpasswd-parallel: a block lost its machine 3 times; answered up to line 0; --resume-from 1 takes the rest'], 'a machine that is down');
+            'mkpasswd-parallel: a block lost its machine each time; answered up to line 0; --resume-from 1 takes the rest'], 'a machine that is down');
         cmp_ok(time - $begun, '<', 5, 'a machine that is down: within 5 seconds');
         my %settings = (stdin => "x\n" x 3, env => { GLIBC_TUNABLES => 'glibc.malloc.hugetlb=0' });
         is_run(spread(\%settings, '--program', "$scratch/says_settings", qw(--jobs 2 --sshlogin one), @batch), 0, "user:$kept\n" x 3, '',
@@ -605,7 +606,7 @@ CONFIG
         is($? >> 8, 3, 'a machine that freezes: status');
         cmp_ok(time - $begun, '<', 5, 'a machine that freezes: within 5 seconds');
         kill CONT => @frozen;
-        like(slurp("$scratch/err"), qr/^mkpasswd-parallel: a block lost its machine 3 times; answered up/m, 'a machine that freezes: it is told');
+        like(slurp("$scratch/err"), qr/^mkpasswd-parallel: a block lost its machine each time; answered up/m, 'a machine that freezes: it is told');
         resumes('a machine that freezes', $slow_lines, slurp("$scratch/out"), slurp("$scratch/err") =~ s/^(?!mkpasswd).*\n//mgr, @slow);
     }
     kill 'TERM', $server;
