@@ -1,7 +1,8 @@
 #!/usr/bin/env perl
 # Tries mkpasswd-parallel, which spreads lines over processes and machines. What it prints is what one run of the program
 # prints over the whole input, byte for byte on both streams, with the same status. A block that fails is named, and all
-# others are answered. Each run leaves nothing in $TMPDIR and in the home folder, and passwords go to pipes only.
+# others are answered. A run that is ended says up to which line the answers are there, and another one takes the rest.
+# Each run leaves nothing in $TMPDIR and in the home folder, and passwords go to pipes only.
 use strict;
 use warnings;
 use File::Find ();
@@ -102,6 +103,7 @@ case $fate in
     lost) kill -KILL "$PPID" ;;
     once) : > "$TRIED"; kill -KILL "$PPID" ;;
     waits) echo $$ > "$TRIED"; exec sleep 100 ;;
+    gone) rm "$0" ;;
 esac
 SH
 chmod 0755, "$scratch/stand_in";
@@ -122,7 +124,7 @@ with_parallel 'one run over the whole input' => sub {
     my $batch = same('a batch', 1, batch_lines(), [qw(--jobs 3 --block-lines 100)], @batch);
     cmp_ok($batch->{err} =~ tr/\n//, '>=', 300, 'refused lines in the batch');
     my ($begin) = batch_lines() =~ /\A((?:.*\n){1000})/;
-    my $worked = same('blocks of the default length', 1, $begin, ['--jobs=2'], qw(--batch --work --budget 100000 -m md5 -S xxxxxxxx));
+    my $worked = same('blocks of a length by their cost', 1, $begin, ['--jobs=2'], qw(--batch --work --budget 100000 -m md5 -S xxxxxxxx));
     my $check = check_lines($worked->{out});
     same('a check', 1, $check, [qw(--jobs 3 --block-lines 77)], qw(--check --budget 500000));
     same('a check with new hashes', 1, $check, [qw(--jobs 3)], qw(--check --rehash -m sha256crypt -R 1000 -S ab --work --budget 300000));
@@ -131,8 +133,13 @@ with_parallel 'one run over the whole input' => sub {
     same('a check with wrong passwords', 1, $fifty =~ s/:/:\$1\$xxxxxxxx\$UYCIxa628.9qXjpQCjM4a.:/gr, [qw(--jobs 4 --block-lines=13)], '--check');
     same('blocks of a line', 1, "\n\nann:x\n\0", [qw(--block-lines 1)], @batch);
     same('no input', 0, '', [qw(--jobs 2)], @batch);
-    same('blocks of a MiB', 0, lines_of(3000, 'userN:!:' . 'p' x 1000), [qw(--jobs 2 --block-lines 999999)], '--check');
+    same('blocks with as many bytes as one has', 0, lines_of(3000, 'userN:!:' . 'p' x 1000), [qw(--jobs 2 --block-lines 999999)], '--check');
     same('more lines than are read ahead', 1, lines_of(9000, 'userN:!:password') . "\nlast:!:\n", [qw(--jobs 1)], '--check');
+    for my $run (run({ stdin => batch_lines() }, 'sh', '-c', 'exec "$@" 2>&1', '-', program(), @batch)) {
+        my @words = ($script, '--program', program(), qw(--jobs 3), @batch);
+        my $both = run({ stdin => batch_lines(), env => \%env }, 'sh', '-c', 'exec "$@" 2>&1', '-', @words);
+        is($both->{out}, $run->{out}, 'answers and refusals in one stream');
+    }
     my $salted = spread({ stdin => $fifty }, qw(--jobs 2 --block-lines 20 --program), program(), qw(--batch -m md5crypt));
     is(keys %{ { map { $_ => 1 } $salted->{out} =~ /:\$1\$(.{8})\$/g } }, 50, 'a new salt in each line');
 };
@@ -150,6 +157,9 @@ with_parallel 'arguments' => sub {
         ['no mode', 2, $no_mode, qw(-m md5crypt)], ['no mode before --', 2, $no_mode, qw(-- --batch)],
         ['a wrong number of jobs', 2, '--jobs wants a number from 1 to 999999', qw(--jobs 0 --batch)],
         ['a wrong number of lines', 2, '--block-lines wants a number from 1 to 999999', qw(--block-lines=few --batch)],
+        (map { ["'$_' to resume from", 2, '--resume-from wants a number from 1 to 999999999999999', "--resume-from=$_", '--batch'] }
+            qw(0 -1 x 1.5), '1 ', 10**15),
+        ['no line to resume from', 2, '--resume-from wants a value', '--resume-from=', '--batch'],
         ['no login', 2, '--sshlogin wants a value', qw(--batch --sshlogin)],
         ['no program', 3, "$scratch/none: No such file or directory", '--program', "$scratch/none", '--batch'],
         ['another program', 3, "$false can't be run: status 1 with these words and no line", '--program', $false, '--batch'],
@@ -175,7 +185,7 @@ subtest 'another parallel' => sub {
     $parallel->('exit 1');
     $try->("$scratch/bin:$ENV{PATH}", "$wanted; the one there is another", 'another parallel');
     $parallel->('[ "$1" != --version ] || exec echo GNU parallel 1; exit 255');
-    $try->("$scratch/bin:$ENV{PATH}", 'lines 1 to 1: killed or lost; GNU parallel ended with status 255', 'GNU parallel that fails');
+    $try->("$scratch/bin:$ENV{PATH}", 'GNU parallel ended with status 255; answered up to line 0; --resume-from 1 takes the rest', 'GNU parallel that fails');
 };
 
 with_parallel 'blocks that fail' => sub {
@@ -199,14 +209,79 @@ ERR
 with_parallel 'devices' => sub {
     my @own = ('--program', program(), qw(--jobs 2 --block-lines 20));
     my $lines = lines_of(100, 'userN:passwordN');
+    my $none = 'answered up to line 0; --resume-from 1 takes the rest';
     my ($first) = run({ stdin => $lines }, program(), @batch)->{out} =~ /^(.*\n)/;
-    is_run(spread({ stdin => $lines, to => '/dev/full' }, @own, @batch), 3, '', "mkpasswd-parallel: write fault\n", 'a full output');
-    is_run(spread({ from => '/' }, @own, @batch), 3, '', "mkpasswd-parallel: read fault\n", 'an input that is a folder');
+    is_run(spread({ stdin => $lines, to => '/dev/full' }, @own, @batch), 3, '', "mkpasswd-parallel: write fault; $none\n", 'a full output');
+    is_run(spread({ from => '/' }, @own, @batch), 3, '', "mkpasswd-parallel: read fault; $none\n", 'an input that is a folder');
     my $shell = sub { run({ stdin => $lines, env => \%env }, 'bash', '-c', $_[0], '-', $script, @own, @batch) };
     is_run($shell->('exec "$@" <&-'), 3, '', "mkpasswd-parallel: read fault\n", 'an input that is closed');
-    is_run($shell->('{ "$@"; echo $? > "$TRIED"; } | head -n 1'), 0, $first, "mkpasswd-parallel: write fault\n", 'an output that closes');
+    my $closed = $shell->('{ "$@"; echo $? > "$TRIED"; } | head -n 1');
+    $closed->{err} =~ s/answered up to line (?:20|40|60|80); --resume-from (?:21|41|61|81) .*//;
+    is_run($closed, 0, $first, "mkpasswd-parallel: write fault; \n", 'an output that closes');
     is(slurp($tried), "3\n", 'status of an output that closes');
     unlink $tried;
+    is_deeply([left()], [], 'nothing is left');
+};
+
+# A folder that is full but for some bytes, in which the rest of a shell's command runs.
+sub run_in_full {
+    my ($free, $stdin, $command, @words) = @_;
+    my $mount = 'mount -t tmpfs -o size=64k none "$0" && { head -c "$((65536 - $1))" /dev/zero > "$0/fill"; shift; ' . $command . '; }';
+    my $begun = time;
+    my $result = run({ stdin => $stdin, env => { %env, %{ $words[0] } }, timeout => 20 }, qw(unshare --map-root-user --mount sh -c), $mount,
+        $tried, $free, @words[1 .. $#words]);
+    return ($result, time - $begun);
+}
+
+with_parallel 'full disks' => sub {
+    mkdir $tried;
+    my @own = ($script, '--program', program(), '--jobs', 2);
+    my $lines = lines_of(3000, 'userN:passwordN');
+    my $whole = run({ stdin => $lines }, program(), @batch)->{out};
+    my ($probe) = run_in_full(0, '', 'true', {});
+    if (needs('unshare, or a mount of its own,' => 'util-linux', $probe->{status} == 0)) {
+        for my $free (0, 4096, 16384) {
+            my ($full, $seconds) = run_in_full($free, $lines, '"$@"', { TMPDIR => $tried }, @own, @batch);
+            is($full->{status}, 3, "\$TMPDIR with $free bytes: status");
+            like($full->{err}, qr/Is the disk full\?\n(?:.*\n)*mkpasswd-parallel: .*answered up to line \d+; |no temporary folder/,
+                "\$TMPDIR with $free bytes: it is told");
+            is($full->{out}, substr($whole, 0, length $full->{out}), "\$TMPDIR with $free bytes: no other answers");
+            cmp_ok($seconds, '<', 5, "\$TMPDIR with $free bytes: within 5 seconds");
+        }
+        my $command = '"$@" > "$0/out"; status=$?; cat "$0/out"; exit $status';
+        my ($full, $seconds) = run_in_full(49152, $lines, $command, {}, @own, @batch);
+        my ($last) = $full->{err} =~ /\Amkpasswd-parallel: write fault; answered up to line (\d+); --resume-from \d+ takes the rest\n\z/;
+        is($full->{status}, 3, 'an output on a full disk: status');
+        is($full->{out}, join('', (split /^/, $whole)[0 .. ($last // 0) - 1]), 'an output on a full disk: it ends with a whole line, which is told');
+        cmp_ok($seconds, '<', 5, 'an output on a full disk: within 5 seconds');
+    }
+    rmdir $tried;
+    left();
+};
+
+# With few open files it says so, or does what it does with many.
+with_parallel 'few open files' => sub {
+    my $lines = lines_of(30, 'userN:passwordN') . "no colon\n";
+    my $alone = run({ stdin => $lines }, program(), @batch);
+    my @limits = 4 .. 64;
+    my @results = in_processes(4, sub {
+        my $begun = time;
+        my %how = (stdin => $lines, env => \%env, timeout => 20);
+        my @limited = ('bash', '-c', 'ulimit -n "$1"; shift; exec "$@"', '-', $_[0]);
+        my $run = run(\%how, @limited, $script, '--program', program(), qw(--jobs 3 --block-lines 10), @batch);
+        return { %$run, seconds => time - $begun };
+    }, @limits);
+    for (0 .. $#limits) {
+        my ($limit, $run) = ($limits[$_], $results[$_][0]);
+        my $refused = "mkpasswd-parallel: too few open files are allowed: 'ulimit -n 64' is enough\n";
+        if ($limit < 32 || $run->{err} eq $refused) { is_run($run, 3, '', $refused, "ulimit -n $limit: it is told") }
+        else {
+            $run->{err} =~ s/^parallel: Warning: .*\n//mg;
+            is_run($run, @$alone{qw(status out err)}, "ulimit -n $limit: all is answered");
+        }
+        cmp_ok($run->{seconds}, '<', 5, "ulimit -n $limit: within 5 seconds");
+    }
+    is($results[-1][0]{status}, 1, 'ulimit -n 64 is enough');
     is_deeply([left()], [], 'nothing is left');
 };
 
@@ -216,26 +291,242 @@ sub runs {
     return kill(0, $process) && eval { slurp("/proc/$process/stat") } =~ /.*\) [^Z]/;
 }
 
+# Begins a run in a process group of its own. Returns its process, and where its output and standard error are.
+sub begin {
+    my ($input, $to, @words) = @_;
+    spew("$scratch/input", $input);
+    my $child = fork // die;
+    return $child if $child;
+    setpgrp;
+    @ENV{ keys %env } = values %env;
+    $SIG{$_} = 'DEFAULT' for qw(INT TERM HUP);
+    open STDIN, '<', "$scratch/input" or die;
+    open STDOUT, '>', $to or die;
+    open STDERR, '>', "$scratch/err" or die;
+    exec $script, @words or POSIX::_exit(127);
+}
+
+# Waits until something is so, and says whether it is.
+sub wait_for {
+    my ($is_so) = @_;
+    for (1 .. 600) { return 1 if $is_so->(); sleep 0.05 }
+    return 0;
+}
+
+# Ends a run by a signal. Returns the signal or the status that it ended with, and after how many seconds.
+sub end {
+    my ($signal, $child, $process) = @_;
+    my $begun = time;
+    kill $signal, $process // $child;
+    wait_for(sub { waitpid($child, POSIX::WNOHANG) != 0 }) or kill KILL => $child;
+    return ($? & 127 ? 128 + ($? & 127) : $? >> 8, time - $begun);
+}
+
+# The processes that a process began, and those that these did, as lines: the process, its parent, its command.
+sub below {
+    my ($process) = @_;
+    my @all = map { [split ' ', $_, 3] } split /\n/, run('ps', '-eo', 'pid=,ppid=,args=')->{out};
+    my @below = ([$process]);
+    for (my $at = 0; $at < @below; $at++) { push @below, grep { $_->[1] == $below[$at][0] } @all }
+    return @below[1 .. $#below];
+}
+
+# Lines of which some are refused, and which take some seconds; and what one run of the program does with them.
+my @slow = (qw(--batch -m sha512crypt -R 10000 -S saltsalt));
+my $slow_lines = join '', map { $_ % 17 ? "user$_:password$_\n" : "no colon\n" } 1 .. 1000;
+my %alone;
+sub alone {
+    my ($lines, @words) = @_;
+    return $alone{"@words"} //= run({ stdin => $lines }, program(), @words);
+}
+
+# Tests a run that was ended by its output and standard error: they are those of one run, up to the line that it tells, and
+# the rest is taken up from there. Returns the line.
+sub resumes {
+    my ($name, $lines, $out, $err, @words) = @_;
+    my $alone = alone($lines, @words);
+    ok($err =~ s/^mkpasswd-parallel: .*answered up to line (\d+); --resume-from (\d+) takes the rest\n\z//m, "$name: it tells the line") or return diag($err);
+    my ($last, $next) = ($1, $2);
+    is($next, $last + 1, "$name: the line to resume from");
+    my @refused = map { /^mkpasswd: line (\d+): / && $1 <= $last ? $_ : () } split /^/, $alone->{err};
+    is($err, join('', @refused), "$name: refusals up to the line, and no other ones");
+    is($out, join('', (split /^/, $alone->{out})[0 .. $last - @refused - 1]), "$name: answers up to the line, and no other ones");
+    my $rest = spread({ stdin => $lines }, '--program', program(), qw(--jobs 3), "--resume-from=$next", @words);
+    is_run({ status => $rest->{status}, out => $out . $rest->{out}, err => $err . $rest->{err} }, @$alone{qw(status out err)}, "$name: both runs together");
+    return $last;
+}
+
 with_parallel 'signals' => sub {
-    spew("$scratch/input", fates(qw(fine waits fine)));
     for my $signal (qw(INT TERM)) {
-        my $child = fork // die;
-        if (!$child) {
-            @ENV{ keys %env } = values %env;
-            $SIG{$_} = 'DEFAULT' for qw(INT TERM);
-            open STDIN, '<', "$scratch/input" or die;
-            open STDOUT, '>', '/dev/null' or die;
-            exec $script, '--program', "$scratch/stand_in", qw(--jobs 2 --block-lines 20 --batch -m md5crypt);
-        }
-        for (1 .. 200) { last if -s $tried; sleep 0.05 }
-        my ($sleeper, $begun) = (slurp($tried) =~ /(\d+)/, time);
-        kill $signal, $child;
-        waitpid $child, 0;
-        is($? & 127, $signal eq 'INT' ? 2 : 15, "SIG$signal ends it");
-        cmp_ok(time - $begun, '<', 5, "SIG$signal: within 5 seconds");
+        my $child = begin(fates(qw(fine waits fine)), '/dev/null', '--program', "$scratch/stand_in", qw(--jobs 2 --block-lines 20 --batch -m md5crypt));
+        wait_for(sub { -s $tried });
+        my ($sleeper) = slurp($tried) =~ /(\d+)/;
+        my ($status, $seconds) = end($signal, $child);
+        is($status, $signal eq 'INT' ? 130 : 143, "SIG$signal ends it");
+        # The first block may be done then.
+        like(slurp("$scratch/err"), qr/\Amkpasswd-parallel: SIG$signal; answered up to line (?:0; --resume-from 1|20; --resume-from 21) takes the rest\n\z/,
+            "SIG$signal is told");
+        cmp_ok($seconds, '<', 5, "SIG$signal: within 5 seconds");
         ok(!runs($sleeper), "SIG$signal ends the program that it runs") or kill 'KILL', $sleeper;
         is_deeply([left()], [], "SIG$signal: nothing is left");
         unlink $tried;
+    }
+};
+
+with_parallel 'runs that are taken up' => sub {
+    my @own = ('--program', program(), qw(--jobs 2));
+    for (['INT', 130, 1], ['HUP', 129, 0]) {
+        my ($signal, $wanted, $is_group) = @$_;
+        my $child = begin($slow_lines, "$scratch/out", @own, @slow);
+        my $has_begun = wait_for(sub { -e "$scratch/out" && slurp("$scratch/out") =~ tr/\n// >= 50 });
+        ok($has_begun, "SIG$signal: 50 answers are there");
+        my ($status, $seconds) = end($signal, $child, $is_group ? -$child : $child);
+        is($status, $wanted, "SIG$signal: status");
+        cmp_ok($seconds, '<', 5, "SIG$signal: within 5 seconds");
+        cmp_ok(resumes("SIG$signal", $slow_lines, slurp("$scratch/out"), slurp("$scratch/err"), @slow) // 0, '<', 1000, "SIG$signal: there was a rest");
+        unlink "$scratch/out";
+    }
+    my $ten = lines_of(10, 'userN:passwordN') . ":x\n";
+    my $alone = run({ stdin => $ten }, program(), @batch);
+    is_run(spread({ stdin => $ten }, @own, qw(--resume-from 11), @batch), 1, '', "mkpasswd: line 11: no name\n", 'the last line');
+    is_run(spread({ stdin => $ten }, @own, qw(--resume-from 12), @batch), 0, '', '', 'no line more');
+    is_run(spread({ stdin => $ten }, @own, qw(--resume-from 13), @batch), 2, '', "mkpasswd-parallel: --resume-from wants no more than 12 for this input\n", 'behind the last line');
+    is_run(spread({ stdin => $ten }, @own, qw(--resume-from 1), @batch), @$alone{qw(status out err)}, 'the first line');
+};
+
+# A reader that reads no more doesn't keep a run from its end.
+with_parallel 'an output that is not read' => sub {
+    my $lines = lines_of(5000, 'userN:passwordN');
+    POSIX::mkfifo("$scratch/fifo", 0700) or die;
+    open my $reader, '+<', "$scratch/fifo" or die;
+    my $child = begin($lines, "$scratch/fifo", '--program', program(), qw(--jobs 2), @batch);
+    sleep 4;
+    my ($status, $seconds) = end('INT', $child);
+    is($status, 130, 'status');
+    cmp_ok($seconds, '<', 5, 'within 5 seconds');
+    open my $last, '>', "$scratch/fifo" or die;
+    syswrite $last, "end\n";
+    my $out = '';
+    while ($out !~ /^end\n\z/m) { sysread $reader, $out, 1 << 16, length $out or last }
+    resumes('not read', $lines, $out =~ s/^end\n\z//mr, slurp("$scratch/err"), @batch);
+};
+
+with_parallel 'killed processes' => sub {
+    needs(ps => 'procps') or return;
+    my %told = (
+        'the script' => [137, qr/the process that reads was killed; answered up/],
+        'the process that prints' => [3, qr/the process that prints was killed; answered up to line \d+ or more$/],
+        'GNU parallel' => [3, qr/GNU parallel ended with signal 9; answered up/],
+    );
+    for my $name (sort keys %told) {
+        my $child = begin($slow_lines, "$scratch/out", '--program', program(), qw(--jobs 2), @slow);
+        wait_for(sub { -e "$scratch/out" && slurp("$scratch/out") =~ tr/\n// >= 20 });
+        my @below = below($child);
+        my ($printing) = grep { $_->[1] == $child } @below;
+        my ($parallel) = grep { $_->[1] == $printing->[0] } @below;
+        my $process = { 'the script' => $child, 'GNU parallel' => $parallel->[0], 'the process that prints' => $printing->[0] }->{$name};
+        my ($status, $seconds) = end('KILL', $child, $process);
+        my @runs = map { $_->[0] } @below;
+        my $is_told = wait_for(sub { slurp("$scratch/err") =~ /\n\z/ && !grep { runs($_) } @runs });
+        is($status, $told{$name}[0], "$name: status");
+        like(slurp("$scratch/err"), qr/^mkpasswd-parallel: $told{$name}[1]/m, "$name: it is told");
+        cmp_ok($seconds, '<', 5, "$name: within 5 seconds");
+        ok($is_told, "$name: nothing runs any more") or diag(map { "@$_\n" } @below);
+        is_deeply([left()], [], "$name: nothing is left");
+        resumes($name, $slow_lines, slurp("$scratch/out"), slurp("$scratch/err"), @slow) if $name !~ /prints/;
+        unlink "$scratch/out", "$scratch/err";
+    }
+};
+
+with_parallel 'a program that goes' => sub {
+    my $lines = fates(qw(fine gone fine fine));
+    spew("$scratch/goes", slurp("$scratch/stand_in"));
+    chmod 0755, "$scratch/goes";
+    my $begun = time;
+    my $run = spread({ stdin => $lines }, '--program', "$scratch/goes", qw(--jobs 1 --block-lines 20), @batch);
+    $run->{err} =~ s/^.*not found\n//m;
+    $run->{err} =~ s/3 of 20 lines answered/F/;
+    is($run->{status}, 3, 'status');
+    like($run->{err}, qr/^mkpasswd-parallel: lines 21 to 40: F; lines 41 to 60: status 127; answered up to line 40; --resume-from 41 takes the rest\n\z/, 'it is told');
+    cmp_ok(time - $begun, '<', 5, 'within 5 seconds');
+};
+
+# How many lines each block has, by their costs: few at first, and then as many as take about a second.
+with_parallel 'blocks by their cost' => sub {
+    spew("$scratch/counts", <<'SH');
+#!/bin/sh
+lines=$(cat)
+printf '%s\n' "$lines" | grep -c . >> "$TRIED"
+printf '%s\n' "$lines" | grep . | "$PROGRAM" "$@"
+SH
+    chmod 0755, "$scratch/counts";
+    my $counts = sub {
+        my ($count, @words) = @_;
+        is(spread({ stdin => lines_of($count, 'userN:passwordN') }, '--program', "$scratch/counts", qw(--jobs 1), @words)->{status}, 0, "@words: status");
+        my @counts = split /\s+/, slurp($tried);
+        unlink $tried;
+        return @counts[1 .. $#counts];    # the first one tries the words
+    };
+    my @dear = $counts->(100, qw(--batch -R 100000 -S saltsalt));
+    is($dear[0], 1, 'dear lines: the first block has one');
+    cmp_ok((sort { $a <=> $b } @dear)[-1], '<=', 40, 'dear lines: no block has many');
+    my @cheap = $counts->(8000, qw(--batch -m md5crypt -S xxxxxxxx));
+    is($cheap[0], 1, 'cheap lines: the first block has one');
+    cmp_ok((sort { $a <=> $b } @cheap)[-1], '>=', 500, 'cheap lines: a block has many');
+};
+
+# The first answer is there long before the last one.
+with_parallel 'the first answer' => sub {
+    my $begun = time;
+    my $child = begin($slow_lines, "$scratch/out", '--program', program(), qw(--jobs 2), @slow);
+    ok(wait_for(sub { -s "$scratch/out" }), 'it comes');
+    cmp_ok(time - $begun, '<', 5, 'within 5 seconds');
+    my ($status) = end('TERM', $child);
+    is($status, 143, 'and the others were not all there');
+    unlink "$scratch/out";
+    spew("$scratch/drops", "(for i in 1 2; do echo user\$i:password; sleep 3; done) | \"\$@\"\n");
+    my $run = run({ env => \%env }, 'sh', '-c', 'sh "$0" "$@" | while IFS= read -r line; do date +%s; done', "$scratch/drops", $script,
+        '--program', program(), qw(--jobs 2), @batch);
+    my @seconds = split /\n/, $run->{out};
+    is(@seconds, 2, 'a slow input: answers');
+    cmp_ok($seconds[1] - $seconds[0], '>=', 2, 'a slow input: the first answer waits for no more lines');
+};
+
+with_parallel 'progress' => sub {
+    my %how = (stdin => lines_of(40, 'userN:passwordN'));
+    my @own = ('--program', program(), qw(--jobs 2));
+    mkdir "$scratch/few";
+    symlink run('sh', '-c', "command -v $_")->{out} =~ s/\n//r, "$scratch/few/$_" for qw(perl env parallel);
+    my $without = spread({ %how, env => { PATH => "$scratch/few" } }, @own, '--progress', @batch);
+    is_run($without, 3, '', "mkpasswd-parallel: pv is wanted on the PATH for --progress (Debian's package pv)\n", 'no pv');
+    needs(pv => 'pv') or return;
+    my $alone = run(\%how, program(), @batch);
+    my $shown = spread(\%how, @own, '--progress', @batch);
+    is("$shown->{status} $shown->{out}", "0 $alone->{out}", 'answers with progress');
+    like($shown->{err}, qr{\b40(?:\.0)? +0:00:\d\d \[ *[\d.]+ /s\] \[=+>\] 100%}, 'progress of a file, where it is asked for');
+    my $resumed = spread(\%how, @own, qw(--progress --resume-from 31), @batch);
+    like($resumed->{err}, qr{\b10(?:\.0)? +0:00:\d\d \[ *[\d.]+ /s\] \[=+>\] 100%}, 'progress of the rest');
+    my $piped = run({ %how, env => \%env }, 'sh', '-c', 'cat | "$@"', '-', $script, @own, '--progress', @batch);
+    like($piped->{err}, qr{\b40(?:\.0)? +0:00:\d\d \[ *[\d.]+ /s\]}, 'progress of a pipe');
+    unlike($piped->{err}, qr/%|ETA/, 'no end of a pipe is known');
+    is(spread(\%how, @own, @batch)->{err}, '', 'none in a file, where it is not asked for');
+    needs(script => 'bsdutils') or return;
+    my $typed = join ' ', map { s/'/'\\''/gr =~ s/.*/'$&'/sr } $script, @own, @batch;
+    spew("$scratch/input", $how{stdin});
+    my $terminal = run({ env => \%env }, 'script', '-qec', "$typed < '$scratch/input' > '$scratch/out'", '/dev/null');
+    like($terminal->{out}, qr{/s\] \[=+>\] 100%}, 'progress at a terminal');
+    is(slurp("$scratch/out"), $alone->{out}, 'answers beside a terminal');
+    is_deeply([left()], [], 'nothing is left');
+};
+
+# Each run of the program has settings of the C library for its memory, and what the user has set prevails.
+my $kept = 'glibc.malloc.mmap_threshold=1073741824:glibc.malloc.trim_threshold=1073741824:glibc.malloc.hugetlb=1';
+spew("$scratch/says_settings", "#!/bin/sh\nwhile IFS= read -r line; do echo \"user:\$GLIBC_TUNABLES\"; done\n");
+chmod 0755, "$scratch/says_settings";
+with_parallel 'memory' => sub {
+    for (['', ''], ['glibc.malloc.hugetlb=0', ':glibc.malloc.hugetlb=0']) {
+        my %how = (stdin => "x\n" x 3, env => { GLIBC_TUNABLES => $_->[0] });
+        is_run(spread(\%how, '--program', "$scratch/says_settings", qw(--jobs 2), @batch), 0, "user:$kept$_->[1]\n" x 3, '', "settings beside '$_->[0]'");
     }
 };
 
@@ -244,7 +535,7 @@ with_parallel 'secrets' => sub {
     my @strace = (qw(strace -f --seccomp-bpf -o), $trace);
     needs('a strace that works', 'strace', run(@strace, 'true')->{status} == 0) or return;
     my $calls = 'trace=write,pwrite64,writev,pwritev,pwritev2,sendto,sendmsg,sendfile,splice,execve,open,openat,creat';
-    my $run = run({ stdin => lines_of(30, 'userN:secretwordN'), env => \%env }, @strace, qw(-y -s 4096 -e), $calls,
+    my $run = run({ stdin => lines_of(30, 'userN:secretwordN'), env => \%env }, @strace, qw(-y -s 150000 -e), $calls,
         $script, '--program', program(), qw(--jobs 2 --block-lines 15 --batch -m md5crypt));
     is($run->{status}, 0, 'a run below strace');
     my @calls = split /\n/, slurp($trace);
@@ -297,9 +588,26 @@ CONFIG
             [qw(--jobs 2 --sshlogin one --sshlogin=two --block-lines 90 --program), $odd_program], @batch);
         my $sixty = lines_of(60, 'userN:passwordN');
         same('a machine that is down, and one that is up', 0, $sixty, ['--jobs', 1, '--sshlogin', 'two,down', '--block-lines', 30], @batch);
+        my $begun = time;
         my $down = spread({ stdin => $sixty }, '--program', program(), qw(--jobs 1 --sshlogin down --block-lines 30), @batch);
         is_deeply([$down->{status}, $down->{out}, (split /\n/, $down->{err})[-1]], [3, '',
-            'mkpasswd-parallel: lines 1 to 30: killed or lost; lines 31 to 60: killed or lost'], 'a machine that is down');
+            'mkpasswd-parallel: a block lost its machine each time; answered up to line 0; --resume-from 1 takes the rest'], 'a machine that is down');
+        cmp_ok(time - $begun, '<', 5, 'a machine that is down: within 5 seconds');
+        my %settings = (stdin => "x\n" x 3, env => { GLIBC_TUNABLES => 'glibc.malloc.hugetlb=0' });
+        is_run(spread(\%settings, '--program', "$scratch/says_settings", qw(--jobs 2 --sshlogin one), @batch), 0, "user:$kept\n" x 3, '',
+            'settings of the C library on another machine');
+        # A machine that freezes: the server and all of its sessions.
+        my $child = begin($slow_lines, "$scratch/out", '--program', program(), qw(--jobs 2 --sshlogin one), @slow);
+        ok(wait_for(sub { -s "$scratch/out" }), 'a machine that freezes: answers before');
+        my @frozen = ($server, map { $_->[0] } grep { $_->[2] =~ /sshd/ } below($server));
+        kill STOP => @frozen;
+        $begun = time;
+        wait_for(sub { waitpid($child, POSIX::WNOHANG) != 0 });
+        is($? >> 8, 3, 'a machine that freezes: status');
+        cmp_ok(time - $begun, '<', 5, 'a machine that freezes: within 5 seconds');
+        kill CONT => @frozen;
+        like(slurp("$scratch/err"), qr/^mkpasswd-parallel: a block lost its machine each time; answered up/m, 'a machine that freezes: it is told');
+        resumes('a machine that freezes', $slow_lines, slurp("$scratch/out"), slurp("$scratch/err") =~ s/^(?!mkpasswd).*\n//mgr, @slow);
     }
     kill 'TERM', $server;
     waitpid $server, 0;
