@@ -41,9 +41,8 @@ my %cost = (md5crypt => 0, sha256crypt => 1000, sha512crypt => 1000, scrypt => 6
 my %password = map { $_ => "pass word:$_" } values %user;
 
 my $recipes = slurp("$root/docs/RECIPES.md");
-my %in = (dir => "$scratch/recipes", env => { PATH => "$scratch/bin:$ENV{PATH}", BASH_ENV => undef, HOME => $scratch });
-mkdir $_ for $in{dir}, "$scratch/bin", '/run/www';
-symlink program(), "$scratch/bin/mkpasswd";
+my %in = (dir => "$scratch/recipes", env => { PATH => "$root:$ENV{PATH}", BASH_ENV => undef, HOME => $scratch });
+mkdir $_ for $in{dir}, '/run/www';
 spew('/run/www/index.html', "in\n");
 spew("$in{dir}/passwords", "ann:$password{ann}\n");
 spew("$in{dir}/password", "$password{ann}\n");
@@ -315,7 +314,8 @@ subtest 'pam_mkpasswd' => sub {
         PKG_CONFIG_ALLOW_SYSTEM_CFLAGS => 1, PKG_CONFIG_ALLOW_SYSTEM_LIBS => 1, LD_LIBRARY_PATH => "$installed$libs" };
     symlink "$root/examples", "$in{dir}/examples";
     prepare($title);
-    spew('/etc/pam.d/example', block_of($title, 'pam'));
+    my $block = block_of($title, 'pam');
+    spew('/etc/pam.d/example', $block);
     are_taken('pam_mkpasswd', sub { pam('example', @_) });
 
     # What the system's log gets, instead of its daemon.
@@ -329,6 +329,8 @@ subtest 'pam_mkpasswd' => sub {
     };
     my ($right, $number) = ($password{six}, 1 + (slurp($file) =~ tr/\n//));
     spew($file, slurp($file) . "no colon\n" . join "\n", map { "$_->[0]:$_->[1]" } @pam_rows);
+    # With this budget a name that is unknown or locked takes no time.
+    spew('/etc/pam.d/example', $block =~ s/budget=\K\d+/1000000/r);
     for (@pam_rows, map { [$_, '', 'no', ''] } 'nobody', 'si', "six\n") {
         my ($name, undef, $verdict, $told) = @$_;
         $number++;
@@ -354,14 +356,14 @@ subtest 'pam_mkpasswd' => sub {
     is($login->('six', $right), "$service: no argument file=", 'pam_mkpasswd: no arguments');
 
     # The processor's time of a login, the least of two.
-    spew('/etc/pam.d/example', block_of($title, 'pam'));
+    spew('/etc/pam.d/example', $block);
     my $time = sub {
         my ($name) = @_;
         return min(map { my $before = (times)[2]; pam('example', $name, $right); (times)[2] - $before } 1, 2);
     };
     my $known = $time->('ann');
     cmp_ok($known, '>', 0.05, 'pam_mkpasswd: a known name takes time');
-    for (qw(nobody locked starred empty word costly long), '') {
+    for (qw(nobody locked empty word costly), '') {
         my $ratio = $time->($_) / ($known || 1);
         ok($ratio > 0.5 && $ratio < 2, "pam_mkpasswd: '$_' takes the time of a known name") or diag("$ratio times");
     }
@@ -379,8 +381,8 @@ subtest 'installers' => sub {
     run_recipe('A password for an installer', 'sh');
     is_run(run(\%in, qw(debconf-set-selections --checkonly preseed.cfg)), 0, '', '', 'preseed: debconf has nothing to say');
     run(\%in, qw(debconf-set-selections preseed.cfg));
-    my $stored = run({ %in, stdin => "GET passwd/user-password-crypted\n" }, 'debconf-communicate', 'd-i')->{out};
-    is_hash($stored =~ /^0 (.*)\n\z/, 'preseed: the hash in debconf');
+    my ($hash) = run({ %in, stdin => "GET passwd/user-password-crypted\n" }, 'debconf-communicate', 'd-i')->{out} =~ /^0 (.*)\n\z/;
+    is_hash($hash // '', 'preseed: the hash in debconf');
 
     # No package of Debian 12 reads kickstart files. Their lines are split as Python's shlex does, with comments.
     needs(python3 => 'python3') or return;
@@ -403,7 +405,7 @@ subtest 'cloud-init' => sub {
 subtest 'Ansible' => sub {
     needs('ansible-playbook' => 'ansible-core') or return;
     my $title = 'A password that Ansible sets';
-    local $in{env} = { %{ $in{env} }, LC_ALL => 'C.UTF-8' };
+    local $in{env} = { %{ $in{env} }, LC_ALL => 'C.UTF-8', ANSIBLE_GATHERING => 'explicit' };
     add_accounts();
     spew("$in{dir}/hosts", "localhost ansible_connection=local ansible_python_interpreter=/usr/bin/python3\n");
     spew("$in{dir}/users.yml", block_of($title, 'yaml'));
