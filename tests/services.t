@@ -28,7 +28,7 @@ if ($missing ne '') {
 $ENV{PATH} .= ':/usr/sbin:/sbin';
 my $modules = '/usr/lib/x86_64-linux-gnu/security';
 own_folder($_) for grep { -d } '/etc', $modules, '/var/cache/debconf';
-own_folder($_, 1) for grep { -d } qw(/run /var/log /var/lib/ldap);
+own_folder($_, 1) for grep { -d } qw(/run /var/log /var/lib/dovecot /var/lib/ldap /var/lib/nginx);
 own_devices();
 
 # What each service takes, in Debian 12. None of them knows a hash but through libxcrypt.
@@ -355,7 +355,7 @@ subtest 'pam_mkpasswd' => sub {
     spew('/etc/pam.d/example', "auth required pam_mkpasswd.so\naccount required pam_permit.so\n");
     is($login->('six', $right), "$service: no argument file=", 'pam_mkpasswd: no arguments');
 
-    # The processor's time of a login, the least of two.
+    # The processor's time of a login, the least of two. On a busy machine it varies; without a hash it is a hundredth.
     spew('/etc/pam.d/example', $block);
     my $time = sub {
         my ($name) = @_;
@@ -365,7 +365,7 @@ subtest 'pam_mkpasswd' => sub {
     cmp_ok($known, '>', 0.05, 'pam_mkpasswd: a known name takes time');
     for (qw(nobody locked empty word costly), '') {
         my $ratio = $time->($_) / ($known || 1);
-        ok($ratio > 0.5 && $ratio < 2, "pam_mkpasswd: '$_' takes the time of a known name") or diag("$ratio times");
+        ok($ratio > 0.3 && $ratio < 3, "pam_mkpasswd: '$_' takes the time of a known name") or diag("$ratio times");
     }
 };
 
