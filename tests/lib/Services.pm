@@ -22,6 +22,8 @@ sub enter_namespaces {
     my $here = readlink '/proc/self/ns/mnt' // '';
     my $outside = delete $ENV{SERVICES_OUTSIDE};
     if (defined $outside && $outside ne $here) {
+        # A first process gets no signal that it has no handler for.
+        $SIG{$_} = sub { exit 130 } for qw(INT TERM HUP);
         socket my $socket, AF_INET, SOCK_DGRAM, 0 or die "socket: $!";
         my $request = pack 'a16 s x22', 'lo', 1;
         ioctl $socket, 0x8914, $request or die "the loopback: $!";    # SIOCSIFFLAGS with IFF_UP
