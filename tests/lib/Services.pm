@@ -1,0 +1,105 @@
+package Services;
+
+# Runs a test in namespaces of its own, and services in them. Its mounts, its processes and its network are private: folders
+# that services use are copies in memory, which may be changed, and the network is a loopback on which every port is free.
+# The test is the first process there, so the kernel ends all others with it, however it ends.
+
+use strict;
+use warnings;
+use Exporter qw(import);
+use File::Path qw(make_path remove_tree);
+use IO::Socket::INET;
+use POSIX qw(WNOHANG);
+use Suite;
+use Time::HiRes qw(sleep);
+
+our @EXPORT = qw(enter_namespaces own_folder own_devices while_serving);
+
+my @unshare = qw(unshare --mount --net --pid --fork --kill-child --mount-proc);
+
+# Runs the test again in the namespaces; there it returns ''. Where there are none, it returns why.
+sub enter_namespaces {
+    my $here = readlink '/proc/self/ns/mnt' // '';
+    my $outside = delete $ENV{SERVICES_OUTSIDE};
+    if (defined $outside && $outside ne $here) {
+        # A first process gets no signal that it has no handler for.
+        $SIG{$_} = sub { exit 130 } for qw(INT TERM HUP);
+        socket my $socket, AF_INET, SOCK_DGRAM, 0 or die "socket: $!";
+        my $request = pack 'a16 s x22', 'lo', 1;
+        ioctl $socket, 0x8914, $request or die "the loopback: $!";    # SIOCSIFFLAGS with IFF_UP
+        return '';
+    }
+    return 'the superuser' if $> != 0;
+    return 'namespaces' if run(@unshare, 'true')->{status};
+    local $ENV{SERVICES_OUTSIDE} = $here;
+    remove_tree($scratch);
+    exec @unshare, $^X, $0 or die "unshare: $!";
+}
+
+# Moves a new folder in memory over one that is there. The code fills it first, with its path as the argument.
+sub replace_folder {
+    my ($folder, $fill) = @_;
+    my $new = "$scratch/new";
+    make_path($new);
+    must('mount', '-n', '-t', 'tmpfs', '-o', 'mode=755', 'tmpfs', $new);
+    $fill->($new);
+    must('mount', '-n', '--move', $new, $folder);
+}
+
+# Makes a folder the test's own: a copy of it, or an empty one.
+sub own_folder {
+    my ($folder, $is_empty) = @_;
+    return replace_folder($folder, sub { must('cp', '-a', "$folder/.", $_[0]) if !$is_empty });
+}
+
+# Makes /dev the test's own, with the devices that every program may expect.
+sub own_devices {
+    return replace_folder('/dev', sub {
+        my ($folder) = @_;
+        for (qw(null zero full random urandom tty)) {
+            spew("$folder/$_", '');
+            must('mount', '-n', '--bind', "/dev/$_", "$folder/$_");
+        }
+        symlink "/proc/self/fd$_->[1]", "$folder/$_->[0]" for ['fd', ''], ['stdin', '/0'], ['stdout', '/1'], ['stderr', '/2'];
+        mkdir "$folder/shm";
+        chmod 01777, "$folder/shm";
+    });
+}
+
+sub must {
+    my $run = run(@_);
+    $run->{status} and die "@_: status $run->{status}: $run->{err}";
+}
+
+# Starts a service that stays in the foreground, runs the code once its port takes connections, and ends the service by
+# its number. Fails a test where it doesn't serve.
+sub while_serving {
+    my ($port, $command, $code) = @_;
+    my ($log, $until) = ("$scratch/service.log", time + 20);
+    my $pid = fork // die "can't fork: $!";
+    if (!$pid) {
+        setpgrp;
+        open STDIN, '<', '/dev/null' or die;
+        open STDOUT, '>', $log or die;
+        open STDERR, '>&', \*STDOUT or die;
+        exec { $command->[0] } @$command or do { print STDERR "$command->[0]: $!\n"; POSIX::_exit(127) };
+    }
+    my ($is_ended, $is_serving) = (0, 0);
+    while (time < $until && !$is_serving && !$is_ended) {
+        $is_ended = waitpid $pid, WNOHANG;
+        $is_serving = !$is_ended && IO::Socket::INET->new(PeerAddr => "127.0.0.1:$port");
+        sleep 0.05 if !$is_serving;
+    }
+    $is_serving &&= close $is_serving;
+    $code->() if $is_serving;
+    $is_ended ||= waitpid $pid, WNOHANG;
+    ok($is_serving && !$is_ended, "$command->[0] serves") or diag(slurp($log));
+    kill TERM => $pid if !$is_ended;
+    for (1 .. 100) {
+        last if $is_ended ||= waitpid $pid, WNOHANG;
+        sleep 0.05;
+    }
+    return $is_ended || kill KILL => -$pid;
+}
+
+1;

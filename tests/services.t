@@ -1,0 +1,448 @@
+#!/usr/bin/env perl
+# Services of Debian take the hashes of each method that they take, and refuse every other password; and installers and
+# tools take the lines that docs/RECIPES.md has for them.
+#
+# The blocks of that document are run as they stand, with the paths that they name: the test runs in namespaces, where /etc
+# and other folders are copies of its own (Services.pm). What a recipe leaves out, such as the port of a service, is here.
+# Blocks in the language "sh" are run by examples.t, those in "bash" and in languages of configurations here alone.
+use strict;
+use warnings;
+use FindBin qw($Bin);
+use lib "$Bin/lib";
+use HTTP::Tiny;
+use List::Util qw(min);
+use MIME::Base64 qw(encode_base64);
+use Model;
+use Net::FTP;
+use Services;
+use Socket qw(AF_UNIX MSG_DONTWAIT SOCK_DGRAM pack_sockaddr_un);
+use Suite;
+use Texts;
+
+my $missing = enter_namespaces();
+if ($missing ne '') {
+    needs($missing => 'none: run it as root where unshare may make namespaces', 0);
+    done_testing;
+    exit;
+}
+$ENV{PATH} .= ':/usr/sbin:/sbin';
+my $modules = '/usr/lib/x86_64-linux-gnu/security';
+own_folder($_) for grep { -d } '/etc', $modules, '/var/cache/debconf';
+own_folder($_, 1) for grep { -d } qw(/run /var/log /var/lib/dovecot /var/lib/ldap /var/lib/nginx);
+own_devices();
+
+# What each service takes, in Debian 12. None of them knows a hash but through libxcrypt.
+my %takes = map { $_ => [qw(md5crypt sha256crypt sha512crypt scrypt)] }
+    qw(nginx Apache htpasswd Dovecot OpenLDAP pam_unix vsftpd pam_mkpasswd);
+
+# A user for each method, with a low cost, and ann, whose hash a recipe makes.
+my %user = (md5crypt => 'one', sha256crypt => 'five', sha512crypt => 'six', scrypt => 'seven', 'the recipe' => 'ann');
+my %cost = (md5crypt => 0, sha256crypt => 1000, sha512crypt => 1000, scrypt => 6);
+my %password = map { $_ => "pass word:$_" } values %user;
+
+my $recipes = slurp("$root/docs/RECIPES.md");
+my %in = (dir => "$scratch/recipes", env => { PATH => "$root:$ENV{PATH}", BASH_ENV => undef, HOME => $scratch });
+mkdir $_ for $in{dir}, '/run/www';
+spew('/run/www/index.html', "in\n");
+spew("$in{dir}/passwords", "ann:$password{ann}\n");
+spew("$in{dir}/password", "$password{ann}\n");
+
+# The hashes of one method, in lines.
+sub lines_of {
+    my ($method) = @_;
+    my $name = $user{$method};
+    return run({ stdin => "$name:$password{$name}\n" }, program(), '--batch', '-m', $method, '-R', $cost{$method})->{out};
+}
+my $of_methods = join '', map { lines_of($_) } sort keys %cost;
+my ($field) = $of_methods =~ /^six:(.*)/m;
+
+# The blocks of a chapter, without those of chapters in it.
+sub blocks_under {
+    my ($title, $language) = @_;
+    return blocks_of(section_of($recipes, $title) =~ s/^#+ .*//msr, $language);
+}
+
+# Runs the commands of a chapter in the folder of the recipes.
+sub run_recipe {
+    my ($title, $language) = @_;
+    my @blocks = blocks_under($title, $language // 'bash');
+    isnt(scalar @blocks, 0, "$title: commands");
+    for (@blocks) {
+        my $run = run(\%in, 'bash', '-euc', $_);
+        is($run->{status}, 0, "$title: its commands") or diag($run->{out} . $run->{err});
+    }
+}
+
+# The only block of a chapter in another language.
+sub block_of {
+    my ($title, $language) = @_;
+    my @blocks = blocks_under($title, $language);
+    is(scalar @blocks, 1, "$title: a block of $language");
+    return $blocks[0] // '';
+}
+
+# Makes `hashes` of `passwords` as the recipe does, with the other users behind, and runs the recipe of a service.
+sub prepare {
+    my ($title) = @_;
+    run_recipe('Services that check passwords');
+    spew("$in{dir}/hashes", slurp("$in{dir}/hashes") . $of_methods);
+    return run_recipe($title);
+}
+
+# Tests that a service takes for each method the right password alone. The code says yes, no, or what else happened.
+sub are_taken {
+    my ($service, $login) = @_;
+    my @rows;
+    for my $method ('the recipe', @{ $takes{$service} }) {
+        my $name = $user{$method};
+        push @rows, [$name, $password{$name}, 'yes', $method], [$name, $password{$name} =~ s/.\z/?/r, 'no', "$method: another password"];
+    }
+    push @rows, ['six', $password{ann}, 'no', 'the password of another user'], ['six', $field, 'no', 'the hash itself'];
+    push @rows, ['nobody', $password{six}, 'no', 'an unknown name'];
+    my @verdicts = in_processes(4, sub { $login->(@{ $_[0] }[0, 1]) }, @rows);
+    is($verdicts[$_] && $verdicts[$_][0], $rows[$_][2], "$service: $rows[$_][3]") for 0 .. $#rows;
+}
+
+sub verdict { my ($got, $yes, $no) = @_; return $got eq $yes ? 'yes' : $got eq $no ? 'no' : $got }
+
+# A login over HTTP, over FTP, and by PAM.
+sub http {
+    my ($port, $name, $password) = @_;
+    my $authorization = 'Basic ' . encode_base64("$name:$password", '');
+    my $got = HTTP::Tiny->new->get("http://127.0.0.1:$port/", { headers => { Authorization => $authorization } });
+    return verdict($got->{status} . ($got->{success} ? " $got->{content}" : ''), "200 in\n", '401');
+}
+
+sub ftp {
+    my ($port, $name, $password) = @_;
+    my $ftp = Net::FTP->new('127.0.0.1', Port => $port, Timeout => 20) or return "no FTP: $@";
+    $ftp->login($name, $password);
+    my $code = $ftp->code;
+    $ftp->quit;
+    return verdict($code, '230', '530');
+}
+
+sub pam {
+    my ($service, $name, $password) = @_;
+    my $run = run({ stdin => "$password\n", env => $in{env} }, 'pamtester', $service, $name, 'authenticate', 'acct_mgmt');
+    my ($told) = "$run->{out}$run->{err}" =~ /\bpamtester: (.*)/;
+    return $run->{status} == 0 ? 'yes' : verdict($told // "status $run->{status}", '', 'Authentication failure');
+}
+
+subtest 'recipes' => sub {
+    my @chapters = grep { blocks_under($_, 'bash') } $recipes =~ /^##+ (.*)/mg;
+    cmp_ok(scalar @chapters, '>=', 10, 'chapters with commands for this test');
+    my $test = slurp("$root/tests/services.t");
+    ok($test =~ /'\Q$_\E'/, "the recipe '$_' is run") for @chapters;
+};
+
+subtest 'nginx' => sub {
+    needs(nginx => 'nginx') or return;
+    prepare('nginx');
+    my $block = block_of('nginx', 'nginx');
+    spew("$scratch/nginx.conf", <<"END");
+user www-data;
+pid /run/nginx.pid;
+error_log stderr;
+daemon off;
+events {}
+http {
+    access_log off;
+    server {
+        listen 127.0.0.1:8080;
+        root /run/www;
+        $block
+    }
+}
+END
+    while_serving(8080, ['nginx', '-c', "$scratch/nginx.conf"], sub {
+        are_taken('nginx', sub { http(8080, @_) });
+    });
+};
+
+subtest 'Apache' => sub {
+    needs(apache2 => 'apache2') or return;
+    prepare('Apache');
+    my $block = block_of('Apache', 'apache');
+    my $loads = join '', map { "LoadModule ${_}_module /usr/lib/apache2/modules/mod_$_.so\n" }
+        qw(mpm_event authn_core authn_file authz_core authz_user auth_basic dir);
+    spew("$scratch/apache.conf", <<"END");
+$loads
+ServerName localhost
+Listen 127.0.0.1:8081
+PidFile /run/apache2.pid
+DefaultRuntimeDir /run
+ErrorLog /dev/stderr
+User www-data
+Group www-data
+DocumentRoot /run/www
+<Location />
+    DirectoryIndex index.html
+    $block
+</Location>
+END
+    while_serving(8081, ['apache2', '-D', 'FOREGROUND', '-d', '/etc/apache2', '-f', "$scratch/apache.conf"], sub {
+        are_taken('Apache', sub { http(8081, @_) });
+    });
+};
+
+subtest 'htpasswd' => sub {
+    needs(htpasswd => 'apache2-utils') or return;
+    mkdir '/etc/apache2';
+    prepare('Apache');
+    are_taken('htpasswd', sub {
+        my ($name, $password) = @_;
+        my $run = run({ stdin => "$password\n" }, 'htpasswd', '-vi', '/etc/apache2/passwords', $name);
+        return verdict($run->{status}, 0, $name eq 'nobody' ? 6 : 3);
+    });
+};
+
+subtest 'Dovecot' => sub {
+    needs('Dovecot 2.3' => 'dovecot-core, in Debian 12', run('dovecot', '--version')->{out} =~ /^2\.3\./) or return;
+    prepare('Dovecot');
+    spew('/etc/dovecot/local.conf', block_of('Dovecot', 'dovecot'));
+    spew('/etc/dovecot/dovecot.conf', <<'END');
+protocols =
+log_path = /dev/stderr
+auth_failure_delay = 0
+service auth {
+  inet_listener {
+    address = 127.0.0.1
+    port = 8082
+  }
+}
+service anvil {
+  unix_listener anvil-auth-penalty {
+    mode = 0
+  }
+}
+!include_try local.conf
+END
+    while_serving(8082, ['dovecot', '-F'], sub {
+        are_taken('Dovecot', sub {
+            my $run = run('doveadm', 'auth', 'test', @_);
+            return verdict($run->{status}, 0, 77);
+        });
+    });
+};
+
+subtest 'OpenLDAP' => sub {
+    needs(slapd => 'slapd') && needs(ldapwhoami => 'ldap-utils') or return;
+    my $suffix = 'dc=example,dc=org';
+    run(qw(install -d -o openldap -g openldap /run/slapd /var/lib/ldap));
+    spew("$scratch/slapd.conf", <<"END");
+include /etc/ldap/schema/core.schema
+include /etc/ldap/schema/cosine.schema
+include /etc/ldap/schema/inetorgperson.schema
+moduleload /usr/lib/ldap/back_mdb.so
+pidfile /run/slapd/slapd.pid
+database mdb
+suffix $suffix
+directory /var/lib/ldap
+rootdn cn=admin,$suffix
+rootpw secret
+access to attrs=userPassword by anonymous auth
+END
+    my @users = sort values %user;
+    my $entries = "dn: $suffix\nobjectClass: dcObject\nobjectClass: organization\no: Example\n\n"
+        . "dn: ou=people,$suffix\nobjectClass: organizationalUnit\n\n";
+    $entries .= "dn: uid=$_,ou=people,$suffix\nobjectClass: inetOrgPerson\ncn: $_\nsn: $_\n\n" for @users;
+    while_serving(8083, ['slapd', '-d', '0', '-h', 'ldap://127.0.0.1:8083 ldapi:///', '-f', "$scratch/slapd.conf"], sub {
+        spew("$in{dir}/admin", 'secret');
+        my @admin = ('-x', '-H', 'ldapi:///', '-D', "cn=admin,$suffix", '-y', "$in{dir}/admin");
+        is(run({ stdin => $entries }, 'ldapadd', @admin)->{status}, 0, 'OpenLDAP: entries of the users');
+        prepare('OpenLDAP');
+        are_taken('OpenLDAP', sub {
+            my ($name, $password) = @_;
+            spew("$scratch/typed.$$", $password);
+            my $run = run('ldapwhoami', '-x', '-H', 'ldap://127.0.0.1:8083', '-D', "uid=$name,ou=people,$suffix", '-y', "$scratch/typed.$$");
+            return verdict($run->{status}, 0, 49);
+        });
+    });
+};
+
+# Gives the users accounts with locked passwords.
+my ($passwd, $shadow) = map { slurp("/etc/$_") } qw(passwd shadow);
+sub add_accounts {
+    my @names = sort values %user;
+    spew('/etc/passwd', join '', $passwd, map { "$_:x:4242:4242::/:/bin/sh\n" } @names);
+    spew('/etc/shadow', join '', $shadow, map { "$_:!:19000:0:99999:7:::\n" } @names);
+    spew('/etc/pam.d/pam_unix', "auth required pam_unix.so nodelay\naccount required pam_unix.so\n");
+}
+
+subtest 'pam_unix' => sub {
+    needs(pamtester => 'pamtester') && needs(chpasswd => 'passwd') or return;
+    add_accounts();
+    prepare('pam_unix');
+    are_taken('pam_unix', sub { pam('pam_unix', @_) });
+};
+
+subtest 'vsftpd' => sub {
+    needs(vsftpd => 'vsftpd') && needs('pam_pwdfile.so' => 'libpam-pwdfile', -e "$modules/pam_pwdfile.so") or return;
+    prepare('vsftpd');
+    spew('/etc/pam.d/vsftpd', block_of('vsftpd', 'pam'));
+    my $block = block_of('vsftpd', 'ini');
+    run(qw(install -d /run/vsftpd/empty));
+    spew('/etc/vsftpd.conf', <<"END");
+listen=YES
+listen_address=127.0.0.1
+listen_port=8084
+background=NO
+anonymous_enable=NO
+delay_failed_login=0
+secure_chroot_dir=/run/vsftpd/empty
+$block
+END
+    while_serving(8084, ['vsftpd', '/etc/vsftpd.conf'], sub {
+        are_taken('vsftpd', sub { ftp(8084, @_) });
+    });
+};
+
+# What the file of pam_mkpasswd may have: a name and its field; what the right password of six comes to; what the log gets.
+my @pam_rows = (
+    ['locked', "!$field", 'no', ''], ['starred', '*', 'no', ''], ['empty', '', 'no', ''], ['word', 'x', 'no', 'unknown scheme'],
+    ['costly', '$6$rounds=999999999$saltsalt$' . 'a' x 86, 'no', 'over budget'], ['cut', substr($field, 0, -1), 'no', ''],
+    ['aged', "$field:19000:0:::::", 'no', 'bad character'], ['zero', "$field\0", 'no', 'bad character'],
+    ['carriage', "$field\r", 'no', 'bad character'], ['long', $field . 'a' x 384, 'no', 'setting too long'],
+    ['twice', '!', 'no', ''], ['twice', $field, 'no', ''], ['', $field, 'no', ''], ['a:b', $field, 'no', ''], ['last', $field, 'yes', ''],
+);
+
+subtest 'pam_mkpasswd' => sub {
+    needs(pamtester => 'pamtester') && needs('pam_modules.h' => 'libpam0g-dev', -e '/usr/include/security/pam_modules.h') or return;
+    needs(cc => 'gcc') && needs('pkg-config' => 'pkgconf') && needs('libmkpasswd.so.2' => 'none: run make lib', -e "$root/libmkpasswd.so.2")
+        or return;
+    my ($title, $source, $libs) = ('A PAM module of your own', "$root/examples/pam_mkpasswd.c", '/usr/lib/x86_64-linux-gnu');
+    my ($installed, $file) = ("$scratch/installed", '/etc/example.passwords');
+    cmp_ok(slurp($source) =~ tr/\n//, '<=', 150, 'pam_mkpasswd: lines');
+    is_run(run(qw(cc -std=c99 -Wall -Wextra -Werror -pedantic -O2 -c -o), "$scratch/strict.o", "-I$root/include", $source),
+        0, '', '', 'pam_mkpasswd: the compiler has nothing to say');
+    is(run({ env => { DESTDIR => $installed, PREFIX => '/usr', LIBDIR => $libs } }, "$root/tools/install")->{status}, 0, 'it is installed');
+    local $in{env} = { %{ $in{env} }, PKG_CONFIG_SYSROOT_DIR => $installed, PKG_CONFIG_LIBDIR => "$installed$libs/pkgconfig",
+        PKG_CONFIG_ALLOW_SYSTEM_CFLAGS => 1, PKG_CONFIG_ALLOW_SYSTEM_LIBS => 1, LD_LIBRARY_PATH => "$installed$libs" };
+    symlink "$root/examples", "$in{dir}/examples";
+    prepare($title);
+    my $block = block_of($title, 'pam');
+    spew('/etc/pam.d/example', $block);
+    are_taken('pam_mkpasswd', sub { pam('example', @_) });
+
+    # What the system's log gets, instead of its daemon.
+    socket my $log, AF_UNIX, SOCK_DGRAM, 0 or die "socket: $!";
+    bind $log, pack_sockaddr_un('/dev/log') or die "/dev/log: $!";
+    my $login = sub {
+        my $verdict = pam('example', @_);
+        my ($line, @lines);
+        push @lines, $line =~ s/^.*?pam_mkpasswd\(example:\w+\): //sr while defined recv $log, $line, 8192, MSG_DONTWAIT;
+        return join ': ', $verdict, @lines;
+    };
+    my ($right, $number) = ($password{six}, 1 + (slurp($file) =~ tr/\n//));
+    spew($file, slurp($file) . "no colon\n" . join "\n", map { "$_->[0]:$_->[1]" } @pam_rows);
+    # With this budget a name that is unknown or locked takes no time.
+    spew('/etc/pam.d/example', $block =~ s/budget=\K\d+/1000000/r);
+    for (@pam_rows, map { [$_, '', 'no', ''] } 'nobody', 'si', "six\n") {
+        my ($name, undef, $verdict, $told) = @$_;
+        $number++;
+        my $logged = $told eq '' ? '' : ": $file: line $number: $told";
+        is_deeply([map { $login->($name, $_) } $right, substr($right, 1), '', $field, 'a' x 500], ["$verdict$logged", ("no$logged") x 4],
+            "pam_mkpasswd: '" . ($name =~ s/\n/<LF>/r) . "', with one log for all passwords");
+    }
+
+    # The arguments of the module; the least cost is that of the empty password.
+    my ($least, $cost) = map { cost(read_setting($field), $_) } 0, length $right;
+    my ($service, $information) = ('Error in service module', 'Authentication service cannot retrieve authentication info');
+    my @arguments = ([$file, 'yes'], ["$file budget=18446744073709551615", 'yes'], ["$file budget=$cost", 'yes'], ["$file budget=" . ($cost - 1), 'no'],
+        ["$file budget=$least", 'no'], (map { ["$file budget=$_", "no: $file: line 5: over budget"] } $least - 1, 0),
+        (map { ["$file $_", "$service: invalid argument: $_"] } qw(budget= budget=-1 budget=+1 budget=1x budget=18446744073709551616 budge=1 debug)),
+        ['', "$information: : No such file or directory"], ["$file.gone", "$information: $file.gone: No such file or directory"],
+        ['/etc', "$information: /etc: Is a directory"]);
+    for (@arguments) {
+        my ($given, $wanted) = @$_;
+        spew('/etc/pam.d/example', "auth required pam_mkpasswd.so file=$given\naccount required pam_permit.so\n");
+        is($login->('six', $right), $wanted, "pam_mkpasswd: file=$given");
+    }
+    spew('/etc/pam.d/example', "auth required pam_mkpasswd.so\naccount required pam_permit.so\n");
+    is($login->('six', $right), "$service: no argument file=", 'pam_mkpasswd: no arguments');
+
+    # The processor's time of a login, the least of two. On a busy machine it varies; without a hash it is a hundredth.
+    spew('/etc/pam.d/example', $block);
+    my $time = sub {
+        my ($name) = @_;
+        return min(map { my $before = (times)[2]; pam('example', $name, $right); (times)[2] - $before } 1, 2);
+    };
+    my $known = $time->('ann');
+    cmp_ok($known, '>', 0.05, 'pam_mkpasswd: a known name takes time');
+    for (qw(nobody locked empty word costly), '') {
+        my $ratio = $time->($_) / ($known || 1);
+        ok($ratio > 0.3 && $ratio < 3, "pam_mkpasswd: '$_' takes the time of a known name") or diag("$ratio times");
+    }
+};
+
+# Tests that a tool has read the hash of the first line of `password`, with the cost of the recipes.
+sub is_hash {
+    my ($hash, $name) = @_;
+    ok($hash =~ /^\$6\$rounds=656000\$/ && (crypt($password{ann}, $hash) // '') eq $hash, $name) or diag($hash);
+}
+
+subtest 'installers' => sub {
+    needs('debconf-set-selections' => 'debconf') && needs('debconf-communicate' => 'debconf') or return;
+    spew("$in{dir}/password", "$password{ann}\nmore\n");
+    run_recipe('A password for an installer', 'sh');
+    is_run(run(\%in, qw(debconf-set-selections --checkonly preseed.cfg)), 0, '', '', 'preseed: debconf has nothing to say');
+    run(\%in, qw(debconf-set-selections preseed.cfg));
+    my ($hash) = run({ %in, stdin => "GET passwd/user-password-crypted\n" }, 'debconf-communicate', 'd-i')->{out} =~ /^0 (.*)\n\z/;
+    is_hash($hash // '', 'preseed: the hash in debconf');
+
+    # No package of Debian 12 reads kickstart files. Their lines are split as Python's shlex does, with comments.
+    needs(python3 => 'python3') or return;
+    my $split = 'import shlex; print("\n".join(shlex.split(open("site.ks").read(), comments=True)))';
+    my @words = split /\n/, run(\%in, 'python3', '-c', $split)->{out};
+    is_deeply([@words[0, 1], scalar @words], ['rootpw', '--iscrypted', 3], 'kickstart: a command with one argument');
+    is_hash($words[2] // '', 'kickstart: the hash');
+};
+
+subtest 'cloud-init' => sub {
+    needs('cloud-init' => 'cloud-init') or return;
+    run_recipe('A password for cloud-init');
+    like(run(\%in, qw(cloud-init schema --config-file user-data))->{out}, qr/\A\s*Valid .*user-data\n\z/, 'cloud-init: the schema');
+    my $read = 'import yaml; print(*[x for u in yaml.safe_load(open("user-data"))["users"] for x in (u["name"], u["lock_passwd"], u["hashed_passwd"])])';
+    my @words = split / |\n/, run(\%in, '/usr/bin/python3', '-c', $read)->{out};
+    is_deeply([@words[0, 1], scalar @words], ['ann', 'False', 3], 'cloud-init: the user');
+    is_hash($words[2] // '', 'cloud-init: the hash');
+};
+
+subtest 'Ansible' => sub {
+    needs('ansible-playbook' => 'ansible-core') or return;
+    my $title = 'A password that Ansible sets';
+    local $in{env} = { %{ $in{env} }, LC_ALL => 'C.UTF-8', ANSIBLE_GATHERING => 'explicit' };
+    add_accounts();
+    spew("$in{dir}/hosts", "localhost ansible_connection=local ansible_python_interpreter=/usr/bin/python3\n");
+    spew("$in{dir}/users.yml", block_of($title, 'yaml'));
+    my ($make, $play) = blocks_under($title, 'bash');
+    is_run(run(\%in, 'bash', '-euc', $make // 'false'), 0, '', '', 'Ansible: the hash is made');
+    is_hash(slurp("$in{dir}/hash") =~ s/\n\z//r, 'Ansible: the hash');
+
+    # What the module says of a hash in check mode: whether it changes the password, and what it warns of.
+    my $unhashed = 'The input password appears not to have been hashed';
+    my %hash = map { $_->[0] => $_->[1] } ['the recipe', slurp("$in{dir}/hash")], ['a cut hash', substr($field, 0, -1) . "\n"],
+        map { [$_, lines_of($_) =~ s/^.*?://r] } sort keys %cost;
+    my @names = sort keys %hash;
+    my @got = in_processes(4, sub {
+        my ($name) = @_;
+        my $folder = "$scratch/ansible.$$";
+        mkdir $folder;
+        spew("$folder/$_", slurp("$in{dir}/$_")) for qw(hosts users.yml);
+        spew("$folder/hash", $hash{$name});
+        my $run = run({ %in, dir => $folder }, 'bash', '-euc', $play // 'false');
+        my ($changed) = $run->{out} =~ /changed=(\d+)/;
+        my $warned = "$run->{out}$run->{err}" =~ s/\s+/ /gr =~ /$unhashed/ ? ', unhashed' : '';
+        return "$run->{status}, changed: " . ($changed // 'none') . $warned;
+    }, @names);
+    is($got[$_] && $got[$_][0], '0, changed: 1' . ($names[$_] eq 'a cut hash' ? ', unhashed' : ''), "Ansible: $names[$_]") for 0 .. $#names;
+
+    my $changed = run(\%in, 'bash', '-euc', ($play // 'false') =~ s/ --check//r);
+    is($changed->{status}, 0, 'Ansible: the password is set') or diag($changed->{out} . $changed->{err});
+    needs(pamtester => 'pamtester') or return;
+    is(pam('pam_unix', 'ann', $password{ann}), 'yes', 'Ansible: a login after it');
+    is(pam('pam_unix', 'ann', $password{six}), 'no', 'Ansible: another password');
+};
+
+done_testing;
