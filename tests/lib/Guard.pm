@@ -22,7 +22,7 @@ my ($log, $log_library) = ("$scratch/guard/log", preload('guard_log'));
 my %processes;
 
 mkdir "$scratch/guard";
-chmod 0755, $scratch, "$scratch/guard";
+chmod oct(755), $scratch, "$scratch/guard";
 
 # Builds something without a word of the compiler, and returns where it is.
 sub built {
@@ -51,11 +51,14 @@ sub env_of {
     return { LD_PRELOAD => join(':', $log_library, @guards), GUARD_LOG => $log, MKPASSWD_GUARD_CONF => $with{configuration} // "$scratch/none" };
 }
 
-# What rows give, each a list: the result, the error, the output, the microseconds, and of crypt_ra the size.
+# What rows give, each a list: the result, the error, the output, the microseconds, and of crypt_ra the size. Another driver,
+# which has a guard of its own, gets no library.
 sub answers {
     my ($is_guarded, $with, @rows) = @_;
-    my $run = run({ env => env_of($is_guarded, %$with), stdin => join('', map { "$_\n" } @rows), timeout => 600 }, $with->{driver} // $driver);
-    my @answers = map { [map { $_ eq 'null' ? undef : $_ eq '-' ? '' : /^(?:[0-9a-f]{2}){2,}$/ ? pack 'H*', $_ : $_ } split ' ', $_] } split /\n/, $run->{out};
+    my $env = $with->{driver} ? { MKPASSWD_GUARD_CONF => "$scratch/none" } : env_of($is_guarded, %$with);
+    my $run = run({ env => $env, stdin => join('', map { "$_\n" } @rows), timeout => 600 }, $with->{driver} // $driver);
+    my $string = sub { return $_[0] eq 'null' ? undef : $_[0] eq '-' ? '' : pack 'H*', $_[0] };
+    my @answers = map { my @of = split; [$string->($of[0]), $of[1], $string->($of[2]), @of[3 .. $#of]] } split /\n/, $run->{out};
     push @answers, ["status $run->{status}: $run->{err}"] if $run->{status} || $run->{err} ne '';
     return @answers;
 }
@@ -66,7 +69,7 @@ sub configured {
     my $path = "$scratch/guard/configuration";
     unlink $path;
     spew($path, $text);
-    chmod $mode // 0644, $path;
+    chmod oct($mode // 644), $path;
     return $path;
 }
 
@@ -201,7 +204,8 @@ sub ask_pam {
     spew("$dir/shadow", join '', map { "$_:$field{$_}:19000:0:99999:7:::\n" } sort keys %field);
     my $script = 'mount --bind "$0/d" /etc/pam.d && mount --bind "$0/passwd" /etc/passwd && mount --bind "$0/shadow" /etc/shadow'
         . ' && exec env "LD_PRELOAD=$2" pamtester guard "$1" authenticate';
-    return run({ stdin => $password, env => { %$env, LD_PRELOAD => undef } }, 'unshare', '--mount', 'sh', '-c', $script, $dir, $user, $env->{LD_PRELOAD})->{status} == 0;
+    my @command = ('unshare', '--mount', 'sh', '-c', $script, $dir, $user, $env->{LD_PRELOAD});
+    return run({ stdin => $password, env => { %$env, LD_PRELOAD => undef } }, @command)->{status} == 0;
 }
 
 1;
