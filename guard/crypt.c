@@ -49,9 +49,8 @@ static const struct scheme *scheme_of(const char *setting)
     return *scheme->prefix || strspn(setting, numerals) >= 2 ? scheme : NULL;
 }
 
-/* Tells whether libxcrypt reads a setting as mkpasswd has read it. libxcrypt refuses rounds that mkpasswd clamps. Of $7$ it
- * refuses N = 2, a setting whose hash has no room, and other characters than numerals after the salt, unless they begin
- * there; its salt goes on to the last $. */
+/* Tells whether libxcrypt reads a setting as mkpasswd has. It refuses rounds that mkpasswd clamps; of $7$ N = 2, a hash with
+ * no room, and a hash part that has other characters after a numeral. Its salt of $7$ goes on to the last $. */
 static int is_read_alike(const char *setting)
 {
     unsigned long rounds = strncmp(setting + 3, "rounds=", 7) == 0 ? strtoul(setting + 10, NULL, 10) : 5000;
@@ -247,4 +246,5 @@ __attribute__((constructor)) static void configure(void)
         syslog(LOG_AUTHPRIV | LOG_WARNING, "mkpasswd guard: %s[%d]: %s %s, so the defaults apply",
             program_invocation_short_name, (int)getpid(), path, fault);
     *(void **)&next_crypt_rn = dlvsym(RTLD_NEXT, "crypt_rn", "XCRYPT_2.0");
+    errno = 0; /* as a program finds it */
 }

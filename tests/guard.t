@@ -417,6 +417,11 @@ for (['perl', 'perl', 'perl', '-e', $perl], ['Python', 'python3', '/usr/bin/pyth
         is(scalar(grep { /^\$|^ab/ } split /\n/, $with), 2 * keys %hash, "$name: hashes");
         my $refused = run({ env => env_of(1), stdin => join "\n", @hostile_rows, '' }, @command)->{out};
         like($refused, qr/\A(?:\*0\n|none\n){${\ scalar @hostile}}\z/, "$name: hostile settings");
+        return if $name ne 'Python';
+        my $script = 'import ctypes; call = ctypes.CDLL(None).crypt; call.restype = ctypes.c_char_p; print(call(b"secret", b"$9$abc"))';
+        logged();
+        is(run({ env => env_of(1) }, $command[0], '-c', $script)->{out}, "b'*0'\n", "$name: a symbol without a version");
+        like((logged())[0], qr/refused unknown scheme/, "$name: it is the guard's");
     };
 }
 
