@@ -1,10 +1,9 @@
 /* libmkpasswd-crypt.so stands in front of crypt(3) in one service, by LD_PRELOAD, and refuses a setting that costs more
- * than a budget before anything is hashed. libmkpasswd-crypt(7) is the manual; docs/SECURITY.md says what is trusted.
+ * than a budget before anything is hashed. libmkpasswd-crypt(7) is the manual. No proof covers this file.
  *
- * The proved calls of mkpasswd.h hash the settings of md5crypt, sha256crypt, sha512crypt and scrypt. Another setting goes
- * to the next crypt_rn, which is libxcrypt's, if its scheme has no cost, or if its cost is read here and within a limit.
- * A cost that is not read here is refused, unless the configuration allows its scheme. A refusal looks like libxcrypt's of
- * an invalid setting: "*0" or a null pointer, and EINVAL. No proof covers this file. */
+ * The proved calls of mkpasswd.h hash the settings of md5crypt, sha256crypt, sha512crypt and scrypt. Another one goes to the
+ * next crypt_rn, libxcrypt's, if its scheme has no cost, or its cost is read here and within a limit. A cost that is not
+ * read here is refused, unless the configuration allows its scheme. A refusal is that of an invalid setting, with EINVAL. */
 #define _GNU_SOURCE /* for dlvsym, program_invocation_short_name and secure_getenv */
 #include <crypt.h>
 #include <dlfcn.h>
@@ -22,7 +21,6 @@
 _Static_assert(sizeof(struct crypt_data) == 32768 && offsetof(struct crypt_data, output) == 0, "as in libxcrypt 4.4");
 
 #define NOT_READ UINT64_MAX /* what a setting costs whose cost is not read here */
-#define SECOND INT64_C(1000000000)
 
 /* How the cost of a scheme is read. From SCRYPT on, the configuration can allow settings whose cost is not read; it cannot
  * name the unknown scheme, whose name has a space. */
@@ -35,8 +33,9 @@ static const struct scheme { const char *prefix, *name; enum rule rule; } scheme
 };
 static const char numerals[] = "./0123456789ABCDEFGHIJKLMNOPQRSTUVWXYZabcdefghijklmnopqrstuvwxyz";
 
-/* Only the constructor writes these. `allowed` has a bit for each scheme. */
+/* Only the constructor writes these. `allowed` has a bit for each scheme; a service may change its name after the start. */
 static struct limits { uint64_t budget, bcrypt, yescrypt, allowed; } limits = {MKPASSWD_BUDGET, 12, 7, 0};
+static char process[32];
 static char *(*next_crypt_rn)(const char *phrase, const char *setting, void *data, int size);
 
 /* Returns the scheme of a setting, by libxcrypt's prefixes, or NULL. */
@@ -97,19 +96,19 @@ static uint64_t limit_of(const struct scheme *scheme, uint64_t cost)
  * which doesn't depend on the length of this one. */
 static void log_refusal(const struct scheme *scheme, const char *setting, uint64_t limit)
 {
-    static int64_t last = -SECOND;
+    static int64_t last = -1000000000;
     uint64_t cost = cost_of(scheme, setting, CRYPT_MAX_PASSPHRASE_SIZE - 1);
     int64_t before = __atomic_load_n(&last, __ATOMIC_RELAXED), now;
     struct timespec time;
     char number[24];
 
     clock_gettime(CLOCK_MONOTONIC, &time);
-    now = time.tv_sec * SECOND + time.tv_nsec;
-    if (now - before < SECOND || !__atomic_compare_exchange_n(&last, &before, now, 0, __ATOMIC_RELAXED, __ATOMIC_RELAXED))
+    now = time.tv_sec * INT64_C(1000000000) + time.tv_nsec;
+    if (now - before < 1000000000 || !__sync_bool_compare_and_swap(&last, before, now))
         return;
     snprintf(number, sizeof number, "%" PRIu64, cost);
-    syslog(LOG_AUTHPRIV | LOG_WARNING, "mkpasswd guard: %s[%d]: refused %s: cost %s, limit %" PRIu64,
-        program_invocation_short_name, (int)getpid(), scheme->name, cost == NOT_READ ? "not read" : number, limit);
+    syslog(LOG_AUTHPRIV | LOG_WARNING, "mkpasswd guard: %s[%d]: refused %s: cost %s, limit %" PRIu64, process, (int)getpid(),
+        scheme->name, cost == NOT_READ ? "not read" : number, limit);
 }
 
 /* Puts a token that no password matches into `out`, as libxcrypt does: before it reads the setting, which may be there. */
@@ -240,11 +239,12 @@ __attribute__((constructor)) static void configure(void)
         fault = "is malformed";
     else
         limits = given;
+    snprintf(process, sizeof process, "%s", program_invocation_short_name);
     if (file)
         fclose(file);
     if (fault)
-        syslog(LOG_AUTHPRIV | LOG_WARNING, "mkpasswd guard: %s[%d]: %s %s, so the defaults apply",
-            program_invocation_short_name, (int)getpid(), path, fault);
+        syslog(LOG_AUTHPRIV | LOG_WARNING, "mkpasswd guard: %s[%d]: %s %s, so the defaults apply", process,
+            (int)getpid(), path, fault);
     *(void **)&next_crypt_rn = dlvsym(RTLD_NEXT, "crypt_rn", "XCRYPT_2.0");
     errno = 0; /* as a program finds it */
 }

@@ -467,13 +467,19 @@ subtest 'nginx' => sub {
             cmp_ok($own, '<', 50, "hostile: $hostile[$number] takes less than 50 ms of the worker's time");
             sleep 0.25;
         }
+        like((logged())[-1] // '', qr/^84 mkpasswd guard: nginx\[$worker\]: refused /, 'a line in the log, with the name at the start');
         waitpid $child, 0;
         my @times = map { [split] } split /\n/, slurp($others);
         cmp_ok(@times, '>=', @hostile, 'four others a second');
         is_deeply([grep { $_->[0] != 200 || $_->[1] > 1 } @times], [], 'each of them is answered at once');
         stopped($pid);
     }
-    my @wanted = map { [$_->[0], map { $_ ? 200 : 401 } @$_[1, 2]] } @{ wanted() };
+    logged();
+    my ($pid, $port) = run_nginx(env_of(1, configuration => configured("budget 999999999999\nbudget\n")), %field, %hostile);
+    my @asked = (['/open'], ['/closed', 'yescrypt:secret'], ['/closed', 'sha512crypt:secret'], ['/closed', 'h1:secret']);
+    is_deeply([map { (get($port, @$_))[0] } @asked], [200, 200, 200, 401], 'with a broken configuration it starts, and denies');
+    like((logged())[0] // '', qr/^84 mkpasswd guard: nginx\[\d+\]: \S+ is malformed, so the defaults apply\z/, 'and tells the log');
+    stopped($pid);
     is_deeply($status[1], $status[0], 'the same answers with the guard: right, wrong, locked and yescrypt');
     is_deeply([map { [$_->[0], map { $_ == 200 ? 1 : 0 } @$_[1, 2]] } @{ $status[0] }], wanted(), 'what they are');
 };

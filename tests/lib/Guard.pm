@@ -157,7 +157,9 @@ sub run_nginx {
     spew("$dir/conf", "daemon off; user root; worker_processes 1; pid $dir/pid; error_log $dir/error;\nevents {}\n"
             . "http { access_log off; $paths server { listen 127.0.0.1:$port; root $dir/www;\n"
             . "location /closed { auth_basic x; auth_basic_user_file $dir/users; } } }\n");
-    my $pid = started($env, sub { is_up($port) }, 'nginx', '-p', $dir, '-e', "$dir/error", '-c', "$dir/conf");
+    # By its whole path, as systemd starts it.
+    my ($nginx) = grep { -x } map { "$_/nginx" } split /:/, $ENV{PATH};
+    my $pid = started($env, sub { is_up($port) }, $nginx, '-p', $dir, '-e', "$dir/error", '-c', "$dir/conf");
     return ($pid, $port);
 }
 
