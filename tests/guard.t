@@ -167,7 +167,6 @@ my %random = (
 );
 
 subtest 'random settings' => sub {
-    diag("SEED=$seed");
     my @kinds = sort keys %random;
     my @rows = map {
         my $length = any(0 .. 40, 64, 100, 510 .. 513);
@@ -176,6 +175,7 @@ subtest 'random settings' => sub {
     my $refused = are_alike('2,000 random settings and passwords', {}, [], @rows);
     cmp_ok($refused, '<', 800, 'most of them are not refused');
     cmp_ok(scalar(grep { ($_->[0] // '*') !~ /^\*/ } answers(1, {}, map { row(@$_) } @rows[0 .. 499])), '>', 100, 'many are hashed');
+    diag("SEED=$seed") if !Test::More->builder->is_passing;
 };
 
 # ---- what costs too much
@@ -405,10 +405,10 @@ for line in sys.stdin:
     except OSError:
         print("none")
 PYTHON
-for (['perl', 'perl', 'perl', '-e', $perl], ['Python', 'python3', '/usr/bin/python3', '-W', 'ignore', '-c', $python]) {
+for (['perl', 'perl', 'perl', '-e', $perl], ['Python', 'python3 before 3.13', '/usr/bin/python3', '-W', 'ignore', '-c', $python]) {
     my ($name, $package, @command) = @$_;
     subtest $name => sub {
-        needs($command[0] => $package, run('sh', '-c', 'command -v "$0"', $command[0])->{status} == 0) or return;
+        needs("crypt of $name", $package, run(@command)->{status} == 0) or return;
         my @fields = (values %hash, '!' . $hash{sha512crypt}, '*', '!');
         my @rows = map { my $field = $_; map { join ' ', map { unpack 'H*', $_ } $_, $field } 'secret', 'Secret' } @fields;
         my @hostile_rows = map { unpack('H*', 'secret') . ' ' . unpack 'H*', $_ } @hostile;
