@@ -119,6 +119,9 @@ sub stopped {
     waitpid $pid, 0;
 }
 
+# A test that is stopped stops its services.
+$SIG{$_} = sub { exit 130 } for qw(INT TERM HUP);
+
 END {
     my $status = $?;
     stopped($_, 'KILL') for keys %processes;
