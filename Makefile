@@ -11,7 +11,8 @@
 # make bench      measures against libxcrypt, in some two minutes
 # make soak       has LINES random lines of each kind answered (default 10000), by the SEED that it prints or is given
 # make lib        builds the C libraries, libmkpasswd.a and libmkpasswd.so.2
-# make fuzz       has libFuzzer make random calls of the C libraries, with FUZZ_SECONDS for each target (default 200)
+# make guard      builds libmkpasswd-crypt.so, which stands in front of crypt(3) for one service
+# make fuzz       has libFuzzer make random calls of the C libraries and the guard, with FUZZ_SECONDS for each target (default 200)
 # make install    puts the program, the C libraries, the manuals and the rest under PREFIX (default /usr/local)
 # make dist       packs the same into an archive that needs no toolchain
 # make wheel      packs the Python package and the shared library, built for every x86-64 processor, into a wheel
@@ -39,7 +40,7 @@ T = $(filter-out tests/planted.t,$(wildcard tests/*.t))
 PROVE = PERL5LIB=tests/lib prove --harness Tally -j4
 FIRST = tests/layers.t tests/specification.t
 
-.PHONY: all run lib fuzz test check layers specification mutants gate bench soak install dist wheel deb clean FORCE
+.PHONY: all run lib guard fuzz test check layers specification mutants gate bench soak install dist wheel deb clean FORCE
 .DELETE_ON_ERROR:
 # rt takes all cores for itself.
 .NOTPARALLEL:
@@ -81,13 +82,18 @@ libmkpasswd.so.2: build/mkpasswd.o libmkpasswd.map
 	$(CC) -shared -Wl,-soname,$@ -Wl,--version-script=libmkpasswd.map -Wl,--no-undefined-version \
 		-Wl,-z,relro -Wl,-z,now -Wl,-z,defs $(LDFLAGS) -o $@ build/mkpasswd.o
 
+guard: libmkpasswd-crypt.so
+
+libmkpasswd-crypt.so: guard/crypt.c guard/libmkpasswd-crypt.map include/mkpasswd.h libmkpasswd.a tools/guard
+	tools/guard $@
+
 # The targets keep what they found in build/fuzz, from where the next run begins.
 FUZZERS := $(patsubst tests/c/fuzz_%.c,build/fuzz/%,$(wildcard tests/c/fuzz_*.c))
 
-build/fuzz/%: tests/c/fuzz_%.c tests/c/fuzz.h include/mkpasswd.h libmkpasswd.a
+build/fuzz/%: tests/c/fuzz_%.c tests/c/fuzz.h guard/crypt.c include/mkpasswd.h libmkpasswd.a
 	@mkdir -p $@.corpus
 	clang -std=gnu11 -Wall -Wextra -Werror -g -O1 -fsanitize=fuzzer,address,undefined -fno-sanitize-recover=all \
-		-Iinclude $< libmkpasswd.a -lcrypt -o $@
+		-Iinclude $< libmkpasswd.a -Wl,--no-as-needed -lcrypt -o $@
 
 fuzz: $(FUZZERS)
 	for fuzzer in $(FUZZERS); do \
@@ -95,11 +101,11 @@ fuzz: $(FUZZERS)
 			-artifact_prefix=$$fuzzer. $$fuzzer.corpus || exit 1; \
 	done
 
-test: mkpasswd lib
+test: mkpasswd lib guard
 	$(PROVE) $(T)
 
 # The layers, the page of definitions and the gate come first, since they need nothing built.
-check: layers gate mkpasswd lib
+check: layers gate mkpasswd lib guard
 	$(PROVE) tests/planted.t $(filter-out $(FIRST),$(T))
 
 layers:
@@ -126,10 +132,10 @@ bench: mkpasswd
 soak: mkpasswd
 	tools/soak $(if $(LINES),--lines $(LINES)) $(if $(SEED),--seed $(SEED)) ./mkpasswd
 
-install: mkpasswd lib
+install: mkpasswd lib guard
 	tools/install
 
-dist: mkpasswd lib
+dist: mkpasswd lib guard
 	tools/pack $(or $(CPU),x86-64-v2)
 
 # Of x86-64 processors a wheel's name tells nothing, so it is for all of them. The next make builds anew for its own CPU.
@@ -138,8 +144,8 @@ wheel:
 	tools/wheel libmkpasswd.so.2 .
 
 # The packages depend on sse4.2-support, which refuses processors that the default build is not for.
-deb: mkpasswd lib
+deb: mkpasswd lib guard
 	tools/deb .
 
 clean:
-	rm -rf mkpasswd libmkpasswd.a libmkpasswd.so.2 build crates/*/out mkpasswd-*-linux.tar.gz mkpasswd-*.whl *.deb
+	rm -rf mkpasswd libmkpasswd.a libmkpasswd.so.2 libmkpasswd-crypt.so build crates/*/out mkpasswd-*-linux.tar.gz mkpasswd-*.whl *.deb

@@ -8,7 +8,7 @@ use FindBin qw($Bin);
 use lib "$Bin/lib";
 use Suite;
 
-my @packages = qw(libmkpasswd-dev libmkpasswd2 mkpasswd mkpasswd-parallel python3-mkpasswd);
+my @packages = qw(libmkpasswd-crypt libmkpasswd-dev libmkpasswd2 mkpasswd mkpasswd-parallel python3-mkpasswd);
 # All but ours that the trials need, so that the mirror is asked for whois alone.
 my @tried = qw(autopkgtest bash-completion gcc libc6-dev man-db parallel pkgconf python3 sse4.2-support whois);
 my %roots = (bookworm => ['bookworm', @tried], trixie => ['trixie', @tried], checks => [qw(bookworm lintian piuparts)],
@@ -86,7 +86,7 @@ subtest 'content' => sub {
         output_of('sh', '-euc', 'mkdir -p "$1"; dpkg-deb -x "$0" "$1"', $deb{$_}, "$scratch/content/$_");
         my $copyright = slurp("$scratch/content/$_/usr/share/doc/$_/copyright");
         like($copyright, qr/^License: none\n The owner has not yet chosen a licence\./m, "$_ claims no licence");
-        like(output_of(qw(dpkg-deb -f), $deb{$_}, 'Depends'), qr/\bsse4\.2-support\b/, "$_ refuses older processors") if /^(?:lib)?mkpasswd2?$/;
+        like(output_of(qw(dpkg-deb -f), $deb{$_}, 'Depends'), qr/\bsse4\.2-support\b/, "$_ refuses older processors") if /^(?:lib)?mkpasswd(?:2|-crypt)?$/;
     }
     for (['mkpasswd', "$scratch/content/mkpasswd/usr/bin"], ['libmkpasswd.so.2', "$scratch/content/libmkpasswd2/usr/lib/x86_64-linux-gnu"]) {
         my ($file, $folder) = @$_;
@@ -159,7 +159,7 @@ for my $suite (qw(bookworm trixie)) {
         is($files->(), $before, 'nothing of ours is left');
         output_of("$root/tools/deb", '--lay-out', "$place/source");
         my $own = inside($place, 'autopkgtest --no-built-binaries /debs/*.deb /source/ -- null 2>&1');
-        like($own->{out}, qr/^$_ +PASS$/m, "their own test: $_") for qw(program library python);
+        like($own->{out}, qr/^$_ +PASS$/m, "their own test: $_") for qw(program library python guard);
         is($own->{status}, 0, 'all of these') or diag($own->{out} =~ s/.*(?=\n.*: test \w+: \[)//sr);
     };
 }
