@@ -4,7 +4,7 @@ use Rattle.std.proofs.lemmas.Option.{none-some}
 use Rattle.clap.specs.Words.{Text, matches_of}
 use Rattle.rand_core.specs.Stream.{Stream}
 use Rattle.crypt_core.specs.Crypt.{crypt}
-use Rattle.crypt_core.specs.MadeSettings.{made_scheme, made_setting}
+use Rattle.crypt_core.specs.MadeSettings.{made_scheme}
 use Rattle.crypt_core.specs.Methods.{method_named}
 use Rattle.crypt_core.specs.Settings.{BeginsWith}
 use Rattle.crypt_core.specs.declared.method.Method.{Method}
@@ -39,9 +39,9 @@ text_of (lines kind) = []
 -- the answer of their job is the hash alone
 text_by : (method : Method) (salt password : Text) (job : Job) (bytes : Text) (stream : Stream)
     → job.maker ≡ record { scheme = made_scheme method 0; salt = Some salt } → job.work ≡ false → bytes ≡ password
-    → (password_answer job bytes stream).text ≡ as_line (crypt password (made_setting method 0 salt))
+    → (password_answer job bytes stream).text ≡ as_line (crypt password (record { scheme = made_scheme method 0; salt = salt }))
 text_by method salt password job bytes stream maker_is work_is bytes_is =
-    rw (maker_is, work_is, bytes_is) (ap as_line (append-nil (crypt password (made_setting method 0 salt))))
+    rw (maker_is, work_is, bytes_is) (ap as_line (append-nil (crypt password (record { scheme = made_scheme method 0; salt = salt }))))
 
 module _ {I O E : Type 0} (told : DeviceBytes I O E) (name salt password : Text) (method : Method) (named : method_named name ≡ Some method)
     (salt_is : IsNoOption salt) (password_is : IsNoOption password) where
@@ -66,7 +66,7 @@ module _ {I O E : Type 0} (told : DeviceBytes I O E) (name salt password : Text)
 
   prints_job : (words : List Text) (values : Values) (own : Method) (mode : Mode) (job : Job) (bytes : Text) (stream : Stream)
       → words ≡ hash_words name salt password → Gives words values → HasMode values own mode → IsJob values own job → bytes ≡ password
-      → (password_answer job bytes stream).text ≡ as_line (crypt password (made_setting method 0 salt))
+      → (password_answer job bytes stream).text ≡ as_line (crypt password (record { scheme = made_scheme method 0; salt = salt }))
   prints_job words values own mode job bytes stream are gives has is_job bytes_is =
       let values_is = values_are words values are gives in
       text_by method salt password job bytes stream

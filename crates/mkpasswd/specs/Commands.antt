@@ -5,7 +5,7 @@ use Rattle.clap.specs.Words.{Text, kind_of}
 use Rattle.clap.specs.declared.error.Error.{Error}
 use Rattle.rand_core.specs.Stream.{Stream}
 use Rattle.crypt_core.specs.Crypt.{crypt}
-use Rattle.crypt_core.specs.MadeSettings.{made_setting}
+use Rattle.crypt_core.specs.MadeSettings.{made_scheme}
 use Rattle.crypt_core.specs.Passwords.{IsPassword}
 use Rattle.crypt_core.specs.Settings.{BeginsWith}
 use Rattle.crypt_core.specs.declared.method.Method.{Method}
@@ -193,7 +193,7 @@ IsNoOption word = (word ≡ codes "-") ⊎ ¬ BeginsWith word (codes "-")
 -- the output has taken the hash of the password by the setting of the method and the salt, and a line feed
 abbrev pub PrintsHash : {I O E : Type 0} → DeviceBytes I O E → Method → Text → Text → RunState I O E → RunState I O E → Type 0
 PrintsHash device_bytes method salt password old new =
-    Appends (device_bytes.contents old.out.inner) (device_bytes.contents new.out.inner) (as_line (crypt password (made_setting method 0 salt)))
+    Appends (device_bytes.contents old.out.inner) (device_bytes.contents new.out.inner) (as_line (crypt password (record { scheme = made_scheme method 0; salt = salt })))
 
 -- ---- steps of the code
 

@@ -1,9 +1,9 @@
 -- How a run gets the setting of each hash: a scheme, and a salt that was given once or is made for each hash.
-use Rattle.std.specs.Prelude.{◌≡◌, ℕ, List, [], length, Option, Some, None, is_some, option_map, if◌then◌else◌}
+use Rattle.std.specs.Prelude.{ℕ, List, [], length, Option, Some, None, is_some, option_map, if◌then◌else◌}
 use Rattle.std.specs.Borrow.{Bor}
 use Rattle.rand_core.specs.Stream.{Stream}
 use Rattle.crypt_core.specs.MadeSalts.{three_words}
-use Rattle.crypt_core.specs.MadeSettings.{IsMakeable, IsMakeRefused, TakesCost, TakesSalt, salted}
+use Rattle.crypt_core.specs.MadeSettings.{BreaksMake, IsMakeRefused, salted}
 use Rattle.crypt_core.specs.Methods.{method_row}
 use Rattle.crypt_core.specs.Schemes.{method_of}
 use Rattle.crypt_core.specs.Settings.{SettingValue}
@@ -11,7 +11,6 @@ use Rattle.crypt_core.specs.Work.{cost_by}
 use Rattle.crypt_core.specs.declared.method.Method.{Method}
 use Rattle.crypt_core.specs.declared.scheme.Scheme.{Scheme}
 use Rattle.crypt_core.specs.declared.setting.fault.MakeFault.{MakeFault}
-use Rattle.crypt_core.specs.declared.setting.fault.MakeFault.TheVariants.{Cost}
 
 -- what settings are made of; without a salt each gets a new one
 pub record Recipe : Type 0 where
@@ -25,20 +24,19 @@ recipe scheme salt = record { scheme = scheme; salt = salt }
 abbrev pub bytes_of : Option (Bor (List ℕ)) → Option (List ℕ)
 bytes_of = option_map (λ bytes. bytes.now)
 
--- a salt that was given is one that the method takes
+-- TakesGiven method given: the method takes the salt, if one is given. With cost 0, which each method takes, no rule is
+-- broken.
 abbrev pub TakesGiven : Method → Option (List ℕ) → Type 0
-TakesGiven method None = Unit {0}
-TakesGiven method (Some salt) = TakesSalt method salt
+TakesGiven method given = (fault : MakeFault) → ¬ BreaksMake method 0 given fault
 
--- what a recipe is made of: the method takes the cost, and the salt if one was given
+-- IsRecipe method cost given: the method, the cost, and the salt if one is given, break no rule.
 abbrev pub IsRecipe : Method → ℕ → Option (List ℕ) → Type 0
-IsRecipe method cost None = TakesCost method cost
-IsRecipe method cost (Some salt) = IsMakeable method cost salt
+IsRecipe method cost given = (fault : MakeFault) → ¬ BreaksMake method cost given fault
 
--- the first rule that is broken otherwise; without a salt only the cost can break one
+-- IsRecipeRefused method cost given fault: they get the refusal of the first rule that they break. Without a salt only
+-- the cost can break one.
 abbrev pub IsRecipeRefused : Method → ℕ → Option (List ℕ) → MakeFault → Type 0
-IsRecipeRefused method cost None fault = (fault ≡ Cost) × ¬ TakesCost method cost
-IsRecipeRefused method cost (Some salt) fault = IsMakeRefused method cost salt fault
+IsRecipeRefused method cost given fault = IsMakeRefused method cost given fault
 
 -- the setting: with the salt that was given, or with one made of the words
 abbrev pub setting_with : Scheme → Option (List ℕ) → List ℕ → SettingValue

@@ -1,9 +1,11 @@
-use Rattle.std.proofs.Common.{◌≡◌, ◌≢◌, Err, List, subst}
+use Rattle.std.proofs.Common.{◌≡◌, ◌≢◌, ℕ, Err, List, Option, subst}
 use Rattle.std.proofs.lemmas.Result.{err_from_is_err_and}
 use Rattle.clap.specs.Words.{Text, kind_of}
 use Rattle.clap.specs.declared.error.Error.{Error}
 use Rattle.clap.specs.declared.error.kind.ErrorKind.TheVariants as kind
-use Rattle.mkpasswd.specs.Options.{Plans, Refuses}
+use Rattle.run_core.specs.Makers.{IsRecipeRefused}
+use Rattle.mkpasswd.specs.Options.{Names, Plans, Refuses, given_salt}
+use Rattle.mkpasswd.specs.Private.Options.{mode_of, values_of}
 use Rattle.mkpasswd.specs.declared.fault.UsageFault.{UsageFault}
 use Rattle.mkpasswd.specs.declared.fault.UsageFault.TheVariants.{Parse, Method, TwoSalts, TwoModes, Make, OutOfMemory}
 use Rattle.mkpasswd.proofs.options.plan.Goals as goal
@@ -25,3 +27,23 @@ pub returns-in_err-given : goal.returns-in_err-given
 returns-in_err-given c =
     let p = err_from_is_err_and c.from_residual.result c.from_residual.ensures.1 in
     rw p.1 (planned_error _ c.in_err-given.field-0.0 p.0 p.2.0 p.2.1 c.in_err-given.ensures.err)
+
+pub returns-in_err-maker : goal.returns-in_err-maker
+returns-in_err-maker c =
+    let p = err_from_is_err_and c.from_residual-in_err-maker.result c.from_residual-in_err-maker.ensures.1 in
+    let values = values_of c.in_ok-given.given in
+    let names : Names values c.in-Some.method = rw c.in-Some.is at c.in_ok-method.ensures.known in
+    let salt = c.in_ok-salt.ensures.once in
+    let refused : IsRecipeRefused c.in-Some.method values.cost (given_salt values) c.in_err-maker.field-0.0 =
+    subst (λ (given : Option (List ℕ)). IsRecipeRefused c.in-Some.method values.cost given c.in_err-maker.field-0.0) salt.1 c.in_err-maker.ensures.refused in
+    let modes = c.in_ok-mode.ensures.one in
+    rw (p.1, p.2) (
+      values,
+      c.in_ok-given.ensures.ok,
+      (
+        c.in-Some.method,
+        mode_of c.in_ok-mode.mode,
+        record { salt = record { names = names; few_salts = salt.0 }; few_modes = modes.0; mode_is = modes.1 },
+        refused,
+      ),
+    )
