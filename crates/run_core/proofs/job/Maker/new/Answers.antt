@@ -29,7 +29,7 @@ invariant_of-result c =
 -- what is said of a salt that was given, is of the argument
 moved : (P : Type 0) (method : Method) (cost : ℕ) (given other : Option (List ℕ)) → given ≡ other
     → (P ↔ ((fault : MakeFault) → ¬ BreaksMake method cost other fault)) → P ↔ ((fault : MakeFault) → ¬ BreaksMake method cost given fault)
-moved P method cost given other is accepted = 
+moved P method cost given other is accepted =
     subst (λ (salt : Option (List ℕ)). P ↔ ((fault : MakeFault) → ¬ BreaksMake method cost salt fault)) (sym is) accepted
 
 pub returns-in-Ok-clause-accepted : goal.returns-in-Ok-clause-accepted
