@@ -13,57 +13,62 @@ use Rattle.std.proofs.lemmas.Fmt.{decimal_is_IsNumeral, first_decimal, length-de
 use Rattle.std.proofs.lemmas.Str.Parse.{digit_at}
 use Rattle.prims_core.specs.Alphabet.{alphabet}
 use Rattle.crypt_core.specs.declared.method.Method.{Method}
-use Rattle.crypt_core.specs.declared.method.Method.TheVariants as methods
 use Rattle.crypt_core.specs.declared.scheme.Scheme.{Scheme}
 use Rattle.crypt_core.specs.declared.scheme.Scheme.TheVariants.{Md5crypt, Sha256crypt, Sha512crypt, Scrypt}
 use Rattle.crypt_core.specs.MethodLimits.{md5crypt_salt_limit, packed_len, prefix, salt_limit, scrypt_salt_limit, shacrypt_salt_limit}
 use Rattle.crypt_core.specs.Schemes.{IsScheme, method_of}
-use Rattle.crypt_core.specs.Settings.{SettingValue, IsSettingByte, dollar, IsEndOfField, IsField, BeginsWith, rounds_word, rounds_field, IsRoundsNumber, scrypt_part, SpellsRounds, SpellsCost, IsScryptSalt, KeepsSalt, Spells, IsSetting, cost_part, canonical_text, setting_limit}
-use Rattle.crypt_core.specs.Rounds.{IsRounds, default_rounds, rounds, clamped, min_rounds, max_rounds}
+use Rattle.crypt_core.specs.Settings.{SettingValue, IsSettingByte, dollar, IsField, BeginsWith, rounds_word, rounds_field, IsRoundsNumber, scrypt_part, SpellsRounds, SpellsCost, IsScryptSalt, KeepsSalt, Spells, cost_part, canonical_text, setting_limit}
+use Rattle.crypt_core.specs.Rounds.{IsRounds, clamped}
+use Rattle.crypt_core.specs.RoundsLimits.{max_rounds, min_rounds}
 use Rattle.crypt_core.proofs.EachMethod.{each_method}
+use Rattle.crypt_core.proofs.Fields.{IsEndOfField, ended_by}
 use Rattle.crypt_core.proofs.Numerals.{all_scrypt_part, length-scrypt_part}
 
 -- What a setting keeps is bounded
 
-pub held_range : (n : ℕ) → (min_rounds ≤ clamped n) × (clamped n ≤ max_rounds)
-held_range n = (omega arith, omega arith)
+pub clamped_range : (n : ℕ) → (min_rounds ≤ clamped n) × (clamped n ≤ max_rounds)
+clamped_range n = (omega arith, omega arith)
 
-pub clamped_rounds : (n : ℕ) → IsRounds (rounds (clamped n) true)
-clamped_rounds n = record { from = omega arith; to = omega arith; unwritten = λ e. absurd (cc e) }
+pub in_range : (n : ℕ) → clamped n ≡ n → (min_rounds ≤ n) × (n ≤ max_rounds)
+in_range n e = (omega arith, omega arith)
 
-pub unwritten_rounds : IsRounds (rounds default_rounds false)
-unwritten_rounds = record { from = omega arith; to = omega arith; unwritten = λ e. refl }
+pub clamped_again : (n : ℕ) → min_rounds ≤ n → n ≤ max_rounds → clamped n ≡ n
+clamped_again n low high = omega arith
 
 rounds_range : (count : ℕ) (flag : Bool) (part after : List ℕ) → SpellsRounds (record { count = count; is_written = flag }) part after → (min_rounds ≤ count) × (count ≤ max_rounds)
-rounds_range count true part after s = let r = held_range (digits_value 10 s.0) in (omega (arith, s.3, r.0), omega (arith, s.3, r.1))
+rounds_range count true part after s = let r = clamped_range (digits_value 10 s.0) in (omega (arith, s.3, r.0), omega (arith, s.3, r.1))
 rounds_range count false part after s = (omega (arith, s.1), omega (arith, s.1))
 
-spelled_rounds : (count : ℕ) (flag : Bool) (part after : List ℕ) → SpellsRounds (record { count = count; is_written = flag }) part after → IsRounds (rounds count flag)
+spelled_rounds : (count : ℕ) (flag : Bool) (part after : List ℕ) → SpellsRounds (record { count = count; is_written = flag }) part after → IsRounds (record { count = count; is_written = flag })
 spelled_rounds count true part after s =
     let range = rounds_range count true part after s in
-    record { from = range.0; to = range.1; unwritten = λ e. absurd (cc e) }
+    record { in_range = clamped_again count range.0 range.1; unwritten = λ e. absurd (cc e) }
 spelled_rounds count false part after s =
     let range = rounds_range count false part after s in
-    record { from = range.0; to = range.1; unwritten = λ e. s.1 }
+    record { in_range = clamped_again count range.0 range.1; unwritten = λ e. s.1 }
 
-pub cost_bounded : (scheme : Scheme) (part after : List ℕ) → SpellsCost scheme part after → IsScheme scheme
-cost_bounded Md5crypt part after s = tt
-cost_bounded (Sha256crypt r) part after s = spelled_rounds r.count r.is_written part after s
-cost_bounded (Sha512crypt r) part after s = spelled_rounds r.count r.is_written part after s
-cost_bounded (Scrypt n) part after s = s.2
+pub cost_bounded : (scheme : Scheme) (part after field salt : List ℕ) → SpellsCost scheme part after → KeepsSalt scheme field salt → IsScheme scheme
+cost_bounded Md5crypt part after field salt s k = tt
+cost_bounded (Sha256crypt r) part after field salt s k = spelled_rounds r.count r.is_written part after s
+cost_bounded (Sha512crypt r) part after field salt s k = spelled_rounds r.count r.is_written part after s
+cost_bounded (Scrypt n) part after field salt s k = k.0
 
 cut : (n : ℕ) (field salt : List ℕ) → salt ≡ take n field → length salt ≤ n
 cut n field salt e = omega (arith, ap length e, length-take n field)
 
-salt_bounded : (m : Method) (field salt : List ℕ) → KeepsSalt m field salt → length salt ≤ salt_limit m
-salt_bounded methods.Md5crypt field salt k = cut md5crypt_salt_limit field salt k
-salt_bounded methods.Sha256crypt field salt k = cut shacrypt_salt_limit field salt k
-salt_bounded methods.Sha512crypt field salt k = cut shacrypt_salt_limit field salt k
-salt_bounded methods.Scrypt field salt k = omega (arith, ap length k.0, k.1.short)
+salt_bounded : (scheme : Scheme) (field salt : List ℕ) → KeepsSalt scheme field salt → length salt ≤ salt_limit (method_of scheme)
+salt_bounded Md5crypt field salt k = cut md5crypt_salt_limit field salt k
+salt_bounded (Sha256crypt r) field salt k = cut shacrypt_salt_limit field salt k
+salt_bounded (Sha512crypt r) field salt k = cut shacrypt_salt_limit field salt k
+salt_bounded (Scrypt n) field salt k = omega (arith, ap length k.1, k.2.0)
+
+-- what some text spells
+abbrev pub IsSetting : SettingValue → Type 0
+IsSetting kept = (text : List ℕ) × Spells text kept
 
 pub setting_bounded : (kept : SettingValue) → IsSetting kept → IsScheme kept.scheme × (length kept.salt ≤ salt_limit (method_of kept.scheme))
 setting_bounded kept (text, s) =
-    (cost_bounded kept.scheme s.scheme.part (s.field ++ s.rest) s.scheme.cost, salt_bounded (method_of kept.scheme) s.field kept.salt s.salt)
+    (cost_bounded kept.scheme s.scheme.0 (s.field ++ s.rest) s.field kept.salt s.scheme.2 s.salt, salt_bounded kept.scheme s.field kept.salt s.salt)
 
 -- Lengths
 
@@ -82,8 +87,8 @@ length_rounds count false high = omega arith
 -- the canonical text stays within its limit
 pub canonical_short : (scheme : Scheme) (salt : List ℕ) → IsScheme scheme → length salt ≤ salt_limit (method_of scheme) → length (prefix (method_of scheme)) + (length (cost_part scheme) + length salt) ≤ canonical_limit
 canonical_short Md5crypt salt c l = omega arith
-canonical_short (Sha256crypt r) salt c l = omega (arith, length_rounds r.count r.is_written c.to)
-canonical_short (Sha512crypt r) salt c l = omega (arith, length_rounds r.count r.is_written c.to)
+canonical_short (Sha256crypt r) salt c l = omega (arith, length_rounds r.count r.is_written (in_range r.count c.in_range).1)
+canonical_short (Sha512crypt r) salt c l = omega (arith, length_rounds r.count r.is_written (in_range r.count c.in_range).1)
 canonical_short (Scrypt n) salt c l = omega (arith, length-scrypt_part n)
 
 -- Digits
@@ -102,11 +107,11 @@ apart_from_digits : All (λ b. (b < 48) ⊎ (57 < b)) (codes ":;*!\\")
 apart_from_digits = All-from_recursion (λ b. (b < 48) ⊎ (57 < b)) (codes ":;*!\\") (inr (omega arith), (inr (omega arith), (inl (omega arith), (inl (omega arith), (inr (omega arith), tt)))))
 
 digit_is_byte : (b : ℕ) → (48 ≤ b) × (b ≤ 57) → IsSettingByte b
-digit_is_byte b range = record {
-  from = omega (arith, range);
-  to = omega (arith, range);
-  apart = λ inside. omega (arith, range, All-contains (λ c. (c < 48) ⊎ (57 < c)) (codes ":;*!\\") b apart_from_digits inside);
-}
+digit_is_byte b range = (
+  omega (arith, range),
+  omega (arith, range),
+  λ inside. omega (arith, range, All-contains (λ c. (c < 48) ⊎ (57 < c)) (codes ":;*!\\") b apart_from_digits inside),
+)
 
 pub number_bytes : (ds : List ℕ) → IsRoundsNumber ds → All IsSettingByte ds
 number_bytes [] n = absurd n
@@ -136,15 +141,14 @@ byte_means b h =
     let t3 = and_parts _ _ t2.1 in
     let t4 = and_parts _ _ t3.1 in
     let t5 = and_parts _ _ t4.1 in
-    let t6 = and_parts _ _ t5.1 in
-    record {
-      from = leb-true 33 b t1.0;
-      to = leb-true b 126 t2.0;
-      apart = λ inside. All-contains (λ x. x ≡ b → ⊥) (codes ":;*!\\") b
+    let t6 = and_parts _ _ t5.1 in (
+      leb-true 33 b t1.0,
+      leb-true b 126 t2.0,
+      λ inside. All-contains (λ x. x ≡ b → ⊥) (codes ":;*!\\") b
           (All-from_recursion (λ x. x ≡ b → ⊥) (codes ":;*!\\")
           (differs_means 58 b t3.0, (differs_means 59 b t4.0, (differs_means 42 b t5.0, (differs_means 33 b t6.0, (differs_means 92 b t6.1, tt))))))
-          inside refl;
-    }
+          inside refl,
+    )
 
 bytes_mean : (xs : List ℕ) → list_all is_byte xs ≡ true → All IsSettingByte xs
 bytes_mean xs all = All-weaker (λ x. is_byte x ≡ true) IsSettingByte byte_means xs (AllPass-from_list_all is_byte xs all)
@@ -178,8 +182,8 @@ rounds_bytes count false low high = All-nil IsSettingByte
 
 pub cost_bytes : (scheme : Scheme) → IsScheme scheme → All IsSettingByte (cost_part scheme)
 cost_bytes Md5crypt c = All-nil IsSettingByte
-cost_bytes (Sha256crypt r) c = rounds_bytes r.count r.is_written c.from c.to
-cost_bytes (Sha512crypt r) c = rounds_bytes r.count r.is_written c.from c.to
+cost_bytes (Sha256crypt r) c = let range = in_range r.count c.in_range in rounds_bytes r.count r.is_written range.0 range.1
+cost_bytes (Sha512crypt r) c = let range = in_range r.count c.in_range in rounds_bytes r.count r.is_written range.0 range.1
 cost_bytes (Scrypt n) c = All-weaker (Contains alphabet) IsSettingByte character_is_byte (scrypt_part n) (all_scrypt_part n)
 
 -- Bytes
@@ -193,24 +197,24 @@ all_right xs ys all = subst (All IsSettingByte) (drop-append_seam xs ys) (All-dr
 -- The salt
 
 -- the salt is a front of its field
-salt_is_front : (m : Method) (field salt : List ℕ) → KeepsSalt m field salt → salt ≡ take (salt_limit m) field
-salt_is_front methods.Md5crypt field salt k = k
-salt_is_front methods.Sha256crypt field salt k = k
-salt_is_front methods.Sha512crypt field salt k = k
-salt_is_front methods.Scrypt field salt k = k.0 ∙ sym (take_all scrypt_salt_limit field k.1.short)
+salt_is_front : (scheme : Scheme) (field salt : List ℕ) → KeepsSalt scheme field salt → salt ≡ take (salt_limit (method_of scheme)) field
+salt_is_front Md5crypt field salt k = k
+salt_is_front (Sha256crypt r) field salt k = k
+salt_is_front (Sha512crypt r) field salt k = k
+salt_is_front (Scrypt n) field salt k = k.1 ∙ sym (take_all scrypt_salt_limit field k.2.0)
 
 -- the salt is what is kept of it
-salt_again : (m : Method) (field salt : List ℕ) → KeepsSalt m field salt → KeepsSalt m salt salt
-salt_again methods.Md5crypt field salt k = sym (take_all md5crypt_salt_limit salt (cut md5crypt_salt_limit field salt k))
-salt_again methods.Sha256crypt field salt k = sym (take_all shacrypt_salt_limit salt (cut shacrypt_salt_limit field salt k))
-salt_again methods.Sha512crypt field salt k = sym (take_all shacrypt_salt_limit salt (cut shacrypt_salt_limit field salt k))
-salt_again methods.Scrypt field salt k = (refl, subst IsScryptSalt (sym k.0) k.1)
+salt_again : (scheme : Scheme) (field salt : List ℕ) → KeepsSalt scheme field salt → KeepsSalt scheme salt salt
+salt_again Md5crypt field salt k = sym (take_all md5crypt_salt_limit salt (cut md5crypt_salt_limit field salt k))
+salt_again (Sha256crypt r) field salt k = sym (take_all shacrypt_salt_limit salt (cut shacrypt_salt_limit field salt k))
+salt_again (Sha512crypt r) field salt k = sym (take_all shacrypt_salt_limit salt (cut shacrypt_salt_limit field salt k))
+salt_again (Scrypt n) field salt k = (k.0, refl, subst IsScryptSalt (sym k.1) k.2)
 
-salt_is_field : (m : Method) (field rest salt tail : List ℕ) → IsField field rest → KeepsSalt m field salt → IsEndOfField tail → IsField salt tail
-salt_is_field m field rest salt tail f k end = record {
-  no_dollar = subst (All (λ b. b ≢ dollar)) (sym (salt_is_front m field salt k)) (All-take (λ b. b ≢ dollar) (salt_limit m) field f.no_dollar);
-  ended = end;
-}
+salt_is_field : (scheme : Scheme) (field rest salt tail : List ℕ) → IsField field rest → KeepsSalt scheme field salt → IsEndOfField tail → IsField salt tail
+salt_is_field scheme field rest salt tail f k end = (
+  subst (All (λ b. b ≢ dollar)) (sym (salt_is_front scheme field salt k)) (All-take (λ b. b ≢ dollar) (salt_limit (method_of scheme)) field f.0),
+  ended_by tail end,
+)
 
 -- The cost part
 
@@ -236,9 +240,6 @@ begins_within (y ∷ salt) tail (w ∷ word) none end (more, e) =
 rounds_word_no_dollar : AllByRecursion (λ b. b ≢ dollar) rounds_word
 rounds_word_no_dollar = (λ e. omega arith, (λ e. omega arith, (λ e. omega arith, (λ e. omega arith, (λ e. omega arith, (λ e. omega arith, (λ e. omega arith, tt)))))))
 
-pub held_again : (n : ℕ) → min_rounds ≤ n → n ≤ max_rounds → n ≡ clamped n
-held_again n low high = omega arith
-
 rounds_again : (count : ℕ) (flag : Bool) (n : ℕ) (part field rest salt tail : List ℕ) → salt ≡ take n field → IsEndOfField tail → SpellsRounds (record { count = count; is_written = flag }) part (field ++ rest) → SpellsRounds (record { count = count; is_written = flag }) (cost_part (Sha256crypt (record { count = count; is_written = flag }))) (salt ++ tail)
 rounds_again count true n part field rest salt tail e end s =
     let range = rounds_range count true part (field ++ rest) s in
@@ -246,7 +247,7 @@ rounds_again count true n part field rest salt tail e end s =
       decimal count,
       decimal_is_number count (omega (arith, range)) below,
       refl,
-      held_again count range.0 range.1 ∙ ap clamped (sym (decimal_is_IsNumeral count below).1),
+      sym (clamped_again count range.0 range.1) ∙ ap clamped (sym (decimal_is_IsNumeral count below).1),
     )
 rounds_again count false n part field rest salt tail e end s =
     (refl, s.1, λ begins. s.2 (begins_longer n field rest salt rounds_word e (begins_within salt tail rounds_word rounds_word_no_dollar end begins)))
@@ -255,7 +256,7 @@ cost_again : (scheme : Scheme) (n : ℕ) (part field rest salt tail : List ℕ) 
 cost_again Md5crypt n part field rest salt tail e end s = refl
 cost_again (Sha256crypt r) n part field rest salt tail e end s = rounds_again r.count r.is_written n part field rest salt tail e end s
 cost_again (Sha512crypt r) n part field rest salt tail e end s = rounds_again r.count r.is_written n part field rest salt tail e end s
-cost_again (Scrypt c) n part field rest salt tail e end s = (refl, s.1, s.2)
+cost_again (Scrypt c) n part field rest salt tail e end s = (refl, s.1, s.2, s.3)
 
 -- what a text spells, its canonical text spells, whatever stands behind a `$`
 pub canonical_spells_before : (text : List ℕ) (kept : SettingValue) (tail : List ℕ) → Spells text kept → IsEndOfField tail → All IsSettingByte tail → canonical_limit + length tail ≤ setting_limit
@@ -263,28 +264,28 @@ pub canonical_spells_before : (text : List ℕ) (kept : SettingValue) (tail : Li
 canonical_spells_before text kept tail s end tail_bytes short =
     let m : Method = method_of kept.scheme in
     let part : List ℕ = cost_part kept.scheme in
-    let all : All IsSettingByte (prefix m ++ (s.scheme.part ++ (s.field ++ s.rest))) = subst (All IsSettingByte) s.scheme.parts s.is_text.bytes in
-    let after : All IsSettingByte (s.scheme.part ++ (s.field ++ s.rest)) = all_right (prefix m) (s.scheme.part ++ (s.field ++ s.rest)) all in
-    let field : All IsSettingByte s.field = all_left s.field s.rest (all_right s.scheme.part (s.field ++ s.rest) after) in
-    let salt : All IsSettingByte kept.salt = subst (All IsSettingByte) (sym (salt_is_front m s.field kept.salt s.salt)) (All-take IsSettingByte (salt_limit m) s.field field) in
+    let front = s.scheme.0 in
+    let all : All IsSettingByte (prefix m ++ (front ++ (s.field ++ s.rest))) = subst (All IsSettingByte) s.scheme.1 s.bytes in
+    let after : All IsSettingByte (front ++ (s.field ++ s.rest)) = all_right (prefix m) (front ++ (s.field ++ s.rest)) all in
+    let field : All IsSettingByte s.field = all_left s.field s.rest (all_right front (s.field ++ s.rest) after) in
+    let salt_front = salt_is_front kept.scheme s.field kept.salt s.salt in
+    let salt : All IsSettingByte kept.salt = subst (All IsSettingByte) (sym salt_front) (All-take IsSettingByte (salt_limit m) s.field field) in
     let bounded = setting_bounded kept (text, s) in
     record {
-      is_text = record {
-        short = omega (arith, canonical_short kept.scheme kept.salt bounded.0 bounded.1, length-append (canonical_text kept) tail, length-append (prefix m) (part ++ kept.salt), length-append part kept.salt, short);
-        bytes = All-append IsSettingByte (canonical_text kept) tail
-            (All-append IsSettingByte (prefix m) (part ++ kept.salt) (all_left (prefix m) (s.scheme.part ++ (s.field ++ s.rest)) all)
-            (All-append IsSettingByte part kept.salt (cost_bytes kept.scheme (cost_bounded kept.scheme s.scheme.part (s.field ++ s.rest) s.scheme.cost)) salt))
-            tail_bytes;
-      };
+      short = omega (arith, canonical_short kept.scheme kept.salt bounded.0 bounded.1, length-append (canonical_text kept) tail, length-append (prefix m) (part ++ kept.salt), length-append part kept.salt, short);
+      bytes = All-append IsSettingByte (canonical_text kept) tail
+          (All-append IsSettingByte (prefix m) (part ++ kept.salt) (all_left (prefix m) (front ++ (s.field ++ s.rest)) all)
+          (All-append IsSettingByte part kept.salt (cost_bytes kept.scheme bounded.0) salt))
+          tail_bytes;
       field = kept.salt;
       rest = tail;
-      is_field = salt_is_field m s.field s.rest kept.salt tail s.is_field s.salt end;
-      scheme = record {
-        part = part;
-        parts = append_assoc (prefix m) (part ++ kept.salt) tail ∙ ap (λ (x : List ℕ). prefix m ++ x) (append_assoc part kept.salt tail);
-        cost = cost_again kept.scheme (salt_limit m) s.scheme.part s.field s.rest kept.salt tail (salt_is_front m s.field kept.salt s.salt) end s.scheme.cost;
-      };
-      salt = salt_again m s.field kept.salt s.salt;
+      is_field = salt_is_field kept.scheme s.field s.rest kept.salt tail s.is_field s.salt end;
+      scheme = (
+        part,
+        append_assoc (prefix m) (part ++ kept.salt) tail ∙ ap (λ (x : List ℕ). prefix m ++ x) (append_assoc part kept.salt tail),
+        cost_again kept.scheme (salt_limit m) front s.field s.rest kept.salt tail salt_front end s.scheme.2,
+      );
+      salt = salt_again kept.scheme s.field kept.salt s.salt;
     }
 
 pub canonical_spells : (text : List ℕ) (kept : SettingValue) → Spells text kept → Spells (canonical_text kept) kept
@@ -295,6 +296,6 @@ canonical_spells text kept s =
 pub packed_short : (scheme : Scheme) (salt : List ℕ) → IsScheme scheme → length salt ≤ salt_limit (method_of scheme)
     → length (prefix (method_of scheme)) + (length (cost_part scheme) + length salt) + packed_len (method_of scheme) < hash_limit
 packed_short Md5crypt salt c l = omega arith
-packed_short (Sha256crypt r) salt c l = omega (arith, length_rounds r.count r.is_written c.to)
-packed_short (Sha512crypt r) salt c l = omega (arith, length_rounds r.count r.is_written c.to)
+packed_short (Sha256crypt r) salt c l = omega (arith, length_rounds r.count r.is_written (in_range r.count c.in_range).1)
+packed_short (Sha512crypt r) salt c l = omega (arith, length_rounds r.count r.is_written (in_range r.count c.in_range).1)
 packed_short (Scrypt n) salt c l = omega (arith, length-scrypt_part n)

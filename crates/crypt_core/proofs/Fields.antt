@@ -1,8 +1,23 @@
 -- Fields that go up to the next `$`.
-use Rattle.std.proofs.Common.{◌≡◌, ◌≢◌, ℕ, List, [], ◌∷◌, ◌++◌, length, refl, sym, subst, arith}
+use Rattle.std.proofs.Common.{◌≡◌, ◌≢◌, ◌⊎◌, ℕ, inl, inr, List, [], ◌∷◌, ◌++◌, length, refl, sym, ap, subst, arith}
 use Rattle.std.specs.List.{AllByRecursion}
 use Rattle.std.proofs.lemmas.List.Elements.{recursion_from_All}
-use Rattle.crypt_core.specs.Settings.{dollar, IsEndOfField, IsField}
+use Rattle.crypt_core.specs.Settings.{dollar, BeginsWith, IsField}
+
+-- nothing, or what begins with `$`
+abbrev pub IsEndOfField : List ℕ → Type 0
+IsEndOfField [] = Unit {0}
+IsEndOfField (b ∷ rest) = b ≡ dollar
+
+-- what follows a field is that
+pub ended_by : (rest : List ℕ) → IsEndOfField rest → (rest ≡ []) ⊎ BeginsWith rest (dollar ∷ [])
+ended_by [] end = inl refl
+ended_by (b ∷ rest) end = inr (rest, ap (λ (c : ℕ). c ∷ rest) end)
+
+pub end_of : (rest : List ℕ) → (rest ≡ []) ⊎ BeginsWith rest (dollar ∷ []) → IsEndOfField rest
+end_of [] end = tt
+end_of (b ∷ rest) (inl none) = absurd (cc none)
+end_of (b ∷ rest) (inr begins) = cc (begins.1)
 
 -- lists that are joined in two ways, with fronts of one length
 pub same_front : (a b x y : List ℕ) → length a ≡ length b → a ++ x ≡ b ++ y → (a ≡ b) × (x ≡ y)
@@ -28,4 +43,4 @@ same_field (x ∷ f) (y ∷ g) r s hf hg er es e =
 -- a list is a field and a rest in one way only
 pub field_unique : (f g r s : List ℕ) → IsField f r → IsField g s → f ++ r ≡ g ++ s → (f ≡ g) × (r ≡ s)
 field_unique f g r s a b e =
-    same_field f g r s (recursion_from_All _ f a.no_dollar) (recursion_from_All _ g b.no_dollar) a.ended b.ended e
+    same_field f g r s (recursion_from_All _ f a.0) (recursion_from_All _ g b.0) (end_of r a.1) (end_of s b.1) e

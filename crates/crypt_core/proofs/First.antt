@@ -1,154 +1,214 @@
--- Which rule is the first that a text breaks.
-use Rattle.std.proofs.Common.{◌≡◌, ℕ, ◌≤◌, ◌<◌, inl, inr, List, ◌++◌, length, drop, All, sym, ap, subst, ◌∙◌, arith}
+-- At which stage reading a text fails first.
+use Rattle.std.proofs.Common.{◌≡◌, ℕ, ◌≤◌, ◌<◌, Bool, true, false, inl, inr, ◌⊎◌, List, ◌++◌, length, drop, All, refl, sym, ap, subst, ◌∙◌, arith}
 use Rattle.std.proofs.Math.Seq.{drop-append_seam}
+use Rattle.std.proofs.lemmas.List.{append_cancel_left}
 use Rattle.kdf_core.specs.Params.{ScryptCost, IsInRange, IsWithinCeiling}
 use Rattle.crypt_core.specs.declared.method.Method.{Method}
 use Rattle.crypt_core.specs.declared.method.Method.TheVariants as methods
+use Rattle.crypt_core.specs.Rounds.{Rounds}
 use Rattle.crypt_core.specs.declared.scheme.Scheme.{Scheme}
 use Rattle.crypt_core.specs.declared.scheme.Scheme.TheVariants.{Md5crypt, Sha256crypt, Sha512crypt, Scrypt}
-use Rattle.crypt_core.specs.declared.setting.fault.SettingFault.{SettingFault}
 use Rattle.crypt_core.specs.declared.setting.fault.SettingFault.TheVariants.{TooLong, BadCharacter, UnknownScheme, BadRounds, BadCost, ScryptRange, AboveCeiling, BadSalt}
 use Rattle.crypt_core.specs.MethodLimits.{prefix}
-use Rattle.crypt_core.specs.Refusals.{IsShaText, LacksRounds, LacksCost, IsScryptText, Breaks, IsRefused, rule_number}
-use Rattle.crypt_core.specs.Settings.{IsSettingByte, IsSettingText, IsField, BeginsWith, scrypt_part, IsScryptSalt, SpellsCost, SpellsScheme, scrypt_part_len, setting_limit}
-use Rattle.crypt_core.specs.Schemes.{method_of}
-use Rattle.crypt_core.proofs.Numerals.{scrypt_part_unique, length-scrypt_part, all_scrypt_part}
-use Rattle.crypt_core.proofs.Readings.{prefix_unique}
-use Rattle.crypt_core.proofs.Refusals.{scheme_breaks_none}
+use Rattle.crypt_core.specs.Private.Parts.{HasNumerals, IsSettingText, IsShaText, KeepsField, LacksCharacters, LacksRounds, SpellsSalt}
+use Rattle.crypt_core.specs.Refusals.{IsRefused, LacksCost}
+use Rattle.crypt_core.specs.Schemes.{IsScheme, method_of}
+use Rattle.crypt_core.specs.Settings.{IsSettingByte, IsField, BeginsWith, rounds_word, scrypt_part, IsScryptSalt, KeepsSalt, SpellsCost, Spells, SpellsRounds, SpellsScheme, setting_limit}
+use Rattle.crypt_core.specs.TextLimits.{scrypt_part_len}
+use Rattle.crypt_core.proofs.Numerals.{length-scrypt_part, all_scrypt_part}
+use Rattle.crypt_core.proofs.Readings.{prefix_unique, scheme_unique}
+use Rattle.crypt_core.proofs.Refusals.{lacks_none}
+use Rattle.crypt_core.proofs.Rounds.{field_parts}
 
-pub refused_long : (text : List ℕ) → setting_limit < length text → IsRefused text TooLong
-refused_long text long = record { breaks = long; first = λ f below b. rules_begin f below }
-  where
-    rules_begin : (f : SettingFault) → rule_number f < 1 → ⊥
-    rules_begin TooLong below = omega arith
-    rules_begin BadCharacter below = omega arith
-    rules_begin UnknownScheme below = omega arith
-    rules_begin BadRounds below = omega arith
-    rules_begin BadCost below = omega arith
-    rules_begin ScryptRange below = omega arith
-    rules_begin AboveCeiling below = omega arith
-    rules_begin BadSalt below = omega arith
-
-pub refused_character : (text : List ℕ) → length text ≤ setting_limit → (All IsSettingByte text → ⊥) → IsRefused text BadCharacter
-refused_character text short bad = record { breaks = bad; first = earlier }
-  where
-    earlier : (f : SettingFault) → rule_number f < 2 → Breaks f text → ⊥
-    earlier TooLong below b = omega (arith, short, b)
-    earlier BadCharacter below b = omega arith
-    earlier UnknownScheme below b = omega arith
-    earlier BadRounds below b = omega arith
-    earlier BadCost below b = omega arith
-    earlier ScryptRange below b = omega arith
-    earlier AboveCeiling below b = omega arith
-    earlier BadSalt below b = omega arith
-
--- a setting text breaks none of the rules on bytes
-bytes_break_none : (text : List ℕ) → IsSettingText text → (f : SettingFault) → rule_number f < 3 → Breaks f text → ⊥
-bytes_break_none text t TooLong below b = omega (arith, t.short, b)
-bytes_break_none text t BadCharacter below b = b t.bytes
-bytes_break_none text t UnknownScheme below b = omega arith
-bytes_break_none text t BadRounds below b = omega arith
-bytes_break_none text t BadCost below b = omega arith
-bytes_break_none text t ScryptRange below b = omega arith
-bytes_break_none text t AboveCeiling below b = omega arith
-bytes_break_none text t BadSalt below b = omega arith
-
-pub refused_unknown : (text : List ℕ) → IsSettingText text → ((m : Method) → BeginsWith text (prefix m) → ⊥) → IsRefused text UnknownScheme
-refused_unknown text t unknown = record { breaks = unknown; first = bytes_break_none text t }
-
--- a text that begins with a prefix breaks none of the first three rules
-prefix_breaks_none : (text : List ℕ) (m : Method) (after : List ℕ) → IsSettingText text → text ≡ prefix m ++ after → (f : SettingFault) → rule_number f < 4 → Breaks f text → ⊥
-prefix_breaks_none text m after t e TooLong below b = bytes_break_none text t TooLong (omega arith) b
-prefix_breaks_none text m after t e BadCharacter below b = bytes_break_none text t BadCharacter (omega arith) b
-prefix_breaks_none text m after t e UnknownScheme below b = b m (after, e)
-prefix_breaks_none text m after t e BadRounds below b = omega arith
-prefix_breaks_none text m after t e BadCost below b = omega arith
-prefix_breaks_none text m after t e ScryptRange below b = omega arith
-prefix_breaks_none text m after t e AboveCeiling below b = omega arith
-prefix_breaks_none text m after t e BadSalt below b = omega arith
-
-pub refused_rounds : (text after : List ℕ) → IsSettingText text → IsShaText text after → LacksRounds after → IsRefused text BadRounds
-refused_rounds text after t (inl e) lacks = record { breaks = (after, inl e, lacks); first = prefix_breaks_none text methods.Sha256crypt after t e }
-refused_rounds text after t (inr e) lacks = record { breaks = (after, inr e, lacks); first = prefix_breaks_none text methods.Sha512crypt after t e }
-
--- a text of scrypt is none of SHA-crypt
-not_sha : (text after z : List ℕ) → text ≡ prefix methods.Scrypt ++ after → IsShaText text z → ⊥
-not_sha text after z e (inl s) = absurd (cc ((prefix_unique methods.Scrypt methods.Sha256crypt after z (sym e ∙ s)).0))
-not_sha text after z e (inr s) = absurd (cc ((prefix_unique methods.Scrypt methods.Sha512crypt after z (sym e ∙ s)).0))
-
-scrypt_breaks_none : (text after : List ℕ) → IsSettingText text → text ≡ prefix methods.Scrypt ++ after → (f : SettingFault) → rule_number f < 5 → Breaks f text → ⊥
-scrypt_breaks_none text after t e TooLong below b = prefix_breaks_none text methods.Scrypt after t e TooLong (omega arith) b
-scrypt_breaks_none text after t e BadCharacter below b = prefix_breaks_none text methods.Scrypt after t e BadCharacter (omega arith) b
-scrypt_breaks_none text after t e UnknownScheme below b = prefix_breaks_none text methods.Scrypt after t e UnknownScheme (omega arith) b
-scrypt_breaks_none text after t e BadRounds below b = not_sha text after b.0 e b.1
-scrypt_breaks_none text after t e BadCost below b = omega arith
-scrypt_breaks_none text after t e ScryptRange below b = omega arith
-scrypt_breaks_none text after t e AboveCeiling below b = omega arith
-scrypt_breaks_none text after t e BadSalt below b = omega arith
-
-pub refused_cost : (text after : List ℕ) → IsSettingText text → text ≡ prefix methods.Scrypt ++ after → LacksCost after → IsRefused text BadCost
-refused_cost text after t e lacks = record { breaks = (after, e, lacks); first = scrypt_breaks_none text after t e }
-
-numbers_break_none : (text : List ℕ) (n : ScryptCost) (rest : List ℕ) → IsSettingText text → IsScryptText text n rest → (f : SettingFault) → rule_number f < 6 → Breaks f text → ⊥
-numbers_break_none text n rest t s TooLong below b = scrypt_breaks_none text (scrypt_part n ++ rest) t s.parts TooLong (omega arith) b
-numbers_break_none text n rest t s BadCharacter below b = scrypt_breaks_none text (scrypt_part n ++ rest) t s.parts BadCharacter (omega arith) b
-numbers_break_none text n rest t s UnknownScheme below b = scrypt_breaks_none text (scrypt_part n ++ rest) t s.parts UnknownScheme (omega arith) b
-numbers_break_none text n rest t s BadRounds below b = scrypt_breaks_none text (scrypt_part n ++ rest) t s.parts BadRounds (omega arith) b
-numbers_break_none text n rest t s BadCost below b =
-    b.2 (scrypt_part n) rest (length-scrypt_part n) (all_scrypt_part n) (sym (prefix_unique methods.Scrypt methods.Scrypt (scrypt_part n ++ rest) b.0 (sym s.parts ∙ b.1)).1)
-numbers_break_none text n rest t s ScryptRange below b = omega arith
-numbers_break_none text n rest t s AboveCeiling below b = omega arith
-numbers_break_none text n rest t s BadSalt below b = omega arith
-
-pub refused_range : (text : List ℕ) (n : ScryptCost) (rest : List ℕ) → IsSettingText text → IsScryptText text n rest → (IsInRange n → ⊥) → IsRefused text ScryptRange
-refused_range text n rest t s outside = record { breaks = (n, rest, s, outside); first = numbers_break_none text n rest t s }
-
--- the numbers of a text of scrypt are the only ones
-same_numbers : (text : List ℕ) (a b : ScryptCost) (x y : List ℕ) → IsScryptText text a x → IsScryptText text b y → a ≡ b
-same_numbers text a b x y sa sb =
-    (scrypt_part_unique a b x y sa.numbers sb.numbers (prefix_unique methods.Scrypt methods.Scrypt (scrypt_part a ++ x) (scrypt_part b ++ y) (sym sa.parts ∙ sb.parts)).1).0
-
-range_breaks_none : (text : List ℕ) (n : ScryptCost) (rest : List ℕ) → IsSettingText text → IsScryptText text n rest → IsInRange n → (f : SettingFault) → rule_number f < 7 → Breaks f text → ⊥
-range_breaks_none text n rest t s inside TooLong below b = numbers_break_none text n rest t s TooLong (omega arith) b
-range_breaks_none text n rest t s inside BadCharacter below b = numbers_break_none text n rest t s BadCharacter (omega arith) b
-range_breaks_none text n rest t s inside UnknownScheme below b = numbers_break_none text n rest t s UnknownScheme (omega arith) b
-range_breaks_none text n rest t s inside BadRounds below b = numbers_break_none text n rest t s BadRounds (omega arith) b
-range_breaks_none text n rest t s inside BadCost below b = numbers_break_none text n rest t s BadCost (omega arith) b
-range_breaks_none text n rest t s inside ScryptRange below b = b.3 (subst IsInRange (same_numbers text n b.0 rest b.1 s b.2) inside)
-range_breaks_none text n rest t s inside AboveCeiling below b = omega arith
-range_breaks_none text n rest t s inside BadSalt below b = omega arith
-
-pub refused_ceiling : (text : List ℕ) (n : ScryptCost) (rest : List ℕ) → IsSettingText text → IsScryptText text n rest → IsInRange n → (IsWithinCeiling n → ⊥) → IsRefused text AboveCeiling
-refused_ceiling text n rest t s inside above = record { breaks = (n, rest, s, above); first = range_breaks_none text n rest t s inside }
-
--- a text whose front is spelled, of scrypt, with a salt that isn't taken
-pub refused_salt : (text : List ℕ) (scheme : Scheme) (field rest : List ℕ) → IsSettingText text → SpellsScheme text scheme (field ++ rest) → method_of scheme ≡ methods.Scrypt → IsField field rest → (IsScryptSalt field → ⊥) → IsRefused text BadSalt
-refused_salt text (Scrypt n) field rest t s m f bad = record {
-  breaks = (n, field, rest, record { parts = s.parts ∙ ap (λ (p : List ℕ). prefix methods.Scrypt ++ (p ++ (field ++ rest))) s.cost.0; numbers = s.cost.1 }, f, bad);
-  first = earlier;
-}
-  where
-    earlier : (g : SettingFault) → rule_number g < 8 → Breaks g text → ⊥
-    earlier TooLong below b = bytes_break_none text t TooLong (omega arith) b
-    earlier BadCharacter below b = bytes_break_none text t BadCharacter (omega arith) b
-    earlier UnknownScheme below b = scheme_breaks_none text (Scrypt n) (field ++ rest) s UnknownScheme (omega arith) below b
-    earlier BadRounds below b = scheme_breaks_none text (Scrypt n) (field ++ rest) s BadRounds (omega arith) below b
-    earlier BadCost below b = scheme_breaks_none text (Scrypt n) (field ++ rest) s BadCost (omega arith) below b
-    earlier ScryptRange below b = scheme_breaks_none text (Scrypt n) (field ++ rest) s ScryptRange (omega arith) below b
-    earlier AboveCeiling below b = scheme_breaks_none text (Scrypt n) (field ++ rest) s AboveCeiling (omega arith) below b
-    earlier BadSalt below b = omega arith
-refused_salt text Md5crypt field rest t s m f bad = absurd cc
-refused_salt text (Sha256crypt r) field rest t s m f bad = absurd cc
-refused_salt text (Sha512crypt r) field rest t s m f bad = absurd cc
-
--- Fronts that are spelled
+-- ---- fronts that are spelled
 
 -- a prefix and a cost part, and what comes after them
 pub spelled_front : (text : List ℕ) (scheme : Scheme) (after part rest : List ℕ) → text ≡ prefix (method_of scheme) ++ after → after ≡ part ++ rest → SpellsCost scheme part rest → SpellsScheme text scheme rest
 spelled_front text scheme after part rest begins parts cost =
-    record { part = part; parts = begins ∙ ap (λ (x : List ℕ). prefix (method_of scheme) ++ x) parts; cost = cost }
+    (part, begins ∙ ap (λ (x : List ℕ). prefix (method_of scheme) ++ x) parts, cost)
+
+-- a prefix and scrypt's numbers
+pub spelled_numbers : (text : List ℕ) (n : ScryptCost) (after rest : List ℕ) → text ≡ prefix methods.Scrypt ++ after → after ≡ scrypt_part n ++ rest → HasNumerals n → SpellsScheme text (Scrypt n) rest
+spelled_numbers text n after rest begins parts numbers =
+    spelled_front text (Scrypt n) after (scrypt_part n) rest begins parts (refl, numbers.0, numbers.1, numbers.2)
 
 -- what follows the characters of scrypt's numbers
 pub after_numbers : (after rest : List ℕ) (n : ScryptCost) → after ≡ scrypt_part n ++ rest → drop scrypt_part_len after ≡ rest
 after_numbers after rest n parts =
     ap (λ (k : ℕ). drop k after) (sym (length-scrypt_part n)) ∙ ap (λ (t : List ℕ). drop (length (scrypt_part n)) t) parts ∙ drop-append_seam (scrypt_part n) rest
+
+-- what is kept of a field, with a cost in range
+kept_salt : (scheme : Scheme) (field salt : List ℕ) → IsScheme scheme → KeepsField (method_of scheme) field salt → KeepsSalt scheme field salt
+kept_salt Md5crypt field salt c k = k
+kept_salt (Sha256crypt r) field salt c k = k
+kept_salt (Sha512crypt r) field salt c k = k
+kept_salt (Scrypt n) field salt c k = (c, k.0, k.1)
+
+-- all parts of a text that spells a setting
+pub spelled : (text : List ℕ) (scheme : Scheme) (after salt : List ℕ) → IsSettingText text → SpellsScheme text scheme after → IsScheme scheme → SpellsSalt (method_of scheme) after salt → Spells text (record { scheme = scheme; salt = salt })
+spelled text scheme after salt t s c k = record {
+  short = t.short;
+  bytes = t.bytes;
+  field = k.0;
+  rest = k.1.0;
+  is_field = k.1.2;
+  scheme = subst (SpellsScheme text scheme) k.1.1 s;
+  salt = kept_salt scheme k.0 salt c k.2;
+}
+
+-- ---- fronts without a cost
+
+-- where rounds are spelled, a proper field stands or no `rounds=` does
+spelled_rounds : (r : Rounds) (part after : List ℕ) → SpellsRounds r part after → LacksRounds (part ++ after) → ⊥
+spelled_rounds r part after s lacks = by r.is_written s
+  where
+    by : (f : Bool) → SpellsRounds (record { count = r.count; is_written = f }) part after → ⊥
+    by true w =
+        lacks.2 w.0 after w.1 (append_cancel_left rounds_word _ _ (sym lacks.1 ∙ ap (λ (x : List ℕ). x ++ after) w.2 ∙ field_parts w.0 after))
+    by false w = w.2 (lacks.0, sym (ap (λ (x : List ℕ). x ++ after) w.0) ∙ lacks.1)
+
+-- so `rounds=` without a proper field is no cost of SHA-crypt
+sha256_lacks : (text after : List ℕ) → text ≡ prefix methods.Sha256crypt ++ after → LacksRounds after → LacksCost methods.Sha256crypt text
+sha256_lacks text after e lacks = ((after, e), none)
+  where
+    none : (scheme : Scheme) (z : List ℕ) → method_of scheme ≡ methods.Sha256crypt → SpellsScheme text scheme z → ⊥
+    none (Sha256crypt r) z m s =
+        spelled_rounds r s.0 z s.2 (subst LacksRounds (sym (prefix_unique methods.Sha256crypt methods.Sha256crypt (s.0 ++ z) after (sym s.1 ∙ e)).1) lacks)
+    none Md5crypt z m s = absurd cc
+    none (Sha512crypt r) z m s = absurd cc
+    none (Scrypt n) z m s = absurd cc
+
+sha512_lacks : (text after : List ℕ) → text ≡ prefix methods.Sha512crypt ++ after → LacksRounds after → LacksCost methods.Sha512crypt text
+sha512_lacks text after e lacks = ((after, e), none)
+  where
+    none : (scheme : Scheme) (z : List ℕ) → method_of scheme ≡ methods.Sha512crypt → SpellsScheme text scheme z → ⊥
+    none (Sha512crypt r) z m s =
+        spelled_rounds r s.0 z s.2 (subst LacksRounds (sym (prefix_unique methods.Sha512crypt methods.Sha512crypt (s.0 ++ z) after (sym s.1 ∙ e)).1) lacks)
+    none Md5crypt z m s = absurd cc
+    none (Sha256crypt r) z m s = absurd cc
+    none (Scrypt n) z m s = absurd cc
+
+-- nor are too few characters one of scrypt
+scrypt_lacks : (text after : List ℕ) → text ≡ prefix methods.Scrypt ++ after → LacksCharacters after → LacksCost methods.Scrypt text
+scrypt_lacks text after e lacks = ((after, e), none)
+  where
+    none : (scheme : Scheme) (z : List ℕ) → method_of scheme ≡ methods.Scrypt → SpellsScheme text scheme z → ⊥
+    none (Scrypt n) z m s =
+        let parts : s.0 ++ z ≡ after = (prefix_unique methods.Scrypt methods.Scrypt (s.0 ++ z) after (sym s.1 ∙ e)).1 in
+        lacks (scrypt_part n) z (length-scrypt_part n) (all_scrypt_part n) (sym parts ∙ ap (λ (x : List ℕ). x ++ z) s.2.0)
+    none Md5crypt z m s = absurd cc
+    none (Sha256crypt r) z m s = absurd cc
+    none (Sha512crypt r) z m s = absurd cc
+
+-- a text of another method lacks no cost of this one
+other_method : (text : List ℕ) (a b : Method) (after : List ℕ) → (a ≡ b → ⊥) → text ≡ prefix a ++ after → LacksCost b text → ⊥
+other_method text a b after differ e lacks = differ (prefix_unique a b after lacks.0.0 (sym e ∙ lacks.0.1)).0
+
+-- ---- refusals
+
+pub refused_long : (text : List ℕ) → setting_limit < length text → IsRefused text TooLong
+unfolding IsRefused
+refused_long text long = inl (refl, long)
+
+pub refused_character : (text : List ℕ) → length text ≤ setting_limit → (All IsSettingByte text → ⊥) → IsRefused text BadCharacter
+unfolding IsRefused
+refused_character text short bad = inr (λ b. omega arith, inl (refl, bad))
+
+-- a text with none of the four prefixes
+pub unknown : (text : List ℕ) → ¬ BeginsWith text (prefix methods.Md5crypt) → ¬ BeginsWith text (prefix methods.Sha256crypt) → ¬ BeginsWith text (prefix methods.Sha512crypt) → ¬ BeginsWith text (prefix methods.Scrypt) → (m : Method) → ¬ BeginsWith text (prefix m)
+unknown text not_1 not_5 not_6 not_7 methods.Md5crypt = not_1
+unknown text not_1 not_5 not_6 not_7 methods.Sha256crypt = not_5
+unknown text not_1 not_5 not_6 not_7 methods.Sha512crypt = not_6
+unknown text not_1 not_5 not_6 not_7 methods.Scrypt = not_7
+
+-- a setting text isn't refused for its bytes
+module _ (text : List ℕ) (is_text : IsSettingText text) where
+  not_long : setting_limit < length text → ⊥
+  not_long long = omega (arith, is_text.short, long)
+
+  not_bad : (All IsSettingByte text → ⊥) → ⊥
+  not_bad bad = bad is_text.bytes
+
+  pub refused_unknown : ((m : Method) → BeginsWith text (prefix m) → ⊥) → IsRefused text UnknownScheme
+  unfolding IsRefused
+  refused_unknown none = inr (not_long, inr (not_bad, inl (refl, none)))
+
+  -- nor one with a prefix for its method
+  known : (m : Method) (after : List ℕ) → text ≡ prefix m ++ after → ((n : Method) → BeginsWith text (prefix n) → ⊥) → ⊥
+  known m after e none = none m (after, e)
+
+  pub refused_rounds : (after : List ℕ) → IsShaText text after → LacksRounds after → IsRefused text BadRounds
+  unfolding IsRefused
+  refused_rounds after (inl e) lacks =
+      inr (not_long, inr (not_bad, inr (known methods.Sha256crypt after e, inl (refl, inl (sha256_lacks text after e lacks)))))
+  refused_rounds after (inr e) lacks =
+      inr (not_long, inr (not_bad, inr (known methods.Sha512crypt after e, inl (refl, inr (sha512_lacks text after e lacks)))))
+
+  -- nor one of scrypt for rounds
+  no_rounds : (after : List ℕ) → text ≡ prefix methods.Scrypt ++ after → LacksCost methods.Sha256crypt text ⊎ LacksCost methods.Sha512crypt text → ⊥
+  no_rounds after e (inl lacks) = other_method text methods.Scrypt methods.Sha256crypt after (λ same. absurd (cc same)) e lacks
+  no_rounds after e (inr lacks) = other_method text methods.Scrypt methods.Sha512crypt after (λ same. absurd (cc same)) e lacks
+
+  pub refused_cost : (after : List ℕ) → text ≡ prefix methods.Scrypt ++ after → LacksCharacters after → IsRefused text BadCost
+  unfolding IsRefused
+  refused_cost after e lacks =
+      inr (not_long, inr (not_bad, inr (known methods.Scrypt after e, inr (no_rounds after e, inl (refl, scrypt_lacks text after e lacks)))))
+
+  -- nor one with scrypt's numbers for these
+  module _ (n : ScryptCost) (rest : List ℕ) (spelled : SpellsScheme text (Scrypt n) rest) where
+    numbers_known : ((m : Method) → BeginsWith text (prefix m) → ⊥) → ⊥
+    numbers_known = known methods.Scrypt (spelled.0 ++ rest) spelled.1
+
+    some_rounds : LacksCost methods.Sha256crypt text ⊎ LacksCost methods.Sha512crypt text → ⊥
+    some_rounds = no_rounds (spelled.0 ++ rest) spelled.1
+
+    some_cost : LacksCost methods.Scrypt text → ⊥
+    some_cost = lacks_none text (Scrypt n) rest methods.Scrypt spelled
+
+    pub refused_range : (IsInRange n → ⊥) → IsRefused text ScryptRange
+    unfolding IsRefused
+    refused_range outside =
+        inr (not_long, inr (not_bad, inr (numbers_known, inr (some_rounds, inr (some_cost, inl (refl, (n, rest, spelled, outside)))))))
+
+    -- the numbers are the only ones
+    same_numbers : (m : ScryptCost) (after : List ℕ) → SpellsScheme text (Scrypt m) after → n ≡ m
+    same_numbers m after s = let same : Scrypt n ≡ Scrypt m = (scheme_unique text (Scrypt n) (Scrypt m) rest after spelled s).0 in cc
+
+    module _ (inside : IsInRange n) where
+      in_range : (m : ScryptCost) × (after : List ℕ) × SpellsScheme text (Scrypt m) after × (¬ IsInRange m) → ⊥
+      in_range b = b.3 (subst IsInRange (same_numbers b.0 b.1 b.2) inside)
+
+      pub refused_ceiling : (IsWithinCeiling n → ⊥) → IsRefused text AboveCeiling
+      unfolding IsRefused
+      refused_ceiling above =
+          inr (not_long, inr (not_bad, inr (numbers_known, inr (some_rounds, inr (some_cost, inr (in_range, inl (refl, (n, rest, spelled, above))))))))
+
+      below_ceiling : IsWithinCeiling n → (m : ScryptCost) × (after : List ℕ) × SpellsScheme text (Scrypt m) after × (¬ IsWithinCeiling m) → ⊥
+      below_ceiling within b = b.3 (subst IsWithinCeiling (same_numbers b.0 b.1 b.2) within)
+
+-- a text whose front is spelled, of scrypt, with a salt that isn't taken
+pub refused_salt : (text : List ℕ) (scheme : Scheme) (field rest : List ℕ) → IsSettingText text → SpellsScheme text scheme (field ++ rest) → IsScheme scheme → method_of scheme ≡ methods.Scrypt → IsField field rest → (IsScryptSalt field → ⊥) → IsRefused text BadSalt
+unfolding IsRefused
+refused_salt text (Scrypt n) field rest t s c m f bad =
+    inr (
+      not_long text t,
+      inr (
+        not_bad text t,
+        inr (
+          numbers_known text t n (field ++ rest) s,
+          inr (
+            some_rounds text t n (field ++ rest) s,
+            inr (
+              some_cost text t n (field ++ rest) s,
+              inr (
+                in_range text t n (field ++ rest) s c.in_range,
+                inr (below_ceiling text t n (field ++ rest) s c.in_range c.within, inl (refl, (n, field, rest, s, f, bad))),
+              ),
+            ),
+          ),
+        ),
+      ),
+    )
+refused_salt text Md5crypt field rest t s c m f bad = absurd cc
+refused_salt text (Sha256crypt r) field rest t s c m f bad = absurd cc
+refused_salt text (Sha512crypt r) field rest t s c m f bad = absurd cc

@@ -17,11 +17,7 @@ no_dollar : All (λ b. b ≢ dollar) (codes ":;*!\\")
 no_dollar = All-from_recursion (λ b. b ≢ dollar) (codes ":;*!\\") (λ e. omega arith, (λ e. omega arith, (λ e. omega arith, (λ e. omega arith, (λ e. omega arith, tt)))))
 
 dollar_is_byte : IsSettingByte dollar
-dollar_is_byte = record {
-  from = omega arith;
-  to = omega arith;
-  apart = λ inside. All-contains (λ b. b ≢ dollar) (codes ":;*!\\") dollar no_dollar inside refl;
-}
+dollar_is_byte = (omega arith, omega arith, λ inside. All-contains (λ b. b ≢ dollar) (codes ":;*!\\") dollar no_dollar inside refl)
 
 pub hashed_spells : (kept : SettingValue) (digest : List ℕ) → Spells (canonical_text kept) kept
     → Spells (canonical_text kept ++ dollar ∷ packed (method_of kept.scheme) digest) kept

@@ -15,6 +15,7 @@ pub mod PackingLemmas
 pub mod Readings
 pub mod Refusals
 pub mod Rounds
+pub mod Rules
 pub mod ShaCryptLemmas
 pub mod Steps
 pub mod WorkBounds

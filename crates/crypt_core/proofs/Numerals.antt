@@ -6,7 +6,9 @@ use Rattle.std.proofs.lemmas.List.Elements.{All-nil, All-cons, All-append, Conta
 use Rattle.std.proofs.lemmas.Bool.{agree_below_at, eqb-true}
 use Rattle.prims_core.specs.Alphabet.{alphabet, character_of, numerals}
 use Rattle.kdf_core.specs.Params.{ScryptCost, cost_of}
-use Rattle.crypt_core.specs.Settings.{scrypt_part, HasNumerals, scrypt_part_len}
+use Rattle.crypt_core.specs.Settings.{scrypt_part}
+use Rattle.crypt_core.specs.TextLimits.{scrypt_part_len}
+use Rattle.crypt_core.specs.Private.Parts.{HasNumerals}
 use Rattle.crypt_core.proofs.Fields.{same_front}
 
 -- where a character stands in the alphabet
@@ -47,9 +49,9 @@ scrypt_part_unique a b x y fits_a fits_b e =
     let whole = same_front (scrypt_part a) (scrypt_part b) x y (length-scrypt_part a ∙ sym (length-scrypt_part b)) e in
     let first = same_front (numerals 1 a.log_n) (numerals 1 b.log_n) (numerals 5 a.r ++ numerals 5 a.p) (numerals 5 b.r ++ numerals 5 b.p) (length-numerals 1 a.log_n ∙ sym (length-numerals 1 b.log_n)) whole.0 in
     let second = same_front (numerals 5 a.r) (numerals 5 b.r) (numerals 5 a.p) (numerals 5 b.p) (length-numerals 5 a.r ∙ sym (length-numerals 5 b.r)) first.1 in
-    let log_n : a.log_n ≡ b.log_n = numerals_unique 1 a.log_n b.log_n fits_a.log_n fits_b.log_n first.0 in
-    let r : a.r ≡ b.r = numerals_unique 5 a.r b.r fits_a.r fits_b.r second.0 in
-    let p : a.p ≡ b.p = numerals_unique 5 a.p b.p fits_a.p fits_b.p second.1 in
+    let log_n : a.log_n ≡ b.log_n = numerals_unique 1 a.log_n b.log_n fits_a.0 fits_b.0 first.0 in
+    let r : a.r ≡ b.r = numerals_unique 5 a.r b.r fits_a.1 fits_b.1 second.0 in
+    let p : a.p ≡ b.p = numerals_unique 5 a.p b.p fits_a.2 fits_b.2 second.1 in
     (ap (λ (n : ℕ). cost_of n a.r a.p) log_n ∙ ap (λ (n : ℕ). cost_of b.log_n n a.p) r ∙ ap (cost_of b.log_n b.r) p, whole.1)
 
 pub in_alphabet : (v : ℕ) → Contains alphabet (character_of (v % 64))

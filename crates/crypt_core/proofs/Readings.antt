@@ -59,7 +59,7 @@ cost_unique (Sha512crypt r) (Sha512crypt s) p q x y m ca cb e =
     let both = rounds_unique r s p q x y ca cb e in (ap (λ (t : Rounds). Sha512crypt t) both.0, both.1)
 cost_unique (Scrypt r) (Scrypt s) p q x y m ca cb e =
     let same : scrypt_part r ++ x ≡ scrypt_part s ++ y = sym (ap (λ (z : List ℕ). z ++ x) ca.0) ∙ e ∙ ap (λ (z : List ℕ). z ++ y) cb.0 in
-    let both = scrypt_part_unique r s x y ca.1 cb.1 same in (ap (λ (t : ScryptCost). Scrypt t) both.0, both.1)
+    let both = scrypt_part_unique r s x y (ca.1, ca.2, ca.3) (cb.1, cb.2, cb.3) same in (ap (λ (t : ScryptCost). Scrypt t) both.0, both.1)
 cost_unique Md5crypt _ p q x y m ca cb e = absurd cc
 cost_unique (Sha256crypt r) _ p q x y m ca cb e = absurd cc
 cost_unique (Sha512crypt r) _ p q x y m ca cb e = absurd cc
@@ -68,14 +68,14 @@ cost_unique (Scrypt r) _ p q x y m ca cb e = absurd cc
 -- a text begins with one scheme at most
 pub scheme_unique : (text : List ℕ) (a b : Scheme) (x y : List ℕ) → SpellsScheme text a x → SpellsScheme text b y → (a ≡ b) × (x ≡ y)
 scheme_unique text a b x y sa sb =
-    let fronts = prefix_unique (method_of a) (method_of b) (sa.part ++ x) (sb.part ++ y) (sym sa.parts ∙ sb.parts) in
-    cost_unique a b sa.part sb.part x y fronts.0 sa.cost sb.cost fronts.1
+    let fronts = prefix_unique (method_of a) (method_of b) (sa.0 ++ x) (sb.0 ++ y) (sym sa.1 ∙ sb.1) in
+    cost_unique a b sa.0 sb.0 x y fronts.0 sa.2 sb.2 fronts.1
 
-salt_unique : (m : Method) (f s t : List ℕ) → KeepsSalt m f s → KeepsSalt m f t → s ≡ t
-salt_unique methods.Md5crypt f s t a b = a ∙ sym b
-salt_unique methods.Sha256crypt f s t a b = a ∙ sym b
-salt_unique methods.Sha512crypt f s t a b = a ∙ sym b
-salt_unique methods.Scrypt f s t a b = a.0 ∙ sym b.0
+salt_unique : (scheme : Scheme) (f s t : List ℕ) → KeepsSalt scheme f s → KeepsSalt scheme f t → s ≡ t
+salt_unique Md5crypt f s t a b = a ∙ sym b
+salt_unique (Sha256crypt r) f s t a b = a ∙ sym b
+salt_unique (Sha512crypt r) f s t a b = a ∙ sym b
+salt_unique (Scrypt n) f s t a b = a.1 ∙ sym b.1
 
 abbrev kept_of : Scheme → List ℕ → SettingValue
 kept_of scheme salt = record { scheme = scheme; salt = salt }
@@ -85,5 +85,5 @@ pub setting_unique : (text : List ℕ) (a b : SettingValue) → Spells text a �
 setting_unique text a b sa sb =
     let fronts = scheme_unique text a.scheme b.scheme (sa.field ++ sa.rest) (sb.field ++ sb.rest) sa.scheme sb.scheme in
     let fields = field_unique sa.field sb.field sa.rest sb.rest sa.is_field sb.is_field fronts.1 in
-    let salts : a.salt ≡ b.salt = salt_unique (method_of a.scheme) sa.field a.salt b.salt sa.salt (rw (fronts.0, fields.0) sb.salt) in
+    let salts : a.salt ≡ b.salt = salt_unique a.scheme sa.field a.salt b.salt sa.salt (rw (fronts.0, fields.0) sb.salt) in
     ap (λ (s : Scheme). kept_of s a.salt) fronts.0 ∙ ap (kept_of b.scheme) salts

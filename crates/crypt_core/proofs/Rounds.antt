@@ -4,17 +4,18 @@ use Rattle.std.specs.Prelude.{min}
 use Rattle.std.specs.Str.Parse.{digits_value}
 use Rattle.std.proofs.lemmas.List.{append_cancel_left}
 use Rattle.std.proofs.lemmas.List.Elements.{All-cons, All-weaker}
-use Rattle.crypt_core.specs.Rounds.{Rounds, clamped, max_rounds}
+use Rattle.crypt_core.specs.Rounds.{Rounds, clamped}
+use Rattle.crypt_core.specs.RoundsLimits.{max_rounds}
 use Rattle.crypt_core.specs.Settings.{dollar, IsField, rounds_word, rounds_field, IsRoundsNumber, SpellsRounds}
-use Rattle.crypt_core.proofs.Fields.{field_unique}
+use Rattle.crypt_core.proofs.Fields.{ended_by, field_unique}
 
 -- the digits of a proper field go up to its `$`
 pub digits_are_field : (digits rest : List ℕ) → IsRoundsNumber digits → IsField digits (dollar ∷ rest)
 digits_are_field [] rest number = absurd number
-digits_are_field (d ∷ ds) rest number = record {
-  no_dollar = All-cons (λ b. b ≢ dollar) d ds (λ e. omega (arith, number.0)) (All-weaker (λ c. (48 ≤ c) × (c ≤ 57)) (λ b. b ≢ dollar) (λ c range e. omega (arith, range)) ds number.2);
-  ended = refl;
-}
+digits_are_field (d ∷ ds) rest number = (
+  All-cons (λ b. b ≢ dollar) d ds (λ e. omega (arith, number.0)) (All-weaker (λ c. (48 ≤ c) × (c ≤ 57)) (λ b. b ≢ dollar) (λ c range e. omega (arith, range)) ds number.2),
+  ended_by (dollar ∷ rest) refl,
+)
 
 -- what follows the word `rounds=` in a text with a field
 pub field_parts : (digits rest : List ℕ) → rounds_field digits ++ rest ≡ rounds_word ++ (digits ++ (dollar ∷ rest))
@@ -51,13 +52,13 @@ rounds_unique a b p q x y ra rb e =
     let flag : a.is_written ≡ b.is_written = all.1 in
     (ap (λ (n : ℕ). rounds_of n a.is_written) count ∙ ap (rounds_of b.count) flag, all.2)
 
-held_min : (n : ℕ) → clamped (min n max_rounds) ≡ clamped n
-held_min n = omega arith
+clamped_min : (n : ℕ) → clamped (min n max_rounds) ≡ clamped n
+clamped_min n = omega arith
 
--- a proper field, with its held number
+-- a proper field, with its number
 pub written_rounds : (after field digits rest : List ℕ) (number : ℕ) (r : Rounds) → after ≡ rounds_word ++ field → IsRoundsNumber digits → field ≡ digits ++ (dollar ∷ rest) → number ≡ min (digits_value 10 digits) max_rounds → r ≡ record { count = clamped number; is_written = true } → (part : List ℕ) × (after ≡ part ++ rest) × SpellsRounds r part rest
 written_rounds after field digits rest number r begins is_number parts is made = (
   rounds_field digits,
   begins ∙ ap (λ (x : List ℕ). rounds_word ++ x) parts ∙ sym (field_parts digits rest),
-  subst (λ (s : Rounds). SpellsRounds s (rounds_field digits) rest) (sym made) (digits, is_number, refl, ap clamped is ∙ held_min (digits_value 10 digits)),
+  subst (λ (s : Rounds). SpellsRounds s (rounds_field digits) rest) (sym made) (digits, is_number, refl, ap clamped is ∙ clamped_min (digits_value 10 digits)),
 )

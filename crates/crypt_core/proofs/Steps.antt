@@ -13,11 +13,11 @@ use Rattle.std.proofs.lemmas.Int.Digits.{digits_value_more}
 use Rattle.std.proofs.lemmas.Str.{digit_value_digit}
 use Rattle.prims_core.specs.Alphabet.{alphabet, character_of, numerals}
 use Rattle.kdf_core.specs.Params.{cost_of}
-use Rattle.crypt_core.specs.Refusals.{LacksCost, LacksNumber}
-use Rattle.crypt_core.specs.Private.Parts.{HasField}
-use Rattle.crypt_core.specs.Settings.{dollar, IsEndOfField, IsRoundsNumber, scrypt_part, HasNumerals, scrypt_part_len}
-use Rattle.crypt_core.specs.Rounds.{max_rounds}
-use Rattle.crypt_core.proofs.Fields.{field_unique}
+use Rattle.crypt_core.specs.Private.Parts.{HasField, HasNumerals, LacksCharacters, LacksNumber}
+use Rattle.crypt_core.specs.Settings.{dollar, IsRoundsNumber, scrypt_part}
+use Rattle.crypt_core.specs.RoundsLimits.{max_rounds}
+use Rattle.crypt_core.specs.TextLimits.{scrypt_part_len}
+use Rattle.crypt_core.proofs.Fields.{IsEndOfField, end_of, ended_by, field_unique}
 use Rattle.crypt_core.proofs.Rounds.{digits_are_field}
 
 pub on_none : {A : Type 0} (r : Option A) (P : Type 0) → P → IfNone r P
@@ -48,12 +48,12 @@ field_to xs n found =
     let is : n ≡ position_or_len is_dollar xs = found ∙ first_or_length is_dollar xs in (
       drop n xs,
       sym (take-append-drop n xs),
-      record {
-        no_dollar = All-from_get_or (λ b. b ≢ dollar) (take n xs) 0 (λ i lt same.
+      (
+        All-from_get_or (λ b. b ≢ dollar) (take n xs) 0 (λ i lt same.
             let below : i < n = omega (arith, lt, length-take n xs) in
-            eqb-false _ _ (fails_before_first is_dollar xs i 0 (omega (arith, below, is))) (sym (get_or-take n xs i 0 below) ∙ same));
-        ended = ended xs n (λ below. eqb-true _ _ (ap (λ (k : ℕ). is_dollar (get_or xs k 0)) is ∙ passes_at_first is_dollar xs 0 (omega (arith, below, is))));
-      },
+            eqb-false _ _ (fails_before_first is_dollar xs i 0 (omega (arith, below, is))) (sym (get_or-take n xs i 0 below) ∙ same)),
+        ended_by (drop n xs) (ended xs n (λ below. eqb-true _ _ (ap (λ (k : ℕ). is_dollar (get_or xs k 0)) is ∙ passes_at_first is_dollar xs 0 (omega (arith, below, is))))),
+      ),
     )
 
 -- Numbers of rounds
@@ -78,7 +78,7 @@ pub number_parts : (xs : List ℕ) (n : ℕ) → HasField xs (take n xs) → n <
 number_parts xs n h below =
     let rest : h.0 ≡ drop n xs = append_cancel_left (take n xs) h.0 (drop n xs) (sym h.1 ∙ sym (take-append-drop n xs)) in
     let next : drop n xs ≡ get_or xs n 0 ∷ drop (suc n) xs = drop-cons xs n 0 below in
-    let here : get_or xs n 0 ≡ dollar = subst IsEndOfField (rest ∙ next) h.2.ended in
+    let here : get_or xs n 0 ≡ dollar = subst IsEndOfField (rest ∙ next) (end_of h.0 h.2.1) in
     sym (take-append-drop n xs)
     ∙ ap (λ (t : List ℕ). take n xs ++ t)
     (next ∙ ap (λ (c : ℕ). c ∷ drop (suc n) xs) here ∙ ap (λ (k : ℕ). dollar ∷ drop k xs) (sym (add-one n)) ∙ ap (λ (t : List ℕ). dollar ∷ t) (sym (rest_all xs (n + 1))))
@@ -88,22 +88,22 @@ digit_range [] i number lt = absurd number
 digit_range (d ∷ ds) zero number lt = (omega (arith, number.0), number.1)
 digit_range (d ∷ ds) (suc i) number lt = number.2 i 0 (omega arith)
 
--- one more digit, held
-pub held_more : (ds : List ℕ) (i number digit : ℕ) → i < length ds → IsRoundsNumber ds → digit ≡ get_or ds i 0 → number ≡ min (digits_value 10 (take i ds)) max_rounds → min (number * 10 + (digit - 48)) max_rounds ≡ min (digits_value 10 (take (i + 1) ds)) max_rounds
-held_more ds i number digit lt is_number is held_so_far =
+-- one more digit, capped
+pub capped_more : (ds : List ℕ) (i number digit : ℕ) → i < length ds → IsRoundsNumber ds → digit ≡ get_or ds i 0 → number ≡ min (digits_value 10 (take i ds)) max_rounds → min (number * 10 + (digit - 48)) max_rounds ≡ min (digits_value 10 (take (i + 1) ds)) max_rounds
+capped_more ds i number digit lt is_number is so_far =
     let range = digit_range ds i is_number lt in
-    omega (arith, digits_value_more 10 ds i lt, digit_value_digit (get_or ds i 0) range, range, is, held_so_far)
+    omega (arith, digits_value_more 10 ds i lt, digit_value_digit (get_or ds i 0) range, range, is, so_far)
 
 -- The characters of scrypt's cost part
 
 -- a byte outside the alphabet among them
-pub lacks_first : (after : List ℕ) → (Contains alphabet (get_or after 0 0) → ⊥) → LacksCost after
+pub lacks_first : (after : List ℕ) → (Contains alphabet (get_or after 0 0) → ⊥) → LacksCharacters after
 lacks_first after outside part rest len all parts =
     outside (subst (λ (xs : List ℕ). Contains alphabet (get_or xs 0 0)) (sym parts)
     (rw (get_or_append_left part rest 0 0 (omega arith)) (All-get_or (Contains alphabet) part 0 0 (omega arith) all)))
 
 -- five of the characters
-pub lacks_group : (after : List ℕ) (i : ℕ) → i + 5 ≤ scrypt_part_len → ((length (take 5 (drop i after)) ≡ 5) × All (Contains alphabet) (take 5 (drop i after)) → ⊥) → LacksCost after
+pub lacks_group : (after : List ℕ) (i : ℕ) → i + 5 ≤ scrypt_part_len → ((length (take 5 (drop i after)) ≡ 5) × All (Contains alphabet) (take 5 (drop i after)) → ⊥) → LacksCharacters after
 lacks_group after i within outside part rest len all parts =
     let group : take 5 (drop i after) ≡ take 5 (drop i part) =
     ap (λ (xs : List ℕ). take 5 (drop i xs)) parts
@@ -113,10 +113,6 @@ lacks_group after i within outside part rest len all parts =
       ap length group ∙ rw (length-take, length-drop) (omega arith),
       subst (All (Contains alphabet)) (sym group) (All-take (Contains alphabet) 5 (drop i part) (All-drop (Contains alphabet) i part all)),
     )
-
--- too few bytes
-pub lacks_bytes : (after : List ℕ) → length after < scrypt_part_len → LacksCost after
-lacks_bytes after short part rest len all parts = omega (arith, ap length parts, length-append part rest)
 
 one_numeral : (v : ℕ) → v < 64 → numerals 1 v ≡ character_of v ∷ []
 unfolding numerals
@@ -136,4 +132,4 @@ numbers_parts (x ∷ xs) v r p long vs v_is rs r_is ps p_is =
     ∙ ap (λ (t : List ℕ). numerals 1 v ++ (numerals 5 r ++ (t ++ drop 5 (drop 5 xs)))) (sym p_is) in
     let joined : numerals 1 v ++ (numerals 5 r ++ (numerals 5 p ++ drop 5 (drop 5 xs))) ≡ scrypt_part (cost_of v r p) ++ drop 5 (drop 5 xs) =
     sym (append_assoc (numerals 1 v) (numerals 5 r ++ numerals 5 p) (drop 5 (drop 5 xs)) ∙ ap (λ (t : List ℕ). numerals 1 v ++ t) (append_assoc (numerals 5 r) (numerals 5 p) (drop 5 (drop 5 xs)))) in
-    (drop 5 (drop 5 xs), parts ∙ named ∙ joined, record { log_n = vs; r = rs; p = ps })
+    (drop 5 (drop 5 xs), parts ∙ named ∙ joined, (vs, rs, ps))

@@ -19,6 +19,8 @@ pub mod Refusals
 pub mod Replacements
 pub mod RoundMessage
 pub mod Rounds
+pub mod RoundsLimits
+pub mod Rules
 pub mod Schemes
 pub mod SettingFaults
 pub mod Settings

@@ -1,30 +1,20 @@
 -- The rounds of SHA-crypt (Drepper, "Unix crypt using SHA-256 and SHA-512").
-use Rattle.std.specs.Prelude.{◌≡◌, ℕ, ◌≤◌, Bool, false, min, max}
+use Rattle.std.specs.Prelude.{◌≡◌, ℕ, Bool, false, min, max}
 
--- how many there are, and whether the setting has a `rounds=` field
+-- The rounds of a setting: their number, and whether the setting has a `rounds=` field.
 pub record Rounds : Type 0 where
   pub count : ℕ
   pub is_written : Bool
 
-abbrev pub rounds : ℕ → Bool → Rounds
-rounds count is_written = record { count = count; is_written = is_written }
-
--- the fewest rounds, the most, and those of a setting without a field
-abbrev pub min_rounds : ℕ
-min_rounds = 1000
-
-abbrev pub max_rounds : ℕ
-max_rounds = 999999999
-
+-- The rounds of a setting without a field (Drepper, "Unix crypt using SHA-256 and SHA-512").
 abbrev pub default_rounds : ℕ
 default_rounds = 5000
 
--- the nearest number of rounds
+-- clamped n: the number of rounds from 1000 to 999999999 that is nearest to n.
 abbrev pub clamped : ℕ → ℕ
-clamped n = max min_rounds (min n max_rounds)
+clamped n = max 1000 (min n 999999999)
 
--- rounds that a setting can have
+-- IsRounds rounds: a setting can have these rounds. Their number is in range, and without a field it is the default.
 pub record IsRounds (rounds : Rounds) : Type 0 where
-  pub from : min_rounds ≤ rounds.count
-  pub to : rounds.count ≤ max_rounds
+  pub in_range : clamped rounds.count ≡ rounds.count
   pub unwritten : rounds.is_written ≡ false → rounds.count ≡ default_rounds

@@ -1,8 +1,11 @@
 -- How long the texts of settings and of hashes get.
 use Rattle.std.specs.Prelude.{ℕ, ◌+◌, length}
 use Rattle.crypt_core.specs.MethodLimits.{packed_len, prefix, scrypt_salt_limit}
-use Rattle.crypt_core.specs.Settings.{scrypt_part_len}
 use Rattle.crypt_core.specs.declared.method.Method.TheVariants as methods
+
+-- The characters of scrypt's cost part.
+abbrev pub scrypt_part_len : ℕ
+scrypt_part_len = 1 + 5 + 5
 
 -- The most bytes of a canonical text: scrypt's are the longest.
 abbrev pub canonical_limit : ℕ

@@ -1,8 +1,8 @@
 //! Schemes: a method with its cost, and no salt. What depends on these two alone is asked of a scheme: the work of a
 //! hash ([`Scheme::bound`], [`Scheme::cost`]), and whether a newer scheme replaces it.
 
-ghost use Rattle.std.specs.Prelude.{◌≡◌, ◌≤◌, ◌↔◌, IsOk, IfOk, IfErr, IsTrue, true, false};
-ghost use Rattle.crypt_core.specs.MadeSettings.{TakesCost, cost_at, made_rounds, made_scheme, max_cost, min_cost};
+ghost use Rattle.std.specs.Prelude.{◌≡◌, ◌+◌, ◌≤◌, ◌↔◌, IsOk, IfOk, IfErr, IsTrue, true, false};
+ghost use Rattle.crypt_core.specs.MadeSettings.{TakesCost, made_rounds, made_scheme};
 ghost use Rattle.crypt_core.specs.Replacements.{is_replaced_by};
 ghost use Rattle.crypt_core.specs.Rounds.{IsRounds, default_rounds, clamped};
 ghost use Rattle.crypt_core.specs.Schemes.{IsScheme, method_of};
@@ -47,13 +47,13 @@ pub struct Rounds {
 }
 
 impl Model for Rounds {
-    ghost use Rattle.crypt_core.specs.Rounds.{IsRounds, Rounds, rounds};
+    ghost use Rattle.crypt_core.specs.Rounds.{IsRounds, Rounds};
 
     ghost Value = { Rounds };
 
-    ghost view = { λ a. rounds a.count a.is_written };
+    ghost view = { λ a. record { count = a.count; is_written = a.is_written } };
 
-    ghost invariant = { λ a. IsRounds (rounds a.count a.is_written) };
+    ghost invariant = { λ a. IsRounds (record { count = a.count; is_written = a.is_written }) };
 
     ghost inverse = { λ v. record { count = v.count; is_written = v.is_written } };
 }
@@ -191,9 +191,9 @@ mod tests;
 
 // N, r and p of a cost of scrypt.
 fn params_of(cost: u32) -> Params
-    requires from { min_cost ≤ cost }
-    requires to { cost ≤ max_cost }
-    ensures { result ≡ cost_at cost }
+    requires from { 6 ≤ cost }
+    requires to { cost ≤ 11 }
+    ensures { result ≡ record { log_n = cost + 7; r = 32; p = 1 } }
 {
     Params::new((cost + LOG_ABOVE_COST) as u8, BLOCK_SIZE, PARTS).unwrap()
 }

@@ -46,13 +46,14 @@ pub struct Setting {
 }
 
 impl Model for Setting {
-    ghost use Rattle.crypt_core.specs.Settings.{SettingValue, IsSetting};
+    ghost use Rattle.std.specs.Prelude.{ℕ, List};
+    ghost use Rattle.crypt_core.specs.Settings.{SettingValue, Spells};
 
     ghost Value = { SettingValue };
 
     ghost view = { λ a. record { scheme = a.scheme; salt = a.salt.items } };
 
-    ghost invariant = { λ a. IsSetting (record { scheme = a.scheme; salt = a.salt.items }) };
+    ghost invariant = { λ a. (text : List ℕ) × Spells text (record { scheme = a.scheme; salt = a.salt.items }) };
 }
 
 impl Setting {

@@ -5,44 +5,21 @@ use Rattle.std.specs.Prelude.{count_by}
 use Rattle.std.proofs.lemmas.Bool.{cases_Bool}
 use Rattle.std.specs.Borrow.{Bor}
 use Rattle.clap.specs.Words.{Row}
-use Rattle.crypt_core.specs.MadeSettings.{made_scheme}
+use Rattle.crypt_core.specs.MadeSettings.{BreaksMake, IsMakeRefused, made_scheme, make_faults}
 use Rattle.crypt_core.specs.Methods.{method_named}
+use Rattle.crypt_core.specs.Rules.{IsFirstBroken}
 use Rattle.crypt_core.specs.declared.method.Method.{Method}
 use Rattle.crypt_core.specs.declared.setting.fault.MakeFault.{MakeFault}
-use Rattle.crypt_core.specs.declared.setting.fault.MakeFault.TheVariants.{SaltLength, SaltCharacter, Cost}
-use Rattle.run_core.specs.Makers.{BreaksRecipe, IsRecipe, IsRecipeRefused, bytes_of}
+use Rattle.run_core.specs.Makers.{bytes_of}
 use Rattle.run_core.specs.declared.job.Job.{Job}
 use Rattle.mkpasswd.specs.Options.{BreaksUsage, IsJob, IsPlan, Means, cost_of, given_salt, mode_count, type_of}
 use Rattle.mkpasswd.specs.Private.Options.{AsksFor, Keeps, Names}
-use Rattle.mkpasswd.specs.Rules.{IsFirstBroken}
 use Rattle.mkpasswd.specs.declared.fault.UsageFault.{UsageFault}
 use Rattle.mkpasswd.specs.declared.fault.UsageFault.TheVariants.{Parse, Method as UnknownMethod, TwoSalts, TwoModes, Make, OutOfMemory}
 use Rattle.mkpasswd.specs.declared.job.Plan.{Plan}
 use Rattle.mkpasswd.specs.declared.job.Plan.TheVariants.{Methods, One, Batch, Check}
 use Rattle.mkpasswd.specs.declared.options.Arguments.{Arguments}
 use Rattle.mkpasswd.specs.declared.options.Mode.TheVariants.{Input}
-
--- ---- settings that can be made, and their refusals
-
-makeable : (method : Method) (cost : ℕ) (given : Option (List ℕ)) → IsRecipe method cost given → (fault : MakeFault) → ¬ BreaksRecipe method cost given fault
-makeable method cost None takes SaltLength breaks = breaks
-makeable method cost None takes SaltCharacter breaks = breaks
-makeable method cost None takes Cost breaks = breaks takes
-makeable method cost (Some salt) is SaltLength (inl empty) = absurd (omega (arith, is.takes_salt.some))
-makeable method cost (Some salt) is SaltLength (inr long) = absurd (omega (arith, is.takes_salt.short))
-makeable method cost (Some salt) is SaltCharacter breaks = breaks is.takes_salt.characters
-makeable method cost (Some salt) is Cost breaks = breaks is.takes_cost
-
-abbrev make_faults : List MakeFault
-make_faults = SaltLength ∷ SaltCharacter ∷ Cost ∷ []
-
-make_refused : (method : Method) (cost : ℕ) (given : Option (List ℕ)) (fault : MakeFault) → IsRecipeRefused method cost given fault
-    → IsFirstBroken make_faults (BreaksRecipe method cost given) fault
-make_refused method cost None fault (is, breaks) = inr ((λ other. other), inr ((λ other. other), inl (is, breaks)))
-make_refused method cost (Some salt) SaltLength refused = inl (refl, refused.breaks)
-make_refused method cost (Some salt) SaltCharacter refused = inr (refused.first SaltLength (omega arith), inl (refl, refused.breaks))
-make_refused method cost (Some salt) Cost refused =
-    inr (refused.first SaltLength (omega arith), inr (refused.first SaltCharacter (omega arith), inl (refl, refused.breaks)))
 
 -- ---- the rules of the words, in their order
 
@@ -51,32 +28,33 @@ module _ (rows : List Row) where
   known method named none = cc
 
   unbroken_make : (method : Method) (fault : MakeFault) → method_named (type_of rows) ≡ Some method
-      → ¬ BreaksRecipe method (cost_of rows) (given_salt rows) fault → ¬ BreaksUsage rows (Make fault)
+      → ¬ BreaksMake method (cost_of rows) (given_salt rows) fault → ¬ BreaksUsage rows (Make fault)
   unbroken_make method fault named whole (own, own_named, breaks) =
       let same : own ≡ method = cc in
-      whole (subst (λ (m : Method). BreaksRecipe m (cost_of rows) (given_salt rows) fault) same breaks)
+      whole (subst (λ (m : Method). BreaksMake m (cost_of rows) (given_salt rows) fault) same breaks)
 
   unbroken : (method : Method) → Names rows method → ¬ BreaksUsage rows TwoSalts → ¬ BreaksUsage rows TwoModes
-      → IsRecipe method (cost_of rows) (given_salt rows) → (fault : UsageFault) → ¬ BreaksUsage rows fault
+      → ((fault : MakeFault) → ¬ BreaksMake method (cost_of rows) (given_salt rows) fault) → (fault : UsageFault) → ¬ BreaksUsage rows fault
   unbroken method names few_salts few_modes takes (Parse error) breaks = breaks
   unbroken method names few_salts few_modes takes UnknownMethod breaks = known method names.named breaks
   unbroken method names few_salts few_modes takes TwoSalts breaks = few_salts breaks
   unbroken method names few_salts few_modes takes TwoModes breaks = few_modes breaks
   unbroken method names few_salts few_modes takes (Make fault) breaks =
-      unbroken_make method fault names.named (makeable method (cost_of rows) (given_salt rows) takes fault) breaks
+      unbroken_make method fault names.named (takes fault) breaks
   unbroken method names few_salts few_modes takes OutOfMemory breaks = breaks
 
   -- ---- what the code keeps
 
   module _ (given : Arguments) (keeps : Keeps rows given) (method : Method) (salt : Option (Bor (List ℕ))) (names : Names rows method)
       (few_salts : ¬ BreaksUsage rows TwoSalts) (salt_is : bytes_of salt ≡ given_salt rows) (few_modes : ¬ BreaksUsage rows TwoModes) where
-    of_make : (fault : MakeFault) (faults : List MakeFault) → IsFirstBroken faults (BreaksRecipe method (cost_of rows) (given_salt rows)) fault
+    of_make : (fault : MakeFault) (faults : List MakeFault) → IsFirstBroken faults (BreaksMake method (cost_of rows) (given_salt rows)) fault
         → IsFirstBroken (map Make faults) (BreaksUsage rows) (Make fault)
     of_make fault [] broken = broken
     of_make fault (first ∷ others) (inl (is, breaks)) = inl (ap Make is, (method, names.named, breaks))
     of_make fault (first ∷ others) (inr (whole, broken)) = inr (unbroken_make method first names.named whole, of_make fault others broken)
 
-    pub means_make : (fault : MakeFault) → IsRecipeRefused method given.cost (bytes_of salt) fault → Means rows (Err (Make fault))
+    pub means_make : (fault : MakeFault) → IsMakeRefused method given.cost (bytes_of salt) fault → Means rows (Err (Make fault))
+    unfolding IsMakeRefused
     means_make fault refused = (
       names.not_help,
       inr (
@@ -85,7 +63,7 @@ module _ (rows : List Row) where
           few_salts,
           inr (
             few_modes,
-            of_make fault make_faults (make_refused method (cost_of rows) (given_salt rows) fault (rw (keeps.cost, salt_is) at refused)),
+            of_make fault make_faults (rw (keeps.cost, salt_is) at refused),
           ),
         ),
       ),
@@ -102,7 +80,7 @@ module _ (rows : List Row) where
       budget = budget ∙ keeps.budget;
     }
 
-    pub means_plan : IsRecipe method given.cost (bytes_of salt) → (plan : Plan) → IsPlan rows plan → Means rows (Ok plan)
+    pub means_plan : ((fault : MakeFault) → ¬ BreaksMake method given.cost (bytes_of salt) fault) → (plan : Plan) → IsPlan rows plan → Means rows (Ok plan)
     means_plan takes plan is = go plan is where
       whole : (fault : UsageFault) → ¬ BreaksUsage rows fault
       whole = unbroken method names few_salts few_modes (rw (keeps.cost, salt_is) at takes)

@@ -4,7 +4,7 @@ use Rattle.std.proofs.lemmas.Option.{none-some}
 use Rattle.clap.specs.Words.{Row, Text, matches_of}
 use Rattle.rand_core.specs.Stream.{Stream}
 use Rattle.crypt_core.specs.Crypt.{crypt}
-use Rattle.crypt_core.specs.MadeSettings.{made_scheme, made_setting}
+use Rattle.crypt_core.specs.MadeSettings.{made_scheme}
 use Rattle.crypt_core.specs.Methods.{method_named}
 use Rattle.crypt_core.specs.Settings.{BeginsWith}
 use Rattle.crypt_core.specs.declared.method.Method.{Method}
@@ -32,9 +32,9 @@ module _ (name : Text) (method : Method) (named : method_named name ≡ Some met
 -- the answer of their job is the hash alone
 text_by : (method : Method) (salt password : Text) (job : Job) (bytes : Text) (stream : Stream)
     → job.maker ≡ record { scheme = made_scheme method 0; salt = Some salt } → job.work ≡ false → bytes ≡ password
-    → (password_answer job bytes stream).text ≡ as_line (crypt password (made_setting method 0 salt))
+    → (password_answer job bytes stream).text ≡ as_line (crypt password (record { scheme = made_scheme method 0; salt = salt }))
 text_by method salt password job bytes stream maker_is work_is bytes_is =
-    rw (maker_is, work_is, bytes_is) (ap as_line (append-nil (crypt password (made_setting method 0 salt))))
+    rw (maker_is, work_is, bytes_is) (ap as_line (append-nil (crypt password (record { scheme = made_scheme method 0; salt = salt }))))
 
 module _ (name salt password : Text) (method : Method) (named : method_named name ≡ Some method)
     (salt_is : IsNoOption salt) (password_is : IsNoOption password) where
@@ -48,7 +48,7 @@ module _ (name salt password : Text) (method : Method) (named : method_named nam
   same_method own own_named = let own_here = own_named in let named_here = named in cc
 
   prints_job : (rows : List Row) (job : Job) (bytes : Text) (stream : Stream) → IsGiven name salt password rows → IsJob rows job
-      → bytes ≡ password → (password_answer job bytes stream).text ≡ as_line (crypt password (made_setting method 0 salt))
+      → bytes ≡ password → (password_answer job bytes stream).text ≡ as_line (crypt password (record { scheme = made_scheme method 0; salt = salt }))
   prints_job rows job bytes stream found is_job bytes_is =
       let own = same_method is_job.method (rw found.type at is_job.named) in
       text_by method salt password job bytes stream (rw (found.cost, found.salt_is, own) at is_job.maker) (is_job.work ∙ found.work) bytes_is

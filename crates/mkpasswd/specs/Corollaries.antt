@@ -5,7 +5,7 @@ use Rattle.std.specs.Io.KnownBytes.{Appends, IsAtEnd}
 use Rattle.clap.specs.Words.{Text, kind_of}
 use Rattle.clap.specs.declared.error.Error.{Error}
 use Rattle.crypt_core.specs.Crypt.{crypt}
-use Rattle.crypt_core.specs.MadeSettings.{made_setting}
+use Rattle.crypt_core.specs.MadeSettings.{made_scheme}
 use Rattle.crypt_core.specs.Passwords.{IsPassword}
 use Rattle.crypt_core.specs.Settings.{BeginsWith}
 use Rattle.crypt_core.specs.declared.method.Method.{Method}
@@ -85,4 +85,4 @@ IsNoOption word = (word ≡ codes "-") ⊎ ¬ BeginsWith word (codes "-")
 -- The output took the hash of the password with the setting of the method, cost 0 and the salt, and a line feed.
 abbrev pub PrintsHash : {I O E : Type 0} → Method → Text → Text → RunState I O E → RunState I O E → Type 0
 PrintsHash method salt password old new =
-    Appends old.out.shown new.out.shown (as_line (crypt password (made_setting method 0 salt)))
+    Appends old.out.shown new.out.shown (as_line (crypt password (record { scheme = made_scheme method 0; salt = salt })))

@@ -4,7 +4,6 @@ pub mod FaultLines
 pub mod Faults
 pub mod Options
 pub mod Private
-pub mod Rules
 pub use Rattle.run_core.specs.Answers
 pub use Rattle.run_core.specs.Devices
 pub use Rattle.run_core.specs.Input

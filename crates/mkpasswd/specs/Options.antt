@@ -1,5 +1,5 @@
 -- The words after the program's name: the command, what `clap` finds in them, and what they mean.
-use Rattle.std.specs.Prelude.{◌≡◌, ◌≢◌, ◌<◌, ◌⊎◌, ⊤, ℕ, pos, Bool, true, false, List, [], ◌∷◌, count_by, fold, Option, Some, None, IsSome, is_some, Result, Ok, Err, codes, unwrap_or, if◌then◌else◌}
+use Rattle.std.specs.Prelude.{◌≡◌, ◌≢◌, ◌<◌, ◌⊎◌, ⊤, ℕ, pos, Bool, true, false, List, [], ◌∷◌, count_by, fold, map, Option, Some, None, IsSome, is_some, Result, Ok, Err, codes, unwrap_or, if◌then◌else◌}
 use Rattle.std.specs.Option.{option_map, option_map_or}
 use Rattle.std.specs.Str.{bytes_eq}
 use Rattle.std.specs.Str.Parse.{digits_value, without_leading_plus}
@@ -10,14 +10,12 @@ use Rattle.clap.specs.declared.builder.ArgAction.TheVariants.{Set, SetTrue}
 use Rattle.clap.specs.declared.builder.value_parser.ValueParser.TheVariants.{Signed, Unsigned}
 use Rattle.clap.specs.declared.error.Error.{Error}
 use Rattle.clap.specs.declared.error.kind.ErrorKind.TheVariants as kind
-use Rattle.crypt_core.specs.MadeSettings.{made_scheme}
+use Rattle.crypt_core.specs.MadeSettings.{BreaksMake, made_scheme, make_faults}
 use Rattle.crypt_core.specs.Methods.{method_named}
+use Rattle.crypt_core.specs.Rules.{IsFirstBroken}
 use Rattle.crypt_core.specs.declared.method.Method.{Method}
-use Rattle.crypt_core.specs.declared.setting.fault.MakeFault.TheVariants as make
-use Rattle.run_core.specs.Makers.{BreaksRecipe}
 use Rattle.run_core.specs.declared.job.Job.{Job}
 use Rattle.run_core.specs.declared.job.PasswordFrom.TheVariants.{Word, Input}
-use Rattle.mkpasswd.specs.Rules.{IsFirstBroken}
 use Rattle.mkpasswd.specs.declared.fault.UsageFault.{UsageFault}
 use Rattle.mkpasswd.specs.declared.fault.UsageFault.TheVariants.{Parse, Method as UnknownMethod, TwoSalts, TwoModes, Make, OutOfMemory}
 use Rattle.mkpasswd.specs.declared.job.Plan.{Plan}
@@ -80,7 +78,7 @@ mode_count rows = count_by (λ given. given)
 
 -- the refusals, in the order of their rules
 abbrev pub usage_faults : List UsageFault
-usage_faults = UnknownMethod ∷ TwoSalts ∷ TwoModes ∷ Make make.SaltLength ∷ Make make.SaltCharacter ∷ Make make.Cost ∷ []
+usage_faults = UnknownMethod ∷ TwoSalts ∷ TwoModes ∷ map Make make_faults
 
 -- The words break the rule of a refusal: TYPE names no method; the salt was given in both ways; more than one mode was
 -- asked for; or no setting can be made of the method, the cost and the salt. `Parse` and `OutOfMemory` have no rule here.
@@ -89,7 +87,7 @@ BreaksUsage rows UnknownMethod = method_named (type_of rows) ≡ None
 BreaksUsage rows TwoSalts = IsSome (first_of (codes "salt") rows) × IsSome (first_of (codes "salt-word") rows)
 BreaksUsage rows TwoModes = 1 < mode_count rows
 BreaksUsage rows (Make fault) =
-    (method : Method) × (method_named (type_of rows) ≡ Some method) × BreaksRecipe method (cost_of rows) (given_salt rows) fault
+    (method : Method) × (method_named (type_of rows) ≡ Some method) × BreaksMake method (cost_of rows) (given_salt rows) fault
 BreaksUsage rows fault = ⊥
 
 -- The job that the words ask for: settings are made of the method, the cost and the salt; new hashes are wanted if

@@ -17,5 +17,6 @@ pub mod LinesOf
 pub mod LookingThrough
 pub mod Moving
 pub mod Reading
+pub mod Recipes
 pub mod Sending
 pub mod Showing

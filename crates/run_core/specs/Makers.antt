@@ -1,18 +1,15 @@
 -- How a run gets the setting of each hash: a scheme, and a salt that was given once or is made for each hash.
-use Rattle.std.specs.Prelude.{◌≡◌, ℕ, List, length, Option, Some, None, is_some, option_map, if◌then◌else◌}
+use Rattle.std.specs.Prelude.{ℕ, List, length, Option, is_some, option_map, if◌then◌else◌}
 use Rattle.std.specs.Borrow.{Bor}
 use Rattle.std.specs.Option.{option_map_or}
 use Rattle.rand_core.specs.Stream.{Stream}
 use Rattle.crypt_core.specs.MadeSalts.{three_words}
-use Rattle.crypt_core.specs.MadeSettings.{BreaksMake, IsMakeable, IsMakeRefused, TakesCost, TakesSalt, salted}
+use Rattle.crypt_core.specs.MadeSettings.{salted}
 use Rattle.crypt_core.specs.Methods.{method_row}
 use Rattle.crypt_core.specs.Schemes.{method_of}
 use Rattle.crypt_core.specs.Settings.{SettingValue}
 use Rattle.crypt_core.specs.Work.{cost_by}
-use Rattle.crypt_core.specs.declared.method.Method.{Method}
 use Rattle.crypt_core.specs.declared.scheme.Scheme.{Scheme}
-use Rattle.crypt_core.specs.declared.setting.fault.MakeFault.{MakeFault}
-use Rattle.crypt_core.specs.declared.setting.fault.MakeFault.TheVariants.{Cost}
 
 -- What settings are made of: a scheme, and a salt if one was given. Without one each setting gets a new salt.
 pub record Recipe : Type 0 where
@@ -22,27 +19,6 @@ pub record Recipe : Type 0 where
 -- the bytes of a reference, if there is one
 abbrev pub bytes_of : Option (Bor (List ℕ)) → Option (List ℕ)
 bytes_of = option_map (λ bytes. bytes.now)
-
--- a salt that was given is one that the method takes
-abbrev pub TakesGiven : Method → Option (List ℕ) → Type 0
-TakesGiven method None = Unit {0}
-TakesGiven method (Some salt) = TakesSalt method salt
-
--- what a recipe is made of: the method takes the cost, and the salt if one was given
-abbrev pub IsRecipe : Method → ℕ → Option (List ℕ) → Type 0
-IsRecipe method cost None = TakesCost method cost
-IsRecipe method cost (Some salt) = IsMakeable method cost salt
-
--- the first rule that is broken otherwise; without a salt only the cost can break one
-abbrev pub IsRecipeRefused : Method → ℕ → Option (List ℕ) → MakeFault → Type 0
-IsRecipeRefused method cost None fault = (fault ≡ Cost) × ¬ TakesCost method cost
-IsRecipeRefused method cost (Some salt) fault = IsMakeRefused method cost salt fault
-
--- A method, a cost and the salt, if one was given, break the rule of a refusal. Without a salt only the cost can.
-abbrev pub BreaksRecipe : Method → ℕ → Option (List ℕ) → MakeFault → Type 0
-BreaksRecipe method cost given Cost = ¬ TakesCost method cost
-BreaksRecipe method cost None fault = ⊥
-BreaksRecipe method cost (Some salt) fault = BreaksMake fault method cost salt
 
 -- a setting with the salt that was given, or with a new one that these words make
 abbrev pub setting_by : Recipe → List ℕ → SettingValue

@@ -1,9 +1,8 @@
 -- The list of the methods.
-use Rattle.std.specs.Prelude.{ℕ, List, ◌++◌, codes}
+use Rattle.std.specs.Prelude.{ℕ, List, ◌++◌, codes, flat_map}
+use Rattle.crypt_core.specs.Methods.{method_row, methods}
 use Rattle.run_core.specs.Texts.{as_line}
 
--- a heading and the name of each method, each on a line of its own
+-- a heading, and the name of each method on a line of its own
 abbrev pub methods_text : List ℕ
-methods_text =
-    as_line (codes "Available methods:") ++ as_line (codes "md5crypt") ++ as_line (codes "sha256crypt")
-    ++ as_line (codes "sha512crypt") ++ as_line (codes "scrypt")
+methods_text = as_line (codes "Available methods:") ++ flat_map (λ method. as_line (method_row method).name) methods

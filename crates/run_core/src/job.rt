@@ -3,13 +3,13 @@
 ghost use Rattle.std.specs.Prelude.{◌≡◌, ◌↔◌, ◌&&◌, ℕ, ◌^◌, ◌<◌, ◌≤◌, List, Err, IsOk, IfOk, IfErr, is_some, length, not};
 ghost use Rattle.std.specs.Option.{option_map_or};
 ghost use Rattle.crypt_core.specs.declared.setting.fault.MakeFault.{MakeFault as Fault};
-ghost use Rattle.crypt_core.specs.MadeSettings.{made_scheme};
+ghost use Rattle.crypt_core.specs.MadeSettings.{BreaksMake, IsMakeRefused, made_scheme};
 ghost use Rattle.crypt_core.specs.MethodLimits.{made_salt_length, salt_limit};
 ghost use Rattle.crypt_core.specs.Passwords.{password_limit};
 ghost use Rattle.crypt_core.specs.Replacements.{is_replaced_by};
 ghost use Rattle.crypt_core.specs.Schemes.{method_of};
 ghost use Rattle.crypt_core.specs.Work.{cost};
-ghost use Rattle.run_core.specs.Makers.{IsRecipe, IsRecipeRefused, bytes_of, made_cost_by, next_setting, setting_by, stream_after};
+ghost use Rattle.run_core.specs.Makers.{bytes_of, made_cost_by, next_setting, setting_by, stream_after};
 
 use arrayvec::ArrayVec;
 use crypt_core::made_salt::{draw, made_salt_length};
@@ -61,14 +61,16 @@ pub struct Maker {
 
 impl Model for Maker {
     ghost use Rattle.std.specs.Prelude.{option_map};
+    ghost use Rattle.crypt_core.specs.MadeSettings.{BreaksMake};
     ghost use Rattle.crypt_core.specs.Schemes.{method_of};
-    ghost use Rattle.run_core.specs.Makers.{Recipe, TakesGiven};
+    ghost use Rattle.crypt_core.specs.declared.setting.fault.MakeFault.{MakeFault};
+    ghost use Rattle.run_core.specs.Makers.{Recipe};
 
     ghost Value = { Recipe };
 
     ghost view = { λ a. record { scheme = a.scheme; salt = option_map (λ salt. salt.items) a.salt } };
 
-    ghost invariant = { λ a. TakesGiven (method_of a.scheme) (option_map (λ salt. salt.items) a.salt) };
+    ghost invariant = { λ a. (fault : MakeFault) → ¬ BreaksMake (method_of a.scheme) 0 (option_map (λ salt. salt.items) a.salt) fault };
 }
 
 impl Maker {
@@ -81,9 +83,9 @@ impl Maker {
     /// As [`Setting::make`] returns them. Without a salt `Cost` is the only one.
     pub fn new(method: Method, cost: u32, salt: Option<&[u8]>) -> Result<Maker, MakeFault>
         ensures made { IfOk result (λ maker. maker ≡ record { scheme = made_scheme method cost; salt = bytes_of salt.entry }) }
-        ensures accepted { IsOk result ↔ IsRecipe method cost (bytes_of salt.entry) }
-        ensures refused { IfErr result (IsRecipeRefused method cost (bytes_of salt.entry)) }
-        ensures each_refusal { (fault : Fault) → IsRecipeRefused method cost (bytes_of salt.entry) fault
+        ensures accepted { IsOk result ↔ ((fault : Fault) → ¬ BreaksMake method cost (bytes_of salt.entry) fault) }
+        ensures refused { IfErr result (IsMakeRefused method cost (bytes_of salt.entry)) }
+        ensures each_refusal { (fault : Fault) → IsMakeRefused method cost (bytes_of salt.entry) fault
             → result ≡ Err fault }
     {
         match salt {

@@ -41,7 +41,7 @@ const VERDICTS: [(&str, &str, bool); 10] = [
         "$5$saltstring$5B8vYYiY.CVt1RlTTf8KbXBH3hsxY/GNooZaBBGWEc",
         false,
     ),
-    // 10 rounds are held at 1000, and the hash says so: the text that was stored is none of crypt(3)'s
+    // 10 rounds are clamped to 1000, and the hash says so: the text that was stored is none of crypt(3)'s
     (
         "the minimum number is still observed",
         "$6$rounds=10$roundstoolow$kUMsbe306n21p9R.FRkW3IGn.S9NPN0x50YhH1xhLsPuWGsUSklZt58jaTfF4ZEQpyUNGc0dqbpBYYBaHHrsX.",

@@ -1,18 +1,19 @@
 //! Reading a setting's text, or naming the first rule that it breaks.
 //!
 //! The prefix, the cost part and the salt are taken off the front, one after another. It takes no
-//! memory and no meter, and a number of any length is held while it is read.
+//! memory and no meter, and a number of any length is capped while it is read.
 
 ghost use Rattle.std.specs.Prelude.{◌≡◌, ◌≤◌, ◌↔◌, length, ◌++◌, min, take, IsTrue, IfOk, IfErr, OnOk, OnSome, IfSome, IfNone};
 ghost use Rattle.std.specs.Str.Parse.{digits_value};
 ghost use Rattle.kdf_core.specs.Params.{cost_of, IsAccepted};
 ghost use Rattle.crypt_core.specs.declared.setting.fault.SettingFault.{SettingFault as Refusal};
 ghost use Rattle.crypt_core.specs.MethodLimits.{prefix};
-ghost use Rattle.crypt_core.specs.Private.Parts.{AllRefused, HasField, HasNumber, HasNumbers, HasRounds, SpellsSalt, LacksSalt, field_rounds};
+ghost use Rattle.crypt_core.specs.Private.Parts.{AllRefused, HasField, HasNumber, HasNumbers, HasRounds, IsSettingText, IsShaText, LacksCharacters, LacksNumber, LacksSalt, SpellsSalt, field_rounds};
 ghost use Rattle.crypt_core.specs.Readings.{IsReadOneWay};
-ghost use Rattle.crypt_core.specs.Refusals.{IsRefused, IsShaText, LacksCost, LacksNumber};
-ghost use Rattle.crypt_core.specs.Settings.{SettingValue, IsSettingByte, IsSettingText, IsRoundsNumber, scrypt_part_len, IsScryptSalt, SpellsScheme, Spells};
-ghost use Rattle.crypt_core.specs.Rounds.{max_rounds};
+ghost use Rattle.crypt_core.specs.Refusals.{IsRefused};
+ghost use Rattle.crypt_core.specs.Settings.{SettingValue, IsSettingByte, IsRoundsNumber, IsScryptSalt, SpellsScheme, Spells};
+ghost use Rattle.crypt_core.specs.RoundsLimits.{max_rounds};
+ghost use Rattle.crypt_core.specs.TextLimits.{scrypt_part_len};
 
 use super::fault::SettingFault;
 use super::{COST_CHARACTERS, ROUNDS_WORD, SETTING_LIMIT, Setting, in_alphabet};
@@ -38,10 +39,13 @@ impl Setting {
     {
         check_bytes(text)?;
         match scheme_at(text) {
-            Ok((scheme, after)) => match salt_at(scheme.method(), after) {
-                Some(salt) => Ok(Setting { scheme, salt }),
-                None => Err(SettingFault::BadSalt),
-            },
+            Ok((scheme, after)) => {
+                prove!(scheme.is_in_range());
+                match salt_at(scheme.method(), after) {
+                    Some(salt) => Ok(Setting { scheme, salt }),
+                    None => Err(SettingFault::BadSalt),
+                }
+            }
             Err(fault) => Err(fault),
         }
     }
@@ -140,7 +144,7 @@ fn is_rounds_number(digits: &[u8]) -> bool
     }
 }
 
-// The number that the digits say, or the most rounds where it is larger. It is held digit by digit, so
+// The number that the digits say, or the most rounds if it is larger. It is capped after each digit, so
 // that no number of digits overflows.
 fn capped_number(digits: &[u8]) -> u64
     requires { IsRoundsNumber digits.now }
@@ -171,7 +175,7 @@ fn params_at(after: &[u8]) -> Result<Params, SettingFault>
 
 // log2 N, r and p by their characters.
 fn numbers_at(after: &[u8]) -> Option<(u8, u32, u32)>
-    ensures none { IfNone result (LacksCost after.now) }
+    ensures none { IfNone result (LacksCharacters after.now) }
     ensures long { OnSome result (scrypt_part_len ≤ length after.now) }
     ensures some { IfSome result (λ x. HasNumbers after.now (cost_of x.0 x.1 x.2)) }
 {

@@ -17,7 +17,7 @@ impl Setting {
     /// setting. With a `$` and the text of the method's digest it stays within
     /// [`HASH_LIMIT`](crate::hash::HASH_LIMIT).
     ///
-    /// A `rounds=` field stands exactly where the setting had one, with the held number.
+    /// It has a `rounds=` field exactly if the setting had one, with the number that is kept.
     pub fn text(&self) -> ArrayVec<u8, TEXT_CAPACITY>
         ensures canonical { result.items ≡ canonical_text self.now }
         ensures spelled { Spells (canonical_text self.now) self.now }

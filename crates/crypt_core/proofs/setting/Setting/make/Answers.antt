@@ -1,8 +1,12 @@
-use Rattle.std.proofs.Common.{◌≡◌, ◌∙◌, ap, subst, sym}
-use Rattle.crypt_core.specs.MadeSettings.{TakesSalt}
+use Rattle.std.proofs.Common.{◌≡◌, ◌∙◌, ap, rules, subst, sym}
+use Rattle.std.specs.Prelude.{Err, Some}
+use Rattle.crypt_core.specs.declared.setting.fault.MakeFault.{MakeFault}
+use Rattle.crypt_core.specs.declared.setting.fault.MakeFault.TheVariants.{Cost}
+use Rattle.crypt_core.specs.MadeSettings.{IsMakeRefused, TakesCost}
+use Rattle.crypt_core.specs.Private.Parts.{TakesSalt}
 use Rattle.crypt_core.specs.Schemes.{method_of}
 use Rattle.crypt_core.specs.declared.method.Method.{Method}
-use Rattle.crypt_core.proofs.Making.{given, made_method, taken_breaks_none}
+use Rattle.crypt_core.proofs.Making.{accepted, given, made_method, make_refused_cost, make_refusal_unique, not_accepted, only_make_refusal, taken}
 use Rattle.crypt_core.proofs.setting.Setting.make.Goals as goal
 
 pub invariant_of-result : goal.invariant_of-result
@@ -11,9 +15,31 @@ invariant_of-result c =
     let takes : TakesSalt (method_of c.in_ok-scheme-in-Ok.scheme) c.args.salt.now = subst (λ (m : Method). TakesSalt m c.args.salt.now) (sym method_is) c.in-Ok.ensures.ok in
     given c.in_ok-scheme-in-Ok.scheme c.in-Ok.salt.items c.args.salt.now c.is_in_range.ensures.in_range takes c.in-Ok.ensures.kept
 
-pub returns-in-Err-clause-accepted : goal.returns-in-Err-clause-accepted
-returns-in-Err-clause-accepted c =
-    (λ e. absurd (cc e), λ made. absurd (taken_breaks_none c.args.method c.args.salt.now made.takes_salt c.in-Err.fault c.in-Err.ensures.err))
-
 pub returns-in-Err-clause-refused : goal.returns-in-Err-clause-refused
 returns-in-Err-clause-refused c = c.in-Err.ensures.err c.args.cost
+
+pub returns-in_err-scheme-in-Ok-clause-refused : goal.returns-in_err-scheme-in-Ok-clause-refused
+returns-in_err-scheme-in-Ok-clause-refused c =
+    let cost : TakesCost c.args.method c.args.cost → ⊥ = search rules in
+    let refused : IsMakeRefused c.args.method c.args.cost (Some c.args.salt.now) Cost = make_refused_cost c.args.method c.args.cost c.args.salt.now c.in-Ok.ensures.ok cost in
+    search (rules, refused)
+
+pub returns-in_err-scheme-in-Ok-clause-accepted : goal.returns-in_err-scheme-in-Ok-clause-accepted
+returns-in_err-scheme-in-Ok-clause-accepted c =
+    accepted c.args.method c.args.cost (Some c.args.salt.now) c.from_residual.result (search rules) (returns-in_err-scheme-in-Ok-clause-refused c)
+
+pub returns-in_err-scheme-in-Ok-clause-each_refusal : goal.returns-in_err-scheme-in-Ok-clause-each_refusal
+returns-in_err-scheme-in-Ok-clause-each_refusal c =
+    only_make_refusal c.args.method c.args.cost (Some c.args.salt.now) c.from_residual.result (search rules) (returns-in_err-scheme-in-Ok-clause-refused c)
+
+pub returns-in_ok-scheme-in-Ok-clause-each_refusal : goal.returns-in_ok-scheme-in-Ok-clause-each_refusal
+returns-in_ok-scheme-in-Ok-clause-each_refusal c =
+    let cost : TakesCost c.args.method c.args.cost = search rules in
+    only_make_refusal c.args.method c.args.cost (Some c.args.salt.now) _ (taken c.args.method c.args.cost c.args.salt.now c.in-Ok.ensures.ok cost) tt
+
+pub returns-in-Err-clause-accepted : goal.returns-in-Err-clause-accepted
+returns-in-Err-clause-accepted c = not_accepted c.args.method c.args.cost (Some c.args.salt.now) c.in-Err.fault (c.in-Err.ensures.err c.args.cost)
+
+pub returns-in-Err-clause-each_refusal : goal.returns-in-Err-clause-each_refusal
+returns-in-Err-clause-each_refusal c = λ fault refused.
+    ap (λ (f : MakeFault). Err f) (make_refusal_unique c.args.method c.args.cost (Some c.args.salt.now) c.in-Err.fault fault (c.in-Err.ensures.err c.args.cost) refused)

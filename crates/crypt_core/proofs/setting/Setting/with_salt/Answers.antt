@@ -1,8 +1,10 @@
 use Rattle.std.proofs.Common.{subst}
-use Rattle.crypt_core.specs.MadeSettings.{IsMakeRefused, TakesSalt}
+use Rattle.std.specs.Prelude.{Some}
+use Rattle.crypt_core.specs.MadeSettings.{IsMakeRefused}
+use Rattle.crypt_core.specs.Private.Parts.{TakesSalt}
 use Rattle.crypt_core.specs.Schemes.{method_of}
 use Rattle.crypt_core.specs.declared.method.Method.{Method}
-use Rattle.crypt_core.proofs.Making.{given, taken_breaks_none}
+use Rattle.crypt_core.proofs.Making.{given, not_accepted}
 use Rattle.crypt_core.proofs.setting.Setting.with_salt.Goals as goal
 
 pub invariant_of-result : goal.invariant_of-result
@@ -12,9 +14,7 @@ invariant_of-result c =
 
 pub returns-in-Err-clause-refused : goal.returns-in-Err-clause-refused
 returns-in-Err-clause-refused c = λ cost.
-    subst (λ (m : Method). IsMakeRefused m cost c.args.salt.now c.in-Err.fault) c.method.ensures (c.in-Err.ensures.err cost)
+    subst (λ (m : Method). IsMakeRefused m cost (Some c.args.salt.now) c.in-Err.fault) c.method.ensures (c.in-Err.ensures.err cost)
 
 pub returns-in-Err-clause-accepted : goal.returns-in-Err-clause-accepted
-returns-in-Err-clause-accepted c =
-    let refused = returns-in-Err-clause-refused c in
-    (λ e. absurd (cc e), λ takes. absurd (taken_breaks_none (method_of c.args.scheme) c.args.salt.now takes c.in-Err.fault refused))
+returns-in-Err-clause-accepted c = not_accepted (method_of c.args.scheme) 0 (Some c.args.salt.now) c.in-Err.fault (returns-in-Err-clause-refused c 0)

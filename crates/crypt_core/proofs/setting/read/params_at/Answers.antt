@@ -1,18 +1,15 @@
-use Rattle.std.proofs.Common.{ℕ, List, ◌++◌, ap, ◌∙◌}
 use Rattle.kdf_core.specs.Params.{cost_of}
-use Rattle.crypt_core.specs.declared.method.Method.TheVariants as methods
-use Rattle.crypt_core.specs.MethodLimits.{prefix}
-use Rattle.crypt_core.proofs.First.{refused_cost, refused_range, refused_ceiling}
+use Rattle.crypt_core.proofs.First.{refused_cost, refused_range, refused_ceiling, spelled_numbers}
 use Rattle.crypt_core.proofs.setting.read.params_at.Goals as goal
 
 pub returns-in_default-clause-err : goal.returns-in_default-clause-err
-returns-in_default-clause-err c = λ text t e. refused_cost text c.args.after.now t e c.in_default.ensures.none
+returns-in_default-clause-err c = λ text t e. refused_cost text t c.args.after.now e c.in_default.ensures.none
 
 pub returns-in-Err-Range-clause-err : goal.returns-in-Err-Range-clause-err
 returns-in-Err-Range-clause-err c = λ text t e.
     let n = cost_of c.in-Some.log_n c.in-Some.r c.in-Some.p in
     let found = c.in-Some.ensures.some in
-    refused_range text n found.0 t (record { parts = e ∙ ap (λ (x : List ℕ). prefix methods.Scrypt ++ x) found.1; numbers = found.2 })
+    refused_range text t n found.0 (spelled_numbers text n c.args.after.now found.0 e found.1 found.2)
     (c.in-Err-Range.ensures.range.0 (cc c.in-Err-Range.field-0-is))
 
 pub returns-in-Err-AboveCeiling-clause-err : goal.returns-in-Err-AboveCeiling-clause-err
@@ -20,4 +17,4 @@ returns-in-Err-AboveCeiling-clause-err c = λ text t e.
     let n = cost_of c.in-Some.log_n c.in-Some.r c.in-Some.p in
     let found = c.in-Some.ensures.some in
     let above = c.in-Err-AboveCeiling.ensures.ceiling.0 (cc c.in-Err-AboveCeiling.field-0-is) in
-    refused_ceiling text n found.0 t (record { parts = e ∙ ap (λ (x : List ℕ). prefix methods.Scrypt ++ x) found.1; numbers = found.2 }) above.0 above.1
+    refused_ceiling text t n found.0 (spelled_numbers text n c.args.after.now found.0 e found.1 found.2) above.0 above.1

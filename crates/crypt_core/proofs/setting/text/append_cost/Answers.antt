@@ -1,6 +1,7 @@
 use Rattle.std.proofs.Common.{◌≡◌, length, ap, ◌∙◌, arith}
 use Rattle.crypt_core.specs.declared.scheme.Scheme.{Scheme}
-use Rattle.crypt_core.specs.Settings.{cost_part, scrypt_part_len}
+use Rattle.crypt_core.specs.Settings.{cost_part}
+use Rattle.crypt_core.specs.TextLimits.{scrypt_part_len}
 use Rattle.crypt_core.proofs.Numerals.{length-scrypt_part}
 use Rattle.crypt_core.proofs.Making.{accepted_numerals}
 use Rattle.crypt_core.proofs.setting.text.append_cost.Goals as goal
@@ -22,12 +23,12 @@ put_group-requires-in-Scrypt-2-clause-room c =
 
 pub put_group-requires-clause-fits : goal.put_group-requires-clause-fits
 put_group-requires-clause-fits c =
-    omega (arith, c.from.ensures, c.log_n.ensures.number, (accepted_numerals c.in-Scrypt.params c.log_n.ensures.accepted).log_n)
+    omega (arith, c.from.ensures, c.log_n.ensures.number, (accepted_numerals c.in-Scrypt.params c.log_n.ensures.accepted).0)
 
 pub put_group-requires-in-Scrypt-clause-fits : goal.put_group-requires-in-Scrypt-clause-fits
 put_group-requires-in-Scrypt-clause-fits c =
-    omega (arith, c.r.ensures.number, (accepted_numerals c.in-Scrypt.params c.log_n.ensures.accepted).r)
+    omega (arith, c.r.ensures.number, (accepted_numerals c.in-Scrypt.params c.log_n.ensures.accepted).1)
 
 pub put_group-requires-in-Scrypt-2-clause-fits : goal.put_group-requires-in-Scrypt-2-clause-fits
 put_group-requires-in-Scrypt-2-clause-fits c =
-    omega (arith, c.p.ensures.number, (accepted_numerals c.in-Scrypt.params c.log_n.ensures.accepted).p)
+    omega (arith, c.p.ensures.number, (accepted_numerals c.in-Scrypt.params c.log_n.ensures.accepted).2)

@@ -1,10 +1,14 @@
 use Rattle.std.proofs.Common.{◌≡◌, ℕ, List, ap, refl, subst, sym, ◌∙◌, rules}
-use Rattle.crypt_core.specs.MadeSettings.{TakesSalt, made_scheme}
+use Rattle.std.specs.Prelude.{◌↔◌, Err, None, Option, Some}
+use Rattle.crypt_core.specs.MadeSettings.{BreaksMake, IsMakeRefused, made_scheme}
 use Rattle.crypt_core.specs.Schemes.{method_of}
 use Rattle.crypt_core.specs.Settings.{SettingValue}
 use Rattle.crypt_core.specs.declared.method.Method.{Method}
 use Rattle.crypt_core.specs.declared.method.Method.TheVariants.{Md5crypt, Sha256crypt, Sha512crypt, Scrypt}
 use Rattle.crypt_core.specs.declared.scheme.Scheme.{Scheme}
+use Rattle.crypt_core.specs.declared.setting.fault.MakeFault.{MakeFault}
+use Rattle.run_core.specs.Makers.{bytes_of}
+use Rattle.run_core.proofs.Recipes.{only_cost, refused_for_cost, refused_made, with_zero}
 use Rattle.run_core.proofs.job.Maker.new.Goals as goal
 
 made_method : (method : Method) (cost : ℕ) → method_of (made_scheme method cost) ≡ method
@@ -15,9 +19,42 @@ made_method Scrypt cost = refl
 
 pub invariant_of-result : goal.invariant_of-result
 invariant_of-result c =
-    let taken : TakesSalt c.args.method c.in-Some.salt.now = (c.in-Ok.ensures.accepted.0 refl).takes_salt in
+    let taken = with_zero c.args.method c.args.cost (Some c.in-Some.salt.now) (c.in-Ok.ensures.accepted.0 refl) in
     let scheme_is : c.scheme.result ≡ made_scheme c.args.method c.args.cost = c.scheme.ensures ∙ ap (λ (s : SettingValue). s.scheme) c.in-Ok.ensures.made in
     let method_is : method_of c.scheme.result ≡ c.args.method = ap (λ (s : Scheme). method_of s) scheme_is ∙ made_method c.args.method c.args.cost in
     let copied : c.unwrap.result.items ≡ c.in-Some.salt.now = search rules in
-    subst (λ (m : Method). TakesSalt m c.unwrap.result.items) (sym method_is)
-    (subst (λ (xs : List ℕ). TakesSalt c.args.method xs) (sym copied) taken)
+    subst (λ (m : Method). (fault : MakeFault) → ¬ BreaksMake m 0 (Some c.unwrap.result.items) fault) (sym method_is)
+    (subst (λ (xs : List ℕ). (fault : MakeFault) → ¬ BreaksMake c.args.method 0 (Some xs) fault) (sym copied) taken)
+
+-- what is said of a salt that was given, is of the argument
+moved : (P : Type 0) (method : Method) (cost : ℕ) (given other : Option (List ℕ)) → given ≡ other
+    → (P ↔ ((fault : MakeFault) → ¬ BreaksMake method cost other fault)) → P ↔ ((fault : MakeFault) → ¬ BreaksMake method cost given fault)
+moved P method cost given other is accepted =
+    subst (λ (salt : Option (List ℕ)). P ↔ ((fault : MakeFault) → ¬ BreaksMake method cost salt fault)) (sym is) accepted
+
+pub returns-in-Ok-clause-accepted : goal.returns-in-Ok-clause-accepted
+returns-in-Ok-clause-accepted c = moved _ c.args.method c.args.cost (bytes_of c.args.salt) (Some c.in-Some.salt.now) (ap bytes_of c.in-Some.is) c.in-Ok.ensures.accepted
+
+pub returns-in-Err-clause-accepted : goal.returns-in-Err-clause-accepted
+returns-in-Err-clause-accepted c = moved _ c.args.method c.args.cost (bytes_of c.args.salt) (Some c.in-Some.salt.now) (ap bytes_of c.in-Some.is) c.in-Err.ensures.accepted
+
+pub returns-in-Err-made-clause-accepted : goal.returns-in-Err-made-clause-accepted
+returns-in-Err-made-clause-accepted c =
+    moved _ c.args.method c.args.cost (bytes_of c.args.salt) None (ap bytes_of c.in-None.is) (refused_made c.args.method c.args.cost c.in-Err-made.ensures.accepted)
+
+pub returns-in-Err-made-clause-refused : goal.returns-in-Err-made-clause-refused
+returns-in-Err-made-clause-refused c =
+    subst (λ (salt : Option (List ℕ)). IsMakeRefused c.args.method c.args.cost salt c.in-Err-made.fault) (sym (ap bytes_of c.in-None.is))
+    (refused_for_cost c.args.method c.args.cost c.in-Err-made.fault c.in-Err-made.ensures.refused c.in-Err-made.ensures.accepted)
+
+pub returns-in-Err-made-clause-each_refusal : goal.returns-in-Err-made-clause-each_refusal
+returns-in-Err-made-clause-each_refusal c = λ fault refused.
+    let alone : IsMakeRefused c.args.method c.args.cost None fault =
+    subst (λ (salt : Option (List ℕ)). IsMakeRefused c.args.method c.args.cost salt fault) (ap bytes_of c.in-None.is) refused in
+    ap (λ (f : MakeFault). Err f) (c.in-Err-made.ensures.refused ∙ sym (only_cost c.args.method c.args.cost fault alone).0)
+
+pub returns-in-Ok-made-clause-each_refusal : goal.returns-in-Ok-made-clause-each_refusal
+returns-in-Ok-made-clause-each_refusal c = λ fault refused.
+    let alone : IsMakeRefused c.args.method c.args.cost None fault =
+    subst (λ (salt : Option (List ℕ)). IsMakeRefused c.args.method c.args.cost salt fault) (ap bytes_of c.in-None.is) refused in
+    absurd ((only_cost c.args.method c.args.cost fault alone).1 (c.in-Ok-made.ensures.accepted.0 refl))

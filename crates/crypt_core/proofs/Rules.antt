@@ -1,0 +1,17 @@
+-- Of rules in an order: which one is the first that is broken.
+use Rattle.std.proofs.Common.{◌≡◌, inl, inr, List, [], ◌∷◌, sym, subst, ◌∙◌}
+use Rattle.crypt_core.specs.Rules.{IsFirstBroken}
+
+-- its rule is broken
+pub first_breaks : {F : Type 0} (faults : List F) (breaks : F → Type 0) (fault : F) → IsFirstBroken faults breaks fault → breaks fault
+first_breaks [] breaks fault first = absurd first
+first_breaks (f ∷ fs) breaks fault (inl here) = subst breaks (sym here.0) here.1
+first_breaks (f ∷ fs) breaks fault (inr later) = first_breaks fs breaks fault later.1
+
+-- it is one at most
+pub first_unique : {F : Type 0} (faults : List F) (breaks : F → Type 0) (a b : F) → IsFirstBroken faults breaks a → IsFirstBroken faults breaks b → a ≡ b
+first_unique [] breaks a b first other = absurd first
+first_unique (f ∷ fs) breaks a b (inl here) (inl there) = here.0 ∙ sym there.0
+first_unique (f ∷ fs) breaks a b (inl here) (inr later) = absurd (later.0 here.1)
+first_unique (f ∷ fs) breaks a b (inr later) (inl here) = absurd (later.0 here.1)
+first_unique (f ∷ fs) breaks a b (inr later) (inr other) = first_unique fs breaks a b later.1 other.1
