@@ -1,5 +1,5 @@
 -- What a line comes to, by its parts and its field.
-use Rattle.std.proofs.Common.{◌≡◌, ℕ, Bool, true, false, List, [], ◌∷◌, length, Option, Some, None, Ok, inl, inr, refl, sym, ap, subst, ◌∙◌, true≢false, arith}
+use Rattle.std.proofs.Common.{◌≡◌, ℕ, Bool, true, false, List, [], ◌∷◌, ◌++◌, codes, slice_index, length, Option, Some, None, Ok, inl, inr, refl, sym, ap, subst, ◌∙◌, true≢false, arith}
 use Rattle.std.specs.Bool.{Decides}
 use Rattle.std.specs.Str.{bytes_eq}
 use Rattle.std.proofs.lemmas.Option.{none-some}
@@ -7,20 +7,24 @@ use Rattle.std.proofs.lemmas.Slice.Eq.{bytes_eq-Decides}
 use Rattle.rand_core.specs.Stream.{Stream}
 use Rattle.crypt_core.specs.Crypt.{crypt}
 use Rattle.crypt_core.specs.Readings.{IsReadOneWay}
-use Rattle.crypt_core.specs.Settings.{SettingValue, Spells}
-use Rattle.crypt_core.specs.StoredFields.{StoredHash}
+use Rattle.crypt_core.specs.Settings.{BeginsWith, SettingValue, Spells}
+use Rattle.crypt_core.specs.Methods.{prefix}
+use Rattle.crypt_core.specs.Schemes.{method_of}
+use Rattle.crypt_core.specs.StoredFields.{IsStored, StoredHash}
+use Rattle.crypt_core.specs.declared.method.Method.{Method}
+use Rattle.crypt_core.specs.declared.method.Method.TheVariants.{Md5crypt, Sha256crypt, Sha512crypt, Scrypt}
 use Rattle.crypt_core.specs.declared.stored.StoredField.{StoredField}
 use Rattle.crypt_core.specs.declared.stored.StoredField.TheVariants as fields
-use Rattle.run_core.specs.Answers.{Hashing, hashing, new_hash, new_hashing}
+use Rattle.run_core.specs.Answers.{Hashing, counts_text, hashing, new_hash, new_hashing, rendered}
 use Rattle.run_core.specs.JobOptions.{IsAbove, check_cost, is_outdated}
-use Rattle.run_core.specs.LineAnswers.{IsCostly, IsDecision, HasSoundParts, decision}
-use Rattle.run_core.specs.LineAnswers.IsDecision.{hashed, none, locked, ok, rehashed, no}
-use Rattle.run_core.specs.Lines.{Parts}
+use Rattle.run_core.specs.LineAnswers.{ComesTo, IsAnswer, IsCostly}
+use Rattle.run_core.specs.Lines.{HasParts, Parts}
 use Rattle.run_core.specs.Makers.{made_cost_by}
-use Rattle.run_core.specs.Private.Answers.{IsChecked, IsSettled, field_cost}
-use Rattle.run_core.specs.Private.Lines.{IsFieldOf, IsLine}
+use Rattle.run_core.specs.Private.Answers.{IsChecked, IsDecided, IsSettled, answer_of, answer_text, field_cost}
+use Rattle.run_core.specs.Texts.{as_line, colon}
+use Rattle.run_core.specs.Private.Lines.{HasSoundParts, IsFieldOf, IsLine}
 use Rattle.run_core.specs.declared.answer.Outcome.{Outcome}
-use Rattle.run_core.specs.declared.answer.Outcome.TheVariants.{Match, Rehashed, Mismatch}
+use Rattle.run_core.specs.declared.answer.Outcome.TheVariants.{Hashed, Match, Rehashed, Mismatch, NoHash, Locked, Refused}
 use Rattle.run_core.specs.declared.job.Job.{Job}
 use Rattle.run_core.specs.declared.line.Kind.{Kind}
 use Rattle.run_core.proofs.Cuts.{parts_unique}
@@ -40,7 +44,8 @@ costly_by : (kind : Kind) (job : Job) (line name password : List ℕ) (field : O
     → IsAbove job.budget (field_cost job stored (length password)) → IsCostly kind job line
 costly_by kind job line name password None None taken of above = record {
   parts = parts_with name password None;
-  taken = taken;
+  sound = taken.sound;
+  cut = taken.cut;
   number = made_cost_by job.maker (length password);
   cost = inl (refl, refl);
   above = above;
@@ -49,7 +54,8 @@ costly_by kind job line name password (Some field) (Some fields.Empty) taken of 
 costly_by kind job line name password (Some field) (Some fields.Locked) taken of above = absurd (above_none job.budget above)
 costly_by kind job line name password (Some field) (Some (fields.Hash stored)) taken of above = record {
   parts = parts_with name password (Some field);
-  taken = taken;
+  sound = taken.sound;
+  cut = taken.cut;
   number = check_cost job stored.setting (length password);
   cost = inr (field, stored.setting, refl, of.0.1.spells, refl);
   above = above;
@@ -72,7 +78,7 @@ one_setting field one other once spells spells_other =
 cheap_unfielded : (kind : Kind) (job : Job) (line name password : List ℕ) → HasSoundParts kind line (parts_with name password None)
     → ¬ IsAbove job.budget (made_cost_by job.maker (length password)) → ¬ IsCostly kind job line
 cheap_unfielded kind job line name password taken within costly =
-    let same = parts_unique kind line costly.parts (parts_with name password None) costly.taken.cut taken.cut in
+    let same = parts_unique kind line costly.parts (parts_with name password None) costly.cut taken.cut in
     elim costly.cost [
       | inl made ↦ within (subst (λ (n : ℕ). IsAbove job.budget n)
           (made.1 ∙ ap (λ (p : Parts). made_cost_by job.maker (length p.password)) same) costly.above)
@@ -83,7 +89,7 @@ cheap_stored : (kind : Kind) (job : Job) (line name password field : List ℕ) (
     → HasSoundParts kind line (parts_with name password (Some field)) → Spells field stored.setting → IsReadOneWay field
     → ¬ IsAbove job.budget (check_cost job stored.setting (length password)) → ¬ IsCostly kind job line
 cheap_stored kind job line name password field stored taken spells once within costly =
-    let same = parts_unique kind line costly.parts (parts_with name password (Some field)) costly.taken.cut taken.cut in
+    let same = parts_unique kind line costly.parts (parts_with name password (Some field)) costly.cut taken.cut in
     let other = ap (λ (p : Parts). p.field) same in
     elim costly.cost [
       | inl made ↦ absurd (none-some field (sym made.0 ∙ other))
@@ -94,49 +100,118 @@ cheap_stored kind job line name password field stored taken spells once within c
           (spelled.4 ∙ ap (λ (p : Parts). check_cost job spelled.1 (length p.password)) same ∙ ap (λ (s : SettingValue). check_cost job s (length password)) one) costly.above)
     ]
 
+-- ---- a field that spells no setting
+
+-- a text that spells a setting begins with a `$`
+first_of_prefix : (method : Method) (rest : List ℕ) → slice_index (prefix method ++ rest) 0 ≡ 36
+first_of_prefix Md5crypt rest = refl
+first_of_prefix Sha256crypt rest = refl
+first_of_prefix Sha512crypt rest = refl
+first_of_prefix Scrypt rest = refl
+
+first_is_dollar : (field : List ℕ) (kept : SettingValue) → Spells field kept → slice_index field 0 ≡ 36
+first_is_dollar field kept spells =
+    ap (λ (text : List ℕ). slice_index text 0) spells.scheme.parts ∙ first_of_prefix (method_of kept.scheme) (spells.scheme.part ++ (spells.field ++ spells.rest))
+
+begins_with : (field front : List ℕ) (first : ℕ) → ((rest : List ℕ) → slice_index (front ++ rest) 0 ≡ first) → BeginsWith field front → slice_index field 0 ≡ first
+begins_with field front first starts begins = ap (λ (text : List ℕ). slice_index text 0) begins.1 ∙ starts begins.0
+
+spelled-stored : (field : List ℕ) (kept : SettingValue) → Spells field kept → IsStored field
+spelled-stored field kept spells =
+    let dollar = first_is_dollar field kept spells in
+    record {
+      some = λ empty. let no_byte = ap (λ (text : List ℕ). slice_index text 0) empty in absurd (omega (arith, dollar, no_byte));
+      unlocked = λ is_locked. elim is_locked [
+        | inl bang ↦ let other = begins_with field (codes "!") 33 (λ rest. refl) bang in absurd (omega (arith, dollar, other))
+        | inr star ↦ let other = begins_with field (codes "*") 42 (λ rest. refl) star in absurd (omega (arith, dollar, other))
+      ];
+    }
+
+-- and a field that spells none has no cost
+pub unstored-cheap : (kind : Kind) (job : Job) (line : List ℕ) (parts : Parts) (field : List ℕ) → HasParts kind line parts
+    → parts.field ≡ Some field → ¬ IsStored field → ¬ IsCostly kind job line
+unstored-cheap kind job line parts field has is unstored costly =
+    let same = ap (λ (p : Parts). p.field) (parts_unique kind line costly.parts parts costly.cut has) in
+    elim costly.cost [
+      | inl made ↦ absurd (none-some field (sym made.0 ∙ (same ∙ is)))
+      | inr spelled ↦
+          let fields : spelled.0 ≡ field = cc (spelled.2, same, is) in
+          unstored (subst IsStored fields (spelled-stored spelled.0 spelled.1 spelled.3))
+    ]
+
 -- ---- what it comes to
 
-same_decision : (name : List ℕ) (outcome other : Outcome) (hashings others : List Hashing)
-    → outcome ≡ other → hashings ≡ others → decision name outcome hashings ≡ decision name other others
-same_decision name outcome other hashings others one two = cc
+comes-stored : (job : Job) (stream : Stream) (name password field : List ℕ) (stored : StoredHash) (hashings : List Hashing) (outcome : Outcome)
+    → stored.text ≡ field → Spells field stored.setting → IsChecked job password stored stream hashings outcome
+    → ComesTo job (parts_with name password (Some field)) stream outcome hashings
+comes-stored job stream name password field stored hashings Mismatch is spells checked =
+    (field, stored.setting, (refl, spells), (λ equal. checked.0 (equal ∙ sym is)), checked.1)
+comes-stored job stream name password field stored hashings Match is spells checked =
+    (field, stored.setting, (refl, spells), checked.0 ∙ is, checked.1, checked.2)
+comes-stored job stream name password field stored hashings (Rehashed hash) is spells checked =
+    (field, stored.setting, (refl, spells), checked.0 ∙ is, checked.1, checked.2, checked.3)
+comes-stored job stream name password field stored hashings outcome is spells checked = absurd checked
 
-stored_by : (kind : Kind) (job : Job) (line : List ℕ) (stream : Stream) (name password field : List ℕ) (stored : StoredHash) (hashings : List Hashing) (outcome : Outcome)
-    → HasSoundParts kind line (parts_with name password (Some field)) → stored.text ≡ field → Spells field stored.setting → ¬ IsCostly kind job line
-    → IsChecked job password stored stream hashings outcome → IsDecision kind job line stream (decision name outcome hashings)
-stored_by kind job line stream name password field stored hashings Mismatch taken is spells cheap checked =
-    no (parts_with name password (Some field)) field stored.setting (record { taken = taken; has = refl; spells = spells }) cheap
-    (λ equal. checked.0 (equal ∙ sym is)) (same_decision name Mismatch Mismatch _ _ refl checked.1)
-stored_by kind job line stream name password field stored hashings Match taken is spells cheap checked =
-    ok (parts_with name password (Some field)) field stored.setting (record { taken = taken; has = refl; spells = spells }) cheap
-    (checked.0 ∙ is) checked.1 (same_decision name Match Match _ _ refl checked.2)
-stored_by kind job line stream name password field stored hashings (Rehashed hash) taken is spells cheap checked =
-    rehashed (parts_with name password (Some field)) field stored.setting (record { taken = taken; has = refl; spells = spells }) cheap
-    (checked.0 ∙ is) checked.1 (same_decision name (Rehashed hash) _ _ _ (ap (λ (h : List ℕ). Rehashed h) checked.2) checked.3)
-stored_by kind job line stream name password field stored hashings outcome taken is spells cheap checked = absurd checked
-
+-- what the parts come to, and that they don't cost too much
 settled_by : (kind : Kind) (job : Job) (line : List ℕ) (stream : Stream) (name password : List ℕ) (field : Option (List ℕ)) (stored : Option StoredField)
     (hashings : List Hashing) (outcome : Outcome) → HasSoundParts kind line (parts_with name password field) → IsFieldOf field stored
     → ¬ IsAbove job.budget (field_cost job stored (length password))
-    → IsSettled job password stored stream hashings outcome → IsDecision kind job line stream (decision name outcome hashings)
-settled_by kind job line stream name password None None hashings outcome taken of within settled =
-    hashed (parts_with name password None) taken refl (cheap_unfielded kind job line name password taken within)
-    (same_decision name outcome _ _ _ settled.0 settled.1)
-settled_by kind job line stream name password (Some field) (Some fields.Empty) hashings outcome taken of within settled =
-    none (parts_with name password (Some field)) taken (ap Some of.0) (same_decision name outcome _ _ _ settled.0 settled.1)
-settled_by kind job line stream name password (Some field) (Some fields.Locked) hashings outcome taken of within settled =
-    locked (parts_with name password (Some field)) field taken refl of.0 (same_decision name outcome _ _ _ settled.0 settled.1)
-settled_by kind job line stream name password (Some field) (Some (fields.Hash stored)) hashings outcome taken of within settled =
-    stored_by kind job line stream name password field stored hashings outcome taken of.0.1.is_text of.0.1.spells
-    (cheap_stored kind job line name password field stored taken of.0.1.spells of.1 within) settled
+    → IsSettled job password stored stream hashings outcome
+    → (¬ IsCostly kind job line) × ComesTo job (parts_with name password field) stream outcome hashings
+settled_by kind job line stream name password None None hashings outcome taken of within settled = (
+  cheap_unfielded kind job line name password taken within,
+  subst (λ (o : Outcome). ComesTo job (parts_with name password None) stream o hashings) (sym settled.0) (refl, refl, settled.1),
+)
+settled_by kind job line stream name password (Some field) (Some fields.Empty) hashings outcome taken of within settled = (
+  unstored-cheap kind job line (parts_with name password (Some field)) field taken.cut refl (λ is_stored. is_stored.some of.0),
+  subst (λ (o : Outcome). ComesTo job (parts_with name password (Some field)) stream o hashings) (sym settled.0) (ap Some of.0, settled.1),
+)
+settled_by kind job line stream name password (Some field) (Some fields.Locked) hashings outcome taken of within settled = (
+  unstored-cheap kind job line (parts_with name password (Some field)) field taken.cut refl (λ is_stored. is_stored.unlocked of.0),
+  subst (λ (o : Outcome). ComesTo job (parts_with name password (Some field)) stream o hashings) (sym settled.0) (field, refl, of.0, settled.1),
+)
+settled_by kind job line stream name password (Some field) (Some (fields.Hash stored)) hashings outcome taken of within settled = (
+  cheap_stored kind job line name password field stored taken of.0.1.spells of.1 within,
+  comes-stored job stream name password field stored hashings outcome of.0.1.is_text of.0.1.spells settled,
+)
 settled_by kind job line stream name password None (Some stored) hashings outcome taken of within settled = absurd of
 settled_by kind job line stream name password (Some field) None hashings outcome taken of within settled = absurd of
 
 pub decided : (kind : Kind) (job : Job) (line : List ℕ) (stream : Stream) (name password : List ℕ) (stored : Option StoredField)
     (hashings : List Hashing) (outcome : Outcome) → IsLine kind line name password stored
     → ¬ IsAbove job.budget (field_cost job stored (length password))
-    → IsSettled job password stored stream hashings outcome → IsDecision kind job line stream (decision name outcome hashings)
+    → IsSettled job password stored stream hashings outcome → IsDecided kind job line stream name outcome hashings
 decided kind job line stream name password stored hashings outcome is within settled =
-    settled_by kind job line stream name password is.field stored hashings outcome is.taken is.field_of within settled
+    let comes = settled_by kind job line stream name password is.field stored hashings outcome is.taken is.field_of within settled in
+    inr (inr (is.taken.sound, comes.0, parts_with name password is.field, is.taken.cut, refl, comes.1))
+
+-- ---- its answer
+
+comes-text : (job : Job) (number : ℕ) (parts : Parts) (stream : Stream) (outcome : Outcome) (made : List Hashing) → ComesTo job parts stream outcome made
+    → answer_text job.work number parts.name outcome made ≡ as_line (parts.name ++ colon ∷ rendered outcome ++ counts_text job.work made)
+comes-text job number parts stream (Hashed hash) made comes = refl
+comes-text job number parts stream NoHash made comes = refl
+comes-text job number parts stream Locked made comes = refl
+comes-text job number parts stream Match made comes = refl
+comes-text job number parts stream (Rehashed hash) made comes = refl
+comes-text job number parts stream Mismatch made comes = refl
+comes-text job number parts stream (Refused fault) made comes = absurd comes
+
+pub decided-answer : (kind : Kind) (job : Job) (number : ℕ) (line : List ℕ) (stream : Stream) (name : List ℕ) (outcome : Outcome) (made : List Hashing)
+    → IsDecided kind job line stream name outcome made → IsAnswer kind job number line stream (answer_of job number name outcome made)
+decided-answer kind job number line stream name outcome made (inl (fault, refused, is, none)) = inl (fault, refused, rw (is, none) refl)
+decided-answer kind job number line stream name outcome made (inr (inl (costly, is, none))) = inr (inl (costly, rw (is, none) refl))
+decided-answer kind job number line stream name outcome made (inr (inr (sound, cheap, parts, cut, named, comes))) =
+    let text = comes-text job number parts stream outcome made comes in
+    inr (inr (
+      sound,
+      cheap,
+      parts,
+      cut,
+      comes,
+      subst (λ (n : List ℕ). answer_text job.work number n outcome made
+          ≡ as_line (parts.name ++ colon ∷ rendered outcome ++ counts_text job.work made)) named text,
+    ))
 
 -- ---- what a check would come to, if its memory were not refused
 

@@ -1,30 +1,27 @@
 -- What a budget and new hashes change of the answers to lines, and that they change nothing for a single password.
-use Rattle.std.proofs.Common.{◌≡◌, ℕ, List, [], ◌++◌, Some, Result, codes, slice_index, inl, inr, refl, sym, subst, ◌∙◌, ap, arith, ◌≤◌, ◌⊎◌, Bool, true, false, true≢false, length, Option, None}
+use Rattle.std.proofs.Common.{◌≡◌, ℕ, List, Result, inl, inr, refl, sym, ◌∙◌, arith, ◌≤◌, ◌⊎◌, Bool, true, false, true≢false, length, Option, None, Some}
 use Rattle.std.proofs.lemmas.Option.{none-some}
 use Rattle.rand_core.specs.Stream.{Stream}
-use Rattle.crypt_core.specs.MethodLimits.{prefix}
-use Rattle.crypt_core.specs.Settings.{BeginsWith, SettingValue, Spells}
-use Rattle.crypt_core.specs.Schemes.{method_of}
-use Rattle.crypt_core.specs.declared.method.Method.{Method}
-use Rattle.crypt_core.specs.declared.method.Method.TheVariants.{Md5crypt, Sha256crypt, Sha512crypt, Scrypt}
+use Rattle.crypt_core.specs.Crypt.{crypt}
+use Rattle.crypt_core.specs.Settings.{SettingValue}
+use Rattle.run_core.specs.Answers.{Answer, Hashing}
 use Rattle.run_core.specs.JobOptions.{without_budget, without_rehash, IsAbove, check_cost, is_outdated}
-use Rattle.run_core.specs.LineAnswers.{Decision, IsCostly, IsDecision, decided_answer, refusal, HasSetting}
-use Rattle.run_core.specs.LineAnswers.IsDecision.{refused, over, hashed, none, locked, ok, rehashed, no}
+use Rattle.run_core.specs.LineAnswers.{ComesTo, HasSetting, IsAnswer, IsCostly, refusal}
 use Rattle.run_core.specs.LineOptions.{OnlyRefuses, IsRenewable, OnlyRenews, RenewsNone}
-use Rattle.crypt_core.specs.StoredFields.{IsStored}
-use Rattle.run_core.specs.Lines.{HasParts, Parts}
+use Rattle.run_core.specs.Lines.{HasParts, IsSound, Parts}
 use Rattle.run_core.specs.One.{EndsOne}
 use Rattle.run_core.specs.Runs.{RunState}
+use Rattle.run_core.specs.declared.answer.Outcome.{Outcome}
+use Rattle.run_core.specs.declared.answer.Outcome.TheVariants.{Hashed, Match, Rehashed, Mismatch, NoHash, Locked, Refused}
 use Rattle.run_core.specs.declared.fault.RunFault.{RunFault}
 use Rattle.run_core.specs.declared.job.Job.{Job}
 use Rattle.run_core.specs.declared.job.PasswordFrom.{PasswordFrom}
 use Rattle.run_core.specs.declared.job.PasswordFrom.TheVariants.{Word, Input}
 use Rattle.run_core.specs.declared.line.Kind.{Kind}
+use Rattle.run_core.specs.declared.line.Kind.TheVariants.{Batch}
 use Rattle.run_core.specs.declared.line.LineFault.TheVariants.{OverBudget}
 use Rattle.run_core.specs.declared.tally.Tally.{Tally}
-use Rattle.run_core.proofs.Cuts.{parts_unique}
-use Rattle.crypt_core.specs.Crypt.{crypt}
-use Rattle.run_core.specs.declared.line.Kind.TheVariants.{Batch}
+use Rattle.run_core.proofs.Deciding.{unstored-cheap}
 
 -- ---- lines
 
@@ -32,94 +29,53 @@ use Rattle.run_core.specs.declared.line.Kind.TheVariants.{Batch}
 free : (kind : Kind) (job : Job) (line : List ℕ) → ¬ IsCostly kind (without_budget job) line
 free kind job line costly = costly.above
 
--- so what another one comes to stands
-decision-without : (kind : Kind) (job : Job) (line : List ℕ) (stream : Stream) (made : Decision) → ¬ IsCostly kind job line
-    → IsDecision kind job line stream made → IsDecision kind (without_budget job) line stream made
-decision-without kind job line stream made cheap (refused fault breaks is) = refused fault breaks is
-decision-without kind job line stream made cheap (over costly is) = absurd (cheap costly)
-decision-without kind job line stream made cheap (hashed parts taken lacks within is) = hashed parts taken lacks (free kind job line) is
-decision-without kind job line stream made cheap (none parts taken empty is) = none parts taken empty is
-decision-without kind job line stream made cheap (locked parts field taken has is_locked is) = locked parts field taken has is_locked is
-decision-without kind job line stream made cheap (ok parts field kept stored within same recent is) =
-    ok parts field kept stored (free kind job line) same recent is
-decision-without kind job line stream made cheap (rehashed parts field kept stored within same outdated is) =
-    rehashed parts field kept stored (free kind job line) same outdated is
-decision-without kind job line stream made cheap (no parts field kept stored within differs is) =
-    no parts field kept stored (free kind job line) differs is
+-- a budget changes nothing of what parts come to
+comes-without : (job : Job) (parts : Parts) (stream : Stream) (outcome : Outcome) (made : List Hashing)
+    → ComesTo job parts stream outcome made → ComesTo (without_budget job) parts stream outcome made
+comes-without job parts stream (Hashed hash) made comes = comes
+comes-without job parts stream NoHash made comes = comes
+comes-without job parts stream Locked made comes = comes
+comes-without job parts stream Match made comes = comes
+comes-without job parts stream (Rehashed hash) made comes = comes
+comes-without job parts stream Mismatch made comes = comes
+comes-without job parts stream (Refused fault) made comes = absurd comes
 
--- and the other way round
-decision-within : (kind : Kind) (job : Job) (line : List ℕ) (stream : Stream) (made : Decision) → ¬ IsCostly kind job line
-    → IsDecision kind (without_budget job) line stream made → IsDecision kind job line stream made
-decision-within kind job line stream made cheap (refused fault breaks is) = refused fault breaks is
-decision-within kind job line stream made cheap (over costly is) = absurd costly.above
-decision-within kind job line stream made cheap (hashed parts taken lacks within is) = hashed parts taken lacks cheap is
-decision-within kind job line stream made cheap (none parts taken empty is) = none parts taken empty is
-decision-within kind job line stream made cheap (locked parts field taken has is_locked is) = locked parts field taken has is_locked is
-decision-within kind job line stream made cheap (ok parts field kept stored within same recent is) =
-    ok parts field kept stored cheap same recent is
-decision-within kind job line stream made cheap (rehashed parts field kept stored within same outdated is) =
-    rehashed parts field kept stored cheap same outdated is
-decision-within kind job line stream made cheap (no parts field kept stored within differs is) = no parts field kept stored cheap differs is
+comes-within : (job : Job) (parts : Parts) (stream : Stream) (outcome : Outcome) (made : List Hashing)
+    → ComesTo (without_budget job) parts stream outcome made → ComesTo job parts stream outcome made
+comes-within job parts stream (Hashed hash) made comes = comes
+comes-within job parts stream NoHash made comes = comes
+comes-within job parts stream Locked made comes = comes
+comes-within job parts stream Match made comes = comes
+comes-within job parts stream (Rehashed hash) made comes = comes
+comes-within job parts stream Mismatch made comes = comes
+comes-within job parts stream (Refused fault) made comes = absurd comes
 
--- a text that spells a setting begins with a `$`
-first_of_prefix : (method : Method) (rest : List ℕ) → slice_index (prefix method ++ rest) 0 ≡ 36
-first_of_prefix Md5crypt rest = refl
-first_of_prefix Sha256crypt rest = refl
-first_of_prefix Sha512crypt rest = refl
-first_of_prefix Scrypt rest = refl
+module _ (kind : Kind) (job : Job) (number : ℕ) (line : List ℕ) (stream : Stream) (answer : Answer) where
+  -- so another answer stands
+  answer-without : ¬ IsCostly kind job line → IsAnswer kind job number line stream answer → IsAnswer kind (without_budget job) number line stream answer
+  answer-without cheap (inl refused) = inl refused
+  answer-without cheap (inr (inl (costly, is))) = absurd (cheap costly)
+  answer-without cheap (inr (inr (sound, within, parts, cut, comes, text))) =
+      inr (inr (sound, free kind job line, parts, cut, comes-without job parts stream answer.outcome answer.hashings comes, text))
 
-first_is_dollar : (field : List ℕ) (kept : SettingValue) → Spells field kept → slice_index field 0 ≡ 36
-first_is_dollar field kept spells =
-    ap (λ (text : List ℕ). slice_index text 0) spells.scheme.1 ∙ first_of_prefix (method_of kept.scheme) (spells.scheme.0 ++ (spells.field ++ spells.rest))
+  -- and the other way round
+  answer-within : ¬ IsCostly kind job line → IsAnswer kind (without_budget job) number line stream answer → IsAnswer kind job number line stream answer
+  answer-within cheap (inl refused) = inl refused
+  answer-within cheap (inr (inl (costly, is))) = absurd costly.above
+  answer-within cheap (inr (inr (sound, within, parts, cut, comes, text))) =
+      inr (inr (sound, cheap, parts, cut, comes-within job parts stream answer.outcome answer.hashings comes, text))
 
-begins_with : (field front : List ℕ) (first : ℕ) → ((rest : List ℕ) → slice_index (front ++ rest) 0 ≡ first) → BeginsWith field front → slice_index field 0 ≡ first
-begins_with field front first starts begins = ap (λ (text : List ℕ). slice_index text 0) begins.1 ∙ starts begins.0
-
-spelled-stored : (field : List ℕ) (kept : SettingValue) → Spells field kept → IsStored field
-spelled-stored field kept spells =
-    let dollar = first_is_dollar field kept spells in
-    record {
-      some = λ empty. let no_byte = ap (λ (text : List ℕ). slice_index text 0) empty in absurd (omega (arith, dollar, no_byte));
-      unlocked = λ is_locked. elim is_locked [
-        | inl bang ↦ let other = begins_with field (codes "!") 33 (λ rest. refl) bang in absurd (omega (arith, dollar, other))
-        | inr star ↦ let other = begins_with field (codes "*") 42 (λ rest. refl) star in absurd (omega (arith, dollar, other))
-      ];
-    }
-
--- and a field that spells none has no cost
-unstored-cheap : (kind : Kind) (job : Job) (line : List ℕ) (parts : Parts) (field : List ℕ) → HasParts kind line parts
-    → parts.field ≡ Some field → ¬ IsStored field → ¬ IsCostly kind job line
-unstored-cheap kind job line parts field has is unstored costly =
-    let same = ap (λ (p : Parts). p.field) (parts_unique kind line costly.parts parts costly.taken.cut has) in
-    elim costly.cost [
-      | inl made ↦ absurd (none-some field (sym made.0 ∙ (same ∙ is)))
-      | inr spelled ↦
-          let fields : spelled.0 ≡ field = cc (spelled.2, same, is) in
-          unstored (subst IsStored fields (spelled-stored spelled.0 spelled.1 spelled.3))
-    ]
-
--- what breaks no rule and costs too much is refused
-costly-refused : (kind : Kind) (job : Job) (line : List ℕ) (stream : Stream) (made : Decision) → IsCostly kind job line
-    → IsDecision kind job line stream made → made ≡ refusal OverBudget
-costly-refused kind job line stream made costly (refused fault breaks is) = absurd (costly.taken.sound fault breaks.breaks)
-costly-refused kind job line stream made costly (over other is) = is
-costly-refused kind job line stream made costly (hashed parts taken lacks cheap is) = absurd (cheap costly)
-costly-refused kind job line stream made costly (none parts taken empty is) =
-    absurd (unstored-cheap kind job line parts [] taken.cut empty (λ stored. stored.some refl) costly)
-costly-refused kind job line stream made costly (locked parts field taken has is_locked is) =
-    absurd (unstored-cheap kind job line parts field taken.cut has (λ stored. stored.unlocked is_locked) costly)
-costly-refused kind job line stream made costly (ok parts field kept stored cheap same recent is) = absurd (cheap costly)
-costly-refused kind job line stream made costly (rehashed parts field kept stored cheap same outdated is) = absurd (cheap costly)
-costly-refused kind job line stream made costly (no parts field kept stored cheap differs is) = absurd (cheap costly)
+  -- what breaks no rule and costs too much is refused
+  costly-refused : IsCostly kind job line → IsAnswer kind job number line stream answer → answer ≡ refusal number OverBudget
+  costly-refused costly (inl (fault, refused, is)) = absurd (costly.sound fault refused.breaks)
+  costly-refused costly (inr (inl (other, is))) = is
+  costly-refused costly (inr (inr (sound, cheap, parts, cut, comes, text))) = absurd (cheap costly)
 
 pub only_refuses : (kind : Kind) (job : Job) → OnlyRefuses kind job
 only_refuses kind job = record {
-  costly = λ number line stream answer costly is.
-      is.2 ∙ ap (decided_answer job number) (costly-refused kind job line stream is.0 costly is.1);
-  others = λ number line stream answer cheap. (
-    λ is. (is.0, decision-without kind job line stream is.0 cheap is.1, is.2),
-    λ is. (is.0, decision-within kind job line stream is.0 cheap is.1, is.2),
-  );
+  costly = costly-refused kind job;
+  others = λ number line stream answer cheap.
+      (answer-without kind job number line stream answer cheap, answer-within kind job number line stream answer cheap);
   unhashed = unstored-cheap kind job;
 }
 
@@ -147,10 +103,11 @@ module _ (kind : Kind) (job : Job) (line : List ℕ) (stream : Stream) where
   -- so what is too much without them is too much with them
   costly-renewed : IsCostly kind (without_rehash job) line → IsCostly kind job line
   costly-renewed costly = elim costly.cost [
-    | inl made ↦ record { parts = costly.parts; taken = costly.taken; number = costly.number; cost = inl made; above = costly.above }
+    | inl made ↦ record { parts = costly.parts; sound = costly.sound; cut = costly.cut; number = costly.number; cost = inl made; above = costly.above }
     | inr (field, kept, has, spells, is) ↦ record {
       parts = costly.parts;
-      taken = costly.taken;
+      sound = costly.sound;
+      cut = costly.cut;
       number = check_cost job kept (length costly.parts.password);
       cost = inr (field, kept, has, spells, refl);
       above = still_above job.budget costly.number _ (rw is (same_or_more job kept (length costly.parts.password))) costly.above;
@@ -159,12 +116,21 @@ module _ (kind : Kind) (job : Job) (line : List ℕ) (stream : Stream) where
 
   module _ (still : ¬ IsRenewable kind job line) where
     -- where the password fits, or the line is costly, no setting of the field is out of date
-    recent : (parts : Parts) (field : List ℕ) (kept : SettingValue) → HasSetting kind line parts field kept
+    recent : (parts : Parts) (field : List ℕ) (kept : SettingValue) → IsSound kind line → HasParts kind line parts → HasSetting parts field kept
         → (crypt parts.password kept ≡ field) ⊎ IsCostly kind job line → is_outdated job kept ≡ false
-    recent parts field kept stored why = go (is_outdated job kept) refl
+    recent parts field kept sound cut spelled why = go (is_outdated job kept) refl
       where
         go : (outdated : Bool) → is_outdated job kept ≡ outdated → is_outdated job kept ≡ false
-        go true is = absurd (still (record { parts = parts; field = field; kept = kept; stored = stored; outdated = is; fits_or_costly = why }))
+        go true is = absurd (still (record {
+          parts = parts;
+          field = field;
+          kept = kept;
+          sound = sound;
+          cut = cut;
+          spelled = spelled;
+          outdated = is;
+          fits_or_costly = why;
+        }))
         go false is = is
 
     -- so it costs the same
@@ -175,50 +141,58 @@ module _ (kind : Kind) (job : Job) (line : List ℕ) (stream : Stream) where
     costly-unrenewed : IsCostly kind job line → IsCostly kind (without_rehash job) line
     costly-unrenewed costly = record {
       parts = costly.parts;
-      taken = costly.taken;
+      sound = costly.sound;
+      cut = costly.cut;
       number = costly.number;
       cost = elim costly.cost [
         | inl made ↦ inl made
         | inr (field, kept, has, spells, is) ↦
-            inr (field, kept, has, spells, is ∙ same_check_cost kept _ (recent costly.parts field kept (record { taken = costly.taken; has = has; spells = spells }) (inr costly)))
+            inr (field, kept, has, spells, is ∙ same_check_cost kept _ (recent costly.parts field kept costly.sound costly.cut (has, spells) (inr costly)))
       ];
       above = costly.above;
     }
 
-    decision-unrenewed : (made : Decision) → IsDecision kind job line stream made → IsDecision kind (without_rehash job) line stream made
-    decision-unrenewed made (refused fault breaks is) = refused fault breaks is
-    decision-unrenewed made (over costly is) = over (costly-unrenewed costly) is
-    decision-unrenewed made (hashed parts taken lacks cheap is) = hashed parts taken lacks (λ costly. cheap (costly-renewed costly)) is
-    decision-unrenewed made (none parts taken empty is) = none parts taken empty is
-    decision-unrenewed made (locked parts field taken has is_locked is) = locked parts field taken has is_locked is
-    decision-unrenewed made (ok parts field kept stored cheap same new is) =
-        ok parts field kept stored (λ costly. cheap (costly-renewed costly)) same refl is
-    decision-unrenewed made (rehashed parts field kept stored cheap same outdated is) =
-        absurd (true≢false (sym outdated ∙ recent parts field kept stored (inl same)))
-    decision-unrenewed made (no parts field kept stored cheap differs is) =
-        no parts field kept stored (λ costly. cheap (costly-renewed costly)) differs is
+    comes-unrenewed : (parts : Parts) (outcome : Outcome) (made : List Hashing) → IsSound kind line → HasParts kind line parts
+        → ComesTo job parts stream outcome made → ComesTo (without_rehash job) parts stream outcome made
+    comes-unrenewed parts (Hashed hash) made sound cut comes = comes
+    comes-unrenewed parts NoHash made sound cut comes = comes
+    comes-unrenewed parts Locked made sound cut comes = comes
+    comes-unrenewed parts Match made sound cut (field, kept, spelled, same, new, is) = (field, kept, spelled, same, refl, is)
+    comes-unrenewed parts (Rehashed hash) made sound cut (field, kept, spelled, same, outdated, is_new, is) =
+        absurd (true≢false (sym outdated ∙ recent parts field kept sound cut spelled (inl same)))
+    comes-unrenewed parts Mismatch made sound cut comes = comes
+    comes-unrenewed parts (Refused fault) made sound cut comes = absurd comes
 
-    decision-renewed : (made : Decision) → IsDecision kind (without_rehash job) line stream made → IsDecision kind job line stream made
-    decision-renewed made (refused fault breaks is) = refused fault breaks is
-    decision-renewed made (over costly is) = over (costly-renewed costly) is
-    decision-renewed made (hashed parts taken lacks cheap is) = hashed parts taken lacks (λ costly. cheap (costly-unrenewed costly)) is
-    decision-renewed made (none parts taken empty is) = none parts taken empty is
-    decision-renewed made (locked parts field taken has is_locked is) = locked parts field taken has is_locked is
-    decision-renewed made (ok parts field kept stored cheap same new is) =
-        ok parts field kept stored (λ costly. cheap (costly-unrenewed costly)) same (recent parts field kept stored (inl same)) is
-    decision-renewed made (rehashed parts field kept stored cheap same outdated is) = cc
-    decision-renewed made (no parts field kept stored cheap differs is) =
-        no parts field kept stored (λ costly. cheap (costly-unrenewed costly)) differs is
+    comes-renewed : (parts : Parts) (outcome : Outcome) (made : List Hashing) → IsSound kind line → HasParts kind line parts
+        → ComesTo (without_rehash job) parts stream outcome made → ComesTo job parts stream outcome made
+    comes-renewed parts (Hashed hash) made sound cut comes = comes
+    comes-renewed parts NoHash made sound cut comes = comes
+    comes-renewed parts Locked made sound cut comes = comes
+    comes-renewed parts Match made sound cut (field, kept, spelled, same, new, is) =
+        (field, kept, spelled, same, recent parts field kept sound cut spelled (inl same), is)
+    comes-renewed parts (Rehashed hash) made sound cut (field, kept, spelled, same, outdated, is_new, is) = absurd (true≢false (sym outdated))
+    comes-renewed parts Mismatch made sound cut comes = comes
+    comes-renewed parts (Refused fault) made sound cut comes = absurd comes
+
+    answer-unrenewed : (number : ℕ) (answer : Answer) → IsAnswer kind job number line stream answer → IsAnswer kind (without_rehash job) number line stream answer
+    answer-unrenewed number answer (inl refused) = inl refused
+    answer-unrenewed number answer (inr (inl (costly, is))) = inr (inl (costly-unrenewed costly, is))
+    answer-unrenewed number answer (inr (inr (sound, cheap, parts, cut, comes, text))) =
+        inr (inr (sound, (λ costly. cheap (costly-renewed costly)), parts, cut, comes-unrenewed parts answer.outcome answer.hashings sound cut comes, text))
+
+    answer-renewed : (number : ℕ) (answer : Answer) → IsAnswer kind (without_rehash job) number line stream answer → IsAnswer kind job number line stream answer
+    answer-renewed number answer (inl refused) = inl refused
+    answer-renewed number answer (inr (inl (costly, is))) = inr (inl (costly-renewed costly, is))
+    answer-renewed number answer (inr (inr (sound, cheap, parts, cut, comes, text))) =
+        inr (inr (sound, (λ costly. cheap (costly-unrenewed costly)), parts, cut, comes-renewed parts answer.outcome answer.hashings sound cut comes, text))
 
 pub only_renews : (kind : Kind) (job : Job) → OnlyRenews kind job
-only_renews kind job number line stream answer still = (
-  λ is. (is.0, decision-unrenewed kind job line stream still is.0 is.1, is.2),
-  λ is. (is.0, decision-renewed kind job line stream still is.0 is.1, is.2),
-)
+only_renews kind job number line stream answer still =
+    (answer-unrenewed kind job line stream still number answer, answer-renewed kind job line stream still number answer)
 
 -- a line of a batch has no field
 batch-still : (job : Job) (line : List ℕ) → ¬ IsRenewable Batch job line
-batch-still job line renewable = none-some renewable.field (sym renewable.stored.taken.cut.1 ∙ renewable.stored.has)
+batch-still job line renewable = none-some renewable.field (sym renewable.cut.1 ∙ renewable.spelled.0)
 
 pub batch_renews_none : (job : Job) → RenewsNone Batch job
 batch_renews_none job number line stream answer = only_renews Batch job number line stream answer (batch-still job line)

@@ -3,7 +3,6 @@ use Rattle.std.proofs.Common.{◌≡◌, ℕ, ◌≤◌, ◌<◌, List, [], leng
 use Rattle.std.proofs.lemmas.Bool.{cases_order}
 use Rattle.crypt_core.specs.Passwords.{IsPassword, IsPasswordRefused}
 use Rattle.std.specs.Prelude.{Ok, Err}
-use Rattle.rand_core.specs.Stream.{Stream}
 use Rattle.crypt_core.specs.FieldReadings.{IsFieldReading}
 use Rattle.crypt_core.specs.Readings.{IsReadOneWay}
 use Rattle.crypt_core.specs.Refusals.{IsRefused}
@@ -14,11 +13,8 @@ use Rattle.crypt_core.specs.declared.password.PasswordFault.{PasswordFault}
 use Rattle.crypt_core.specs.declared.password.PasswordFault.TheVariants.{TooLong, HasNul}
 use Rattle.crypt_core.specs.declared.setting.fault.SettingFault.{SettingFault}
 use Rattle.run_core.specs.Texts.{colon}
-use Rattle.run_core.specs.Lines.{Breaks, HasName, HasParts, IsLineRefused, IsSound, IsTooLong, Parts, line_limit, rule_number}
-use Rattle.run_core.specs.LineAnswers.{HasSoundParts, IsDecision, refusal}
-use Rattle.run_core.specs.LineAnswers.IsDecision.{refused as decided-refused}
-use Rattle.run_core.specs.Private.Lines.{HasBehind, IsCutOrWhole, IsGoodName, IsNamed, LacksParts}
-use Rattle.run_core.specs.declared.job.Job.{Job}
+use Rattle.run_core.specs.Lines.{BreaksLine, HasName, HasParts, IsLineRefused, IsSound, Parts, line_limit, line_rule_number}
+use Rattle.run_core.specs.Private.Lines.{HasBehind, HasSoundParts, IsCutOrWhole, IsGoodName, IsNamed, IsTooLong, LacksParts}
 use Rattle.run_core.specs.declared.line.Kind.{Kind}
 use Rattle.run_core.specs.declared.line.Kind.TheVariants.{Batch, Check}
 use Rattle.run_core.specs.declared.line.LineFault.{LineFault}
@@ -37,7 +33,7 @@ name_of_parts Check line parts cut = inl (cut.1, cut.2)
 
 -- a line with a good name breaks none of the rules on lengths and names
 name_breaks_none : (kind : Kind) (line name : List ℕ) → length line ≤ line_limit → IsGoodName name → HasName line name
-    → (fault : LineFault) → rule_number fault < 4 → Breaks kind fault line → ⊥
+    → (fault : LineFault) → line_rule_number fault < 4 → BreaksLine kind fault line → ⊥
 name_breaks_none kind line name short good has LineTooLong below breaks = omega (arith, short, breaks)
 name_breaks_none kind line name short good has NoName below breaks = good.some (name_unique line name [] has breaks)
 name_breaks_none kind line name short good has NameTooLong below breaks =
@@ -63,7 +59,7 @@ has_no_parts Check line name (Some back) first lacks parts cut =
 
 -- a line with a good name and with parts breaks none of the first four rules
 parts_break_none : (kind : Kind) (line : List ℕ) (parts : Parts) → length line ≤ line_limit → IsGoodName parts.name → HasParts kind line parts
-    → (fault : LineFault) → rule_number fault < 5 → Breaks kind fault line → ⊥
+    → (fault : LineFault) → line_rule_number fault < 5 → BreaksLine kind fault line → ⊥
 parts_break_none kind line parts short good cut NoPassword below breaks = breaks parts cut
 parts_break_none kind line parts short good cut (Password fault) below breaks = omega arith
 parts_break_none kind line parts short good cut (Setting fault) below breaks = omega arith
@@ -80,7 +76,7 @@ pub record IsEntry (kind : Kind) (line : List ℕ) (parts : Parts) : Type 0 wher
   pub password : IsPassword parts.password
 
 abbrev IsBeforeField : LineFault → Type 0
-IsBeforeField fault = rule_number fault < 6
+IsBeforeField fault = line_rule_number fault < 6
 
 abbrev IsFieldRefused : List ℕ → SettingFault → Type 0
 IsFieldRefused field fault = IsStored field × IsRefused field fault
@@ -116,7 +112,7 @@ not_refused bytes HasNul is_password refused = is_password.no_nul refused.1
 
 -- an entry breaks no rule but that of its field
 entry_breaks_none : (kind : Kind) (line : List ℕ) (parts : Parts) → IsEntry kind line parts
-    → (fault : LineFault) → IsBeforeField fault → Breaks kind fault line → ⊥
+    → (fault : LineFault) → IsBeforeField fault → BreaksLine kind fault line → ⊥
 entry_breaks_none kind line parts entry (Password fault) before breaks =
     let same = parts_unique kind line breaks.0 parts breaks.1 entry.cut in
     not_refused parts.password fault entry.password (subst (λ (p : Parts). IsPasswordRefused p.password fault) same breaks.2)
@@ -130,8 +126,8 @@ same_password_fault bytes TooLong HasNul one two = absurd (omega (arith, one, tw
 same_password_fault bytes HasNul TooLong one two = absurd (omega (arith, one.0, two))
 same_password_fault bytes HasNul HasNul one two = refl
 
-same_fault : (kind : Kind) (line : List ℕ) (a b : LineFault) → rule_number a ≡ rule_number b → IsBeforeField a
-    → Breaks kind a line → Breaks kind b line → a ≡ b
+same_fault : (kind : Kind) (line : List ℕ) (a b : LineFault) → line_rule_number a ≡ line_rule_number b → IsBeforeField a
+    → BreaksLine kind a line → BreaksLine kind b line → a ≡ b
 same_fault kind line LineTooLong LineTooLong same before one two = refl
 same_fault kind line NoName NoName same before one two = refl
 same_fault kind line NameTooLong NameTooLong same before one two = refl
@@ -143,7 +139,7 @@ same_fault kind line a b same before one two = absurd (omega arith)
 
 -- a line gets one refusal at most before its field is looked at
 pub refusal_unique : (kind : Kind) (line : List ℕ) (a b : LineFault) → IsBeforeField a → IsLineRefused kind line a → IsLineRefused kind line b → a ≡ b
-refusal_unique kind line a b before one two = elim (cases_order (rule_number a) (rule_number b)) [
+refusal_unique kind line a b before one two = elim (cases_order (line_rule_number a) (line_rule_number b)) [
   | inl same ↦ same_fault kind line a b same before one.breaks two.breaks
   | inr other ↦ elim other [
     | inl below ↦ absurd (two.first a below one.breaks)
@@ -155,7 +151,7 @@ refusal_unique kind line a b before one two = elim (cases_order (rule_number a) 
 
 -- it is refused as a setting, where the last rule is broken
 field_of_breaks : (kind : Kind) (line : List ℕ) (parts : Parts) → HasParts kind line parts
-    → (fault : SettingFault) → Breaks kind (Setting fault) line → (field : List ℕ) × (parts.field ≡ Some field) × IsFieldRefused field fault
+    → (fault : SettingFault) → BreaksLine kind (Setting fault) line → (field : List ℕ) × (parts.field ≡ Some field) × IsFieldRefused field fault
 field_of_breaks kind line parts has fault breaks =
     let same = parts_unique kind line breaks.0 parts breaks.2 has in
     (breaks.1, sym (ap (λ (p : Parts). p.field) same) ∙ breaks.3, (breaks.4, breaks.5))
@@ -220,7 +216,7 @@ taken_not_refused kind line parts fault taken refused = taken.sound fault refuse
 -- ---- a line that is too long
 
 -- there is no rule before the first
-some_rule : (fault : LineFault) → 0 < rule_number fault
+some_rule : (fault : LineFault) → 0 < line_rule_number fault
 some_rule LineTooLong = omega arith
 some_rule NoName = omega arith
 some_rule NameTooLong = omega arith
@@ -229,13 +225,9 @@ some_rule (Password fault) = omega arith
 some_rule (Setting fault) = omega arith
 some_rule OverBudget = omega arith
 
-too_long-refused : (kind : Kind) (line : List ℕ) → IsTooLong line → IsLineRefused kind line LineTooLong
+-- so it is refused, whatever its bytes are
+pub too_long-refused : (kind : Kind) (line : List ℕ) → IsTooLong line → IsLineRefused kind line LineTooLong
 too_long-refused kind line long = record {
   breaks = long;
   first = λ earlier before. absurd (omega (arith, some_rule earlier, before));
 }
-
--- so its refusal is what it comes to, whatever its bytes are
-pub too_long-decided : (kind : Kind) (job : Job) (line : List ℕ) (stream : Stream) → IsTooLong line
-    → IsDecision kind job line stream (refusal LineTooLong)
-too_long-decided kind job line stream long = decided-refused LineTooLong (too_long-refused kind line long) refl

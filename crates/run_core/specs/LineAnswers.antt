@@ -16,114 +16,69 @@ use Rattle.run_core.specs.declared.line.Kind.{Kind}
 use Rattle.run_core.specs.declared.line.LineFault.{LineFault}
 use Rattle.run_core.specs.declared.line.LineFault.TheVariants.{OverBudget}
 
--- ---- decisions and answers
-
--- What a line comes to.
---   name      whose line it is; a refusal has none
---   outcome   what its answer stands for
---   hashings  the hashes that are made for it, in order
-pub record Decision : Type 0 where
-  pub name : List ℕ
-  pub outcome : Outcome
-  pub hashings : List Hashing
-
--- decision name outcome hashings is the same from its parts.
-abbrev pub decision : List ℕ → Outcome → List Hashing → Decision
-decision name outcome hashings = record { name = name; outcome = outcome; hashings = hashings }
-
--- refusal fault draws no random number and makes no hash.
-abbrev pub refusal : LineFault → Decision
-refusal fault = decision [] (Refused fault) []
-
--- refusal_text number fault is the message of a refusal, with the number of its line.
-abbrev pub refusal_text : ℕ → LineFault → List ℕ
-refusal_text number fault = as_line (codes "mkpasswd: line " ++ decimal number ++ codes ": " ++ rendered (Refused fault))
-
--- answer_text wanted number name outcome hashings is the line that is written: the message of a refusal, or else the name, the outcome, and the counts of the work for it if they are wanted.
-abbrev pub answer_text : Bool → ℕ → List ℕ → Outcome → List Hashing → List ℕ
-answer_text wanted number name (Refused fault) hashings = refusal_text number fault
-answer_text wanted number name outcome hashings = as_line (name ++ colon ∷ rendered outcome ++ counts_text wanted hashings)
-
--- decided_answer job number made is the answer to the line with this number, which comes to `made`.
-abbrev pub decided_answer : Job → ℕ → Decision → Answer
-decided_answer job number made = record {
-  text = answer_text job.work number made.name made.outcome made.hashings;
-  outcome = made.outcome;
-  hashings = made.hashings;
-}
-
 -- ---- what a line comes to
 
--- a line that breaks no rule, and its parts
-pub record HasSoundParts (kind : Kind) (line : List ℕ) (parts : Parts) : Type 0 where
-  pub sound : IsSound kind line
-  pub cut : HasParts kind line parts
-
--- the same, with a field that spells a setting
-pub record HasSetting (kind : Kind) (line : List ℕ) (parts : Parts) (field : List ℕ) (kept : SettingValue) : Type 0 where
-  pub taken : HasSoundParts kind line parts
-  pub has : parts.field ≡ Some field
-  pub spells : Spells field kept
-
--- the greatest cost of these parts: that of the hash of the password with a setting that the job makes, if there is no
--- field, or of the check with the setting that the field spells
+-- HasCost job parts number: the greatest cost of these parts. Without a field it is that of the hash of the password with a
+-- setting that the job makes, and otherwise that of the check with the setting that the field spells.
 abbrev pub HasCost : Job → Parts → ℕ → Type 0
 HasCost job parts number =
     ((parts.field ≡ None) × (number ≡ made_cost_by job.maker (length parts.password)))
     ⊎ ((field : List ℕ) × (kept : SettingValue) × (parts.field ≡ Some field) × Spells field kept
     × (number ≡ check_cost job kept (length parts.password)))
 
--- a line that breaks no rule, and costs more than the budget
+-- IsCostly kind job line: the line breaks no rule, and costs more than the budget.
 pub record IsCostly (kind : Kind) (job : Job) (line : List ℕ) : Type 0 where
   pub parts : Parts
-  pub taken : HasSoundParts kind line parts
+  pub sound : IsSound kind line
+  pub cut : HasParts kind line parts
   pub number : ℕ
   pub cost : HasCost job parts number
   pub above : IsAbove job.budget number
 
--- What a line comes to. It is refused for the first rule that it breaks, or since it costs more than the budget. Otherwise
--- it has no field, and its password is hashed; or its field is empty, or locked, or spells a setting: then the password's
--- hash with that setting is the field, or isn't; and if it is, and the setting is out of date, the password is hashed
--- again, with a setting that the job makes.
-pub data IsDecision (kind : Kind) (job : Job) (line : List ℕ) (stream : Stream) (made : Decision) : Type 0 where
-  refused : (fault : LineFault) → IsLineRefused kind line fault
-      → made ≡ refusal fault
-      → IsDecision kind job line stream made
-  over : IsCostly kind job line
-      → made ≡ refusal OverBudget
-      → IsDecision kind job line stream made
-  hashed : (parts : Parts) → HasSoundParts kind line parts → parts.field ≡ None
-      → ¬ IsCostly kind job line
-      → made ≡ decision parts.name (Hashed (new_hash job parts.password stream))
-      (new_hashing job parts.password stream ∷ [])
-      → IsDecision kind job line stream made
-  none : (parts : Parts) → HasSoundParts kind line parts → parts.field ≡ Some []
-      → made ≡ decision parts.name NoHash []
-      → IsDecision kind job line stream made
-  locked : (parts : Parts) → (field : List ℕ) → HasSoundParts kind line parts → parts.field ≡ Some field → IsLocked field
-      → made ≡ decision parts.name Locked []
-      → IsDecision kind job line stream made
-  ok : (parts : Parts) → (field : List ℕ) → (kept : SettingValue) → HasSetting kind line parts field kept
-      → ¬ IsCostly kind job line
-      → crypt parts.password kept ≡ field → is_outdated job kept ≡ false
-      → made ≡ decision parts.name Match (hashing parts.password kept stream ∷ [])
-      → IsDecision kind job line stream made
-  rehashed : (parts : Parts) → (field : List ℕ) → (kept : SettingValue) → HasSetting kind line parts field kept
-      → ¬ IsCostly kind job line
-      → crypt parts.password kept ≡ field → is_outdated job kept ≡ true
-      → made ≡ decision parts.name (Rehashed (new_hash job parts.password stream))
-      (hashing parts.password kept stream ∷ new_hashing job parts.password stream ∷ [])
-      → IsDecision kind job line stream made
-  no : (parts : Parts) → (field : List ℕ) → (kept : SettingValue) → HasSetting kind line parts field kept
-      → ¬ IsCostly kind job line
-      → crypt parts.password kept ≢ field
-      → made ≡ decision parts.name Mismatch (hashing parts.password kept stream ∷ [])
-      → IsDecision kind job line stream made
+-- HasSetting parts field kept: there is a field, and it spells this setting.
+abbrev pub HasSetting : Parts → List ℕ → SettingValue → Type 0
+HasSetting parts field kept = (parts.field ≡ Some field) × Spells field kept
 
--- IsAnswer kind job number line stream answer: the answer to the line with this number, by what it comes to.
+-- ComesTo job parts stream outcome made: what a line with these parts comes to, and the hashes that are made for it, in
+-- order.
+--   Hashed          there is no field, and the password is hashed, with a setting that the job makes
+--   NoHash, Locked  the field is empty, or begins with `!` or `*`
+--   Match           the field spells a setting, and the password's hash with it is the field
+--   Rehashed        likewise, and the setting is out of date, so the password is hashed again
+--   Mismatch        the field spells a setting, and the password's hash with it is another
+abbrev pub ComesTo : Job → Parts → Stream → Outcome → List Hashing → Type 0
+ComesTo job parts stream (Hashed hash) made =
+    (parts.field ≡ None) × (hash ≡ new_hash job parts.password stream) × (made ≡ new_hashing job parts.password stream ∷ [])
+ComesTo job parts stream NoHash made = (parts.field ≡ Some []) × (made ≡ [])
+ComesTo job parts stream Locked made = (field : List ℕ) × (parts.field ≡ Some field) × IsLocked field × (made ≡ [])
+ComesTo job parts stream Match made = (field : List ℕ) × (kept : SettingValue) × HasSetting parts field kept
+    × (crypt parts.password kept ≡ field) × (is_outdated job kept ≡ false) × (made ≡ hashing parts.password kept stream ∷ [])
+ComesTo job parts stream (Rehashed hash) made = (field : List ℕ) × (kept : SettingValue) × HasSetting parts field kept
+    × (crypt parts.password kept ≡ field) × (is_outdated job kept ≡ true) × (hash ≡ new_hash job parts.password stream)
+    × (made ≡ hashing parts.password kept stream ∷ new_hashing job parts.password stream ∷ [])
+ComesTo job parts stream Mismatch made = (field : List ℕ) × (kept : SettingValue) × HasSetting parts field kept
+    × (crypt parts.password kept ≢ field) × (made ≡ hashing parts.password kept stream ∷ [])
+ComesTo job parts stream (Refused fault) made = ⊥
+
+-- ---- answers
+
+-- refusal number fault is the refusal of the line with this number, which draws no random number and makes no hash.
+abbrev pub refusal : ℕ → LineFault → Answer
+refusal number fault = record {
+  text = as_line (codes "mkpasswd: line " ++ decimal number ++ codes ": " ++ rendered (Refused fault));
+  outcome = Refused fault;
+  hashings = [];
+}
+
+-- IsAnswer kind job number line stream answer: the answer to the line with this number. It is a refusal for the first rule
+-- that the line breaks; or a refusal because the line costs more than the budget; or the name, and what the line comes to.
 abbrev pub IsAnswer : Kind → Job → ℕ → List ℕ → Stream → Answer → Type 0
 IsAnswer kind job number line stream answer =
-    (made : Decision) × IsDecision kind job line stream made × (answer ≡ decided_answer job number made)
+    ((fault : LineFault) × IsLineRefused kind line fault × (answer ≡ refusal number fault))
+    ⊎ ((IsCostly kind job line × (answer ≡ refusal number OverBudget))
+    ⊎ (IsSound kind line × (¬ IsCostly kind job line) × (parts : Parts) × HasParts kind line parts
+    × ComesTo job parts stream answer.outcome answer.hashings
+    × (answer.text ≡ as_line (parts.name ++ colon ∷ rendered answer.outcome ++ counts_text job.work answer.hashings))))
 
 -- AreAnswers kind job number lines stream answers: the answers to lines with numbers from this one on. Each begins with the
 -- random numbers that the one before it left.

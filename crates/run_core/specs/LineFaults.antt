@@ -5,6 +5,7 @@ use Rattle.crypt_core.specs.SettingFaults.{setting_fault_text}
 use Rattle.run_core.specs.declared.line.LineFault.{LineFault}
 use Rattle.run_core.specs.declared.line.LineFault.TheVariants.{LineTooLong, NoName, NameTooLong, NoPassword, Password, Setting, OverBudget}
 
+-- line_fault_text fault says what is wrong with a line.
 abbrev pub line_fault_text : LineFault → List ℕ
 line_fault_text LineTooLong = codes "line too long"
 line_fault_text NoName = codes "no name"

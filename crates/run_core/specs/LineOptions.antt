@@ -1,30 +1,24 @@
 -- What a budget and new hashes change of the answers to lines, and that they change no others.
-use Rattle.std.specs.Prelude.{◌≡◌, ℕ, ◌⊎◌, ◌↔◌, List, [], true, Some}
+use Rattle.std.specs.Prelude.{◌≡◌, ℕ, ◌⊎◌, ◌↔◌, List, true, Some}
 use Rattle.rand_core.specs.Stream.{Stream}
 use Rattle.crypt_core.specs.Crypt.{crypt}
 use Rattle.crypt_core.specs.Settings.{SettingValue}
 use Rattle.crypt_core.specs.StoredFields.{IsStored}
 use Rattle.run_core.specs.Answers.{Answer}
 use Rattle.run_core.specs.JobOptions.{is_outdated, without_budget, without_rehash}
-use Rattle.run_core.specs.LineAnswers.{HasSetting, IsAnswer, IsCostly, refusal_text}
-use Rattle.run_core.specs.Lines.{HasParts, Parts}
+use Rattle.run_core.specs.LineAnswers.{HasSetting, IsAnswer, IsCostly, refusal}
+use Rattle.run_core.specs.Lines.{HasParts, IsSound, Parts}
 use Rattle.run_core.specs.declared.job.Job.{Job}
 use Rattle.run_core.specs.declared.line.Kind.{Kind}
-use Rattle.run_core.specs.declared.answer.Outcome.TheVariants.{Refused}
-use Rattle.run_core.specs.declared.line.LineFault.{LineFault}
 use Rattle.run_core.specs.declared.line.LineFault.TheVariants.{OverBudget}
 
 -- ---- a budget
-
--- refused_answer number fault is the refusal of the line with this number.
-abbrev pub refused_answer : ℕ → LineFault → Answer
-refused_answer number fault = record { text = refusal_text number fault; outcome = Refused fault; hashings = [] }
 
 -- A costly line gets this refusal, and each other line the answer without a budget. No line to check is costly whose
 -- field is empty or locked; a line of a batch has no field.
 pub record OnlyRefuses (kind : Kind) (job : Job) : Type 0 where
   pub costly : (number : ℕ) → (line : List ℕ) → (stream : Stream) → (answer : Answer) → IsCostly kind job line
-      → IsAnswer kind job number line stream answer → answer ≡ refused_answer number OverBudget
+      → IsAnswer kind job number line stream answer → answer ≡ refusal number OverBudget
   pub others : (number : ℕ) → (line : List ℕ) → (stream : Stream) → (answer : Answer) → ¬ IsCostly kind job line
       → IsAnswer kind job number line stream answer ↔ IsAnswer kind (without_budget job) number line stream answer
   pub unhashed : (line : List ℕ) → (parts : Parts) → (field : List ℕ) → HasParts kind line parts
@@ -38,7 +32,9 @@ pub record IsRenewable (kind : Kind) (job : Job) (line : List ℕ) : Type 0 wher
   pub parts : Parts
   pub field : List ℕ
   pub kept : SettingValue
-  pub stored : HasSetting kind line parts field kept
+  pub sound : IsSound kind line
+  pub cut : HasParts kind line parts
+  pub spelled : HasSetting parts field kept
   pub outdated : is_outdated job kept ≡ true
   pub fits_or_costly : (crypt parts.password kept ≡ field) ⊎ IsCostly kind job line
 

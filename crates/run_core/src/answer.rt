@@ -8,7 +8,7 @@ ghost use Rattle.prims_core.specs.Meter.{HasRoom};
 ghost use Rattle.prims_core.specs.Work.{IsWithin};
 ghost use Rattle.run_core.specs.Answers.{new_hash, rendered};
 ghost use Rattle.run_core.specs.JobOptions.{IsAbove};
-ghost use Rattle.run_core.specs.LineAnswers.{refusal_text};
+ghost use Rattle.run_core.specs.LineAnswers.{refusal};
 ghost use Rattle.run_core.specs.Lines.{name_limit};
 ghost use Rattle.run_core.specs.Makers.{bytes_of, next_setting, stream_after};
 ghost use Rattle.run_core.specs.Private.Answers.{Decides, IsRaisedBelow, Settles, count_text, field_cost, front_by, wanted_text, work_text};
@@ -203,7 +203,7 @@ pub(crate) fn make_hash<R: Rng>(
 
 /// Returns the message of a refusal, with the number of its line.
 pub(crate) fn render_refusal(number: u64, fault: &LineFault) -> Text
-    ensures { result.items ≡ refusal_text number fault.now }
+    ensures { result.items ≡ (refusal number fault.now).text }
 {
     let mut text = Text::new();
     append(&mut text, b"mkpasswd: line ");

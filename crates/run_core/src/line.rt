@@ -1,7 +1,7 @@
 //! A line of an input: `name:password` to hash, or `name:field:password` to check, and the first thing that is
 //! wrong with it.
 ghost use Rattle.std.specs.Prelude.{◌≡◌, ◌<◌, ◌≤◌, length, Err, Some, IfSome, IfNone, MatchOption, IfOk, IfErr, Contains};
-ghost use Rattle.run_core.specs.Lines.{IsCut, IsLineRefused, IsSound, name_limit, rule_number};
+ghost use Rattle.run_core.specs.Lines.{IsCut, IsLineRefused, IsSound, line_rule_number, name_limit};
 ghost use Rattle.run_core.specs.Texts.{colon};
 ghost use Rattle.run_core.specs.Makers.{bytes_of};
 ghost use Rattle.run_core.specs.Private.Lines.{HasBehind, IsLine, IsNamed, LacksParts};
@@ -136,7 +136,7 @@ pub(crate) fn read_line(kind: Kind, bytes: &[u8]) -> Result<Line<'_>, LineFault>
 fn name_of(line: &[u8]) -> Result<(&[u8], Option<&[u8]>), LineFault>
     ensures named { IfOk result (λ x. IsNamed line.now x.0.now (bytes_of x.1)) }
     ensures refused { IfErr result (λ fault. (kind : LineKind) → IsLineRefused kind line.now fault) }
-    ensures before_field { IfErr result (λ fault. rule_number fault < 6) }
+    ensures before_field { IfErr result (λ fault. line_rule_number fault < 6) }
 {
     if line.len() > LINE_LIMIT {
         return Err(LineFault::LineTooLong);

@@ -2,14 +2,14 @@
 //! that a run holds one line and one piece of its input, whatever that is.
 ghost use Rattle.std.specs.Prelude.{◌≡◌, ℕ, ◌+◌, ◌^◌, ◌<◌, ◌≤◌, ◌++◌, [], List, length, OnOk};
 ghost use Rattle.prims_core.specs.Work.{IsAtMost, no_work};
-ghost use Rattle.run_core.specs.Answers.{Answer, after_work, tally_of};
+ghost use Rattle.run_core.specs.Answers.{Answer, Hashing, after_work, tally_of};
 ghost use Rattle.run_core.specs.DeviceCalls.{IsUnflushed};
 ghost use Rattle.run_core.specs.Devices.{HasRoomBeforeRun, HasRoomWithinRun, MovesBytes, turns_limit};
-ghost use Rattle.run_core.specs.LineAnswers.{Decision, IsAnswer, decided_answer};
+ghost use Rattle.run_core.specs.LineAnswers.{IsAnswer};
 ghost use Rattle.run_core.specs.LineOptions.{OnlyRefuses, OnlyRenews, RenewsNone};
 ghost use Rattle.run_core.specs.LineRuns.{EndsLines, piece_size};
 ghost use Rattle.run_core.specs.Lines.{name_limit};
-ghost use Rattle.run_core.specs.Private.Answers.{IsDecisionOf, counted};
+ghost use Rattle.run_core.specs.Private.Answers.{answer_of, counted};
 ghost use Rattle.run_core.specs.Private.Deliveries.{IsUnfailed, Sends};
 ghost use Rattle.run_core.specs.Private.Headroom.{answer_limit, lines_limit};
 ghost use Rattle.run_core.specs.Private.LineProgress.{AnswersLast, AnswersOne, GoesToEnd, HasRoomIn, HasRoomToAnswer, HasRoomToRead, IsAt, IsSameRun, LooksThrough, OutputState, ReadsPiece, Represents, TakesTurns, TakesTurnsOf, position_of, spare_fetch, state_of, with_input};
@@ -343,8 +343,8 @@ fn give<O: Write, E: Write>(
     requires out_room { HasRoomWithinRun out.old }
     requires faults_room { HasRoomWithinRun faults.old }
     requires short { length answer.now.name.now ≤ name_limit }
-    ensures sends { (made : Decision) → IsDecisionOf made answer.now → after_work no_work made.hashings ≡ work.now
-        → Sends left.new (decided_answer job.now number made) out.old faults.old out.new faults.new result }
+    ensures sends { (hashings : List Hashing) → after_work no_work hashings ≡ work.now
+        → Sends left.new (answer_of job.now number answer.now.name.now answer.now.outcome hashings) out.old faults.old out.new faults.new result }
     ensures unfailed { OnOk result (IsUnfailed out.old out.new × IsUnfailed faults.old faults.new) }
     ensures unflushed { IsUnflushed out.old out.new × IsUnflushed faults.old faults.new }
     ensures calls { out.new.calls + faults.new.calls + left.new ≡ out.old.calls + faults.old.calls + left.old }

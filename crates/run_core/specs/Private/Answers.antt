@@ -1,5 +1,5 @@
 -- How the steps that decide an answer can end.
-use Rattle.std.specs.Prelude.{◌≡◌, ◌≢◌, Bool, ℕ, ◌+◌, ◌<◌, true, false, List, [], ◌∷◌, ◌++◌, decimal, flat_map, if◌then◌else◌, Option, Some, None, Result, Ok, Err}
+use Rattle.std.specs.Prelude.{◌≡◌, ◌≢◌, Bool, ℕ, ◌+◌, ◌<◌, ◌⊎◌, true, false, List, [], ◌∷◌, ◌++◌, decimal, flat_map, if◌then◌else◌, Option, Some, None, Result, Ok, Err}
 use Rattle.rand_core.specs.Stream.{Stream}
 use Rattle.prims_core.specs.declared.meter.Work.{Work}
 use Rattle.crypt_core.specs.Crypt.{crypt}
@@ -7,18 +7,21 @@ use Rattle.crypt_core.specs.declared.hash.HashFault.{HashFault}
 use Rattle.crypt_core.specs.StoredFields.{StoredHash}
 use Rattle.crypt_core.specs.declared.stored.StoredField.{StoredField}
 use Rattle.crypt_core.specs.declared.stored.StoredField.TheVariants as fields
-use Rattle.run_core.specs.Answers.{Hashing, IsRefusedAmong, after_work, hashing, is_misfit, is_refusal, new_hash, new_hashing, stream_left}
+use Rattle.run_core.specs.Answers.{Answer, Hashing, IsRefusedAmong, after_work, counts_text, hashing, is_misfit, is_refusal, new_hash, new_hashing, rendered, stream_left}
 use Rattle.run_core.specs.DeviceCalls.{as_count}
-use Rattle.run_core.specs.LineAnswers.{Decision, IsDecision}
+use Rattle.run_core.specs.LineAnswers.{ComesTo, IsCostly, refusal}
+use Rattle.run_core.specs.Lines.{HasParts, IsLineRefused, IsSound, Parts}
 use Rattle.run_core.specs.Makers.{made_cost_by}
 use Rattle.run_core.specs.JobOptions.{check_cost, is_outdated}
 use Rattle.run_core.specs.declared.answer.LineAnswer.{LineAnswer}
 use Rattle.run_core.specs.declared.answer.Outcome.{Outcome}
-use Rattle.run_core.specs.declared.answer.Outcome.TheVariants.{Hashed, Match, Rehashed, Mismatch, NoHash, Locked}
+use Rattle.run_core.specs.declared.answer.Outcome.TheVariants.{Hashed, Match, Rehashed, Mismatch, NoHash, Locked, Refused}
 use Rattle.run_core.specs.declared.job.Job.{Job}
 use Rattle.run_core.specs.declared.line.Kind.{Kind}
+use Rattle.run_core.specs.declared.line.LineFault.{LineFault}
+use Rattle.run_core.specs.declared.line.LineFault.TheVariants.{OverBudget}
 use Rattle.run_core.specs.declared.tally.Tally.{Tally}
-use Rattle.run_core.specs.Texts.{colon}
+use Rattle.run_core.specs.Texts.{as_line, colon}
 
 -- each count has risen by less than a number
 pub record IsRaisedBelow (limit : ℕ) (before after : Work) : Type 0 where
@@ -70,20 +73,31 @@ Settles job password field stream before after new_stream result =
     × IsResult (IsSettled job password field stream hashings) result outcome
     × Makes hashings stream before after new_stream result
 
--- a line's answer is the decision, without its hashes
-pub record IsDecisionOf (made : Decision) (answer : LineAnswer) : Type 0 where
-  pub name : made.name ≡ answer.name.now
-  pub outcome : made.outcome ≡ answer.outcome
+-- a line comes to this, whatever its number is; a refusal may have any name
+abbrev pub IsDecided : Kind → Job → List ℕ → Stream → List ℕ → Outcome → List Hashing → Type 0
+IsDecided kind job line stream name outcome hashings =
+    ((fault : LineFault) × IsLineRefused kind line fault × (outcome ≡ Refused fault) × (hashings ≡ []))
+    ⊎ ((IsCostly kind job line × (outcome ≡ Refused OverBudget) × (hashings ≡ []))
+    ⊎ (IsSound kind line × (¬ IsCostly kind job line) × (parts : Parts) × HasParts kind line parts × (parts.name ≡ name)
+    × ComesTo job parts stream outcome hashings))
 
-abbrev pub IsDecidedBy : Decision → Result LineAnswer HashFault → Type 0
-IsDecidedBy made (Ok answer) = IsDecisionOf made answer
-IsDecidedBy made (Err fault) = Unit {0}
-
--- a line is decided
+-- a line is decided; if memory was refused, this is what it would have come to
 abbrev pub Decides : Kind → Job → List ℕ → Stream → Work → Work → Stream → Result LineAnswer HashFault → Type 0
-Decides kind job line stream before after new_stream result =
-    (made : Decision) × IsDecision kind job line stream made × IsDecidedBy made result
-    × Makes made.hashings stream before after new_stream result
+Decides kind job line stream before after new_stream (Ok answer) =
+    (hashings : List Hashing) × IsDecided kind job line stream answer.name.now answer.outcome hashings
+    × (after ≡ after_work before hashings) × (new_stream ≡ stream_left stream hashings)
+Decides kind job line stream before after new_stream (Err fault) =
+    (name : List ℕ) × (outcome : Outcome) × (hashings : List Hashing) × IsDecided kind job line stream name outcome hashings
+    × IsRefusedAmong before hashings after new_stream
+
+-- the answer with this number, from its parts
+abbrev pub answer_text : Bool → ℕ → List ℕ → Outcome → List Hashing → List ℕ
+answer_text wanted number name (Refused fault) hashings = (refusal number fault).text
+answer_text wanted number name outcome hashings = as_line (name ++ colon ∷ rendered outcome ++ counts_text wanted hashings)
+
+abbrev pub answer_of : Job → ℕ → List ℕ → Outcome → List Hashing → Answer
+answer_of job number name outcome hashings =
+    record { text = answer_text job.work number name outcome hashings; outcome = outcome; hashings = hashings }
 
 -- ---- texts
 

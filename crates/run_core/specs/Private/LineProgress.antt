@@ -8,10 +8,10 @@ use Rattle.run_core.specs.Devices.{Device, MovesBytes, turns_limit}
 use Rattle.run_core.specs.Input.{Reads}
 use Rattle.run_core.specs.LineAnswers.{AreAnswers, IsAnswer}
 use Rattle.run_core.specs.LineRuns.{EndsLines, HasLines, lines_of, piece_size}
-use Rattle.run_core.specs.Lines.{IsTooLong}
 use Rattle.run_core.specs.Output.{Takes}
 use Rattle.run_core.specs.Private.Deliveries.{IsSentInPart, IsUnfailed, Sends}
 use Rattle.run_core.specs.Private.Headroom.{HasCountsFor, HasRoomFor, IsTallied, calls_limit, lines_limit}
+use Rattle.run_core.specs.Private.Lines.{IsTooLong}
 use Rattle.run_core.specs.Runs.{RunState, calls_of, run_state}
 use Rattle.run_core.specs.Texts.{HasNoLineFeed, line_feed}
 use Rattle.run_core.specs.declared.fault.RunFault.{RunFault}

@@ -1,13 +1,21 @@
 -- What the steps that read a line know of it.
-use Rattle.std.specs.Prelude.{◌≡◌, ◌≢◌, ℕ, ◌≤◌, List, [], length, Contains, Option, Some, None, Ok}
+use Rattle.std.specs.Prelude.{◌≡◌, ◌≢◌, ℕ, ◌<◌, ◌≤◌, List, [], length, Contains, Option, Some, None, Ok}
 use Rattle.crypt_core.specs.FieldReadings.{IsFieldReading}
 use Rattle.crypt_core.specs.Readings.{IsReadOneWay}
 use Rattle.crypt_core.specs.declared.stored.StoredField.{StoredField}
-use Rattle.run_core.specs.LineAnswers.{HasSoundParts}
-use Rattle.run_core.specs.Lines.{IsCut, line_limit, name_limit}
+use Rattle.run_core.specs.Lines.{HasParts, IsCut, IsSound, Parts, line_limit, name_limit}
 use Rattle.run_core.specs.Texts.{colon}
 use Rattle.run_core.specs.declared.line.Kind.{Kind}
 use Rattle.run_core.specs.declared.line.Kind.TheVariants.{Batch, Check}
+
+-- more bytes than a line may have
+abbrev pub IsTooLong : List ℕ → Type 0
+IsTooLong line = line_limit < length line
+
+-- a line that breaks no rule, and its parts
+pub record HasSoundParts (kind : Kind) (line : List ℕ) (parts : Parts) : Type 0 where
+  pub sound : IsSound kind line
+  pub cut : HasParts kind line parts
 
 -- a name that a line may have
 pub record IsGoodName (name : List ℕ) : Type 0 where

@@ -3,9 +3,8 @@ use Rattle.prims_core.specs.Work.{no_work}
 use Rattle.prims_core.specs.declared.meter.Work.{Work}
 use Rattle.run_core.specs.Answers.{Answer, Hashing, after_work, fault_texts, is_refusal, rendered, texts}
 use Rattle.run_core.specs.Devices.{Device}
-use Rattle.run_core.specs.LineAnswers.{answer_text, decided_answer}
 use Rattle.run_core.specs.Output.{Takes}
-use Rattle.run_core.specs.Private.Answers.{front_by, wanted_text}
+use Rattle.run_core.specs.Private.Answers.{answer_of, answer_text, front_by, wanted_text}
 use Rattle.run_core.specs.Private.Deliveries.{Delivers, Sends}
 use Rattle.run_core.specs.Texts.{as_line, colon}
 use Rattle.run_core.specs.declared.answer.Outcome.{Outcome}
@@ -78,25 +77,27 @@ printed_text wanted number name outcome made other =
     ∙ ap as_line (append_assoc (name ++ colon ∷ []) (rendered outcome) counts)
 
 pub returns-in-Refused-clause-sends : goal.returns-in-Refused-clause-sends
-returns-in-Refused-clause-sends g c = λ made decided work_is.
+returns-in-Refused-clause-sends g c = λ made work_is.
     let job = c.args.job.now in
-    let is : made.outcome ≡ Refused c.in-Refused.fault = decided.outcome ∙ c.in-Refused.is in
-    let some : (decided_answer job c.args.number made).text ≡ c.as_slice.result.now =
-    ap (λ (o : Outcome). answer_text job.work c.args.number made.name o made.hashings) is ∙ sym (c.as_slice.ensures.value ∙ c.render_refusal.ensures) in
-    sends_fault (decided_answer job c.args.number made) c.as_slice.result.now c.args.out.now c.args.faults.now c.send.new.out c.args.left.now c.send.new.left c.send.result
+    let name = c.args.answer.now.name.now in
+    let is = c.in-Refused.is in
+    let answer = answer_of job c.args.number name c.args.answer.now.outcome made in
+    let some : answer.text ≡ c.as_slice.result.now =
+    ap (λ (o : Outcome). answer_text job.work c.args.number name o made) is ∙ sym (c.as_slice.ensures.value ∙ c.render_refusal.ensures) in
+    sends_fault answer c.as_slice.result.now c.args.out.now c.args.faults.now c.send.new.out c.args.left.now c.send.new.left c.send.result
     (ap (λ (o : Outcome). is_refusal o) is) some c.send.ensures.delivers c.send.ensures.turns
 
-same_text : (wanted : Bool) (name other : List ℕ) (one two : Outcome) (work again : Work) → name ≡ other → one ≡ two → work ≡ again
-    → as_line (front_by (Some name) ++ (rendered one ++ wanted_text wanted work)) ≡ as_line (front_by (Some other) ++ (rendered two ++ wanted_text wanted again))
-same_text wanted name other one two work again names outcomes works = cc
-
 pub returns-in_default-clause-sends : goal.returns-in_default-clause-sends
-returns-in_default-clause-sends g c = λ made decided work_is.
+returns-in_default-clause-sends g c = λ made work_is.
     let job = c.args.job.now in
-    let other : (fault : LineFault) → made.outcome ≢ Refused fault = λ fault is. c.in_default.not-Refused fault (sym decided.outcome ∙ is) in
-    let some : (decided_answer job c.args.number made).text ≡ c.as_slice-in_default.result.now =
-    printed_text job.work c.args.number made.name made.outcome made.hashings other
-    ∙ (same_text job.work _ _ _ _ _ _ decided.name decided.outcome work_is ∙ sym (c.as_slice-in_default.ensures.value ∙ c.render.ensures)) in
-    sends_text (decided_answer job c.args.number made) c.as_slice-in_default.result.now c.args.out.now c.send-in_default.new.out c.args.faults.now
+    let name = c.args.answer.now.name.now in
+    let outcome = c.args.answer.now.outcome in
+    let answer = answer_of job c.args.number name outcome made in
+    let sent : c.as_slice-in_default.result.now ≡ as_line (front_by (Some name) ++ (rendered outcome ++ wanted_text job.work c.args.work.now)) =
+    c.as_slice-in_default.ensures.value ∙ c.render.ensures in
+    let some : answer.text ≡ c.as_slice-in_default.result.now =
+    printed_text job.work c.args.number name outcome made c.in_default.not-Refused
+    ∙ (ap (λ (work : Work). as_line (front_by (Some name) ++ (rendered outcome ++ wanted_text job.work work))) work_is ∙ sym sent) in
+    sends_text answer c.as_slice-in_default.result.now c.args.out.now c.send-in_default.new.out c.args.faults.now
     c.args.left.now c.send-in_default.new.left c.send-in_default.result
-    (is_printed made.outcome other) some c.send-in_default.ensures.delivers c.send-in_default.ensures.turns
+    (is_printed outcome c.in_default.not-Refused) some c.send-in_default.ensures.delivers c.send-in_default.ensures.turns

@@ -4,13 +4,12 @@ use Rattle.crypt_core.specs.Work.{raised_by}
 use Rattle.prims_core.specs.Work.{no_work}
 use Rattle.prims_core.specs.declared.meter.Work.{Work}
 use Rattle.run_core.specs.Answers.{Hashing, after_work}
-use Rattle.run_core.specs.LineAnswers.{decided_answer}
-use Rattle.run_core.specs.Private.Answers.{counted}
+use Rattle.run_core.specs.Private.Answers.{answer_of}
 use Rattle.run_core.specs.Private.Headroom.{line_work_limit}
 use Rattle.run_core.specs.Private.LineProgress.{OutputState, state_of}
-use Rattle.run_core.specs.declared.answer.Outcome.{Outcome}
 use Rattle.run_core.proofs.Answering.{answers-sent, room-after}
 use Rattle.run_core.proofs.Counting.{after_hashings, small_rise}
+use Rattle.run_core.proofs.Deciding.{decided-answer}
 use Rattle.run_core.proofs.lines.LineRun.answer_buffered.Goals as goal
 
 -- the work that is rendered is that of the hashes
@@ -28,29 +27,48 @@ work_since-work-requires g c = record {
 pub returns-in_err-answer-clause-answers : goal.returns-in_err-answer-clause-answers
 returns-in_err-answer-clause-answers g c line stands =
     let p = err_from_is_err_and c.from_residual.result c.from_residual.ensures.1 in
+    let job = c.args.self.now.job.now in
+    let number = c.args.self.now.tally.lines + 1 in
     let decides = c.in_err-answer.ensures.decides line stands in
-    let answer = decided_answer c.args.self.now.job.now (c.args.self.now.tally.lines + 1) decides.0 in
-    rw (p.1, p.2) (answer, (decides.0, decides.1, refl), (refl {a = c.args.self.now.out.now}, refl {a = c.args.self.now.faults.now}, decides.3), tt)
+    rw (p.1, p.2) (
+      answer_of job number decides.0 decides.1 decides.2,
+      decided-answer c.args.self.now.kind job number line _ decides.0 decides.1 decides.2 decides.3,
+      (refl {a = c.args.self.now.out.now}, refl {a = c.args.self.now.faults.now}, decides.4),
+      tt,
+    )
 
 pub returns-in_err-give-clause-answers : goal.returns-in_err-give-clause-answers
 returns-in_err-give-clause-answers g c line stands =
     let p = err_from_is_err_and c.from_residual-in_err-give.result c.from_residual-in_err-give.ensures.1 in
+    let job = c.args.self.now.job.now in
+    let number = c.args.self.now.tally.lines + 1 in
     let decides = c.in_ok-answer.ensures.decides line stands in
-    let answer = decided_answer c.args.self.now.job.now (c.args.self.now.tally.lines + 1) decides.0 in
+    let name = c.in_ok-answer.answer.name.now in
+    let outcome = c.in_ok-answer.answer.outcome in
+    let answer = answer_of job number name outcome decides.0 in
     let old = state_of g.R.Rng.stream c.args.self.now in
     let new : OutputState g.row.O.Denot g.row.E.Denot = record { out = c.give.new.out; faults = c.give.new.faults; stream = g.R.Rng.stream c.answer.new.rng; counts = c.answer.new.meter } in
-    let work_is = rendered_work c.args.self.now.meter.now c.answer.new.meter c.reading-before.result c.work_since-work.result decides.0.hashings decides.3.0 c.reading-before.ensures c.work_since-work.ensures.raised in
-    let sent = answers-sent c.give.new.left answer old new c.give.result decides.3.1 decides.3.0 (c.give.ensures.sends decides.0 decides.2 work_is) in
-    rw (p.1, p.2) (answer, (decides.0, decides.1, refl), rw c.in_err-give.was at sent, tt)
+    let work_is = rendered_work c.args.self.now.meter.now c.answer.new.meter c.reading-before.result c.work_since-work.result decides.0 decides.2 c.reading-before.ensures c.work_since-work.ensures.raised in
+    let sent = answers-sent c.give.new.left answer old new c.give.result decides.3 decides.2 (c.give.ensures.sends decides.0 work_is) in
+    rw (p.1, p.2) (
+      answer,
+      decided-answer c.args.self.now.kind job number line _ name outcome decides.0 decides.1,
+      rw c.in_err-give.was at sent,
+      tt,
+    )
 
 pub returns-clause-answers : goal.returns-clause-answers
 returns-clause-answers g c line stands =
+    let job = c.args.self.now.job.now in
+    let number = c.args.self.now.tally.lines + 1 in
     let decides = c.in_ok-answer.ensures.decides line stands in
-    let work_is = rendered_work c.args.self.now.meter.now c.answer.new.meter c.reading-before.result c.work_since-work.result decides.0.hashings decides.3.0 c.reading-before.ensures c.work_since-work.ensures.raised in (
-      decided_answer c.args.self.now.job.now (c.args.self.now.tally.lines + 1) decides.0,
-      (decides.0, decides.1, refl),
-      (decides.3.1, decides.3.0, c.in_ok-give.ensures.sends decides.0 decides.2 work_is),
-      c.count_line.ensures ∙ ap (λ (o : Outcome). counted c.args.self.now.tally o) (sym decides.2.outcome),
+    let name = c.in_ok-answer.answer.name.now in
+    let outcome = c.in_ok-answer.answer.outcome in
+    let work_is = rendered_work c.args.self.now.meter.now c.answer.new.meter c.reading-before.result c.work_since-work.result decides.0 decides.2 c.reading-before.ensures c.work_since-work.ensures.raised in (
+      answer_of job number name outcome decides.0,
+      decided-answer c.args.self.now.kind job number line _ name outcome decides.0 decides.1,
+      (decides.3, decides.2, c.in_ok-give.ensures.sends decides.0 work_is),
+      c.count_line.ensures,
     )
 
 pub returns-clause-room : goal.returns-clause-room
