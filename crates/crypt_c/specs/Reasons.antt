@@ -36,11 +36,3 @@ reason_row (Refused NoRandomWords) = (neg_ℤ (pos 19), codes "no random words")
 -- The number of a reason.
 abbrev pub reason_number : Reason → ℤ
 reason_number reason = (reason_row reason).0
-
--- The words of a reason.
-abbrev pub reason_words : Reason → List ℕ
-reason_words reason = (reason_row reason).1
-
--- The words for a number that no reason has.
-abbrev pub unknown_words : List ℕ
-unknown_words = codes "unknown reason"

@@ -14,13 +14,8 @@ use Rattle.crypt_c.specs.declared.report.Report.{Report}
 
 -- The report of a reason: `len` bytes were put, a hash costs at most `most`, and `counts` is the work.
 abbrev pub reported : Reason → ℕ → ℕ → Work → Report
-reported reason len most counts = record {
-  reason = reason_number reason;
-  length = len;
-  cost = most;
-  work = counts;
-  reserved = 0;
-}
+reported reason len most counts =
+    record { reason = reason_number reason; length = len; cost = most; work = counts; reserved = 0 }
 
 -- The report of a refusal before any hashing, with the cost, or 0 if it is not known yet.
 abbrev pub refused : Refusal → ℕ → Report

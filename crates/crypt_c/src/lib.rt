@@ -8,11 +8,11 @@
 //! memory. No call keeps anything or starts anything, so many threads may call at once.
 #![tactic(auto)]
 
-ghost use Rattle.std.specs.Prelude.{◌≡◌, ◌≢◌, ◌⊎◌, ◌↔◌, ◌<◌, ◌≤◌, pos, ℕ, List, [], ◌∷◌, length, take, Result};
+ghost use Rattle.std.specs.Prelude.{◌≡◌, ◌≢◌, ◌⊎◌, ◌↔◌, ◌<◌, ◌≤◌, pos, ℕ, List, [], ◌∷◌, length, take, codes, Result};
 ghost use Rattle.crypt_core.specs.Settings.{SettingValue, Spells};
 ghost use Rattle.crypt_core.specs.declared.scheme.Scheme.{Scheme};
 ghost use Rattle.crypt_c.specs.Calls.{Both, Hashes, HashesAnew, IsLengthRead, IsOutdated, IsPasswordRead, IsSchemeMade, IsSettingRead, PutsSetting, Opens, Verifies, bounded, rehashed};
-ghost use Rattle.crypt_c.specs.Reasons.{reason_number, reason_words, unknown_words};
+ghost use Rattle.crypt_c.specs.Reasons.{reason_number, reason_row};
 ghost use Rattle.crypt_c.specs.Reports.{Answers, put, refused, token};
 ghost use Rattle.crypt_c.specs.declared.reason.Reason.{Reason as Why};
 ghost use Rattle.crypt_c.specs.declared.reason.Reason.TheVariants.{Refused};
@@ -201,10 +201,10 @@ pub extern "C" fn mkpasswd_setting(
 #[unsafe(no_mangle)]
 pub extern "C" fn mkpasswd_words(reason: i32, out: &mut [u8]) -> i32
     ensures one_or_zero { (result ≡ pos 1) ⊎ (result ≡ pos 0) }
-    ensures known { (why : Why) → reason ≡ reason_number why → (out.new ≡ put (reason_words why) out.old)
-        × (result ≡ pos 1 ↔ length (reason_words why) < length out.old) }
+    ensures known { (why : Why) → reason ≡ reason_number why → (out.new ≡ put (reason_row why).1 out.old)
+        × (result ≡ pos 1 ↔ length (reason_row why).1 < length out.old) }
     ensures unknown { ((why : Why) → reason ≢ reason_number why)
-        → (out.new ≡ put unknown_words out.old) × (result ≡ pos 0) }
+        → (out.new ≡ put (codes "unknown reason") out.old) × (result ≡ pos 0) }
 {
     let Some(reason) = Reason::numbered(reason) else {
         put(out, b"unknown reason");

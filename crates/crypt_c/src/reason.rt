@@ -1,7 +1,7 @@
 //! Why a call returned what it did: the reasons, their numbers and their words.
 ghost use Rattle.std.specs.Prelude.{◌≡◌, ◌≢◌, IfSome, IfNone};
 ghost use Rattle.crypt_c.specs.declared.reason.Reason.{Reason as Why};
-ghost use Rattle.crypt_c.specs.Reasons.{reason_number, reason_words};
+ghost use Rattle.crypt_c.specs.Reasons.{reason_number, reason_row};
 
 use crypt_core::hash::HashFault;
 use crypt_core::password::PasswordFault;
@@ -110,7 +110,7 @@ impl Reason {
 
     /// Returns the reason in words.
     pub(crate) fn words(self) -> &'static str
-        ensures { result.now ≡ reason_words self }
+        ensures { result.now ≡ (reason_row self).1 }
     {
         match self {
             Reason::Fits => "fits",
