@@ -12,8 +12,8 @@ IsAlone {A = A} reads this = (other : Result A Refusal) → reads other → this
 
 pub password_alone : (bytes : List ℕ) → IsPassword bytes → IsAlone (IsPasswordRead bytes) (Ok bytes)
 password_alone bytes is (Ok password) read = ap (λ (p : List ℕ). Ok p) (sym read.1)
-password_alone bytes is (Err (Password TooLong)) read = absurd (omega (arith, is.length_fits, read))
-password_alone bytes is (Err (Password HasNul)) read = absurd (is.no_nul read.1)
+password_alone bytes is (Err (Password TooLong)) read = absurd (omega (arith, is.0, read))
+password_alone bytes is (Err (Password HasNul)) read = absurd (is.1 read.1)
 password_alone bytes is (Err (Setting fault)) read = absurd read
 password_alone bytes is (Err OutOfMemory) read = absurd read
 password_alone bytes is (Err TooFewBytes) read = absurd read

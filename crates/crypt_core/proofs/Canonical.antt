@@ -42,10 +42,10 @@ rounds_range count false part after s = (omega (arith, s.1), omega (arith, s.1))
 spelled_rounds : (count : ℕ) (flag : Bool) (part after : List ℕ) → SpellsRounds (record { count = count; is_written = flag }) part after → IsRounds (record { count = count; is_written = flag })
 spelled_rounds count true part after s =
     let range = rounds_range count true part after s in
-    record { in_range = clamped_again count range.0 range.1; unwritten = λ e. absurd (cc e) }
+    (clamped_again count range.0 range.1, λ e. absurd (cc e))
 spelled_rounds count false part after s =
     let range = rounds_range count false part after s in
-    record { in_range = clamped_again count range.0 range.1; unwritten = λ e. s.1 }
+    (clamped_again count range.0 range.1, λ e. s.1)
 
 pub cost_bounded : (scheme : Scheme) (part after field salt : List ℕ) → SpellsCost scheme part after → KeepsSalt scheme field salt → IsScheme scheme
 cost_bounded Md5crypt part after field salt s k = tt
@@ -87,8 +87,8 @@ length_rounds count false high = omega arith
 -- the canonical text stays within its limit
 pub canonical_short : (scheme : Scheme) (salt : List ℕ) → IsScheme scheme → length salt ≤ salt_limit (method_of scheme) → length (prefix (method_of scheme)) + (length (cost_part scheme) + length salt) ≤ canonical_limit
 canonical_short Md5crypt salt c l = omega arith
-canonical_short (Sha256crypt r) salt c l = omega (arith, length_rounds r.count r.is_written (in_range r.count c.in_range).1)
-canonical_short (Sha512crypt r) salt c l = omega (arith, length_rounds r.count r.is_written (in_range r.count c.in_range).1)
+canonical_short (Sha256crypt r) salt c l = omega (arith, length_rounds r.count r.is_written (in_range r.count c.0).1)
+canonical_short (Sha512crypt r) salt c l = omega (arith, length_rounds r.count r.is_written (in_range r.count c.0).1)
 canonical_short (Scrypt n) salt c l = omega (arith, length-scrypt_part n)
 
 -- Digits
@@ -182,8 +182,8 @@ rounds_bytes count false low high = All-nil IsSettingByte
 
 pub cost_bytes : (scheme : Scheme) → IsScheme scheme → All IsSettingByte (cost_part scheme)
 cost_bytes Md5crypt c = All-nil IsSettingByte
-cost_bytes (Sha256crypt r) c = let range = in_range r.count c.in_range in rounds_bytes r.count r.is_written range.0 range.1
-cost_bytes (Sha512crypt r) c = let range = in_range r.count c.in_range in rounds_bytes r.count r.is_written range.0 range.1
+cost_bytes (Sha256crypt r) c = let range = in_range r.count c.0 in rounds_bytes r.count r.is_written range.0 range.1
+cost_bytes (Sha512crypt r) c = let range = in_range r.count c.0 in rounds_bytes r.count r.is_written range.0 range.1
 cost_bytes (Scrypt n) c = All-weaker (Contains alphabet) IsSettingByte character_is_byte (scrypt_part n) (all_scrypt_part n)
 
 -- Bytes
@@ -296,6 +296,6 @@ canonical_spells text kept s =
 pub packed_short : (scheme : Scheme) (salt : List ℕ) → IsScheme scheme → length salt ≤ salt_limit (method_of scheme)
     → length (prefix (method_of scheme)) + (length (cost_part scheme) + length salt) + packed_len (method_of scheme) < hash_limit
 packed_short Md5crypt salt c l = omega arith
-packed_short (Sha256crypt r) salt c l = omega (arith, length_rounds r.count r.is_written (in_range r.count c.in_range).1)
-packed_short (Sha512crypt r) salt c l = omega (arith, length_rounds r.count r.is_written (in_range r.count c.in_range).1)
+packed_short (Sha256crypt r) salt c l = omega (arith, length_rounds r.count r.is_written (in_range r.count c.0).1)
+packed_short (Sha512crypt r) salt c l = omega (arith, length_rounds r.count r.is_written (in_range r.count c.0).1)
 packed_short (Scrypt n) salt c l = omega (arith, length-scrypt_part n)

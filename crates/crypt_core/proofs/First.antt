@@ -201,8 +201,8 @@ refused_salt text (Scrypt n) field rest t s c m f bad =
             inr (
               some_cost text t n (field ++ rest) s,
               inr (
-                in_range text t n (field ++ rest) s c.in_range,
-                inr (below_ceiling text t n (field ++ rest) s c.in_range c.within, inl (refl, (n, field, rest, s, f, bad))),
+                in_range text t n (field ++ rest) s c.0,
+                inr (below_ceiling text t n (field ++ rest) s c.0 c.1, inl (refl, (n, field, rest, s, f, bad))),
               ),
             ),
           ),

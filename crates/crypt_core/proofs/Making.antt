@@ -45,10 +45,10 @@ pub accepted_numerals : (cost : ScryptCost) → IsAccepted cost → HasNumerals 
 accepted_numerals cost accepted =
     let n = row_count cost in
     let some_n : 1 ≤ n = let above : 0 ≤ cost.log_n = omega arith in let mono : 2 ^ 0 ≤ 2 ^ cost.log_n = pow_mono above in omega (arith, mono) in
-    let some_nr : 0 < n * cost.r = one-le-mul some_n accepted.in_range.some_block in
-    let within : n * cost.r * cost.p ≤ 2 ^ 23 = accepted.within in
-    let table : n * cost.r ≤ n * cost.r * cost.p = le-mul_of_pos_right (n * cost.r) accepted.in_range.some_part in
-    let rows : n ≤ n * cost.r = le-mul_of_pos_right n accepted.in_range.some_block in
+    let some_nr : 0 < n * cost.r = one-le-mul some_n accepted.0.2 in
+    let within : n * cost.r * cost.p ≤ 2 ^ 23 = accepted.1 in
+    let table : n * cost.r ≤ n * cost.r * cost.p = le-mul_of_pos_right (n * cost.r) accepted.0.3 in
+    let rows : n ≤ n * cost.r = le-mul_of_pos_right n accepted.0.2 in
     let blocks : 1 * cost.r ≤ n * cost.r = mul-le-mul_right cost.r some_n in
     let parts : 1 * cost.p ≤ n * cost.r * cost.p = mul-le-mul_right cost.p some_nr in
     let low : cost.log_n < 24 = lt_of_not-le (λ high. let power : 2 ^ 24 ≤ n = pow_mono high in omega arith) in
@@ -56,8 +56,8 @@ accepted_numerals cost accepted =
 
 cost_spelled : (scheme : Scheme) (salt : List ℕ) → IsScheme scheme → All (Contains alphabet) salt → SpellsCost scheme (cost_part scheme) (salt ++ [])
 cost_spelled Md5crypt salt c all = refl
-cost_spelled (Sha256crypt r) salt c all = let range = in_range r.count c.in_range in rounds_spelled r.count r.is_written salt range.0 range.1 c.unwritten all
-cost_spelled (Sha512crypt r) salt c all = let range = in_range r.count c.in_range in rounds_spelled r.count r.is_written salt range.0 range.1 c.unwritten all
+cost_spelled (Sha256crypt r) salt c all = let range = in_range r.count c.0 in rounds_spelled r.count r.is_written salt range.0 range.1 c.1 all
+cost_spelled (Sha512crypt r) salt c all = let range = in_range r.count c.0 in rounds_spelled r.count r.is_written salt range.0 range.1 c.1 all
 cost_spelled (Scrypt n) salt c all = let says = accepted_numerals n c in (refl, says.0, says.1, says.2)
 
 salt_kept : (scheme : Scheme) (salt : List ℕ) → IsScheme scheme → length salt ≤ salt_limit (method_of scheme) → All (Contains alphabet) salt → KeepsSalt scheme salt salt
@@ -97,10 +97,7 @@ pub accepted_at : (cost : ℕ) → cost ≤ 11 → IsAccepted (record { log_n = 
 accepted_at cost high =
     let log_high : cost + 7 ≤ 11 + 7 = omega arith in
     let power : 2 ^ (cost + 7) ≤ 2 ^ (11 + 7) = pow_mono log_high in
-    record {
-      in_range = record { above_one = omega arith; below = omega arith; some_block = omega arith; some_part = omega arith };
-      within = omega (arith, power);
-    }
+    ((omega arith, omega arith, omega arith, omega arith), omega (arith, power))
 
 pub made_method : (m : Method) (cost : ℕ) → method_of (made_scheme m cost) ≡ m
 made_method methods.Md5crypt cost = refl

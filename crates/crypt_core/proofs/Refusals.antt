@@ -39,10 +39,10 @@ spelled_fails_none text kept s BadRounds (inr b) = lacks_none text kept.scheme (
 spelled_fails_none text kept s BadCost b = lacks_none text kept.scheme (s.field ++ s.rest) methods.Scrypt s.scheme b
 spelled_fails_none text kept s ScryptRange b =
     let same = scheme_unique text kept.scheme (Scrypt b.0) (s.field ++ s.rest) b.1 s.scheme b.2 in
-    b.3 (scrypt_kept kept.scheme b.0 s.field kept.salt same.0 s.salt).0.in_range
+    b.3 (scrypt_kept kept.scheme b.0 s.field kept.salt same.0 s.salt).0.0
 spelled_fails_none text kept s AboveCeiling b =
     let same = scheme_unique text kept.scheme (Scrypt b.0) (s.field ++ s.rest) b.1 s.scheme b.2 in
-    b.3 (scrypt_kept kept.scheme b.0 s.field kept.salt same.0 s.salt).0.within
+    b.3 (scrypt_kept kept.scheme b.0 s.field kept.salt same.0 s.salt).0.1
 spelled_fails_none text kept s BadSalt b =
     let same = scheme_unique text kept.scheme (Scrypt b.0) (s.field ++ s.rest) (b.1 ++ b.2) s.scheme b.3 in
     let fields = field_unique s.field b.1 s.rest b.2 s.is_field b.4 same.1 in

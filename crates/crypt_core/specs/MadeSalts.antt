@@ -12,7 +12,5 @@ made_salt words len = map (λ i. character_of (slice_index words (i / 10) / 2 ^ 
 -- The next three numbers of a stream, and what is left of it.
 abbrev pub three_words : Stream → List ℕ × Stream
 three_words stream =
-    let first = next_u64 stream in
-    let second = next_u64 first.1 in
-    let third = next_u64 second.1 in
+    let first = next_u64 stream in let second = next_u64 first.1 in let third = next_u64 second.1 in
     (first.0 ∷ second.0 ∷ third.0 ∷ [], third.1)

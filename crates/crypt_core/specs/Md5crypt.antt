@@ -6,17 +6,13 @@ use Rattle.crypt_core.specs.Methods.{method_row}
 use Rattle.crypt_core.specs.RoundMessage.{alternate_message, digest_after}
 use Rattle.crypt_core.specs.declared.method.Method.TheVariants as methods
 
--- the digest before the rounds. A digit 1 of the password's length stands for a zero byte, and a 0 for the password's
--- first byte
+-- The digest before the rounds. A digit 1 of the password's length stands for a zero byte, and a 0 for the password's
+-- first byte.
 abbrev pub md5crypt_opening : List ℕ → List ℕ → List ℕ
 md5crypt_opening password salt = md5 (password ++ (method_row methods.Md5crypt).prefix ++ salt
     ++ cycle (md5 (alternate_message password salt)) (length password)
     ++ digit_pieces (0 ∷ []) (take 1 password) (length password))
 
--- 1000 rounds follow
-abbrev pub md5crypt_rounds : ℕ
-md5crypt_rounds = 1000
-
--- the digest after the last round
+-- The digest after 1000 rounds.
 unfoldable pub md5crypt_digest : List ℕ → List ℕ → List ℕ
-md5crypt_digest password salt = digest_after md5 (md5crypt_opening password salt) password salt md5crypt_rounds
+md5crypt_digest password salt = digest_after md5 (md5crypt_opening password salt) password salt 1000

@@ -4,7 +4,7 @@ use Rattle.std.specs.Prelude.{ℕ, zero, suc, ◌+◌, List, [], ◌∷◌, ◌+
 use Rattle.std.specs.List.{range_with_len, repeat}
 use Rattle.prims_core.specs.Digests.{md5}
 use Rattle.crypt_core.specs.Cycle.{cycle, digit_pieces}
-use Rattle.crypt_core.specs.Md5crypt.{md5crypt_opening, md5crypt_rounds}
+use Rattle.crypt_core.specs.Md5crypt.{md5crypt_opening}
 use Rattle.crypt_core.specs.MethodLimits.{prefix}
 use Rattle.crypt_core.specs.RoundMessage.{alternate_message, digest_after, round_message}
 use Rattle.crypt_core.specs.ShaCrypt.{password_string, salt_string, sha_opening, sha_opening_byte}
@@ -25,6 +25,10 @@ md5crypt_message password salt zero = alternate_message password salt
 md5crypt_message password salt (suc zero) = opening_message password salt
 md5crypt_message password salt (suc (suc i)) =
     round_message i (digest_after md5 (md5crypt_opening password salt) password salt i) password salt
+
+-- how many rounds follow the first two messages
+abbrev pub md5crypt_rounds : ℕ
+md5crypt_rounds = 1000
 
 -- all messages in order
 unfoldable pub md5crypt_messages : List ℕ → List ℕ → List (List ℕ)

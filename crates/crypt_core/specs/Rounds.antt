@@ -15,6 +15,5 @@ abbrev pub clamped : ℕ → ℕ
 clamped n = max 1000 (min n 999999999)
 
 -- IsRounds rounds: a setting can have these rounds. Their number is in range, and without a field it is the default.
-pub record IsRounds (rounds : Rounds) : Type 0 where
-  pub in_range : clamped rounds.count ≡ rounds.count
-  pub unwritten : rounds.is_written ≡ false → rounds.count ≡ default_rounds
+abbrev pub IsRounds : Rounds → Type 0
+IsRounds rounds = (clamped rounds.count ≡ rounds.count) × (rounds.is_written ≡ false → rounds.count ≡ default_rounds)

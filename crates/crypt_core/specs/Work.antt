@@ -9,7 +9,6 @@ use Rattle.prims_core.specs.declared.meter.Work.{Work}
 use Rattle.kdf_core.specs.Scrypt.{part_bytes}
 use Rattle.kdf_core.specs.ScryptWork.{scrypt_work}
 use Rattle.crypt_core.specs.Cycle.{digit_bytes}
-use Rattle.crypt_core.specs.Md5crypt.{md5crypt_rounds}
 use Rattle.crypt_core.specs.Methods.{method_row}
 use Rattle.crypt_core.specs.Settings.{SettingValue}
 use Rattle.crypt_core.specs.ShaCrypt.{sha_opening_byte}
@@ -34,9 +33,9 @@ digests_alone digests bytes = record { digests = digests; bytes = bytes; mixes =
 --   second   the same, the prefix, and a byte for each binary digit of the password's length
 --   rounds   1,000
 abbrev pub md5crypt_work : ℕ → ℕ → Work
-md5crypt_work password_length salt_length = digests_alone (md5crypt_rounds + 2)
+md5crypt_work password_length salt_length = digests_alone (1000 + 2)
     (2 * (2 * password_length + salt_length) + 3 + digit_bytes 1 1 password_length
-    + rounds_bytes md5crypt_rounds (method_row methods.Md5crypt).digest_len password_length salt_length)
+    + rounds_bytes 1000 (method_row methods.Md5crypt).digest_len password_length salt_length)
 
 -- shacrypt_work digest_length a rounds password_length salt_length: SHA-crypt has four messages and the rounds, where a
 -- is the first byte of the digest that Drepper calls A.

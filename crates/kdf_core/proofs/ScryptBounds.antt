@@ -15,17 +15,17 @@ bounded cost accepted =
     let n = row_count cost in
     let r = cost.r in
     let p = cost.p in
-    let some_r : 0 < r = accepted.in_range.some_block in
-    let some_p : 0 < p = accepted.in_range.some_part in
-    let two : 2 ≤ n = let mono : 2 ^ 1 ≤ 2 ^ cost.log_n = pow_mono accepted.in_range.above_one in omega (arith, mono) in
-    let within : n * r * p ≤ 8388608 = accepted.within in
+    let some_r : 0 < r = accepted.0.2 in
+    let some_p : 0 < p = accepted.0.3 in
+    let two : 2 ≤ n = let mono : 2 ^ 1 ≤ 2 ^ cost.log_n = pow_mono accepted.0.0 in omega (arith, mono) in
+    let within : n * r * p ≤ 8388608 = accepted.1 in
     let table : n * r ≤ n * r * p = le-mul_of_pos_right (n * r) some_p in
     let mixes : n * p ≤ n * p * r = le-mul_of_pos_right (n * p) some_r in
     let parts : 2 * (r * p) ≤ n * (r * p) = mul-le-mul_right (r * p) two in
     let blocks : r ≤ r * p = le-mul_of_pos_right r some_p in
     let low : cost.log_n < 23 = lt_of_not-le (λ high.
     let power : 2 ^ 23 ≤ n = pow_mono high in
-    let two_r : 2 ≤ r = omega (arith, accepted.in_range.below) in
+    let two_r : 2 ≤ r = omega (arith, accepted.0.1) in
     let twice : n * 2 ≤ n * r = mul-le-mul_left n two_r in
     omega arith) in
     record {
@@ -42,7 +42,7 @@ bounded cost accepted =
 pub rows_power : (cost : ScryptCost) (n : ℕ) → IsAccepted cost → n ≡ row_count cost → IsPower n cost.log_n
 rows_power cost n accepted is =
     let log = (bounded cost accepted).log in
-    record { power = is; above_one = accepted.in_range.above_one; most = omega arith }
+    record { power = is; above_one = accepted.0.0; most = omega arith }
 
 -- the bytes of all parts, by the numbers as they are read
 pub parts-product : (cost : ScryptCost) (r p : ℕ) → r ≡ cost.r → p ≡ cost.p → 128 * r * p ≡ parts_bytes cost

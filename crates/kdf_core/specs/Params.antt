@@ -17,11 +17,8 @@ row_count cost = 2 ^ cost.log_n
 
 -- log2 N is at least 1 and stays below 16 r, and neither r nor p is 0 (RFC 7914, section 2; its bound on p follows from
 -- the ceiling)
-pub record IsInRange (cost : ScryptCost) : Type 0 where
-  pub above_one : 0 < cost.log_n
-  pub below : cost.log_n < 16 * cost.r
-  pub some_block : 0 < cost.r
-  pub some_part : 0 < cost.p
+abbrev pub IsInRange : ScryptCost → Type 0
+IsInRange cost = (0 < cost.log_n) × (cost.log_n < 16 * cost.r) × (0 < cost.r) × (0 < cost.p)
 
 -- N * r * p, by which the time grows, and which bounds the memory
 abbrev pub product : ScryptCost → ℕ
@@ -32,9 +29,8 @@ abbrev pub IsWithinCeiling : ScryptCost → Type 0
 IsWithinCeiling cost = product cost ≤ 8388608
 
 -- scrypt runs with numbers that are in range and within the ceiling
-pub record IsAccepted (cost : ScryptCost) : Type 0 where
-  pub in_range : IsInRange cost
-  pub within : IsWithinCeiling cost
+abbrev pub IsAccepted : ScryptCost → Type 0
+IsAccepted cost = IsInRange cost × IsWithinCeiling cost
 
 -- numbers that are accepted, and what follows: N is at least 2 and at most 2 ^ 22, and r and the products of two are
 -- at most so much

@@ -58,7 +58,7 @@ module _ {I : Type 0} (old new : Device I) (bytes : List ℕ) (left : ℕ) where
   taken_line (Ok password) reads got =
       each _ bytes _ (decided _ _ bytes reads.shown got.1) (λ all line. elim line [
         | inl same ↦ got.2 ∙ sym same
-        | inr long ↦ absurd (let fits = got.3.length_fits in omega (arith, fits, long.0, ap length got.2))
+        | inr long ↦ absurd (let fits = got.3.0 in omega (arith, fits, long.0, ap length got.2))
       ])
   taken_line (Err fault) reads got = tt
 

@@ -107,8 +107,8 @@ entry_from_behind kind line name back field password named behind is_password = 
 }
 
 not_refused : (bytes : List ℕ) (fault : PasswordFault) → IsPassword bytes → IsPasswordRefused bytes fault → ⊥
-not_refused bytes TooLong is_password refused = omega (arith, is_password.length_fits, refused)
-not_refused bytes HasNul is_password refused = is_password.no_nul refused.1
+not_refused bytes TooLong is_password refused = omega (arith, is_password.0, refused)
+not_refused bytes HasNul is_password refused = is_password.1 refused.1
 
 -- an entry breaks no rule but that of its field
 entry_breaks_none : (kind : Kind) (line : List ℕ) (parts : Parts) → IsEntry kind line parts

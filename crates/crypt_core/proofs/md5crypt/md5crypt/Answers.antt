@@ -1,7 +1,7 @@
 use Rattle.std.proofs.Common.{◌≡◌, ◌+◌, length, arith, refl, sym, ◌∙◌, ap}
 use Rattle.prims_core.specs.Digests.{md5}
-use Rattle.crypt_core.specs.Md5crypt.{md5crypt_digest, md5crypt_opening, md5crypt_rounds}
-use Rattle.crypt_core.specs.Messages.{md5crypt_message, md5crypt_messages, opening_message}
+use Rattle.crypt_core.specs.Md5crypt.{md5crypt_digest, md5crypt_opening}
+use Rattle.crypt_core.specs.Messages.{md5crypt_message, md5crypt_messages, md5crypt_rounds, opening_message}
 use Rattle.crypt_core.specs.RoundMessage.{round_message, alternate_message}
 use Rattle.crypt_core.specs.Private.Counting.{with_digest}
 use Rattle.crypt_core.specs.Private.RoundStrings.{Strings}
@@ -21,7 +21,7 @@ rounds-init c =
     let is = c.bytes-password.ensures.value in
     let opened = rw is at c.opening-digest.ensures.count in
     let bytes = ap (λ m. m.bytes) opened in
-    let short = c.bytes-password.ensures.password.length_fits in (
+    let short = c.bytes-password.ensures.password.0 in (
       (rw is at c.opening-digest.ensures.digest) ∙ sym (digest_after-none md5 (md5crypt_opening p s) p s),
       c.opening-digest.ensures.length,
       rw (messages-two p s) (two_digests a (with_digest a first) c.opening-digest.new.meter first second refl opened),
@@ -56,7 +56,7 @@ rounds-preserved c =
         length-message_round p s i,
         round_length-small i 16 (length p) (length s),
         c.rounds.invariant.3,
-        c.bytes-password.ensures.password.length_fits,
+        c.bytes-password.ensures.password.0,
         c.requires.salt,
       ),
     )

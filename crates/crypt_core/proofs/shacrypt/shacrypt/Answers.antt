@@ -18,7 +18,7 @@ string_of-password_string-requires-clause-bytes_room g c =
     let h = g.H.Counted.digest in
     let p = c.bytes-password.result.now in
     let s = c.args.salt.now in
-    let short : length p ≤ password_limit = omega (arith, ap length c.bytes-password.ensures.value, c.bytes-password.ensures.password.length_fits) in
+    let short : length p ≤ password_limit = omega (arith, ap length c.bytes-password.ensures.value, c.bytes-password.ensures.password.0) in
     omega (arith, ap (λ m. m.bytes) c.opening-digest.ensures.count, start_bytes h g.H.Counted.LEN g.met.H.Counted.length_digest p s 0 g.met.H.Counted.at_most_64 short c.requires.salt (omega arith), c.requires.room.1)
 
 pub string_of-salt_string-requires-clause-bytes_room : goal.string_of-salt_string-requires-clause-bytes_room
@@ -26,7 +26,7 @@ string_of-salt_string-requires-clause-bytes_room g c =
     let h = g.H.Counted.digest in
     let p = c.bytes-password.result.now in
     let s = c.args.salt.now in
-    let short : length p ≤ password_limit = omega (arith, ap length c.bytes-password.ensures.value, c.bytes-password.ensures.password.length_fits) in
+    let short : length p ≤ password_limit = omega (arith, ap length c.bytes-password.ensures.value, c.bytes-password.ensures.password.0) in
     let first = c.from-salt_times.ensures ∙ ap (λ xs. get_or xs 0 0) (c.as_slice.ensures.value ∙ c.opening-digest.ensures.digest) in
     let byte = sha_opening_byte-below h g.H.Counted.LEN g.met.H.Counted.length_digest p s g.met.H.Counted.at_least_1 g.met.H.Counted.digest_bytes in
     let times : 16 + c.from-salt_times.result ≤ 16 + greatest_byte = omega (arith, first, byte) in
@@ -53,7 +53,7 @@ new-strings-requires g c =
       length-cycle (h (password_repeated p)) (length p),
       length-cycle (h (repeat (16 + c.from-salt_times.result) s)) (length s),
       ap length c.bytes-password.ensures.value,
-      c.bytes-password.ensures.password.length_fits,
+      c.bytes-password.ensures.password.0,
       c.requires.salt,
     )
 
@@ -69,7 +69,7 @@ rounds-init g c =
     let repeated = rw is at c.string_of-password_string.ensures.count in
     let first = c.from-salt_times.ensures ∙ ap (λ xs. get_or xs 0 0) (c.as_slice.ensures.value ∙ digest) in
     let salted = rw first at c.string_of-salt_string.ensures.count in
-    let short : length p ≤ password_limit = c.bytes-password.ensures.password.length_fits in
+    let short : length p ≤ password_limit = c.bytes-password.ensures.password.0 in
     let byte = sha_opening_byte-below h g.H.Counted.LEN g.met.H.Counted.length_digest p s g.met.H.Counted.at_least_1 g.met.H.Counted.digest_bytes in
     let times : 16 + get_or (sha_opening h p s) 0 0 ≤ 16 + greatest_byte = omega (arith, byte) in (
       digest ∙ sym (digest_after-none h (sha_opening h p s) (password_string h p) (salt_string h p s)),
@@ -153,7 +153,7 @@ rounds-preserved g c =
         round_length-small i g.H.Counted.LEN (length p) (length s),
         c.rounds.invariant.3,
         g.met.H.Counted.at_most_64,
-        c.bytes-password.ensures.password.length_fits,
+        c.bytes-password.ensures.password.0,
         c.requires.salt,
       ),
     )

@@ -1,4 +1,4 @@
-use Rattle.crypt_core.specs.Md5crypt.{md5crypt_rounds}
+use Rattle.crypt_core.specs.Messages.{md5crypt_rounds}
 use Rattle.std.proofs.Common.{◌≡◌, ◌+◌, ap₂, ◌∙◌, arith}
 use Rattle.crypt_core.specs.Work.{digests_alone}
 use Rattle.crypt_core.proofs.work.md5crypt_bound.Goals as goal

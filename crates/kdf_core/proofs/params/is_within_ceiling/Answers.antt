@@ -5,4 +5,4 @@ pub returns-then-log_n-lt24 : goal.returns-then-log_n-lt24
 returns-then-log_n-lt24 c = rw (c.from.ensures, c.from-then-log_n-lt24.ensures) (within_by_quotient c.args.log_n c.args.r c.args.p 8388608)
 
 pub returns-else-log_n-lt24 : goal.returns-else-log_n-lt24
-returns-else-log_n-lt24 c = above_by_power c.args.log_n c.args.r c.args.p c.if-log_n-lt24.false c.requires.in_range.some_block c.requires.in_range.some_part
+returns-else-log_n-lt24 c = above_by_power c.args.log_n c.args.r c.args.p c.if-log_n-lt24.false c.requires.in_range.2 c.requires.in_range.3
