@@ -4,7 +4,7 @@ use Rattle.std.specs.Io.KnownBytes.{Consumes}
 use Rattle.clap.specs.Words.{Text, kind_of}
 use Rattle.clap.specs.declared.error.Error.{Error}
 use Rattle.std.specs.Io.KnownBytes.{IsAtEnd}
-use Rattle.run_core.specs.Answers.{Answer, tally_of}
+use Rattle.run_core.specs.Answers.{Answer}
 use Rattle.mkpasswd.specs.Commands.{Ends, InOutputs, IsDone, IsWhole, RunsPlan, Serves, ShowsError, Succeeds, SucceedsByLines, lacks_generator}
 use Rattle.run_core.specs.Devices.{Device}
 use Rattle.mkpasswd.specs.Faults.{parse_status, run_status}
