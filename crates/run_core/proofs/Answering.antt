@@ -1,5 +1,5 @@
 -- How far an answer raises the counts, and the room that it leaves.
-use Rattle.std.proofs.Common.{◌≡◌, Bool, true, false, ℕ, ◌+◌, ◌≤◌, Option, Result, Ok, Err, arith}
+use Rattle.std.proofs.Common.{◌≡◌, Bool, true, false, ℕ, ◌+◌, ◌≤◌, Result, Ok, Err, arith}
 use Rattle.prims_core.specs.declared.meter.Work.{Work}
 use Rattle.run_core.specs.Answers.{Answer, after_work, is_misfit, is_refusal, stream_left}
 use Rattle.run_core.specs.DeviceCalls.{IsUnflushed, as_count}

@@ -1,14 +1,10 @@
 -- How the counts of an answer are told from a meter, and written.
-use Rattle.std.proofs.Common.{◌≡◌, ℕ, ◌<◌, ◌^◌, List, [], ◌∷◌, ◌++◌, ap, sym, ◌∙◌, append_assoc, add_assoc, zero-add, arith, rules}
+use Rattle.std.proofs.Common.{◌≡◌, ℕ, ◌<◌, ◌^◌, List, [], ◌∷◌, ap, sym, ◌∙◌, add_assoc, zero-add, arith, rules}
 use Rattle.prims_core.specs.Work.{no_work, raised_by, work_between, IsBelow}
 use Rattle.prims_core.specs.declared.meter.Work.{Work}
 use Rattle.crypt_core.specs.Work.{work}
 use Rattle.run_core.specs.Answers.{Hashing, after_work}
 use Rattle.run_core.specs.Private.Answers.{IsRaisedBelow}
-
--- a text behind a line, and then a text more
-pub joined-more : (line text more old new : List ℕ) → old ≡ line ++ text → new ≡ old ++ more → new ≡ line ++ (text ++ more)
-joined-more line text more old new p q = q ∙ (ap (λ (x : List ℕ). x ++ more) p ∙ append_assoc line text more)
 
 -- counts that are raised by nothing
 raised_by_none : (counts : Work) → counts ≡ raised_by counts no_work

@@ -8,7 +8,7 @@ use Rattle.rand_core.specs.Stream.{Stream}
 use Rattle.crypt_core.specs.Crypt.{crypt}
 use Rattle.crypt_core.specs.Readings.{IsReadOneWay}
 use Rattle.crypt_core.specs.Settings.{BeginsWith, SettingValue, Spells}
-use Rattle.crypt_core.specs.Methods.{prefix}
+use Rattle.crypt_core.specs.MethodLimits.{prefix}
 use Rattle.crypt_core.specs.Schemes.{method_of}
 use Rattle.crypt_core.specs.StoredFields.{IsStored, StoredHash}
 use Rattle.crypt_core.specs.declared.method.Method.{Method}
@@ -111,7 +111,7 @@ first_of_prefix Scrypt rest = refl
 
 first_is_dollar : (field : List ℕ) (kept : SettingValue) → Spells field kept → slice_index field 0 ≡ 36
 first_is_dollar field kept spells =
-    ap (λ (text : List ℕ). slice_index text 0) spells.scheme.parts ∙ first_of_prefix (method_of kept.scheme) (spells.scheme.part ++ (spells.field ++ spells.rest))
+    ap (λ (text : List ℕ). slice_index text 0) spells.scheme.1 ∙ first_of_prefix (method_of kept.scheme) (spells.scheme.0 ++ (spells.field ++ spells.rest))
 
 begins_with : (field front : List ℕ) (first : ℕ) → ((rest : List ℕ) → slice_index (front ++ rest) 0 ≡ first) → BeginsWith field front → slice_index field 0 ≡ first
 begins_with field front first starts begins = ap (λ (text : List ℕ). slice_index text 0) begins.1 ∙ starts begins.0

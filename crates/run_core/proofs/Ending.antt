@@ -6,7 +6,7 @@ use Rattle.prims_core.specs.declared.meter.Work.{Work}
 use Rattle.crypt_core.specs.Crypt.{IsAfterRefusedGrowth}
 use Rattle.crypt_core.specs.Passwords.{IsPassword, password_limit}
 use Rattle.crypt_core.specs.Work.{raised_by, work}
-use Rattle.run_core.specs.Answers.{after_work, hashings_of, new_hashing, password_answer, tally_of}
+use Rattle.run_core.specs.Answers.{hashings_of, new_hashing, password_answer}
 use Rattle.run_core.specs.Devices.{Device}
 use Rattle.run_core.specs.Input.{IsDecided}
 use Rattle.run_core.specs.Makers.{next_setting, stream_after}

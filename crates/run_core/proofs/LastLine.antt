@@ -1,5 +1,5 @@
 -- The answer to the last line of an input, where that has no line feed.
-use Rattle.std.proofs.Common.{◌≡◌, ◌≢◌, ℕ, ◌+◌, List, [], ◌∷◌, ◌++◌, Result, Ok, Err, sym, ap, subst, ◌∙◌, append-nil}
+use Rattle.std.proofs.Common.{◌≡◌, ◌≢◌, ℕ, List, [], ◌∷◌, ◌++◌, Result, Ok, Err, sym, ap, subst, ◌∙◌, append-nil}
 use Rattle.run_core.specs.LineAnswers.{AreAnswers}
 use Rattle.run_core.specs.LineRuns.{lines_of}
 use Rattle.run_core.specs.Private.Answers.{counted}

@@ -1,5 +1,5 @@
 -- What an output has taken, one text after another, and how far the giving of a text has come.
-use Rattle.std.proofs.Common.{◌≡◌, ◌≢◌, ℕ, ◌+◌, ◌<◌, ◌≤◌, List, [], ◌++◌, length, take, drop, arith, refl, sym, subst, ◌∙◌, ap, append-nil, append_assoc, false, nat_eq, nat_lt, ◌&&◌, ◌-◌, add-zero}
+use Rattle.std.proofs.Common.{◌≡◌, ℕ, ◌+◌, ◌<◌, ◌≤◌, List, [], ◌++◌, length, take, drop, arith, refl, sym, ◌∙◌, ap, append_assoc, false, nat_eq, nat_lt, ◌&&◌, ◌-◌, add-zero}
 use Rattle.std.proofs.lemmas.List.{length-append, length-take-le, take-append-drop}
 use Rattle.std.specs.Io.KnownBytes.{Appends}
 use Rattle.std.proofs.KnownBytes.{Appends-nil, Appends-trans}
@@ -97,23 +97,3 @@ module _ {T : Type 0} where
     fewer = omega arith;
     moves = moves-none old;
   }
-
-  -- nothing is left to give
-  pub under_way-whole : (old new : Device T) (text rest : List ℕ) (turns left : ℕ) → IsUnderWay old new text rest turns left → rest ≡ []
-      → Takes 0 0 old new text
-  under_way-whole old new text rest turns left under_way none =
-      let sent = under_way.sent in
-      subst (Takes 0 0 old new) (sym (append-nil sent) ∙ (ap (λ l. sent ++ l) (sym none) ∙ under_way.split)) under_way.takes
-
-  -- no turn is left, and some of it is still to come
-  pub under_way-over : (old new : Device T) (text rest : List ℕ) (turns left : ℕ) → IsUnderWay old new text rest turns left → rest ≢ [] → left ≡ 0
-      → TakesFront 0 old new [] text × (new.calls ≡ old.calls + turns)
-  under_way-over old new text rest turns left under_way some none =
-      ((under_way.sent, rest, under_way.split, some, under_way.takes), omega (arith, none, under_way.calls))
-
-  -- a `give` failed
-  pub under_way-failed : (old mid new : Device T) (text rest : List ℕ) (turns left : ℕ) → IsUnderWay old mid text rest turns left → rest ≢ []
-      → Takes 1 0 mid new [] → TakesFront 1 old new [] text
-  under_way-failed old mid new text rest turns left under_way some failed =
-      let sent = under_way.sent in
-      (sent, rest, under_way.split, some, subst (Takes 1 0 old new) (append-nil sent) (Takes-trans old mid new sent [] under_way.takes failed))

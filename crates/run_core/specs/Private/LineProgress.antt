@@ -1,19 +1,19 @@
 -- Where a run over lines is between two of its steps, and how a step can end.
-use Rattle.std.specs.Prelude.{◌≡◌, ◌≢◌, ℕ, ◌+◌, ◌*◌, ◌^◌, ◌<◌, ◌≤◌, Bool, true, false, List, [], ◌∷◌, ◌++◌, length, Option, Result, Ok, Err}
+use Rattle.std.specs.Prelude.{◌≡◌, ℕ, ◌+◌, ◌*◌, ◌^◌, ◌<◌, ◌≤◌, Bool, true, false, List, [], ◌∷◌, ◌++◌, length, Result, Ok, Err}
 use Rattle.std.specs.Io.KnownBytes.{IsAtEnd}
 use Rattle.rand_core.specs.Stream.{Stream}
 use Rattle.prims_core.specs.declared.meter.Work.{Work}
 use Rattle.run_core.specs.Answers.{Answer, IsRefusedAmong, after_work, fault_texts, hashings_of, stream_left, tally_of, texts}
 use Rattle.run_core.specs.Devices.{Device, MovesBytes, turns_limit}
 use Rattle.run_core.specs.Input.{Reads}
-use Rattle.run_core.specs.LineAnswers.{AreAnswers, IsAnswer}
+use Rattle.run_core.specs.LineAnswers.{AreAnswers}
 use Rattle.run_core.specs.LineRuns.{EndsLines, HasLines, lines_of, piece_size}
 use Rattle.run_core.specs.Output.{Takes}
 use Rattle.run_core.specs.Private.Deliveries.{IsSentInPart, IsUnfailed, Sends}
 use Rattle.run_core.specs.Private.Headroom.{HasCountsFor, HasRoomFor, IsTallied, calls_limit, lines_limit}
 use Rattle.run_core.specs.Private.Lines.{IsTooLong}
 use Rattle.run_core.specs.Runs.{RunState, calls_of, run_state}
-use Rattle.run_core.specs.Texts.{HasNoLineFeed, line_feed}
+use Rattle.run_core.specs.Texts.{HasNoLineFeed}
 use Rattle.run_core.specs.declared.fault.RunFault.{RunFault}
 use Rattle.run_core.specs.declared.fault.RunFault.TheVariants.{OutOfMemory}
 use Rattle.run_core.specs.declared.job.Job.{Job}

@@ -8,9 +8,10 @@ use Rattle.run_core.specs.Private.Answers.{answer_of, answer_text, front_by, wan
 use Rattle.run_core.specs.Private.Deliveries.{Delivers, Sends}
 use Rattle.run_core.specs.Texts.{as_line, colon}
 use Rattle.run_core.specs.declared.answer.Outcome.{Outcome}
-use Rattle.run_core.specs.declared.answer.Outcome.TheVariants.{Hashed, Match, Rehashed, Mismatch, NoHash, Locked, Refused}
+use Rattle.run_core.specs.declared.answer.Outcome.TheVariants.{Refused}
 use Rattle.run_core.specs.declared.fault.RunFault.{RunFault}
 use Rattle.run_core.specs.declared.fault.RunFault.TheVariants.{Read, Write, OutOfMemory, Turns, Password}
+use Rattle.run_core.specs.declared.job.Job.{Job}
 use Rattle.run_core.specs.declared.line.LineFault.{LineFault}
 use Rattle.run_core.proofs.Sending.{takes-nothing}
 use Rattle.run_core.proofs.lines.give.Goals as goal
@@ -76,6 +77,14 @@ printed_text wanted number name outcome made other =
     ap (λ (front : List ℕ). as_line (front ++ counts)) (sym (append_assoc name (colon ∷ []) (rendered outcome)))
     ∙ ap as_line (append_assoc (name ++ colon ∷ []) (rendered outcome) counts)
 
+printed_answer : (job : Job) (number : ℕ) (name : List ℕ) (outcome : Outcome) (made : List Hashing) (work : Work) (text : List ℕ)
+    → ((fault : LineFault) → outcome ≢ Refused fault) → after_work no_work made ≡ work
+    → text ≡ as_line (front_by (Some name) ++ (rendered outcome ++ wanted_text job.work work))
+    → (answer_of job number name outcome made).text ≡ text
+printed_answer job number name outcome made work text other is text_is =
+    printed_text job.work number name outcome made other
+    ∙ (ap (λ (w : Work). as_line (front_by (Some name) ++ (rendered outcome ++ wanted_text job.work w))) is ∙ sym text_is)
+
 pub returns-in-Refused-clause-sends : goal.returns-in-Refused-clause-sends
 returns-in-Refused-clause-sends g c = λ made work_is.
     let job = c.args.job.now in
@@ -92,12 +101,8 @@ returns-in_default-clause-sends g c = λ made work_is.
     let job = c.args.job.now in
     let name = c.args.answer.now.name.now in
     let outcome = c.args.answer.now.outcome in
-    let answer = answer_of job c.args.number name outcome made in
-    let sent : c.as_slice-in_default.result.now ≡ as_line (front_by (Some name) ++ (rendered outcome ++ wanted_text job.work c.args.work.now)) =
-    c.as_slice-in_default.ensures.value ∙ c.render.ensures in
-    let some : answer.text ≡ c.as_slice-in_default.result.now =
-    printed_text job.work c.args.number name outcome made c.in_default.not-Refused
-    ∙ (ap (λ (work : Work). as_line (front_by (Some name) ++ (rendered outcome ++ wanted_text job.work work))) work_is ∙ sym sent) in
-    sends_text answer c.as_slice-in_default.result.now c.args.out.now c.send-in_default.new.out c.args.faults.now
-    c.args.left.now c.send-in_default.new.left c.send-in_default.result
-    (is_printed outcome c.in_default.not-Refused) some c.send-in_default.ensures.delivers c.send-in_default.ensures.turns
+    sends_text (answer_of job c.args.number name outcome made) c.as_slice-in_default.result.now c.args.out.now c.send-in_default.new.out c.args.faults.now
+    c.args.left.now c.send-in_default.new.left c.send-in_default.result (is_printed outcome c.in_default.not-Refused)
+    (printed_answer job c.args.number name outcome made c.args.work.now c.as_slice-in_default.result.now c.in_default.not-Refused work_is
+    (c.as_slice-in_default.ensures.value ∙ c.render.ensures))
+    c.send-in_default.ensures.delivers c.send-in_default.ensures.turns
