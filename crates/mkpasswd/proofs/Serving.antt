@@ -9,7 +9,7 @@ use Rattle.mkpasswd.specs.Commands.{Serves, Tells}
 use Rattle.mkpasswd.specs.FaultLines.{IsTold, fault_line}
 use Rattle.mkpasswd.specs.Private.Commands.{ErrorShown, RefusalShown, RunsOrLacks, front, help, mistake, no_text}
 use Rattle.run_core.specs.Devices.{Device}
-use Rattle.mkpasswd.specs.Faults.{fault_status, parse_status}
+use Rattle.mkpasswd.specs.Faults.{fault_row, parse_status}
 use Rattle.mkpasswd.specs.Options.{Plans}
 use Rattle.run_core.specs.Output.{Shows}
 use Rattle.run_core.specs.Runs.{RunState}
@@ -76,7 +76,7 @@ module _ {O E : Type 0} where
   -- any other refusal of the words has a line of its own
   pub refusal_shown : (fault : UsageFault) (turns : ℕ) (out : Device O) (faults : Device E) (new_out : Device O) (new_faults : Device E) (status : ℕ)
       → (fault ≡ UnknownMethod) ⊎ ((fault ≡ TwoSalts) ⊎ ((fault ≡ TwoModes) ⊎ (((cause : MakeFault) × (fault ≡ Make cause)) ⊎ (fault ≡ NoMemory))))
-      → IsTold (Usage fault) faults new_faults → new_out ≡ out → status ≡ fault_status (Usage fault)
+      → IsTold (Usage fault) faults new_faults → new_out ≡ out → status ≡ (fault_row (Usage fault)).0
       → RefusalShown fault turns out faults new_out new_faults status
   refusal_shown fault turns out faults new_out new_faults status (inl is) told same status_is = rw is (rw is at told, same, rw is at status_is)
   refusal_shown fault turns out faults new_out new_faults status (inr (inl is)) told same status_is = rw is (rw is at told, same, rw is at status_is)
@@ -102,13 +102,13 @@ module _ {I O E : Type 0} where
   serves_run turns generates words plan old new tally status planned runs status_is =
       (Ok plan, planned, rw runs.0 (new, Ok tally, runs.1, (refl, status_is)))
 
-  tells : (fault : Fault) (old : RunState I O E) (faults : Device E) (status : ℕ) → IsTold fault old.faults faults → status ≡ fault_status fault
+  tells : (fault : Fault) (old : RunState I O E) (faults : Device E) (status : ℕ) → IsTold fault old.faults faults → status ≡ (fault_row fault).0
       → Tells fault old (with_faults old faults) status
   tells fault old faults status (result, shows) status_is = (result, shows, refl, status_is)
 
   pub serves_fault : (turns : ℕ) (generates : Bool) (words : List Text) (plan : Plan) (old mid : RunState I O E) (faults : Device E) (fault : Fault) (status : ℕ)
       → Plans words (Ok plan) → RunsOrLacks turns generates plan old mid (Err fault) → IsTold fault mid.faults faults
-      → status ≡ fault_status fault → Serves turns generates words old (with_faults mid faults) status
+      → status ≡ (fault_row fault).0 → Serves turns generates words old (with_faults mid faults) status
   serves_fault turns generates words plan old mid faults Start status planned runs is_told status_is =
       (Ok plan, planned, rw (runs.0, ← runs.1) (tells Start mid faults status is_told status_is))
   serves_fault turns generates words plan old mid faults (Run fault) status planned runs is_told status_is =

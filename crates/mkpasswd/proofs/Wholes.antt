@@ -9,7 +9,7 @@ use Rattle.mkpasswd.specs.Commands.{Concludes, Ends, Serves, ShowsError, Tells, 
 use Rattle.mkpasswd.specs.Corollaries.{IsDone, IsWhole, Succeeds, SucceedsByLines}
 use Rattle.mkpasswd.specs.declared.fault.Fault.TheVariants.{Start}
 use Rattle.run_core.specs.Devices.{Device}
-use Rattle.mkpasswd.specs.Faults.{parse_status, run_status}
+use Rattle.mkpasswd.specs.Faults.{parse_status, run_row}
 use Rattle.run_core.specs.Input.{Reads}
 use Rattle.run_core.specs.LineAnswers.{AreAnswers}
 use Rattle.run_core.specs.LineRuns.{lines_of}
@@ -29,7 +29,7 @@ use Rattle.run_core.specs.declared.tally.Tally.{Tally}
 
 -- ---- no fault has the status 0
 
-fault_of_run : (fault : RunFault) → run_status fault ≡ 0 → ⊥
+fault_of_run : (fault : RunFault) → (run_row fault).0 ≡ 0 → ⊥
 fault_of_run Read is = absurd (omega (arith, is))
 fault_of_run Write is = absurd (omega (arith, is))
 fault_of_run OutOfMemory is = absurd (omega (arith, is))

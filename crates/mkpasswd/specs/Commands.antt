@@ -3,7 +3,7 @@ use Rattle.std.specs.Prelude.{◌≡◌, ℕ, ◌&&◌, zero, suc, Bool, true, f
 use Rattle.std.specs.Option.{option_map_or}
 use Rattle.clap.specs.Words.{Text, kind_of}
 use Rattle.rand_core.specs.Stream.{Stream}
-use Rattle.mkpasswd.specs.Faults.{fault_status, fault_text, parse_status}
+use Rattle.mkpasswd.specs.Faults.{fault_row, parse_status}
 use Rattle.run_core.specs.Answers.{tally_of}
 use Rattle.run_core.specs.LineRuns.{EndsLines}
 use Rattle.run_core.specs.Methods.{methods_text}
@@ -43,9 +43,9 @@ module _ {I O E : Type 0} where
   -- of it is. Only the fault output changes, and the status is that of the fault.
   abbrev pub Tells : Fault → RunState I O E → RunState I O E → ℕ → Type 0
   Tells fault old new status =
-      let line = as_line (codes "mkpasswd: " ++ fault_text fault) in
+      let line = as_line (codes "mkpasswd: " ++ (fault_row fault).1) in
       (result : Result Tally RunFault) × Shows (length line) old.faults new.faults line result
-      × (new ≡ record old { faults = new.faults }) × (status ≡ fault_status fault)
+      × (new ≡ record old { faults = new.faults }) × (status ≡ (fault_row fault).0)
 
   -- After a run with a tally nothing changes any more, and the status is that of the tally. The fault of a run is told.
   abbrev pub Concludes : Result Tally RunFault → RunState I O E → RunState I O E → ℕ → Type 0

@@ -5,12 +5,12 @@ use Rattle.run_core.specs.Output.{Shows}
 use Rattle.run_core.specs.Texts.{as_line}
 use Rattle.run_core.specs.declared.fault.RunFault.{RunFault}
 use Rattle.run_core.specs.declared.tally.Tally.{Tally}
-use Rattle.mkpasswd.specs.Faults.{fault_text}
+use Rattle.mkpasswd.specs.Faults.{fault_row}
 use Rattle.mkpasswd.specs.declared.fault.Fault.{Fault}
 
 -- the line of a fault: `mkpasswd: `, its text and a line feed
 abbrev pub fault_line : Fault → List ℕ
-fault_line fault = as_line (codes "mkpasswd: " ++ fault_text fault)
+fault_line fault = as_line (codes "mkpasswd: " ++ (fault_row fault).1)
 
 -- The line of a fault was written to the fault output and flushed, in at most as many calls as it has bytes; if that failed,
 -- a first part of it was.

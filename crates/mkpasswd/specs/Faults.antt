@@ -4,7 +4,7 @@ use Rattle.clap.specs.Words.{kind_of}
 use Rattle.crypt_core.specs.SettingFaults.{make_fault_text}
 use Rattle.clap.specs.declared.error.kind.ErrorKind.{ErrorKind}
 use Rattle.clap.specs.declared.error.kind.ErrorKind.TheVariants.{DisplayHelp, DisplayVersion}
-pub use Rattle.run_core.specs.RunFaults.{run_status, run_text}
+pub use Rattle.run_core.specs.RunFaults.{run_row}
 use Rattle.mkpasswd.specs.declared.fault.Fault.{Fault}
 use Rattle.mkpasswd.specs.declared.fault.Fault.TheVariants.{Start, Usage, Run}
 use Rattle.mkpasswd.specs.declared.fault.UsageFault.TheVariants.{Parse, Method, TwoSalts, TwoModes, Make, OutOfMemory}
@@ -15,22 +15,14 @@ parse_status DisplayHelp = 0
 parse_status DisplayVersion = 0
 parse_status _ = 2
 
--- fault_status fault is the exit status: 0 if the arguments ask for help or the version, 2 if they or the password are wrong,
--- 3 after a system error or too many turns.
-abbrev pub fault_status : Fault → ℕ
-fault_status Start = 3
-fault_status (Usage (Parse error)) = parse_status (kind_of error)
-fault_status (Usage OutOfMemory) = 3
-fault_status (Usage fault) = 2
-fault_status (Run fault) = run_status fault
-
--- fault_text fault says what keeps the program from its answer; `clap` has texts of its own.
-abbrev pub fault_text : Fault → List ℕ
-fault_text Start = codes "start fault"
-fault_text (Usage (Parse error)) = []
-fault_text (Usage Method) = codes "unknown method"
-fault_text (Usage TwoSalts) = codes "two salts"
-fault_text (Usage TwoModes) = codes "two modes"
-fault_text (Usage (Make fault)) = make_fault_text fault
-fault_text (Usage OutOfMemory) = codes "out of memory"
-fault_text (Run fault) = run_text fault
+-- fault_row fault: the exit status and the message. The status is 0 if the arguments ask for help or the version, 2 if they
+-- or the password are wrong, 3 after a system error or too many turns. `clap` has messages of its own.
+abbrev pub fault_row : Fault → ℕ × List ℕ
+fault_row Start = (3, codes "start fault")
+fault_row (Usage (Parse error)) = (parse_status (kind_of error), [])
+fault_row (Usage Method) = (2, codes "unknown method")
+fault_row (Usage TwoSalts) = (2, codes "two salts")
+fault_row (Usage TwoModes) = (2, codes "two modes")
+fault_row (Usage (Make fault)) = (2, make_fault_text fault)
+fault_row (Usage OutOfMemory) = (3, codes "out of memory")
+fault_row (Run fault) = run_row fault

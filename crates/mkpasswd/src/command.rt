@@ -7,7 +7,7 @@ ghost use Rattle.mkpasswd.specs.Corollaries.{IsNoOption, IsWhole, PrintsHash, ha
 ghost use Rattle.mkpasswd.specs.FaultLines.{IsTold, fault_line};
 ghost use Rattle.mkpasswd.specs.Private.Commands.{ErrorShown, RefusalShown, RunsOrLacks};
 ghost use Rattle.run_core.specs.Devices.{HasRoomBeforeRun, HasRoomWithinRun, turns_limit};
-ghost use Rattle.mkpasswd.specs.Faults.{fault_status};
+ghost use Rattle.mkpasswd.specs.Faults.{fault_row};
 ghost use Rattle.prims_core.specs.Work.{IsAtMost};
 ghost use Rattle.run_core.specs.Runs.{run_state};
 
@@ -175,7 +175,7 @@ fn show_error<O: Write, E: Write>(
 pub fn report_fault<E: Write>(fault: &Fault, faults: &mut Output<E>) -> u8
     requires room { HasRoomWithinRun faults.old }
     ensures told { IsTold fault.now faults.old faults.new }
-    ensures status { result ≡ fault_status fault.now }
+    ensures status { result ≡ (fault_row fault.now).0 }
 {
     let line = fault_line(fault);
     let _ = show(faults, line.as_slice(), line.len() as u64);

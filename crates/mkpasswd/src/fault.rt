@@ -36,13 +36,13 @@ pub enum UsageFault {
 }
 
 impl UsageFault {
-    ghost use Rattle.mkpasswd.specs.Faults.{fault_status, fault_text};
+    ghost use Rattle.mkpasswd.specs.Faults.{fault_row};
     ghost use Rattle.mkpasswd.specs.declared.fault.Fault.TheVariants.{Usage};
 
     /// The exit status: 0 after help or the version, 2 after a mistake in the words, and 3 where
     /// memory ran out.
     pub fn status(&self) -> u8
-        ensures { result ≡ fault_status (Usage self.now) }
+        ensures { result ≡ (fault_row (Usage self.now)).0 }
     {
         match self {
             UsageFault::Parse(error) => if error.use_stderr() { 2 } else { 0 },
@@ -56,7 +56,7 @@ impl UsageFault {
 
     /// What is wrong, in words for the user. It is empty after `Parse`, where `clap` has the text.
     pub fn text(&self) -> &'static str
-        ensures { result.now ≡ fault_text (Usage self.now) }
+        ensures { result.now ≡ (fault_row (Usage self.now)).1 }
     {
         match self {
             UsageFault::Parse(_) => "",
@@ -116,12 +116,12 @@ pub enum Fault {
 }
 
 impl Fault {
-    ghost use Rattle.mkpasswd.specs.Faults.{fault_status, fault_text};
+    ghost use Rattle.mkpasswd.specs.Faults.{fault_row};
 
     /// The exit status: 2 after a mistake in the words or the password, 3 where the machine refused or the turns ran
     /// out, and 0 after help or the version.
     pub fn status(&self) -> u8
-        ensures { result ≡ fault_status self.now }
+        ensures { result ≡ (fault_row self.now).0 }
     {
         match self {
             Fault::Start => 3,
@@ -132,7 +132,7 @@ impl Fault {
 
     /// What went wrong, in words for the user. It is empty where `clap` has the text.
     pub fn text(&self) -> &'static str
-        ensures { result.now ≡ fault_text self.now }
+        ensures { result.now ≡ (fault_row self.now).1 }
     {
         match self {
             Fault::Start => "start fault",

@@ -59,7 +59,7 @@ front-after failures done next start old new fault_start faults new_faults text 
   )
   go false (part, none) = (
     TakesFront-behind start old new (texts done) next.text text part,
-    subst (Takes 0 0 fault_start new_faults) (append-nil (fault_texts done)) (Takes-trans fault_start faults new_faults (fault_texts done) [] fault_text none),
+    subst (Takes 0 0 fault_start new_faults) (append-nil (fault_texts done)) (Takes-trans fault_start faults new_faults (fault_texts done) [] (fault_row none).1),
   )
 
 module _ {O E : Type 0} (kind : Kind) (job : Job) where

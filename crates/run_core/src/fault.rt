@@ -26,11 +26,11 @@ pub enum RunFault {
 }
 
 impl RunFault {
-    ghost use Rattle.run_core.specs.RunFaults.{run_status, run_text};
+    ghost use Rattle.run_core.specs.RunFaults.{run_row};
 
     /// The exit status: 2 where the password is refused, and 3 where the machine refused, or the turns ran out.
     pub fn status(&self) -> u8
-        ensures { result ≡ run_status self.now }
+        ensures { result ≡ (run_row self.now).0 }
     {
         match self {
             RunFault::Read | RunFault::Write | RunFault::OutOfMemory | RunFault::Turns => 3,
@@ -40,7 +40,7 @@ impl RunFault {
 
     /// What went wrong, in words for the user.
     pub fn text(&self) -> &'static str
-        ensures { result.now ≡ run_text self.now }
+        ensures { result.now ≡ (run_row self.now).1 }
     {
         match self {
             RunFault::Read => "read fault",
