@@ -2,7 +2,7 @@
 use Rattle.std.proofs.Common.{◌≡◌, ◌==◌, ◌+◌, ◌∙◌, if◌then◌else◌, ℕ, ℤ, pos, negsuc, refl, sym, ap}
 use Rattle.crypt_core.specs.declared.password.PasswordFault.TheVariants.{TooLong, HasNul}
 use Rattle.crypt_core.specs.declared.setting.fault.SettingFault.TheVariants as setting
-use Rattle.crypt_c.specs.Reasons.{reason_number}
+use Rattle.crypt_c.specs.Reasons.{reason_row}
 use Rattle.crypt_c.specs.declared.reason.Reason.{Reason}
 use Rattle.crypt_c.specs.declared.reason.Reason.TheVariants.{Fits, Outdated, Done, Refused}
 use Rattle.crypt_c.specs.declared.reason.Refusal.{Refusal}
@@ -24,7 +24,7 @@ abbrev reason_of : ℤ → Reason
 reason_of (pos number) = if number == 1 then Fits else if number == 2 then Outdated else Done
 reason_of (negsuc number) = Refused (refusal_of (number + 1))
 
-of_number : (reason : Reason) → reason_of (reason_number reason) ≡ reason
+of_number : (reason : Reason) → reason_of ((reason_row reason).0) ≡ reason
 of_number Fits = refl
 of_number Outdated = refl
 of_number Done = refl
@@ -47,5 +47,5 @@ of_number (Refused Differs) = refl
 of_number (Refused Current) = refl
 of_number (Refused NoRandomWords) = refl
 
-pub reason_once : (a b : Reason) → reason_number a ≡ reason_number b → a ≡ b
+pub reason_once : (a b : Reason) → (reason_row a).0 ≡ (reason_row b).0 → a ≡ b
 reason_once a b e = sym (of_number a) ∙ ap reason_of e ∙ of_number b

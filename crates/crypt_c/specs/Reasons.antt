@@ -32,7 +32,3 @@ reason_row (Refused OverBudget) = (neg_ℤ (pos 16), codes "over budget")
 reason_row (Refused Differs) = (neg_ℤ (pos 17), codes "differs")
 reason_row (Refused Current) = (neg_ℤ (pos 18), codes "current")
 reason_row (Refused NoRandomWords) = (neg_ℤ (pos 19), codes "no random words")
-
--- The number of a reason.
-abbrev pub reason_number : Reason → ℤ
-reason_number reason = (reason_row reason).0

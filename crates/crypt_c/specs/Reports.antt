@@ -5,7 +5,7 @@ use Rattle.prims_core.specs.Work.{no_work}
 use Rattle.prims_core.specs.declared.meter.Work.{Work}
 use Rattle.crypt_core.specs.Crypt.{IsAfterRefusedGrowth}
 use Rattle.crypt_core.specs.Settings.{SettingValue}
-use Rattle.crypt_c.specs.Reasons.{reason_number}
+use Rattle.crypt_c.specs.Reasons.{reason_row}
 use Rattle.crypt_c.specs.declared.reason.Reason.{Reason}
 use Rattle.crypt_c.specs.declared.reason.Reason.TheVariants.{Refused}
 use Rattle.crypt_c.specs.declared.reason.Refusal.{Refusal}
@@ -15,7 +15,7 @@ use Rattle.crypt_c.specs.declared.report.Report.{Report}
 -- The report of a reason: `len` bytes were put, a hash costs at most `most`, and `counts` is the work.
 abbrev pub reported : Reason → ℕ → ℕ → Work → Report
 reported reason len most counts =
-    record { reason = reason_number reason; length = len; cost = most; work = counts; reserved = 0 }
+    record { reason = (reason_row reason).0; length = len; cost = most; work = counts; reserved = 0 }
 
 -- The report of a refusal before any hashing, with the cost, or 0 if it is not known yet.
 abbrev pub refused : Refusal → ℕ → Report

@@ -12,7 +12,7 @@ ghost use Rattle.std.specs.Prelude.{◌≡◌, ◌≢◌, ◌⊎◌, ◌↔◌, 
 ghost use Rattle.crypt_core.specs.Settings.{SettingValue, Spells};
 ghost use Rattle.crypt_core.specs.declared.scheme.Scheme.{Scheme};
 ghost use Rattle.crypt_c.specs.Calls.{Both, Hashes, HashesAnew, IsLengthRead, IsOutdated, IsPasswordRead, IsSchemeMade, IsSettingRead, PutsSetting, Opens, Verifies, bounded, rehashed};
-ghost use Rattle.crypt_c.specs.Reasons.{reason_number, reason_row};
+ghost use Rattle.crypt_c.specs.Reasons.{reason_row};
 ghost use Rattle.crypt_c.specs.Reports.{Answers, put, refused, token};
 ghost use Rattle.crypt_c.specs.declared.reason.Reason.{Reason as Why};
 ghost use Rattle.crypt_c.specs.declared.reason.Reason.TheVariants.{Refused};
@@ -49,7 +49,7 @@ pub extern "C" fn mkpasswd_verify(
     ensures answers { Answers result report.new }
     ensures lets_in { result ≡ pos 1 → Opens password.now stored.now budget }
     ensures opens { Opens password.now stored.now budget
-        → (result ≡ pos 1) ⊎ (report.new.reason ≡ reason_number (Refused OutOfMemory)) }
+        → (result ≡ pos 1) ⊎ (report.new.reason ≡ (reason_row (Refused OutOfMemory)).0) }
     ensures read { (given : Result (List ℕ × SettingValue) Refusal)
         × Both (IsPasswordRead password.now) (IsSettingRead stored.now) given }
     ensures each { (given : Result (List ℕ × SettingValue) Refusal)
@@ -201,9 +201,9 @@ pub extern "C" fn mkpasswd_setting(
 #[unsafe(no_mangle)]
 pub extern "C" fn mkpasswd_words(reason: i32, out: &mut [u8]) -> i32
     ensures one_or_zero { (result ≡ pos 1) ⊎ (result ≡ pos 0) }
-    ensures known { (why : Why) → reason ≡ reason_number why → (out.new ≡ put (reason_row why).1 out.old)
+    ensures known { (why : Why) → reason ≡ (reason_row why).0 → (out.new ≡ put (reason_row why).1 out.old)
         × (result ≡ pos 1 ↔ length (reason_row why).1 < length out.old) }
-    ensures unknown { ((why : Why) → reason ≢ reason_number why)
+    ensures unknown { ((why : Why) → reason ≢ (reason_row why).0)
         → (out.new ≡ put (codes "unknown reason") out.old) × (result ≡ pos 0) }
 {
     let Some(reason) = Reason::numbered(reason) else {

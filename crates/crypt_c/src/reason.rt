@@ -1,7 +1,7 @@
 //! Why a call returned what it did: the reasons, their numbers and their words.
 ghost use Rattle.std.specs.Prelude.{◌≡◌, ◌≢◌, IfSome, IfNone};
 ghost use Rattle.crypt_c.specs.declared.reason.Reason.{Reason as Why};
-ghost use Rattle.crypt_c.specs.Reasons.{reason_number, reason_row};
+ghost use Rattle.crypt_c.specs.Reasons.{reason_row};
 
 use crypt_core::hash::HashFault;
 use crypt_core::password::PasswordFault;
@@ -49,7 +49,7 @@ pub(crate) enum Reason {
 impl Reason {
     /// Returns the number of the reason.
     pub(crate) fn number(self) -> i32
-        ensures { result ≡ reason_number self }
+        ensures { result ≡ (reason_row self).0 }
     {
         match self {
             Reason::Fits => 1,
@@ -78,8 +78,8 @@ impl Reason {
 
     /// Returns the reason that has the number, or `None` where no reason has it.
     pub(crate) fn numbered(number: i32) -> Option<Reason>
-        ensures known { IfSome result (λ reason. reason_number reason ≡ number) }
-        ensures unknown { IfNone result ((reason : Why) → number ≢ reason_number reason) }
+        ensures known { IfSome result (λ reason. (reason_row reason).0 ≡ number) }
+        ensures unknown { IfNone result ((reason : Why) → number ≢ (reason_row reason).0) }
     {
         let refusal = match number {
             1 => return Some(Reason::Fits),

@@ -22,18 +22,20 @@ same_cut (x ∷ f) (y ∷ g) b d no_f no_g e =
     ((cc (heads, rest.0)), rest.1)
 
 pub cut_unique : {text f g b d : List ℕ} → IsCut text f b → IsCut text g d → (f ≡ g) × (b ≡ d)
-cut_unique {text} {f} {g} {b} {d} one two = same_cut f g b d one.first two.first (sym one.joined ∙ two.joined)
+cut_unique {text} {f} {g} {b} {d} one two = same_cut f g b d one.1 two.1 (sym one.0 ∙ two.0)
 
-pub cut_has_colon : {text front back : List ℕ} → IsCut text front back → Contains text colon
-cut_has_colon {text} {front} {back} cut =
-    subst (λ (bytes : List ℕ). Contains bytes colon) (sym cut.joined) (Contains-append_right front (colon ∷ back) colon (begins_with_colon colon back refl))
+pub cut_has_colon : (text front back : List ℕ) → IsCut text front back → Contains text colon
+cut_has_colon text front back cut =
+    subst (λ (bytes : List ℕ). Contains bytes colon) (sym cut.0) (Contains-append_right front (colon ∷ back) colon (begins_with_colon colon back refl))
 
 -- ---- names
 
 pub name_unique : (line name other : List ℕ) → HasName line name → HasName line other → name ≡ other
 name_unique line name other (inl cut) (inl again) = (cut_unique cut.1 again.1).0
-name_unique line name other (inl cut) (inr whole) = absurd (whole.1 (subst (λ (bytes : List ℕ). Contains bytes colon) whole.0 (cut_has_colon cut.1)))
-name_unique line name other (inr whole) (inl cut) = absurd (whole.1 (subst (λ (bytes : List ℕ). Contains bytes colon) whole.0 (cut_has_colon cut.1)))
+name_unique line name other (inl cut) (inr whole) =
+    absurd (whole.1 (subst (λ (bytes : List ℕ). Contains bytes colon) whole.0 (cut_has_colon line name cut.0 cut.1)))
+name_unique line name other (inr whole) (inl cut) =
+    absurd (whole.1 (subst (λ (bytes : List ℕ). Contains bytes colon) whole.0 (cut_has_colon line other cut.0 cut.1)))
 name_unique line name other (inr whole) (inr again) = sym whole.0 ∙ again.0
 
 -- ---- parts

@@ -119,13 +119,13 @@ begins_with field front first starts begins = ap (λ (text : List ℕ). slice_in
 spelled-stored : (field : List ℕ) (kept : SettingValue) → Spells field kept → IsStored field
 spelled-stored field kept spells =
     let dollar = first_is_dollar field kept spells in
-    record {
-      some = λ empty. let no_byte = ap (λ (text : List ℕ). slice_index text 0) empty in absurd (omega (arith, dollar, no_byte));
-      unlocked = λ is_locked. elim is_locked [
+    (
+      λ empty. let no_byte = ap (λ (text : List ℕ). slice_index text 0) empty in absurd (omega (arith, dollar, no_byte)),
+      λ is_locked. elim is_locked [
         | inl bang ↦ let other = begins_with field (codes "!") 33 (λ rest. refl) bang in absurd (omega (arith, dollar, other))
         | inr star ↦ let other = begins_with field (codes "*") 42 (λ rest. refl) star in absurd (omega (arith, dollar, other))
-      ];
-    }
+      ],
+    )
 
 -- and a field that spells none has no cost
 pub unstored-cheap : (kind : Kind) (job : Job) (line : List ℕ) (parts : Parts) (field : List ℕ) → HasParts kind line parts
@@ -163,11 +163,11 @@ settled_by kind job line stream name password None None hashings outcome taken o
   subst (λ (o : Outcome). ComesTo job (parts_with name password None) stream o hashings) (sym settled.0) (refl, refl, settled.1),
 )
 settled_by kind job line stream name password (Some field) (Some fields.Empty) hashings outcome taken of within settled = (
-  unstored-cheap kind job line (parts_with name password (Some field)) field taken.cut refl (λ is_stored. is_stored.some of.0),
+  unstored-cheap kind job line (parts_with name password (Some field)) field taken.cut refl (λ is_stored. is_stored.0 of.0),
   subst (λ (o : Outcome). ComesTo job (parts_with name password (Some field)) stream o hashings) (sym settled.0) (ap Some of.0, settled.1),
 )
 settled_by kind job line stream name password (Some field) (Some fields.Locked) hashings outcome taken of within settled = (
-  unstored-cheap kind job line (parts_with name password (Some field)) field taken.cut refl (λ is_stored. is_stored.unlocked of.0),
+  unstored-cheap kind job line (parts_with name password (Some field)) field taken.cut refl (λ is_stored. is_stored.1 of.0),
   subst (λ (o : Outcome). ComesTo job (parts_with name password (Some field)) stream o hashings) (sym settled.0) (field, refl, of.0, settled.1),
 )
 settled_by kind job line stream name password (Some field) (Some (fields.Hash stored)) hashings outcome taken of within settled = (

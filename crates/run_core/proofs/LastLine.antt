@@ -14,7 +14,7 @@ use Rattle.run_core.proofs.LookingThrough.{AnswersBuffered, answers-with, cut-an
 module _ {O E : Type 0} (kind : Kind) (job : Job) where
   lines-are : (start now : OutputState O E) (bytes : List ℕ) (position : Position) (at : IsAt kind job start now bytes position)
       → lines_of bytes ≡ at.done ++ lines_of at.rest
-  lines-are start now bytes position at = ap lines_of at.has.split ∙ lines_of-with_line_feeds at.done at.rest at.has.lack_feeds
+  lines-are start now bytes position at = ap lines_of at.has.0 ∙ lines_of-with_line_feeds at.done at.rest at.has.1
 
   -- nothing is held
   pub last-none : (start now : OutputState O E) (bytes : List ℕ) (position : Position) (at : IsAt kind job start now bytes position)

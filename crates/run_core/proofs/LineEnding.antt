@@ -210,7 +210,7 @@ module _ {I O E : Type 0} (kind : Kind) (job : Job) where
       done = [];
       rest = [];
       answers = [];
-      has = record { split = refl; lack_feeds = tt };
+      has = (refl, tt);
       no_feed = HasNoLineFeed-nil;
       held = none_held;
       are = tt;

@@ -51,11 +51,11 @@ parts_from_behind Check line name back field password cut behind =
 
 has_no_parts : (kind : Kind) (line name : List ℕ) (back : Option (List ℕ)) → IsCutOrWhole line name back → LacksParts kind back
     → (parts : Parts) → HasParts kind line parts → ⊥
-has_no_parts Batch line name None whole lacks parts cut = whole.1 (subst (λ (bytes : List ℕ). Contains bytes colon) whole.0 (cut_has_colon cut.0))
-has_no_parts Check line name None whole lacks parts cut = whole.1 (subst (λ (bytes : List ℕ). Contains bytes colon) whole.0 (cut_has_colon cut.2))
+has_no_parts Batch line name None whole lacks parts cut = whole.1 (subst (λ (bytes : List ℕ). Contains bytes colon) whole.0 (cut_has_colon line parts.name parts.password cut.0))
+has_no_parts Check line name None whole lacks parts cut = whole.1 (subst (λ (bytes : List ℕ). Contains bytes colon) whole.0 (cut_has_colon line parts.name cut.1 cut.2))
 has_no_parts Batch line name (Some back) first lacks parts cut = lacks
 has_no_parts Check line name (Some back) first lacks parts cut =
-    lacks (subst (λ (bytes : List ℕ). Contains bytes colon) (sym (cut_unique first cut.2).1) (cut_has_colon cut.3))
+    lacks (subst (λ (bytes : List ℕ). Contains bytes colon) (sym (cut_unique first cut.2).1) (cut_has_colon cut.1 cut.0 parts.password cut.3))
 
 -- a line with a good name and with parts breaks none of the first four rules
 parts_break_none : (kind : Kind) (line : List ℕ) (parts : Parts) → length line ≤ line_limit → IsGoodName parts.name → HasParts kind line parts
@@ -170,8 +170,8 @@ sound_without_field kind line parts entry none = sound_entry kind line parts ent
 -- a field that was read is not refused
 read_field : (field : List ℕ) (stored : StoredField) → IsReadOneWay field → IsFieldReading field (Ok stored) → (fault : SettingFault) → IsFieldRefused field fault → ⊥
 unfolding IsReadOneWay
-read_field field Empty one read fault refused = refused.0.some read
-read_field field Locked one read fault refused = refused.0.unlocked read
+read_field field Empty one read fault refused = refused.0.0 read
+read_field field Locked one read fault refused = refused.0.1 read
 read_field field (Hash stored) one read fault refused =
     let both : Ok stored.setting ≡ Err fault = one (Ok stored.setting) (Err fault) read.1.spells refused.1 in
     absurd cc

@@ -59,7 +59,7 @@ front-after failures done next start old new fault_start faults new_faults text 
   )
   go false (part, none) = (
     TakesFront-behind start old new (texts done) next.text text part,
-    subst (Takes 0 0 fault_start new_faults) (append-nil (fault_texts done)) (Takes-trans fault_start faults new_faults (fault_texts done) [] (fault_row none).1),
+    subst (Takes 0 0 fault_start new_faults) (append-nil (fault_texts done)) (Takes-trans fault_start faults new_faults (fault_texts done) [] fault_text none),
   )
 
 module _ {O E : Type 0} (kind : Kind) (job : Job) where
@@ -105,10 +105,10 @@ module _ {O E : Type 0} (kind : Kind) (job : Job) where
         done = at.done ++ line ∷ [];
         rest = [];
         answers = at.answers ++ next ∷ [];
-        has = record {
-          split = with_line_feeds-behind_line bytes at.done at.rest front line [] at.has.split before.is_line;
-          lack_feeds = AllByRecursion-push HasNoLineFeed at.done line at.has.lack_feeds before.no_feed;
-        };
+        has = (
+          with_line_feeds-behind_line bytes at.done at.rest front line [] at.has.0 before.is_line,
+          AllByRecursion-push HasNoLineFeed at.done line at.has.1 before.no_feed,
+        );
         no_feed = HasNoLineFeed-nil;
         held = cleared;
         are = answers-with start old bytes position line next at before.is_next;
@@ -151,10 +151,10 @@ module _ {O E : Type 0} (kind : Kind) (job : Job) where
       let at = before.at in (
         at.done ++ line ∷ [],
         behind,
-        record {
-          split = with_line_feeds-behind_line bytes at.done at.rest front line behind at.has.split before.is_line;
-          lack_feeds = AllByRecursion-push HasNoLineFeed at.done line at.has.lack_feeds before.no_feed;
-        },
+        (
+          with_line_feeds-behind_line bytes at.done at.rest front line behind at.has.0 before.is_line,
+          AllByRecursion-push HasNoLineFeed at.done line at.has.1 before.no_feed,
+        ),
         small,
         record {
           done = at.answers;
@@ -287,13 +287,13 @@ module _ {O E : Type 0} (kind : Kind) (job : Job) where
         done = at.done;
         rest = at.rest ++ rest;
         answers = at.answers;
-        has = record {
-          split = ap (λ others. bytes ++ others) (sym looking.split)
+        has = (
+          ap (λ others. bytes ++ others) (sym looking.split)
               ∙ (sym (append_assoc bytes looking.front rest)
-              ∙ (ap (λ b. b ++ rest) at.has.split
-              ∙ append_assoc (with_line_feeds at.done) at.rest rest));
-          lack_feeds = at.has.lack_feeds;
-        };
+              ∙ (ap (λ b. b ++ rest) at.has.0
+              ∙ append_assoc (with_line_feeds at.done) at.rest rest)),
+          at.has.1,
+        );
         no_feed = HasNoLineFeed-append at.rest rest at.no_feed none;
         held = holds at.rest at.held;
         are = at.are;

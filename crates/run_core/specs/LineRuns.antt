@@ -23,9 +23,8 @@ unfoldable pub lines_of : List ℕ → List (List ℕ)
 lines_of input = without_empty_end (slice_split (λ b. b == line_feed) input)
 
 -- HasLines bytes lines rest: the bytes are these lines, each with its line feed, and then `rest`.
-pub record HasLines (bytes : List ℕ) (lines : List (List ℕ)) (rest : List ℕ) : Type 0 where
-  pub split : bytes ≡ flat_map (λ line. line ++ line_feed ∷ []) lines ++ rest
-  pub lack_feeds : AllByRecursion HasNoLineFeed lines
+abbrev pub HasLines : List ℕ → List (List ℕ) → List ℕ → Type 0
+HasLines bytes lines rest = (bytes ≡ flat_map (λ line. line ++ line_feed ∷ []) lines ++ rest) × AllByRecursion HasNoLineFeed lines
 
 -- How many bytes are fetched at once.
 abbrev pub piece_size : ℕ

@@ -12,9 +12,8 @@ use Rattle.run_core.specs.declared.line.LineFault.TheVariants.{LineTooLong, NoNa
 -- ---- the parts
 
 -- IsCut text front back: the text is `front`, its first colon, and `back`.
-pub record IsCut (text front back : List ℕ) : Type 0 where
-  pub joined : text ≡ front ++ colon ∷ back
-  pub first : ¬ Contains front colon
+abbrev pub IsCut : List ℕ → List ℕ → List ℕ → Type 0
+IsCut text front back = (text ≡ front ++ colon ∷ back) × ¬ Contains front colon
 
 -- HasName line name: the name is what stands before the first colon, or all of the line without one.
 abbrev pub HasName : List ℕ → List ℕ → Type 0
