@@ -118,8 +118,7 @@ begins_with field front first starts begins = ap (λ (text : List ℕ). slice_in
 
 spelled-stored : (field : List ℕ) (kept : SettingValue) → Spells field kept → IsStored field
 spelled-stored field kept spells =
-    let dollar = first_is_dollar field kept spells in
-    (
+    let dollar = first_is_dollar field kept spells in (
       λ empty. let no_byte = ap (λ (text : List ℕ). slice_index text 0) empty in absurd (omega (arith, dollar, no_byte)),
       λ is_locked. elim is_locked [
         | inl bang ↦ let other = begins_with field (codes "!") 33 (λ rest. refl) bang in absurd (omega (arith, dollar, other))
