@@ -9,7 +9,7 @@ use Suite;
 
 # The most words of a guarantee, and the most files of changes that were longer once.
 my $guarantee = 25;
-my %most = ('an option' => 45, 'a scheme' => 57, 'a limit' => 21);
+my %most = ('an option' => 45, 'a scheme' => 62, 'a limit' => 21);
 
 # The files that docs/ARCHITECTURE.md leaves out of every list, and those that it leaves out but for a call for C.
 my $made = qr{^(?:CHANGELOG\.md|docs/(?:ARCHITECTURE|MUTANTS|SPECIFICATION)\.md|tools/specification\.md)$};

@@ -19,11 +19,12 @@ is(scalar @bare, $bare, 'the page says how many entries have no comment');
 is("$strict->{status} $strict->{err}", ($bare ? 1 : 0) . ' ', 'such an entry is an error of --strict');
 is(scalar(() = $made->{out} =~ /^\*\*No comment yet\.\*\*$/mg), $bare, 'and is marked on the page');
 
-# The entries and the calls: where they are, and their code.
+# The entries and the calls: where they are, and their code. A list in an entry's comment stands in a block of its own.
 my (%entries, @code);
-while ($made->{out} =~ /^(###+) ([\w-]+)\n\n(.*?)```text\n(.*?)^```$(?:\n\n`(\S+):\d+`;)?/msg) {
-    my ($level, $name, $above, $code, $below) = ($1, $2, $3, $4, $5);
-    my ($file) = $level eq '###' ? $above =~ /^`(\S+):\d+`$/m : $below;
+for (split /^(?=###+ )/m, $made->{out}) {
+    my ($level, $name) = /^(###+) ([\w-]+)\n/ or next;
+    my $block = qr/^```text\n((?:(?!^```$).)*)^```$/ms;
+    my ($file, $code) = $level eq '###' ? /^`(\S+):\d+`\n\n$block/m : reverse /$block\n\n`(\S+):\d+`;/ or next;
     $entries{"$file $name"} = 1 if $level ne '###';
     push @code, [$name, $file, $code];
 }
