@@ -30,6 +30,7 @@ sub wanted {
 }
 
 is($help, slurp("$root/tools/help"), 'help is as it was written down, whole');
+ok(!(grep { length > 80 } split /\n/, $help), 'help fits a terminal of 80 columns');
 
 my ($table, $wanted) = wanted('mkpasswd', $help);
 for (

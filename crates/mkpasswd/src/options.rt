@@ -182,17 +182,17 @@ fn with_hash_options<'a>(alloc: Global, command: Command<'a>) -> Result<Command<
     ensures { IfOk result (λ made. app_of made ≡ fold with_rule (app_of command.entry) hash_rules) }
 {
     let method = word(alloc, "method", "TYPE").long("method").short('m').help(
-        "The method: md5crypt, sha256crypt, sha512crypt (the default) or scrypt; help lists them",
+        "The method: md5crypt, sha256crypt, sha512crypt (the\ndefault) or scrypt; help lists them",
     );
     let salt = word(alloc, "salt", "SALT").long("salt").short('S').help(
-        "The salt: up to 8 (md5crypt), 16 or 86 (scrypt) letters, digits, '.' and '/'; else a new one",
+        "The salt: up to 8 (md5crypt), 16 or 86 (scrypt)\nletters, digits, '.' and '/'; else a new one",
     );
     let rounds = word(alloc, "rounds", "NUMBER")
         .long("rounds")
         .short('R')
         .value_parser(value_parser!(u32))
         .help(
-            "The cost: rounds of sha256crypt and sha512crypt, 6 to 11 for scrypt, 0 for the method's own",
+            "The cost: rounds of sha256crypt and sha512crypt,\n6 to 11 for scrypt, 0 for the method's own",
         );
     let stdin = flag(alloc, "stdin")
         .short('s')
@@ -205,21 +205,21 @@ fn with_line_options<'a>(alloc: Global, command: Command<'a>) -> Result<Command<
     ensures { IfOk result (λ made. app_of made ≡ fold with_rule (app_of command.entry) line_rules) }
 {
     let batch = flag(alloc, "batch").help(
-        "Hash the password of each line of standard input: name:password",
+        "Hash the password of each line of standard input:\nname:password",
     );
     let check = flag(alloc, "check").help(
-        "Check the password of each line of standard input: name:field:password",
+        "Check the password of each line of standard input:\nname:field:password",
     );
     let rehash = flag(alloc, "rehash").help(
-        "With --check, a new hash for each password that fits a hash of another method or a lower cost",
+        "With --check, a new hash for each password that fits a\nhash of another method or a lower cost",
     );
     let work = flag(alloc, "work").help(
-        "Show what the hash cost: digests, bytes, mixings, bytes of table",
+        "Show what the hash cost: digests, bytes, mixings,\nbytes of table",
     );
     let budget = word(alloc, "budget", "NUMBER")
         .long("budget")
         .value_parser(value_parser!(u64))
-        .help("What a line may cost, by --batch and --check: bytes digested and mixed");
+        .help("What a line may cost, by --batch and --check: bytes\ndigested and mixed");
     command
         .arg(batch)?
         .arg(check)?
