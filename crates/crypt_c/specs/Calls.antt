@@ -129,13 +129,15 @@ IsOutdated stored number cost =
     (kept : SettingValue) × (scheme : Scheme) × Spells stored kept × IsSchemeMade number cost (Ok scheme)
     × IsTrue (is_replaced_by kept.scheme scheme)
 
--- What mkpasswd_needs_rehash reports: Outdated if the scheme replaces the setting, else Current.
+-- What mkpasswd_needs_rehash reports: Outdated if the scheme replaces the setting, else Current; or the refusal of what it
+-- read.
 abbrev pub rehashed : Result (SettingValue × Scheme) Refusal → Report
 rehashed (Ok (kept, scheme)) =
     if is_replaced_by kept.scheme scheme then reported Outdated 0 0 no_work else refused Current 0
 rehashed (Err refusal) = refused refusal 0
 
--- What mkpasswd_setting does: it puts the text of the setting that the words make, or the token if there is too little room.
+-- What mkpasswd_setting does: it puts the text of the setting that the words make; or the token after a refused method or
+-- cost, or if there is too little room.
 abbrev pub PutsSetting : List ℕ → List ℕ → Result Scheme Refusal → Report → List ℕ → Type 0
 PutsSetting words old (Err refusal) report new = Leaves (refused refusal 0) (token []) old report new
 PutsSetting words old (Ok scheme) report new =

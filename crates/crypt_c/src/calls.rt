@@ -1,7 +1,8 @@
 //! What the calls do with what they have read.
 //!
 //! A step that can hash takes a new meter, and its report has all that this meter counted, so it hashes nothing that it
-//! doesn't report: nothing above the budget, without room, or after a refusal.
+//! doesn't report: nothing above the budget, without room, or after a refusal. That it makes no other meter is held by
+//! tests/layers.t.
 ghost use Rattle.std.specs.Prelude.{◌≡◌, ◌↔◌, ◌<◌, ◌≤◌, ◌<ℤ◌, pos, List, [], Result, length, IfOk, IfErr, IsOkAnd, IsTrue, OnErr, OnOk};
 ghost use Rattle.prims_core.specs.Work.{no_work};
 ghost use Rattle.crypt_core.specs.Crypt.{IsAfterRefusedGrowth, crypt};

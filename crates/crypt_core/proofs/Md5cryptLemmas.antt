@@ -1,19 +1,19 @@
 -- Lemmas on the messages of md5crypt.
 use Rattle.crypt_core.specs.Passwords.{password_limit}
-use Rattle.std.proofs.Common.{◌≡◌, ℕ, zero, suc, ◌+◌, ◌*◌, List, [], ◌∷◌, ◌++◌, length, take, arith, refl, ap, ◌∙◌}
+use Rattle.std.proofs.Common.{◌≡◌, ℕ, zero, suc, ◌+◌, ◌*◌, List, [], ◌∷◌, ◌++◌, length, take, arith, refl, sym, ap, ◌∙◌}
 use Rattle.std.specs.Prelude.{sum_by}
 use Rattle.std.proofs.lemmas.List.{length-append}
 use Rattle.prims_core.specs.Digests.{length-md5, md5}
 use Rattle.prims_core.specs.Meter.{HaveCountAndSum}
 use Rattle.crypt_core.specs.Cycle.{cycle, digit_bytes, digit_pieces}
-use Rattle.crypt_core.specs.Md5crypt.{md5crypt_opening}
-use Rattle.crypt_core.specs.Messages.{md5crypt_message, md5crypt_messages, md5crypt_rounds, opening_message}
+use Rattle.crypt_core.specs.Md5crypt.{md5crypt_digest, md5crypt_opening}
+use Rattle.crypt_core.specs.Messages.{AreMd5cryptMessages, md5crypt_message, md5crypt_messages, md5crypt_rounds, opening_message}
 use Rattle.crypt_core.specs.MethodLimits.{prefix}
 use Rattle.crypt_core.specs.RoundMessage.{alternate_message, digest_after, round_message}
 use Rattle.crypt_core.specs.WorkBytes.{md5crypt_bytes}
 use Rattle.crypt_core.specs.declared.method.Method.TheVariants.{Md5crypt}
 use Rattle.crypt_core.proofs.CycleLemmas.{length-cycle, length-digit_pieces}
-use Rattle.crypt_core.proofs.MessageLists.{length-messages_to, length-round_message, length-alternate, messages_to, round_length}
+use Rattle.crypt_core.proofs.MessageLists.{digest_after-more, length-messages_to, length-round_message, length-alternate, messages_to, round_length}
 use Rattle.crypt_core.proofs.WorkSums.{rounds_sum}
 
 pub messages-two : (p s : List ℕ) → messages_to (md5crypt_message p s) 2 ≡ alternate_message p s ∷ opening_message p s ∷ []
@@ -29,6 +29,11 @@ pub message-round : (p s : List ℕ) (i : ℕ)
     → md5crypt_message p s (i + 2) ≡ round_message i (digest_after md5 (md5crypt_opening p s) p s i) p s
 unfolding md5crypt_message
 message-round p s i = let two : i + 2 ≡ suc (suc i) = omega arith in rw two refl
+
+-- the digests that the definition speaks of are those of messages
+pub are_messages : (p s : List ℕ) → AreMd5cryptMessages p s
+unfolding md5crypt_message md5crypt_digest
+are_messages p s = (refl, digest_after-more md5 (md5crypt_opening p s) p s 999 ∙ ap md5 (sym (message-round p s 999)))
 
 -- the digest before a round
 length-digest_after : (p s : List ℕ) (i : ℕ) → length (digest_after md5 (md5crypt_opening p s) p s i) ≡ 16

@@ -1,18 +1,18 @@
 -- Lemmas on the messages of SHA-crypt.
 use Rattle.crypt_core.specs.MethodLimits.{shacrypt_salt_limit}
 use Rattle.crypt_core.specs.Passwords.{password_limit}
-use Rattle.std.proofs.Common.{◌≡◌, ℕ, zero, suc, ◌+◌, ◌*◌, ◌≤◌, ◌<◌, List, [], ◌∷◌, ◌++◌, length, arith, refl, ap, ◌∙◌}
+use Rattle.std.proofs.Common.{◌≡◌, ℕ, zero, suc, ◌+◌, ◌*◌, ◌≤◌, ◌<◌, List, [], ◌∷◌, ◌++◌, length, arith, refl, sym, ap, ◌∙◌, ◌-◌}
 use Rattle.std.specs.Prelude.{sum_by, All}
 use Rattle.std.proofs.lemmas.List.{length-append}
 use Rattle.std.proofs.Math.Nat.{mul-le-mul_right}
 use Rattle.prims_core.specs.Meter.{HaveCountAndSum}
 use Rattle.crypt_core.specs.Cycle.{cycle, digit_bytes, digit_pieces}
-use Rattle.crypt_core.specs.Messages.{password_repeated, salt_repeated, sha_digest_before, sha_opening_message, sha_round_message, shacrypt_message, shacrypt_messages}
+use Rattle.crypt_core.specs.Messages.{AreShacryptMessages, password_repeated, salt_repeated, sha_digest_before, sha_opening_message, sha_round_message, shacrypt_message, shacrypt_messages}
 use Rattle.crypt_core.specs.RoundMessage.{alternate_message, digest_after, round_message}
-use Rattle.crypt_core.specs.ShaCrypt.{sha_opening_byte, password_string, salt_string}
+use Rattle.crypt_core.specs.ShaCrypt.{sha_opening, sha_opening_byte, password_string, salt_string, shacrypt_digest}
 use Rattle.crypt_core.specs.WorkBytes.{greatest_byte, shacrypt_bytes}
 use Rattle.crypt_core.proofs.CycleLemmas.{digit_bytes-few, length-cycle, length-digit_pieces, length-repeat}
-use Rattle.crypt_core.proofs.MessageLists.{length-messages_to, length-round_message, length-alternate, messages_to, round_length}
+use Rattle.crypt_core.proofs.MessageLists.{digest_after-more, length-messages_to, length-round_message, length-alternate, messages_to, round_length}
 use Rattle.crypt_core.proofs.WorkSums.{rounds_sum}
 
 -- the message of round i is number i + 4
@@ -20,6 +20,24 @@ pub message-number : (h : List ℕ → List ℕ) (p s : List ℕ) (i : ℕ)
     → shacrypt_message h p s (i + 4) ≡ sha_round_message h p s i (sha_digest_before h p s i)
 unfolding shacrypt_message
 message-number h p s i = let number : i + 4 ≡ suc (suc (suc (suc i))) = omega arith in rw number refl
+
+-- what the rounds give is the digest of the last round's message
+last_digest : (h : List ℕ → List ℕ) (p s : List ℕ) (i : ℕ) → shacrypt_digest h p s (i + 1) ≡ h (shacrypt_message h p s (i + 4))
+unfolding shacrypt_digest
+last_digest h p s i =
+    digest_after-more h (sha_opening h p s) (password_string h p) (salt_string h p s) i ∙ ap h (sym (message-number h p s i))
+
+digest_of_last : (h : List ℕ → List ℕ) (p s : List ℕ) (rounds : ℕ) → 1 ≤ rounds
+    → shacrypt_digest h p s rounds ≡ h (shacrypt_message h p s (rounds + 3))
+digest_of_last h p s rounds some =
+    let one_more : rounds ≡ rounds - 1 + 1 = omega (arith, some) in
+    let number : rounds - 1 + 4 ≡ rounds + 3 = omega (arith, some) in
+    ap (λ (n : ℕ). shacrypt_digest h p s n) one_more ∙ (last_digest h p s (rounds - 1) ∙ ap (λ (n : ℕ). h (shacrypt_message h p s n)) number)
+
+-- the digests that the definition speaks of are those of messages
+pub are_messages : (h : List ℕ → List ℕ) (p s : List ℕ) (rounds : ℕ) → 1 ≤ rounds → AreShacryptMessages h p s rounds
+unfolding shacrypt_message
+are_messages h p s rounds some = (refl, refl, refl, digest_of_last h p s rounds some)
 
 pub messages-four : (h : List ℕ → List ℕ) (p s : List ℕ)
     → messages_to (shacrypt_message h p s) 4 ≡ alternate_message p s ∷ sha_opening_message h p s ∷ password_repeated p ∷ salt_repeated h p s ∷ []

@@ -1,13 +1,13 @@
 -- The messages that md5crypt and SHA-crypt digest, by their numbers from 0 on: 1,002 in md5crypt, and R + 4 in SHA-crypt
 -- for R rounds.
-use Rattle.std.specs.Prelude.{ℕ, zero, suc, ◌+◌, List, [], ◌∷◌, ◌++◌, length, take, map}
+use Rattle.std.specs.Prelude.{◌≡◌, ℕ, zero, suc, ◌+◌, List, [], ◌∷◌, ◌++◌, length, take, map}
 use Rattle.std.specs.List.{range_with_len, repeat}
 use Rattle.prims_core.specs.Digests.{md5}
 use Rattle.crypt_core.specs.Cycle.{cycle, digit_pieces}
-use Rattle.crypt_core.specs.Md5crypt.{md5crypt_opening}
+use Rattle.crypt_core.specs.Md5crypt.{md5crypt_digest, md5crypt_opening}
 use Rattle.crypt_core.specs.MethodLimits.{prefix}
 use Rattle.crypt_core.specs.RoundMessage.{alternate_message, digest_after, round_message}
-use Rattle.crypt_core.specs.ShaCrypt.{password_string, salt_string, sha_opening, sha_opening_byte}
+use Rattle.crypt_core.specs.ShaCrypt.{password_string, salt_string, sha_opening, sha_opening_byte, shacrypt_digest}
 use Rattle.crypt_core.specs.declared.method.Method.TheVariants as methods
 
 -- md5crypt
@@ -33,6 +33,13 @@ md5crypt_rounds = 1000
 -- all messages in order
 unfoldable pub md5crypt_messages : List ℕ → List ℕ → List (List ℕ)
 md5crypt_messages password salt = map (md5crypt_message password salt) (range_with_len 0 (md5crypt_rounds + 2))
+
+-- These are the messages that the definition of the digest digests: the opening is the digest of the second one, and what
+-- md5crypt gives is that of the last one. Each round's message is made with the digest of the one before.
+abbrev pub AreMd5cryptMessages : List ℕ → List ℕ → Type 0
+AreMd5cryptMessages password salt =
+    (md5crypt_opening password salt ≡ md5 (md5crypt_message password salt 1))
+    × (md5crypt_digest password salt ≡ md5 (md5crypt_message password salt (md5crypt_rounds + 1)))
 
 -- SHA-crypt over the digest function h
 
@@ -72,3 +79,12 @@ shacrypt_message h password salt (suc (suc (suc (suc i)))) =
 -- all messages of this many rounds, in order
 unfoldable pub shacrypt_messages : (List ℕ → List ℕ) → List ℕ → List ℕ → ℕ → List (List ℕ)
 shacrypt_messages h password salt rounds = map (shacrypt_message h password salt) (range_with_len 0 (rounds + 4))
+
+-- These are the messages that the definition of the digest digests: the opening is the digest of the second one, the
+-- strings of the rounds are made of those of the third and the fourth, and what SHA-crypt gives is that of the last one.
+abbrev pub AreShacryptMessages : (List ℕ → List ℕ) → List ℕ → List ℕ → ℕ → Type 0
+AreShacryptMessages h password salt rounds =
+    (sha_opening h password salt ≡ h (shacrypt_message h password salt 1))
+    × (password_string h password ≡ cycle (h (shacrypt_message h password salt 2)) (length password))
+    × (salt_string h password salt ≡ cycle (h (shacrypt_message h password salt 3)) (length salt))
+    × (shacrypt_digest h password salt rounds ≡ h (shacrypt_message h password salt (rounds + 3)))

@@ -16,7 +16,8 @@ use Rattle.crypt_core.specs.declared.setting.fault.SettingFault.TheVariants.{Too
 abbrev pub setting_faults : List SettingFault
 setting_faults = TooLong ∷ BadCharacter ∷ UnknownScheme ∷ BadRounds ∷ BadCost ∷ ScryptRange ∷ AboveCeiling ∷ BadSalt ∷ []
 
--- LacksCost method text: the text has the prefix of this method, and no cost part of it follows.
+-- LacksCost method text: the text has the prefix of this method, and no cost part of it follows. For SHA-crypt that is
+-- `rounds=` without a valid number, since no part at all is a cost part too.
 abbrev pub LacksCost : Method → List ℕ → Type 0
 LacksCost method text = BeginsWith text (method_row method).prefix
     × ((scheme : Scheme) → (after : List ℕ) → method_of scheme ≡ method → ¬ SpellsScheme text scheme after)

@@ -1,12 +1,12 @@
-//! The scheme md5crypt of FreeBSD. Its definition speaks of 1,002 whole messages; here they go into
-//! running digests piece by piece, so that no message is built whole and nothing is allocated. What
+//! The scheme md5crypt of FreeBSD. Its definition speaks of whole messages, an opening and 1,000 rounds; here they go
+//! into running digests piece by piece, so that no message is built whole and nothing is allocated. What
 //! stands beside the digests in the rounds is joined once, in a buffer of fixed capacity.
 ghost use Rattle.std.specs.Prelude.{◌≡◌, ◌+◌, ◌<◌, ◌≤◌, length};
 ghost use Rattle.prims_core.specs.Digests.{md5};
 ghost use Rattle.prims_core.specs.Meter.{with_work, HaveCountAndSum, HasDigestRoom};
 ghost use Rattle.crypt_core.specs.declared.method.Method.TheVariants.{Md5crypt};
 ghost use Rattle.crypt_core.specs.Md5crypt.{md5crypt_digest};
-ghost use Rattle.crypt_core.specs.Messages.{md5crypt_messages, md5crypt_rounds, opening_message};
+ghost use Rattle.crypt_core.specs.Messages.{AreMd5cryptMessages, md5crypt_messages, md5crypt_rounds, opening_message};
 ghost use Rattle.crypt_core.specs.MethodLimits.{digest_len, md5crypt_salt_limit};
 ghost use Rattle.crypt_core.specs.Passwords.{password_limit};
 ghost use Rattle.crypt_core.specs.RoundMessage.{alternate_message};
@@ -38,6 +38,7 @@ pub fn md5crypt(password: &Password, salt: &[u8], meter: &mut Meter) -> [u8; 16]
     ensures below { md5crypt_bytes (length password.now) (length salt.now) < work_limit }
     ensures specified { HaveCountAndSum (md5crypt_messages password.now salt.now) (md5crypt_rounds + 2)
         (md5crypt_bytes (length password.now) (length salt.now)) }
+    ensures messages { AreMd5cryptMessages password.now salt.now }
 {
     let password = password.bytes();
     let mut digest = opening(password, salt, meter);

@@ -5,7 +5,7 @@ ghost use Rattle.std.specs.Prelude.{◌≡◌, ◌+◌, ◌*◌, ◌^◌, ◌<�
 ghost use Rattle.std.specs.List.{repeat};
 ghost use Rattle.prims_core.specs.Meter.{with_work, HaveCountAndSum, HasDigestRoom};
 ghost use Rattle.crypt_core.specs.Cycle.{cycle};
-ghost use Rattle.crypt_core.specs.Messages.{sha_opening_message, shacrypt_messages};
+ghost use Rattle.crypt_core.specs.Messages.{AreShacryptMessages, sha_opening_message, shacrypt_messages};
 ghost use Rattle.crypt_core.specs.MethodLimits.{shacrypt_salt_limit};
 ghost use Rattle.crypt_core.specs.Passwords.{password_limit};
 ghost use Rattle.crypt_core.specs.RoundMessage.{alternate_message};
@@ -48,6 +48,7 @@ pub fn shacrypt<H: Counted>(
         (length salt.now) < work_limit }
     ensures specified { HaveCountAndSum (shacrypt_messages H.digest password.now salt.now rounds) (rounds + 4)
         (shacrypt_bytes H.LEN (sha_opening_byte H.digest password.now salt.now) rounds (length password.now) (length salt.now)) }
+    ensures messages { AreShacryptMessages H.digest password.now salt.now rounds }
 {
     let password = password.bytes();
     let mut digest = opening::<H>(password, salt, meter);

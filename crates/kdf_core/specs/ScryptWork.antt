@@ -12,7 +12,8 @@ table_bytes cost = row_count cost * part_bytes cost
 
 -- all five counts, for a password and a salt of these lengths and a result of count bytes:
 --   digests  two for each tag of 32 bytes, of all parts and of the result; one more for a password longer than a block
---   bytes    that password, and for each tag a salt and the number of a block in 4 bytes. The salt of the result is all parts
+--   bytes    that password, and the `tag_bytes` of each tag, whose text is a salt and the number of a block in 4 bytes.
+--            The salt of the result is all parts
 --   mixes    N to make the rows and N to mix with them, for each part
 --   table    the N rows
 --   scratch  all parts, and two halves in which a part is mixed

@@ -61,7 +61,8 @@ module _ {I O E : Type 0} where
   Ends turns (Check job) old new result = EndsLines turns kinds.Check job old new result × IsWithinTurns turns old new
 
   -- What an error of `clap` with this exit status leaves. Help and the version, which have status 0, are some text for the
-  -- output, and a failure to print it is told. For any other error some text goes to the fault output, even if that fails.
+  -- output, and a failure to print it is told. For any other error some text goes to the fault output, and the status is
+  -- 2 even if that fails.
   abbrev pub ShowsError : ℕ → ℕ → RunState I O E → RunState I O E → ℕ → Type 0
   ShowsError zero turns old new status =
       (text : List ℕ) × (mid : RunState I O E) × (result : Result Tally RunFault)

@@ -48,8 +48,8 @@ module _ {I O E : Type 0} where
       (bytes : List ℕ) × (answers : List Answer) × IsAtEnd new.input.shown × AreAnswers kind job 1 (lines_of bytes) old.stream answers
       × Succeeds bytes answers old new
 
-  -- All that a plan asks for was done. For the password of a word the input is unchanged; for a password of the input exactly
-  -- the bytes were read that decide it.
+  -- All that a plan asks for was done. For the password of a word the input is unchanged; for a password of the input bytes
+  -- were read that decide it.
   abbrev pub IsDone : Plan → RunState I O E → RunState I O E → Type 0
   IsDone Methods old new = GivesOnly methods_text old new
   IsDone (One job (Word password)) old new =

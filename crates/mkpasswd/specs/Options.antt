@@ -100,7 +100,7 @@ pub record IsJob (rows : List Row) (job : Job) : Type 0 where
   pub work : job.work ≡ is_set (codes "work") rows
   pub budget : job.budget ≡ number_in (codes "budget") rows
 
--- The plan for that job, in the mode that was asked for: the password is PASSWORD, or a line of the input, or there are
+-- The plan for that job, in the mode that was asked for: the password is PASSWORD, or the first line of the input, or there are
 -- lines to hash or to check. Without a mode the password comes from the input.
 abbrev pub IsPlan : List Row → Plan → Type 0
 IsPlan rows (One job (Word word)) = IsJob rows job × (first_of (codes "password") rows ≡ Some word.items)

@@ -1,4 +1,4 @@
--- What single calls of a device leave. The clauses of the wrappers alone cite this.
+-- What single calls of a device leave. Of public clauses only those of the wrappers cite this.
 use Rattle.std.specs.Prelude.{◌≡◌, ℕ, ◌+◌, ◌==◌, ◌&&◌, Bool, true, false, nat_lt, List, length, Option, Result, Ok, Err, refl, if◌then◌else◌}
 use Rattle.std.specs.Coded.{Coded, code_by, coded×, coded_ℕ, coded_list, coded_option}
 use Rattle.run_core.specs.Devices.{Device}

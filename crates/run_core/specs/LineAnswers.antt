@@ -43,8 +43,8 @@ HasSetting parts field kept = (parts.field ≡ Some field) × Spells field kept
 -- order.
 --   Hashed          there is no field, and the password is hashed, with a setting that the job makes
 --   NoHash, Locked  the field is empty, or begins with `!` or `*`
---   Match           the field spells a setting, and the password's hash with it is the field
---   Rehashed        likewise, and the setting is out of date, so the password is hashed again
+--   Match           the field spells a setting that is not out of date, and the password's hash with it is the field
+--   Rehashed        likewise, but the setting is out of date, so the password is hashed again
 --   Mismatch        the field spells a setting, and the password's hash with it is another
 abbrev pub ComesTo : Job → Parts → Stream → Outcome → List Hashing → Type 0
 ComesTo job parts stream (Hashed hash) made =

@@ -24,7 +24,8 @@ EndsPassword Decided Undecided turns job password old new = EndsBy
 
 -- EndsOne turns job from old new result: the run for the password that comes from there.
 --   Word   the word is the password itself, and the input is unchanged
---   Input  the password is the first line. Before that is decided there was no line feed, and not too much.
+--   Input  the password is the first line. If the run is cut short before that is decided, no line feed was read, and no
+--          more bytes than a password may have.
 abbrev pub EndsOne : {I O E : Type 0} → ℕ → Job → PasswordFrom → RunState I O E → RunState I O E → Result Tally RunFault → Type 0
 EndsOne turns job (Word word) old new result = (new.input ≡ old.input) × EndsPassword ⊤ ⊥ turns job word.items old new result
 EndsOne turns job Input old new result = (bytes : List ℕ) × Reads old.input new.input bytes

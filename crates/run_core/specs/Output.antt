@@ -32,6 +32,7 @@ Gives turns old new text (Err Write) = TakesFront 1 old new [] text ⊎ Takes 1 
 Gives turns old new text (Err Turns) = TakesFront 0 old new [] text × (new.calls ≡ old.calls + turns)
 Gives turns old new text (Err fault) = ⊥
 
--- Shows turns old new text result: `text` was given in at most so many calls, each of which moved a byte or failed.
+-- Shows turns old new text result: how showing `text` ended, with at most so many calls to give it, each of which moved a
+-- byte or failed.
 abbrev pub Shows : {A T : Type 0} → ℕ → Device T → Device T → List ℕ → Result A RunFault → Type 0
 Shows turns old new text result = Gives turns old new text result × (new.calls ≤ old.calls + turns) × MovesBytes 0 old new

@@ -65,7 +65,8 @@ module _ {I O E : Type 0} where
 
   -- ---- the end of a run
 
-  -- Finishes answers old new result: a run has given all its answers.
+  -- Finishes answers old new result: a run has given all its answers. The numbers after `TakeAll` are failed calls of the
+  -- input, of the output and of the fault output, and flushes of the output and of the fault output.
   --   Ok     both outputs are flushed, and no call failed
   --   Write  one of these two flushes failed: that of the output, and then that of the fault output was not tried; or that
   --          of the fault output
@@ -77,7 +78,7 @@ module _ {I O E : Type 0} where
   Finishes answers old new (Err fault) = ⊥
 
   -- StopsReading turns done old new fault: a run was cut short while it read, and flushed nothing. The answers `done` are
-  -- given. Each fetch gave a byte, so the end of the input was not found.
+  -- given. Each fetch that didn't fail gave a byte, so the end of the input was not found.
   --   Read   one read failed
   --   Turns  `turns` calls were made, and none failed
   abbrev pub StopsReading : ℕ → List Answer → RunState I O E → RunState I O E → RunFault → Type 0

@@ -6,7 +6,7 @@ use Rattle.crypt_core.specs.RoundMessage.{round_message, alternate_message}
 use Rattle.crypt_core.specs.Private.Counting.{with_digest}
 use Rattle.crypt_core.specs.Private.RoundStrings.{Strings}
 use Rattle.crypt_core.proofs.CycleLemmas.{digit_bytes-few}
-use Rattle.crypt_core.proofs.Md5cryptLemmas.{length-message_round, length-opening, message-round, messages-all, messages-in_all, messages-two}
+use Rattle.crypt_core.proofs.Md5cryptLemmas.{are_messages, length-message_round, length-opening, message-round, messages-all, messages-in_all, messages-two}
 use Rattle.crypt_core.proofs.MessageLists.{digest_after-more, digest_after-none, length-messages_to, length-alternate, messages-more, round_length-small}
 use Rattle.crypt_core.proofs.Metering.{digests_in_all, digests_more, two_digests}
 use Rattle.crypt_core.proofs.md5crypt.md5crypt.Goals as goal
@@ -77,6 +77,9 @@ returns-clause-count c =
 
 pub returns-clause-specified : goal.returns-clause-specified
 returns-clause-specified c = messages-in_all c.args.password.now c.args.salt.now
+
+pub returns-clause-messages : goal.returns-clause-messages
+returns-clause-messages c = are_messages c.args.password.now c.args.salt.now
 
 pub returns-clause-below : goal.returns-clause-below
 returns-clause-below c = omega (arith, ap (λ m. m.bytes) (returns-clause-count c), c.rounds.invariant.3)

@@ -10,7 +10,7 @@ use Rattle.crypt_core.specs.Private.RoundStrings.{Strings}
 use Rattle.crypt_core.proofs.CycleLemmas.{length-cycle, length-repeat}
 use Rattle.crypt_core.proofs.MessageLists.{digest_after-more, digest_after-none, length-messages_to, messages-more, round_length-small}
 use Rattle.crypt_core.proofs.Metering.{digests_in_all, digests_more, four_digests}
-use Rattle.crypt_core.proofs.ShaCryptLemmas.{sha_opening_byte-below, length-message_round, message-number, messages-all, messages-four, messages-in_all, round_is, start_bytes}
+use Rattle.crypt_core.proofs.ShaCryptLemmas.{are_messages, sha_opening_byte-below, length-message_round, message-number, messages-all, messages-four, messages-in_all, round_is, start_bytes}
 use Rattle.crypt_core.proofs.shacrypt.shacrypt.Goals as goal
 
 pub string_of-password_string-requires-clause-bytes_room : goal.string_of-password_string-requires-clause-bytes_room
@@ -157,6 +157,10 @@ rounds-preserved g c =
         c.requires.salt,
       ),
     )
+
+pub returns-clause-messages : goal.returns-clause-messages
+returns-clause-messages g c =
+    are_messages g.H.Counted.digest c.args.password.now c.args.salt.now c.args.rounds (omega (arith, c.requires.least_rounds))
 
 pub returns-clause-below : goal.returns-clause-below
 returns-clause-below g c =
