@@ -3,7 +3,7 @@ use Rattle.std.proofs.Common.{◌≡◌, ℕ, zero, suc, ◌+◌, ◌-◌, ◌*�
 use Rattle.std.specs.Fn.{iterate}
 use Rattle.std.specs.List.{flat_map, range_with_len}
 use Rattle.std.proofs.lemmas.Grind.{common_steps, flat_map-append}
-use Rattle.std.proofs.lemmas.List.{append-nil, drop-drop, take_all}
+use Rattle.std.proofs.lemmas.List.{append-nil, drop-drop, get_or-drop, get_or-take, take_all}
 use Rattle.std.proofs.lemmas.List.Folds.{flat_map-map}
 use borrow.Rule.Slice.PartMut.{put_mid}
 use Rattle.std.proofs.lemmas.Slice.{take-put_mid, drop-put_mid}
@@ -11,8 +11,10 @@ use Rattle.std.proofs.lemmas.Nat.{pow-add, pow_pos}
 use Rattle.std.proofs.Math.Nat.{add-mul-mod_self_left, mul-div_cancel, mul_assoc}
 use Rattle.std.proofs.Math.Seq.{drop-cons}
 use Rattle.prims_core.specs.BlockMix.{block_mix}
+use Rattle.prims_core.specs.Diagonals.{block_in_rows, in_rows}
 use Rattle.prims_core.specs.declared.meter.Work.{Work}
 use Rattle.prims_core.specs.Words.{bytes_of_words, chunks_exact, little_number}
+use Rattle.prims_core.proofs.InRowsFacts.{length-in_rows, block_at-in_rows}
 use Rattle.prims_core.proofs.WordFacts.{number-from_word}
 use Rattle.kdf_core.proofs.Pbkdf2Lemmas.{range-more}
 use Rattle.kdf_core.specs.Private.Mixing.{HasShape, HoldsMixings, IsPower}
@@ -48,6 +50,22 @@ integerify-mod words k some most =
     ∙ (drops (word % 2 ^ 32) above
     ∙ (sym (drops (word % 2 ^ 32) (word / 2 ^ 32)) ∙ ap (λ n. n % 2 ^ k) (sym word_is))))
 
+-- the first word of the last block is the same one by its rows and by its diagonals
+pub first_word-in_rows : (words : List ℕ) (r : ℕ) → 1 ≤ r → length words ≡ 32 * r
+    → get_or (in_rows words) (length (in_rows words) - 16) 0 ≡ get_or words (length words - 16) 0
+unfolding block_in_rows
+first_word-in_rows words r some whole =
+    let last : ℕ = 2 * r - 1 in
+    let long : length (in_rows words) ≡ length words = omega (arith, length-in_rows words, whole) in
+    let place : length words - 16 ≡ 16 * last = omega (arith, whole) in
+    let none : 16 * last ≡ 16 * last + 0 = omega arith in
+    let first : (xs : List ℕ) → get_or xs (16 * last) 0 ≡ get_or (take 16 (drop (16 * last) xs)) 0 0 =
+    λ xs. ap (λ (k : ℕ). get_or xs k 0) none ∙ sym (get_or-take 16 (drop (16 * last) xs) 0 0 (omega arith) ∙ get_or-drop (16 * last) xs 0 0) in
+    rw (long, place)
+    (first (in_rows words)
+    ∙ ap (λ (block : List ℕ). get_or block 0 0) (block_at-in_rows words last (omega (arith, whole)))
+    ∙ sym (first words))
+
 -- the length of a row, where one is set
 length-row : (table : List (List ℕ)) (i : ℕ) (row : List ℕ) (k words : ℕ) → length row ≡ words → length (get_or table k []) ≡ words → i < length table
     → length (get_or (set table i row) k []) ≡ words
@@ -72,26 +90,26 @@ pub some_row : (rows k : ℕ) → IsPower rows k → 0 < rows
 some_row rows k is = omega (arith, is.power, pow_pos k)
 
 -- a table of which the first rows hold B at `start` and what is mixed of it
-pub record IsFilled (table : List (List ℕ)) (rows count : ℕ) (start : List ℕ) : Type 0 where
-  pub shape : HasShape table rows (length start)
+pub record IsFilled (table : List (List ℕ)) (rows words count : ℕ) (start : List ℕ) : Type 0 where
+  pub shape : HasShape table rows words
   pub held : HoldsMixings table count start
 
 -- a row more
-pub filled-more : (old new : List (List ℕ)) (rows count : ℕ) (start row : List ℕ) → IsFilled old rows count start
-    → length row ≡ length start → count < rows → new ≡ set old count row → row ≡ iterate block_mix count start
-    → IsFilled new rows (count + 1) start
-filled-more old new rows count start row before same inside is mixed =
+pub filled-more : (old new : List (List ℕ)) (rows words count : ℕ) (start row : List ℕ) → IsFilled old rows words count start
+    → length row ≡ words → count < rows → new ≡ set old count row → in_rows row ≡ iterate block_mix count start
+    → IsFilled new rows words (count + 1) start
+filled-more old new rows words count start row before same inside is mixed =
     let within : count < length old = omega (arith, before.shape.row_count) in
-    let after : IsFilled (set old count row) rows (count + 1) start = record {
+    let after : IsFilled (set old count row) rows words (count + 1) start = record {
       shape = record {
         row_count = length-set old count row ∙ before.shape.row_count;
-        row_words = λ k h. length-row old count row k (length start) same (before.shape.row_words k h) within;
+        row_words = λ k h. length-row old count row k words same (before.shape.row_words k h) within;
       };
       held = below_more _ _
           (λ k h. let other : k ≢ count = omega arith in rw get_or-set_other (before.held k h))
           (rw get_or-set_same mixed);
     } in
-    subst (λ (t : List (List ℕ)). IsFilled t rows (count + 1) start) (sym is) after
+    subst (λ (t : List (List ℕ)). IsFilled t rows words (count + 1) start) (sym is) after
 
 -- no mixing at first
 pub mixes-none : (m : Work) (n : ℕ) → m ≡ record m { mixes = m.mixes + n * 0 }

@@ -2,10 +2,12 @@
 //!
 //! All memory is got before any work: one table, which serves every part in turn, the parts as
 //! bytes, and two halves of words, between which a part goes to and fro while it is mixed with the rows.
+//! While a part is under ROMix its blocks stand diagonal by diagonal, as the mixing takes them.
 
 ghost use Rattle.std.specs.Prelude.{◌≡◌, ℕ, ◌+◌, ◌-◌, ◌*◌, ◌/◌, ◌^◌, ◌%◌, ◌<◌, ◌≤◌, List, length, OnOk, OnErr};
 ghost use Rattle.std.specs.Fn.{iterate};
 ghost use Rattle.prims_core.specs.BlockMix.{block_mix};
+ghost use Rattle.prims_core.specs.Diagonals.{in_rows};
 ghost use Rattle.prims_core.specs.Meter.{HaveCountAndSum, HasRoom};
 ghost use Rattle.kdf_core.specs.Params.{IsBounded};
 ghost use Rattle.kdf_core.specs.Private.Mixing.{HasShape, HoldsMixings, AreHalves, IsPower, part_words};
@@ -17,7 +19,7 @@ use crate::hmac::HmacKey;
 use crate::params::Params;
 use crate::pbkdf2::pbkdf2;
 use prims_core::meter::Meter;
-use prims_core::mix::{block_mix, block_mix_xor};
+use prims_core::mix::{from_diagonals, mix_diagonals, mix_xor_diagonals, to_diagonals};
 use prims_core::scratch::{ByteScratch, WordScratch};
 use prims_core::table::Table;
 use prims_core::words::{load_words, store_words};
@@ -124,8 +126,10 @@ fn mix_part(part: &mut [u8], rows: usize, table: &mut Table, halves: &mut [u32],
     let part_words = halves.len() / 2;
     let (x, y) = halves.split_at_mut(part_words);
     load_words(part, x);
+    to_diagonals(x);
     fill_table(table, rows, x, meter);
     mix_with_rows(table, rows, x, y, meter);
+    from_diagonals(x);
     store_words(x, part);
 }
 
@@ -137,15 +141,15 @@ fn fill_table(table: &mut Table, rows: usize, x: &mut [u32], meter: &mut Meter)
     requires shape { HasShape table.old rows (length x.old) }
     requires room { meter.old.mixes + rows < 2 ^ 128 }
     ensures shape { HasShape table.new rows (length x.old) }
-    ensures rows { HoldsMixings table.new rows x.old }
-    ensures mixed { x.new ≡ iterate block_mix rows x.old }
+    ensures rows { HoldsMixings table.new rows (in_rows x.old) }
+    ensures mixed { in_rows x.new ≡ iterate block_mix rows (in_rows x.old) }
     ensures count { meter.new ≡ record meter.old { mixes = meter.old.mixes + rows } }
 {
     table.set_row(0, x);
     'filling: for i in 0..rows - 1 {
         table.mix_row(i, meter);
     }
-    block_mix(table.row(rows - 1), x, meter);
+    mix_diagonals(table.row(rows - 1), x, meter);
 }
 
 // N times F. Step by step it goes from `x` to `y` and back, so that no block is copied.
@@ -155,7 +159,7 @@ fn mix_with_rows(table: &Table, rows: usize, x: &mut [u32], y: &mut [u32], meter
     requires shape { HasShape table.now rows (length x.old) }
     requires room { meter.old.mixes + rows < 2 ^ 128 }
     ensures mixed { (start : List ℕ) → HoldsMixings table.now rows start
-        → x.new ≡ iterate (mixed_back rows start) rows x.old }
+        → in_rows x.new ≡ iterate (mixed_back rows start) rows (in_rows x.old) }
     ensures count { meter.new ≡ record meter.old { mixes = meter.old.mixes + rows } }
 {
     'mixing: for _ in 0..rows / 2 {
@@ -164,25 +168,26 @@ fn mix_with_rows(table: &Table, rows: usize, x: &mut [u32], y: &mut [u32], meter
     }
 }
 
-// F of `x`, in `y`. What `x` is left with has no meaning.
-fn mix_back(table: &Table, rows: usize, x: &mut [u32], y: &mut [u32], meter: &mut Meter)
+// F of `x`, in `y`.
+fn mix_back(table: &Table, rows: usize, x: &[u32], y: &mut [u32], meter: &mut Meter)
     requires power { (k : ℕ) × IsPower rows k }
-    requires halves { (r : ℕ) × AreHalves r x.old y.old }
-    requires shape { HasShape table.now rows (length x.old) }
+    requires halves { (r : ℕ) × AreHalves r x.now y.old }
+    requires shape { HasShape table.now rows (length x.now) }
     requires room { meter.old.mixes + 1 < 2 ^ 128 }
-    ensures mixed { (start : List ℕ) → HoldsMixings table.now rows start → y.new ≡ mixed_back rows start x.old }
+    ensures mixed { (start : List ℕ) → HoldsMixings table.now rows start
+        → in_rows y.new ≡ mixed_back rows start (in_rows x.now) }
     ensures count { meter.new ≡ record meter.old { mixes = meter.old.mixes + 1 } }
 {
     let row = table.row(row_number(x, rows));
-    block_mix_xor(x, row, y, meter);
+    mix_xor_diagonals(x, row, y, meter);
 }
 
 // The number of the row that F takes for X: Integerify (X) mod N. As N is a power of two of at most 2^32, the first
-// word of the last block decides.
+// word of the last block decides, which is the first of its diagonals too.
 fn row_number(words: &[u32], rows: usize) -> usize
     requires power { (k : ℕ) × IsPower rows k }
-    requires some_block { BLOCK_WORDS ≤ length words.now }
-    ensures { result ≡ integerify words.now % rows }
+    requires some_block { (r : ℕ) × (1 ≤ r) × (length words.now ≡ part_words r) }
+    ensures { result ≡ integerify (in_rows words.now) % rows }
 {
     words[words.len() - BLOCK_WORDS] as usize % rows
 }

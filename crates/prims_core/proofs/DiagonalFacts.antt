@@ -3,6 +3,7 @@ use Rattle.std.proofs.Common.{◌≡◌, ℕ, ◌<◌, List, [], ◌∷◌, ◌+
 use Rattle.std.specs.List.{concat}
 use Rattle.std.specs.Simd.Lanes.{zip2, pick_l}
 use Rattle.std.proofs.lemmas.Simd.{get_or-zip2, length-zip2}
+use Rattle.prims_core.specs.Diagonals.{block_in_rows}
 use Rattle.prims_core.specs.Private.Diagonals.{HaveFourWords, words_on}
 use Rattle.prims_core.proofs.ChunkFacts.{concat-chunks_exact}
 use Rattle.prims_core.proofs.MatrixFacts.{rows_of_sixteen}
@@ -51,6 +52,26 @@ in_rows a b c d four_a four_c =
     ∷ slice_index (c ++ d) 0 ∷ slice_index b 1 ∷ slice_index a 2 ∷ slice_index (c ++ d) 7
     ∷ slice_index (c ++ d) 4 ∷ slice_index (c ++ d) 1 ∷ slice_index b 2 ∷ slice_index a 3 ∷ [])
     ≡ words_on a b c d) c four_c refl)
+
+-- a block that stands by its diagonals, as they are picked
+pub picked_in_order : (xs : List ℕ) → length xs ≡ 16
+    → words_on (pick_l 0 (xs ++ xs) (0 ∷ 1 ∷ 2 ∷ 3 ∷ [])) (pick_l 0 (xs ++ xs) (4 ∷ 5 ∷ 6 ∷ 7 ∷ []))
+    (pick_l 0 (xs ++ xs) (8 ∷ 9 ∷ 10 ∷ 11 ∷ [])) (pick_l 0 (xs ++ xs) (12 ∷ 13 ∷ 14 ∷ 15 ∷ [])) ≡ block_in_rows xs
+unfolding block_in_rows
+picked_in_order xs long =
+    subst (λ (ys : List ℕ). words_on (pick_l 0 (ys ++ ys) (0 ∷ 1 ∷ 2 ∷ 3 ∷ [])) (pick_l 0 (ys ++ ys) (4 ∷ 5 ∷ 6 ∷ 7 ∷ []))
+    (pick_l 0 (ys ++ ys) (8 ∷ 9 ∷ 10 ∷ 11 ∷ [])) (pick_l 0 (ys ++ ys) (12 ∷ 13 ∷ 14 ∷ 15 ∷ [])) ≡ block_in_rows ys)
+    (sixteen xs long) refl
+
+-- the same words in that order, as they are picked of the diagonals, two joined and two
+pub on_diagonals : (a b c d : List ℕ) → length a ≡ 4 → length c ≡ 4
+    → block_in_rows (slice_index (a ++ b) 0 ∷ slice_index (a ++ b) 1 ∷ slice_index (a ++ b) 2 ∷ slice_index (a ++ b) 3
+    ∷ slice_index (a ++ b) 4 ∷ slice_index (a ++ b) 5 ∷ slice_index (a ++ b) 6 ∷ slice_index (a ++ b) 7
+    ∷ slice_index (c ++ d) 0 ∷ slice_index (c ++ d) 1 ∷ slice_index (c ++ d) 2 ∷ slice_index (c ++ d) 3
+    ∷ slice_index (c ++ d) 4 ∷ slice_index (c ++ d) 5 ∷ slice_index (c ++ d) 6 ∷ slice_index (c ++ d) 7 ∷ [])
+    ≡ words_on a b c d
+unfolding block_in_rows
+on_diagonals a b c d four_a four_c = in_rows a b c d four_a four_c
 
 -- an operator on the lanes leaves four in each vector
 pub four_words-zip2 : (f : ℕ → ℕ → ℕ) (a b c d a' b' c' d' : List ℕ) → HaveFourWords a b c d → HaveFourWords a' b' c' d'

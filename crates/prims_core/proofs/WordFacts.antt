@@ -1,5 +1,5 @@
 -- Bytes as words, and a part of words under exclusive or.
-use Rattle.std.proofs.Common.{◌≡◌, ℕ, zero, suc, ◌+◌, ◌*◌, ◌%◌, ◌^◌, ◌<◌, List, [], ◌∷◌, ◌++◌, length, take, drop, get_or, map, bit_xor, flat_map, refl, sym, ◌∙◌, ap, arith}
+use Rattle.std.proofs.Common.{◌≡◌, ℕ, zero, suc, ◌+◌, ◌*◌, ◌%◌, ◌^◌, ◌<◌, ◌≤◌, List, [], ◌∷◌, ◌++◌, length, take, drop, get_or, map, bit_xor, flat_map, refl, sym, ◌∙◌, ap, arith}
 use Rattle.std.proofs.lemmas.Grind.{same_number_lists}
 use Rattle.std.proofs.lemmas.List.{get_or-map, get_or-take, length-map}
 use Rattle.std.specs.Simd.Lanes.{zip2}
@@ -68,3 +68,10 @@ part-xor_lists size start xs ys =
 pub length-xor_lists : (xs ys : List ℕ) → length ys ≡ length xs → length (xor_lists xs ys) ≡ length xs
 unfolding xor_lists
 length-xor_lists xs ys same = length-zip2 bit_xor xs ys (sym same)
+
+-- no longer than either
+pub shorter-xor_lists : (xs ys : List ℕ) → (length (xor_lists xs ys) ≤ length xs) × (length (xor_lists xs ys) ≤ length ys)
+unfolding xor_lists
+shorter-xor_lists [] ys = (omega arith, omega arith)
+shorter-xor_lists (x ∷ xs) [] = (omega arith, omega arith)
+shorter-xor_lists (x ∷ xs) (y ∷ ys) = let less = shorter-xor_lists xs ys in (omega (arith, less), omega (arith, less))

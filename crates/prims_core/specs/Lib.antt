@@ -1,5 +1,6 @@
 pub mod Alphabet
 pub mod BlockMix
+pub mod Diagonals
 pub mod Digests
 pub mod Memory
 pub mod Meter

@@ -3,9 +3,13 @@
 //! The words are a matrix of four rows. A column round begins each column on the main diagonal, so
 //! that the first words of all columns are that diagonal, the second words the one below it, and so
 //! on: these are the vectors, and one quarter round of lanes is then that of all columns.
+//!
+//! A block stands in memory row by row, as the standard has it, or diagonal by diagonal, which needs no
+//! rearrangement.
 
 ghost use Rattle.std.specs.Prelude.{◌≡◌, length};
 ghost use Rattle.std.specs.Simd.Lanes.{zip2};
+ghost use Rattle.prims_core.specs.Diagonals.{block_in_rows};
 ghost use Rattle.prims_core.specs.Words.{xor_lists};
 ghost use Rattle.prims_core.specs.Salsa.{sum_of_words};
 
@@ -63,6 +67,36 @@ impl Diagonals {
         let block: u32x16 = upper.shuffle(
             lower,
             [0, 13, 10, 7, 4, 1, 14, 11, 8, 5, 2, 15, 12, 9, 6, 3],
+        );
+        block.copy_to_slice(words);
+    }
+
+    /// The block that stands diagonal by diagonal in these sixteen words.
+    #[inline(always)]
+    pub(crate) fn of_diagonals(words: &[u32]) -> Diagonals
+        requires { length words.now ≡ 16 }
+        ensures { result ≡ block_in_rows words.now }
+    {
+        let block = u32x16::from_slice(words);
+        Diagonals {
+            first: block.swizzle([0, 1, 2, 3]),
+            second: block.swizzle([4, 5, 6, 7]),
+            third: block.swizzle([8, 9, 10, 11]),
+            fourth: block.swizzle([12, 13, 14, 15]),
+        }
+    }
+
+    /// Fills `words`, which are sixteen, with the block's, diagonal by diagonal.
+    #[inline(always)]
+    pub(crate) fn store_diagonals(&self, words: &mut [u32])
+        requires { length words.old ≡ 16 }
+        ensures { block_in_rows words.new ≡ self.now }
+    {
+        let upper: u32x8 = self.first.shuffle(self.second, [0, 1, 2, 3, 4, 5, 6, 7]);
+        let lower: u32x8 = self.third.shuffle(self.fourth, [0, 1, 2, 3, 4, 5, 6, 7]);
+        let block: u32x16 = upper.shuffle(
+            lower,
+            [0, 1, 2, 3, 4, 5, 6, 7, 8, 9, 10, 11, 12, 13, 14, 15],
         );
         block.copy_to_slice(words);
     }

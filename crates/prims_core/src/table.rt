@@ -3,11 +3,12 @@
 //! All rows lie in one vector, one behind another, so that a table is one growth, made at once in
 //! its full size, and a row can be mixed of the one before it where it stands.
 
-ghost use Rattle.std.specs.Prelude.{◌≡◌, ℕ, ◌+◌, ◌*◌, ◌/◌, ◌^◌, ◌<◌, ◌≤◌, [], ◌++◌, length, take, replicate, slice_index_or, slice_set, IfOk, OnOk, OnErr};
+ghost use Rattle.std.specs.Prelude.{◌≡◌, ℕ, ◌+◌, ◌*◌, ◌/◌, ◌^◌, ◌<◌, ◌≤◌, List, [], length, take, drop, replicate, slice_index_or, slice_set, IfOk, OnOk, OnErr};
 ghost use Rattle.prims_core.specs.BlockMix.{block_mix};
+ghost use Rattle.prims_core.specs.Diagonals.{in_rows};
 
 use crate::meter::Meter;
-use crate::mix::block_mix;
+use crate::mix::mix_diagonals;
 use std::alloc::{AllocError, Global};
 use std::marker::Model;
 use std::mem::size_of;
@@ -80,8 +81,8 @@ impl Table {
         self.words[start..end].copy_from_slice(row);
     }
 
-    /// Makes row `i + 1` what scryptBlockMix (RFC 7914, section 4) makes of row `i`, and counts that
-    /// mixing. The other rows stay.
+    /// Makes row `i + 1` what scryptBlockMix (RFC 7914, section 4) makes of row `i`, where both stand diagonal by
+    /// diagonal, and counts that mixing. The other rows stay.
     ///
     /// There is a row `i + 1`. A row has the 32r words of 2r blocks, for one r of at least 1, and the meter has room.
     #[tactic(auto, using(crate::proofs::RowFacts::next_row_end))]
@@ -89,7 +90,8 @@ impl Table {
         requires inside { i + 1 < length self.old }
         requires blocks { (r : ℕ) × (1 ≤ r) × (length (slice_index_or self.old i []) ≡ 32 * r) }
         requires room { meter.old.mixes + 1 < 2 ^ 128 }
-        ensures mixed { self.new ≡ slice_set self.old (i + 1) (block_mix (slice_index_or self.old i [])) }
+        ensures mixed { (row : List ℕ) × (length row ≡ length (slice_index_or self.old i []))
+            × (in_rows row ≡ block_mix (in_rows (slice_index_or self.old i []))) × (self.new ≡ slice_set self.old (i + 1) row) }
         ensures count { meter.new ≡ record meter.old { mixes = meter.old.mixes + 1 } }
     {
         let start = i * self.row_words;
@@ -98,21 +100,23 @@ impl Table {
     }
 }
 
-// Makes the second of two rows what block mixing makes of the first.
+// Makes the second of two rows what block mixing makes of the first, diagonal by diagonal.
 fn mix_into_second(rows: &mut [u32], meter: &mut Meter)
     requires blocks { (r : ℕ) × (1 ≤ r) × (length rows.old ≡ 64 * r) }
     requires room { meter.old.mixes + 1 < 2 ^ 128 }
-    ensures mixed { rows.new ≡ take (length rows.old / 2) rows.old ++ block_mix (take (length rows.old / 2) rows.old) }
+    ensures first { take (length rows.old / 2) rows.new ≡ take (length rows.old / 2) rows.old }
+    ensures second { in_rows (drop (length rows.old / 2) rows.new) ≡ block_mix (in_rows (take (length rows.old / 2) rows.old)) }
     ensures count { meter.new ≡ record meter.old { mixes = meter.old.mixes + 1 } }
 {
     let (row, next) = rows.split_at_mut(rows.len() / 2);
-    block_mix(row, next, meter);
+    mix_diagonals(row, next, meter);
 }
 
 #[cfg(test)]
 mod tests {
     use super::*;
     use crate::mix::tests::{BLOCKS, MIXED, counts};
+    use crate::mix::to_diagonals;
     use crate::words::load_words;
     use std::test::Fail;
 
@@ -137,12 +141,14 @@ mod tests {
     fn a_row_of_the_one_before(rt: HostRuntime) -> Result<(), Fail> {
         let mut words = [0; 32];
         load_words(&BLOCKS, &mut words);
+        to_diagonals(&mut words);
         let mut meter = Meter::new();
         let mut table = Table::new(rt.alloc(), 3, 32, &mut meter)?;
         table.set_row(0, &words);
         table.mix_row(0, &mut meter);
         let mut mixed = [0; 32];
         load_words(&MIXED, &mut mixed);
+        to_diagonals(&mut mixed);
         assert_eq!(rt;
             (table.row(0), table.row(1), table.row(2)),
             (words.as_slice(), mixed.as_slice(), [0; 32].as_slice()),

@@ -2,6 +2,7 @@
 use Rattle.std.specs.Prelude.{◌≡◌, ℕ, ◌*◌, ◌^◌, ◌<◌, ◌≤◌, List, [], length, slice_index_or}
 use Rattle.std.specs.Fn.{iterate}
 use Rattle.prims_core.specs.BlockMix.{block_mix}
+use Rattle.prims_core.specs.Diagonals.{in_rows}
 
 -- the words of a part, which is 2r blocks of sixteen words
 abbrev pub part_words : ℕ → ℕ
@@ -12,9 +13,9 @@ pub record HasShape (table : List (List ℕ)) (rows words : ℕ) : Type 0 where
   pub row_count : length table ≡ rows
   pub row_words : (i : ℕ) → i < rows → length (slice_index_or table i []) ≡ words
 
--- each of the first rows holds B after as many mixings as its number says
+-- Each of the first rows holds B after as many mixings as its number says, diagonal by diagonal.
 abbrev pub HoldsMixings : List (List ℕ) → ℕ → List ℕ → Type 0
-HoldsMixings table count start = (i : ℕ) → i < count → slice_index_or table i [] ≡ iterate block_mix i start
+HoldsMixings table count start = (i : ℕ) → i < count → in_rows (slice_index_or table i []) ≡ iterate block_mix i start
 
 -- two halves of 2r blocks each
 pub record AreHalves (r : ℕ) (x y : List ℕ) : Type 0 where

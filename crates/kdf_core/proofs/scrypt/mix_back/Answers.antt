@@ -1,6 +1,7 @@
 use Rattle.std.proofs.Common.{◌<◌, ap, ◌∙◌, arith}
 use Rattle.std.specs.Fn.{iterate}
 use Rattle.prims_core.specs.BlockMix.{block_mix}
+use Rattle.prims_core.specs.Diagonals.{in_rows}
 use Rattle.prims_core.specs.Words.{xor_lists}
 use Rattle.kdf_core.specs.Scrypt.{mixed_back}
 use Rattle.kdf_core.proofs.ScryptLemmas.{some_row}
@@ -10,5 +11,5 @@ pub returns-clause-mixed : goal.returns-clause-mixed
 unfolding mixed_back
 returns-clause-mixed c start holds =
     let inside : c.row_number.result < c.args.rows = omega (arith, some_row c.args.rows c.requires.power.0 c.requires.power.1) in
-    c.block_mix_xor.ensures.mixed
-    ∙ ap (λ v. block_mix (xor_lists c.args.x.now v)) (c.row-row.ensures ∙ (holds c.row_number.result inside ∙ ap (λ j. iterate block_mix j start) c.row_number.ensures))
+    c.mix_xor_diagonals.ensures.mixed
+    ∙ ap (λ v. block_mix (xor_lists (in_rows c.args.x.now) v)) (ap in_rows c.row-row.ensures ∙ (holds c.row_number.result inside ∙ ap (λ j. iterate block_mix j start) c.row_number.ensures))

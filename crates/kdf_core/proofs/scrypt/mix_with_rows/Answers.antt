@@ -1,5 +1,6 @@
 use Rattle.std.proofs.Common.{◌≡◌, ◌+◌, ◌*◌, ap, ◌∙◌, arith}
 use Rattle.std.specs.Fn.{iterate}
+use Rattle.prims_core.specs.Diagonals.{in_rows}
 use Rattle.kdf_core.specs.Scrypt.{mixed_back}
 use Rattle.kdf_core.proofs.ScryptLemmas.{iterate-two_more, mixes-more, even}
 use Rattle.kdf_core.proofs.scrypt.mix_with_rows.Goals as goal
@@ -8,8 +9,8 @@ pub mixing-preserved : goal.mixing-preserved
 mixing-preserved c =
     let n = c.mixing.counter in
     record {
-      mixed = λ start holds. iterate-two_more (mixed_back c.args.rows start) n c.args.x.now c.mixing.x c.mix_back.new.y
-          c.mix_back-in-mixing.new.y (c.mixing.invariant.mixed start holds) (c.mix_back.ensures.mixed start holds)
+      mixed = λ start holds. iterate-two_more (mixed_back c.args.rows start) n (in_rows c.args.x.now) (in_rows c.mixing.x)
+          (in_rows c.mix_back.new.y) (in_rows c.mix_back-in-mixing.new.y) (c.mixing.invariant.mixed start holds) (c.mix_back.ensures.mixed start holds)
           (c.mix_back-in-mixing.ensures.mixed start holds);
       count = mixes-more c.args.meter.now c.mix_back.new.meter c.mix_back-in-mixing.new.meter (2 * n + 1) 1 (2 * (n + 1))
           (mixes-more c.args.meter.now c.mixing.meter c.mix_back.new.meter (2 * n) 1 (2 * n + 1) c.mixing.invariant.count
@@ -19,7 +20,7 @@ mixing-preserved c =
 pub returns-clause-mixed : goal.returns-clause-mixed
 returns-clause-mixed c start holds =
     let all : 2 * c.mixing.counter ≡ c.args.rows = omega (arith, even c.args.rows c.requires.power.0 c.requires.power.1) in
-    c.mixing.invariant.mixed start holds ∙ ap (λ n. iterate (mixed_back c.args.rows start) n c.args.x.now) all
+    c.mixing.invariant.mixed start holds ∙ ap (λ n. iterate (mixed_back c.args.rows start) n (in_rows c.args.x.now)) all
 
 pub returns-clause-count : goal.returns-clause-count
 returns-clause-count c =

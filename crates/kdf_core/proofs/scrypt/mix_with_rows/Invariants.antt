@@ -1,5 +1,6 @@
 use Rattle.std.proofs.Common.{◌≡◌, ℕ, ◌+◌, ◌*◌, List}
 use Rattle.std.specs.Fn.{iterate}
+use Rattle.prims_core.specs.Diagonals.{in_rows}
 use Rattle.kdf_core.specs.Private.Mixing.{HoldsMixings}
 use Rattle.kdf_core.specs.Scrypt.{mixed_back}
 use Rattle.kdf_core.proofs.scrypt.mix_with_rows.Given as goal
@@ -7,6 +8,7 @@ use Rattle.kdf_core.proofs.scrypt.mix_with_rows.Given as goal
 -- two mixings a turn
 abbrev pub invariant-mixing : goal.invariant-mixing
 invariant-mixing l = record {
-  mixed : (start : List ℕ) → HoldsMixings l.table l.rows start → l.x ≡ iterate (mixed_back l.rows start) (2 * l.counter) l.fn.x;
+  mixed : (start : List ℕ) → HoldsMixings l.table l.rows start
+      → in_rows l.x ≡ iterate (mixed_back l.rows start) (2 * l.counter) (in_rows l.fn.x);
   count : l.meter ≡ record l.fn.meter { mixes = l.fn.meter.mixes + 2 * l.counter };
 }

@@ -1,12 +1,18 @@
-use Rattle.std.proofs.Common.{◌%◌, ◌-◌, sym, ap, ◌∙◌, length, get_or}
+use Rattle.std.proofs.Common.{◌%◌, ◌-◌, ◌≤◌, sym, ap, ◌∙◌, length, get_or, arith}
+use Rattle.prims_core.specs.Diagonals.{in_rows}
+use Rattle.prims_core.proofs.InRowsFacts.{length-in_rows}
 use Rattle.kdf_core.specs.Scrypt.{integerify}
-use Rattle.kdf_core.proofs.ScryptLemmas.{integerify-mod}
+use Rattle.kdf_core.proofs.ScryptLemmas.{first_word-in_rows, integerify-mod}
 use Rattle.kdf_core.proofs.scrypt.row_number.Goals as goal
 
 pub returns : goal.returns
 returns c =
     let words = c.args.words.now in
+    let rows = in_rows words in
+    let r = c.requires.some_block in
     let power = c.requires.power.1 in
-    ap (λ n. get_or words (length words - 16) 0 % n) power.power
-    ∙ (sym (integerify-mod words c.requires.power.0 c.requires.some_block power.most)
-    ∙ ap (λ n. integerify words % n) (sym power.power))
+    let some : 16 ≤ length rows = omega (arith, length-in_rows words, r.1, r.2) in
+    ap (λ n. n % c.args.rows) (sym (first_word-in_rows words r.0 r.1 r.2))
+    ∙ ap (λ n. get_or rows (length rows - 16) 0 % n) power.power
+    ∙ (sym (integerify-mod rows c.requires.power.0 some power.most)
+    ∙ ap (λ n. integerify rows % n) (sym power.power))

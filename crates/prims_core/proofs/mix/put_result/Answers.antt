@@ -4,5 +4,5 @@ use Rattle.prims_core.proofs.mix.put_result.Goals as goal
 
 pub returns : goal.returns
 returns c y before is =
-    placed_more c.args.r c.args.i _ y c.args.dst.now c.store.new.words c.requires.1 c.requires.0 (omega arith)
-    (omega arith) (c.store.ensures ∙ is) before
+    placed_more c.args.r c.args.i _ y c.args.dst.now c.store_diagonals.new.words c.requires.1 c.requires.0 (omega arith)
+    (omega arith) (c.store_diagonals.ensures ∙ is) before

@@ -1,0 +1,29 @@
+use Rattle.std.proofs.Common.{◌≡◌, ◌+◌, ◌/◌, length, ap₂, sym, ◌∙◌, arith}
+use Rattle.prims_core.specs.BlockMix.{x_after, block_mix}
+use Rattle.prims_core.specs.Private.Mixing.{mixed_block, y_at}
+use Rattle.prims_core.proofs.MixFacts.{x_after-none, x_after-more, in_order}
+use Rattle.prims_core.proofs.mix.mix_blocks.Goals as goal
+
+pub mixing-init : goal.mixing-init
+mixing-init g c = record {
+  before = c.block-x.ensures ∙ sym (x_after-none c.args.r (g.B.Blocks.words c.args.src.now));
+  placed = λ k none. absurd (omega arith);
+}
+
+pub mixing-preserved : goal.mixing-preserved
+mixing-preserved g c =
+    let words = g.B.Blocks.words c.args.src.now in
+    let i = c.mixing.i in
+    let r = c.args.r in
+    let is : c.mixed_block-x.result ≡ x_after r words (i + 1) =
+    c.mixed_block-x.ensures ∙ ap₂ mixed_block {y = x_after r words i} c.mixing.invariant.before c.block.ensures ∙ sym (x_after-more r words i) in record {
+      before = is;
+      placed = c.put_result.ensures (y_at r words) c.mixing.invariant.placed is;
+    }
+
+pub returns : goal.returns
+unfolding block_mix
+returns g c =
+    let words = g.B.Blocks.words c.args.src.now in
+    let r : length words / 32 ≡ c.args.r = omega (arith, c.requires) in
+    rw r (in_order c.args.r (y_at c.args.r words) c.mixing.dst (omega arith) (λ k inside. c.mixing.invariant.placed k (omega arith)))

@@ -1,0 +1,32 @@
+use Rattle.std.proofs.Common.{◌≡◌, ℕ, ◌+◌, ◌-◌, ◌*◌, ◌/◌, ◌<◌, length, take, drop, refl, ap, ◌∙◌, arith}
+use Rattle.prims_core.specs.BlockMix.{block_at}
+use Rattle.prims_core.specs.Diagonals.{block_in_rows, in_rows}
+use Rattle.prims_core.proofs.InRowsFacts.{length-in_rows, block_at-in_rows, same_blocks, turned-more}
+use Rattle.prims_core.proofs.mix.to_diagonals.Goals as goal
+
+pub turning-init : goal.turning-init
+turning-init c = record { length = refl; done = λ k none. absurd (omega arith); rest = λ k later. refl }
+
+pub turning-preserved : goal.turning-preserved
+turning-preserved c =
+    let i = c.turning.i in
+    let n : ℕ = length c.args.words.now / 16 in
+    let whole : length c.turning.words ≡ 16 * n = omega (arith, c.turning.invariant.length, c.requires.whole) in
+    let inside : i < n = omega arith in
+    let size : 16 * i + 16 - 16 * i ≡ 16 = omega arith in
+    let read : take (16 * i + 16 - 16 * i) (drop (16 * i) c.turning.words) ≡ block_at i c.turning.words =
+    ap (λ (k : ℕ). take k (drop (16 * i) c.turning.words)) size in
+    let more = turned-more n i (16 * i + 16 - 16 * i) (λ k b. block_in_rows b ≡ block_at k c.args.words.now) c.args.words.now c.turning.words c.store_diagonals.new.words whole inside size
+    (omega arith) (c.store_diagonals.ensures ∙ c.of-block.ensures ∙ read ∙ c.turning.invariant.rest i (omega arith))
+    c.turning.invariant.done c.turning.invariant.rest in record {
+      length = omega arith;
+      done = more.0;
+      rest = more.1;
+    }
+
+pub returns : goal.returns
+returns c =
+    let n : ℕ = length c.args.words.now / 16 in
+    let whole : length c.args.words.now ≡ 16 * n = omega (arith, c.requires.whole) in
+    same_blocks n (in_rows c.turning.words) c.args.words.now (omega (arith, length-in_rows c.turning.words, c.turning.invariant.length, whole)) whole (λ k inside.
+    block_at-in_rows c.turning.words k (omega (arith, c.turning.invariant.length, whole)) ∙ c.turning.invariant.done k (omega (arith, whole)))
