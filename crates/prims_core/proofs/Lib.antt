@@ -7,4 +7,5 @@ pub mod MatrixFacts
 pub mod MixFacts
 pub mod NumeralFacts
 pub mod RowFacts
+pub mod RowsSoFarFacts
 pub mod WordFacts

@@ -3,3 +3,4 @@
 pub mod Diagonals
 pub mod DigestFacts
 pub mod Mixing
+pub mod RowsSoFar

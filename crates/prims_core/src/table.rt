@@ -1,11 +1,14 @@
 //! The table of scrypt, the V of RFC 7914, section 5: rows of 32-bit words, all of one length.
 //!
-//! All rows lie in one vector, one behind another, so that a table is one growth, made at once in
-//! its full size, and a row can be mixed of the one before it where it stands.
+//! All rows are in one vector, one after another, so that a table is one allocation, made at once in
+//! its full size, and a row is mixed in place from the one before it. The vector has only the rows that
+//! were written, and after them one row of zeros, which every row that was not written yet equals. So
+//! each row gets its zeros just before it is written, while they are in the processor's cache.
 
-ghost use Rattle.std.specs.Prelude.{◌≡◌, ℕ, ◌+◌, ◌*◌, ◌/◌, ◌^◌, ◌<◌, ◌≤◌, List, [], length, take, drop, replicate, slice_index_or, slice_set, IfOk, OnOk, OnErr};
+ghost use Rattle.std.specs.Prelude.{◌≡◌, ℕ, ◌+◌, ◌*◌, ◌/◌, ◌^◌, ◌<◌, ◌≤◌, List, [], length, take, drop, replicate, slice_index_or, slice_set, vec_len, vec_capacity, IfOk, OnOk, OnErr};
 ghost use Rattle.prims_core.specs.BlockMix.{block_mix};
 ghost use Rattle.prims_core.specs.Diagonals.{in_rows};
+ghost use Rattle.prims_core.specs.Private.RowsSoFar.{filled_up, AreSoFar};
 
 use crate::meter::Meter;
 use crate::mix::mix_diagonals;
@@ -22,14 +25,15 @@ pub struct Table {
 }
 
 impl Model for Table {
-    ghost use Rattle.std.specs.Prelude.{◌≡◌, ℕ, ◌*◌, List, vec_len};
+    ghost use Rattle.std.specs.Prelude.{ℕ, ◌*◌, ◌≤◌, List, vec_capacity};
     ghost use Rattle.prims_core.specs.Memory.{rows_of};
+    ghost use Rattle.prims_core.specs.Private.RowsSoFar.{filled_up, AreSoFar};
 
     ghost Value = { List (List ℕ) };
 
-    ghost view = { λ t. rows_of t.rows t.row_words t.words.items };
+    ghost view = { λ t. rows_of t.rows t.row_words (filled_up (t.rows * t.row_words) t.words.items) };
 
-    ghost invariant = { λ t. vec_len t.words ≡ t.rows * t.row_words };
+    ghost invariant = { λ t. (t.rows * t.row_words ≤ vec_capacity t.words) × AreSoFar (t.rows * t.row_words) t.row_words 0 t.words.items };
 }
 
 impl Table {
@@ -50,7 +54,8 @@ impl Table {
             ≡ record meter.old { table = meter.old.table + 4 * (rows * row_words) }) }
         ensures refused { OnErr result (meter.new ≡ meter.old) }
     {
-        let words = vec![in alloc; 0; rows * row_words]?;
+        let mut words = Vec::with_capacity(alloc, rows * row_words)?;
+        words.resize(row_words.min(rows * row_words), 0)?;
         meter.count_table(rows * row_words * size_of::<u32>());
         Ok(Table {
             words,
@@ -65,7 +70,8 @@ impl Table {
         requires { i < length self.now }
         ensures { result.now ≡ slice_index_or self.now i [] }
     {
-        let start = i * self.row_words;
+        let last = self.words.len() - self.row_words;
+        let start = last.min(i * self.row_words);
         &self.words[start..start + self.row_words]
     }
 
@@ -78,6 +84,8 @@ impl Table {
     {
         let start = i * self.row_words;
         let end = start + self.row_words;
+        let whole = self.rows * self.row_words;
+        make_rows(&mut self.words, whole, self.row_words, end);
         self.words[start..end].copy_from_slice(row);
     }
 
@@ -96,7 +104,31 @@ impl Table {
     {
         let start = i * self.row_words;
         let next = start + self.row_words;
+        let whole = self.rows * self.row_words;
+        make_rows(
+            &mut self.words,
+            whole,
+            self.row_words,
+            next + self.row_words,
+        );
         mix_into_second(&mut self.words[start..next + self.row_words], meter);
+    }
+}
+
+// Appends zeros until the first `end` of the `whole` words are there, and one row of zeros after them
+// unless these are all. The capacity is that of the whole, so no memory is asked for.
+fn make_rows(words: &mut Vec<u32>, whole: usize, row_words: usize, end: usize)
+    requires fits { whole ≤ vec_capacity words.old }
+    requires inside { end ≤ whole }
+    requires so_far { AreSoFar whole row_words 0 words.old.items }
+    ensures same { filled_up whole words.new.items ≡ filled_up whole words.old.items }
+    ensures made { AreSoFar whole row_words end words.new.items }
+    ensures long { end ≤ vec_len words.new }
+    ensures capacity { vec_capacity words.old ≤ vec_capacity words.new }
+{
+    let len = end + row_words.min(whole - end);
+    if words.len() < len {
+        let _filled = words.resize(len, 0);
     }
 }
 
@@ -133,6 +165,70 @@ mod tests {
         assert_eq!(rt;
             (table.row(0), table.row(1), table.row(2)),
             (zeros.as_slice(), row.as_slice(), zeros.as_slice())
+        );
+        Ok(())
+    }
+
+    #[test]
+    fn rows_not_written_are_zeros(rt: HostRuntime) -> Result<(), Fail> {
+        let mut meter = Meter::new();
+        let mut table = Table::new(rt.alloc(), 4, 2, &mut meter)?;
+        let zeros = [0; 2];
+        assert_eq!(rt;
+            (table.row(3), table.row(2), table.row(1), table.row(0)),
+            (
+                zeros.as_slice(),
+                zeros.as_slice(),
+                zeros.as_slice(),
+                zeros.as_slice()
+            ),
+            "before any is written"
+        );
+        let third = [3, 4];
+        table.set_row(2, &third);
+        assert_eq!(rt;
+            (table.row(0), table.row(1), table.row(2), table.row(3)),
+            (
+                zeros.as_slice(),
+                zeros.as_slice(),
+                third.as_slice(),
+                zeros.as_slice()
+            ),
+            "after the third"
+        );
+        let first = [1, 2];
+        table.set_row(0, &first);
+        assert_eq!(rt;
+            (table.row(0), table.row(1), table.row(2), table.row(3)),
+            (
+                first.as_slice(),
+                zeros.as_slice(),
+                third.as_slice(),
+                zeros.as_slice()
+            ),
+            "after the first"
+        );
+        Ok(())
+    }
+
+    #[test]
+    fn a_row_of_one_not_written(rt: HostRuntime) -> Result<(), Fail> {
+        let mut meter = Meter::new();
+        let mut table = Table::new(rt.alloc(), 4, 32, &mut meter)?;
+        let ones = [1; 32];
+        table.set_row(0, &ones);
+        let zeros = [0; 32];
+        let mut mixed = [0; 32];
+        block_mix(&zeros, &mut mixed, &mut meter);
+        table.mix_row(2, &mut meter);
+        assert_eq!(rt;
+            (table.row(0), table.row(1), table.row(2), table.row(3)),
+            (
+                ones.as_slice(),
+                zeros.as_slice(),
+                zeros.as_slice(),
+                mixed.as_slice()
+            )
         );
         Ok(())
     }
