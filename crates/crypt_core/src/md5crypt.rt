@@ -41,14 +41,13 @@ pub fn md5crypt(password: &Password, salt: &[u8], meter: &mut Meter) -> [u8; 16]
     ensures messages { AreMd5cryptMessages password.now salt.now }
 {
     let password = password.bytes();
-    let mut digest = opening(password, salt, meter);
+    let mut digest = [0; 16];
+    digest.copy_from_slice(opening(password, salt, meter).as_slice());
     let strings = RoundStrings::new(password, salt);
     'rounds: for i in 0..ROUNDS {
-        digest = round::<CountedMd5>(i, digest.as_slice(), &strings, meter);
+        round::<CountedMd5>(i, &mut digest, &strings, meter);
     }
-    let mut bytes = [0; 16];
-    bytes.copy_from_slice(digest.as_slice());
-    bytes
+    digest
 }
 
 // The digest of the second message.

@@ -163,24 +163,24 @@ impl<'a> RoundStrings<'a> {
     }
 }
 
-/// The digest of round `i`, where `before` is the digest of the round before.
+/// Round `i`: replaces the digest of the round before by that of this one.
 pub(crate) fn round<C: Counted>(
     i: u32,
-    before: &[u8],
+    digest: &mut [u8],
     strings: &RoundStrings<'_>,
     meter: &mut Meter,
-) -> ArrayVec<u8, 64>
+)
+    requires length { length digest.old ≡ C.LEN }
     requires bytes_room { meter.old.bytes
-        + (length before.now + 2 * length strings.now.password + length strings.now.salt) < 2 ^ 128 }
+        + (length digest.old + 2 * length strings.now.password + length strings.now.salt) < 2 ^ 128 }
     requires digests_room { meter.old.digests + 1 < 2 ^ 128 }
-    ensures digest { result.items ≡ C.digest (round_message i before.now strings.now.password strings.now.salt) }
-    ensures length { length result.items ≡ C.LEN }
+    ensures digest { digest.new ≡ C.digest (round_message i digest.old strings.now.password strings.now.salt) }
     ensures count { meter.new
-        ≡ with_digest meter.old (round_message i before.now strings.now.password strings.now.salt) }
+        ≡ with_digest meter.old (round_message i digest.old strings.now.password strings.now.salt) }
 {
-    let (first, second) = strings.pieces(i, before);
+    let (first, second) = strings.pieces(i, digest);
     let mut running = C::begin();
     running.feed(meter, first);
     running.feed(meter, second);
-    running.finish(meter)
+    running.finish_into(meter, digest);
 }

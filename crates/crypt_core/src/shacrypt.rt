@@ -57,7 +57,7 @@ pub fn shacrypt<H: Counted>(
     let salt_string = string_of::<H>(salt, salt_times, meter);
     let strings = RoundStrings::new(password_string.as_slice(), salt_string.as_slice());
     'rounds: for i in 0..rounds {
-        digest = round::<H>(i, digest.as_slice(), &strings, meter);
+        round::<H>(i, digest.as_mut_slice(), &strings, meter);
     }
     digest
 }

@@ -55,6 +55,20 @@ pub trait Counted: Drop {
         ensures length { length result.items ≡ LEN }
         ensures count { meter.new ≡ record meter.old { digests = meter.old.digests + 1 } };
 
+    /// Writes the digest of the message to `out`, which has its length, and adds one to the meter's digests.
+    ///
+    /// The meter has room for it. An implementation may leave this to [`Counted::finish`].
+    fn finish_into(self, meter: &mut Meter, out: &mut [u8])
+    where
+        Self: Sized,
+        requires length { length out.old ≡ LEN }
+        requires room { meter.old.digests + 1 < 2 ^ 128 }
+        ensures digest { (m : List ℕ) → holds self m → out.new ≡ digest m }
+        ensures count { meter.new ≡ record meter.old { digests = meter.old.digests + 1 } }
+    {
+        out.copy_from_slice(self.finish(meter).as_slice());
+    }
+
     // A digest has some bytes, and at most 64.
     ghost at_least_1: { 1 ≤ LEN };
 

@@ -50,6 +50,11 @@ impl Counted for CountedSha256 {
         ArrayVec::try_from(self.running.finalize().as_slice()).unwrap()
     }
 
+    fn finish_into(self, meter: &mut Meter, out: &mut [u8]) {
+        meter.count_digest();
+        out.copy_from_slice(self.running.finalize().as_slice());
+    }
+
     ghost at_least_1 = { Prim.search rules };
 
     ghost at_most_64 = { Prim.search rules };

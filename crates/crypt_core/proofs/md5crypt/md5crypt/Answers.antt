@@ -1,5 +1,5 @@
 use Rattle.std.proofs.Common.{◌≡◌, ◌+◌, length, arith, refl, sym, ◌∙◌, ap}
-use Rattle.prims_core.specs.Digests.{md5}
+use Rattle.prims_core.specs.Digests.{length-md5, md5}
 use Rattle.crypt_core.specs.Md5crypt.{md5crypt_digest, md5crypt_opening}
 use Rattle.crypt_core.specs.Messages.{md5crypt_message, md5crypt_messages, md5crypt_rounds, opening_message}
 use Rattle.crypt_core.specs.RoundMessage.{round_message, alternate_message}
@@ -19,17 +19,17 @@ rounds-init c =
     let first = alternate_message p s in
     let second = opening_message p s in
     let is = c.bytes-password.ensures.value in
-    let opened = rw is at c.opening-digest.ensures.count in
+    let opened = rw is at c.opening.ensures.count in
     let bytes = ap (λ m. m.bytes) opened in
     let short = c.bytes-password.ensures.password.0 in (
-      (rw is at c.opening-digest.ensures.digest) ∙ sym (digest_after-none md5 (md5crypt_opening p s) p s),
-      c.opening-digest.ensures.length,
-      rw (messages-two p s) (two_digests a (with_digest a first) c.opening-digest.new.meter first second refl opened),
+      c.copy_from_slice.ensures.after ∙ (c.as_slice.ensures.value ∙ ((rw is at c.opening.ensures.digest) ∙ sym (digest_after-none md5 (md5crypt_opening p s) p s))),
+      ap length (c.copy_from_slice.ensures.after ∙ c.as_slice.ensures.value) ∙ c.opening.ensures.length,
+      rw (messages-two p s) (two_digests a (with_digest a first) c.opening.new.meter first second refl opened),
       omega (arith, bytes, length-alternate p s, length-opening p s, digit_bytes-few 1 1 1 (length p) (omega arith) (omega arith), short, c.requires.salt),
     )
 
-pub round-digest-requires-clause-digests_room : goal.round-digest-requires-clause-digests_room
-round-digest-requires-clause-digests_room c =
+pub round-requires-clause-digests_room : goal.round-requires-clause-digests_room
+round-requires-clause-digests_room c =
     let digests = ap (λ m. m.digests) c.rounds.invariant.2 in
     omega (arith, digests, length-messages_to (md5crypt_message c.args.password.now c.args.salt.now) (c.rounds.i + 2), c.requires.room.0)
 
@@ -38,16 +38,16 @@ rounds-preserved c =
     let p = c.args.password.now in
     let s = c.args.salt.now in
     let i = c.rounds.i in
-    let before = c.as_slice.result.now in
+    let before = c.rounds.digest in
     let strings = rw c.bytes-password.ensures.value at c.new-strings.ensures in
     let same =
     ap (λ (x : Strings). round_message i before x.password x.salt) strings
-    ∙ (ap (λ x. round_message i x p s) (c.as_slice.ensures.value ∙ c.rounds.invariant.0) ∙ sym (message-round p s i)) in
+    ∙ (ap (λ x. round_message i x p s) c.rounds.invariant.0 ∙ sym (message-round p s i)) in
     let later : c.rounds.i + 1 + 2 ≡ c.rounds.i + 2 + 1 = omega arith in
-    let counted = digests_more c.args.meter.now c.rounds.meter c.round-digest.new.meter _ _ c.rounds.invariant.2 c.round-digest.ensures.count in
-    let bytes = ap (λ m. m.bytes) c.round-digest.ensures.count in (
-      c.round-digest.ensures.digest ∙ (ap md5 (same ∙ message-round p s i) ∙ sym (digest_after-more md5 (md5crypt_opening p s) p s i)),
-      c.round-digest.ensures.length,
+    let counted = digests_more c.args.meter.now c.rounds.meter c.round.new.meter _ _ c.rounds.invariant.2 c.round.ensures.count in
+    let bytes = ap (λ m. m.bytes) c.round.ensures.count in (
+      c.round.ensures.digest ∙ (ap md5 (same ∙ message-round p s i) ∙ sym (digest_after-more md5 (md5crypt_opening p s) p s i)),
+      ap length c.round.ensures.digest ∙ length-md5 _,
       rw (later, messages-more (md5crypt_message p s) (i + 2), ← same) counted,
       omega (
         arith,
@@ -65,7 +65,7 @@ pub returns-clause-digest : goal.returns-clause-digest
 unfolding md5crypt_digest
 returns-clause-digest c =
     let last : c.rounds.i ≡ md5crypt_rounds = omega arith in
-    c.copy_from_slice.ensures.after ∙ (c.as_slice-2.ensures.value ∙ rw last at c.rounds.invariant.0)
+    rw last at c.rounds.invariant.0
 
 pub returns-clause-count : goal.returns-clause-count
 returns-clause-count c =

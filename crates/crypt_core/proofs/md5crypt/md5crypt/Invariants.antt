@@ -11,7 +11,7 @@ use Rattle.crypt_core.proofs.md5crypt.md5crypt.Given as goal
 -- the digest of the round before, and the messages so far in the meter
 abbrev pub invariant-rounds : goal.invariant-rounds
 invariant-rounds l =
-    (l.digest.items ≡ digest_after md5 (md5crypt_opening l.password l.salt) l.password l.salt l.i)
-    × (length l.digest.items ≡ 16)
+    (l.digest ≡ digest_after md5 (md5crypt_opening l.password l.salt) l.password l.salt l.i)
+    × (length l.digest ≡ 16)
     × (l.meter ≡ with_digests l.fn.meter (messages_to (md5crypt_message l.password l.salt) (l.i + 2)))
     × (l.meter.bytes ≤ l.fn.meter.bytes + message_limit * (l.i + 2))

@@ -20,10 +20,10 @@ pieces-small i x strings first second e =
 
 pub feed-requires : goal.feed-requires
 feed-requires g c =
-    let small = pieces-small c.args.i c.args.before.now c.args.strings.now c.pieces.result.0.now c.pieces.result.1.now c.pieces.ensures in
+    let small = pieces-small c.args.i c.args.digest.now c.args.strings.now c.pieces.result.0.now c.pieces.result.1.now c.pieces.ensures in
     omega (arith, small, c.requires.bytes_room)
 
 pub feed-requires-2 : goal.feed-requires-2
 feed-requires-2 g c =
-    let small = pieces-small c.args.i c.args.before.now c.args.strings.now c.pieces.result.0.now c.pieces.result.1.now c.pieces.ensures in
+    let small = pieces-small c.args.i c.args.digest.now c.args.strings.now c.pieces.result.0.now c.pieces.result.1.now c.pieces.ensures in
     omega (arith, small, c.requires.bytes_room, ap (λ m. m.bytes) c.feed.ensures.count)

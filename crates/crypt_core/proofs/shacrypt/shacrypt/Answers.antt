@@ -1,7 +1,8 @@
 use Rattle.crypt_core.specs.WorkBytes.{greatest_byte}
 use Rattle.crypt_core.specs.Passwords.{password_limit}
-use Rattle.std.proofs.Common.{◌≡◌, ◌+◌, ◌≤◌, length, get_or, arith, refl, sym, ◌∙◌, ap}
-use Rattle.std.specs.List.{repeat}
+use Rattle.std.proofs.Common.{◌≡◌, ℕ, List, ◌+◌, ◌≤◌, length, drop, get_or, arith, refl, sym, ◌∙◌, ap}
+use Rattle.std.specs.List.{refill, repeat}
+use Rattle.std.proofs.lemmas.List.{take_at}
 use Rattle.crypt_core.specs.RoundMessage.{alternate_message}
 use Rattle.crypt_core.specs.Messages.{password_repeated, salt_repeated, sha_opening_message, shacrypt_message, shacrypt_messages}
 use Rattle.crypt_core.specs.ShaCrypt.{password_string, salt_string, sha_opening, shacrypt_digest}
@@ -88,8 +89,8 @@ rounds-init g c =
       ),
     )
 
-pub round-digest-requires-clause-digests_room : goal.round-digest-requires-clause-digests_room
-round-digest-requires-clause-digests_room g c =
+pub round-requires-clause-digests_room : goal.round-requires-clause-digests_room
+round-requires-clause-digests_room g c =
     let digests = ap (λ m. m.digests) c.rounds.invariant.2 in
     omega (
       arith,
@@ -123,6 +124,10 @@ pub returns-clause-specified : goal.returns-clause-specified
 returns-clause-specified g c =
     messages-in_all g.H.Counted.digest g.H.Counted.LEN g.met.H.Counted.length_digest c.args.password.now c.args.salt.now c.args.rounds
 
+-- a digest that replaces one of the same length
+replaced : (old new : List ℕ) → length new ≡ length old → refill (length old) old new ≡ new
+replaced old new same = take_at new (drop (length new) old) (length old) same
+
 pub rounds-preserved : goal.rounds-preserved
 rounds-preserved g c =
     let h = g.H.Counted.digest in
@@ -132,22 +137,24 @@ rounds-preserved g c =
     let is = c.bytes-password.ensures.value in
     let strings = c.new-strings.result in
     let first = c.from-salt_times.ensures ∙ ap (λ xs. get_or xs 0 0) (c.as_slice.ensures.value ∙ rw is at c.opening-digest.ensures.digest) in
-    let digest_is = c.as_slice-in-rounds.ensures.value ∙ c.rounds.invariant.0 in
+    let digest_is = c.as_mut_slice.ensures.value ∙ c.rounds.invariant.0 in
     let password_is =
     ap (λ (x : Strings). x.password) c.new-strings.ensures
     ∙ (c.as_slice-2.ensures.value ∙ rw is at c.string_of-password_string.ensures.string) in
     let salt_is =
     ap (λ (x : Strings). x.salt) c.new-strings.ensures
     ∙ (c.as_slice-3.ensures.value ∙ rw first at c.string_of-salt_string.ensures.string) in
-    let same = round_is h p s i c.as_slice-in-rounds.result.now strings.password strings.salt digest_is password_is salt_is in
+    let same = round_is h p s i c.as_mut_slice.result.now strings.password strings.salt digest_is password_is salt_is in
     let next : c.rounds.i + 1 + 4 ≡ c.rounds.i + 4 + 1 = omega arith in
-    let counted = digests_more c.args.meter.now c.rounds.meter c.round-digest.new.meter _ _ c.rounds.invariant.2 c.round-digest.ensures.count in (
-      c.round-digest.ensures.digest ∙ (ap h same ∙ sym (digest_after-more h (sha_opening h p s) (password_string h p) (salt_string h p s) i)),
-      c.round-digest.ensures.length,
+    let counted = digests_more c.args.meter.now c.rounds.meter c.round.new.meter _ _ c.rounds.invariant.2 c.round.ensures.count in
+    let len = ap length c.round.ensures.digest ∙ g.met.H.Counted.length_digest _ in
+    let all = replaced c.rounds.digest.items c.round.new.digest (len ∙ sym c.rounds.invariant.1) in (
+      all ∙ (c.round.ensures.digest ∙ (ap h same ∙ sym (digest_after-more h (sha_opening h p s) (password_string h p) (salt_string h p s) i))),
+      ap length all ∙ len,
       rw (next, messages-more (shacrypt_message h p s) (i + 4), message-number h p s i, ← same) counted,
       omega (
         arith,
-        ap (λ m. m.bytes) c.round-digest.ensures.count,
+        ap (λ m. m.bytes) c.round.ensures.count,
         ap length (same ∙ sym (message-number h p s i)),
         length-message_round h g.H.Counted.LEN g.met.H.Counted.length_digest p s i,
         round_length-small i g.H.Counted.LEN (length p) (length s),
