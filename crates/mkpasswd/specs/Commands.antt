@@ -28,26 +28,26 @@ abbrev pub wants_generator : Plan → Bool
 wants_generator Methods = false
 wants_generator plan = true
 
--- The random numbers are those of the generator. Without a generator they are a stream from which nothing is drawn.
+-- The random numbers are those of the generator. Without a generator nothing draws from the stream.
 abbrev pub stream_in : {R : Type 0} → (R → Stream) → Option R → Stream
 stream_in stream generator = option_map_or stream generator (record { u32_after = λ calls. 0; u64_after = λ calls. 0; bytes_after = λ calls count. [] })
 
 module _ {I O E : Type 0} where
-  -- A text is written to `out`, which is flushed. If that fails, `result` is the error, and a prefix of the text is
-  -- written. Only `out` changes.
+  -- The command writes a text to `out` and flushes it. If that fails, `result` is the error, and a prefix of the text
+  -- is written. Only `out` changes.
   abbrev pub Prints : ℕ → List ℕ → RunState I O E → RunState I O E → Result Tally RunFault → Type 0
   Prints turns text old new result =
       Shows turns old.out new.out text result × (new ≡ record old { out = new.out }) × IfOk result (λ tally. tally ≡ tally_of [])
 
-  -- The line of the error is written to `faults`, in at most as many calls as it has bytes. If that fails, a prefix of
-  -- it is written. Only `faults` changes, and the status is that of the error.
+  -- The command writes the line of the error to `faults`, in at most as many calls as it has bytes. If that fails, a
+  -- prefix of it is written. Only `faults` changes, and the status is that of the error.
   abbrev pub Tells : Fault → RunState I O E → RunState I O E → ℕ → Type 0
   Tells fault old new status =
       let line = as_line (codes "mkpasswd: " ++ (fault_row fault).1) in
       (result : Result Tally RunFault) × Shows (length line) old.faults new.faults line result
       × (new ≡ record old { faults = new.faults }) × (status ≡ (fault_row fault).0)
 
-  -- After a tally nothing changes any more, and the status is that of the tally. The error of a run is reported.
+  -- After a tally the command changes nothing more, and the status is that of the tally. It reports the error of a run.
   abbrev pub Concludes : Result Tally RunFault → RunState I O E → RunState I O E → ℕ → Type 0
   Concludes (Ok tally) old new status = (new ≡ old) × (status ≡ tally_status tally)
   Concludes (Err fault) old new status = Tells (Run fault) old new status
@@ -60,9 +60,9 @@ module _ {I O E : Type 0} where
   Ends turns (Batch job) old new result = EndsLines turns kinds.Batch job old new result × IsWithinTurns turns old new
   Ends turns (Check job) old new result = EndsLines turns kinds.Check job old new result × IsWithinTurns turns old new
 
-  -- An error of `clap` with this exit status is reported. If the status is 0, help or the version is written to `out`,
-  -- and a failure to write it is reported. Otherwise a message is written to `faults`, and the status is 2 even if that
-  -- fails.
+  -- The command reports an error of `clap` with this exit status. If the status is 0, it writes help or the version to
+  -- `out`, and reports a failure to write it. Otherwise it writes a message to `faults`, and the status is 2 even if
+  -- that fails.
   abbrev pub ShowsError : ℕ → ℕ → RunState I O E → RunState I O E → ℕ → Type 0
   ShowsError zero turns old new status =
       (text : List ℕ) × (mid : RunState I O E) × (result : Result Tally RunFault)
@@ -71,8 +71,8 @@ module _ {I O E : Type 0} where
       (text : List ℕ) × (result : Result Tally RunFault) × Shows turns old.faults new.faults text result
       × (new ≡ record old { faults = new.faults }) × (status ≡ 2)
 
-  -- A plan is run, up to a state `mid`, and its result concluded. If it needs a generator and there is none, which
-  -- `generates` says, it is not run, and that is reported. Refused arguments are reported.
+  -- The command runs the plan, up to a state `mid`, and concludes with its result. If the plan needs a generator, and
+  -- `generates` says that there is none, the command reports that instead. It reports refused arguments.
   abbrev pub Follows : ℕ → Bool → Result Plan UsageFault → RunState I O E → RunState I O E → ℕ → Type 0
   Follows turns generates (Ok plan) old new status =
       MatchBool (wants_generator plan && not generates) (Tells Start old new status)
@@ -80,8 +80,8 @@ module _ {I O E : Type 0} where
   Follows turns generates (Err (Parse error)) old new status = ShowsError (parse_status (kind_of error)) turns old new status
   Follows turns generates (Err fault) old new status = Tells (Usage fault) old new status
 
-  -- The arguments are planned, and the plan is run or the refusal reported. `Plans` allows that an allocation fails for
-  -- any arguments.
+  -- The command plans the arguments, and runs the plan or reports the refusal. `Plans` allows that an allocation fails
+  -- for any arguments.
   abbrev pub Serves : ℕ → Bool → List Text → RunState I O E → RunState I O E → ℕ → Type 0
   Serves turns generates words old new status =
       (planned : Result Plan UsageFault) × Plans words planned × Follows turns generates planned old new status

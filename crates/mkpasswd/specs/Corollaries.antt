@@ -41,14 +41,14 @@ module _ {I O E : Type 0} where
     pub run : Finishes answers old new (Ok (tally_of answers))
     pub status : tally_status (tally_of answers) ≡ 0
 
-  -- The input was read to its end, and each of its lines was answered.
+  -- The run read the input to its end, and answered each of its lines.
   abbrev pub SucceedsByLines : Kind → Job → RunState I O E → RunState I O E → Type 0
   SucceedsByLines kind job old new =
       (bytes : List ℕ) × (answers : List Answer) × IsAtEnd new.input.shown × AreAnswers kind job 1 (lines_of bytes) old.stream answers
       × Succeeds bytes answers old new
 
-  -- Everything that a plan asks for was done. If the password is an argument, the input is unchanged. If it is in the
-  -- input, the bytes that were read determine it.
+  -- The command did everything that the plan asks for. If the password is an argument, the input is unchanged. If it is
+  -- in the input, the bytes that were read determine it.
   abbrev pub IsDone : Plan → RunState I O E → RunState I O E → Type 0
   IsDone Methods old new = GivesOnly methods_text old new
   IsDone (One job (Word password)) old new =

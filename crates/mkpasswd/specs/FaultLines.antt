@@ -12,8 +12,8 @@ use Rattle.mkpasswd.specs.declared.fault.Fault.{Fault}
 abbrev pub fault_line : Fault → List ℕ
 fault_line fault = as_line (codes "mkpasswd: " ++ (fault_row fault).1)
 
--- The line of an error was written and flushed, in at most as many calls as it has bytes. If that failed, a prefix of
--- it was written.
+-- The command wrote the line of the error and flushed it, in at most as many calls as it has bytes. If that failed, a
+-- prefix of it is written.
 abbrev pub IsTold : {E : Type 0} → Fault → Device E → Device E → Type 0
 IsTold fault old new =
     (result : Result Tally RunFault) × Shows (length (fault_line fault)) old new (fault_line fault) result
