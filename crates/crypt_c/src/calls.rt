@@ -56,8 +56,9 @@ pub(crate) fn verify(
     Report::new(reason, 0, most, work)
 }
 
-/// Writes the password's hash to `out`, if the budget and the capacity allow it, and returns the report. After a
-/// refusal it writes `lock`.
+/// Writes the password's hash to `out`, if the budget and the capacity allow it, and returns the report.
+///
+/// After a refusal it writes `lock`.
 pub(crate) fn put_hash(
     alloc: Global,
     given: Result<(Password, Setting), Refusal>,
@@ -84,10 +85,10 @@ pub(crate) fn put_hash(
     }
 }
 
-/// Writes the password's hash with the setting that three random numbers make, if the budget and the capacity allow it,
-/// and returns the report.
+/// Writes the password's hash with the setting that three random numbers make, and returns the report.
 ///
-/// After a refusal it writes the token. Missing random numbers are the last refusal before the hash.
+/// It does so if the budget and the capacity allow the hash. After a refusal it writes the token. Missing random
+/// numbers are the last refusal before the hash.
 pub(crate) fn put_new_hash(
     alloc: Global,
     given: Result<(Password, Scheme), Refusal>,
@@ -247,8 +248,9 @@ pub(crate) fn tell_rehash(given: Result<(Setting, Scheme), Refusal>) -> Report
     }
 }
 
-/// Writes the setting that three random numbers make, if the capacity allows it, and returns the report. After a
-/// refusal it writes the token.
+/// Writes the setting that three random numbers make, if the capacity allows it, and returns the report.
+///
+/// After a refusal it writes the token.
 pub(crate) fn put_setting(made: Result<Scheme, Refusal>, words: [u64; 3], out: &mut [u8]) -> Report
     ensures makes { PutsSetting words out.old made result out.new }
     ensures locked { ¬ (pos 0 <ℤ result.reason) → out.new ≡ put (token []) out.old }

@@ -32,8 +32,9 @@ pub(crate) enum Refusal {
     NoRandomWords,
 }
 
-/// The reason for what a call returned. Each has a number of its own: above 0 if the call returned 1, and below 0 if it
-/// returned 0.
+/// The reason for what a call returned.
+///
+/// Each has a number of its own: above 0 if the call returned 1, and below 0 if it returned 0.
 #[derive(Clone, Copy, Debug, PartialEq, Eq)]
 pub(crate) enum Reason {
     /// The password matches the stored hash.

@@ -106,8 +106,9 @@ impl From<AllocError> for UsageFault {
 /// The error that ends the program early.
 #[derive(Debug, Drop)]
 pub enum Fault {
-    /// The arguments cannot be read as text, or a plan that hashes has no generator because the system returned no
-    /// seed.
+    /// The arguments cannot be read as text, or a plan that hashes has no generator.
+    ///
+    /// The system returned no seed for the generator.
     Start,
     /// The arguments have no plan, or an allocation failed.
     Usage(UsageFault),
@@ -118,8 +119,10 @@ pub enum Fault {
 impl Fault {
     ghost use Rattle.mkpasswd.specs.Faults.{fault_row};
 
-    /// Returns the exit status: 0 for help and the version, 2 for invalid arguments or an invalid password, 3 for a
-    /// system error or too many I/O calls.
+    /// Returns the exit status.
+    ///
+    /// It is 0 for help and the version, 2 for invalid arguments or an invalid password, and 3 for a system error or
+    /// too many I/O calls.
     pub fn status(&self) -> u8
         ensures { result ≡ (fault_row self.now).0 }
     {

@@ -215,8 +215,9 @@ pub(crate) fn render_refusal(number: u64, fault: &LineFault) -> Text
     text
 }
 
-/// Returns the output line of an outcome: the name and a colon, the outcome, the counts if the job asks for them, and a
-/// line feed.
+/// Returns the output line of an outcome.
+///
+/// It has the name and a colon, the outcome, the counts if the job asks for them, and a line feed.
 pub(crate) fn render(job: &Job, name: Option<&[u8]>, outcome: &Outcome, work: &Work) -> Text
     requires { length (front_by (bytes_of name)) ≤ front_limit }
     ensures { result.items ≡ as_line (front_by (bytes_of name.entry) ++ (rendered outcome.now ++ wanted_text job.now.work work.now)) }

@@ -28,14 +28,16 @@ pub struct Job {
     pub rehash: bool,
     /// Whether each output line shows the counts of its work.
     pub work: bool,
-    /// The most that a line may cost, in bytes digested and mixed ([`cost`](crypt_core::work::cost)). A single password
-    /// has no budget.
+    /// The most that a line may cost, in bytes digested and mixed ([`cost`](crypt_core::work::cost)).
+    ///
+    /// A single password has no budget.
     pub budget: Option<u64>,
 }
 
 impl Job {
-    /// Returns whether a hash with this scheme is renewed: the job asks for rehashes, and its own scheme replaces this
-    /// one.
+    /// Returns whether a hash with this scheme is renewed.
+    ///
+    /// The job asks for rehashes, and its own scheme replaces this one.
     pub(crate) fn renews(&self, scheme: &Scheme) -> bool
         ensures { result ≡ (self.now.rehash && is_replaced_by scheme.now self.now.maker.scheme) }
     {

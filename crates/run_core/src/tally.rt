@@ -27,8 +27,9 @@ impl Tally {
         }
     }
 
-    /// Returns the exit status of a run that ends with this tally: 1 if a line was rejected or got the verdict `no`,
-    /// otherwise 0.
+    /// Returns the exit status of a run that ends with this tally.
+    ///
+    /// It is 1 if a line was rejected or got the verdict `no`, otherwise 0.
     pub fn status(&self) -> u8
         ensures { result ≡ tally_status self.now }
     {

@@ -108,8 +108,9 @@ impl Write for MemoryWriter {
     }
 }
 
-/// A reader of given bytes, which returns at most a given number of them a call, and may fail at one call. Contracts
-/// see the bytes that it has left, or `None` if it repeats them for ever.
+/// A reader of given bytes, which returns at most a given number of them a call.
+///
+/// It may fail at one call. Contracts see the bytes that it has left, or `None` if it repeats them for ever.
 #[derive(Drop)]
 pub struct MemoryReader<'a> {
     bytes: &'a [u8],

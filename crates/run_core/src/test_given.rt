@@ -68,8 +68,9 @@ pub fn request_of<'a>(rt: &impl Abort, words: &[&'a str]) -> Request<'a> {
     }
 }
 
-/// The devices and the limit of a run. By default the input is empty, the outputs take everything, and the limit on I/O
-/// calls is the greatest.
+/// The devices and the limit of a run.
+///
+/// By default the input is empty, the outputs take everything, and the limit on I/O calls is the greatest.
 #[derive(Drop)]
 pub struct Given<'a> {
     pub reader: MemoryReader<'a>,
@@ -174,8 +175,9 @@ pub type Ran<'a> = (
     MemoryReader<'a>,
 );
 
-/// A run as a test lists it: its arguments, the contents and limits of its devices, each device call in order, and its
-/// outcome.
+/// A run as a test lists it.
+///
+/// It has the arguments, the contents and limits of the devices, each device call in order, and the outcome.
 #[derive(Clone, Copy)]
 pub struct Listed<'a> {
     pub words: &'a [&'a str],

@@ -11,8 +11,9 @@ use crate::device::{Input, Output};
 use crate::fault::RunFault;
 use std::io::{Read, Write};
 
-/// Reads once into `buffer`, which uses one of the `left` I/O calls, and returns the number of bytes read: 0 at the
-/// end.
+/// Reads once into `buffer` and returns the number of bytes read: 0 at the end.
+///
+/// It uses one of the `left` I/O calls.
 ///
 /// # Errors
 ///

@@ -44,8 +44,9 @@ fn failed(call: Call) -> Call {
     }
 }
 
-/// Returns the calls of one device in a run of these steps. The step after the first `whole` fails, if there is one,
-/// and no call follows it.
+/// Returns the calls of one device in a run of these steps.
+///
+/// The step after the first `whole` fails, if there is one, and no call follows it.
 pub fn calls_of(
     alloc: Global,
     steps: &[Step],

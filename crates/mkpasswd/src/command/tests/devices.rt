@@ -16,8 +16,9 @@ fn failure() -> io::Error {
     io::Error::from(ErrorKind::PermissionDenied)
 }
 
-/// A writer that takes at most a given number of bytes a call. It may fail at one call, counted from 1, and at its
-/// flushes.
+/// A writer that takes at most a given number of bytes a call.
+///
+/// It may fail at one call, counted from 1, and at its flushes.
 #[derive(Drop)]
 pub struct MemoryWriter {
     taken: Vec<u8>,
@@ -192,8 +193,9 @@ impl Rng for ListedWords<'_> {
     }
 }
 
-/// The devices and the limit of a run. By default the input is empty, the outputs take everything, and the limit on I/O
-/// calls is the greatest.
+/// The devices and the limit of a run.
+///
+/// By default the input is empty, the outputs take everything, and the limit on I/O calls is the greatest.
 #[derive(Drop)]
 pub struct Given<'a> {
     pub reader: MemoryReader<'a>,
