@@ -1,2 +1,2 @@
--- What only contracts of private functions cite. A reader of the calls needs none of it.
+-- Definitions that only contracts of private functions cite. A reader of the calls needs none of them.
 pub mod Steps

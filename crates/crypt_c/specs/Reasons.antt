@@ -1,4 +1,4 @@
--- Why a call returned what it did: a number for each reason, and its words.
+-- The reasons for what a call returned, each with a number and a message.
 use Rattle.std.specs.Prelude.{ℕ, ℤ, pos, neg_ℤ, List, codes}
 use Rattle.crypt_core.specs.PasswordFaults.{password_fault_text}
 use Rattle.crypt_core.specs.SettingFaults.{setting_fault_text}
@@ -8,8 +8,8 @@ use Rattle.crypt_c.specs.declared.reason.Reason.{Reason}
 use Rattle.crypt_c.specs.declared.reason.Reason.TheVariants.{Fits, Outdated, Done, Refused}
 use Rattle.crypt_c.specs.declared.reason.Refusal.TheVariants.{Password, Setting, OutOfMemory, TooFewBytes, UnknownMethod, Cost, OverBudget, Differs, Current, NoRandomWords}
 
--- The number and the words of each reason. The number is above 0 if a call did what its name says, and below 0 if it
--- refused; -15 is retired.
+-- The number and the message of each reason. The number is above 0 if the call did what its name says, and below 0 if
+-- it refused; -15 is retired.
 abbrev pub reason_row : Reason → ℤ × List ℕ
 reason_row Fits = (pos 1, codes "fits")
 reason_row Outdated = (pos 2, codes "outdated")

@@ -12,7 +12,7 @@ use Rattle.crypt_c.specs.declared.reason.Refusal.{Refusal}
 use Rattle.crypt_c.specs.declared.reason.Refusal.TheVariants.{OutOfMemory}
 use Rattle.crypt_c.specs.declared.report.Report.{Report}
 
--- The report of a reason: `len` bytes were put, a hash costs at most `most`, and `counts` is the work.
+-- The report of a reason: `len` bytes were written, a hash costs at most `most`, and `counts` is the work.
 abbrev pub reported : Reason → ℕ → ℕ → Work → Report
 reported reason len most counts =
     record { reason = (reason_row reason).0; length = len; cost = most; work = counts; reserved = 0 }
@@ -21,25 +21,27 @@ reported reason len most counts =
 abbrev pub refused : Refusal → ℕ → Report
 refused refusal most = reported (Refused refusal) 0 most no_work
 
--- The report if scrypt could not allocate: the work is that of the allocations before. No other scheme allocates.
+-- The report if scrypt could not allocate. Its work is that of the allocations before. No other scheme allocates.
 abbrev pub LacksMemory : SettingValue → ℕ → Report → Type 0
 LacksMemory kept most report =
     (done : Work) × IsAfterRefusedGrowth no_work kept.scheme done × (report ≡ reported (Refused OutOfMemory) 0 most done)
 
--- The caller's bytes after a text was put into them: as much of it as fits before a byte 0, that byte, and the bytes after
--- it unchanged. If there is no room, nothing is put.
+-- The caller's bytes after a string was written to them: as much of it as fits before a byte 0, that byte, and the
+-- bytes after it unchanged. Without any capacity nothing is written.
 abbrev pub put : List ℕ → List ℕ → List ℕ
 put text [] = []
 put text (b ∷ rest) = let cut = take (length rest) text in cut ++ 0 ∷ drop (length cut) rest
 
--- What a refusal puts in the place of a hash with this setting (crypt(3)): it is never that setting, and spells none.
+-- The string that a refusal writes in place of a hash with this setting (crypt(3)). It is never that setting, and
+-- spells none.
 abbrev pub token : List ℕ → List ℕ
 token setting = if bytes_eq (take 2 setting) (codes "*0") then codes "*1" else codes "*0"
 
--- What each call with a report returns: 1 or 0, and 1 exactly if the reason is above 0. The last field is 0.
+-- The result of each call with a report: 1 or 0, and 1 exactly if the reason is above 0. The last field of the report
+-- is 0.
 abbrev pub Answers : ℤ → Report → Type 0
 Answers result report = ((result ≡ pos 1) ⊎ (result ≡ pos 0)) × (result ≡ pos 1 ↔ pos 0 <ℤ report.reason) × (report.reserved ≡ 0)
 
--- The call makes the wanted report and puts the text.
+-- The effect of a call: the wanted report, and the string in the caller's bytes.
 abbrev pub Leaves : Report → List ℕ → List ℕ → Report → List ℕ → Type 0
 Leaves wanted text old report new = (report ≡ wanted) × (new ≡ put text old)

@@ -1,8 +1,8 @@
-//! What the calls do with what they have read.
+//! What the calls do with their arguments, once these are read.
 //!
-//! A step that can hash takes a new meter, and its report has all that this meter counted, so it hashes nothing that it
-//! doesn't report: nothing above the budget, without room, or after a refusal. That it makes no other meter is held by
-//! tests/layers.t.
+//! A step that can hash takes a new meter, and its report has all that this meter counted. So it hashes nothing that it
+//! does not report: nothing above the budget, without capacity for the hash, or after a refusal. tests/layers.t checks
+//! that it makes no other meter.
 ghost use Rattle.std.specs.Prelude.{◌≡◌, ◌↔◌, ◌<◌, ◌≤◌, ◌<ℤ◌, pos, List, [], Result, length, IfOk, IfErr, IsOkAnd, IsTrue, OnErr, OnOk};
 ghost use Rattle.prims_core.specs.Work.{no_work};
 ghost use Rattle.crypt_core.specs.Crypt.{IsAfterRefusedGrowth, crypt};
@@ -24,7 +24,7 @@ use crypt_core::work::{bound, cost};
 use prims_core::meter::{Meter, Work};
 use std::alloc::Global;
 
-/// Compares the password's hash with the stored one, if the budget allows it.
+/// Compares the password's hash with the stored one, if the budget allows it, and returns the report.
 pub(crate) fn verify(
     alloc: Global,
     given: Result<(Password, Setting), Refusal>,
@@ -56,7 +56,9 @@ pub(crate) fn verify(
     Report::new(reason, 0, most, work)
 }
 
-/// Puts the password's hash into `out`, if the budget and the room allow it. After a refusal it puts `lock`.
+/// Writes the password's hash to `out`, if the budget and the capacity allow it, and returns the report.
+///
+/// After a refusal it writes `lock`.
 pub(crate) fn put_hash(
     alloc: Global,
     given: Result<(Password, Setting), Refusal>,
@@ -83,8 +85,10 @@ pub(crate) fn put_hash(
     }
 }
 
-/// Puts the password's hash with the setting that three words make, if the budget and the room allow it. After a refusal it
-/// puts the token. No words are refused after all else.
+/// Writes the password's hash with the setting that three random numbers make, and returns the report.
+///
+/// It does so if the budget and the capacity allow the hash. After a refusal it writes the token. Missing random
+/// numbers are the last refusal before the hash.
 pub(crate) fn put_new_hash(
     alloc: Global,
     given: Result<(Password, Scheme), Refusal>,
@@ -116,7 +120,7 @@ pub(crate) fn put_new_hash(
             meter,
         );
     }
-    // Neither the cost nor the length of a hash depends on the words.
+    // Neither the cost nor the length of a hash depends on the random numbers.
     let refused = match admit(
         &password,
         &Setting::salted(scheme, [0; 3]),
@@ -129,7 +133,7 @@ pub(crate) fn put_new_hash(
     leave(refused, out, token(b""))
 }
 
-// Returns the cost, if the budget and then the room allow the hash, or else the report of the refusal.
+// Returns the cost, if the budget and then the capacity allow the hash, or else the report of the refusal.
 fn admit(password: &Password, setting: &Setting, budget: u64, room: usize) -> Result<u64, Report>
     ensures { result ≡ admission budget room password.now setting.now }
 {
@@ -156,7 +160,8 @@ fn cost_within(password: &Password, setting: &Setting, budget: u64) -> Result<u6
     Ok(most)
 }
 
-// Hashes, and puts the hash, which has room, or `lock` if scrypt could not allocate.
+// Hashes, and writes the hash, for which `out` has the capacity, or `lock` if scrypt could not allocate. Returns the
+// report.
 fn put_admitted(
     alloc: Global,
     password: &Password,
@@ -189,7 +194,7 @@ fn put_admitted(
     }
 }
 
-// Hashes, and returns the work too, which is all that the meter has counted.
+// Hashes, and returns the hash and its work, which is all that the meter has counted.
 fn counted_hash(
     alloc: Global,
     password: &Password,
@@ -209,7 +214,7 @@ fn counted_hash(
     (hashed, work)
 }
 
-/// Reports the greatest cost and work of a hash.
+/// Returns the report of the greatest cost and work of a hash.
 pub(crate) fn tell_bound(given: Result<(usize, Setting), Refusal>) -> Report
     requires { IfOk given (λ both. both.0 ≤ password_limit) }
     ensures bounded { result ≡ bounded given }
@@ -226,7 +231,7 @@ pub(crate) fn tell_bound(given: Result<(usize, Setting), Refusal>) -> Report
     }
 }
 
-/// Reports whether a hash of the scheme would replace one with the setting.
+/// Returns the report on whether a hash with the scheme would replace one with the setting.
 pub(crate) fn tell_rehash(given: Result<(Setting, Scheme), Refusal>) -> Report
     ensures rehashed { result ≡ rehashed given }
     ensures outdated { pos 0 <ℤ result.reason
@@ -243,7 +248,9 @@ pub(crate) fn tell_rehash(given: Result<(Setting, Scheme), Refusal>) -> Report
     }
 }
 
-/// Puts the text of the setting that three words make, if the room allows it. After a refusal it puts the token.
+/// Writes the setting that three random numbers make, if the capacity allows it, and returns the report.
+///
+/// After a refusal it writes the token.
 pub(crate) fn put_setting(made: Result<Scheme, Refusal>, words: [u64; 3], out: &mut [u8]) -> Report
     ensures makes { PutsSetting words out.old made result out.new }
     ensures locked { ¬ (pos 0 <ℤ result.reason) → out.new ≡ put (token []) out.old }

@@ -1,11 +1,11 @@
-//! mkpasswd for C: the calls of `include/mkpasswd.h`, which says how each is used.
+//! mkpasswd for C: the calls of `include/mkpasswd.h`, which says how to use each of them.
 //!
-//! A list of bytes comes as a pointer and a number of bytes. A call that can fail returns 1 if it did what its name says,
-//! else 0, and writes the whole report, which says why. So a caller who compares nothing denies. After a 0 `out` holds a
-//! token, which matches no password, cut to its room.
+//! A list of bytes is a pointer and a number of bytes. A call that can fail returns 1 if it did what its name says,
+//! else 0. It always writes the whole report, which has the reason. So a caller who compares nothing denies access.
+//! After a 0 `out` holds a token, which matches no password, cut to the capacity of `out`.
 //!
-//! The first refusal that applies is reported, in this order: password, setting, method, cost, budget, room, random words,
-//! memory. No call keeps anything or starts anything, so many threads may call at once.
+//! The report has the first refusal that applies, in this order: password, setting, method, cost, budget, capacity,
+//! random numbers, memory. The calls share no state and start no threads, so many threads may call at once.
 #![tactic(auto)]
 
 ghost use Rattle.std.specs.Prelude.{◌≡◌, ◌≢◌, ◌⊎◌, ◌↔◌, ◌<◌, ◌≤◌, pos, ℕ, List, [], ◌∷◌, length, take, codes, Result};
@@ -34,10 +34,19 @@ use reason::Reason;
 use report::{Report, put, token};
 use std::alloc::Global;
 
-/// Returns 1 if the password matches the stored hash and its hash costs at most the budget. A budget of 0 lets nobody in.
+/// Returns 1 if the password matches the stored hash and its hash costs at most the budget.
 ///
-/// It hashes nothing above the budget, and allocates only for scrypt. The report has the cost once password and stored
-/// hash are known to be valid, and the work of the hash.
+/// A budget of 0 lets nobody in. The call hashes nothing above the budget, and allocates only for scrypt. The report
+/// has the cost once the password and the stored hash are known to be valid, and the work of the hash.
+///
+/// For example, `password` and `$1$xxxxxxxx$UYCIxa628.9qXjpQCjM4a.` with a budget of 1000000 give 1.
+///
+/// # Errors
+///
+/// - `Password`, `Setting`: the password or the stored hash is invalid.
+/// - `OverBudget`: the hash can cost more than the budget.
+/// - `Differs`: the password does not match.
+/// - `OutOfMemory`: scrypt could not allocate.
 #[unsafe(no_mangle)]
 pub extern "C" fn mkpasswd_verify(
     alloc: Global,
@@ -66,14 +75,23 @@ pub extern "C" fn mkpasswd_verify(
     report.answer()
 }
 
-/// Hashes a password with a new setting of the method and the cost, whose salt three random words make, and puts the hash
-/// and a byte 0 into `out`.
+/// Hashes a password with a new setting of the method and the cost, and writes the hash and a byte 0 to `out`.
 ///
-/// Without words it reports the first refusal that comes before them, or else that there are none: so the caller draws them
-/// once nothing else can be refused, and calls again. The method is 1 for md5crypt, 5 for sha256crypt, 6 for sha512crypt
-/// or 7 for scrypt, as in its hashes; the cost is that of `mkpasswd -R`, and 0 the method's own.
+/// Three random numbers, `words`, make the salt. Without them the report has the first refusal that precedes them, or
+/// else that they are missing. So a caller draws them once nothing else can be refused, and calls again.
 ///
-/// The hash opens for its password within the budget, and is not outdated for the method and the cost.
+/// The method is 1 for md5crypt, 5 for sha256crypt, 6 for sha512crypt or 7 for scrypt, as in their hashes. The cost is
+/// that of `mkpasswd -R`, and 0 is the method's default. [`mkpasswd_verify`] accepts the hash for its password within
+/// the budget. For the same method and cost [`mkpasswd_needs_rehash`] does not report it as outdated.
+///
+/// # Errors
+///
+/// - `Password`: the password is invalid.
+/// - `UnknownMethod`, `Cost`: no method has the number, or the method does not accept the cost.
+/// - `OverBudget`: the hash can cost more than the budget.
+/// - `TooFewBytes`: the hash and the byte 0 do not fit into `out`.
+/// - `NoRandomWords`: `words` does not have three numbers.
+/// - `OutOfMemory`: scrypt could not allocate.
 #[unsafe(no_mangle)]
 pub extern "C" fn mkpasswd_new_from(
     alloc: Global,
@@ -108,8 +126,15 @@ pub extern "C" fn mkpasswd_new_from(
     report.answer()
 }
 
-/// Returns 1 if a new hash of the method and the cost would replace the stored one: it has another method, or the same one
-/// with more rounds, or for scrypt a greater `N * r * p`.
+/// Returns 1 if a new hash with the method and the cost would replace the stored one.
+///
+/// It would if the stored hash has another method, fewer rounds, or for scrypt a smaller `N * r * p`.
+///
+/// # Errors
+///
+/// - `Setting`: the stored hash is invalid.
+/// - `UnknownMethod`, `Cost`: no method has the number, or the method does not accept the cost.
+/// - `Current`: the stored hash needs no replacement.
 #[unsafe(no_mangle)]
 pub extern "C" fn mkpasswd_needs_rehash(
     stored: &[u8],
@@ -128,8 +153,14 @@ pub extern "C" fn mkpasswd_needs_rehash(
     report.answer()
 }
 
-/// Reports the greatest cost and the greatest work of a hash with this setting, for any password of this length. It hashes
-/// nothing and allocates nothing.
+/// Reports the greatest cost and the greatest work of a hash with this setting, for any password of this length.
+///
+/// It hashes and allocates nothing.
+///
+/// # Errors
+///
+/// - `Password`: the length exceeds that of any password.
+/// - `Setting`: the stored hash is invalid.
 #[unsafe(no_mangle)]
 pub extern "C" fn mkpasswd_bound(stored: &[u8], password_len: usize, report: &mut Report) -> i32
     ensures answers { Answers result report.new }
@@ -142,9 +173,16 @@ pub extern "C" fn mkpasswd_bound(stored: &[u8], password_len: usize, report: &mu
     report.answer()
 }
 
-/// Hashes a password with the setting that a text spells, and puts the hash and a byte 0 into `out`.
+/// Hashes a password with a setting, and writes the hash and a byte 0 to `out`.
 ///
 /// The token after a 0 is `*0`, or `*1` if the setting begins with `*0`.
+///
+/// # Errors
+///
+/// - `Password`, `Setting`: the password or the setting is invalid.
+/// - `OverBudget`: the hash can cost more than the budget.
+/// - `TooFewBytes`: the hash and the byte 0 do not fit into `out`.
+/// - `OutOfMemory`: scrypt could not allocate.
 #[unsafe(no_mangle)]
 pub extern "C" fn mkpasswd_hash(
     alloc: Global,
@@ -175,7 +213,12 @@ pub extern "C" fn mkpasswd_hash(
     report.answer()
 }
 
-/// Makes a setting of a method, a cost and three random words, and puts its text and a byte 0 into `out`.
+/// Makes a setting with a method, a cost and three random numbers, and writes it and a byte 0 to `out`.
+///
+/// # Errors
+///
+/// - `UnknownMethod`, `Cost`: no method has the number, or the method does not accept the cost.
+/// - `TooFewBytes`: the setting and the byte 0 do not fit into `out`.
 #[unsafe(no_mangle)]
 pub extern "C" fn mkpasswd_setting(
     method: u32,
@@ -196,8 +239,9 @@ pub extern "C" fn mkpasswd_setting(
     report.answer()
 }
 
-/// Puts the words for a reason and a byte 0 into `out`, cut to its room. It returns 0 if it had to cut them, and for a
-/// number that no reason has.
+/// Writes the message for a reason and a byte 0 to `out`, cut to the capacity of `out`.
+///
+/// It returns 1, or 0 if the message is cut or no reason has the number.
 #[unsafe(no_mangle)]
 pub extern "C" fn mkpasswd_words(reason: i32, out: &mut [u8]) -> i32
     ensures one_or_zero { (result ≡ pos 1) ⊎ (result ≡ pos 0) }
@@ -215,7 +259,7 @@ pub extern "C" fn mkpasswd_words(reason: i32, out: &mut [u8]) -> i32
     if words.len() < out.len() { 1 } else { 0 }
 }
 
-/// Returns the version: 10000 times its first number, 100 times its second, and its third.
+/// Returns the version: 10000 times its first number, plus 100 times its second, plus its third.
 #[unsafe(no_mangle)]
 pub extern "C" fn mkpasswd_version() -> u32
     ensures { result ≡ VERSION_NUMBER }

@@ -1,4 +1,4 @@
-//! What C hands in, as values, or the first refusal: each call is decided by what it reads here.
+//! The arguments from C as values, or the first refusal. What a call reads here decides its result.
 ghost use Rattle.std.specs.Prelude.{◌≡◌, ◌≤◌, ℕ, List, Result, IfOk};
 ghost use Rattle.crypt_core.specs.Passwords.{password_limit};
 ghost use Rattle.crypt_core.specs.Settings.{SettingValue};
@@ -12,7 +12,12 @@ use crypt_core::password::{PASSWORD_LIMIT, Password, PasswordFault};
 use crypt_core::scheme::Scheme;
 use crypt_core::setting::Setting;
 
-/// Reads a password, and then the setting that a text spells.
+/// Reads a password, and then a setting.
+///
+/// # Errors
+///
+/// - `Password`: the password is invalid.
+/// - `Setting`: the password is valid, and the setting is not.
 pub(crate) fn password_and_setting(
     password: &[u8],
     text: &[u8],
@@ -29,6 +34,11 @@ pub(crate) fn password_and_setting(
 }
 
 /// Checks the length of a password, and then reads a setting.
+///
+/// # Errors
+///
+/// - `Password`: the length exceeds that of any password.
+/// - `Setting`: the length is valid, and the setting is not.
 pub(crate) fn length_and_setting(
     password_len: usize,
     text: &[u8],
@@ -47,7 +57,12 @@ pub(crate) fn length_and_setting(
     }
 }
 
-/// Reads a password, and then makes the scheme of a method's number and a cost.
+/// Reads a password, and then makes the scheme with a method's number and a cost.
+///
+/// # Errors
+///
+/// - `Password`: the password is invalid.
+/// - `UnknownMethod`, `Cost`: the password is valid, and [`scheme_of`] returns this error.
 pub(crate) fn password_and_scheme(
     password: &[u8],
     method: u32,
@@ -62,7 +77,12 @@ pub(crate) fn password_and_scheme(
     Ok((password, scheme))
 }
 
-/// Reads a setting, and then makes the scheme of a method's number and a cost.
+/// Reads a setting, and then makes the scheme with a method's number and a cost.
+///
+/// # Errors
+///
+/// - `Setting`: the setting is invalid.
+/// - `UnknownMethod`, `Cost`: the setting is valid, and [`scheme_of`] returns this error.
 pub(crate) fn setting_and_scheme(
     text: &[u8],
     method: u32,
@@ -82,7 +102,7 @@ pub(crate) fn setting_and_scheme(
     }
 }
 
-// Reads a setting.
+// Reads a setting, or returns the first rule that it breaks.
 fn setting_of(text: &[u8]) -> Result<Setting, Refusal>
     ensures read { IsSettingRead text.now result }
     ensures alone { (other : Result SettingValue Refused) → IsSettingRead text.now other → result ≡ other }
@@ -90,7 +110,12 @@ fn setting_of(text: &[u8]) -> Result<Setting, Refusal>
     Ok(Setting::read(text)?)
 }
 
-/// Makes the scheme of a method's number and a cost.
+/// Makes the scheme with a method's number and a cost.
+///
+/// # Errors
+///
+/// - `UnknownMethod`: no method has the number.
+/// - `Cost`: the method does not accept the cost.
 pub(crate) fn scheme_of(method: u32, cost: u32) -> Result<Scheme, Refusal>
     ensures made { IsSchemeMade method cost result }
     ensures alone { (other : Result Made Refused) → IsSchemeMade method cost other → result ≡ other }

@@ -1,4 +1,4 @@
-//! Why a call returned what it did: the reasons, their numbers and their words.
+//! The reasons for what a call returned, with their numbers and messages.
 ghost use Rattle.std.specs.Prelude.{◌≡◌, ◌≢◌, IfSome, IfNone};
 ghost use Rattle.crypt_c.specs.declared.reason.Reason.{Reason as Why};
 ghost use Rattle.crypt_c.specs.Reasons.{reason_row};
@@ -7,36 +7,37 @@ use crypt_core::hash::HashFault;
 use crypt_core::password::PasswordFault;
 use crypt_core::setting::{MakeFault, SettingFault};
 
-/// Why a call refused.
+/// The reason why a call refused.
 #[derive(Clone, Copy, Debug, PartialEq, Eq)]
 pub(crate) enum Refusal {
     /// The password is invalid.
     Password(PasswordFault),
-    /// The text spells no setting.
+    /// The setting is invalid.
     Setting(SettingFault),
     /// scrypt could not allocate.
     OutOfMemory,
-    /// The caller's bytes have too little room for the text and a byte 0.
+    /// The capacity of the caller's bytes is too small for the string and a byte 0.
     TooFewBytes,
-    /// The number stands for no method.
+    /// No method has the number.
     UnknownMethod,
-    /// The method does not take the cost.
+    /// The method does not accept the cost.
     Cost,
     /// The hash can cost more than the budget.
     OverBudget,
-    /// The password is not the one of the stored hash.
+    /// The password does not match the stored hash.
     Differs,
     /// The stored hash needs no rehash.
     Current,
-    /// The system gave no random words.
+    /// The random numbers for a salt are missing.
     NoRandomWords,
 }
 
-/// Why a call returned what it did. Each reason has a number of its own: above 0 where the call returned 1, and below 0
-/// where it returned 0.
+/// The reason for what a call returned.
+///
+/// Each has a number of its own: above 0 if the call returned 1, and below 0 if it returned 0.
 #[derive(Clone, Copy, Debug, PartialEq, Eq)]
 pub(crate) enum Reason {
-    /// The password fits the stored hash.
+    /// The password matches the stored hash.
     Fits,
     /// A new hash would replace the stored one.
     Outdated,
@@ -76,7 +77,7 @@ impl Reason {
         }
     }
 
-    /// Returns the reason that has the number, or `None` where no reason has it.
+    /// Returns the reason with the number, or `None` if no reason has it.
     pub(crate) fn numbered(number: i32) -> Option<Reason>
         ensures known { IfSome result (λ reason. (reason_row reason).0 ≡ number) }
         ensures unknown { IfNone result ((reason : Why) → number ≢ (reason_row reason).0) }
@@ -108,7 +109,7 @@ impl Reason {
         Some(Reason::Refused(refusal))
     }
 
-    /// Returns the reason in words.
+    /// Returns the message for the reason.
     pub(crate) fn words(self) -> &'static str
         ensures { result.now ≡ (reason_row self).1 }
     {

@@ -1,4 +1,4 @@
-//! The report of a call, and the text that it leaves in the caller's bytes.
+//! The report of a call, and the string that it leaves in the caller's bytes.
 ghost use Rattle.std.specs.Prelude.{◌≡◌, ◌↔◌, ◌⊎◌, ◌<ℤ◌, pos};
 ghost use Rattle.prims_core.specs.Work.{no_work};
 ghost use Rattle.crypt_c.specs.Reports.{Leaves, put, refused, reported, token};
@@ -6,7 +6,7 @@ ghost use Rattle.crypt_c.specs.Reports.{Leaves, put, refused, reported, token};
 use crate::reason::{Reason, Refusal};
 use prims_core::meter::Work;
 
-// What no call that hashed nothing has counted.
+// The work of a call that hashed nothing.
 const NO_WORK: Work = Work {
     digests: 0,
     bytes: 0,
@@ -15,24 +15,24 @@ const NO_WORK: Work = Work {
     scratch: 0,
 };
 
-/// What a call reports, in the form of a struct of C.
+/// The report of a call, in the layout of a C struct.
 #[repr(C)]
 #[derive(Clone, Copy, Debug, PartialEq, Eq)]
 pub struct Report {
-    /// The number of the reason: above 0 where the call returned 1, and below 0 where it returned 0.
+    /// The number of the reason: above 0 if the call returned 1, and below 0 if it returned 0.
     pub reason: i32,
-    /// The bytes of the text that was put into `out`, without the byte 0, where the call returned 1.
+    /// The number of bytes written to `out`, without the byte 0, if the call returned 1.
     pub length: u32,
     /// The greatest cost of a hash with this setting and a password of this length, once both are known to be valid.
     pub cost: u64,
-    /// What the hash took; for a bound, what it takes at most.
+    /// The work of the hash. In the report of a bound it is the greatest work.
     pub work: Work,
-    /// 0.
+    /// Always 0.
     pub reserved: u64,
 }
 
 impl Report {
-    /// Makes a report.
+    /// Returns a report with these parts.
     pub(crate) fn new(reason: Reason, length: u32, cost: u64, work: Work) -> Report
         ensures { result ≡ reported reason length cost work }
     {
@@ -45,21 +45,21 @@ impl Report {
         }
     }
 
-    /// Makes the report of a refusal before any hashing.
+    /// Returns the report of a refusal before any hashing.
     pub(crate) fn refused(refusal: Refusal, cost: u64) -> Report
         ensures { result ≡ refused refusal cost }
     {
         Report::new(Reason::Refused(refusal), 0, cost, NO_WORK)
     }
 
-    /// Makes the report of a call that hashed nothing and did what its name says.
+    /// Returns the report of a call that hashed nothing and did what its name says.
     pub(crate) fn without_work(reason: Reason, length: u32) -> Report
         ensures { result ≡ reported reason length 0 no_work }
     {
         Report::new(reason, length, 0, NO_WORK)
     }
 
-    /// Returns what the call returns: 1 where the reason is above 0, and else 0.
+    /// Returns the result of the call: 1 if the reason is above 0, else 0.
     pub(crate) fn answer(&self) -> i32
         ensures one_or_zero { (result ≡ pos 1) ⊎ (result ≡ pos 0) }
         ensures positive { result ≡ pos 1 ↔ pos 0 <ℤ self.now.reason }
@@ -68,7 +68,7 @@ impl Report {
     }
 }
 
-/// Returns what is put in the place of a hash by the setting.
+/// Returns the string that a refusal leaves in place of a hash with the setting (crypt(3)).
 pub(crate) fn token(setting: &[u8]) -> &'static [u8]
     ensures { result.now ≡ token setting.now }
 {
@@ -79,7 +79,7 @@ pub(crate) fn token(setting: &[u8]) -> &'static [u8]
     }
 }
 
-/// Puts a text and a byte 0, cut to the room.
+/// Writes a string and a byte 0 to `out`, cut to the capacity of `out`.
 pub(crate) fn put(out: &mut [u8], text: &[u8])
     ensures { out.new ≡ put text.now out.old }
 {
@@ -91,7 +91,7 @@ pub(crate) fn put(out: &mut [u8], text: &[u8])
     out[cut] = 0;
 }
 
-/// Puts a text, and returns the report.
+/// Writes a string to `out` as [`put`] does, and returns the report.
 pub(crate) fn leave(report: Report, out: &mut [u8], text: &[u8]) -> Report
     ensures { Leaves report text.now out.old result out.new }
 {

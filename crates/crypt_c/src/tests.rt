@@ -1,7 +1,7 @@
 use super::*;
 use prims_core::meter::Work;
 
-// The text of openssl-passwd(1) for "password", and what one hash by its setting takes, for a password of 8 bytes.
+// The hash of "password" from openssl-passwd(1), and the work of one hash with its setting, for a password of 8 bytes.
 const STORED: &[u8] = b"$1$xxxxxxxx$UYCIxa628.9qXjpQCjM4a.";
 
 const COST: u64 = 36239;
@@ -14,8 +14,8 @@ const WORK: Work = Work {
     scratch: 0,
 };
 
-// libxcrypt's text for the empty password by N = 16, r = 1, p = 1 and no salt, and what its hash takes: PBKDF2 digests
-// 10 messages of 948 bytes, and each of 16 rows of 128 bytes is made and read once.
+// libxcrypt's hash of the empty password with N = 16, r = 1, p = 1 and no salt, and its work. PBKDF2 digests 10
+// messages of 948 bytes, and each of 16 rows of 128 bytes is made and read once.
 const SCRYPT: &[u8] = b"$7$2/..../....$rNxJWVHNv/mCNcgE/f6/L4zO6Fos5c2uTzhyzoisI62";
 
 const SCRYPT_COST: u64 = 948 + 32 * 128;
@@ -36,7 +36,7 @@ const NO_WORK: Work = Work {
     scratch: 0,
 };
 
-// What stood in the caller's report before: nothing that a call writes.
+// The caller's report before a call, with values that no call writes.
 const OLD: Report = Report {
     reason: 77,
     length: 77,
@@ -51,7 +51,7 @@ const OLD: Report = Report {
     reserved: 77,
 };
 
-// The whole report.
+// Returns the whole report.
 fn told(reason: i32, length: u32, cost: u64, work: Work) -> Report {
     Report {
         reason,
@@ -62,7 +62,7 @@ fn told(reason: i32, length: u32, cost: u64, work: Work) -> Report {
     }
 }
 
-// Bytes that begin with a text, and dots behind it.
+// Returns bytes that begin with a string, followed by dots.
 fn with_dots(text: &[u8]) -> [u8; 128] {
     let mut bytes = [b'.'; 128];
     for (byte, new) in bytes.iter_mut().zip(text) {
@@ -95,7 +95,7 @@ fn verifies(rt: HostRuntime) {
     }
 }
 
-// What is no password and what spells no setting, each before the budget, which lets nobody in.
+// Invalid passwords and stored hashes, each refused before the budget, which lets nobody in.
 #[test]
 fn refuses_what_is_stored(rt: HostRuntime) {
     let long = [b'a'; 1025];
@@ -174,7 +174,7 @@ fn puts_a_hash_of_scrypt(rt: HostRuntime) {
     );
 }
 
-// What is no password and what spells no setting, each before the budget and the room. No token is its setting.
+// Invalid passwords and settings, each refused before the budget and the capacity. No token is its setting.
 #[test]
 fn puts_tokens(rt: HostRuntime) {
     let rows: [(usize, &[u8], &[u8], i32, &[u8]); 9] = [
@@ -208,7 +208,7 @@ fn puts_tokens(rt: HostRuntime) {
     }
 }
 
-// libxcrypt's hashes of "password" by the settings that the words make.
+// libxcrypt's hashes of "password" with the settings that the random numbers make.
 const NEW: &[u8] = b"$1$/0......$2QlZKnFqVuhWmzlYGl.px0\0";
 
 #[test]
@@ -262,7 +262,7 @@ fn puts_new_hashes(rt: HostRuntime) {
     }
 }
 
-// A refused password comes before a refused method, and that before a refused cost.
+// A refused password precedes a refused method, and that a refused cost.
 #[test]
 fn refuses_new_hashes(rt: HostRuntime) {
     let long = [b'a'; 1025];

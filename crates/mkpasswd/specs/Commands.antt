@@ -1,4 +1,4 @@
--- The whole command: from the words and the devices to the exit status.
+-- The whole command, from the arguments and the devices to the exit status.
 use Rattle.std.specs.Prelude.{◌≡◌, ℕ, ◌&&◌, zero, suc, Bool, true, false, not, List, [], ◌++◌, length, codes, Option, MatchBool, Result, Ok, Err, IfOk}
 use Rattle.std.specs.Option.{option_map_or}
 use Rattle.clap.specs.Words.{Text, kind_of}
@@ -23,46 +23,46 @@ use Rattle.mkpasswd.specs.declared.job.Plan.TheVariants.{Methods, One, Batch, Ch
 use Rattle.run_core.specs.declared.line.Kind.TheVariants as kinds
 use Rattle.run_core.specs.declared.tally.Tally.{Tally}
 
--- a plan needs a generator unless it is to list the methods
+-- A plan needs a generator unless it lists the methods.
 abbrev pub wants_generator : Plan → Bool
 wants_generator Methods = false
 wants_generator plan = true
 
--- the stream of the generator, or if there is none a stream from which nothing is drawn
+-- The random numbers are those of the generator. Without a generator nothing draws from the stream.
 abbrev pub stream_in : {R : Type 0} → (R → Stream) → Option R → Stream
 stream_in stream generator = option_map_or stream generator (record { u32_after = λ calls. 0; u64_after = λ calls. 0; bytes_after = λ calls count. [] })
 
 module _ {I O E : Type 0} where
-  -- A text is written to the output, which is flushed; if that fails, `result` is the error, and a first part of the text is
-  -- written. Only the output changes.
+  -- The command writes a text to `out` and flushes it. If that fails, `result` is the error, and a prefix of the text
+  -- is written. Only `out` changes.
   abbrev pub Prints : ℕ → List ℕ → RunState I O E → RunState I O E → Result Tally RunFault → Type 0
   Prints turns text old new result =
       Shows turns old.out new.out text result × (new ≡ record old { out = new.out }) × IfOk result (λ tally. tally ≡ tally_of [])
 
-  -- The line of a fault is written to the fault output, in at most as many calls as it has bytes; if that fails, a first part
-  -- of it is. Only the fault output changes, and the status is that of the fault.
+  -- The command writes the line of the error to `faults`, in at most as many calls as it has bytes. If that fails, a
+  -- prefix of it is written. Only `faults` changes, and the status is that of the error.
   abbrev pub Tells : Fault → RunState I O E → RunState I O E → ℕ → Type 0
   Tells fault old new status =
       let line = as_line (codes "mkpasswd: " ++ (fault_row fault).1) in
       (result : Result Tally RunFault) × Shows (length line) old.faults new.faults line result
       × (new ≡ record old { faults = new.faults }) × (status ≡ (fault_row fault).0)
 
-  -- After a run with a tally nothing changes any more, and the status is that of the tally. The fault of a run is told.
+  -- After a tally the command changes nothing more, and the status is that of the tally. It reports the error of a run.
   abbrev pub Concludes : Result Tally RunFault → RunState I O E → RunState I O E → ℕ → Type 0
   Concludes (Ok tally) old new status = (new ≡ old) × (status ≡ tally_status tally)
   Concludes (Err fault) old new status = Tells (Run fault) old new status
 
-  -- How each plan ends: the list of the methods is printed, one password is hashed, or lines are hashed or checked; within
-  -- the turns.
+  -- The run of a plan ends with this result, within the limit on I/O calls. It lists the methods, hashes one password,
+  -- or hashes or checks lines.
   abbrev pub Ends : ℕ → Plan → RunState I O E → RunState I O E → Result Tally RunFault → Type 0
   Ends turns Methods old new result = Prints turns methods_text old new result
   Ends turns (One job from) old new result = EndsOne turns job from old new result × IsWithinTurns turns old new
   Ends turns (Batch job) old new result = EndsLines turns kinds.Batch job old new result × IsWithinTurns turns old new
   Ends turns (Check job) old new result = EndsLines turns kinds.Check job old new result × IsWithinTurns turns old new
 
-  -- What an error of `clap` with this exit status leaves. Help and the version, which have status 0, are some text for the
-  -- output, and a failure to print it is told. For any other error some text goes to the fault output, and the status is
-  -- 2 even if that fails.
+  -- The command reports an error of `clap` with this exit status. If the status is 0, it writes help or the version to
+  -- `out`, and reports a failure to write it. Otherwise it writes a message to `faults`, and the status is 2 even if
+  -- that fails.
   abbrev pub ShowsError : ℕ → ℕ → RunState I O E → RunState I O E → ℕ → Type 0
   ShowsError zero turns old new status =
       (text : List ℕ) × (mid : RunState I O E) × (result : Result Tally RunFault)
@@ -71,8 +71,8 @@ module _ {I O E : Type 0} where
       (text : List ℕ) × (result : Result Tally RunFault) × Shows turns old.faults new.faults text result
       × (new ≡ record old { faults = new.faults }) × (status ≡ 2)
 
-  -- What follows from the plan or refusal of the words; `generates` says whether there is a generator. A plan that lacks the
-  -- generator that it needs is not run, but told of; any other is run, up to a state `mid`, and its result concluded.
+  -- The command runs the plan, up to a state `mid`, and concludes with its result. If the plan needs a generator, and
+  -- `generates` says that there is none, the command reports that instead. It reports refused arguments.
   abbrev pub Follows : ℕ → Bool → Result Plan UsageFault → RunState I O E → RunState I O E → ℕ → Type 0
   Follows turns generates (Ok plan) old new status =
       MatchBool (wants_generator plan && not generates) (Tells Start old new status)
@@ -80,7 +80,8 @@ module _ {I O E : Type 0} where
   Follows turns generates (Err (Parse error)) old new status = ShowsError (parse_status (kind_of error)) turns old new status
   Follows turns generates (Err fault) old new status = Tells (Usage fault) old new status
 
-  -- The words are planned, and what follows from that is done. `Plans` allows that memory runs out at any words.
+  -- The command plans the arguments, and runs the plan or reports the refusal. `Plans` allows that an allocation fails
+  -- for any arguments.
   abbrev pub Serves : ℕ → Bool → List Text → RunState I O E → RunState I O E → ℕ → Type 0
   Serves turns generates words old new status =
       (planned : Result Plan UsageFault) × Plans words planned × Follows turns generates planned old new status

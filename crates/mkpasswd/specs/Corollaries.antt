@@ -1,5 +1,4 @@
--- What follows from the clauses of `run_command`, so that nobody has to work it out: what status 0 means, and what one hash
--- in a line of words prints.
+-- Consequences of the clauses of `run_command`: what status 0 means, and what the arguments for one hash print.
 use Rattle.std.specs.Prelude.{◌≡◌, ℕ, ◌⊎◌, List, [], ◌∷◌, codes, Ok, Err}
 use Rattle.std.specs.Io.KnownBytes.{Appends, IsAtEnd}
 use Rattle.clap.specs.Words.{Text, kind_of}
@@ -31,25 +30,25 @@ use Rattle.run_core.specs.declared.line.Kind.TheVariants as kinds
 -- ---- status 0
 
 module _ {I O E : Type 0} where
-  -- The output took a text and was flushed. No call failed, and only the output changed.
+  -- `out` took this text and was flushed. No call failed, and only `out` changed.
   pub record GivesOnly (text : List ℕ) (old new : RunState I O E) : Type 0 where
     pub others : new ≡ record old { out = new.out }
     pub gives : Takes 0 1 old.out new.out text
 
-  -- A run read these bytes and gave these answers, none of which is a refusal or `no`.
+  -- A run read these bytes and wrote these answers, none of which is a rejection or the verdict `no`.
   pub record Succeeds (read : List ℕ) (answers : List Answer) (old new : RunState I O E) : Type 0 where
     pub input : Reads old.input new.input read
     pub run : Finishes answers old new (Ok (tally_of answers))
     pub status : tally_status (tally_of answers) ≡ 0
 
-  -- The input was read to its end, and each of its lines answered.
+  -- The run read the input to its end, and answered each of its lines.
   abbrev pub SucceedsByLines : Kind → Job → RunState I O E → RunState I O E → Type 0
   SucceedsByLines kind job old new =
       (bytes : List ℕ) × (answers : List Answer) × IsAtEnd new.input.shown × AreAnswers kind job 1 (lines_of bytes) old.stream answers
       × Succeeds bytes answers old new
 
-  -- All that a plan asks for was done. For the password of a word the input is unchanged; for a password of the input bytes
-  -- were read that decide it.
+  -- The command did everything that the plan asks for. If the password is an argument, the input is unchanged. If it is
+  -- in the input, the bytes that were read determine it.
   abbrev pub IsDone : Plan → RunState I O E → RunState I O E → Type 0
   IsDone Methods old new = GivesOnly methods_text old new
   IsDone (One job (Word password)) old new =
@@ -61,28 +60,28 @@ module _ {I O E : Type 0} where
   IsDone (Batch job) old new = SucceedsByLines kinds.Batch job old new
   IsDone (Check job) old new = SucceedsByLines kinds.Check job old new
 
-  -- The words ask for help or the version, and the output took some text.
+  -- The arguments ask for help or the version, and `out` took some text.
   abbrev pub IsHelped : List Text → RunState I O E → RunState I O E → Type 0
   IsHelped words old new =
       (error : Error) × Plans words (Err (Parse error)) × (parse_status (kind_of error) ≡ 0)
       × (text : List ℕ) × GivesOnly text old new
 
-  -- The words have a plan, all of which was done; or they ask for help or the version, which was printed.
+  -- The arguments have a plan, all of which was done; or they ask for help or the version, which was printed.
   abbrev pub IsWhole : List Text → RunState I O E → RunState I O E → Type 0
   IsWhole words old new =
       ((plan : Plan) × Plans words (Ok plan) × IsDone plan old new) ⊎ IsHelped words old new
 
--- ---- one hash in a line
+-- ---- one hash
 
--- The words `-m TYPE -S SALT PASSWORD`.
+-- The arguments are `-m TYPE -S SALT PASSWORD`.
 abbrev pub hash_words : Text → Text → Text → List Text
 hash_words method salt password = codes "-m" ∷ method ∷ codes "-S" ∷ salt ∷ password ∷ []
 
--- The command takes such a word for a value: it does not begin with a hyphen, or is a hyphen alone.
+-- The command takes the argument as a value. It does not begin with a hyphen, or is a single hyphen.
 abbrev pub IsNoOption : Text → Type 0
 IsNoOption word = (word ≡ codes "-") ⊎ ¬ BeginsWith word (codes "-")
 
--- The output took the hash of the password with the setting of the method, cost 0 and the salt, and a line feed.
+-- `out` took the hash of the password and a line feed. The setting of the hash has the method, cost 0 and the salt.
 abbrev pub PrintsHash : {I O E : Type 0} → Method → Text → Text → RunState I O E → RunState I O E → Type 0
 PrintsHash method salt password old new =
     Appends old.out.shown new.out.shown (as_line (crypt password (record { scheme = made_scheme method 0; salt = salt })))

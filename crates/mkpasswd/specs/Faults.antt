@@ -1,4 +1,4 @@
--- The texts and exit statuses of what can end the program early.
+-- The messages and exit statuses of the errors that end the program early.
 use Rattle.std.specs.Prelude.{ℕ, List, [], codes}
 use Rattle.clap.specs.Words.{kind_of}
 use Rattle.crypt_core.specs.SettingFaults.{make_fault_text}
@@ -9,14 +9,15 @@ use Rattle.mkpasswd.specs.declared.fault.Fault.{Fault}
 use Rattle.mkpasswd.specs.declared.fault.Fault.TheVariants.{Start, Usage, Run}
 use Rattle.mkpasswd.specs.declared.fault.UsageFault.TheVariants.{Parse, Method, TwoSalts, TwoModes, Make, OutOfMemory}
 
--- parse_status kind is the exit status after `clap`'s answer: 0 if help or the version was asked for.
+-- The exit status of `clap`'s error is 0 if the arguments ask for help or the version, else 2.
 abbrev pub parse_status : ErrorKind → ℕ
 parse_status DisplayHelp = 0
 parse_status DisplayVersion = 0
 parse_status _ = 2
 
--- fault_row fault: the exit status and the message. The status is 0 if the arguments ask for help or the version, 2 if they
--- or the password are wrong, 3 after a system error or too many turns. `clap` has messages of its own.
+-- Each error has an exit status and a message. The status is 0 if the arguments ask for help or the version. It is 2 if
+-- the arguments or the password are invalid, and 3 after a system error or too many I/O calls. `clap` has messages of
+-- its own.
 abbrev pub fault_row : Fault → ℕ × List ℕ
 fault_row Start = (3, codes "start fault")
 fault_row (Usage (Parse error)) = (parse_status (kind_of error), [])

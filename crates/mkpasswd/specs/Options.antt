@@ -1,4 +1,4 @@
--- The words after the program's name: the command, what `clap` finds in them, and what they mean.
+-- The arguments after the program's name: the command, what `clap` finds in them, and what they mean.
 use Rattle.std.specs.Prelude.{◌≡◌, ◌≢◌, ◌<◌, ◌⊎◌, ⊤, ℕ, pos, Bool, true, false, List, [], ◌∷◌, count_by, fold, map, Option, Some, None, IsSome, is_some, Result, Ok, Err, codes, unwrap_or, if◌then◌else◌}
 use Rattle.std.specs.Option.{option_map, option_map_or}
 use Rattle.std.specs.Str.{bytes_eq}
@@ -21,23 +21,23 @@ use Rattle.mkpasswd.specs.declared.fault.UsageFault.TheVariants.{Parse, Method a
 use Rattle.mkpasswd.specs.declared.job.Plan.{Plan}
 use Rattle.mkpasswd.specs.declared.job.Plan.TheVariants.{Methods, One, Batch, Check}
 
--- ---- the command, as `clap` reads it
+-- ---- the command, as `clap` parses it
 
--- an argument that takes one value
+-- The argument takes one value.
 abbrev pub value_rule : Text → Rule
 value_rule id = record (new_rule id) { action = Some Set; value_names = 1 }
 
--- an option that takes one value: its long name is its id, and it may have a short one of one character
+-- The option takes one value. Its long name is its id, and it may have a short name of one character.
 abbrev pub option_rule : Text → Option ℕ → Rule
 option_rule id letter = record (value_rule id) { short = letter; long = Some id }
 
--- a flag, whose names are those of an option
+-- The flag takes no value. Its names are those of an option.
 abbrev pub flag_rule : Text → Option ℕ → Rule
 flag_rule id letter = record (new_rule id) { action = Some SetTrue; short = letter; long = Some id }
 
--- The command has a version, and its first word is not the program's name. Its short options are `-m` (109), `-S` (83),
--- `-R` (82) and `-s` (115); the number of `-R` is at most 2^32 - 1, and that of `--budget` at most 2^64 - 1. Of the words
--- that are no options, the first is the password and the second the salt.
+-- The command has a version, and its first argument is not the program's name. Its short options are `-m` (109), `-S`
+-- (83), `-R` (82) and `-s` (115). The number of `-R` is at most 2^32 - 1, and that of `--budget` at most 2^64 - 1. Of
+-- the arguments that are no options, the first is the password and the second the salt.
 unfoldable pub command : App
 command = fold with_rule (on_top (λ s. record s { no_binary_name = true; has_version = true }) (new_app (codes "mkpasswd")))
     (option_rule (codes "method") (Some 109) ∷ option_rule (codes "salt") (Some 83)
@@ -47,41 +47,44 @@ command = fold with_rule (on_top (λ s. record s { no_binary_name = true; has_ve
     ∷ record (option_rule (codes "budget") None) { parser = Some (Unsigned 0 18446744073709551615) }
     ∷ value_rule (codes "password") ∷ value_rule (codes "salt-word") ∷ [])
 
--- ---- what `clap` finds in the words: a row for each argument that was given
+-- ---- what `clap` finds in the arguments: a row for each one that is given
 
--- the flag with this id was given
+-- The flag with this id is given.
 abbrev pub is_set : Text → List Row → Bool
 is_set id rows = option_map_or (bytes_eq (codes "true")) (one_of id rows) false
 
--- the number of the option with this id, if it was given; a plus may be before its digits
+-- The number is that of the option with this id, if it is given. A plus may precede its digits.
 abbrev pub number_in : Text → List Row → Option ℕ
 number_in id rows = option_map (λ text. digits_value 10 (without_leading_plus text)) (one_of id rows)
 
--- TYPE, the value of `-m`; the default is sha512crypt
+-- TYPE is the value of `-m`, and by default sha512crypt.
 abbrev pub type_of : List Row → Text
 type_of rows = unwrap_or (first_of (codes "method") rows) (codes "sha512crypt")
 
--- the cost, which is the number of `-R`, or 0
+-- The cost is the number of `-R`, and by default 0.
 abbrev pub cost_of : List Row → ℕ
 cost_of rows = unwrap_or (number_in (codes "rounds") rows) 0
 
--- the salt, if one was given: the value of `-S`, or else the second word
+-- The salt is the value of `-S` or else the second argument, if one is given.
 abbrev pub given_salt : List Row → Option Text
 given_salt rows = if is_some (first_of (codes "salt") rows) then first_of (codes "salt") rows else first_of (codes "salt-word") rows
 
--- how many of PASSWORD, `--stdin`, `--batch` and `--check` were given
+-- The number is how many of PASSWORD, `--stdin`, `--batch` and `--check` are given.
 abbrev pub mode_count : List Row → ℕ
 mode_count rows = count_by (λ given. given)
     (is_some (first_of (codes "password") rows) ∷ is_set (codes "stdin") rows ∷ is_set (codes "batch") rows ∷ is_set (codes "check") rows ∷ [])
 
--- ---- what the words mean
+-- ---- what the arguments mean
 
--- the refusals, in the order of their rules
+-- The refusals are in the order of their rules.
 abbrev pub usage_faults : List UsageFault
 usage_faults = UnknownMethod ∷ TwoSalts ∷ TwoModes ∷ map Make make_faults
 
--- The words break the rule of a refusal: TYPE names no method; the salt was given in both ways; more than one mode was
--- asked for; or no setting can be made of the method, the cost and the salt. `Parse` and `OutOfMemory` have no rule here.
+-- The arguments break the rule of this refusal. `Parse` and `OutOfMemory` have no rule here.
+--   UnknownMethod  TYPE names no method
+--   TwoSalts       the salt is given in both ways
+--   TwoModes       more than one mode is given
+--   Make           the method, the cost and the salt make no setting
 abbrev pub BreaksUsage : List Row → UsageFault → Type 0
 BreaksUsage rows UnknownMethod = method_named (type_of rows) ≡ None
 BreaksUsage rows TwoSalts = IsSome (first_of (codes "salt") rows) × IsSome (first_of (codes "salt-word") rows)
@@ -90,8 +93,8 @@ BreaksUsage rows (Make fault) =
     (method : Method) × (method_named (type_of rows) ≡ Some method) × BreaksMake method (cost_of rows) (given_salt rows) fault
 BreaksUsage rows fault = ⊥
 
--- The job that the words ask for: settings are made of the method, the cost and the salt; new hashes are wanted if
--- `--rehash` was given, the counts if `--work` was; and the budget is the number of `--budget`.
+-- The arguments ask for this job. It makes settings with the method, the cost and the salt. `--rehash` asks for
+-- rehashes and `--work` for counts, and the budget is the number of `--budget`.
 pub record IsJob (rows : List Row) (job : Job) : Type 0 where
   pub method : Method
   pub named : method_named (type_of rows) ≡ Some method
@@ -100,8 +103,8 @@ pub record IsJob (rows : List Row) (job : Job) : Type 0 where
   pub work : job.work ≡ is_set (codes "work") rows
   pub budget : job.budget ≡ number_in (codes "budget") rows
 
--- The plan for that job, in the mode that was asked for: the password is PASSWORD, or the first line of the input, or there are
--- lines to hash or to check. Without a mode the password comes from the input.
+-- The arguments ask for this plan: its job, in the mode that is given. The password is PASSWORD or the first line of
+-- the input, or there are lines to hash or to check. Without a mode the password is in the input.
 abbrev pub IsPlan : List Row → Plan → Type 0
 IsPlan rows (One job (Word word)) = IsJob rows job × (first_of (codes "password") rows ≡ Some word.items)
 IsPlan rows (One job Input) = IsJob rows job × ((is_set (codes "stdin") rows ≡ true) ⊎ (mode_count rows ≡ 0))
@@ -109,21 +112,21 @@ IsPlan rows (Batch job) = IsJob rows job × (is_set (codes "batch") rows ≡ tru
 IsPlan rows (Check job) = IsJob rows job × (is_set (codes "check") rows ≡ true)
 IsPlan rows Methods = ⊥
 
--- TYPE `help` asks for the list of the methods, whatever else was given. Otherwise the words mean the refusal of the first
--- rule that they break, or if they break none a plan.
+-- TYPE `help` asks for the list of the methods, whatever else is given. Otherwise the arguments mean the refusal of the
+-- first rule that they break, or a plan if they break none.
 abbrev pub Means : List Row → Result Plan UsageFault → Type 0
 Means rows (Ok Methods) = type_of rows ≡ codes "help"
 Means rows (Ok plan) = (type_of rows ≢ codes "help") × ((fault : UsageFault) → ¬ BreaksUsage rows fault) × IsPlan rows plan
 Means rows (Err fault) = (type_of rows ≢ codes "help") × IsFirstBroken usage_faults (BreaksUsage rows) fault
 
--- the command does not take the words: they call for an error of this kind, or for help or the version
+-- The command rejects the arguments. They call for an error of this kind, or for help or the version.
 pub record Refuses (words : List Text) (error : Error) : Type 0 where
   pub called_for : IsAmong (kind_of error) (fault_of command words)
   pub not_taken : takes command words ≢ true
   pub not_memory : kind_of error ≢ kind.OutOfMemory
 
--- What `plan` may answer to the words: the command refuses them, or takes them and they mean this. Memory may run out at any
--- words.
+-- `plan` may return this result. The command rejects the arguments, or it accepts them and they mean this. An
+-- allocation may fail for any arguments.
 abbrev pub Plans : List Text → Result Plan UsageFault → Type 0
 Plans words (Err (Parse error)) = Refuses words error
 Plans words (Err OutOfMemory) = ⊤

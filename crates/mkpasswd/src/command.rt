@@ -1,4 +1,4 @@
-//! The whole command: the words are planned, the plan is run, and what went wrong is told.
+//! The whole command: it plans the arguments, runs the plan, and reports errors.
 ghost use Rattle.std.specs.Prelude.{◌≡◌, ℕ, ◌^◌, ◌<◌, ◌≤◌, List, Some, is_some, map, string_bytes};
 ghost use Rattle.crypt_core.specs.Methods.{method_named};
 ghost use Rattle.crypt_core.specs.declared.method.Method.{Method};
@@ -26,26 +26,32 @@ use run_core::transfer::show;
 use std::alloc::Global;
 use std::io::{Read, Write};
 
-// Room for a fault's line, of which the longest has 35 bytes.
+// The capacity for the line of an error, of which the longest has 35 bytes.
 const FAULT_LINE_ROOM: usize = 80;
 
-/// Does what the words after the program's name ask for, and answers the exit status: 0 where all was done, 1 where a
-/// line was refused or answered `no`, 2 where the words or the password are wrong, and 3 where the machine refused or the
-/// turns ran out.
+/// Runs the command with the arguments after the program's name, and returns the exit status.
 ///
-/// The words are planned by [`plan`], and a plan is run by [`run_methods`], [`run_one`], [`run_batch`] or
-/// [`run_check`]. Its fault goes to the fault output, as `mkpasswd: TEXT` and a line
-/// feed. For words that `clap` refuses `clap`'s own text goes to the output that `clap` names for it: help and the
-/// version to the output, and any other to the fault output.
+/// - 0: everything was done, or help or the version was printed.
+/// - 1: a line was rejected or got the verdict `no`.
+/// - 2: the arguments or the password are invalid.
+/// - 3: a system error occurred, an allocation failed, or the run needs too many I/O calls.
 ///
-/// - Without a generator the list of the methods, help and each refusal of the words are as with one. A plan that hashes
-///   is not run, which is told as `start fault`.
-/// - Where the fault output fails, the status is all that is left. Where help or the version can't be given whole, that
-///   is a fault of its own, status 3.
-/// - At most `turns` calls to move bytes are made in a run, or to give `clap`'s text. The line of a fault is not among
-///   them: it takes no more calls than it has bytes.
+/// [`plan`] plans the arguments, and [`run_methods`], [`run_one`], [`run_batch`] or [`run_check`] runs the plan. After
+/// an error `faults` gets `mkpasswd: MESSAGE` and a line feed. If `clap` rejects the arguments, `faults` gets its own
+/// message instead. Help and the version go to `out`.
 ///
-/// It wants at most 2^40 turns, counts of the meter of at most 2^100, and numbers of the devices of at most 2^62.
+/// Without a generator a plan that hashes is not run, and the message is `start fault`. The list of the methods, help,
+/// the version and invalid arguments need no generator. If the message about an error cannot be written, the status
+/// alone reports the error. If help or the version cannot be written in full, that is an error with status 3.
+///
+/// The run, or `clap`'s message, takes at most `turns` I/O calls. The line of an error is not among them, and takes at
+/// most as many calls as it has bytes.
+///
+/// For example, the arguments `-m md5crypt -S xxxxxxxx password` write `$1$xxxxxxxx$UYCIxa628.9qXjpQCjM4a.` and a line
+/// feed to `out`, and the status is 0.
+///
+/// Preconditions: `turns` is at most 2^40, each count of the meter at most 2^100, and each count of the devices at most
+/// 2^62.
 pub fn run_command<I: Read, O: Write, E: Write, R: Rng>(
     alloc: Global,
     words: &[String],
@@ -83,7 +89,7 @@ pub fn run_command<I: Read, O: Write, E: Write, R: Rng>(
     }
 }
 
-// Runs a plan. `Start` is answered where it wants a generator and there is none; then nothing was done.
+// Runs a plan. If it needs a generator and there is none, the error is `Start`, and nothing is done.
 fn run_plan<I: Read, O: Write, E: Write, R: Rng>(
     alloc: Global,
     plan: &Plan,
@@ -118,7 +124,7 @@ fn run_plan<I: Read, O: Write, E: Write, R: Rng>(
     }
 }
 
-// Tells why the words have no plan: `clap`'s own text, or the line of the fault.
+// Reports why the arguments have no plan, with `clap`'s message or the line of the error, and returns the exit status.
 fn show_refusal<O: Write, E: Write>(
     alloc: Global,
     fault: UsageFault,
@@ -141,7 +147,7 @@ fn show_refusal<O: Write, E: Write>(
     }
 }
 
-// Gives the text of `clap`'s error to the output that `clap` names for it.
+// Writes the message of `clap`'s error to the output that `clap` names for it, and returns the exit status.
 fn show_error<O: Write, E: Write>(
     alloc: Global,
     error: &clap::Error,
@@ -167,11 +173,12 @@ fn show_error<O: Write, E: Write>(
     }
 }
 
-/// Tells a fault on the fault output, as `mkpasswd: TEXT` and a line feed, which is flushed, and answers its status. That
-/// is as well as the output takes it, in at most as many calls as the line has bytes: where it fails, the status is all
-/// that is left. After `Parse` TEXT is empty, since `clap` has the text.
+/// Writes the line of an error, `mkpasswd: MESSAGE`, to `faults`, flushes it, and returns the error's exit status.
 ///
-/// The output's numbers have to leave room for these calls, as they do behind a run.
+/// It makes at most as many writes as the line has bytes. If one of them fails, the status alone reports the error.
+/// After `Parse` MESSAGE is empty, because `clap` has the message.
+///
+/// Precondition: the counts of `faults` are within the limits that a run leaves.
 pub fn report_fault<E: Write>(fault: &Fault, faults: &mut Output<E>) -> u8
     requires room { HasRoomWithinRun faults.old }
     ensures told { IsTold fault.now faults.old faults.new }
@@ -182,7 +189,7 @@ pub fn report_fault<E: Write>(fault: &Fault, faults: &mut Output<E>) -> u8
     fault.status()
 }
 
-// The line of a fault.
+// Returns the line of an error: `mkpasswd: MESSAGE` and a line feed.
 fn fault_line(fault: &Fault) -> ArrayVec<u8, FAULT_LINE_ROOM>
     ensures { result.items ≡ fault_line fault.now }
 {

@@ -1,5 +1,5 @@
-//! What can end the program early, with the text and the exit status of each fault. The text is
-//! without the program's name; a request for help or the version is a fault too, of status 0.
+//! The errors that end the program early, each with its message and exit status. The message does not include the
+//! program's name. A request for help or the version is an error with status 0.
 ghost use Rattle.std.specs.Prelude.{◌≡◌, ◌≢◌};
 ghost use Rattle.std.specs.IoError.{error_kind};
 ghost use Rattle.clap.specs.Words.{kind_of};
@@ -12,25 +12,25 @@ use std::alloc::AllocError;
 use std::io;
 use thiserror::Error;
 
-/// Why the words after the program's name give no plan.
+/// The reason why the arguments after the program's name have no plan.
 #[derive(Debug, Drop, Error)]
 pub enum UsageFault {
-    /// `clap` did not take the words, or shows help or the version. The user is shown its own text.
+    /// `clap` rejects the arguments, or they ask for help or the version. Its own message is printed.
     #[error("{0}")]
     Parse(clap::Error),
     /// TYPE names no method.
     #[error("{}", self.text())]
     Method,
-    /// The salt was given twice, by `-S` and as a word.
+    /// The salt is given twice, with `-S` and as an argument.
     #[error("{}", self.text())]
     TwoSalts,
-    /// More than one of PASSWORD, `-s`, `--batch` and `--check` was given.
+    /// More than one of PASSWORD, `-s`, `--batch` and `--check` is given.
     #[error("{}", self.text())]
     TwoModes,
-    /// The method, the cost and the salt that was given don't go together.
+    /// The method does not accept the cost or the given salt.
     #[error("{}", self.text())]
     Make(MakeFault),
-    /// Memory ran out.
+    /// An allocation failed.
     #[error("{}", self.text())]
     OutOfMemory,
 }
@@ -39,8 +39,7 @@ impl UsageFault {
     ghost use Rattle.mkpasswd.specs.Faults.{fault_row};
     ghost use Rattle.mkpasswd.specs.declared.fault.Fault.TheVariants.{Usage};
 
-    /// The exit status: 0 after help or the version, 2 after a mistake in the words, and 3 where
-    /// memory ran out.
+    /// Returns the exit status: 0 for help and the version, 2 for invalid arguments, 3 if an allocation failed.
     pub fn status(&self) -> u8
         ensures { result ≡ (fault_row (Usage self.now)).0 }
     {
@@ -54,7 +53,7 @@ impl UsageFault {
         }
     }
 
-    /// What is wrong, in words for the user. It is empty after `Parse`, where `clap` has the text.
+    /// Returns the message for users. It is empty for `Parse`, for which `clap` has the message.
     pub fn text(&self) -> &'static str
         ensures { result.now ≡ (fault_row (Usage self.now)).1 }
     {
@@ -104,22 +103,26 @@ impl From<AllocError> for UsageFault {
     }
 }
 
-/// What keeps the program from its answer.
+/// The error that ends the program early.
 #[derive(Debug, Drop)]
 pub enum Fault {
-    /// The arguments can't be read as text, or a plan that hashes lacks a generator, since the system gave no seed.
+    /// The arguments cannot be read as text, or a plan that hashes has no generator.
+    ///
+    /// The system returned no seed for the generator.
     Start,
-    /// The words give no plan, or memory ran out.
+    /// The arguments have no plan, or an allocation failed.
     Usage(UsageFault),
-    /// The run ended with a fault.
+    /// The run ended with an error.
     Run(RunFault),
 }
 
 impl Fault {
     ghost use Rattle.mkpasswd.specs.Faults.{fault_row};
 
-    /// The exit status: 2 after a mistake in the words or the password, 3 where the machine refused or the turns ran
-    /// out, and 0 after help or the version.
+    /// Returns the exit status.
+    ///
+    /// It is 0 for help and the version, 2 for invalid arguments or an invalid password, and 3 for a system error or
+    /// too many I/O calls.
     pub fn status(&self) -> u8
         ensures { result ≡ (fault_row self.now).0 }
     {
@@ -130,7 +133,7 @@ impl Fault {
         }
     }
 
-    /// What went wrong, in words for the user. It is empty where `clap` has the text.
+    /// Returns the message for users. It is empty if `clap` has the message.
     pub fn text(&self) -> &'static str
         ensures { result.now ≡ (fault_row self.now).1 }
     {

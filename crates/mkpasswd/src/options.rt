@@ -1,5 +1,5 @@
-//! The words after the program's name: the command that `clap` reads them by, and what they ask the
-//! program to do. Each refusal has its place in one order; want of memory comes where it arises.
+//! The arguments after the program's name: the command with which `clap` parses them, and the plan that they ask for.
+//! The refusals have one order. Only `OutOfMemory` has no place in it: it occurs at the allocation that failed.
 ghost use Rattle.std.specs.Prelude.{◌≡◌, ◌≢◌, List, [], None, Some, codes, false, fold, map, string_bytes};
 ghost use Rattle.std.specs.Prelude.{IfErr, IfOk, MatchOption};
 ghost use Rattle.clap.specs.Words.{Row, app_of, fault_of, kind_of, matches_of, rule_of, with_rule};
@@ -17,13 +17,13 @@ use crypt_core::version::VERSION;
 use run_core::line::Kind;
 use std::alloc::{AllocError, Global};
 
-// The TYPE of words without `-m`.
+// The TYPE of arguments without `-m`.
 const DEFAULT_TYPE: &str = "sha512crypt";
 
-// What help ends with.
+// The last line of help.
 const AFTER_HELP: &str = "A password that begins with '-' is handed in by --stdin.";
 
-// The values of the options and words.
+// The values of the options and arguments.
 #[derive(Clone, Copy)]
 struct Arguments<'a> {
     method: Option<&'a str>,
@@ -39,7 +39,7 @@ struct Arguments<'a> {
     password: Option<&'a str>,
 }
 
-// What a plan does: it hashes the password of a word or that of the input, or hashes or checks lines.
+// The mode of a plan: hashing the password of an argument or of the input, or hashing or checking lines.
 #[derive(Clone, Copy)]
 enum Mode<'a> {
     Word(&'a str),
@@ -47,17 +47,22 @@ enum Mode<'a> {
     Lines(Kind),
 }
 
-/// Says what the words after the program's name ask for. It answers the first of these refusals that
-/// holds:
+/// Returns the plan that the arguments after the program's name ask for.
 ///
-/// - `Parse`: the words are not the command's, or ask for help or the version;
-/// - `Method`: TYPE names no method, nor is it `help`;
-/// - `TwoSalts`: the salt is given by `-S` and as a word;
-/// - `TwoModes`: more than one of PASSWORD, `-s`, `--batch` and `--check` is given;
-/// - `Make`: `Maker::new` refuses the method, the cost and the salt.
+/// TYPE `help` asks for the list of the methods, whatever else is given. For example, `-m help` plans `Plan::Methods`,
+/// and `--check --work` plans `Plan::Check` with the default method.
 ///
-/// TYPE `help` asks for the list of methods, whatever else is given. `OutOfMemory` comes at the growth
-/// that was refused, before any check after it.
+/// # Errors
+///
+/// The first rule that the arguments break:
+///
+/// - `Parse`: `clap` rejects the arguments, or they ask for help or the version.
+/// - `Method`: TYPE names no method, and is not `help`.
+/// - `TwoSalts`: the salt is given with `-S` and as an argument.
+/// - `TwoModes`: more than one of PASSWORD, `-s`, `--batch` and `--check` is given.
+/// - `Make`: [`Maker::new`] rejects the method, the cost and the salt.
+///
+/// If an allocation fails, the error is `OutOfMemory` instead of any later check.
 pub fn plan(alloc: Global, words: &[String]) -> Result<Plan, UsageFault>
     ensures { Plans (map string_bytes words.now) result }
 {
@@ -85,7 +90,7 @@ pub fn plan(alloc: Global, words: &[String]) -> Result<Plan, UsageFault>
     })
 }
 
-// Reads the words by the command. An error is `clap`'s own; where memory runs out, its kind says so.
+// Parses the arguments with the command. The error is `clap`'s own. If an allocation failed, its kind is `OutOfMemory`.
 fn read_words<'a>(alloc: Global, words: &'a [String]) -> Result<Arguments<'a>, clap::Error>
     ensures taken { IfOk result (λ given. fault_of command (map string_bytes words.entry.now) ≡ []) }
     ensures ok { IfOk result (Keeps (matches_of command (map string_bytes words.entry.now))) }
@@ -93,7 +98,7 @@ fn read_words<'a>(alloc: Global, words: &'a [String]) -> Result<Arguments<'a>, c
         → Refuses (map string_bytes words.entry.now) error) }
 {
     let matches = command(alloc)?.try_get_matches_from(words)?;
-    // `get_flag` says nothing about a value that is no `bool`.
+    // The contract of `get_flag` does not cover a value that is not a `bool`.
     Ok(Arguments {
         method: matches.get_str("method"),
         salt: matches.get_str("salt"),
@@ -109,7 +114,7 @@ fn read_words<'a>(alloc: Global, words: &'a [String]) -> Result<Arguments<'a>, c
     })
 }
 
-// The method that TYPE names, or `None` where it asks for the list of methods.
+// Returns the method that TYPE names, or `None` if TYPE asks for the list of the methods.
 fn one_method(given: &Arguments<'_>) -> Result<Option<Method>, UsageFault>
     ensures known { (rows : List Row) → Keeps rows given.now
         → IfOk result (λ method. MatchOption method (type_of rows ≡ codes "help") (Names rows)) }
@@ -126,7 +131,7 @@ fn one_method(given: &Arguments<'_>) -> Result<Option<Method>, UsageFault>
     }
 }
 
-// The salt that was given, in one of the two ways at most.
+// Returns the salt, which may be given in at most one of the two ways.
 fn one_salt<'a>(given: &Arguments<'a>) -> Result<Option<&'a [u8]>, UsageFault>
     ensures once { (rows : List Row) → Keeps rows given.now
         → IfOk result (λ salt. (¬ BreaksUsage rows UsageFault.TwoSalts) × (bytes_of salt ≡ given_salt rows)) }
@@ -140,7 +145,7 @@ fn one_salt<'a>(given: &Arguments<'a>) -> Result<Option<&'a [u8]>, UsageFault>
     }
 }
 
-// The mode that was asked for, or the input where none was.
+// Returns the mode, which is the input if none is given.
 fn one_mode<'a>(given: &Arguments<'a>) -> Result<Mode<'a>, UsageFault>
     ensures one { (rows : List Row) → Keeps rows given.now
         → IfOk result (λ mode. (¬ BreaksUsage rows UsageFault.TwoModes) × AsksFor rows mode) }
@@ -159,7 +164,7 @@ fn one_mode<'a>(given: &Arguments<'a>) -> Result<Mode<'a>, UsageFault>
     })
 }
 
-// The command that the words are read by, with its help.
+// Returns the command with which the arguments are parsed, with its help.
 fn command<'a>(alloc: Global) -> Result<Command<'a>, AllocError>
     ensures { IfOk result (λ made. app_of made ≡ command) }
 {
@@ -177,7 +182,7 @@ fn command<'a>(alloc: Global) -> Result<Command<'a>, AllocError>
         .arg(salt_word)
 }
 
-// Adds the options on what is hashed, and how.
+// Adds the options for the method, the salt, the cost and the source of the password.
 fn with_hash_options<'a>(alloc: Global, command: Command<'a>) -> Result<Command<'a>, AllocError>
     ensures { IfOk result (λ made. app_of made ≡ fold with_rule (app_of command.entry) hash_rules) }
 {
@@ -200,7 +205,7 @@ fn with_hash_options<'a>(alloc: Global, command: Command<'a>) -> Result<Command<
     command.arg(method)?.arg(salt)?.arg(rounds)?.arg(stdin)
 }
 
-// Adds the options on what is done with lines, and on what is told.
+// Adds the options for lines and for what is printed.
 fn with_line_options<'a>(alloc: Global, command: Command<'a>) -> Result<Command<'a>, AllocError>
     ensures { IfOk result (λ made. app_of made ≡ fold with_rule (app_of command.entry) line_rules) }
 {
@@ -228,7 +233,7 @@ fn with_line_options<'a>(alloc: Global, command: Command<'a>) -> Result<Command<
         .arg(budget)
 }
 
-// A flag whose long name is its id.
+// Returns a flag whose long name is its id.
 fn flag<'a>(alloc: Global, id: &'a str) -> Arg<'a>
     ensures rule { rule_of result ≡ flag_rule id.entry.now None }
     ensures local { result.global ≡ false }
@@ -236,7 +241,7 @@ fn flag<'a>(alloc: Global, id: &'a str) -> Arg<'a>
     Arg::new(alloc, id).long(id).action(ArgAction::SetTrue)
 }
 
-// A word that is one value, or the value of an option whose long name is its id.
+// Returns an argument that takes one value. With a long name it is an option.
 fn word<'a>(alloc: Global, id: &'a str, value_name: &'a str) -> Arg<'a>
     ensures rule { rule_of result ≡ value_rule id.entry.now }
     ensures local { result.global ≡ false }

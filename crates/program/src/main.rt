@@ -1,5 +1,5 @@
 //! The program mkpasswd: what only a process has, which is its arguments, the standard devices, the system's seed and
-//! an exit status. All else is the library's.
+//! an exit status. Everything else is in the library.
 #![tactic(auto)]
 
 use mkpasswd::command::{report_fault, run_command};
@@ -11,12 +11,12 @@ use rand::rngs::StdRng;
 use std::env;
 use std::process::ExitCode;
 
-// How many calls to move bytes a run may make of its devices.
+// The limit on the I/O calls of a run.
 const TURNS: u64 = 1 << 40;
 
 fn main(rt: HostRuntime) -> ExitCode {
     let mut faults = Output::new(rt.stderr());
-    // The words after the program's name.
+    // The arguments after the program's name.
     let words: Result<Vec<String>, Fault> = match env::args(&rt) {
         Ok(mut words) => {
             let _ = words.next();

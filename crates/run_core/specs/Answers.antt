@@ -1,4 +1,4 @@
--- What is answered to one item, a password or a line, and what that takes.
+-- The answer to one item, a password or a line, and the hashes that it takes.
 use Rattle.std.specs.Prelude.{◌≡◌, Bool, ℕ, List, [], ◌∷◌, ◌++◌, length, fold, count_by, flat_map, decimal, codes, if◌then◌else◌, true, false}
 use Rattle.rand_core.specs.Stream.{Stream}
 use Rattle.prims_core.specs.Work.{no_work}
@@ -14,30 +14,31 @@ use Rattle.run_core.specs.declared.answer.Outcome.TheVariants.{Hashed, Match, Re
 use Rattle.run_core.specs.declared.job.Job.{Job}
 use Rattle.run_core.specs.declared.tally.Tally.{Tally}
 
--- ---- the hashes behind answers
+-- ---- the hashes for an answer
 
--- A hash that is made.
---   password  what is hashed
---   setting   by what
---   stream    the random numbers that are left when it begins
+-- A `Hashing` is one hash that a run makes.
+--   password  the password
+--   setting   the setting of the hash
+--   stream    the random numbers that are left when hashing begins
 pub record Hashing : Type 0 where
   pub password : List ℕ
   pub setting : SettingValue
   pub stream : Stream
 
--- hashing password kept stream is the same from its parts.
+-- hashing password kept stream is the `Hashing` with these parts.
 abbrev pub hashing : List ℕ → SettingValue → Stream → Hashing
 hashing password kept stream = record { password = password; setting = kept; stream = stream }
 
--- after_work counts made are the counts after the work of these hashes, from `counts` on.
+-- after_work counts made is `counts` raised by the work of these hashes.
 abbrev pub after_work : Work → List Hashing → Work
 after_work counts made = fold (λ before next. raised_by before (work next.password next.setting)) counts made
 
--- stream_left stream made are the random numbers that these hashes leave of `stream`.
+-- stream_left stream made is what these hashes leave of the random numbers `stream`.
 abbrev pub stream_left : Stream → List Hashing → Stream
 stream_left stream made = fold (λ before next. next.stream) stream made
 
--- IsRefusedAmong before hashings after stream: memory was refused for one of these hashes, and the ones before it were made.
+-- IsRefusedAmong before hashings after stream: scrypt could not allocate for one of these hashes, and the ones before
+-- it were made.
 --   before, after  the counts
 --   stream         the random numbers that are left
 abbrev pub IsRefusedAmong : Work → List Hashing → Work → Stream → Type 0
@@ -47,38 +48,39 @@ IsRefusedAmong before hashings after stream =
 
 -- ---- answers
 
--- An answer to a password or a line.
---   text      what is written
---   outcome   what it stands for
---   hashings  the hashes that are made for it, in order
+-- An `Answer` is what a run returns for a password or a line.
+--   text      the bytes that it writes
+--   outcome   the outcome that these bytes render
+--   hashings  the hashes that it makes, in order
 pub record Answer : Type 0 where
   pub text : List ℕ
   pub outcome : Outcome
   pub hashings : List Hashing
 
--- A refusal goes to the fault output, and every other answer to the output.
+-- is_refusal outcome is true if the line is rejected. Its message is written to `faults`, and every other text to
+-- `out`.
 abbrev pub is_refusal : Outcome → Bool
 is_refusal (Refused fault) = true
 is_refusal outcome = false
 
--- The password doesn't match its stored hash.
+-- is_misfit outcome is true if the password does not match its stored hash.
 abbrev pub is_misfit : Outcome → Bool
 is_misfit Mismatch = true
 is_misfit outcome = false
 
--- texts answers is what these answers give to the output, one after another.
+-- texts answers is what these answers write to `out`, one after another.
 abbrev pub texts : List Answer → List ℕ
 texts answers = flat_map (λ answer. if is_refusal answer.outcome then [] else answer.text) answers
 
--- fault_texts answers is what they give to the fault output.
+-- fault_texts answers is what these answers write to `faults`, one after another.
 abbrev pub fault_texts : List Answer → List ℕ
 fault_texts answers = flat_map (λ answer. if is_refusal answer.outcome then answer.text else []) answers
 
--- hashings_of answers are the hashes that are made for them, in order.
+-- hashings_of answers is the list of the hashes that are made for them, in order.
 abbrev pub hashings_of : List Answer → List Hashing
 hashings_of answers = flat_map (λ answer. answer.hashings) answers
 
--- tally_of answers is how many they are, how many of them are refusals, and how many are `no`.
+-- tally_of answers is their number, the number of rejected lines, and the number of verdicts `no`.
 abbrev pub tally_of : List Answer → Tally
 tally_of answers = record {
   lines = length answers;
@@ -88,7 +90,7 @@ tally_of answers = record {
 
 -- ---- texts
 
--- rendered outcome is what stands after a name, without the counts.
+-- rendered outcome is the outcome as it is printed, without the name and the counts.
 abbrev pub rendered : Outcome → List ℕ
 rendered (Hashed hash) = hash
 rendered Match = codes "ok"
@@ -98,7 +100,8 @@ rendered NoHash = codes "none"
 rendered Locked = codes "locked"
 rendered (Refused fault) = line_fault_text fault
 
--- counts_text wanted made has a colon and a number for each of four counts of the work of these hashes, if they are wanted.
+-- counts_text wanted made is a colon and a decimal number for each of four counts of the work of these hashes. It is
+-- empty if `wanted` is false.
 abbrev pub counts_text : Bool → List Hashing → List ℕ
 counts_text wanted made =
     let work = after_work no_work made in
@@ -106,16 +109,16 @@ counts_text wanted made =
 
 -- ---- the hash of a password
 
--- new_hash job password stream is the hash that crypt(3) gives with the next setting that the job makes.
+-- new_hash job password stream is the hash of the password (crypt(3)) with the next setting of the job.
 abbrev pub new_hash : Job → List ℕ → Stream → List ℕ
 new_hash job password stream = crypt password (next_setting job.maker stream)
 
--- new_hashing job password stream is how it is made: the random numbers for its setting are drawn first.
+-- new_hashing job password stream is the `Hashing` of that hash. The random numbers for its setting are drawn first.
 abbrev pub new_hashing : Job → List ℕ → Stream → Hashing
 new_hashing job password stream = hashing password (next_setting job.maker stream) (stream_after job.maker stream)
 
--- password_answer job password stream is the line for a single password: its hash, and the counts of its work if the job
--- wants them.
+-- password_answer job password stream is the answer to a single password: its hash, and the counts of its work if the
+-- job asks for them.
 abbrev pub password_answer : Job → List ℕ → Stream → Answer
 password_answer job password stream =
     let hash = new_hash job password stream in

@@ -1,9 +1,9 @@
--- What single calls of a device leave. Of public clauses only those of the wrappers cite this.
+-- The effect of single device calls. Of the public clauses only those of the wrappers cite these definitions.
 use Rattle.std.specs.Prelude.{◌≡◌, ℕ, ◌+◌, ◌==◌, ◌&&◌, Bool, true, false, nat_lt, List, length, Option, Result, Ok, Err, refl, if◌then◌else◌}
 use Rattle.std.specs.Coded.{Coded, code_by, coded×, coded_ℕ, coded_list, coded_option}
 use Rattle.run_core.specs.Devices.{Device}
 
--- A device is stored as its parts.
+-- device_code code encodes a device as its parts.
 abbrev pub device_code : {T : Type 0} → Coded T → Coded (Device T)
 device_code {T} code =
     code_by (T × (Option (List ℕ) × (ℕ × (ℕ × (ℕ × (ℕ × (ℕ × ℕ)))))))
@@ -20,44 +20,47 @@ device_code {T} code =
       flushed = p.1.1.1.1.1.1.1;
     }) (λ _. refl)
 
--- new_device inner shown is the device `inner`, which shows these bytes, before any call.
+-- new_device inner shown is the device `inner` with the contents `shown`, before any call.
 abbrev pub new_device : {T : Type 0} → T → Option (List ℕ) → Device T
 new_device inner shown = record { inner = inner; shown = shown; failures = 0; calls = 0; bytes = 0; idle = 0; flushes = 0; flushed = 0 }
 
--- as_count seen is 1 if the test holds, else 0.
+-- as_count seen is 1 if `seen` is true, else 0.
 abbrev pub as_count : Bool → ℕ
 as_count seen = if seen then 1 else 0
 
--- A `give` of `piece` fails if its call fails, or if it takes nothing of a piece that isn't empty.
+-- is_failed_give result piece is true if a `give` of `piece` fails: its call fails, or it takes no byte of a piece with
+-- at least one.
 abbrev pub is_failed_give : {E : Type 0} → Result ℕ E → List ℕ → Bool
 is_failed_give (Ok count) piece = count == 0 && nat_lt 0 (length piece)
 is_failed_give (Err e) piece = true
 
--- A call is idle if it moves nothing and doesn't fail: a `fetch` that gives nothing, and a `give` of an empty piece.
+-- is_idle_fetch result is true if a `fetch` returns no byte and does not fail.
 abbrev pub is_idle_fetch : {E : Type 0} → Result ℕ E → Bool
 is_idle_fetch (Ok count) = count == 0
 is_idle_fetch (Err e) = false
 
+-- is_idle_give result piece is true if a `give` of an empty piece does not fail.
 abbrev pub is_idle_give : {E : Type 0} → Result ℕ E → List ℕ → Bool
 is_idle_give (Ok count) piece = count == 0 && length piece == 0
 is_idle_give (Err e) piece = false
 
--- moved_by result is how many bytes a `fetch` gave or a `give` took.
+-- moved_by result is the number of bytes that a `fetch` returned or a `give` took.
 abbrev pub moved_by : {E : Type 0} → Result ℕ E → ℕ
 moved_by (Ok count) = count
 moved_by (Err e) = 0
 
--- No flush was tried.
+-- IsUnflushed old new: no flush was tried.
 pub record IsUnflushed {T : Type 0} (old new : Device T) : Type 0 where
   pub flushes : new.flushes ≡ old.flushes
   pub flushed : new.flushed ≡ old.flushed
 
--- One flush was tried, after all bytes had been moved, and is kept as one that worked; that it did is seen in `failures`.
+-- IsFlushed old new: one flush was tried after all bytes had been moved, and it is recorded as successful. Whether it
+-- succeeded shows in `failures`.
 pub record IsFlushed {T : Type 0} (old new : Device T) : Type 0 where
   pub flushes : new.flushes ≡ old.flushes + 1
   pub flushed : new.flushed ≡ new.bytes
 
--- One flush was tried, and is not kept as one that worked.
+-- FailsToFlush old new: one flush was tried, and it is not recorded as successful.
 pub record FailsToFlush {T : Type 0} (old new : Device T) : Type 0 where
   pub flushes : new.flushes ≡ old.flushes + 1
   pub flushed : new.flushed ≡ old.flushed

@@ -1,4 +1,4 @@
--- What a line comes to, by the parts that it has, and the answers to the lines of an input.
+-- The outcome of a line, depending on its parts, and the answers to the lines of an input.
 use Rattle.std.specs.Prelude.{◌≡◌, ◌≢◌, ℕ, ◌+◌, ◌⊎◌, ⊤, List, [], ◌∷◌, ◌++◌, length, codes, decimal, true, false, Some, None}
 use Rattle.rand_core.specs.Stream.{Stream}
 use Rattle.crypt_core.specs.Crypt.{crypt}
@@ -16,17 +16,18 @@ use Rattle.run_core.specs.declared.line.Kind.{Kind}
 use Rattle.run_core.specs.declared.line.LineFault.{LineFault}
 use Rattle.run_core.specs.declared.line.LineFault.TheVariants.{OverBudget}
 
--- ---- what a line comes to
+-- ---- the outcome of a line
 
--- HasCost job parts number: the greatest cost of these parts. Without a field it is that of the hash of the password with a
--- setting that the job makes, and otherwise that of the check with the setting that the field spells.
+-- HasCost job parts number: the greatest cost of these parts is `number`. Without a field it is the cost of hashing the
+-- password with a setting that the job makes. Otherwise it is the cost of the check with the setting that the field
+-- spells.
 abbrev pub HasCost : Job → Parts → ℕ → Type 0
 HasCost job parts number =
     ((parts.field ≡ None) × (number ≡ made_cost_by job.maker (length parts.password)))
     ⊎ ((field : List ℕ) × (kept : SettingValue) × (parts.field ≡ Some field) × Spells field kept
     × (number ≡ check_cost job kept (length parts.password)))
 
--- IsCostly kind job line: the line breaks no rule, and costs more than the budget.
+-- IsCostly kind job line: the line breaks no rule, and can cost more than the budget.
 pub record IsCostly (kind : Kind) (job : Job) (line : List ℕ) : Type 0 where
   pub parts : Parts
   pub sound : IsSound kind line
@@ -35,17 +36,18 @@ pub record IsCostly (kind : Kind) (job : Job) (line : List ℕ) : Type 0 where
   pub cost : HasCost job parts number
   pub above : IsAbove job.budget number
 
--- HasSetting parts field kept: there is a field, and it spells this setting.
+-- HasSetting parts field kept: the parts have this field, and it spells this setting.
 abbrev pub HasSetting : Parts → List ℕ → SettingValue → Type 0
 HasSetting parts field kept = (parts.field ≡ Some field) × Spells field kept
 
--- ComesTo job parts stream outcome made: what a line with these parts comes to, and the hashes that are made for it, in
--- order.
---   Hashed          there is no field, and the password is hashed, with a setting that the job makes
---   NoHash, Locked  the field is empty, or begins with `!` or `*`
---   Match           the field spells a setting that is not out of date, and the password's hash with it is the field
---   Rehashed        likewise, but the setting is out of date, so the password is hashed again
---   Mismatch        the field spells a setting, and the password's hash with it is another
+-- ComesTo job parts stream outcome made: a line with these parts has this outcome. The hashes `made` are made for it,
+-- in order.
+--   Hashed    there is no field, and the password is hashed with a setting that the job makes
+--   NoHash    the field is empty
+--   Locked    the field begins with `!` or `*`
+--   Match     hashing the password with the setting in the field reproduces the field, which is not out of date
+--   Rehashed  likewise, but the setting is out of date, so the password is hashed again
+--   Mismatch  hashing the password with the setting in the field does not reproduce the field
 abbrev pub ComesTo : Job → Parts → Stream → Outcome → List Hashing → Type 0
 ComesTo job parts stream (Hashed hash) made =
     (parts.field ≡ None) × (hash ≡ new_hash job parts.password stream) × (made ≡ new_hashing job parts.password stream ∷ [])
@@ -62,7 +64,7 @@ ComesTo job parts stream (Refused fault) made = ⊥
 
 -- ---- answers
 
--- refusal number fault is the refusal of the line with this number, which draws no random number and makes no hash.
+-- refusal number fault is the answer to a rejected line with this number. It draws no random number and makes no hash.
 abbrev pub refusal : ℕ → LineFault → Answer
 refusal number fault = record {
   text = as_line (codes "mkpasswd: line " ++ decimal number ++ codes ": " ++ rendered (Refused fault));
@@ -70,8 +72,9 @@ refusal number fault = record {
   hashings = [];
 }
 
--- IsAnswer kind job number line stream answer: the answer to the line with this number. It is a refusal for the first rule
--- that the line breaks; or a refusal because the line costs more than the budget; or the name, and what the line comes to.
+-- IsAnswer kind job number line stream answer: this is the answer to the line with this number. If the line breaks a
+-- rule, it is the refusal for the first one. If the line breaks none but can cost more than the budget, it is the
+-- refusal for that. Otherwise it is the name and the outcome of the line.
 abbrev pub IsAnswer : Kind → Job → ℕ → List ℕ → Stream → Answer → Type 0
 IsAnswer kind job number line stream answer =
     ((fault : LineFault) × IsLineRefused kind line fault × (answer ≡ refusal number fault))
@@ -80,8 +83,8 @@ IsAnswer kind job number line stream answer =
     × ComesTo job parts stream answer.outcome answer.hashings
     × (answer.text ≡ as_line (parts.name ++ colon ∷ rendered answer.outcome ++ counts_text job.work answer.hashings))))
 
--- AreAnswers kind job number lines stream answers: the answers to lines with numbers from this one on. Each begins with the
--- random numbers that the one before it left.
+-- AreAnswers kind job number lines stream answers: these are the answers to lines that are numbered from `number` on.
+-- Each begins with the random numbers that the one before it left.
 abbrev pub AreAnswers : Kind → Job → ℕ → List (List ℕ) → Stream → List Answer → Type 0
 AreAnswers kind job number [] stream [] = ⊤
 AreAnswers kind job number (line ∷ lines) stream (answer ∷ answers) =

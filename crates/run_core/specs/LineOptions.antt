@@ -1,4 +1,4 @@
--- What a budget and new hashes change of the answers to lines, and that they change no others.
+-- What a budget and rehashes change in the answers to lines, and what they leave unchanged.
 use Rattle.std.specs.Prelude.{◌≡◌, ℕ, ◌⊎◌, ◌↔◌, List, true, Some}
 use Rattle.rand_core.specs.Stream.{Stream}
 use Rattle.crypt_core.specs.Crypt.{crypt}
@@ -14,8 +14,10 @@ use Rattle.run_core.specs.declared.line.LineFault.TheVariants.{OverBudget}
 
 -- ---- a budget
 
--- A costly line gets this refusal, and each other line the answer without a budget. No line to check is costly whose
--- field is empty or locked; a line of a batch has no field.
+-- OnlyRefuses kind job: a budget changes only the answers to costly lines.
+--   costly    a costly line gets the refusal `OverBudget`
+--   others    every other line gets the answer that it gets without a budget
+--   unhashed  a line whose field is empty or locked is not costly
 pub record OnlyRefuses (kind : Kind) (job : Job) : Type 0 where
   pub costly : (number : ℕ) → (line : List ℕ) → (stream : Stream) → (answer : Answer) → IsCostly kind job line
       → IsAnswer kind job number line stream answer → answer ≡ refusal number OverBudget
@@ -24,10 +26,10 @@ pub record OnlyRefuses (kind : Kind) (job : Job) : Type 0 where
   pub unhashed : (line : List ℕ) → (parts : Parts) → (field : List ℕ) → HasParts kind line parts
       → parts.field ≡ Some field → ¬ IsStored field → ¬ IsCostly kind job line
 
--- ---- new hashes
+-- ---- rehashes
 
--- A line to check that breaks no rule, and whose field spells a setting that is out of date. Its password fits, or it
--- costs too much together with the new hash.
+-- IsRenewable kind job line: the line is to be checked, breaks no rule, and its field spells a setting that is out of
+-- date. Its password matches, or the line is costly.
 pub record IsRenewable (kind : Kind) (job : Job) (line : List ℕ) : Type 0 where
   pub parts : Parts
   pub field : List ℕ
@@ -38,12 +40,12 @@ pub record IsRenewable (kind : Kind) (job : Job) (line : List ℕ) : Type 0 wher
   pub outdated : is_outdated job kept ≡ true
   pub fits_or_costly : (crypt parts.password kept ≡ field) ⊎ IsCostly kind job line
 
--- every other line gets the answers that it gets without them
+-- OnlyRenews kind job: every line that is not renewable gets the answer that it gets without rehashes.
 abbrev pub OnlyRenews : Kind → Job → Type 0
 OnlyRenews kind job = (number : ℕ) → (line : List ℕ) → (stream : Stream) → (answer : Answer) → ¬ IsRenewable kind job line
     → IsAnswer kind job number line stream answer ↔ IsAnswer kind (without_rehash job) number line stream answer
 
--- and so does each line of a batch
+-- RenewsNone kind job: every line gets the answer that it gets without rehashes.
 abbrev pub RenewsNone : Kind → Job → Type 0
 RenewsNone kind job = (number : ℕ) → (line : List ℕ) → (stream : Stream) → (answer : Answer)
     → IsAnswer kind job number line stream answer ↔ IsAnswer kind (without_rehash job) number line stream answer

@@ -1,4 +1,4 @@
--- A run over the lines of an input: which they are, and how it ends.
+-- A run over the lines of an input: its lines, and how it ends.
 use Rattle.std.specs.Prelude.{◌≡◌, ℕ, ◌<◌, ◌==◌, ◌⊎◌, List, [], ◌∷◌, ◌++◌, length, flat_map, Result}
 use Rattle.std.specs.List.{slice_split, AllByRecursion}
 use Rattle.std.specs.Io.KnownBytes.{IsAtEnd}
@@ -11,30 +11,31 @@ use Rattle.run_core.specs.declared.job.Job.{Job}
 use Rattle.run_core.specs.declared.line.Kind.{Kind}
 use Rattle.run_core.specs.declared.tally.Tally.{Tally}
 
--- without_empty_end parts are the parts, except the last one if it is empty.
+-- without_empty_end parts is the list without its last part if that is empty.
 abbrev pub without_empty_end : List (List ℕ) → List (List ℕ)
 without_empty_end [] = []
 without_empty_end ([] ∷ []) = []
 without_empty_end ((b ∷ bs) ∷ []) = (b ∷ bs) ∷ []
 without_empty_end (part ∷ next ∷ parts) = part ∷ without_empty_end (next ∷ parts)
 
--- lines_of input is the input, cut at its line feeds; what follows the last of them is a line only if it isn't empty.
+-- lines_of input is the input, split at its line feeds. What follows the last one is a line only if it is not empty.
 unfoldable pub lines_of : List ℕ → List (List ℕ)
 lines_of input = without_empty_end (slice_split (λ b. b == line_feed) input)
 
--- HasLines bytes lines rest: the bytes are these lines, each with its line feed, and then `rest`.
+-- HasLines bytes lines rest: the bytes are these lines, each with its line feed, followed by `rest`.
 abbrev pub HasLines : List ℕ → List (List ℕ) → List ℕ → Type 0
 HasLines bytes lines rest = (bytes ≡ flat_map (λ line. line ++ line_feed ∷ []) lines ++ rest) × AllByRecursion HasNoLineFeed lines
 
--- How many bytes are fetched at once.
+-- piece_size is the number of bytes that one `fetch` asks for.
 abbrev pub piece_size : ℕ
 piece_size = 512
 
--- EndsLines turns kind job old new result: the run over the lines of an input, which gave `bytes`.
---   It gives all answers at the end of the input.
---   It is cut short while it reads once it has answered all lines whose line feeds were read.
---   It is cut short at the answer to a line once it has read its line feed, which is among the last bytes, as many as a
---   piece has; or at the end of the input.
+-- EndsLines turns kind job old new result: the run over the lines of an input, which returned `bytes`, ends with this
+-- result. It finishes, stops while it reads, or stops at an answer.
+--   finishes       at the end of the input, after the answers to all lines
+--   stops reading  after the answers to all lines whose line feed was read
+--   stops at       the answer to a line whose line feed is among the last `piece_size` bytes that were read, or at the
+--                  end of the input the answer to the last line
 abbrev pub EndsLines : {I O E : Type 0} → ℕ → Kind → Job → RunState I O E → RunState I O E → Result Tally RunFault → Type 0
 EndsLines turns kind job old new result = (bytes : List ℕ) × Reads old.input new.input bytes × EndsBy
     (λ answers. IsAtEnd new.input.shown × AreAnswers kind job 1 (lines_of bytes) old.stream answers)

@@ -1,4 +1,4 @@
--- A line of an input: its parts, and the rules that it can break.
+-- Lines of an input: their parts, and the rules that a line can break.
 use Rattle.std.specs.Prelude.{◌≡◌, ℕ, ◌<◌, ◌⊎◌, List, [], ◌∷◌, ◌++◌, length, Contains, Option, Some, None}
 use Rattle.crypt_core.specs.Passwords.{IsPasswordRefused}
 use Rattle.crypt_core.specs.Refusals.{IsRefused}
@@ -11,15 +11,15 @@ use Rattle.run_core.specs.declared.line.LineFault.TheVariants.{LineTooLong, NoNa
 
 -- ---- the parts
 
--- IsCut text front back: the text is `front`, its first colon, and `back`.
+-- IsCut text front back: `front` precedes the first colon of the text, and `back` follows it.
 abbrev pub IsCut : List ℕ → List ℕ → List ℕ → Type 0
 IsCut text front back = (text ≡ front ++ colon ∷ back) × ¬ Contains front colon
 
--- HasName line name: the name is what stands before the first colon, or all of the line without one.
+-- HasName line name: the name is everything before the first colon, or all of the line without one.
 abbrev pub HasName : List ℕ → List ℕ → Type 0
 HasName line name = ((back : List ℕ) × IsCut line name back) ⊎ ((line ≡ name) × ¬ Contains name colon)
 
--- The parts of a line between colons. Only a line that is checked has a field.
+-- A `Parts` holds the parts of a line, which colons separate. Only a line to check has a field.
 pub record Parts : Type 0 where
   pub name : List ℕ
   pub field : Option (List ℕ)
@@ -33,15 +33,15 @@ HasParts Check line parts =
 
 -- ---- the rules
 
--- The most bytes of a line without its line feed.
+-- line_limit is the greatest number of bytes of a line, without its line feed.
 abbrev pub line_limit : ℕ
 line_limit = 2048
 
--- The most bytes of a name.
+-- name_limit is the greatest number of bytes of a name.
 abbrev pub name_limit : ℕ
 name_limit = 64
 
--- line_rule_number fault is the place of its rule in their order.
+-- line_rule_number fault is the position of its rule in their order.
 abbrev pub line_rule_number : LineFault → ℕ
 line_rule_number LineTooLong = 1
 line_rule_number NoName = 2
@@ -51,7 +51,8 @@ line_rule_number (Password fault) = 5
 line_rule_number (Setting fault) = 6
 line_rule_number OverBudget = 7
 
--- BreaksLine kind fault line: the line breaks the rule of this refusal. What a hash costs is no rule of the line alone.
+-- BreaksLine kind fault line: the line breaks the rule of this refusal. The cost of a hash is no rule of the line
+-- alone.
 abbrev pub BreaksLine : Kind → LineFault → List ℕ → Type 0
 BreaksLine kind LineTooLong line = line_limit < length line
 BreaksLine kind NoName line = HasName line []
@@ -62,11 +63,11 @@ BreaksLine kind (Setting fault) line =
     (parts : Parts) × (field : List ℕ) × HasParts kind line parts × (parts.field ≡ Some field) × IsStored field × IsRefused field fault
 BreaksLine kind OverBudget line = ⊥
 
--- The line breaks this rule, and no earlier one.
+-- IsLineRefused kind line fault: the line breaks this rule and no earlier one.
 pub record IsLineRefused (kind : Kind) (line : List ℕ) (fault : LineFault) : Type 0 where
   pub breaks : BreaksLine kind fault line
   pub first : (earlier : LineFault) → line_rule_number earlier < line_rule_number fault → ¬ BreaksLine kind earlier line
 
--- The line breaks no rule.
+-- IsSound kind line: the line breaks no rule.
 abbrev pub IsSound : Kind → List ℕ → Type 0
 IsSound kind line = (fault : LineFault) → ¬ BreaksLine kind fault line

@@ -1,4 +1,4 @@
--- The run for one password, by where the password comes from.
+-- The run for one password, depending on the source of the password.
 use Rattle.std.specs.Prelude.{◌≡◌, ℕ, ◌≤◌, List, [], ◌∷◌, length, ⊤, Result}
 use Rattle.crypt_core.specs.Passwords.{IsPassword, IsPasswordRefused, password_limit}
 use Rattle.run_core.specs.Answers.{password_answer}
@@ -11,10 +11,10 @@ use Rattle.run_core.specs.declared.job.PasswordFrom.{PasswordFrom}
 use Rattle.run_core.specs.declared.job.PasswordFrom.TheVariants.{Word, Input}
 use Rattle.run_core.specs.declared.tally.Tally.{Tally}
 
--- EndsPassword Decided Undecided turns job password old new result: the run for this password, if it is one. That is tested
--- before a random number is drawn.
---   Undecided  what is true if the run is cut short while it reads
---   Decided    what is true at each other end
+-- EndsPassword Decided Undecided turns job password old new result: the run for this password ends with this result. It
+-- checks the password before it draws a random number.
+--   Undecided  what is true if the run stops while it reads
+--   Decided    what is true otherwise
 abbrev pub EndsPassword : {I O E : Type 0} → (Decided Undecided : Type 0) → ℕ → Job → List ℕ → RunState I O E → RunState I O E → Result Tally RunFault → Type 0
 EndsPassword Decided Undecided turns job password old new = EndsBy
     (λ answers. Decided × IsPassword password × (answers ≡ password_answer job password old.stream ∷ []))
@@ -22,10 +22,10 @@ EndsPassword Decided Undecided turns job password old new = EndsBy
     (λ answers. Decided × IsPassword password × (answers ≡ password_answer job password old.stream ∷ []))
     (λ fault. Decided × IsPasswordRefused password fault) turns old new
 
--- EndsOne turns job from old new result: the run for the password that comes from there.
---   Word   the word is the password itself, and the input is unchanged
---   Input  the password is the first line. If the run is cut short before that is decided, no line feed was read, and no
---          more bytes than a password may have.
+-- EndsOne turns job from old new result: the run for the password from this source ends with this result.
+--   Word   the argument is the password, and the input is unchanged
+--   Input  the first line is the password. If the run stops before that is known, the bytes that it read have no line
+--          feed and are not too many for a password
 abbrev pub EndsOne : {I O E : Type 0} → ℕ → Job → PasswordFrom → RunState I O E → RunState I O E → Result Tally RunFault → Type 0
 EndsOne turns job (Word word) old new result = (new.input ≡ old.input) × EndsPassword ⊤ ⊥ turns job word.items old new result
 EndsOne turns job Input old new result = (bytes : List ℕ) × Reads old.input new.input bytes

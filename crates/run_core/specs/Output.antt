@@ -1,14 +1,14 @@
--- What is left in an output that a text was given to.
+-- The effect of writing a text to an output.
 use Rattle.std.specs.Prelude.{◌≡◌, ◌≢◌, ℕ, ◌+◌, ◌≤◌, ◌==◌, ◌&&◌, ◌⊎◌, List, [], ◌++◌, length, Result, Ok, Err, if◌then◌else◌}
 use Rattle.std.specs.Io.KnownBytes.{Appends}
 use Rattle.run_core.specs.Devices.{Device, MovesBytes}
 use Rattle.run_core.specs.declared.fault.RunFault.{RunFault}
 use Rattle.run_core.specs.declared.fault.RunFault.TheVariants.{Write, Turns}
 
--- Takes failures flushes old new bytes: the output has taken these bytes and no others. The device shows them at its end,
--- if it shows what it holds.
---   failures  how many of its calls failed
---   flushes   how many flushes were tried, after the bytes; one that worked is kept
+-- Takes failures flushes old new bytes: the output has taken exactly these bytes. They are the last ones of its
+-- contents, if it exposes them.
+--   failures  the number of calls that failed
+--   flushes   the number of flushes, which follow the bytes; a successful one is recorded
 pub record Takes {T : Type 0} (failures flushes : ℕ) (old new : Device T) (bytes : List ℕ) : Type 0 where
   pub shown : Appends old.shown new.shown bytes
   pub counted : new.bytes ≡ old.bytes + length bytes
@@ -16,23 +16,23 @@ pub record Takes {T : Type 0} (failures flushes : ℕ) (old new : Device T) (byt
   pub tried : new.flushes ≡ old.flushes + flushes
   pub flushed : new.flushed ≡ (if flushes == 1 && failures == 0 then new.bytes else old.flushed)
 
--- TakesFront failures old new whole text: the output has taken `whole` and then the first bytes of `text`, but not all of
--- them. So many calls failed, and no flush was tried.
+-- TakesFront failures old new whole text: the output has taken `whole` and then a proper prefix of `text`. Exactly
+-- `failures` calls failed, and no flush was tried.
 abbrev pub TakesFront : {T : Type 0} → ℕ → Device T → Device T → List ℕ → List ℕ → Type 0
 TakesFront failures old new whole text =
     (sent unsent : List ℕ) × (sent ++ unsent ≡ text) × (unsent ≢ []) × Takes failures 0 old new (whole ++ sent)
 
--- Gives turns old new text result: how the giving of `text` ended.
---   Ok     all of it was taken, and flushed; no call failed
+-- Gives turns old new text result: writing and flushing `text` ended with this result.
+--   Ok     all of it was taken and flushed, and no call failed
 --   Write  one call failed: a `give`, before all of it was taken, or the flush
---   Turns  `turns` calls were made, none failed, and some of it was still to come
+--   Turns  `turns` calls were made, none failed, and some of it was left
 abbrev pub Gives : {A T : Type 0} → ℕ → Device T → Device T → List ℕ → Result A RunFault → Type 0
 Gives turns old new text (Ok answer) = Takes 0 1 old new text
 Gives turns old new text (Err Write) = TakesFront 1 old new [] text ⊎ Takes 1 1 old new text
 Gives turns old new text (Err Turns) = TakesFront 0 old new [] text × (new.calls ≡ old.calls + turns)
 Gives turns old new text (Err fault) = ⊥
 
--- Shows turns old new text result: how showing `text` ended, with at most so many calls to give it, each of which moved a
--- byte or failed.
+-- Shows turns old new text result: writing and flushing `text` ended with this result. At most `turns` calls were made
+-- to write it, and each of them moved a byte or failed.
 abbrev pub Shows : {A T : Type 0} → ℕ → Device T → Device T → List ℕ → Result A RunFault → Type 0
 Shows turns old new text result = Gives turns old new text result × (new.calls ≤ old.calls + turns) × MovesBytes 0 old new

@@ -1,4 +1,4 @@
--- What only contracts of private functions cite. A reader of the public clauses needs none of it.
+-- Definitions that only contracts of private functions cite. A reader of the public clauses needs none of them.
 pub mod Answers
 pub mod Deliveries
 pub mod Fetching

@@ -1,5 +1,5 @@
--- How a run leaves its three devices, the stream of its generator and its meter. The answers are arguments: those that it
--- gave whole, and the one that it was at when it was cut short.
+-- The effect of a run on its three devices, the random numbers of its generator and its meter. The answers are
+-- arguments: those that the run wrote in full, and the one at which it stopped.
 use Rattle.std.specs.Prelude.{◌≡◌, ℕ, ◌+◌, ◌≤◌, ◌⊎◌, List, [], ◌∷◌, ◌++◌, MatchBool, Result, Ok, Err}
 use Rattle.rand_core.specs.Stream.{Stream}
 use Rattle.prims_core.specs.declared.meter.Work.{Work}
@@ -11,8 +11,8 @@ use Rattle.run_core.specs.declared.fault.RunFault.{RunFault}
 use Rattle.run_core.specs.declared.fault.RunFault.TheVariants.{Read, Write, OutOfMemory, Turns, Password}
 use Rattle.run_core.specs.declared.tally.Tally.{Tally}
 
--- What a run works on: its input, its output and its fault output, the random numbers that are left, and the counts of the
--- meter.
+-- A `RunState` is what a run works on: its input, its output, its output for messages about rejected lines, the random
+-- numbers that are left, and the counts of the meter.
 pub record RunState (I O E : Type 0) : Type 0 where
   pub input : Device I
   pub out : Device O
@@ -20,26 +20,26 @@ pub record RunState (I O E : Type 0) : Type 0 where
   pub stream : Stream
   pub counts : Work
 
--- run_state input out faults stream counts is the same from what clauses name.
+-- run_state input out faults stream counts is the `RunState` with these parts.
 abbrev pub run_state : {I O E : Type 0} → Device I → Device O → Device E → Stream → Work → RunState I O E
 run_state input out faults stream counts = record { input = input; out = out; faults = faults; stream = stream; counts = counts }
 
--- TakeFront failures done next out faults new_out new_faults: the outputs have taken the answers `done`, and the one that
--- `next` goes to has taken the first bytes of it, but not all. So many calls of that output failed, and none of the other.
+-- TakeFront failures done next out faults new_out new_faults: the outputs have taken the answers `done`, and one of
+-- them has then taken a proper prefix of `next`. Exactly `failures` calls of that output failed, and none of the other.
 abbrev pub TakeFront : {O E : Type 0} → ℕ → List Answer → Answer → Device O → Device E → Device O → Device E → Type 0
 TakeFront failures done next out faults new_out new_faults = MatchBool (is_refusal next.outcome)
     (Takes 0 0 out new_out (texts done) × TakesFront failures faults new_faults (fault_texts done) next.text)
     (TakesFront failures out new_out (texts done) next.text × Takes 0 0 faults new_faults (fault_texts done))
 
 module _ {I O E : Type 0} where
-  -- ---- the calls of the devices
+  -- ---- I/O calls
 
-  -- calls_of state is how many calls were made to move bytes.
+  -- calls_of state is the number of calls that move bytes.
   abbrev pub calls_of : RunState I O E → ℕ
   calls_of state = state.input.calls + state.out.calls + state.faults.calls
 
-  -- IsWithinTurns turns old new: at most `turns` such calls were made, and at most two more than bytes were moved. Each
-  -- moved a byte or failed, except one of the input, which a run needs to find the end.
+  -- IsWithinTurns turns old new: the run made at most `turns` such calls, and at most two more than it moved bytes.
+  -- Each call moved a byte or failed, except one read that finds the end of the input.
   pub record IsWithinTurns (turns : ℕ) (old new : RunState I O E) : Type 0 where
     pub at_most_turns : calls_of new ≤ calls_of old + turns
     pub at_most_bytes : calls_of new + old.input.bytes + old.out.bytes + old.faults.bytes ≤ calls_of old + new.input.bytes + new.out.bytes + new.faults.bytes + 2
@@ -47,29 +47,27 @@ module _ {I O E : Type 0} where
     pub of_out : MovesBytes 0 old.out new.out
     pub of_faults : MovesBytes 0 old.faults new.faults
 
-  -- ---- what the answers leave
+  -- ---- the effect of answers
 
-  -- TakeAll input out faults out_flushes fault_flushes answers old new: the outputs have taken these answers and no other
-  -- bytes.
-  --   input, out, faults          how many calls of each device failed
-  --   out_flushes, fault_flushes  how many flushes of each output were tried
+  -- TakeAll input out faults out_flushes fault_flushes answers old new: the outputs have taken exactly these answers.
+  --   input, out, faults          the number of failed calls of each device
+  --   out_flushes, fault_flushes  the number of flushes of each output
   pub record TakeAll (input out faults out_flushes fault_flushes : ℕ) (answers : List Answer) (old new : RunState I O E) : Type 0 where
     pub of_input : new.input.failures ≡ old.input.failures + input
     pub text : Takes out out_flushes old.out new.out (texts answers)
     pub fault_text : Takes faults fault_flushes old.faults new.faults (fault_texts answers)
 
-  -- IsAfter made old new: exactly these hashes were made, with the random numbers that they take.
+  -- IsAfter made old new: exactly these hashes were made, and exactly the random numbers for them were drawn.
   pub record IsAfter (made : List Hashing) (old new : RunState I O E) : Type 0 where
     pub stream : new.stream ≡ stream_left old.stream made
     pub counts : new.counts ≡ after_work old.counts made
 
   -- ---- the end of a run
 
-  -- Finishes answers old new result: a run has given all its answers. The numbers after `TakeAll` are failed calls of the
-  -- input, of the output and of the fault output, and flushes of the output and of the fault output.
+  -- Finishes answers old new result: the run has written all its answers. The numbers after `TakeAll` are the failed
+  -- calls of `input`, `out` and `faults`, and the flushes of `out` and `faults`.
   --   Ok     both outputs are flushed, and no call failed
-  --   Write  one of these two flushes failed: that of the output, and then that of the fault output was not tried; or that
-  --          of the fault output
+  --   Write  one of these two flushes failed: that of `out`, and then `faults` was not flushed; or that of `faults`
   abbrev pub Finishes : List Answer → RunState I O E → RunState I O E → Result Tally RunFault → Type 0
   Finishes answers old new (Ok tally) =
       (tally ≡ tally_of answers) × TakeAll 0 0 0 1 1 answers old new × IsAfter (hashings_of answers) old new
@@ -77,8 +75,8 @@ module _ {I O E : Type 0} where
       (TakeAll 0 1 0 1 0 answers old new ⊎ TakeAll 0 0 1 1 1 answers old new) × IsAfter (hashings_of answers) old new
   Finishes answers old new (Err fault) = ⊥
 
-  -- StopsReading turns done old new fault: a run was cut short while it read, and flushed nothing. The answers `done` are
-  -- given. Each fetch that didn't fail gave a byte, so the end of the input was not found.
+  -- StopsReading turns done old new fault: the run stopped while it read, and flushed nothing. It has written the
+  -- answers `done`. Each `fetch` that did not fail returned a byte, so the end of the input was not found.
   --   Read   one read failed
   --   Turns  `turns` calls were made, and none failed
   abbrev pub StopsReading : ℕ → List Answer → RunState I O E → RunState I O E → RunFault → Type 0
@@ -88,11 +86,11 @@ module _ {I O E : Type 0} where
       × MovesBytes 0 old.input new.input × (calls_of new ≡ calls_of old + turns)
   StopsReading turns done old new fault = ⊥
 
-  -- StopsAt turns done next old new fault: a run was cut short at the answer `next`, and flushed nothing. The answers
-  -- `done` are given whole.
+  -- StopsAt turns done next old new fault: the run stopped at the answer `next`, and flushed nothing. It has written
+  -- the answers `done` in full.
   --   Write        one call of the output of `next` failed
   --   Turns        `turns` calls were made, and none failed
-  --   OutOfMemory  a hash for `next` got no memory, and nothing of it is written
+  --   OutOfMemory  scrypt could not allocate for a hash of `next`, and nothing of `next` is written
   abbrev pub StopsAt : ℕ → List Answer → Answer → RunState I O E → RunState I O E → RunFault → Type 0
   StopsAt turns done next old new Write = (new.input.failures ≡ old.input.failures)
       × TakeFront 1 done next old.out old.faults new.out new.faults × IsAfter (hashings_of (done ++ next ∷ [])) old new
@@ -103,11 +101,12 @@ module _ {I O E : Type 0} where
       × IsRefusedAmong (after_work old.counts (hashings_of done)) next.hashings new.counts new.stream
   StopsAt turns done next old new fault = ⊥
 
-  -- EndsBy AreAll AreBefore AreUpTo IsBad turns old new result: how a run ends, by what is answered.
-  --   AreAll     all answers, after which it finishes
-  --   AreBefore  the answers before it is cut short while it reads
-  --   AreUpTo    the answers up to the one that it is cut short at
-  --   IsBad      what is wrong with the password; then nothing is written, drawn or hashed
+  -- EndsBy AreAll AreBefore AreUpTo IsBad turns old new result: the run ends with this result. The first arguments say
+  -- which answers it has made.
+  --   AreAll     all answers, after which the run finishes
+  --   AreBefore  the answers before the run stops while it reads
+  --   AreUpTo    the answers up to the one at which the run stops
+  --   IsBad      the rule that the password breaks; then nothing is written, drawn or hashed
   abbrev pub EndsBy : (List Answer → Type 0) → (List Answer → Type 0) → (List Answer → Type 0) → (PasswordFault → Type 0)
       → ℕ → RunState I O E → RunState I O E → Result Tally RunFault → Type 0
   EndsBy AreAll AreBefore AreUpTo IsBad turns old new (Ok tally) =

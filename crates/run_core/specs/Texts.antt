@@ -1,15 +1,15 @@
--- Bytes that stand between texts.
+-- The bytes that separate parts and lines.
 use Rattle.std.specs.Prelude.{ℕ, List, [], ◌∷◌, ◌++◌, Contains}
 
--- What ends a line.
+-- line_feed is the byte that ends a line.
 abbrev pub line_feed : ℕ
 line_feed = 10
 
--- The bytes have no line feed, as a line has none of its own.
+-- HasNoLineFeed bytes: none of the bytes is a line feed, as in a single line.
 abbrev pub HasNoLineFeed : List ℕ → Type 0
 HasNoLineFeed bytes = ¬ Contains bytes line_feed
 
--- What stands between the parts of a line.
+-- colon is the byte between the parts of a line.
 abbrev pub colon : ℕ
 colon = 58
 

@@ -1,4 +1,5 @@
-//! Answers: what a password or a line comes to, a value, and its text, which is made once, after all work is done.
+//! Outcomes of passwords and lines, and the output line of each. An outcome is a value; its line is rendered once,
+//! after all work is done.
 ghost use Rattle.std.specs.Prelude.{◌≡◌, ◌+◌, ◌*◌, ◌<◌, ◌≤◌, ◌++◌, ◌↔◌, [], IsTrue, length, IfOk, OnOk, OnErr};
 ghost use Rattle.arrayvec.specs.ArrayVec.{array_vec_len};
 ghost use Rattle.crypt_core.specs.Crypt.{IsAfterRefusedGrowth};
@@ -27,35 +28,35 @@ use prims_core::meter::{Meter, Work};
 use rand_core::Rng;
 use std::alloc::Global;
 
-// The most bytes of a count: a colon, and the digits of a number of 64 bits.
+// The most bytes of one count: a colon and the digits of a 64-bit number.
 const COUNT_LIMIT: usize = 21;
 
-// The most bytes of an answer: a name, `:ok:`, a hash, four counts, and a line feed.
+// The most bytes of an output line: a name, `:ok:`, a hash, four counts and a line feed.
 const ANSWER_LIMIT: usize = NAME_LIMIT + 4 + HASH_LIMIT + 4 * COUNT_LIMIT + 1;
 
-/// The text of an answer.
+/// The bytes of an output line.
 pub(crate) type Text = ArrayVec<u8, ANSWER_LIMIT>;
 
-/// What a password or a line comes to.
+/// The outcome of a password or a line.
 #[derive(Drop)]
 pub(crate) enum Outcome {
-    /// The password's hash.
+    /// The hash of the password.
     Hashed(Hashed),
     /// The password matches its stored hash.
     Match,
-    /// It matches, and this is its new hash, since the setting of the stored one is out of date.
+    /// The password matches, and this is its new hash, because the stored setting is out of date.
     Rehashed(Hashed),
-    /// The password doesn't match its stored hash.
+    /// The password does not match its stored hash.
     Mismatch,
     /// The field is empty.
     NoHash,
-    /// The field is locked.
+    /// The field is locked: it begins with `!` or `*`.
     Locked,
-    /// The line is refused.
+    /// The line breaks a rule, or can cost more than the budget.
     Refused(LineFault),
 }
 
-/// The answer to a line, before it is text: whose it is, and what the line comes to. A refusal has no name.
+/// The answer to a line as a value: its name and its outcome. A rejected line has an empty name.
 #[derive(Drop)]
 pub(crate) struct LineAnswer<'a> {
     pub(crate) name: &'a [u8],
@@ -63,7 +64,7 @@ pub(crate) struct LineAnswer<'a> {
 }
 
 impl LineAnswer<'_> {
-    /// The answer to a line that is refused.
+    /// Returns the answer to a rejected line.
     pub(crate) fn refused(fault: LineFault) -> LineAnswer<'static>
         ensures outcome { result.outcome ≡ Outcome.Refused fault }
         ensures name { result.name.now ≡ [] }
@@ -75,15 +76,14 @@ impl LineAnswer<'_> {
     }
 }
 
-/// Decides the answer to a line: the hash of its password with a setting that the job makes, the verdict on its password,
-/// or its refusal.
+/// Decides the answer to a line: the hash of its password, the verdict on its password, or the rejection of the line.
 ///
-/// It draws three random numbers if a salt is made for a hash, and none otherwise; for a new hash in place of an old one
-/// that is after the verdict. A line that is refused is not hashed, and one that costs more than the budget is refused.
+/// It rejects a line that breaks a rule, or that can cost more than the budget, before it hashes anything. It draws
+/// three random numbers for a salt that it makes; for a rehash it draws them after the verdict.
 ///
 /// # Errors
 ///
-/// - `OutOfMemory`: as [`hash`] returns it, for either hash of a line.
+/// - `OutOfMemory`: scrypt could not allocate for one of the line's hashes ([`hash`]).
 pub(crate) fn answer_line<'a, R: Rng>(
     alloc: Global,
     kind: Kind,
@@ -112,7 +112,7 @@ pub(crate) fn answer_line<'a, R: Rng>(
     })
 }
 
-// Whether a line can cost more than the budget. It is priced only if there is one.
+// Returns whether the line can cost more than the budget. Without a budget it computes no cost.
 fn is_over_budget(job: &Job, line: &Line<'_>) -> bool
     requires { length line.now.password ≤ password_limit }
     ensures { IsTrue result ↔ IsAbove job.now.budget (field_cost job.now line.now.field (length line.now.password)) }
@@ -123,7 +123,7 @@ fn is_over_budget(job: &Job, line: &Line<'_>) -> bool
     }
 }
 
-// The greatest cost of the hashes for a line.
+// Returns the greatest cost of the hashes for the line.
 fn cost_of(job: &Job, line: &Line<'_>) -> u64
     requires { length line.now.password ≤ password_limit }
     ensures { result ≡ field_cost job.now line.now.field (length line.now.password) }
@@ -144,8 +144,8 @@ fn cost_of(job: &Job, line: &Line<'_>) -> u64
     }
 }
 
-// What a line that isn't refused comes to: a password is compared with its stored hash, and gets a new one in place of
-// one that is out of date.
+// Returns the outcome of a valid line within the budget. Without a field it hashes the password. With a stored hash it
+// compares the password with that, and rehashes a matching password if the setting is out of date.
 fn outcome_of<R: Rng>(
     alloc: Global,
     job: &Job,
@@ -176,12 +176,13 @@ fn outcome_of<R: Rng>(
     Ok(Outcome::Rehashed(make_hash(alloc, job, password, rng, meter)?))
 }
 
-/// Hashes a password with the next setting that the job makes. It draws three random numbers if the salt is made, and none
-/// otherwise.
+/// Hashes a password with the next setting of the job.
+///
+/// It draws three random numbers if it makes the salt, and otherwise none.
 ///
 /// # Errors
 ///
-/// - `OutOfMemory`: as [`hash`] returns it. The random numbers were drawn.
+/// - `OutOfMemory`: scrypt could not allocate ([`hash`]). The random numbers are drawn.
 pub(crate) fn make_hash<R: Rng>(
     alloc: Global,
     job: &Job,
@@ -201,7 +202,7 @@ pub(crate) fn make_hash<R: Rng>(
     hash(alloc, password, &setting, meter)
 }
 
-/// Returns the message of a refusal, with the number of its line.
+/// Returns the message about a rejected line: `mkpasswd: line NUMBER: MESSAGE` and a line feed.
 pub(crate) fn render_refusal(number: u64, fault: &LineFault) -> Text
     ensures { result.items ≡ (refusal number fault.now).text }
 {
@@ -214,7 +215,9 @@ pub(crate) fn render_refusal(number: u64, fault: &LineFault) -> Text
     text
 }
 
-/// Returns the line of an outcome: the name, the outcome, and the counts of the work for it if they are wanted.
+/// Returns the output line of an outcome.
+///
+/// It has the name and a colon, the outcome, the counts if the job asks for them, and a line feed.
 pub(crate) fn render(job: &Job, name: Option<&[u8]>, outcome: &Outcome, work: &Work) -> Text
     requires { length (front_by (bytes_of name)) ≤ front_limit }
     ensures { result.items ≡ as_line (front_by (bytes_of name.entry) ++ (rendered outcome.now ++ wanted_text job.now.work work.now)) }
@@ -243,7 +246,7 @@ pub(crate) fn render(job: &Job, name: Option<&[u8]>, outcome: &Outcome, work: &W
     text
 }
 
-// The counts `:digests:bytes:mixes:table`.
+// Appends `:digests:bytes:mixes:table`.
 fn append_counts(text: &mut Text, work: &Work)
     requires { array_vec_len text.old + 4 * count_limit < answer_limit }
     ensures counts { text.new.items ≡ text.old.items ++ work_text work.now }
@@ -255,7 +258,7 @@ fn append_counts(text: &mut Text, work: &Work)
     append_count(text, work.table);
 }
 
-// A colon and a number.
+// Appends a colon and the count in decimal.
 fn append_count(text: &mut Text, count: u64)
     requires { array_vec_len text.old + count_limit ≤ answer_limit }
     ensures count { text.new.items ≡ text.old.items ++ count_text count }
@@ -265,7 +268,7 @@ fn append_count(text: &mut Text, count: u64)
     append(text, Buffer::new().format(count).as_bytes());
 }
 
-// Bytes for which there is room.
+// Appends bytes that fit into the remaining capacity.
 fn append(text: &mut Text, bytes: &[u8])
     requires { array_vec_len text.old + length bytes.now ≤ answer_limit }
     ensures { text.new.items ≡ text.old.items ++ bytes.now }

@@ -1,6 +1,5 @@
-//! The program's devices. A wrapper passes each call on to the device, and keeps count of the calls, of the bytes that
-//! they moved, of the calls that moved none and didn't fail, of the flushes, and of the calls that failed, so that a
-//! contract can tell what was seen.
+//! Devices that count. A wrapper passes each call on to its reader or writer. It counts the calls, the bytes that they
+//! moved, the idle calls, the flushes and the failures, so that contracts can refer to them.
 ghost use Rattle.std.specs.Prelude.{◌≡◌, ◌+◌, ◌-◌, ◌^◌, ◌<◌, length, OnOk, OnErr};
 ghost use Rattle.std.specs.Result.{is_err};
 ghost use Rattle.std.specs.Io.{ReadsAtMost, WritesAtMost};
@@ -11,9 +10,14 @@ use std::io;
 use std::io::{Read, Write};
 use std::marker::Model;
 
-/// A reader, with the number of its failed calls, of its `fetch` calls, failed ones among them, of the
-/// bytes that these gave, and of the `fetch` calls that gave none and didn't fail. A new wrapper has seen
-/// nothing. It has no flushes.
+/// A reader that counts its calls.
+///
+/// - `failures`: calls that failed.
+/// - `calls`: calls of `fetch`, including failed ones.
+/// - `bytes`: bytes that these calls returned.
+/// - `idle`: calls of `fetch` that returned no byte and did not fail.
+///
+/// A new wrapper has every count at 0. An input is never flushed.
 #[derive(Drop)]
 pub struct Input<I: Read> {
     inner: I,
@@ -38,7 +42,7 @@ impl<I: Read> Model for Input<I> {
 }
 
 impl<I: Read> Input<I> {
-    /// Wraps a reader.
+    /// Wraps a reader, with every count at 0.
     pub fn new(inner: I) -> Input<I>
         ensures { result ≡ new_device inner (I.remaining inner) }
     {
@@ -51,14 +55,14 @@ impl<I: Read> Input<I> {
         }
     }
 
-    /// How many calls of the reader failed. Giving no byte is no failure.
+    /// Returns the number of calls of the reader that failed. Returning no byte is not a failure.
     pub fn failures(&self) -> u64
         ensures { result ≡ self.now.failures }
     {
         self.failures
     }
 
-    /// Gives the reader back.
+    /// Returns the wrapped reader.
     pub fn into_inner(self) -> I
         ensures inner { result ≡ self.inner }
         ensures shown { I.remaining result ≡ self.shown }
@@ -66,9 +70,14 @@ impl<I: Read> Input<I> {
         self.inner
     }
 
-    /// Passes one `read` into the buffer on, and answers what it answered: how many bytes were given,
-    /// which stand first in the buffer. None are given at the end, or into an empty buffer. The wrapper's numbers
-    /// have room, within 64 bits, for one more call and as many bytes as the buffer has.
+    /// Reads once into `buffer` and returns the number of bytes read, which are the first ones of `buffer`.
+    ///
+    /// The number is 0 at the end of the input and for an empty buffer. Precondition: the counts do not overflow 64
+    /// bits after one more call and as many bytes as `buffer` has.
+    ///
+    /// # Errors
+    ///
+    /// - The error of the reader's `read`, unchanged.
     pub fn fetch(&mut self, buffer: &mut [u8]) -> io::Result<usize>
         requires failures_room { self.old.failures < 2 ^ 64 - 1 }
         requires calls_room { self.old.calls < 2 ^ 64 - 1 }
@@ -91,10 +100,16 @@ impl<I: Read> Input<I> {
     }
 }
 
-/// A writer, with the number of its failed calls, of its `give` calls, failed ones among them, of the
-/// bytes that these took, of the `give` calls of an empty piece that didn't fail, and of its flushes, failed
-/// ones among them, and how many bytes it had taken at the last flush that worked. A new wrapper has seen
-/// nothing.
+/// A writer that counts its calls.
+///
+/// - `failures`: calls and flushes that failed, and calls of `give` that took no byte of a piece with at least one.
+/// - `calls`: calls of `give`, including failed ones.
+/// - `bytes`: bytes that these calls took.
+/// - `idle`: calls of `give` with an empty piece that did not fail.
+/// - `flushes`: flushes, including failed ones.
+/// - `flushed`: bytes that were taken before the last flush that succeeded.
+///
+/// A new wrapper has every count at 0.
 #[derive(Drop)]
 pub struct Output<O: Write> {
     inner: O,
@@ -121,7 +136,7 @@ impl<O: Write> Model for Output<O> {
 }
 
 impl<O: Write> Output<O> {
-    /// Wraps a writer.
+    /// Wraps a writer, with every count at 0.
     pub fn new(inner: O) -> Output<O>
         ensures { result ≡ new_device inner (O.contents inner) }
     {
@@ -136,14 +151,14 @@ impl<O: Write> Output<O> {
         }
     }
 
-    /// How many calls of the writer failed, or took no byte of a piece that had some.
+    /// Returns the number of calls of the writer that failed, or that took no byte of a piece with at least one.
     pub fn failures(&self) -> u64
         ensures { result ≡ self.now.failures }
     {
         self.failures
     }
 
-    /// Gives the writer back.
+    /// Returns the wrapped writer.
     pub fn into_inner(self) -> O
         ensures inner { result ≡ self.inner }
         ensures shown { O.contents result ≡ self.shown }
@@ -151,9 +166,13 @@ impl<O: Write> Output<O> {
         self.inner
     }
 
-    /// Passes one `write` of the piece on, and answers what it answered: how many of the piece's
-    /// first bytes were taken. The wrapper's numbers have room, within 64 bits, for one more call and as many bytes
-    /// as the piece has.
+    /// Writes once from `piece` and returns the number of bytes taken, which are the first ones of `piece`.
+    ///
+    /// Precondition: the counts do not overflow 64 bits after one more call and as many bytes as `piece` has.
+    ///
+    /// # Errors
+    ///
+    /// - The error of the writer's `write`, unchanged.
     pub fn give(&mut self, piece: &[u8]) -> io::Result<usize>
         requires failures_room { self.old.failures < 2 ^ 64 - 1 }
         requires calls_room { self.old.calls < 2 ^ 64 - 1 }
@@ -176,8 +195,13 @@ impl<O: Write> Output<O> {
         answer
     }
 
-    /// Passes one `flush` on, and answers what it answered. It takes no byte. The wrapper's numbers have room, within
-    /// 64 bits, for one more flush.
+    /// Flushes the writer once, which moves no byte.
+    ///
+    /// Precondition: the counts do not overflow 64 bits after one more flush.
+    ///
+    /// # Errors
+    ///
+    /// - The error of the writer's `flush`, unchanged.
     pub fn flush(&mut self) -> io::Result<()>
         requires failures_room { self.old.failures < 2 ^ 64 - 1 }
         requires flushes_room { self.old.flushes < 2 ^ 64 - 1 }

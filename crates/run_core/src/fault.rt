@@ -1,11 +1,11 @@
-//! What ends a run in place of a tally, with the text and the exit status of each fault.
+//! The errors that end a run, each with its message and exit status.
 ghost use Rattle.std.specs.Prelude.{◌≡◌};
 
 use crypt_core::hash::HashFault;
 use crypt_core::password::PasswordFault;
 use thiserror::Error;
 
-/// What a run ends with in place of a tally.
+/// The error that ends a run.
 #[derive(Clone, Copy, Debug, PartialEq, Eq, Error)]
 pub enum RunFault {
     /// A read of the input failed.
@@ -14,13 +14,13 @@ pub enum RunFault {
     /// A write or a flush of an output failed.
     #[error("{}", self.text())]
     Write,
-    /// The memory of scrypt was refused.
+    /// scrypt could not allocate.
     #[error("{}", self.text())]
     OutOfMemory,
-    /// The run needs one more call to move bytes than it may make.
+    /// The run needs one more I/O call than its limit allows.
     #[error("{}", self.text())]
     Turns,
-    /// The password is refused.
+    /// The password is invalid.
     #[error("{}", self.text())]
     Password(PasswordFault),
 }
@@ -28,7 +28,7 @@ pub enum RunFault {
 impl RunFault {
     ghost use Rattle.run_core.specs.RunFaults.{run_row};
 
-    /// The exit status: 2 where the password is refused, and 3 where the machine refused, or the turns ran out.
+    /// Returns the exit status: 2 for an invalid password, 3 for a system error or too many I/O calls.
     pub fn status(&self) -> u8
         ensures { result ≡ (run_row self.now).0 }
     {
@@ -38,7 +38,7 @@ impl RunFault {
         }
     }
 
-    /// What went wrong, in words for the user.
+    /// Returns the message for users.
     pub fn text(&self) -> &'static str
         ensures { result.now ≡ (run_row self.now).1 }
     {

@@ -1,5 +1,5 @@
-//! The job of a run, and what makes the setting of each hash: a scheme with a salt that was given once or is made of
-//! random numbers for each hash.
+//! The job of a run, and the maker of its settings: a scheme, with a salt that is given once or made from random
+//! numbers for each hash.
 ghost use Rattle.std.specs.Prelude.{◌≡◌, ◌↔◌, ◌&&◌, ℕ, ◌^◌, ◌<◌, ◌≤◌, List, Err, IsOk, IfOk, IfErr, is_some, length, not};
 ghost use Rattle.std.specs.Option.{option_map_or};
 ghost use Rattle.crypt_core.specs.declared.setting.fault.MakeFault.{MakeFault as Fault};
@@ -19,23 +19,25 @@ use crypt_core::setting::{MakeFault, Setting};
 use rand_core::Rng;
 use std::marker::Model;
 
-/// How passwords are hashed, and how that is answered.
+/// The options of a run: how it hashes passwords and what it prints.
 #[derive(Drop)]
 pub struct Job {
-    /// What makes the setting of each hash.
+    /// The maker of each hash's setting.
     pub maker: Maker,
-    /// Whether a check makes a new hash for each password that fits one which is out of date.
+    /// Whether a check makes a new hash for each password that matches a stored hash which is out of date.
     pub rehash: bool,
-    /// Whether each answer shows the counts of its work.
+    /// Whether each output line shows the counts of its work.
     pub work: bool,
-    /// What a line may cost: bytes that are digested and mixed, as [`cost`](crypt_core::work::cost) tells them. A single
-    /// password has no budget.
+    /// The most that a line may cost, in bytes digested and mixed ([`cost`](crypt_core::work::cost)).
+    ///
+    /// A single password has no budget.
     pub budget: Option<u64>,
 }
 
 impl Job {
-    /// Returns whether a hash of this scheme gets a new one in its place: new hashes are wanted, and their scheme
-    /// replaces it.
+    /// Returns whether a hash with this scheme is renewed.
+    ///
+    /// The job asks for rehashes, and its own scheme replaces this one.
     pub(crate) fn renews(&self, scheme: &Scheme) -> bool
         ensures { result ≡ (self.now.rehash && is_replaced_by scheme.now self.now.maker.scheme) }
     {
@@ -43,16 +45,16 @@ impl Job {
     }
 }
 
-/// Where a single password comes from.
+/// The source of a single password.
 #[derive(Drop)]
 pub enum PasswordFrom {
-    /// The bytes of its word, of any number and with any values.
+    /// The bytes of an argument, of any number and with any values.
     Word(Vec<u8>),
     /// The first line of the input.
     Input,
 }
 
-/// A scheme, and a salt that its method takes or none.
+/// A maker of settings: a scheme, and optionally a salt that the scheme's method accepts.
 #[derive(Drop)]
 pub struct Maker {
     scheme: Scheme,
@@ -74,13 +76,18 @@ impl Model for Maker {
 }
 
 impl Maker {
-    /// Returns what makes settings of a method with a cost, and with the salt, or without one with a new salt for each.
+    /// Returns a maker of settings with a method, a cost and optionally a salt.
     ///
-    /// Cost 0 is the method's default; otherwise it is a number of rounds, or for scrypt 6 to 11.
+    /// Without a salt each setting gets a new one. Cost 0 is the method's default. Otherwise the cost is the number of
+    /// rounds for SHA-crypt, or 6 to 11 for scrypt; md5crypt ignores it.
     ///
     /// # Errors
     ///
-    /// As [`Setting::make`] returns them. Without a salt `Cost` is the only one.
+    /// The first rule that is broken, as [`Setting::make`] returns it:
+    ///
+    /// - `SaltLength`: the salt is empty, or has more characters than the method keeps.
+    /// - `SaltCharacter`: the salt has a byte outside crypt's alphabet.
+    /// - `Cost`: scrypt does not accept the cost.
     pub fn new(method: Method, cost: u32, salt: Option<&[u8]>) -> Result<Maker, MakeFault>
         ensures made { IfOk result (λ maker. maker ≡ record { scheme = made_scheme method cost; salt = bytes_of salt.entry }) }
         ensures accepted { IsOk result ↔ ((fault : Fault) → ¬ BreaksMake method cost (bytes_of salt.entry) fault) }
@@ -110,15 +117,16 @@ impl Maker {
         self.scheme
     }
 
-    /// Returns whether each setting gets a new salt, so that random numbers are drawn for it.
+    /// Returns whether each setting gets a new salt, for which random numbers are drawn.
     pub fn draws(&self) -> bool
         ensures { result ≡ not (is_some self.now.salt) }
     {
         self.salt.is_none()
     }
 
-    /// Returns a setting with the salt that was given, or with a new one of 8, 16, 16 or 22 characters that these random
-    /// numbers make.
+    /// Returns a setting with the given salt, or with a new one that `words` make.
+    ///
+    /// A new salt has 8 characters for md5crypt, 16 for SHA-crypt and 22 for scrypt.
     pub fn setting(&self, words: [u64; 3]) -> Setting
         ensures { result ≡ setting_by self.now words }
     {
@@ -128,10 +136,10 @@ impl Maker {
         }
     }
 
-    /// Returns the greatest cost of one hash with a setting that this makes, for any password of `password_len` bytes.
-    /// Nothing is drawn or hashed for it. It is below 2^42.
+    /// Returns the greatest cost of one hash with a setting of this maker, for any password of `password_len` bytes.
     ///
-    /// Condition: `password_len` is at most [`PASSWORD_LIMIT`](crypt_core::password::PASSWORD_LIMIT).
+    /// The cost counts bytes digested and mixed, and is below 2^42. The call neither draws nor hashes anything.
+    /// Precondition: `password_len` is at most [`PASSWORD_LIMIT`](crypt_core::password::PASSWORD_LIMIT).
     pub fn cost(&self, password_len: usize) -> u64
         requires { password_len ≤ password_limit }
         ensures number { result ≡ made_cost_by self.now password_len }
@@ -141,7 +149,7 @@ impl Maker {
         self.scheme.cost(password_len, self.salt_len())
     }
 
-    // How many bytes of salt each setting has.
+    // Returns the number of bytes of each setting's salt.
     fn salt_len(&self) -> usize
         ensures number { result ≡ option_map_or length self.now.salt (made_salt_length (method_of self.now.scheme)) }
         ensures short { result ≤ salt_limit (method_of self.now.scheme) }
@@ -152,7 +160,7 @@ impl Maker {
         }
     }
 
-    /// Returns the setting of the next hash. It draws three random numbers if its salt is made, and none otherwise.
+    /// Returns the setting of the next hash. It draws three random numbers if it makes the salt, and otherwise none.
     pub(crate) fn next_setting<R: Rng>(&self, rng: &mut R) -> Setting
         ensures setting { result ≡ next_setting self.now (R.stream rng.old) }
         ensures stream { R.stream rng.new ≡ stream_after self.now (R.stream rng.old) }

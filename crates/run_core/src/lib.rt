@@ -1,5 +1,5 @@
-//! The runs of mkpasswd over any devices, generator and meter: the hash of one password, hashes and checks of lines, and
-//! the list of the methods.
+//! The runs of mkpasswd over any devices, generator and meter: hashing one password, hashing or checking lines, and
+//! listing the methods.
 #![tactic(auto)]
 
 mod answer;

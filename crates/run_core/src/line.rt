@@ -1,5 +1,4 @@
-//! A line of an input: `name:password` to hash, or `name:field:password` to check, and the first thing that is
-//! wrong with it.
+//! Lines of an input, `name:password` to hash or `name:field:password` to check, and the first rule that a line breaks.
 ghost use Rattle.std.specs.Prelude.{◌≡◌, ◌<◌, ◌≤◌, length, Err, Some, IfSome, IfNone, MatchOption, IfOk, IfErr, Contains};
 ghost use Rattle.run_core.specs.Lines.{IsCut, IsLineRefused, IsSound, line_rule_number, name_limit};
 ghost use Rattle.run_core.specs.Texts.{colon};
@@ -13,43 +12,43 @@ use crypt_core::setting::SettingFault;
 use crypt_core::stored::StoredField;
 use thiserror::Error;
 
-/// The most bytes of a line, without its line feed.
+/// The most bytes of a line without its line feed.
 pub const LINE_LIMIT: usize = 2048;
 
 /// The most bytes of a name.
 pub const NAME_LIMIT: usize = 64;
 
-/// What a run does with its lines.
+/// What a run does with each line.
 #[derive(Clone, Copy, Debug, PartialEq, Eq)]
 pub enum Kind {
-    /// It hashes the password of each: `name:password`.
+    /// It hashes the password of `name:password`.
     Batch,
-    /// It checks the password of each against its field: `name:field:password`.
+    /// It checks the password of `name:field:password` against the field.
     Check,
 }
 
-/// What is wrong with a line: the first of these that holds.
+/// The first rule that a line breaks, in this order.
 #[derive(Clone, Copy, Debug, PartialEq, Eq, Error)]
 pub enum LineFault {
-    /// More than [`LINE_LIMIT`] bytes.
+    /// The line has more than [`LINE_LIMIT`] bytes.
     #[error("{}", self.text())]
     LineTooLong,
-    /// Nothing stands before the first colon, or in the whole line.
+    /// The line is empty or begins with a colon.
     #[error("{}", self.text())]
     NoName,
-    /// More than [`NAME_LIMIT`] bytes stand before the first colon, or in the whole line without one.
+    /// The name, which ends before the first colon or at the end of the line, has more than [`NAME_LIMIT`] bytes.
     #[error("{}", self.text())]
     NameTooLong,
-    /// No colon, or to check fewer than two.
+    /// The line has no colon, or for a check fewer than two.
     #[error("{}", self.text())]
     NoPassword,
-    /// What follows the first colon, or to check the second, is no password.
+    /// The password, which follows the first colon, or for a check the second, is invalid.
     #[error("{}", self.text())]
     Password(PasswordFault),
-    /// The field to check isn't empty and not locked by a `!` or `*` at its front, and spells no setting.
+    /// The field to check is not empty, does not begin with `!` or `*`, and spells no setting.
     #[error("{}", self.text())]
     Setting(SettingFault),
-    /// The line can cost more than the budget. It is no fault of the line alone.
+    /// The line can cost more than the budget, which is no rule of the line alone.
     #[error("{}", self.text())]
     OverBudget,
 }
@@ -57,7 +56,7 @@ pub enum LineFault {
 impl LineFault {
     ghost use Rattle.run_core.specs.LineFaults.{line_fault_text};
 
-    /// What is wrong, in words for the user.
+    /// Returns the message for users.
     pub fn text(&self) -> &'static str
         ensures { result.now ≡ line_fault_text self.now }
     {
@@ -73,10 +72,13 @@ impl LineFault {
     }
 }
 
-/// Returns the first thing that is wrong with a line, given without its line feed, or `None` where it gets an answer.
+/// Returns the first rule that a line breaks, or `None` if it breaks none.
 ///
-/// A field that is empty or locked is right whatever else it has, and the password is looked at before the
-/// field. It takes no memory, and nothing is hashed. A budget is not looked at: it never returns `OverBudget`.
+/// `line` has no line feed. The password is checked before the field. An empty or locked field is valid, whatever else
+/// a locked one contains. The call ignores budgets, so it never returns `OverBudget`. It allocates and hashes nothing.
+///
+/// For example, `inspect(Kind::Batch, b"ann:password")` returns `None`, and `inspect(Kind::Batch, b"ann")` returns
+/// `Some(LineFault::NoPassword)`.
 pub fn inspect(kind: Kind, line: &[u8]) -> Option<LineFault>
     ensures sound { IfNone result (IsSound kind line.now) }
     ensures refused { IfSome result (IsLineRefused kind line.now) }
@@ -88,16 +90,20 @@ pub fn inspect(kind: Kind, line: &[u8]) -> Option<LineFault>
     }
 }
 
-/// A line that breaks no rule, by its parts.
+/// The parts of a line that breaks no rule.
 #[derive(Drop)]
 pub(crate) struct Line<'a> {
     pub(crate) name: &'a [u8],
     pub(crate) password: Password,
-    /// What the password is checked against; only a line to check has it.
+    /// The stored field to check the password against. Only a line to check has one.
     pub(crate) field: Option<StoredField<'a>>,
 }
 
-/// Reads a line, given without its line feed, or returns the first thing that is wrong with it.
+/// Reads the parts of a line, given without its line feed.
+///
+/// # Errors
+///
+/// - The first rule that the line breaks, but never `OverBudget`.
 pub(crate) fn read_line(kind: Kind, bytes: &[u8]) -> Result<Line<'_>, LineFault>
     ensures read { IfOk result (λ line. IsLine kind bytes.now line.name.now line.password line.field) }
     ensures short { IfOk result (λ line. length line.name.now ≤ name_limit) }
@@ -132,7 +138,7 @@ pub(crate) fn read_line(kind: Kind, bytes: &[u8]) -> Result<Line<'_>, LineFault>
     }
 }
 
-// The name, and what follows its colon, where there is one.
+// Returns the name, and what follows its colon if there is one.
 fn name_of(line: &[u8]) -> Result<(&[u8], Option<&[u8]>), LineFault>
     ensures named { IfOk result (λ x. IsNamed line.now x.0.now (bytes_of x.1)) }
     ensures refused { IfErr result (λ fault. (kind : LineKind) → IsLineRefused kind line.now fault) }
@@ -154,7 +160,8 @@ fn name_of(line: &[u8]) -> Result<(&[u8], Option<&[u8]>), LineFault>
     Ok((name, back))
 }
 
-// The field, which only a line to check has, and the password, in what follows the name's colon.
+// Returns the field of a line to check, if it is one, and the password, from what follows the name's colon. It returns
+// `None` if a colon is missing.
 fn fields_after_name(kind: Kind, back: Option<&[u8]>) -> Option<(Option<&[u8]>, &[u8])>
     ensures { MatchOption result (LacksParts kind (bytes_of back.entry))
         (λ x. HasBehind kind (bytes_of back.entry) (bytes_of x.0) x.1.now) }
@@ -168,7 +175,7 @@ fn fields_after_name(kind: Kind, back: Option<&[u8]>) -> Option<(Option<&[u8]>, 
     }
 }
 
-// The text, cut at its first colon.
+// Splits a string at its first colon.
 fn cut(text: &[u8]) -> Option<(&[u8], &[u8])>
     ensures { MatchOption result (¬ Contains text.now colon) (λ parts. IsCut text.now parts.0.now parts.1.now) }
 {

@@ -1,5 +1,5 @@
-//! The runs over the lines of an input. Each line is answered once its end was read, before more is read, so
-//! that a run holds one line and one piece of its input, whatever that is.
+//! The runs over the lines of an input. A run answers each line once it has read the end of that line, and before it
+//! reads more. So it holds one line and one piece of the input at a time, whatever the size of the input.
 ghost use Rattle.std.specs.Prelude.{◌≡◌, ℕ, ◌+◌, ◌^◌, ◌<◌, ◌≤◌, ◌++◌, [], List, length, OnOk};
 ghost use Rattle.prims_core.specs.Work.{IsAtMost, no_work};
 ghost use Rattle.run_core.specs.Answers.{Answer, Hashing, after_work, tally_of};
@@ -31,34 +31,39 @@ use rand_core::Rng;
 use std::alloc::Global;
 use std::io::{Read, Write};
 
-// How many bytes are fetched at once.
+// The most bytes of one read.
 const PIECE_SIZE: usize = 512;
 
-/// Hashes the password of each line `name:password` of the input by the job's setting, and gives
-/// `name:HASH` to the output, or what is wrong with the line to the fault output.
+/// Hashes the password of each line `name:password` of the input and writes `name:HASH` to `out`.
 ///
-/// The input is cut at its line feeds; what follows the last of them is a line only where it has a byte. Lines
-/// are numbered from 1. The password is all that follows the first colon. Three words are drawn for a salt, where
-/// that has to be made, for each line that is hashed and for no other. With the job's `work` each answer has the
-/// counts `:digests:bytes:mixes:table` of its own hash.
+/// The password is everything after the first colon. The job's maker makes the setting of each hash; for a new salt the
+/// run draws three random numbers, and only for a line that it hashes. The input is split at its line feeds, and what
+/// follows the last one is a line if it is not empty. Lines are numbered from 1.
 ///
-/// A line that is refused gets `mkpasswd: line NUMBER: TEXT`, with the text of its [`LineFault`], and the run
-/// goes on. Both outputs are flushed at the end, and the tally counts the lines and those that were refused.
+/// If a line breaks a rule, or can cost more than the job's `budget` ([`cost`](crypt_core::work::cost)), `faults` gets
+/// `mkpasswd: line NUMBER: MESSAGE` instead ([`LineFault`]), and the run continues. For such a line it hashes,
+/// allocates and draws nothing. The budget is the last rule, and changes nothing for any other line.
 ///
-/// With the job's `budget` a line is refused whose hash would cost more, by [`cost`](crypt_core::work::cost), once
-/// nothing else is wrong with it: nothing is hashed for it, no memory is asked for and no word is drawn. All other
-/// lines are answered as without a budget.
+/// With the job's `work` each output line ends with the counts `:digests:bytes:mixes:table` of its own hash. The job's
+/// `rehash` has no effect. The run flushes both outputs once, at the end. The tally counts the lines and the rejected
+/// ones.
 ///
-/// Conditions: `turns` is at most 2^40, each count of the meter at most 2^100, and the numbers of the devices at
-/// most 2^62. A run that can't go on answers a fault:
+/// For example, with md5crypt and the salt `xxxxxxxx`, the line `ann:password` gives
+/// `ann:$1$xxxxxxxx$UYCIxa628.9qXjpQCjM4a.`. If the second line is `bob`, the message about it is
+/// `mkpasswd: line 2: no password field`.
 ///
-/// - `Read`: a read failed. The lines whose line feeds were read are answered whole, and nothing else is written.
-/// - `OutOfMemory`: the memory of scrypt for a line was refused. The lines before it are answered whole, and of
-///   it nothing is written.
-/// - `Write`: a write failed. The lines before the one that was being answered are answered whole, and of its answer
-///   a first part is given. Or a flush failed, after all lines were answered.
-/// - `Turns`: one more fetch or give than `turns` is needed. The lines before the one that was being answered, or
-///   read, are answered whole, and of its answer a first part is given.
+/// Preconditions: `turns` is at most 2^40, each count of the meter at most 2^100, and each count of the devices at most
+/// 2^62.
+///
+/// # Errors
+///
+/// Earlier lines are answered in full. Unless stated, nothing more is written.
+///
+/// - `Read`: a read failed. "Earlier" is every line whose line feed was read.
+/// - `OutOfMemory`: scrypt could not allocate for the next line.
+/// - `Write`: a write failed, and a prefix of the next line's output is written; or a flush failed, after all lines.
+/// - `Turns`: the run needs one more read or write than `turns`. If it is a write, a prefix of the next line's output
+///   is written.
 ///
 /// [`LineFault`]: crate::line::LineFault
 #[tactic(auto, using(crate::proofs::LineOptions::only_refuses))]
@@ -89,18 +94,30 @@ pub fn run_batch<I: Read, O: Write, E: Write, R: Rng>(
     run.answer_all(input)
 }
 
-/// Checks the password of each line `name:field:password` of the input against its field, and gives `name:ok`,
-/// `name:no`, `name:none` for an empty field or `name:locked` for one that begins with `!` or `*` to the output,
-/// or what is wrong with the line to the fault output.
+/// Checks the password of each line `name:field:password` of the input and writes its verdict to `out`.
 ///
-/// The password is all that follows the second colon. For `none` and `locked` the counts are four zeros, and they are
-/// never over budget. The tally counts the answers `no` too.
+/// - `name:ok`: hashing the password with the setting in `field` reproduces `field`.
+/// - `name:ok:NEWHASH`: likewise, with the job's `rehash` and a setting that the job's settings replace
+///   ([`Setting::replaced_by`]).
+/// - `name:no`: hashing the password does not reproduce `field`.
+/// - `name:none`: `field` is empty.
+/// - `name:locked`: `field` begins with `!` or `*`.
 ///
-/// With the job's `rehash` a line whose password fits gets `name:ok:NEWHASH` where its setting is replaced by the job's
-/// ([`Setting::replaced_by`]): the hash of the password by that, for which words are drawn after the verdict where its
-/// salt has to be made. Its counts are those of both hashes. A line whose setting is replaced costs what both hashes
-/// cost, also where the password doesn't fit. No other line has to do with the maker, and none but a renewed one draws a
-/// word. Otherwise as [`run_batch`], where `rehash` has no effect.
+/// The password is everything after the second colon. `NEWHASH` is the hash of the password with the next setting of
+/// the job's maker. If that needs a new salt, the run draws three random numbers after the verdict. For any other line
+/// it draws none.
+///
+/// A line costs what its hash costs. If its setting is replaced, it costs both hashes, whether or not the password
+/// matches. The verdicts `none` and `locked` cost nothing, so they are never over budget. The counts of `work` are those
+/// of all hashes of the line: two for `NEWHASH`, and none for `none` and `locked`, which show four zeros.
+///
+/// The tally also counts the verdicts `no`. Everything else is as for [`run_batch`], including the preconditions.
+///
+/// For example, the line `ann:$1$xxxxxxxx$UYCIxa628.9qXjpQCjM4a.:password` gives `ann:ok`.
+///
+/// # Errors
+///
+/// As for [`run_batch`].
 ///
 /// [`Setting::replaced_by`]: crypt_core::setting::Setting::replaced_by
 #[tactic(auto, using(crate::proofs::LineOptions::only_refuses))]
@@ -131,31 +148,31 @@ pub fn run_check<I: Read, O: Write, E: Write, R: Rng>(
     run.answer_all(input)
 }
 
-/// A run over lines: what it does with each line, what it works on beside its input, and how far it is.
+/// A run over lines: its options, its outputs, generator and meter, and its progress.
 #[derive(Drop)]
 struct LineRun<'j, 'o, 'e, 'r, 'm, O: Write, E: Write, R> {
-    /// Gives the memory of scrypt.
+    /// The allocator for scrypt.
     alloc: Global,
     kind: Kind,
     job: &'j Job,
-    /// Takes the answers.
+    /// The output for hashes and verdicts.
     out: &'o mut Output<O>,
-    /// Takes the refusals of lines.
+    /// The output for messages about rejected lines.
     faults: &'e mut Output<E>,
-    /// Gives the random words for salts.
+    /// The generator of random numbers for salts.
     rng: &'r mut R,
-    /// Counts the work of each hash.
+    /// The meter of the work of each hash.
     meter: &'m mut Meter,
-    /// The part of the current line that was read.
+    /// The part of the current line that has been read.
     buffer: LineBuffer,
-    /// Counts the lines that were answered.
+    /// The tally of the lines answered so far.
     tally: Tally,
-    /// How many more calls of the devices the run may make.
+    /// The number of I/O calls that the run may still make.
     turns_left: u64,
 }
 
 impl<'j, 'o, 'e, 'r, 'm, O: Write, E: Write, R> LineRun<'j, 'o, 'e, 'r, 'm, O, E, R> {
-    /// A run that has read and answered nothing.
+    /// Returns a run that has read and answered nothing.
     fn new(
         alloc: Global,
         kind: Kind,
@@ -192,7 +209,7 @@ impl<'j, 'o, 'e, 'r, 'm, O: Write, E: Write, R> LineRun<'j, 'o, 'e, 'r, 'm, O, E
 }
 
 impl<O: Write, E: Write, R: Rng> LineRun<'_, '_, '_, '_, '_, O, E, R> {
-    /// Answers all lines of the input, and flushes both outputs.
+    /// Answers all lines of the input and flushes both outputs.
     fn answer_all<I: Read>(&mut self, input: &mut Input<I>) -> Result<Tally, RunFault>
         requires none_held { Represents self.old.buffer [] }
         requires no_line { self.old.tally ≡ tally_of [] }
@@ -212,7 +229,7 @@ impl<O: Write, E: Write, R: Rng> LineRun<'_, '_, '_, '_, '_, O, E, R> {
         Ok(self.tally)
     }
 
-    // Reads the whole input, and answers each line that has a line feed.
+    // Reads the whole input and answers each line that a line feed ends.
     fn read_all<I: Read>(&mut self, input: &mut Input<I>) -> Result<(), RunFault>
         requires none_held { Represents self.old.buffer [] }
         requires no_line { self.old.tally ≡ tally_of [] }
@@ -232,7 +249,7 @@ impl<O: Write, E: Write, R: Rng> LineRun<'_, '_, '_, '_, '_, O, E, R> {
         Ok(())
     }
 
-    // Makes one fetch, and answers each line that ends in what it gives. Returns whether it gave any.
+    // Reads one piece and answers each line that ends in it. Returns whether the piece has a byte.
     fn read_piece<I: Read>(&mut self, input: &mut Input<I>) -> Result<bool, RunFault>
         requires room { HasRoomToRead (position_of self.old) (with_input input.old (state_of R.stream self.old)) }
         ensures reads { ReadsPiece self.old.kind self.old.job.now
@@ -254,7 +271,7 @@ impl<O: Write, E: Write, R: Rng> LineRun<'_, '_, '_, '_, '_, O, E, R> {
         Ok(true)
     }
 
-    // Answers each line that ends in the piece, in order, and holds what follows the last of them.
+    // Answers each line that ends in the piece, in order, and buffers what follows the last line feed.
     fn answer_lines_in(&mut self, piece: &[u8]) -> Result<(), RunFault>
         requires size { length piece.now ≤ piece_size }
         requires room { HasRoomToAnswer (length piece.now) (position_of self.old) (state_of R.stream self.old) }
@@ -277,7 +294,7 @@ impl<O: Write, E: Write, R: Rng> LineRun<'_, '_, '_, '_, '_, O, E, R> {
         Ok(())
     }
 
-    // Answers the last line of the input, if something is held that no line feed ended.
+    // Answers the last line of the input if no line feed ends it.
     fn end(&mut self) -> Result<(), RunFault>
         requires room { HasRoomToAnswer 1 (position_of self.old) (state_of R.stream self.old) }
         ensures answers { (start : OutputState O E) → (bytes : List ℕ)
@@ -294,7 +311,7 @@ impl<O: Write, E: Write, R: Rng> LineRun<'_, '_, '_, '_, '_, O, E, R> {
         self.answer_buffered()
     }
 
-    // Answers the line in the buffer, and empties that.
+    // Answers the line in the buffer and empties the buffer.
     fn answer_buffered(&mut self) -> Result<(), RunFault>
         requires room { HasRoomToAnswer 1 (position_of self.old) (state_of R.stream self.old) }
         ensures answers { (line : List ℕ) → Represents self.old.buffer line
@@ -329,7 +346,7 @@ impl<O: Write, E: Write, R: Rng> LineRun<'_, '_, '_, '_, '_, O, E, R> {
     }
 }
 
-// Gives the answer to the line with this number, after this work, to the output where it belongs.
+// Writes the answer to line `number`, which took this work, to `out`, or to `faults` if the line is rejected.
 fn give<O: Write, E: Write>(
     number: u64,
     job: &Job,
@@ -366,7 +383,7 @@ fn give<O: Write, E: Write>(
     }
 }
 
-// Counts one more line.
+// Adds a line with this outcome to the tally.
 fn count_line(tally: &mut Tally, outcome: &Outcome)
     requires room { tally.old.lines < lines_limit }
     requires refused { tally.old.refused ≤ tally.old.lines }

@@ -1,4 +1,4 @@
-//! The list of the methods, which TYPE `help` asks for.
+//! The list of the methods, which `-m help` prints.
 ghost use Rattle.std.specs.Prelude.{◌≡◌, ◌≤◌, [], IfOk};
 ghost use Rattle.run_core.specs.Answers.{tally_of};
 ghost use Rattle.run_core.specs.Devices.{HasRoomBeforeRun, turns_limit};
@@ -13,12 +13,15 @@ use std::io::Write;
 
 const METHODS: &str = "Available methods:\nmd5crypt\nsha256crypt\nsha512crypt\nscrypt\n";
 
-/// Gives the list of the methods to the output, in at most `turns` calls of `give`, failed ones among
-/// them. The flush at the end is not one of them.
+/// Writes the list of the methods to `out` and flushes it.
 ///
-/// `Write` is answered after the first call of the output that fails, and `Turns` where one more `give`
-/// than `turns` is needed; the output has then taken the first bytes of the list, or all of it where the
-/// flush is what failed. `turns` is at most 2^40, and the numbers of the output at most 2^62.
+/// It makes at most `turns` writes, including failed ones. The flush is not one of them. Preconditions: `turns` is at
+/// most 2^40, and each count of `out` is at most 2^62.
+///
+/// # Errors
+///
+/// - `Write`: a write failed, and a prefix of the list is written; or the flush failed, after the whole list.
+/// - `Turns`: the list needs one more write than `turns`, and a prefix of it is written.
 pub fn run_methods<O: Write>(out: &mut Output<O>, turns: u64) -> Result<Tally, RunFault>
     requires turns { turns ≤ turns_limit }
     requires room { HasRoomBeforeRun out.old }
@@ -52,8 +55,8 @@ mod tests {
         (Device::Output, Write(len, Ok(taken)))
     }
 
-    // Wants this outcome of a run whose output takes so many bytes a call, in these calls, and of one in which the call
-    // behind the first `whole` fails, if there is one.
+    // Asserts the calls and the outcome of a run whose output takes at most `most` bytes a write. The call after the
+    // first `whole` steps fails, if there is one.
     fn want(
         rt: &impl Abort,
         alloc: Global,

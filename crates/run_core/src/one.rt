@@ -1,5 +1,4 @@
-//! The run for a single password: its hash, with its counts where they are wanted, and a line feed go to
-//! the output.
+//! The run for a single password: it writes the hash, the counts if the job asks for them, and a line feed.
 ghost use Rattle.std.specs.Prelude.{◌≡◌, ◌+◌, ◌^◌, ◌≤◌};
 ghost use Rattle.prims_core.specs.Work.{IsAtMost};
 ghost use Rattle.run_core.specs.JobOptions.{without_budget, without_rehash};
@@ -23,25 +22,29 @@ use rand_core::Rng;
 use std::alloc::Global;
 use std::io::{Read, Write};
 
-/// Hashes one password by the job's setting, and gives the hash and a line feed to the output, with the
-/// counts `:digests:bytes:mixes:table` of this hash between the two where the job wants them.
+/// Hashes one password with the job's setting and writes the hash and a line feed to `out`.
 ///
-/// The password is a word's bytes; or of the input what stands before the first line feed, or all of it
-/// without one, and what follows the line feed in the piece that was read is dropped. It is tested before
-/// three words are drawn for a salt, where that has to be made, and these are drawn before anything is
-/// hashed. Both outputs are flushed at the end. The job's `budget` and `rehash` have no effect.
+/// The password is the bytes of an argument, or the first line of the input. That line ends before the first line feed
+/// or at the end of the input. The run drops what follows the line feed in the piece that it read. It checks the
+/// password first, then draws three random numbers if it makes the salt, and then hashes. It flushes both outputs at
+/// the end.
 ///
-/// - `Password`: the password is refused; from the input it is too long once [`PASSWORD_LIMIT`] and one bytes
-///   without a line feed were read. Nothing was written, drawn or hashed.
-/// - `Read`: a read failed before the password was known. Likewise.
-/// - `OutOfMemory`: the memory of scrypt was refused, and nothing was written; the words for a salt were drawn.
-/// - `Write`: a write or a flush failed. The output has taken the first bytes of the answer, or all of it where a
-///   flush failed.
-/// - `Turns`: one more fetch or give than `turns` is needed. The output has taken a first part of the answer, or nothing
-///   where the password was not known.
+/// With the job's `work` the counts `:digests:bytes:mixes:table` follow the hash. The job's `budget` and `rehash` have
+/// no effect. The tally counts one line.
 ///
-/// Conditions: `turns` is at most 2^40, each count of the meter at most 2^100, and the numbers of the devices at
-/// most 2^62.
+/// For example, with md5crypt and the salt `xxxxxxxx`, `password` gives `$1$xxxxxxxx$UYCIxa628.9qXjpQCjM4a.`.
+///
+/// Preconditions: `turns` is at most 2^40, each count of the meter at most 2^100, and each count of the devices at most
+/// 2^62.
+///
+/// # Errors
+///
+/// - `Password`: the password is invalid. In the input it is too long once [`PASSWORD_LIMIT`] + 1 bytes without a line
+///   feed were read. Nothing is written, drawn or hashed.
+/// - `Read`: a read failed before the end of the password. Nothing is written, drawn or hashed.
+/// - `OutOfMemory`: scrypt could not allocate. Nothing is written, and the random numbers for a salt are drawn.
+/// - `Write`: a write failed, and a prefix of the output is written; or a flush failed, after all of it.
+/// - `Turns`: the run needs one more read or write than `turns`. If it is a write, a prefix of the output is written.
 ///
 /// [`PASSWORD_LIMIT`]: crypt_core::password::PASSWORD_LIMIT
 pub fn run_one<I: Read, O: Write, E: Write, R: Rng>(
@@ -84,7 +87,7 @@ pub fn run_one<I: Read, O: Write, E: Write, R: Rng>(
     })
 }
 
-// The password: a word's bytes, or the first line of the input.
+// Returns the password: the bytes of an argument, or the first line of the input.
 fn obtain<I: Read>(
     from: &PasswordFrom,
     input: &mut Input<I>,

@@ -1,14 +1,14 @@
-//! What a run counts of its lines.
+//! Tallies: the counts of a run's lines.
 ghost use Rattle.std.specs.Prelude.{◌≡◌, []};
 
-/// Lines seen, lines refused, and answers `no`. A single password is one line.
+/// The counts of a run's lines. A single password is one line.
 #[derive(Clone, Copy, Debug, PartialEq, Eq)]
 pub struct Tally {
-    /// The lines that were seen, refused ones among them.
+    /// All lines, including rejected ones.
     pub lines: u64,
-    /// The lines that were refused.
+    /// The rejected lines.
     pub refused: u64,
-    /// The lines that were answered `no`.
+    /// The lines with the verdict `no`.
     pub misfits: u64,
 }
 
@@ -16,7 +16,7 @@ impl Tally {
     ghost use Rattle.run_core.specs.Answers.{tally_of};
     ghost use Rattle.run_core.specs.Tallies.{tally_status};
 
-    /// No line was seen.
+    /// Returns the tally of no lines.
     pub fn new() -> Tally
         ensures { result ≡ tally_of [] }
     {
@@ -27,8 +27,9 @@ impl Tally {
         }
     }
 
-    /// The exit status of a run that was not cut short: 1 where a line was refused or answered
-    /// `no`, else 0.
+    /// Returns the exit status of a run that ends with this tally.
+    ///
+    /// It is 1 if a line was rejected or got the verdict `no`, otherwise 0.
     pub fn status(&self) -> u8
         ensures { result ≡ tally_status self.now }
     {

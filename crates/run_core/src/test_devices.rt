@@ -1,6 +1,5 @@
-//! Devices over memory, and a generator of known words, for tests. A device tells contracts its bytes,
-//! keeps a list of its calls, and fails with a kind of error that the test chooses, so that the test can
-//! tell it from any other.
+//! Devices over memory, and a generator of known numbers, for tests. A device exposes its contents to contracts and
+//! records its calls. It fails with a kind of error that the test chooses, so that the test can tell it from any other.
 ghost use Rattle.std.specs.Prelude.{◌≡◌, ◌<◌, Some, None, drop, slice_index};
 ghost use Rattle.rand_core.specs.Steps.{stream_of, steps_u64_low};
 
@@ -14,7 +13,7 @@ use std::io;
 use std::io::{ErrorKind, Read, Write};
 use std::marker::Model;
 
-/// The kind of the error, where there is one.
+/// Returns the kind of the error, if there is one.
 pub fn fault_of<T: Drop>(answer: io::Result<T>) -> Option<ErrorKind> {
     match answer {
         Ok(_) => None,
@@ -22,10 +21,10 @@ pub fn fault_of<T: Drop>(answer: io::Result<T>) -> Option<ErrorKind> {
     }
 }
 
-/// The failure of a device at this call, which is counted from 1.
+/// The call at which a device fails, counted from 1, and the kind of its error.
 type Fault = Option<(u64, ErrorKind)>;
 
-// The kind of the error at the call behind these, where it is the one that fails.
+// Returns the kind of the error if the call after these is the one that fails.
 fn fault_behind(calls: &[Call], fault: Fault) -> Option<ErrorKind> {
     match fault {
         Some((call, kind)) if call == (calls.len() as u64).saturating_add(1) => Some(kind),
@@ -33,7 +32,7 @@ fn fault_behind(calls: &[Call], fault: Fault) -> Option<ErrorKind> {
     }
 }
 
-/// A writer that takes at most so many bytes a call, and may fail at one call or at its flush.
+/// A writer that takes at most a given number of bytes a call, and may fail at one call or at its flush.
 #[derive(Drop)]
 pub struct MemoryWriter {
     taken: Vec<u8>,
@@ -44,7 +43,7 @@ pub struct MemoryWriter {
 }
 
 impl MemoryWriter {
-    /// Takes all it is given.
+    /// Returns a writer that takes every byte.
     pub fn new(alloc: Global) -> MemoryWriter {
         MemoryWriter {
             taken: Vec::new(alloc),
@@ -55,30 +54,30 @@ impl MemoryWriter {
         }
     }
 
-    /// Takes at most `most` bytes a call.
+    /// Limits each call to `most` bytes.
     pub fn by(mut self, most: usize) -> MemoryWriter {
         self.most = most;
         self
     }
 
-    /// Fails at this call, counted from 1, with an error of this kind.
+    /// Makes this call, counted from 1, fail with an error of this kind.
     pub fn failing_at(mut self, call: u64, kind: ErrorKind) -> MemoryWriter {
         self.fault = Some((call, kind));
         self
     }
 
-    /// Fails at a flush, with an error of this kind.
+    /// Makes each flush fail with an error of this kind.
     pub fn failing_flush(mut self, kind: ErrorKind) -> MemoryWriter {
         self.flush_fault = Some(kind);
         self
     }
 
-    /// What it has taken.
+    /// Returns the bytes that it has taken.
     pub fn taken(&self) -> &[u8] {
         self.taken.as_slice()
     }
 
-    /// Its calls, in order.
+    /// Returns its calls, in order.
     pub fn calls(&self) -> &[Call] {
         self.calls.as_slice()
     }
@@ -109,8 +108,9 @@ impl Write for MemoryWriter {
     }
 }
 
-/// A reader of listed bytes, which gives at most so many bytes a call, and may fail at one call. To
-/// contracts it is the bytes that it has left, or `None` where it repeats them for ever.
+/// A reader of given bytes, which returns at most a given number of them a call.
+///
+/// It may fail at one call. Contracts see the bytes that it has left, or `None` if it repeats them for ever.
 #[derive(Drop)]
 pub struct MemoryReader<'a> {
     bytes: &'a [u8],
@@ -132,7 +132,7 @@ impl<'a> Model for MemoryReader<'a> {
 }
 
 impl<'a> MemoryReader<'a> {
-    /// Gives these bytes once, as many a call as fit.
+    /// Returns a reader of these bytes, each of which it returns once.
     pub fn new(alloc: Global, bytes: &'a [u8]) -> MemoryReader<'a>
         ensures { result ≡ Some bytes.now }
     {
@@ -146,7 +146,7 @@ impl<'a> MemoryReader<'a> {
         }
     }
 
-    /// Begins again after the last byte, for ever.
+    /// Makes the reader begin again after the last byte, for ever.
     pub fn repeated(mut self) -> MemoryReader<'a>
         ensures { result ≡ None }
     {
@@ -154,7 +154,7 @@ impl<'a> MemoryReader<'a> {
         self
     }
 
-    /// Gives at most `most` bytes a call; to give none is to be at the end.
+    /// Limits each call to `most` bytes; with 0 the reader is at its end.
     pub fn by(mut self, most: usize) -> MemoryReader<'a>
         requires { 0 < most }
         ensures { result ≡ self.entry }
@@ -163,7 +163,7 @@ impl<'a> MemoryReader<'a> {
         self
     }
 
-    /// Fails at this call, counted from 1, with an error of this kind.
+    /// Makes this call, counted from 1, fail with an error of this kind.
     pub fn failing_at(mut self, call: u64, kind: ErrorKind) -> MemoryReader<'a>
         ensures { result ≡ self.entry }
     {
@@ -171,7 +171,7 @@ impl<'a> MemoryReader<'a> {
         self
     }
 
-    /// Its calls, in order.
+    /// Returns its calls, in order.
     pub fn calls(&self) -> &[Call] {
         self.calls.as_slice()
     }
@@ -195,8 +195,7 @@ impl Read for MemoryReader<'_> {
     }
 }
 
-/// A generator that draws listed words in order, and 0 after the last. To contracts it is the words
-/// that it has left.
+/// A generator that returns given numbers in order, and 0 after the last. Contracts see the numbers that it has left.
 #[derive(Drop)]
 pub struct ListedWords<'a> {
     left: &'a [u64],
@@ -211,14 +210,14 @@ impl<'a> Model for ListedWords<'a> {
 }
 
 impl<'a> ListedWords<'a> {
-    /// Draws these words.
+    /// Returns a generator of these numbers.
     pub fn new(words: &'a [u64]) -> ListedWords<'a>
         ensures { result ≡ words.now }
     {
         ListedWords { left: words }
     }
 
-    /// Tells the next word, and leaves it to be drawn.
+    /// Returns the next number without drawing it.
     pub fn peek(&self) -> u64
         ensures { result ≡ slice_index self.now 0 }
     {

@@ -1,4 +1,4 @@
-//! What tests hand to a run, what it leaves, and the run that they list.
+//! The inputs and the results of a run in tests, and runs as tests list them.
 
 use crate::fault::RunFault;
 use crate::job::{Job, Maker};
@@ -11,7 +11,7 @@ use prims_core::meter::Meter;
 use std::alloc::{AllocError, Global};
 use std::process::Abort;
 
-/// What a test asks for: a run over lines, or for the password of a word or of the input, and its job.
+/// The request of a test: the kind of lines, or the password of an argument or of the input, and the job.
 #[derive(Drop)]
 pub struct Request<'a> {
     pub kind: Option<Kind>,
@@ -19,7 +19,7 @@ pub struct Request<'a> {
     pub job: Job,
 }
 
-/// Reads what a test asks for, in the words of the command. A word that is no option is the password.
+/// Parses the request of a test from arguments of the command. An argument that is no option is the password.
 pub fn request_of<'a>(rt: &impl Abort, words: &[&'a str]) -> Request<'a> {
     let (mut method, mut salt, mut cost) = (Some(Method::Sha512crypt), None, 0);
     let (mut kind, mut password) = (None, None);
@@ -68,8 +68,9 @@ pub fn request_of<'a>(rt: &impl Abort, words: &[&'a str]) -> Request<'a> {
     }
 }
 
-/// What a run is given: an empty input, outputs that take all, and as many turns as may be, where a test
-/// has no other.
+/// The devices and the limit of a run.
+///
+/// By default the input is empty, the outputs take everything, and the limit on I/O calls is the greatest.
 #[derive(Drop)]
 pub struct Given<'a> {
     pub reader: MemoryReader<'a>,
@@ -109,7 +110,7 @@ impl<'a> Given<'a> {
     }
 }
 
-/// What a run left: its outcome, its devices, the word that is drawn next, and the meter.
+/// The results of a run: its outcome, its devices, the next random number, and the meter.
 #[derive(Drop)]
 pub struct Left<'a> {
     pub outcome: Result<Tally, RunFault>,
@@ -133,7 +134,7 @@ impl<'a> Left<'a> {
         }
     }
 
-    /// Wants this outcome, and these bytes in the output and in the fault output.
+    /// Asserts the outcome, and the bytes in the output and in `faults`.
     pub fn want(
         &self,
         rt: &impl Abort,
@@ -150,12 +151,12 @@ impl<'a> Left<'a> {
     }
 }
 
-/// An outcome, with the text of its fault, which no other fault has.
+/// Returns the outcome with the message of its error, which is different for each error.
 pub fn told(outcome: Result<Tally, RunFault>) -> Result<Tally, &'static str> {
     outcome.map_err(|fault| fault.text())
 }
 
-/// The five counts of a meter.
+/// Returns the five counts of a meter.
 pub fn counted(meter: &Meter) -> [u128; 5] {
     [
         meter.digests(),
@@ -166,7 +167,7 @@ pub fn counted(meter: &Meter) -> [u128; 5] {
     ]
 }
 
-/// The outcome of a run, and its devices: the output, the fault output and the input.
+/// The outcome of a run, and its devices: `out`, `faults` and the input.
 pub type Ran<'a> = (
     Result<Tally, RunFault>,
     MemoryWriter,
@@ -174,13 +175,14 @@ pub type Ran<'a> = (
     MemoryReader<'a>,
 );
 
-/// A run as a test lists it: the words that ask for it, what its devices are, each call that it makes of
-/// them, in order, and how it ends.
+/// A run as a test lists it.
+///
+/// It has the arguments, the contents and limits of the devices, each device call in order, and the outcome.
 #[derive(Clone, Copy)]
 pub struct Listed<'a> {
     pub words: &'a [&'a str],
     pub input: &'a [u8],
-    /// How many bytes the input gives and an output takes a call.
+    /// The most bytes that a read returns and that a write takes.
     pub by: (usize, usize),
     pub steps: &'a [Step],
     pub outcome: Result<Tally, RunFault>,
@@ -188,14 +190,14 @@ pub struct Listed<'a> {
     pub faults: &'a str,
 }
 
-// As many bytes of the text as these calls took.
+// Returns as many bytes of the output as these calls took.
 fn taken_of<'a>(text: &'a str, calls: &[Call]) -> &'a [u8] {
     let bytes = text.as_bytes();
     bytes.get(..bytes_taken(calls)).unwrap_or(bytes)
 }
 
 impl<'a> Listed<'a> {
-    /// The devices of the run, one of which fails at the step behind the first `whole`, if there is one.
+    /// Returns the devices of the run, one of which fails at the step after the first `whole`, if there is one.
     pub fn given(&self, rt: &impl Abort, alloc: Global, whole: usize) -> Given<'a> {
         let (gives, takes) = self.by;
         assert!(rt; gives > 0);
@@ -219,7 +221,7 @@ impl<'a> Listed<'a> {
         given
     }
 
-    /// Wants the listed calls, texts and outcome of such a run, and nothing after the step that failed.
+    /// Asserts the listed calls, output and outcome of such a run, and that no call follows the failed step.
     pub fn want(
         &self,
         rt: &impl Abort,

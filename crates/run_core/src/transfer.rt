@@ -1,5 +1,5 @@
-//! What every run does with its devices: it fetches pieces of the input and looks for line feeds in them, gives whole
-//! texts to an output, and flushes both outputs at the end. A fetch or a give takes one of the turns that are left.
+//! The device calls of every run: it reads pieces and finds line feeds in them, writes whole strings, and flushes both
+//! outputs at the end. Each read or write uses one of the I/O calls that are left.
 ghost use Rattle.std.specs.Prelude.{◌≡◌, ◌+◌, ◌-◌, ◌^◌, ◌<◌, ◌≤◌, ◌==◌, length, position, OnOk};
 ghost use Rattle.run_core.specs.Devices.{HasRoomWithinRun, MovesBytes, turns_limit};
 ghost use Rattle.run_core.specs.Output.{Shows};
@@ -11,10 +11,14 @@ use crate::device::{Input, Output};
 use crate::fault::RunFault;
 use std::io::{Read, Write};
 
-/// Makes one fetch into the buffer, which takes one of the turns that are left, and answers how many bytes it
-/// gave: none at the end.
+/// Reads once into `buffer` and returns the number of bytes read: 0 at the end.
 ///
-/// `Read` is answered where the fetch failed, and `Turns` where no turn is left.
+/// It uses one of the `left` I/O calls.
+///
+/// # Errors
+///
+/// - `Read`: the read failed.
+/// - `Turns`: `left` is 0.
 pub(crate) fn fetch_piece<I: Read>(
     input: &mut Input<I>,
     buffer: &mut [u8],
@@ -39,18 +43,21 @@ pub(crate) fn fetch_piece<I: Read>(
     }
 }
 
-/// Where the first line feed stands.
+/// Returns the position of the first line feed.
 pub(crate) fn line_feed_at(bytes: &[u8]) -> Option<usize>
     ensures { result ≡ position (λ b. b == line_feed) bytes.now }
 {
     bytes.iter().position(|byte| *byte == b'\n')
 }
 
-/// Gives the whole text, in as many calls as the device wants, each of which takes one of the turns that
-/// are left.
+/// Writes all of `text`, in as many calls as the device needs. Each call uses one of the `left` I/O calls.
 ///
-/// `Write` is answered after the first call that fails, and `Turns` where another call is needed and no
-/// turn is left. The output has then taken the first bytes of the text.
+/// # Errors
+///
+/// A prefix of `text` is written.
+///
+/// - `Write`: a write failed.
+/// - `Turns`: another write is needed, and `left` is 0.
 pub(crate) fn send<O: Write>(
     out: &mut Output<O>,
     text: &[u8],
@@ -81,8 +88,15 @@ pub(crate) fn send<O: Write>(
     Ok(())
 }
 
-/// Gives the whole text in at most so many calls, and flushes the output. `Write` and `Turns` are answered as by
-/// [`send`], and `Write` also where the flush fails.
+/// Writes all of `text` in at most `turns` writes, and flushes the output.
+///
+/// Preconditions: `turns` is at most 2^40, `text` has fewer than 2^63 bytes, and the counts of the output are within
+/// the limits that a run leaves.
+///
+/// # Errors
+///
+/// - `Write`: a write failed, and a prefix of `text` is written; or the flush failed, after all of `text`.
+/// - `Turns`: one more write than `turns` is needed, and a prefix of `text` is written.
 pub fn show<O: Write>(out: &mut Output<O>, text: &[u8], turns: u64) -> Result<(), RunFault>
     requires turns { turns ≤ turns_limit }
     requires room { HasRoomWithinRun out.old }
@@ -97,8 +111,11 @@ pub fn show<O: Write>(out: &mut Output<O>, text: &[u8], turns: u64) -> Result<()
     Ok(())
 }
 
-/// Flushes both outputs at the end of a run, which takes no byte and no turn. `Write` is answered after the first
-/// flush that fails.
+/// Flushes both outputs at the end of a run, `out` first. The flushes move no byte and use no I/O call of the limit.
+///
+/// # Errors
+///
+/// - `Write`: a flush failed. If it is that of `out`, `faults` is not flushed.
 pub(crate) fn finish_both<O: Write, E: Write>(
     out: &mut Output<O>,
     faults: &mut Output<E>,

@@ -1,4 +1,4 @@
--- What the steps of a call hand on.
+-- What the steps of a call guarantee to it.
 use Rattle.std.specs.Prelude.{◌≡◌, ℕ, List, length, take}
 use Rattle.crypt_core.specs.Crypt.{crypt}
 use Rattle.crypt_core.specs.Settings.{SettingValue, Spells}
@@ -6,7 +6,7 @@ use Rattle.crypt_core.specs.Work.{cost}
 use Rattle.crypt_core.specs.declared.scheme.Scheme.{Scheme}
 use Rattle.crypt_c.specs.declared.report.Report.{Report}
 
--- the text that was put is the password's hash by a setting of the scheme, which it spells, at the cost that is reported
+-- The hash in `out`: that of the password with a setting of the scheme, which the hash spells, at the reported cost.
 abbrev pub IsHashPut : List ℕ → Scheme → Report → List ℕ → Type 0
 IsHashPut password scheme report new =
     (kept : SettingValue) × (kept.scheme ≡ scheme) × Spells (take report.length new) kept

@@ -13,29 +13,29 @@ use Rattle.mkpasswd.specs.declared.options.Mode.TheVariants.{Word, Input, Lines}
 
 -- ---- rules of the command
 
--- `--rounds`, whose numbers are those of 32 bits
+-- `--rounds` takes a 32-bit number.
 abbrev pub rounds_rule : Rule
 rounds_rule = record (option_rule (codes "rounds") (Some 82)) { parser = Some (Signed (pos 0) (pos 4294967295)) }
 
--- `--budget`, whose numbers are those of 64 bits
+-- `--budget` takes a 64-bit number.
 abbrev pub budget_rule : Rule
 budget_rule = record (option_rule (codes "budget") None) { parser = Some (Unsigned 0 18446744073709551615) }
 
--- the options that say what is hashed, and how
+-- These options are for the method, the salt, the cost and the source of the password.
 abbrev pub hash_rules : List Rule
 hash_rules =
     option_rule (codes "method") (Some 109) ∷ option_rule (codes "salt") (Some 83) ∷ rounds_rule
     ∷ flag_rule (codes "stdin") (Some 115) ∷ []
 
--- the options that say what is done with lines, and what is told
+-- These options are for lines and for what is printed.
 abbrev pub line_rules : List Rule
 line_rules =
     flag_rule (codes "batch") None ∷ flag_rule (codes "check") None ∷ flag_rule (codes "rehash") None
     ∷ flag_rule (codes "work") None ∷ budget_rule ∷ []
 
--- ---- what is kept
+-- ---- the values that are kept
 
--- the values that the code keeps are those of the rows
+-- The values that the code keeps are those of the rows.
 pub record Keeps (rows : List Row) (given : Arguments) : Type 0 where
   pub method : bytes_of given.method ≡ first_of (codes "method") rows
   pub salt : bytes_of given.salt ≡ first_of (codes "salt") rows
@@ -49,12 +49,12 @@ pub record Keeps (rows : List Row) (given : Arguments) : Type 0 where
   pub budget : given.budget ≡ number_in (codes "budget") rows
   pub password : bytes_of given.password ≡ first_of (codes "password") rows
 
--- TYPE does not ask for the list of the methods, and names this one
+-- TYPE names this method, and does not ask for the list of the methods.
 pub record Names (rows : List Row) (method : Method) : Type 0 where
   pub not_help : type_of rows ≢ codes "help"
   pub named : method_named (type_of rows) ≡ Some method
 
--- the mode was asked for; the input also where none was
+-- The arguments ask for this mode. Without a mode they ask for the input.
 abbrev pub AsksFor : List Row → Mode → Type 0
 AsksFor rows (Word password) = first_of (codes "password") rows ≡ Some password.now
 AsksFor rows Input = (is_set (codes "stdin") rows ≡ true) ⊎ (mode_count rows ≡ 0)

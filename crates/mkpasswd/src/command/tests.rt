@@ -16,21 +16,21 @@ use devices::{Given, ListedWords, MemoryReader, MemoryWriter, counted};
 use std::process::Abort;
 use std::test::Fail;
 
-// The text of openssl-passwd(1) for "password", and a line feed.
+// The hash of "password" from openssl-passwd(1), and a line feed.
 const ANSWER: &str = "$1$xxxxxxxx$UYCIxa628.9qXjpQCjM4a.\n";
 
 const LIST: &str = "Available methods:\nmd5crypt\nsha256crypt\nsha512crypt\nscrypt\n";
 
-// The text of libxcrypt for "password" by `$5$rounds=1000$ab`, behind the verdict.
+// A verdict, and libxcrypt's hash of "password" with `$5$rounds=1000$ab`.
 const RENEWED: &str = "ann:ok:$5$rounds=1000$ab$1w1vy5uCLDQWfIMwmaMatnSGmBa34fZnvo3JO2w3CP1\n";
 
 const BY_WORD: [&str; 5] = ["-m", "md5crypt", "-S", "xxxxxxxx", "password"];
 
-// The status, and the devices: the output, the fault output and the input.
+// The exit status, and the devices: `out`, `faults` and the input.
 type Ran<'a> = (u8, MemoryWriter, MemoryWriter, MemoryReader<'a>);
 
-// Runs on devices that tell their bytes. That the output has its old bytes and one hash where the status is 0 and the
-// words ask for that one follows from the clauses of `run_command` alone.
+// Runs on devices that expose their contents. If the status is 0 and the arguments ask for one hash, `out` has gained
+// exactly that hash. That follows from the clauses of `run_command` alone.
 fn run_on<'a, R: Rng>(
     alloc: Global,
     words: &[String],
@@ -64,7 +64,7 @@ fn run_on<'a, R: Rng>(
     )
 }
 
-// What a run of the command left beside the word that is drawn next, where there is a generator.
+// The results of a run, the next random number if there is a generator, and the meter.
 #[derive(Drop)]
 struct Served<'a> {
     ran: Ran<'a>,
@@ -72,7 +72,7 @@ struct Served<'a> {
     meter: Meter,
 }
 
-// Serves the words, with a generator of 129, 0, 0 and 7 or without one.
+// Runs the command with a generator of 129, 0, 0 and 7, or without one.
 fn serve<'a>(
     rt: &impl Abort,
     alloc: Global,
@@ -97,7 +97,7 @@ fn serve<'a>(
     })
 }
 
-// Wants this status and these texts of a run.
+// Asserts the exit status and the output of a run.
 fn want(rt: &impl Abort, words: &[&str], served: &Served<'_>, status: u8, told: (&str, &str)) {
     let (answered, out, faults, _) = &served.ran;
     assert_eq!(rt;
@@ -107,7 +107,7 @@ fn want(rt: &impl Abort, words: &[&str], served: &Served<'_>, status: u8, told: 
     );
 }
 
-// Wants this status, these texts and these counts of a run over the input, which draws no word.
+// Asserts the exit status, the output and the counts of a run over the input, which draws no random number.
 fn want_run(
     rt: &impl Abort,
     alloc: Global,
@@ -128,7 +128,7 @@ fn want_run(
     Ok(())
 }
 
-// What md5crypt counts for a password of eight bytes and a salt of as many.
+// The counts of md5crypt for a password and a salt of eight bytes each.
 const COUNTS: [u128; 5] = [1002, 36239, 0, 0, 0];
 
 #[test]
@@ -185,7 +185,7 @@ fn serves_one_password(rt: HostRuntime) -> Result<(), Fail> {
     Ok(())
 }
 
-// The text is libxcrypt's for this salt.
+// The hash is libxcrypt's for this salt.
 #[test]
 fn draws_three_words_for_a_salt(rt: HostRuntime) -> Result<(), Fail> {
     let alloc = rt.alloc();
@@ -197,7 +197,8 @@ fn draws_three_words_for_a_salt(rt: HostRuntime) -> Result<(), Fail> {
     Ok(())
 }
 
-// A batch, a check, a line at its budget and one below, and a hash that is recent enough.
+// A batch, a check, a line whose cost equals the budget, a line whose cost exceeds it by one, and a hash that is recent
+// enough.
 #[test]
 fn serves_lines(rt: HostRuntime) -> Result<(), Fail> {
     let line = "ann:$1$xxxxxxxx$UYCIxa628.9qXjpQCjM4a.:password\n";
@@ -265,7 +266,7 @@ fn serves_new_hashes(rt: HostRuntime) -> Result<(), Fail> {
     Ok(())
 }
 
-// Words that are refused, by their status and text, which is empty where `clap` has it.
+// Invalid arguments, with the status and the message, which is empty if it is `clap`'s.
 const REFUSED: [(&[&str], u8, &str); 28] = [
     (&["--help"], 0, ""),
     (&["-V"], 0, ""),
@@ -301,7 +302,8 @@ const REFUSED: [(&[&str], u8, &str); 28] = [
     (&["--check", "-m", "scrypt", "-R", "12"], 2, "cost"),
 ];
 
-// What words that are refused leave: nothing is read, drawn or counted, and one output has one text and a flush.
+// Asserts the effect of invalid arguments: nothing is read, drawn or counted, and one output gets one message and one
+// flush.
 fn want_refused(
     rt: &impl Abort,
     alloc: Global,
@@ -383,7 +385,7 @@ fn refuses_without_a_generator(rt: HostRuntime) -> Result<(), Fail> {
     Ok(())
 }
 
-// What draws nothing.
+// Arguments that draw no random number.
 #[test]
 fn serves_without_a_generator(rt: HostRuntime) -> Result<(), Fail> {
     let alloc = rt.alloc();

@@ -2,7 +2,7 @@ use super::*;
 use std::process::Abort;
 use std::test::Fail;
 
-// The words that a shell would hand in.
+// Returns the arguments as a shell passes them.
 pub(crate) fn words_of(alloc: Global, words: &[&str]) -> Result<Vec<String>, AllocError> {
     let mut owned = Vec::new(alloc);
     for word in words {
@@ -11,7 +11,7 @@ pub(crate) fn words_of(alloc: Global, words: &[&str]) -> Result<Vec<String>, All
     Ok(owned)
 }
 
-// The bytes of a password's word, or `None` for the input.
+// Returns the bytes of the password in an argument, or `None` for the input.
 fn word_in(from: &PasswordFrom) -> Option<&[u8]> {
     match from {
         PasswordFrom::Word(bytes) => Some(bytes.as_slice()),
@@ -19,8 +19,8 @@ fn word_in(from: &PasswordFrom) -> Option<&[u8]> {
     }
 }
 
-// Wants the words to plan a hash by this setting, where made salts are of the words 129, 0 and 0, of this password or of
-// the input's.
+// Asserts that the arguments plan a hash with this setting, of the password in this argument or in the input. A made
+// salt has the random numbers 129, 0 and 0.
 fn want_plan(
     rt: &impl Abort,
     alloc: Global,
@@ -45,7 +45,7 @@ const MADE: &str = "$6$/0..............";
 
 #[test]
 fn plans_one_password(rt: HostRuntime) -> Result<(), Fail> {
-    // The words, the setting and the password's word.
+    // The arguments, the setting, and the password in an argument.
     let rows: [(&[&str], &str, Option<&str>); 21] = [
         (
             &["-m", "md5crypt", "-S", "xxxxxxxx", "password"],
@@ -136,7 +136,7 @@ fn lists_methods_whatever_else_is_given(rt: HostRuntime) -> Result<(), Fail> {
     Ok(())
 }
 
-// What is planned, or the text of the refusal, and the options of the job.
+// Returns the plan or the message, and the options of the job.
 fn planned(plan: &Result<Plan, UsageFault>) -> (&'static str, bool, bool, Option<u64>) {
     match plan {
         Ok(Plan::Methods) => ("methods", false, false, None),
@@ -164,7 +164,7 @@ fn plans_by_all_flags(rt: HostRuntime) -> Result<(), Fail> {
     Ok(())
 }
 
-// Wants the plan of the flags that are given, of which one at most tells a mode.
+// Asserts the plan for the flags that are given, or the message if more than one of them sets the mode.
 fn want_mode(rt: &impl Abort, alloc: Global, flags: [(bool, &str); 6]) -> Result<(), Fail> {
     let mut given = Vec::new(alloc);
     for (is_given, flag) in flags {

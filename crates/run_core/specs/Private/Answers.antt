@@ -1,4 +1,4 @@
--- How the steps that decide an answer can end.
+-- The results of the steps that decide an answer.
 use Rattle.std.specs.Prelude.{◌≡◌, ◌≢◌, Bool, ℕ, ◌+◌, ◌<◌, ◌⊎◌, true, false, List, [], ◌∷◌, ◌++◌, decimal, flat_map, if◌then◌else◌, Option, Some, None, Result, Ok, Err}
 use Rattle.rand_core.specs.Stream.{Stream}
 use Rattle.prims_core.specs.declared.meter.Work.{Work}
@@ -23,7 +23,7 @@ use Rattle.run_core.specs.declared.line.LineFault.TheVariants.{OverBudget}
 use Rattle.run_core.specs.declared.tally.Tally.{Tally}
 use Rattle.run_core.specs.Texts.{as_line, colon}
 
--- each count has risen by less than a number
+-- IsRaisedBelow limit before after: each count has risen by less than `limit`.
 pub record IsRaisedBelow (limit : ℕ) (before after : Work) : Type 0 where
   pub digests : after.digests < before.digests + limit
   pub bytes : after.bytes < before.bytes + limit
@@ -31,18 +31,21 @@ pub record IsRaisedBelow (limit : ℕ) (before after : Work) : Type 0 where
   pub table : after.table < before.table + limit
   pub scratch : after.scratch < before.scratch + limit
 
--- the greatest cost of the hashes for a password, by its field
+-- field_cost job field password_length is the greatest cost of the hashes for a password with this length and this
+-- field.
 abbrev pub field_cost : Job → Option StoredField → ℕ → ℕ
 field_cost job None password_length = made_cost_by job.maker password_length
 field_cost job (Some (fields.Hash stored)) password_length = check_cost job stored.setting password_length
 field_cost job (Some other) password_length = 0
 
--- hashes are made, in order, with their work and their words; or memory for one of them was refused
+-- Makes hashings stream before after new_stream result: these hashes were made in order, with their work and their
+-- random numbers; or scrypt could not allocate for one of them.
 abbrev pub Makes : List Hashing → Stream → Work → Work → Stream → {A : Type 0} → Result A HashFault → Type 0
 Makes hashings stream before after new_stream (Ok made) = (after ≡ after_work before hashings) × (new_stream ≡ stream_left stream hashings)
 Makes hashings stream before after new_stream (Err fault) = IsRefusedAmong before hashings after new_stream
 
--- what the comparison of a password with its stored hash comes to; if memory was refused, what it would have come to
+-- IsChecked job password stored stream hashings outcome: comparing the password with its stored hash has this outcome,
+-- and takes these hashes. If scrypt could not allocate, the outcome is what it would have been.
 abbrev pub IsChecked : Job → List ℕ → StoredHash → Stream → List Hashing → Outcome → Type 0
 IsChecked job password stored stream hashings Mismatch =
     (crypt password stored.setting ≢ stored.text) × (hashings ≡ hashing password stored.setting stream ∷ [])
@@ -54,12 +57,13 @@ IsChecked job password stored stream hashings (Rehashed hash) =
     × (hashings ≡ hashing password stored.setting stream ∷ new_hashing job password stream ∷ [])
 IsChecked job password stored stream hashings outcome = ⊥
 
--- an outcome that is there, or that would have been if memory had not been refused
+-- IsResult Is result outcome: `Is` is true of the outcome, which is the result unless scrypt could not allocate.
 abbrev pub IsResult : (Outcome → Type 0) → Result Outcome HashFault → Outcome → Type 0
 IsResult Is (Ok made) outcome = Is outcome × (made ≡ outcome)
 IsResult Is (Err fault) outcome = Is outcome
 
--- what a password comes to, by its field
+-- IsSettled job password field stream hashings outcome: the password with this field has this outcome, and takes these
+-- hashes.
 abbrev pub IsSettled : Job → List ℕ → Option StoredField → Stream → List Hashing → Outcome → Type 0
 IsSettled job password None stream hashings outcome =
     (outcome ≡ Hashed (new_hash job password stream)) × (hashings ≡ new_hashing job password stream ∷ [])
@@ -67,13 +71,16 @@ IsSettled job password (Some fields.Empty) stream hashings outcome = (outcome �
 IsSettled job password (Some fields.Locked) stream hashings outcome = (outcome ≡ Locked) × (hashings ≡ [])
 IsSettled job password (Some (fields.Hash stored)) stream hashings outcome = IsChecked job password stored stream hashings outcome
 
+-- Settles job password field stream before after new_stream result: the step for a password with this field ended with
+-- this result.
 abbrev pub Settles : Job → List ℕ → Option StoredField → Stream → Work → Work → Stream → Result Outcome HashFault → Type 0
 Settles job password field stream before after new_stream result =
     (outcome : Outcome) × (hashings : List Hashing)
     × IsResult (IsSettled job password field stream hashings) result outcome
     × Makes hashings stream before after new_stream result
 
--- a line comes to this, whatever its number is; a refusal may have any name
+-- IsDecided kind job line stream name outcome hashings: the line has this outcome, whatever its number is. A rejected
+-- line may have any name.
 abbrev pub IsDecided : Kind → Job → List ℕ → Stream → List ℕ → Outcome → List Hashing → Type 0
 IsDecided kind job line stream name outcome hashings =
     ((fault : LineFault) × IsLineRefused kind line fault × (outcome ≡ Refused fault) × (hashings ≡ []))
@@ -81,7 +88,8 @@ IsDecided kind job line stream name outcome hashings =
     ⊎ (IsSound kind line × (¬ IsCostly kind job line) × (parts : Parts) × HasParts kind line parts × (parts.name ≡ name)
     × ComesTo job parts stream outcome hashings))
 
--- a line is decided; if memory was refused, this is what it would have come to
+-- Decides kind job line stream before after new_stream result: the step for a line ended with this result. If scrypt
+-- could not allocate, the outcome is what it would have been.
 abbrev pub Decides : Kind → Job → List ℕ → Stream → Work → Work → Stream → Result LineAnswer HashFault → Type 0
 Decides kind job line stream before after new_stream (Ok answer) =
     (hashings : List Hashing) × IsDecided kind job line stream answer.name.now answer.outcome hashings
@@ -90,37 +98,38 @@ Decides kind job line stream before after new_stream (Err fault) =
     (name : List ℕ) × (outcome : Outcome) × (hashings : List Hashing) × IsDecided kind job line stream name outcome hashings
     × IsRefusedAmong before hashings after new_stream
 
--- the answer with this number, from its parts
+-- answer_text wanted number name outcome hashings is the text of the answer with this number and these parts.
 abbrev pub answer_text : Bool → ℕ → List ℕ → Outcome → List Hashing → List ℕ
 answer_text wanted number name (Refused fault) hashings = (refusal number fault).text
 answer_text wanted number name outcome hashings = as_line (name ++ colon ∷ rendered outcome ++ counts_text wanted hashings)
 
+-- answer_of job number name outcome hashings is the answer with this number and these parts.
 abbrev pub answer_of : Job → ℕ → List ℕ → Outcome → List Hashing → Answer
 answer_of job number name outcome hashings =
     record { text = answer_text job.work number name outcome hashings; outcome = outcome; hashings = hashings }
 
 -- ---- texts
 
--- a name, with the colon behind it; a single password has none
+-- front_by name is the name and a colon. It is empty for a single password, which has no name.
 abbrev pub front_by : Option (List ℕ) → List ℕ
 front_by None = []
 front_by (Some name) = name ++ colon ∷ []
 
--- a colon and a number in decimal
+-- count_text count is a colon and the count in decimal.
 abbrev pub count_text : ℕ → List ℕ
 count_text count = colon ∷ decimal count
 
--- the counts of some work
+-- work_text work is `:digests:bytes:mixes:table` with the counts of this work.
 abbrev pub work_text : Work → List ℕ
 work_text work = flat_map (λ count. colon ∷ decimal count) (work.digests ∷ work.bytes ∷ work.mixes ∷ work.table ∷ [])
 
--- and only if they are wanted
+-- wanted_text wanted work is the same if `wanted` is true, else empty.
 abbrev pub wanted_text : Bool → Work → List ℕ
 wanted_text wanted work = if wanted then work_text work else []
 
 -- ---- the tally
 
--- the tally after one more line, which came to this
+-- counted tally outcome is the tally after one more line with this outcome.
 abbrev pub counted : Tally → Outcome → Tally
 counted tally outcome = record {
   lines = tally.lines + 1;

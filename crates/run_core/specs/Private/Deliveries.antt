@@ -1,4 +1,4 @@
--- How the giving of a text to one output, or the flush of both, can end.
+-- The results of writing a text to one output, and of flushing both outputs.
 use Rattle.std.specs.Prelude.{◌≡◌, ℕ, ◌+◌, ◌⊎◌, List, [], ◌∷◌, Result, Ok, Err}
 use Rattle.std.specs.Io.KnownBytes.{Keeps}
 use Rattle.run_core.specs.Answers.{Answer, fault_texts, texts}
@@ -10,55 +10,59 @@ use Rattle.run_core.specs.declared.fault.RunFault.{RunFault}
 use Rattle.run_core.specs.declared.fault.RunFault.TheVariants.{Write, Turns}
 
 module _ {T : Type 0} where
-  -- no call failed
+  -- IsUnfailed old new: no call failed.
   abbrev pub IsUnfailed : Device T → Device T → Type 0
   IsUnfailed old new = new.failures ≡ old.failures
 
-  -- one call failed
+  -- FailsOnce old new: exactly one call failed.
   abbrev pub FailsOnce : Device T → Device T → Type 0
   FailsOnce old new = new.failures ≡ old.failures + 1
 
-  -- a text was given: whole where there is an answer; its first bytes where a call failed; and with some
-  -- still to come where the turns were over, all of which were taken
+  -- Delivers turns old new text result: writing `text` ended with this result.
+  --   Ok     all of it was taken
+  --   Write  a proper prefix of it was taken, and one call failed
+  --   Turns  a proper prefix of it was taken, and all `turns` calls were made
   abbrev pub Delivers : ℕ → Device T → Device T → List ℕ → {A : Type 0} → Result A RunFault → Type 0
   Delivers turns old new text (Ok answer) = Takes 0 0 old new text
   Delivers turns old new text (Err Write) = TakesFront 1 old new [] text
   Delivers turns old new text (Err Turns) = TakesFront 0 old new [] text × (new.calls ≡ old.calls + turns)
   Delivers turns old new text (Err fault) = ⊥
 
-  -- a flush changes nothing that is told or counted, but for its own counts
+  -- IsKept old new: a flush changes neither the contents nor the counts, except those of flushes and failures.
   pub record IsKept (old new : Device T) : Type 0 where
     pub shown : Keeps old.shown new.shown
     pub calls : new.calls ≡ old.calls
     pub bytes : new.bytes ≡ old.bytes
     pub idle : new.idle ≡ old.idle
 
-  -- an output is flushed; or that failed
+  -- IsFinished old new: the flush of an output succeeded.
   pub record IsFinished (old new : Device T) : Type 0 where
     pub kept : IsKept old new
     pub unfailed : IsUnfailed old new
     pub flushed : IsFlushed old new
 
+  -- IsUnfinished old new: the flush of an output failed.
   pub record IsUnfinished (old new : Device T) : Type 0 where
     pub kept : IsKept old new
     pub failed : FailsOnce old new
     pub flush_failed : FailsToFlush old new
 
 module _ {O E : Type 0} where
-  -- both outputs are flushed; or only up to the first flush that failed
+  -- FinishesBoth out faults new_out new_faults result: both outputs were flushed, up to the first flush that failed.
   abbrev pub FinishesBoth : Device O → Device E → Device O → Device E → {A : Type 0} → Result A RunFault → Type 0
   FinishesBoth out faults new_out new_faults (Ok done) = IsFinished out new_out × IsFinished faults new_faults
   FinishesBoth out faults new_out new_faults (Err Write) =
       (IsUnfinished out new_out × (new_faults ≡ faults)) ⊎ (IsFinished out new_out × IsUnfinished faults new_faults)
   FinishesBoth out faults new_out new_faults (Err fault) = ⊥
 
-  -- after answers that were given, the first bytes of the next one were: a call failed; or the turns were over
+  -- IsSentInPart left done next out faults new_out new_faults fault: the outputs have taken the answers `done` and a
+  -- proper prefix of `next`. A call failed, or no I/O call was left.
   abbrev pub IsSentInPart : ℕ → List Answer → Answer → Device O → Device E → Device O → Device E → RunFault → Type 0
   IsSentInPart left done next out faults new_out new_faults Write = TakeFront 1 done next out faults new_out new_faults
   IsSentInPart left done next out faults new_out new_faults Turns = (left ≡ 0) × TakeFront 0 done next out faults new_out new_faults
   IsSentInPart left done next out faults new_out new_faults fault = ⊥
 
-  -- an answer is given whole, or in part
+  -- Sends left answer out faults new_out new_faults result: the answer was written, in full or in part.
   abbrev pub Sends : ℕ → Answer → Device O → Device E → Device O → Device E → {A : Type 0} → Result A RunFault → Type 0
   Sends left answer out faults new_out new_faults (Ok done) =
       Takes 0 0 out new_out (texts (answer ∷ [])) × Takes 0 0 faults new_faults (fault_texts (answer ∷ []))

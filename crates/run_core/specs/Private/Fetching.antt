@@ -1,4 +1,4 @@
--- One fetch, the first line in a buffer that fetches fill, and the password that it is.
+-- One `fetch`, the first line in a buffer that is filled with `fetch`, and the password in that line.
 use Rattle.std.specs.Prelude.{◌≡◌, ◌≢◌, ℕ, ◌+◌, ◌≤◌, List, [], length, take, Result, Ok, Err}
 use Rattle.std.specs.Io.KnownBytes.{IsAtEnd}
 use Rattle.crypt_core.specs.Passwords.{IsPassword, IsPasswordRefused, password_limit}
@@ -11,23 +11,28 @@ use Rattle.run_core.specs.declared.fault.RunFault.TheVariants.{Read, Turns, Pass
 use Rattle.run_core.specs.declared.job.PasswordFrom.{PasswordFrom}
 use Rattle.run_core.specs.declared.job.PasswordFrom.TheVariants.{Word, Input}
 
--- so many bytes without a line feed are one too many for a password
+-- buffer_size is one more than the most bytes of a password. With that many bytes and no line feed among them, a password
+-- is too long.
 abbrev pub buffer_size : ℕ
 buffer_size = password_limit + 1
 
--- the bytes that were read don't tell the password yet: they have no line feed, and could still be one
+-- IsUndecided bytes: the bytes that were read do not determine the password yet. They have no line feed, and are not
+-- too many for a password.
 abbrev pub IsUndecided : List ℕ → Type 0
 IsUndecided bytes = HasNoLineFeed bytes × (length bytes ≤ password_limit)
 
--- a fetch failed, or no turn was left, before the password was known, and each fetch that worked had given a byte
+-- IsStopped old new bytes left fault: a read failed, or no I/O call was left, before the password was known. Each read
+-- that succeeded had returned a byte.
 abbrev pub IsStopped : {I : Type 0} → Device I → Device I → List ℕ → ℕ → RunFault → Type 0
 IsStopped old new bytes left Read = FailsOnce old new × IsUndecided bytes × MovesBytes 0 old new
 IsStopped old new bytes left Turns = IsUnfailed old new × IsUndecided bytes × (left ≡ 0) × MovesBytes 0 old new
 IsStopped old new bytes left fault = ⊥
 
 module _ {I : Type 0} where
-  -- the first so many bytes of the buffer were read, none only at the end, and only then was the fetch idle; or nothing
-  -- was, since the fetch failed or no turn was left for it
+  -- Fetches left old new buffer result: one `fetch` ended with this result.
+  --   Ok     the first bytes of the buffer were read; if they are none, the input is at its end
+  --   Read   the read failed
+  --   Turns  no I/O call was left
   abbrev pub Fetches : ℕ → Device I → Device I → List ℕ → Result ℕ RunFault → Type 0
   Fetches left old new buffer (Ok count) =
       (count ≤ length buffer) × IsUnfailed old new × Reads old new (take count buffer)
@@ -36,15 +41,15 @@ module _ {I : Type 0} where
   Fetches left old new buffer (Err Turns) = IsUnfailed old new × Reads old new [] × (left ≡ 0) × MovesBytes 0 old new
   Fetches left old new buffer (Err fault) = ⊥
 
-  -- the fetches gave these bytes, and their first line is so many first bytes of the buffer; or they were stopped before
-  -- it was known
+  -- FindsLine old new bytes left buffer result: these bytes were read, and their first line is at the front of the
+  -- buffer; or reading stopped before that line was known.
   abbrev pub FindsLine : Device I → Device I → List ℕ → ℕ → List ℕ → Result ℕ RunFault → Type 0
   FindsLine old new bytes left buffer (Ok count) =
       IsUnfailed old new × IsDecided new bytes × (count ≤ length buffer) × (take count buffer ≡ first_line bytes)
   FindsLine old new bytes left buffer (Err fault) = IsStopped old new bytes left fault
 
-  -- the fetches gave these bytes, and their first line is the password, or is refused as one; or they were stopped
-  -- before that was known
+  -- Obtains old new bytes left result: these bytes were read, and their first line is the password, or is rejected as
+  -- one; or reading stopped before that line was known.
   abbrev pub Obtains : Device I → Device I → List ℕ → ℕ → Result (List ℕ) RunFault → Type 0
   Obtains old new bytes left (Ok password) =
       IsUnfailed old new × IsDecided new bytes × (password ≡ first_line bytes) × IsPassword password
@@ -52,14 +57,15 @@ module _ {I : Type 0} where
       IsUnfailed old new × IsDecided new bytes × IsPasswordRefused (first_line bytes) fault
   Obtains old new bytes left (Err fault) = IsStopped old new bytes left fault
 
--- bytes are a password, or are refused as one
+-- TakesAsPassword bytes result: the bytes are a password, or are rejected as one.
 abbrev pub TakesAsPassword : List ℕ → Result (List ℕ) RunFault → Type 0
 TakesAsPassword bytes (Ok password) = (password ≡ bytes) × IsPassword bytes
 TakesAsPassword bytes (Err (Password fault)) = IsPasswordRefused bytes fault
 TakesAsPassword bytes (Err fault) = ⊥
 
--- the bytes of a word are the password, or are refused as one; the input is left alone. Or the password is
--- the first line of the input.
+-- ObtainsFrom from old new left result: the password from this source was obtained or rejected.
+--   Word   the password is the argument, and the input is unchanged
+--   Input  the password is the first line of the input
 abbrev pub ObtainsFrom : {I : Type 0} → PasswordFrom → Device I → Device I → ℕ → Result (List ℕ) RunFault → Type 0
 ObtainsFrom (Word bytes) old new left result = (new ≡ old) × TakesAsPassword bytes.items result
 ObtainsFrom Input old new left result =

@@ -1,4 +1,4 @@
--- What the steps that read a line know of it.
+-- The parts of a line, as the steps that read it find them.
 use Rattle.std.specs.Prelude.{◌≡◌, ◌≢◌, ℕ, ◌<◌, ◌≤◌, List, [], length, Contains, Option, Some, None, Ok}
 use Rattle.crypt_core.specs.FieldReadings.{IsFieldReading}
 use Rattle.crypt_core.specs.Readings.{IsReadOneWay}
@@ -8,51 +8,53 @@ use Rattle.run_core.specs.Texts.{colon}
 use Rattle.run_core.specs.declared.line.Kind.{Kind}
 use Rattle.run_core.specs.declared.line.Kind.TheVariants.{Batch, Check}
 
--- more bytes than a line may have
+-- IsTooLong line: the line has more bytes than a line may have.
 abbrev pub IsTooLong : List ℕ → Type 0
 IsTooLong line = line_limit < length line
 
--- a line that breaks no rule, and its parts
+-- HasSoundParts kind line parts: the line breaks no rule, and these are its parts.
 pub record HasSoundParts (kind : Kind) (line : List ℕ) (parts : Parts) : Type 0 where
   pub sound : IsSound kind line
   pub cut : HasParts kind line parts
 
--- a name that a line may have
+-- IsGoodName name: the name is neither empty nor too long.
 pub record IsGoodName (name : List ℕ) : Type 0 where
   pub some : name ≢ []
   pub short : length name ≤ name_limit
 
--- what stands before the first colon, and after it; or all of the line, which has none
+-- IsCutOrWhole line name back: `name` precedes the first colon, and `back` follows it. A line without a colon is all
+-- name.
 abbrev pub IsCutOrWhole : List ℕ → List ℕ → Option (List ℕ) → Type 0
 IsCutOrWhole line name (Some back) = IsCut line name back
 IsCutOrWhole line name None = (line ≡ name) × ¬ Contains name colon
 
--- a line that isn't too long, with its name
+-- IsNamed line name back: the line is not too long, and has this valid name.
 pub record IsNamed (line name : List ℕ) (back : Option (List ℕ)) : Type 0 where
   pub short : length line ≤ line_limit
   pub cut : IsCutOrWhole line name back
   pub good : IsGoodName name
 
--- what follows the colon of the name is the password; or the field, a colon and the password
+-- HasBehind kind back field password: the password follows the colon of the name; in a line to check, the field and a
+-- colon precede it.
 abbrev pub HasBehind : Kind → Option (List ℕ) → Option (List ℕ) → List ℕ → Type 0
 HasBehind Batch back field password = (back ≡ Some password) × (field ≡ None)
 HasBehind Check back field password =
     (behind stored : List ℕ) × (back ≡ Some behind) × IsCut behind stored password × (field ≡ Some stored)
 
--- there is no colon, or to check no second one
+-- LacksParts kind back: the line has no colon, or if it is to check, no second one.
 abbrev pub LacksParts : Kind → Option (List ℕ) → Type 0
 LacksParts kind None = Unit {0}
 LacksParts Batch (Some back) = ⊥
 LacksParts Check (Some back) = ¬ Contains back colon
 
--- what a field is read as, if there is one
+-- IsFieldOf field stored: the field is read as `stored`, if there is one.
 abbrev pub IsFieldOf : Option (List ℕ) → Option StoredField → Type 0
 IsFieldOf None None = Unit {0}
 IsFieldOf (Some field) (Some stored) = IsFieldReading field (Ok stored) × IsReadOneWay field
 IsFieldOf None (Some stored) = ⊥
 IsFieldOf (Some field) None = ⊥
 
--- these are the name, the password and the field of a line that breaks no rule
+-- IsLine kind line name password stored: the line breaks no rule, and these are its name, its password and its field.
 pub record IsLine (kind : Kind) (line name password : List ℕ) (stored : Option StoredField) : Type 0 where
   pub field : Option (List ℕ)
   pub taken : HasSoundParts kind line (record { name = name; field = field; password = password })

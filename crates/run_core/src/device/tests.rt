@@ -6,8 +6,8 @@ use crate::test_devices::{MemoryReader, MemoryWriter, fault_of};
 use std::io::ErrorKind;
 use std::test::Fail;
 
-// Fetches once from a reader that tells its bytes. That the first of them stand in the buffer follows
-// from the clauses of `fetch` alone.
+// Reads once from a reader that exposes its contents. That their first bytes are in the buffer follows from the clauses
+// of `fetch` alone.
 fn fetch_once(reader: MemoryReader<'_>, buffer: &mut [u8]) -> io::Result<usize>
     ensures { IfOk result (λ n. IfSome reader.entry (λ bytes. take n buffer.new ≡ take n bytes)) }
 {

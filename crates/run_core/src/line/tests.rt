@@ -16,7 +16,7 @@ fn bad_setting(fault: SettingFault) -> Option<LineFault> {
     Some(LineFault::Setting(fault))
 }
 
-// The text of a fault, which no other fault has.
+// Returns the message, which is different for each rule.
 fn text_of(fault: Option<LineFault>) -> Option<&'static str> {
     fault.map(|fault| fault.text())
 }
@@ -109,7 +109,7 @@ fn inspects_lines_to_hash(rt: HostRuntime) {
     }
 }
 
-// Bytes, then one byte so many times, then bytes.
+// Bytes, then one byte repeated the given number of times, then bytes.
 pub(crate) type Pieces<'a> = (&'a [u8], (usize, u8), &'a [u8]);
 
 pub(crate) fn joined(alloc: Global, pieces: Pieces<'_>) -> Result<Vec<u8>, AllocError> {

@@ -1,4 +1,4 @@
-//! The part of a line that was read.
+//! The buffer for the part of a line that has been read.
 ghost use Rattle.std.specs.Prelude.{◌≡◌, ℕ, ◌≤◌, ◌++◌, ◌↔◌, [], List, length, IfOk, IsTrue};
 ghost use Rattle.prims_core.specs.Work.{IsWithin};
 ghost use Rattle.run_core.specs.Lines.{name_limit};
@@ -15,12 +15,12 @@ use prims_core::meter::Meter;
 use rand_core::Rng;
 use std::alloc::Global;
 
-/// The part of a line that was read, in memory of a fixed size.
+/// The part of a line that has been read, in memory of a fixed size.
 #[derive(Drop)]
 pub(crate) enum LineBuffer {
-    /// Its bytes.
+    /// The bytes, at most [`LINE_LIMIT`].
     Bytes(ArrayVec<u8, LINE_LIMIT>),
-    /// It is too long, and its bytes don't matter.
+    /// More than [`LINE_LIMIT`] bytes, which are dropped.
     TooLong,
 }
 
@@ -50,7 +50,7 @@ impl LineBuffer {
         }
     }
 
-    /// Decides the answer to the line, as [`answer_line`] does.
+    /// Decides the answer to the buffered line, as [`answer_line`] does. It rejects a line that is too long.
     pub(crate) fn answer<R: Rng>(
         &self,
         alloc: Global,

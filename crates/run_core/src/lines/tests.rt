@@ -18,20 +18,20 @@ use std::io::ErrorKind;
 use std::process::Abort;
 use std::test::Fail;
 
-// A batch by md5crypt with a salt that is given.
+// A batch with md5crypt and a given salt.
 const BATCH: [&str; 5] = ["--batch", "-m", "md5crypt", "-S", "xxxxxxxx"];
 
-// The hash of "password", of openssl-passwd(1), behind a name.
+// A name, and the hash of "password" from openssl-passwd(1).
 const ANN: &str = "ann:$1$xxxxxxxx$UYCIxa628.9qXjpQCjM4a.\n";
 
-// That, and the same for another name.
+// The same hash for two names.
 const HASHES: &str =
     "ann:$1$xxxxxxxx$UYCIxa628.9qXjpQCjM4a.\nbob:$1$xxxxxxxx$UYCIxa628.9qXjpQCjM4a.\n";
 
 const NO_NAME: &str = "mkpasswd: line 2: no name\n";
 
-// Runs on devices that tell their bytes. That after a tally the outputs have their old bytes and the answers to
-// all lines of the input, and nothing else, follows from the clauses of `run_batch` alone.
+// Runs on devices that expose their contents. After a tally the outputs have gained exactly the answers to all lines of
+// the input. That follows from the clauses of `run_batch` alone.
 fn run_on<'a, R: Rng>(
     alloc: Global,
     job: &Job,
@@ -66,7 +66,7 @@ fn run_on<'a, R: Rng>(
     )
 }
 
-// Runs what is asked for, with the random words 129, 0, 0, 130, 0, 0 and 7.
+// Runs with these arguments and the random numbers 129, 0, 0, 130, 0, 0 and 7.
 fn run_words<'a>(
     rt: &impl Abort,
     alloc: Global,
@@ -106,7 +106,7 @@ fn run_words<'a>(
     Ok(Left::new(ran, rng.peek(), meter))
 }
 
-// Runs what the words ask for, and wants this outcome and these texts.
+// Asserts that a run with these arguments has this outcome and this output.
 fn want(
     rt: &impl Abort,
     alloc: Global,
@@ -129,11 +129,11 @@ fn tally(lines: u64, refused: u64, misfits: u64) -> Tally {
     }
 }
 
-// What is told of a line that costs more than the budget.
+// The output for a line that costs more than the budget.
 const OVER: (&str, &str) = ("", "mkpasswd: line 1: over budget\n");
 
-// Runs over the input, and wants this outcome, these texts, this word to be drawn next, and so many digests, without
-// which nothing is counted.
+// Asserts the outcome, the output, the next random number and the number of digests of a run over the input. Without
+// digests every count is 0.
 fn want_work(
     rt: &impl Abort,
     alloc: Global,
@@ -156,7 +156,7 @@ fn want_work(
     Ok(())
 }
 
-// Runs over one line, as above, which is refused where something is told on the fault output, and else answered.
+// Asserts the same of a run over one line. The line is rejected exactly if `faults` gets a message.
 fn want_line(
     rt: &impl Abort,
     alloc: Global,
@@ -176,8 +176,8 @@ const CHECK: &[&str] = &["--check"];
 
 const COUNTED: &[&str] = &["--check", "--work"];
 
-// Words, an input, the lines with those that are refused and those that are answered `no`, and both texts. Published
-// texts: of openssl-passwd(1), of Drepper's specification, and of libxcrypt.
+// Arguments, an input, the numbers of lines, rejected lines and verdicts `no`, and both outputs. The hashes are
+// published by openssl-passwd(1) and Drepper's specification, or made with libxcrypt.
 const ANSWERED: [(&[&str], &str, (u64, u64, u64), &str, &str); 16] = [
     (&BATCH, "", (0, 0, 0), "", ""),
     (&BATCH, "\n", (1, 1, 0), "", "mkpasswd: line 1: no name\n"),
@@ -292,7 +292,7 @@ fn answers_line_by_line(rt: HostRuntime) -> Result<(), Fail> {
     Ok(())
 }
 
-// The second hash has a salt of the words behind the first one's. Both are libxcrypt's for their salts.
+// The second hash has a salt from the next three random numbers. Both hashes are libxcrypt's for their salts.
 #[test]
 fn draws_words_for_hashed_lines_alone(rt: HostRuntime) -> Result<(), Fail> {
     let out = "ann:$1$/0......$2QlZKnFqVuhWmzlYGl.px0\nbob:$1$00......$rv7ToD.7n.3crvqZikurX.\n";

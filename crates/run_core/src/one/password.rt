@@ -1,5 +1,5 @@
-//! The password that stands in an input: its first line, without the line feed. It is read into a buffer of
-//! fixed size, and takes no memory.
+//! The password in an input: its first line, without the line feed. It is read into a buffer of fixed size, so nothing
+//! is allocated.
 ghost use Rattle.std.specs.Prelude.{◌≡◌, ℕ, ◌+◌, ◌-◌, ◌^◌, ◌<◌, ◌≤◌, List, drop, length, take};
 ghost use Rattle.run_core.specs.Devices.{HasRoomBeforeRun, MovesBytes, turns_limit};
 ghost use Rattle.run_core.specs.Input.{Reads};
@@ -11,15 +11,19 @@ use crate::transfer::{fetch_piece, line_feed_at};
 use crypt_core::password::{PASSWORD_LIMIT, Password};
 use std::io::Read;
 
-// So many bytes without a line feed are one too many for a password.
+// With this many bytes and no line feed among them, a password is too long.
 const BUFFER_SIZE: usize = PASSWORD_LIMIT + 1;
 
-/// Fetches until the first line is known, and takes it as a password. Each fetch takes one of the turns
-/// that are left. What follows the line feed in the piece that was fetched is dropped.
+/// Reads the first line of the input as a password.
 ///
-/// `Password` is answered where the line is refused as a password, which is too long once more bytes than a password can
-/// have were read without a line feed; before the line is known, `Read` after a fetch that failed, and `Turns` where
-/// another fetch is needed and no turn is left.
+/// Each read uses one of the `left` I/O calls. What follows the line feed in the piece that was read is dropped.
+///
+/// # Errors
+///
+/// - `Password`: the line is an invalid password. It is too long once more bytes than a password may have were read
+///   without a line feed.
+/// - `Read`: a read failed before the end of the line.
+/// - `Turns`: another read is needed, and `left` is 0.
 pub(crate) fn read_password<I: Read>(
     input: &mut Input<I>,
     left: &mut u64,
@@ -37,7 +41,7 @@ pub(crate) fn read_password<I: Read>(
     Ok(Password::new(&buffer[..end])?)
 }
 
-// Fetches until the first line is known, and answers where it ends in the buffer.
+// Reads until the first line is complete, and returns the number of its bytes.
 fn read_line<I: Read>(
     input: &mut Input<I>,
     buffer: &mut [u8],
@@ -66,8 +70,7 @@ fn read_line<I: Read>(
     Ok(filled)
 }
 
-// Makes one fetch behind the first `filled` bytes of the buffer, where there is room, and answers how many
-// bytes it gave: none at the end.
+// Reads once into `buffer` after its first `filled` bytes, and returns the number of bytes read: 0 at the end.
 fn fetch_after<I: Read>(
     input: &mut Input<I>,
     buffer: &mut [u8],

@@ -22,13 +22,13 @@ const BY_WORD: [&str; 5] = ["-m", "md5crypt", "-S", "xxxxxxxx", "password"];
 
 const BY_INPUT: [&str; 5] = ["-m", "md5crypt", "-S", "xxxxxxxx", "-s"];
 
-// The text of openssl-passwd(1), and a line feed.
+// The hash of "password" from openssl-passwd(1), and a line feed.
 const ANSWER: &str = "$1$xxxxxxxx$UYCIxa628.9qXjpQCjM4a.\n";
 
 const TOO_LONG: RunFault = RunFault::Password(PasswordFault::TooLong);
 
-// Runs on devices that tell their bytes. That the output has its old bytes and the answer to a word's
-// password after a tally, and nothing else, follows from the clauses of `run_one` alone.
+// Runs on devices that expose their contents. After a tally the output has gained exactly the answer to an argument's
+// password. That follows from the clauses of `run_one` alone.
 fn run_on<'a, R: Rng>(
     alloc: Global,
     job: &Job,
@@ -69,7 +69,7 @@ fn run_on<'a, R: Rng>(
     )
 }
 
-// Runs what is asked for, with the random words 129, 0, 0 and 7. It writes nothing to the fault output.
+// Runs with these arguments and the random numbers 129, 0, 0 and 7. `faults` stays empty.
 fn run_words<'a>(
     rt: &impl Abort,
     alloc: Global,
@@ -89,7 +89,7 @@ fn run_words<'a>(
     Ok(Left::new(ran, rng.peek(), meter))
 }
 
-// Runs what the words ask for, and wants this outcome and these bytes in the output.
+// Asserts that a run with these arguments has this outcome and these bytes in the output.
 fn want(
     rt: &impl Abort,
     alloc: Global,
@@ -104,7 +104,7 @@ fn want(
     Ok(())
 }
 
-// The second text is libxcrypt's.
+// The second hash is libxcrypt's.
 #[test]
 fn has_no_budget(rt: HostRuntime) -> Result<(), Fail> {
     let md5crypt: &[&str] = &[
@@ -134,7 +134,7 @@ fn has_no_budget(rt: HostRuntime) -> Result<(), Fail> {
     Ok(())
 }
 
-// The line feed is fetched after a whole piece. The text is that of md5crypt's definition over Python's hashlib.
+// The line feed is read after a whole piece. The hash is that of md5crypt's definition over Python's hashlib.
 #[test]
 fn takes_a_line_of_two_fetches(rt: HostRuntime) -> Result<(), Fail> {
     let alloc = rt.alloc();
@@ -153,8 +153,8 @@ fn takes_a_line_of_two_fetches(rt: HostRuntime) -> Result<(), Fail> {
     )
 }
 
-// Published texts: of openssl-passwd(1), of Drepper's specification, also with its own number of rounds,
-// and of libxcrypt. The counts are those of its steps over Python's hashlib.
+// Published hashes: of openssl-passwd(1), of Drepper's specification, also with its own number of rounds, and of
+// libxcrypt. The counts are those of the specified steps over Python's hashlib.
 #[test]
 fn answers_with_the_hash(rt: HostRuntime) -> Result<(), Fail> {
     let low: &[u8] = b"the minimum number is still observed";

@@ -1,14 +1,14 @@
-//! The calls of a run's devices: as a device keeps them, and as a test lists those of a whole run, in order.
+//! The device calls of a run, as a device records them, and as a test lists those of a whole run in order.
 
 use std::alloc::{AllocError, Global};
 use std::io::ErrorKind;
 
-/// A call of a device, for how many bytes, and what was answered.
+/// A device call: its number of bytes, and its result.
 #[derive(Clone, Copy, Debug, PartialEq, Eq)]
 pub enum Call {
-    /// It was asked for at most so many bytes, and gave so many.
+    /// A read of at most this many bytes, and the number of bytes that it returned.
     Read(usize, Result<usize, ErrorKind>),
-    /// It was handed so many bytes, and took so many.
+    /// A write of this many bytes, and the number of bytes that it took.
     Write(usize, Result<usize, ErrorKind>),
     Flush(Result<(), ErrorKind>),
 }
@@ -21,21 +21,21 @@ pub enum Device {
     Faults,
 }
 
-/// A call of a run, and of which device.
+/// A call of a run, with its device.
 pub type Step = (Device, Call);
 
-/// The flushes behind a run.
+/// The flush of the output at the end of a run.
 pub const FLUSH: Step = (Device::Output, Call::Flush(Ok(())));
 
 pub const FLUSH_FAULTS: Step = (Device::Faults, Call::Flush(Ok(())));
 
-/// More bytes than any call is asked for or handed.
+/// More bytes than any call reads or writes.
 pub const ALL: usize = usize::MAX;
 
-/// The error of a call that is made to fail.
+/// The error of a call that the test makes fail.
 pub const FAILURE: ErrorKind = ErrorKind::PermissionDenied;
 
-// The call as it is where the device fails.
+// Returns the call with its result replaced by the error.
 fn failed(call: Call) -> Call {
     match call {
         Call::Read(len, _) => Call::Read(len, Err(FAILURE)),
@@ -44,8 +44,9 @@ fn failed(call: Call) -> Call {
     }
 }
 
-/// The calls of one device in a run of these steps, where the step behind the first `whole` fails, if there
-/// is one: after a failed call no other is made.
+/// Returns the calls of one device in a run of these steps.
+///
+/// The step after the first `whole` fails, if there is one, and no call follows it.
 pub fn calls_of(
     alloc: Global,
     steps: &[Step],
@@ -65,7 +66,7 @@ pub fn calls_of(
     Ok(calls)
 }
 
-/// How many bytes were taken by writes.
+/// Returns the number of bytes that the writes took.
 pub fn bytes_taken(calls: &[Call]) -> usize {
     let mut taken = 0usize;
     for call in calls {

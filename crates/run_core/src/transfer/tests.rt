@@ -7,8 +7,8 @@ use std::test::Fail;
 
 const TEXT: &str = "Available\n";
 
-// Sends a text to a writer that tells its bytes, and flushes it: the outcome, the turns that are left, and
-// the writer. That the text stands there whole after an answer follows from the clauses alone.
+// Sends a string to a writer that exposes its contents, and flushes it. Returns the outcome, the I/O calls that are
+// left, and the writer. After success it holds the whole string, which follows from the clauses alone.
 fn send_to(
     writer: MemoryWriter,
     text: &[u8],

@@ -1,5 +1,5 @@
-//! What the command is given in tests: devices over memory, which tell contracts their bytes, and a generator of listed
-//! words.
+//! The devices of the command in tests: memory, which exposes its contents to contracts, and a generator of given
+//! numbers.
 ghost use Rattle.std.specs.Prelude.{◌≡◌, Some, drop, slice_index};
 ghost use Rattle.rand_core.specs.Steps.{stream_of, steps_u64_low};
 
@@ -11,12 +11,14 @@ use std::io;
 use std::io::{ErrorKind, Read, Write};
 use std::marker::Model;
 
-// The error of a call that fails.
+// Returns the error of a failed call.
 fn failure() -> io::Error {
     io::Error::from(ErrorKind::PermissionDenied)
 }
 
-/// A writer that takes at most so many bytes a call. It may fail at one call, counted from 1, and at its flushes.
+/// A writer that takes at most a given number of bytes a call.
+///
+/// It may fail at one call, counted from 1, and at its flushes.
 #[derive(Drop)]
 pub struct MemoryWriter {
     taken: Vec<u8>,
@@ -27,7 +29,7 @@ pub struct MemoryWriter {
 }
 
 impl MemoryWriter {
-    /// Takes all it is given.
+    /// Returns a writer that takes every byte.
     pub fn new(alloc: Global) -> MemoryWriter {
         MemoryWriter {
             taken: Vec::new(alloc),
@@ -38,30 +40,30 @@ impl MemoryWriter {
         }
     }
 
-    /// Takes at most `most` bytes a call.
+    /// Limits each call to `most` bytes.
     pub fn by(mut self, most: usize) -> MemoryWriter {
         self.most = most;
         self
     }
 
-    /// Fails at this call, or at none if it is 0.
+    /// Makes this call fail, or none if it is 0.
     pub fn failing_at(mut self, call: u64) -> MemoryWriter {
         self.fails_at = call;
         self
     }
 
-    /// Fails at a flush.
+    /// Makes each flush fail.
     pub fn failing_flush(mut self) -> MemoryWriter {
         self.flush_fails = true;
         self
     }
 
-    /// What it has taken.
+    /// Returns the bytes that it has taken.
     pub fn taken(&self) -> &[u8] {
         self.taken.as_slice()
     }
 
-    /// How many calls it has seen, flushes among them.
+    /// Returns the number of its calls, including flushes.
     pub fn calls(&self) -> u64 {
         self.calls
     }
@@ -89,7 +91,7 @@ impl Write for MemoryWriter {
     }
 }
 
-/// A reader of listed bytes, which may fail at one call, counted from 1.
+/// A reader of given bytes, which may fail at one call, counted from 1.
 #[derive(Drop)]
 pub struct MemoryReader<'a> {
     left: &'a [u8],
@@ -98,7 +100,7 @@ pub struct MemoryReader<'a> {
 }
 
 impl<'a> MemoryReader<'a> {
-    /// Gives these bytes, as many a call as fit.
+    /// Returns a reader of these bytes, each of which it returns once.
     pub fn new(bytes: &'a [u8]) -> MemoryReader<'a> {
         MemoryReader {
             left: bytes,
@@ -107,13 +109,13 @@ impl<'a> MemoryReader<'a> {
         }
     }
 
-    /// Fails at this call.
+    /// Makes this call fail.
     pub fn failing_at(mut self, call: u64) -> MemoryReader<'a> {
         self.fails_at = call;
         self
     }
 
-    /// How many calls it has seen.
+    /// Returns the number of its calls.
     pub fn calls(&self) -> u64 {
         self.calls
     }
@@ -131,8 +133,7 @@ impl Read for MemoryReader<'_> {
     }
 }
 
-/// A generator that draws listed words in order, and 0 after the last. To contracts it is the words
-/// that it has left.
+/// A generator that returns given numbers in order, and 0 after the last. Contracts see the numbers that it has left.
 #[derive(Drop)]
 pub struct ListedWords<'a> {
     left: &'a [u64],
@@ -147,14 +148,14 @@ impl<'a> Model for ListedWords<'a> {
 }
 
 impl<'a> ListedWords<'a> {
-    /// Draws these words.
+    /// Returns a generator of these numbers.
     pub fn new(words: &'a [u64]) -> ListedWords<'a>
         ensures { result ≡ words.now }
     {
         ListedWords { left: words }
     }
 
-    /// Tells the next word, and leaves it to be drawn.
+    /// Returns the next number without drawing it.
     pub fn peek(&self) -> u64
         ensures { result ≡ slice_index self.now 0 }
     {
@@ -192,8 +193,9 @@ impl Rng for ListedWords<'_> {
     }
 }
 
-/// What a run of the command is given: an empty input, outputs that take all, and as many turns as may be, where a test
-/// has no other.
+/// The devices and the limit of a run.
+///
+/// By default the input is empty, the outputs take everything, and the limit on I/O calls is the greatest.
 #[derive(Drop)]
 pub struct Given<'a> {
     pub reader: MemoryReader<'a>,
@@ -233,7 +235,7 @@ impl<'a> Given<'a> {
     }
 }
 
-/// The five counts of a meter.
+/// Returns the five counts of a meter.
 pub fn counted(meter: &Meter) -> [u128; 5] {
     [
         meter.digests(),

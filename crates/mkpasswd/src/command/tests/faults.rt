@@ -2,7 +2,7 @@ use super::*;
 
 const ANN: &str = "ann:$1$xxxxxxxx$UYCIxa628.9qXjpQCjM4a.\n";
 
-// What an output does: how many bytes it takes a call, the call that fails, counted from 1, or 0 for none, and whether its
+// The limits of an output: the most bytes a call, the call that fails, counted from 1, or 0 for none, and whether its
 // flush fails.
 #[derive(Clone, Copy)]
 struct Takes {
@@ -48,7 +48,7 @@ fn writer(alloc: Global, takes: Takes) -> MemoryWriter {
     }
 }
 
-// Wants this status and these texts of a run by the words over outputs that do as much.
+// Asserts the exit status and the output of a run over outputs with these limits.
 fn want_cut(
     rt: &impl Abort,
     alloc: Global,
@@ -71,7 +71,7 @@ const READ_FAULT: &str = "mkpasswd: read fault\n";
 
 const WRITE_FAULT: &str = "mkpasswd: write fault\n";
 
-// The line of a fault stands behind those of refused lines.
+// The line of the error follows the messages about rejected lines.
 #[test]
 fn tells_a_failed_read(rt: HostRuntime) -> Result<(), Fail> {
     let rows: [(&[&str], &[u8], u64, (&str, &str)); 3] = [
@@ -105,8 +105,8 @@ fn tells_a_failed_read(rt: HostRuntime) -> Result<(), Fail> {
     Ok(())
 }
 
-// What fails is told, as far as the fault output takes it, and has its status all the same. Help, the version and the
-// list that can't be given are a fault of their own.
+// An error has its status, whatever `faults` takes of its message. If help, the version or the list cannot be written,
+// that is an error of its own.
 #[test]
 fn tells_a_failed_write(rt: HostRuntime) -> Result<(), Fail> {
     let version: &[&str] = &["-V"];
@@ -143,7 +143,7 @@ fn tells_a_failed_write(rt: HostRuntime) -> Result<(), Fail> {
     Ok(())
 }
 
-// The line of the fault takes no turn.
+// The line of the error uses no I/O call of the limit.
 #[test]
 fn tells_that_its_turns_ended(rt: HostRuntime) -> Result<(), Fail> {
     let told = ("", "mkpasswd: too many turns\n");

@@ -2,12 +2,12 @@ use super::*;
 use std::mem::size_of;
 use std::test::Fail;
 
-// It has room for a line that is not too long, and for little else.
+// A buffer is only slightly larger than the longest line.
 const _: () = prove!(size_of::<LineBuffer>() <= LINE_LIMIT + 16);
 
 const _: () = prove!(LINE_LIMIT == 2048);
 
-// Whether these bytes are held, or `None`: that they are too many.
+// Returns whether the buffer holds these bytes, or for `None` too many.
 fn holds(buffer: &LineBuffer, want: Option<&[u8]>) -> bool {
     match buffer {
         LineBuffer::Bytes(bytes) => want == Some(bytes.as_slice()),

@@ -1,5 +1,5 @@
-//! Lines with a budget: at the cost of its hash a line is answered, and one below that it is refused before anything
-//! is drawn or hashed.
+//! Lines with a budget. A run answers a line whose cost equals the budget. With a budget one lower it rejects the line
+//! before it draws or hashes anything.
 
 use super::*;
 
@@ -9,7 +9,7 @@ const SCRYPT_STORED: &str = "s:$7$2/..../....$rNxJWVHNv/mCNcgE/f6/L4zO6Fos5c2uTz
 
 #[test]
 fn checks_within_a_budget(rt: HostRuntime) -> Result<(), Fail> {
-    // The budget, the line, what is told, and the digests.
+    // The budget, the line, the output, and the digests.
     let rows: [(&str, &str, (&str, &str), u128); 17] = [
         ("36238", ANN_STORED, OVER, 0),
         ("36239", ANN_STORED, ("ann:ok\n", ""), 1002),
@@ -17,11 +17,11 @@ fn checks_within_a_budget(rt: HostRuntime) -> Result<(), Fail> {
         ("18446744073709551615", ANN_STORED, ("ann:ok\n", ""), 1002),
         ("5043", SCRYPT_STORED, OVER, 0),
         ("5044", SCRYPT_STORED, ("s:ok\n", ""), 10),
-        // What has no hash has no cost.
+        // A field without a hash has no cost.
         ("0", "b:!:x", ("b:locked\n", ""), 0),
         ("0", "b:*$6$rounds=999999999$ab:x", ("b:locked\n", ""), 0),
         ("0", "c::x", ("c:none\n", ""), 0),
-        // All other faults come before it.
+        // Every other rule precedes the budget.
         ("0", "e", ("", "mkpasswd: line 1: no password field\n"), 0),
         (
             "0",
@@ -68,7 +68,7 @@ fn checks_within_a_budget(rt: HostRuntime) -> Result<(), Fail> {
 fn hashes_within_a_budget(rt: HostRuntime) -> Result<(), Fail> {
     let made = ("ann:$1$/0......$2QlZKnFqVuhWmzlYGl.px0\n", "");
     let zero_byte = ("", "mkpasswd: line 1: password has a zero byte\n");
-    // The method and cost, the budget, the line, what is told, the word that is drawn next, and the digests.
+    // The method and cost, the budget, the line, the output, the next random number, and the digests.
     let rows: [(&[&str], &str, &str, (&str, &str), u64, u128); 6] = [
         (&["-m", "md5crypt"], "36238", "ann:password", OVER, 129, 0),
         (
@@ -114,7 +114,7 @@ fn hashes_within_a_budget(rt: HostRuntime) -> Result<(), Fail> {
     Ok(())
 }
 
-// The lines round one that is over budget are answered, and each has its own number.
+// The run answers the lines before and after one that is over budget, each with its own number.
 #[test]
 fn goes_on_behind_a_line_that_is_over(rt: HostRuntime) -> Result<(), Fail> {
     let input =

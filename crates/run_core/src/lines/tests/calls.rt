@@ -1,11 +1,11 @@
-//! Each call that a run makes of its devices, and that none follows one that failed.
+//! Each device call of a run, and that no call follows a failed one.
 
 use super::*;
 use crate::test_devices::calls::Call::{Read, Write};
 use crate::test_devices::calls::{ALL, Device, FLUSH, FLUSH_FAULTS, Step};
 use crate::test_given::Listed;
 
-// A line of 2,054 bytes, and its line feed.
+// A line of 2,054 bytes and its line feed.
 fn long_line() -> [u8; 2055] {
     let mut bytes = [b'a'; 2055];
     bytes[2054] = b'\n';
@@ -24,7 +24,7 @@ fn tell(len: usize, taken: usize) -> Step {
     (Device::Faults, Write(len, Ok(taken)))
 }
 
-// Wants the run with each of its steps failing in turn, and the whole run.
+// Asserts the run with each of its steps failing in turn, and the whole run.
 fn want_steps(rt: &impl Abort, alloc: Global, run: Listed<'_>) -> Result<(), Fail> {
     for whole in 0..run.steps.len() + 1 {
         let left = run_words(rt, alloc, run.words, run.given(rt, alloc, whole))?;

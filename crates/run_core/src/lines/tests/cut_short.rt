@@ -1,10 +1,10 @@
-//! Runs that a device or the turns cut short.
+//! Runs that a failing device or the limit on I/O calls cuts short.
 
 use super::*;
 
 const INPUT: &[u8] = b"ann:password\n:x\nbob:password\n";
 
-// A byte a read: the lines that were read whole before are answered.
+// With one byte a read, every line that was read before the failure is answered.
 #[test]
 fn stops_at_a_failed_read(rt: HostRuntime) -> Result<(), Fail> {
     let alloc = rt.alloc();
@@ -34,7 +34,7 @@ fn stops_at_a_failed_read(rt: HostRuntime) -> Result<(), Fail> {
     want(&rt, alloc, "a part", &BATCH, given, read, (ANN, ""))
 }
 
-// A byte a write: all before it was taken.
+// With one byte a write, every byte before the failure is written.
 #[test]
 fn stops_at_a_failed_write(rt: HostRuntime) -> Result<(), Fail> {
     let alloc = rt.alloc();
@@ -53,7 +53,7 @@ fn stops_at_a_failed_write(rt: HostRuntime) -> Result<(), Fail> {
     Ok(())
 }
 
-// Wants this outcome and output of a batch within so many turns.
+// Asserts the outcome and the output of a batch with this limit on I/O calls.
 fn want_turns(
     rt: &impl Abort,
     alloc: Global,
@@ -85,7 +85,7 @@ fn stops_with_its_turns(rt: HostRuntime) -> Result<(), Fail> {
     want_turns(&rt, alloc, endless, 1000, Err(RunFault::Turns), "")
 }
 
-// Fifty lines: a turn each, and another one for the answer.
+// Of fifty lines each takes one read and one write.
 #[test]
 fn answers_lines_without_an_end(rt: HostRuntime) -> Result<(), Fail> {
     let alloc = rt.alloc();

@@ -1,9 +1,9 @@
-//! Hostile lines: those that are refused, and what looks like them.
+//! Hostile lines: invalid ones, and valid ones that resemble them.
 
 use super::*;
 use crate::line::tests::{Pieces, joined};
 
-// Behind a first line that is answered, so that they have the number 2.
+// Each follows a valid first line, so its number is 2.
 #[test]
 fn answers_hostile_lines_to_check(rt: HostRuntime) -> Result<(), Fail> {
     let rows: [(Pieces<'_>, &str, &str); 13] = [
@@ -103,7 +103,7 @@ fn refuses_a_long_name_alone(rt: HostRuntime) -> Result<(), Fail> {
     Ok(())
 }
 
-// Wants these texts for so many lines, one of which is refused where something is told on the fault output.
+// Asserts the output for the given number of lines, one of which is rejected exactly if `faults` gets a message.
 fn want_lines(
     rt: &impl Abort,
     alloc: Global,
@@ -124,7 +124,7 @@ fn takes_a_zero_byte_in_a_name(rt: HostRuntime) -> Result<(), Fail> {
     want_line(&rt, rt.alloc(), &BATCH, "a\0b:password\n", told, 129, 1002)
 }
 
-// A line of so many letters behind one of another length, so that pieces cut it anywhere.
+// A line of `len` letters after a short line, so that pieces split it at any position.
 #[test]
 fn skips_lines_that_are_too_long(rt: HostRuntime) -> Result<(), Fail> {
     let alloc = rt.alloc();

@@ -1,4 +1,4 @@
-//! Checks that make a new hash in place of one that is out of date. The texts are those of Drepper's specification, of
+//! Checks that rehash passwords whose stored hash is out of date. The hashes are those of Drepper's specification, of
 //! openssl-passwd(1) and of libxcrypt.
 
 use super::*;
@@ -39,7 +39,7 @@ fn hashes_anew_what_is_out_of_date(rt: HostRuntime) -> Result<(), Fail> {
     let recent =
         "b:$6$rounds=5000$toolongsaltstrin$lQ8jolhgVRVhY4b5pZKaysCLi0QBxGoNeKQzQ3glMhwllF7oGDZxUhx1yxdYcz/e1JSbq3y6JMxxl8audkUEm0:This is just a test";
     let ann = "ann:$1$xxxxxxxx$UYCIxa628.9qXjpQCjM4a.:password";
-    // The words, the line, what is told, the word that is drawn next, and the digests.
+    // The arguments, the line, the output, the next random number, and the digests.
     let rows: [(&[&str], &str, (&str, &str), u64, u128); 10] = [
         (
             costlier,
@@ -103,7 +103,7 @@ fn hashes_anew_what_is_out_of_date(rt: HostRuntime) -> Result<(), Fail> {
     Ok(())
 }
 
-// Both costs are compared with the budget, whether or not the password fits.
+// The sum of both costs is compared with the budget, whether or not the password matches.
 #[test]
 fn adds_both_costs(rt: HostRuntime) -> Result<(), Fail> {
     let renewed = ("z:ok:$1$xxxxxxxx$UYCIxa628.9qXjpQCjM4a.\n", "");
@@ -121,7 +121,7 @@ fn adds_both_costs(rt: HostRuntime) -> Result<(), Fail> {
     Ok(())
 }
 
-// The second line and the fourth get a new salt each, in order.
+// The second and the fourth line get a new salt each, in order.
 #[test]
 fn draws_words_for_new_hashes_alone(rt: HostRuntime) -> Result<(), Fail> {
     let input =

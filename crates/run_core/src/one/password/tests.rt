@@ -9,8 +9,8 @@ use crypt_core::password::PasswordFault;
 use std::io::ErrorKind;
 use std::process::Abort;
 
-// Reads from a reader that may tell its bytes. That a password or a refusal is then that of the first line
-// of them all follows from the clauses of `read_password` alone.
+// Reads from a reader that may expose its contents. If it does, the password or the error is that of its first line.
+// That follows from the clauses of `read_password` alone.
 fn read_from(reader: MemoryReader<'_>, left: &mut u64) -> Result<Password, RunFault>
     requires { left.old ≤ 2 ^ 40 }
     ensures taken { IfOk result (λ password. IfSome reader.entry (λ bytes. password ≡ first_line bytes)) }
@@ -20,7 +20,7 @@ fn read_from(reader: MemoryReader<'_>, left: &mut u64) -> Result<Password, RunFa
     read_password(&mut Input::new(reader), left)
 }
 
-// Reads, and wants this password or fault, after so many turns.
+// Asserts the password or the error, with this limit on I/O calls.
 fn want(
     rt: &impl Abort,
     what: &str,

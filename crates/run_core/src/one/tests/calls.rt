@@ -1,4 +1,4 @@
-//! Each call that a run makes of its devices, and that none follows one that failed.
+//! Each device call of a run, and that no call follows a failed one.
 
 use super::*;
 use crate::test_devices::calls::Call::{Read, Write};
@@ -28,7 +28,7 @@ fn from_input<'a>(input: &'a [u8], gives: usize, steps: &'a [Step]) -> Listed<'a
     }
 }
 
-// Wants the run with each of its steps failing in turn, and the whole run.
+// Asserts the run with each of its steps failing in turn, and the whole run.
 fn want_steps(rt: &impl Abort, alloc: Global, run: Listed<'_>) -> Result<(), Fail> {
     for whole in 0..run.steps.len() + 1 {
         let left = run_words(rt, alloc, run.words, run.given(rt, alloc, whole))?;
@@ -37,7 +37,7 @@ fn want_steps(rt: &impl Abort, alloc: Global, run: Listed<'_>) -> Result<(), Fai
     Ok(())
 }
 
-// A run from a word reads nothing. One from the input asks for what is missing of 1,025 bytes.
+// A run with the password in an argument reads nothing. Otherwise each read asks for the rest of 1,025 bytes.
 #[test]
 fn calls_in_order(rt: HostRuntime) -> Result<(), Fail> {
     let (input, write) = (Device::Input, (Device::Output, Write(35, Ok(35))));
