@@ -33,8 +33,8 @@ parts_bytes cost = part_bytes cost * cost.p
 unfoldable pub mixed_part : ℕ → List ℕ → List ℕ
 mixed_part n bytes = bytes_of_words (romix n (words_of bytes))
 
--- scrypt password salt cost count: scrypt (P, S, N, r, p, dkLen), where dkLen is count (section 6). B is PBKDF2 (P, S,
--- 1, 128rp), its p parts go through ROMix, and the result is PBKDF2 (P, B, 1, dkLen).
+-- scrypt password salt cost count: scrypt (P, S, N, r, p, dkLen) with dkLen = count (section 6). B is PBKDF2 (P, S, 1,
+-- 128rp), its p parts go through ROMix, and the result is PBKDF2 (P, B, 1, dkLen).
 unfoldable pub scrypt : List ℕ → List ℕ → ScryptCost → ℕ → List ℕ
 scrypt password salt cost count =
     let derived = pbkdf2_sha256 password salt 1 (parts_bytes cost) in
