@@ -50,7 +50,7 @@ IsRoundsNumber (d ∷ ds) = (49 ≤ d) × (d ≤ 57) × All (λ c. (48 ≤ c) ×
 abbrev pub rounds_field : List ℕ → List ℕ
 rounds_field digits = rounds_word ++ (digits ++ dollar ∷ [])
 
--- SpellsRounds rounds part after: this part, followed by what comes after it, spells these rounds.
+-- SpellsRounds rounds part after: this part, if `after` follows it, spells these rounds.
 --   with a field      the part is the field, and the rounds are its number, clamped
 --   without a field   the part is empty, the rounds are the default, and no `rounds=` follows
 abbrev pub SpellsRounds : Rounds → List ℕ → List ℕ → Type 0
@@ -62,8 +62,8 @@ SpellsRounds rounds part after = MatchBool rounds.is_written
 abbrev pub scrypt_part : ScryptCost → List ℕ
 scrypt_part cost = numerals 1 cost.log_n ++ (numerals 5 cost.r ++ numerals 5 cost.p)
 
--- SpellsCost scheme part after: this part, followed by what comes after it, spells the cost of the scheme. The
--- characters of scrypt's cost part can express its numbers.
+-- SpellsCost scheme part after: this part, if `after` follows it, spells the cost of the scheme. The characters of
+-- scrypt's cost part can express its numbers.
 abbrev pub SpellsCost : Scheme → List ℕ → List ℕ → Type 0
 SpellsCost Md5crypt part after = part ≡ []
 SpellsCost (Sha256crypt rounds) part after = SpellsRounds rounds part after
@@ -88,8 +88,8 @@ abbrev pub KeepsSalt : Scheme → List ℕ → List ℕ → Type 0
 KeepsSalt (Scrypt cost) field salt = IsAccepted cost × (salt ≡ field) × IsScryptSalt field
 KeepsSalt scheme field salt = salt ≡ take (method_row (method_of scheme)).salt_limit field
 
--- Spells text kept: the text spells this setting. It has no more bytes than the limit, all of them setting bytes. The
--- scheme comes first, then the field of the salt, and then a rest that is ignored.
+-- Spells text kept: the text spells this setting. It has no more bytes than the limit, all of them setting bytes. It
+-- begins with the scheme. The field of the salt follows, and then a rest that is ignored.
 pub record Spells (text : List ℕ) (kept : SettingValue) : Type 0 where
   pub short : length text ≤ setting_limit
   pub bytes : All IsSettingByte text
