@@ -57,7 +57,7 @@ impl Model for Params {
 }
 
 impl Params {
-    /// Returns the parameters with `N = 2^log_n`, the block size `r` and the parallelization `p`.
+    /// Returns the parameters `N = 2^log_n`, block size `r` and parallelization `p` (RFC 7914, section 2).
     ///
     /// # Errors
     ///
