@@ -13,10 +13,10 @@ use Rattle.crypt_core.specs.declared.fits.FitFault.TheVariants.{Setting, OutOfMe
 abbrev pub Fits : List ℕ → List ℕ → Type 0
 Fits password stored = (kept : SettingValue) × Spells stored kept × (crypt password kept ≡ stored)
 
--- Compares password stored before after result: what a comparison did, by its result.
---   a verdict     hashed the password with the setting of the stored hash, and compared
---   Setting       found this first rule that the stored hash breaks, and counted nothing
---   OutOfMemory   failed to allocate for that hash, whose setting is one of scrypt
+-- Compares password stored before after result: this is the result of a comparison, with the counts before and after it.
+--   a verdict     whether the hash with the setting of the stored hash is the stored hash; counts the work of that hash
+--   Setting       the first rule that the stored hash breaks as a setting; counts nothing
+--   OutOfMemory   scrypt, with the setting of the stored hash, failed to allocate; counts the allocations before
 abbrev pub Compares : List ℕ → List ℕ → Work → Work → Result Bool FitFault → Type 0
 Compares password stored before after (Ok verdict) =
     (kept : SettingValue) × Spells stored kept × (IsTrue verdict ↔ (crypt password kept ≡ stored))

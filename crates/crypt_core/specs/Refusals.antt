@@ -17,7 +17,7 @@ abbrev pub setting_faults : List SettingFault
 setting_faults = TooLong ∷ BadCharacter ∷ UnknownScheme ∷ BadRounds ∷ BadCost ∷ ScryptRange ∷ AboveCeiling ∷ BadSalt ∷ []
 
 -- LacksCost method text: the text has the prefix of this method, but no cost part follows. SHA-crypt also takes an
--- empty cost part, so it lacks one only after `rounds=` without a valid number.
+-- empty cost part, so it lacks one only after `rounds=` without a valid number and a `$`.
 abbrev pub LacksCost : Method → List ℕ → Type 0
 LacksCost method text = BeginsWith text (method_row method).prefix
     × ((scheme : Scheme) → (after : List ℕ) → method_of scheme ≡ method → ¬ SpellsScheme text scheme after)

@@ -89,7 +89,7 @@ KeepsSalt (Scrypt cost) field salt = IsAccepted cost × (salt ≡ field) × IsSc
 KeepsSalt scheme field salt = salt ≡ take (method_row (method_of scheme)).salt_limit field
 
 -- Spells text kept: the text spells this setting. It has no more bytes than the limit, all of them setting bytes. It
--- begins with the scheme. The field of the salt follows, and then a rest that is ignored.
+-- begins with the prefix and the cost of the scheme. The field of the salt follows, and then a rest that is ignored.
 pub record Spells (text : List ℕ) (kept : SettingValue) : Type 0 where
   pub short : length text ≤ setting_limit
   pub bytes : All IsSettingByte text

@@ -73,7 +73,7 @@ abbrev pub work_bound : SettingValue → ℕ → Work
 work_bound kept password_length = work_by kept.scheme 255 password_length (length kept.salt)
 
 -- cost_by scheme password_length salt_length: the bound as one number, which is compared with a budget. It is the
--- greatest number of digested bytes, and for scrypt also of mixed bytes, one part in each mixing.
+-- greatest number of digested bytes, and scrypt adds the number of mixed bytes, one part in each mixing.
 abbrev pub cost_by : Scheme → ℕ → ℕ → ℕ
 cost_by (Scrypt cost) password_length salt_length =
     let most = work_by (Scrypt cost) 255 password_length salt_length in most.bytes + most.mixes * part_bytes cost

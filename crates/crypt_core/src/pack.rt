@@ -76,9 +76,9 @@ pub(crate) const SCRYPT_GROUPS: [&[usize]; 11] = [
     &[31, 30],
 ];
 
-/// Returns the packed form of a method's digest: 22, 43, 86 or 43 characters, in the order of [`Method`].
+/// Returns the packed form of a method's digest (crypt(5)): 22, 43, 86 or 43 characters, in the order of [`Method`].
 ///
-/// Precondition: the digest has the bytes of the method's digest, 16, 32, 64 or 32.
+/// Precondition: `digest` has the length of the method's digest, 16, 32, 64 or 32 bytes.
 pub fn pack(method: Method, digest: &[u8]) -> ArrayVec<u8, SHA512CRYPT_PACKED_LEN>
     requires { length digest.now ≡ digest_len method }
     ensures text { result.items ≡ packed method digest.now }

@@ -12,13 +12,13 @@ use crate::setting::MakeFault;
 use kdf_core::params::Params;
 use std::marker::Model;
 
-/// The most rounds of SHA-crypt. A greater number in a setting is clamped to it.
+/// The most rounds of SHA-crypt (Drepper's specification). A greater number in a setting is clamped to it.
 pub const MAX_ROUNDS: u64 = 999_999_999;
 
-/// The fewest rounds of SHA-crypt. A smaller number in a setting is clamped to it.
+/// The fewest rounds of SHA-crypt (Drepper's specification). A smaller number in a setting is clamped to it.
 pub const MIN_ROUNDS: u64 = 1000;
 
-/// The rounds of SHA-crypt if the setting has no `rounds=` field.
+/// The rounds of SHA-crypt if the setting has no `rounds=` field (Drepper's specification).
 pub const DEFAULT_ROUNDS: u32 = 5000;
 
 /// The least cost of a made scheme of scrypt, apart from 0.

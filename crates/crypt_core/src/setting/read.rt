@@ -24,7 +24,7 @@ use kdf_core::params::{ParamFault, Params};
 use prims_core::alphabet::{read_30, value_of};
 
 impl Setting {
-    /// Parses a setting, or a stored hash, which begins with its setting.
+    /// Parses a setting (crypt(5)), or a stored hash, which begins with its setting.
     ///
     /// Everything after the salt's `$` must keep the rules on length and bytes, and is otherwise ignored. For example,
     /// `$5$rounds=10$salt$x` is sha256crypt with 1000 rounds and the salt `salt`.

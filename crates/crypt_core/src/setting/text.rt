@@ -13,7 +13,7 @@ use arrayvec::ArrayVec;
 use prims_core::alphabet::put_group;
 
 impl Setting {
-    /// Returns the setting in canonical form, of at most [`CANONICAL_LIMIT`](super::CANONICAL_LIMIT) bytes.
+    /// Returns the setting in canonical form (crypt(5)), of at most [`CANONICAL_LIMIT`](super::CANONICAL_LIMIT) bytes.
     ///
     /// [`Setting::read`] parses it as this setting again. It has a `rounds=` field exactly if the setting had one, with
     /// the clamped number. With a `$` and the packed digest it has at most [`HASH_LIMIT`](crate::hash::HASH_LIMIT)
