@@ -13,7 +13,7 @@ use Rattle.crypt_core.specs.declared.fits.FitFault.TheVariants.{Setting, OutOfMe
 abbrev pub Fits : List ℕ → List ℕ → Type 0
 Fits password stored = (kept : SettingValue) × Spells stored kept × (crypt password kept ≡ stored)
 
--- Compares password stored before after result: this is the result of a comparison, with the counts before and after it.
+-- Compares password stored before after result: this is the result of a comparison, with the counts before and after.
 --   a verdict     whether the hash with the setting of the stored hash is the stored hash; counts the work of that hash
 --   Setting       the first rule that the stored hash breaks as a setting; counts nothing
 --   OutOfMemory   scrypt, with the setting of the stored hash, failed to allocate; counts the allocations before
