@@ -1,4 +1,4 @@
--- The text that crypt(3) gives for a password and a setting.
+-- The hash of a password with a setting (crypt(3)).
 use Rattle.std.specs.Prelude.{ℕ, List, ◌∷◌, ◌++◌}
 use Rattle.prims_core.specs.Digests.{sha256, sha512}
 use Rattle.prims_core.specs.declared.meter.Work.{Work}
@@ -14,14 +14,14 @@ use Rattle.crypt_core.specs.declared.method.Method.TheVariants as methods
 use Rattle.crypt_core.specs.declared.scheme.Scheme.{Scheme}
 use Rattle.crypt_core.specs.declared.scheme.Scheme.TheVariants.{Md5crypt, Sha256crypt, Sha512crypt, Scrypt}
 
--- digest_by scheme password salt: the digest of a password by a scheme and a salt.
+-- digest_by scheme password salt: the digest of a password with a scheme and a salt.
 abbrev pub digest_by : Scheme → List ℕ → List ℕ → List ℕ
 digest_by Md5crypt password salt = md5crypt_digest password salt
 digest_by (Sha256crypt rounds) password salt = shacrypt_digest sha256 password salt rounds.count
 digest_by (Sha512crypt rounds) password salt = shacrypt_digest sha512 password salt rounds.count
 digest_by (Scrypt cost) password salt = scrypt password salt cost (method_row methods.Scrypt).digest_len
 
--- crypt password kept: the hash, which is the canonical text of the setting, a `$`, and the packed digest.
+-- crypt password kept: the hash, which is the setting in canonical form, a `$`, and the packed digest.
 unfoldable pub crypt : List ℕ → SettingValue → List ℕ
 crypt password kept =
     canonical_text kept ++ dollar ∷ packed (method_of kept.scheme) (digest_by kept.scheme password kept.salt)

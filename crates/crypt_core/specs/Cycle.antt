@@ -1,24 +1,25 @@
--- What the schemes make of a length: bytes of a digest, and a piece for each of the length's binary digits.
+-- Parts of a message whose size depends on a length: the bytes of a digest, repeated, and a piece for each binary digit
+-- (FreeBSD's md5crypt; Drepper, "Unix crypt using SHA-256 and SHA-512", steps 9 to 11).
 use Rattle.std.specs.Prelude.{ℕ, zero, suc, ◌/◌, ◌%◌, ◌==◌, List, [], ◌∷◌, length, map, flat_map, slice_index, sum_by, if◌then◌else◌}
 use Rattle.std.specs.List.{range_with_len}
 
--- n bytes, of which byte i is byte (i mod length d) of d
+-- cycle d n: the first n bytes of d, repeated without end (steps 9 and 10). Byte i is byte (i mod length d) of d.
 unfoldable pub cycle : List ℕ → ℕ → List ℕ
 cycle d n = map (λ i. slice_index d (i % length d)) (range_with_len 0 n)
 
--- the binary digits of n, lowest first and none for 0, but at most k of them. A number n has at most n digits
+-- digits_up_to k n: the binary digits of n, the lowest first, but at most k of them. 0 has none, and n has at most n.
 abbrev pub digits_up_to : ℕ → ℕ → List ℕ
 digits_up_to zero n = []
 digits_up_to (suc k) n = if n == 0 then [] else n % 2 ∷ digits_up_to k (n / 2)
 
--- what a binary digit stands for: the one for a 1, and the other for a 0
+-- by_digit one other digit: `one` for the digit 1, and `other` for the digit 0.
 abbrev pub by_digit : {A : Type 0} → A → A → ℕ → A
 by_digit one other digit = if digit == 1 then one else other
 
--- such a piece for each binary digit of n, lowest first
+-- digit_pieces one other n: such a piece for each binary digit of n, the lowest first (step 11).
 abbrev pub digit_pieces : List ℕ → List ℕ → ℕ → List ℕ
 digit_pieces one other n = flat_map (by_digit one other) (digits_up_to n n)
 
--- the number of bytes of these pieces, if these are the lengths of the one and of the other
+-- digit_bytes one other n: the bytes of these pieces. A piece for a 1 has `one` bytes, and a piece for a 0 has `other`.
 abbrev pub digit_bytes : ℕ → ℕ → ℕ → ℕ
 digit_bytes one other n = sum_by (by_digit one other) (digits_up_to n n)

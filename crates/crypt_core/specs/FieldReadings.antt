@@ -1,4 +1,4 @@
--- What a stored field is read as.
+-- The result of reading a stored field.
 use Rattle.std.specs.Prelude.{◌≡◌, ℕ, List, [], Result, Ok, Err}
 use Rattle.crypt_core.specs.Refusals.{IsRefused}
 use Rattle.crypt_core.specs.StoredFields.{IsHashOf, IsLocked, IsStored}
@@ -6,7 +6,8 @@ use Rattle.crypt_core.specs.declared.setting.fault.SettingFault.{SettingFault}
 use Rattle.crypt_core.specs.declared.stored.StoredField.{StoredField}
 use Rattle.crypt_core.specs.declared.stored.StoredField.TheVariants.{Empty, Locked, Hash}
 
--- an empty field, a locked one, or a stored hash; or why a field of neither kind is no stored hash
+-- IsFieldReading field result: the field is empty, locked, or this stored hash. The error is for a field that is
+-- neither empty nor locked, and is the first rule that it breaks as a setting.
 abbrev pub IsFieldReading : List ℕ → Result StoredField SettingFault → Type 0
 IsFieldReading field (Ok Empty) = field ≡ []
 IsFieldReading field (Ok Locked) = IsLocked field

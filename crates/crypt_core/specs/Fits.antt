@@ -1,4 +1,4 @@
--- Whether a password fits a stored text (crypt(3)).
+-- Whether a password matches a stored hash (crypt(3)).
 use Rattle.std.specs.Prelude.{◌≡◌, ℕ, ◌↔◌, Bool, List, IsTrue, Result, Ok, Err}
 use Rattle.prims_core.specs.declared.meter.Work.{Work}
 use Rattle.crypt_core.specs.Crypt.{crypt, IsAfterRefusedGrowth}
@@ -8,12 +8,15 @@ use Rattle.crypt_core.specs.Work.{raised_by, work}
 use Rattle.crypt_core.specs.declared.fits.FitFault.{FitFault}
 use Rattle.crypt_core.specs.declared.fits.FitFault.TheVariants.{Setting, OutOfMemory}
 
--- the text spells a setting, and the password's hash by it is the text, to the last byte
+-- Fits password stored: the stored hash spells a setting, and hashing the password with it reproduces the stored hash,
+-- to the last byte.
 abbrev pub Fits : List ℕ → List ℕ → Type 0
 Fits password stored = (kept : SettingValue) × Spells stored kept × (crypt password kept ≡ stored)
 
--- The password was hashed by the setting that the text spells, and compared; or the text was refused, and
--- nothing was counted; or memory for that hash was refused.
+-- Compares password stored before after result: this is the result of a comparison, with the counts before and after.
+--   a verdict     whether the hash with the setting of the stored hash is the stored hash; counts the work of that hash
+--   Setting       the first rule that the stored hash breaks as a setting; counts nothing
+--   OutOfMemory   scrypt, with the setting of the stored hash, failed to allocate; counts the allocations before
 abbrev pub Compares : List ℕ → List ℕ → Work → Work → Result Bool FitFault → Type 0
 Compares password stored before after (Ok verdict) =
     (kept : SettingValue) × Spells stored kept × (IsTrue verdict ↔ (crypt password kept ≡ stored))

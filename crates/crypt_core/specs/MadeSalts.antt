@@ -1,15 +1,15 @@
--- Salts made of three random numbers of 64 bits, and the numbers that are drawn for one.
+-- Salts made of three random numbers of 64 bits, and the stream that gives these numbers.
 use Rattle.std.specs.Prelude.{ℕ, ◌*◌, ◌/◌, ◌%◌, ◌^◌, List, [], ◌∷◌, map, slice_index}
 use Rattle.std.specs.List.{range_with_len}
 use Rattle.rand_core.specs.Stream.{Stream, next_u64}
 use Rattle.prims_core.specs.Alphabet.{character_of}
 
--- made_salt words len: the salt of len characters. A number gives up to ten characters, six bits for each, lowest bits
+-- made_salt words len: the salt of len characters. Each number gives up to ten characters of six bits, the lowest bits
 -- first.
 unfoldable pub made_salt : List ℕ → ℕ → List ℕ
 made_salt words len = map (λ i. character_of (slice_index words (i / 10) / 2 ^ (6 * (i % 10)) % 64)) (range_with_len 0 len)
 
--- The next three numbers of a stream, and what is left of it.
+-- three_words stream: its next three numbers, and the stream after them.
 abbrev pub three_words : Stream → List ℕ × Stream
 three_words stream =
     let first = next_u64 stream in let second = next_u64 first.1 in let third = next_u64 second.1 in

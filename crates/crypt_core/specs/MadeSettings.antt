@@ -1,5 +1,5 @@
--- Settings that are made of a method, a cost and a salt, and which refusal these get instead. The cost is one
--- number, which the command takes as `-R`.
+-- Settings made of a method, a cost and a salt, and the refusal if one can't be made. The cost is the one number that
+-- the command takes as `-R`.
 use Rattle.std.specs.Prelude.{◌≡◌, ℕ, ◌+◌, ◌<◌, ◌≤◌, ◌⊎◌, ◌==◌, if◌then◌else◌, true, false, List, [], ◌∷◌, length, All, Contains, Option, Some, None}
 use Rattle.prims_core.specs.Alphabet.{alphabet}
 use Rattle.kdf_core.specs.Params.{ScryptCost}
@@ -36,7 +36,7 @@ made_scheme methods.Scrypt cost = Scrypt (made_cost cost)
 abbrev pub salted : Scheme → List ℕ → SettingValue
 salted scheme words = record { scheme = scheme; salt = made_salt words (method_row (method_of scheme)).made_salt_length }
 
--- TakesCost method cost: scrypt takes the costs 0 and from 6 to 11, and the other methods take any.
+-- TakesCost method cost: scrypt takes the costs 0 and 6 to 11, and the other methods take any.
 abbrev pub TakesCost : Method → ℕ → Type 0
 TakesCost methods.Scrypt cost = (cost ≡ 0) ⊎ ((6 ≤ cost) × (cost ≤ 11))
 TakesCost method cost = Unit {0}
@@ -45,7 +45,7 @@ TakesCost method cost = Unit {0}
 abbrev pub make_faults : List MakeFault
 make_faults = SaltLength ∷ SaltCharacter ∷ Cost ∷ []
 
--- BreaksMake method cost given fault: a method, a cost, and the salt if one is given, break the rule of a refusal.
+-- BreaksMake method cost given fault: a method, a cost, and the salt if one is given, break the rule of this refusal.
 --   Cost            the method takes the cost
 --   SaltLength      the salt has at least one character, and no more than the method keeps
 --   SaltCharacter   all characters of the salt are of crypt's alphabet
@@ -55,6 +55,6 @@ BreaksMake method cost None fault = ⊥
 BreaksMake method cost (Some salt) SaltLength = (length salt ≡ 0) ⊎ ((method_row method).salt_limit < length salt)
 BreaksMake method cost (Some salt) SaltCharacter = ¬ All (Contains alphabet) salt
 
--- IsMakeRefused method cost given fault: they get the refusal of the first rule that they break.
+-- IsMakeRefused method cost given fault: this is the refusal of the first rule that they break.
 unfoldable pub IsMakeRefused : Method → ℕ → Option (List ℕ) → MakeFault → Type 0
 IsMakeRefused method cost given = IsFirstBroken make_faults (BreaksMake method cost given)

@@ -1,4 +1,4 @@
--- The scheme md5crypt of FreeBSD, whose texts begin with `$1$`.
+-- FreeBSD's md5crypt, whose settings begin with `$1$`.
 use Rattle.std.specs.Prelude.{ℕ, List, [], ◌∷◌, ◌++◌, length, take}
 use Rattle.prims_core.specs.Digests.{md5}
 use Rattle.crypt_core.specs.Cycle.{cycle, digit_pieces}
@@ -6,13 +6,13 @@ use Rattle.crypt_core.specs.Methods.{method_row}
 use Rattle.crypt_core.specs.RoundMessage.{alternate_message, digest_after}
 use Rattle.crypt_core.specs.declared.method.Method.TheVariants as methods
 
--- The digest before the rounds. A digit 1 of the password's length stands for a zero byte, and a 0 for the password's
--- first byte.
+-- md5crypt_opening password salt: the digest before the rounds. In the binary digits of the password's length, a 1
+-- stands for a zero byte, and a 0 for the password's first byte.
 abbrev pub md5crypt_opening : List ℕ → List ℕ → List ℕ
 md5crypt_opening password salt = md5 (password ++ (method_row methods.Md5crypt).prefix ++ salt
     ++ cycle (md5 (alternate_message password salt)) (length password)
     ++ digit_pieces (0 ∷ []) (take 1 password) (length password))
 
--- The digest after 1000 rounds.
+-- md5crypt_digest password salt: the digest after 1000 rounds.
 unfoldable pub md5crypt_digest : List ℕ → List ℕ → List ℕ
 md5crypt_digest password salt = digest_after md5 (md5crypt_opening password salt) password salt 1000

@@ -1,5 +1,4 @@
--- The messages that md5crypt and SHA-crypt digest, by their numbers from 0 on: 1,002 in md5crypt, and R + 4 in SHA-crypt
--- for R rounds.
+-- The messages that md5crypt and SHA-crypt digest, numbered from 0: 1,002 in md5crypt, and rounds + 4 in SHA-crypt.
 use Rattle.std.specs.Prelude.{◌≡◌, ℕ, zero, suc, ◌+◌, List, [], ◌∷◌, ◌++◌, length, take, map}
 use Rattle.std.specs.List.{range_with_len, repeat}
 use Rattle.prims_core.specs.Digests.{md5}
@@ -10,64 +9,65 @@ use Rattle.crypt_core.specs.RoundMessage.{alternate_message, digest_after, round
 use Rattle.crypt_core.specs.ShaCrypt.{password_string, salt_string, sha_opening, sha_opening_byte, shacrypt_digest}
 use Rattle.crypt_core.specs.declared.method.Method.TheVariants as methods
 
--- md5crypt
+-- ---- md5crypt
 
--- the second message, which `md5crypt_opening` is the digest of
+-- opening_message password salt: the second message, whose digest is `md5crypt_opening`.
 abbrev pub opening_message : List ℕ → List ℕ → List ℕ
 opening_message password salt =
     password ++ prefix methods.Md5crypt ++ salt
     ++ cycle (md5 (alternate_message password salt)) (length password)
     ++ digit_pieces (0 ∷ []) (take 1 password) (length password)
 
--- message k. That of round i is number i + 2
+-- md5crypt_message password salt k: message k. The message of round i has the number i + 2.
 unfoldable pub md5crypt_message : List ℕ → List ℕ → ℕ → List ℕ
 md5crypt_message password salt zero = alternate_message password salt
 md5crypt_message password salt (suc zero) = opening_message password salt
 md5crypt_message password salt (suc (suc i)) =
     round_message i (digest_after md5 (md5crypt_opening password salt) password salt i) password salt
 
--- how many rounds follow the first two messages
+-- The number of rounds, which follow the first two messages.
 abbrev pub md5crypt_rounds : ℕ
 md5crypt_rounds = 1000
 
--- all messages in order
+-- md5crypt_messages password salt: all messages in order.
 unfoldable pub md5crypt_messages : List ℕ → List ℕ → List (List ℕ)
 md5crypt_messages password salt = map (md5crypt_message password salt) (range_with_len 0 (md5crypt_rounds + 2))
 
--- These are the messages that the definition of the digest digests: the opening is the digest of the second one, and what
--- md5crypt gives is that of the last one. Each round's message is made with the digest of the one before.
+-- AreMd5cryptMessages password salt: these are the messages of the definition of the digest. The opening is the digest
+-- of the second message, and the result is that of the last. Each round's message contains the digest of the message
+-- before.
 abbrev pub AreMd5cryptMessages : List ℕ → List ℕ → Type 0
 AreMd5cryptMessages password salt =
     (md5crypt_opening password salt ≡ md5 (md5crypt_message password salt 1))
     × (md5crypt_digest password salt ≡ md5 (md5crypt_message password salt (md5crypt_rounds + 1)))
 
--- SHA-crypt over the digest function h
+-- ---- SHA-crypt with the digest function h
 
--- the second message, which `sha_opening` is the digest of
+-- sha_opening_message h password salt: the second message, whose digest is `sha_opening`.
 abbrev pub sha_opening_message : (List ℕ → List ℕ) → List ℕ → List ℕ → List ℕ
 sha_opening_message h password salt =
     password ++ salt
     ++ cycle (h (alternate_message password salt)) (length password)
     ++ digit_pieces (h (alternate_message password salt)) password (length password)
 
--- the third message, for `password_string`
+-- password_repeated password: the third message, for `password_string`.
 abbrev pub password_repeated : List ℕ → List ℕ
 password_repeated password = repeat (length password) password
 
--- the fourth message, for `salt_string`
+-- salt_repeated h password salt: the fourth message, for `salt_string`.
 abbrev pub salt_repeated : (List ℕ → List ℕ) → List ℕ → List ℕ → List ℕ
 salt_repeated h password salt = repeat (16 + sha_opening_byte h password salt) salt
 
--- the digest before round i
+-- sha_digest_before h password salt i: the digest before round i.
 abbrev pub sha_digest_before : (List ℕ → List ℕ) → List ℕ → List ℕ → ℕ → List ℕ
 sha_digest_before h password salt i =
     digest_after h (sha_opening h password salt) (password_string h password) (salt_string h password salt) i
 
--- the message of round i, where x is the digest before it
+-- sha_round_message h password salt i x: the message of round i. x is the digest before the round.
 abbrev pub sha_round_message : (List ℕ → List ℕ) → List ℕ → List ℕ → ℕ → List ℕ → List ℕ
 sha_round_message h password salt i x = round_message i x (password_string h password) (salt_string h password salt)
 
--- message k. That of round i is number i + 4
+-- shacrypt_message h password salt k: message k. The message of round i has the number i + 4.
 unfoldable pub shacrypt_message : (List ℕ → List ℕ) → List ℕ → List ℕ → ℕ → List ℕ
 shacrypt_message h password salt zero = alternate_message password salt
 shacrypt_message h password salt (suc zero) = sha_opening_message h password salt
@@ -76,12 +76,13 @@ shacrypt_message h password salt (suc (suc (suc zero))) = salt_repeated h passwo
 shacrypt_message h password salt (suc (suc (suc (suc i)))) =
     sha_round_message h password salt i (sha_digest_before h password salt i)
 
--- all messages of this many rounds, in order
+-- shacrypt_messages h password salt rounds: all messages in order.
 unfoldable pub shacrypt_messages : (List ℕ → List ℕ) → List ℕ → List ℕ → ℕ → List (List ℕ)
 shacrypt_messages h password salt rounds = map (shacrypt_message h password salt) (range_with_len 0 (rounds + 4))
 
--- These are the messages that the definition of the digest digests: the opening is the digest of the second one, the
--- strings of the rounds are made of those of the third and the fourth, and what SHA-crypt gives is that of the last one.
+-- AreShacryptMessages h password salt rounds: these are the messages of the definition of the digest. The opening is
+-- the digest of the second message, the strings P and S repeat those of the third and the fourth, and the result is
+-- that of the last.
 abbrev pub AreShacryptMessages : (List ℕ → List ℕ) → List ℕ → List ℕ → ℕ → Type 0
 AreShacryptMessages h password salt rounds =
     (sha_opening h password salt ≡ h (shacrypt_message h password salt 1))

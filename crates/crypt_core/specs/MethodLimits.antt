@@ -8,7 +8,7 @@ use Rattle.crypt_core.specs.Methods.{method_row}
 abbrev pub md5crypt_salt_limit : ℕ
 md5crypt_salt_limit = 8
 
--- The most bytes of salt that SHA-crypt keeps, over either digest.
+-- The most bytes of salt that SHA-crypt keeps, with either digest.
 abbrev pub shacrypt_salt_limit : ℕ
 shacrypt_salt_limit = 16
 
@@ -16,27 +16,27 @@ shacrypt_salt_limit = 16
 abbrev pub scrypt_salt_limit : ℕ
 scrypt_salt_limit = 86
 
--- The most characters of a made salt, which scrypt has.
+-- The most characters of a made salt: those of scrypt.
 abbrev pub made_salt_limit : ℕ
 made_salt_limit = 22
 
--- What a text of the method begins with.
+-- prefix method: the characters with which each setting of the method begins.
 abbrev pub prefix : Method → List ℕ
 prefix method = (method_row method).prefix
 
--- The most bytes of salt that the method keeps.
+-- salt_limit method: the most bytes of salt that it keeps.
 abbrev pub salt_limit : Method → ℕ
 salt_limit method = (method_row method).salt_limit
 
--- The characters of a made salt.
+-- made_salt_length method: the number of characters of a made salt.
 abbrev pub made_salt_length : Method → ℕ
 made_salt_length method = (method_row method).made_salt_length
 
--- The bytes of the method's digest.
+-- digest_len method: the number of bytes of its digest.
 abbrev pub digest_len : Method → ℕ
 digest_len method = (method_row method).digest_len
 
--- The characters of the packed digest of a method.
+-- packed_len method: the number of characters of its packed digest.
 abbrev pub packed_len : Method → ℕ
 packed_len Md5crypt = 22
 packed_len Sha256crypt = 43

@@ -1,16 +1,16 @@
--- How crypt(5) writes a digest: its bytes are taken in groups, in an order that the method fixes.
+-- The packed form of a digest in crypt(5): its bytes are taken in groups, in an order that the method fixes.
 use Rattle.std.specs.Prelude.{ℕ, ◌+◌, ◌*◌, List, [], ◌∷◌, ◌++◌, length, fold, map, slice_index, flat_map}
 use Rattle.std.specs.List.{range_with_len}
 use Rattle.prims_core.specs.Alphabet.{numerals}
 use Rattle.crypt_core.specs.declared.method.Method.{Method}
 use Rattle.crypt_core.specs.declared.method.Method.TheVariants.{Md5crypt, Sha256crypt, Sha512crypt, Scrypt}
 
--- packed_group digest places: the bytes at these places of the digest, read as one number, the first place highest, in
--- one character more than there are places.
+-- packed_group digest places: the bytes at these places of the digest, in one character more than there are places.
+-- They are read as one number, the first place highest.
 abbrev pub packed_group : List ℕ → List ℕ → List ℕ
 packed_group digest places = numerals (length places + 1) (fold (λ number place. number * 256 + slice_index digest place) 0 places)
 
--- The groups of a method's digest, as lists of places:
+-- groups_of method: the groups of its digest, as lists of places.
 --   md5crypt    those of FreeBSD's md5crypt
 --   SHA-crypt   those of Drepper, "Unix crypt using SHA-256 and SHA-512", step 22
 --   scrypt      the bytes in their order, three to a group, the first one lowest
@@ -26,6 +26,6 @@ groups_of Sha512crypt =
     ∷ (18 ∷ 39 ∷ 60 ∷ []) ∷ (40 ∷ 61 ∷ 19 ∷ []) ∷ (62 ∷ 20 ∷ 41 ∷ []) ∷ (63 ∷ []) ∷ []
 groups_of Scrypt = map (λ i. (3 * i + 2) ∷ (3 * i + 1) ∷ (3 * i) ∷ []) (range_with_len 0 10) ++ (31 ∷ 30 ∷ []) ∷ []
 
--- packed method digest: the text of a method's digest, group by group.
+-- packed method digest: the characters of a method's digest, group by group.
 unfoldable pub packed : Method → List ℕ → List ℕ
 packed method digest = flat_map (packed_group digest) (groups_of method)

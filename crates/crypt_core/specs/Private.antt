@@ -1,4 +1,4 @@
--- What only contracts of private functions cite. A reader of the public clauses needs none of it.
+-- Definitions that only contracts of private functions cite. Readers of the public clauses need none of them.
 pub mod Counting
 pub mod Parts
 pub mod RoundStrings

@@ -1,4 +1,4 @@
--- Which refusal a text gets that is no setting: that of the first stage at which reading it fails.
+-- The refusal of a string that is no setting: that of the first stage at which reading fails.
 use Rattle.std.specs.Prelude.{◌≡◌, ℕ, ◌<◌, ◌⊎◌, List, [], ◌∷◌, ◌++◌, length, All}
 use Rattle.kdf_core.specs.Params.{ScryptCost, IsInRange, IsWithinCeiling}
 use Rattle.crypt_core.specs.Methods.{method_row}
@@ -16,8 +16,8 @@ use Rattle.crypt_core.specs.declared.setting.fault.SettingFault.TheVariants.{Too
 abbrev pub setting_faults : List SettingFault
 setting_faults = TooLong ∷ BadCharacter ∷ UnknownScheme ∷ BadRounds ∷ BadCost ∷ ScryptRange ∷ AboveCeiling ∷ BadSalt ∷ []
 
--- LacksCost method text: the text has the prefix of this method, and no cost part of it follows. For SHA-crypt that is
--- `rounds=` without a valid number, since no part at all is a cost part too.
+-- LacksCost method text: the text has the prefix of this method, but no cost part follows. SHA-crypt also takes an
+-- empty cost part, so it lacks one only after `rounds=` without a valid number and a `$`.
 abbrev pub LacksCost : Method → List ℕ → Type 0
 LacksCost method text = BeginsWith text (method_row method).prefix
     × ((scheme : Scheme) → (after : List ℕ) → method_of scheme ≡ method → ¬ SpellsScheme text scheme after)

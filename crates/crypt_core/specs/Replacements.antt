@@ -1,11 +1,11 @@
--- Which settings are out of date where new hashes are made by another one.
+-- Which hashes are out of date when new ones are made with another scheme.
 use Rattle.std.specs.Prelude.{Bool, true, false, nat_lt}
 use Rattle.kdf_core.specs.Params.{product}
 use Rattle.crypt_core.specs.declared.scheme.Scheme.{Scheme}
 use Rattle.crypt_core.specs.declared.scheme.Scheme.TheVariants.{Md5crypt, Sha256crypt, Sha512crypt, Scrypt}
 
--- a scheme is replaced by one of another method, by the same SHA-crypt with more rounds, and by scrypt with a
--- greater N * r * p; md5crypt has nothing that could grow
+-- is_replaced_by old new: any other method replaces a scheme. SHA-crypt with more rounds replaces the same SHA-crypt,
+-- and scrypt with a greater N * r * p replaces scrypt. md5crypt has no cost that could grow.
 abbrev pub is_replaced_by : Scheme → Scheme → Bool
 is_replaced_by Md5crypt Md5crypt = false
 is_replaced_by (Sha256crypt old) (Sha256crypt new) = nat_lt old.count new.count

@@ -1,11 +1,11 @@
--- What is wrong with a text that is no setting, and why a setting can't be made.
+-- Why a string is no setting, and why a setting can't be made.
 use Rattle.std.specs.Prelude.{ℕ, List, codes}
 use Rattle.crypt_core.specs.declared.setting.fault.SettingFault.{SettingFault}
 use Rattle.crypt_core.specs.declared.setting.fault.SettingFault.TheVariants.{TooLong, BadCharacter, UnknownScheme, BadRounds, BadCost, ScryptRange, AboveCeiling, BadSalt}
 use Rattle.crypt_core.specs.declared.setting.fault.MakeFault.{MakeFault}
 use Rattle.crypt_core.specs.declared.setting.fault.MakeFault.TheVariants.{SaltLength, SaltCharacter, Cost}
 
--- The message for a text that is no setting.
+-- The message for a string that is no setting.
 abbrev pub setting_fault_text : SettingFault → List ℕ
 setting_fault_text TooLong = codes "setting too long"
 setting_fault_text BadCharacter = codes "bad character"

@@ -1,4 +1,4 @@
--- Settings: which text spells which setting, and the one canonical text of each (crypt(5)).
+-- Settings: which string spells which setting, and the one canonical form of each (crypt(5)).
 use Rattle.std.specs.Prelude.{◌≡◌, ◌≢◌, ◌⊎◌, ℕ, ◌^◌, ◌<◌, ◌≤◌, if◌then◌else◌, List, [], ◌∷◌, ◌++◌, length, take, All, Contains, MatchBool, decimal, codes}
 use Rattle.std.specs.Str.Parse.{digits_value}
 use Rattle.prims_core.specs.Alphabet.{alphabet, numerals}
@@ -10,7 +10,7 @@ use Rattle.crypt_core.specs.declared.scheme.Scheme.{Scheme}
 use Rattle.crypt_core.specs.declared.scheme.Scheme.TheVariants.{Md5crypt, Sha256crypt, Sha512crypt, Scrypt}
 use Rattle.crypt_core.specs.Methods.{method_row}
 
--- What is kept of a text: the scheme with its cost, and the salt.
+-- What is kept of a string: the scheme with its cost, and the salt.
 pub record SettingValue : Type 0 where
   pub scheme : Scheme
   pub salt : List ℕ
@@ -19,11 +19,11 @@ pub record SettingValue : Type 0 where
 abbrev pub IsSettingByte : ℕ → Type 0
 IsSettingByte b = (33 ≤ b) × (b ≤ 126) × ¬ Contains (codes ":;*!\\") b
 
--- The most bytes of a setting's text.
+-- The most bytes of a setting or a stored hash.
 abbrev pub setting_limit : ℕ
 setting_limit = 384
 
--- The character `$`, which separates the parts of a text.
+-- The character `$`, which separates the parts of a setting.
 abbrev pub dollar : ℕ
 dollar = 36
 
@@ -37,7 +37,7 @@ IsField field rest = All (λ b. b ≢ dollar) field × ((rest ≡ []) ⊎ Begins
 
 -- ---- the cost part
 
--- The word with which SHA-crypt's field begins (Drepper, "Unix crypt using SHA-256 and SHA-512").
+-- The characters with which SHA-crypt's rounds field begins (Drepper, "Unix crypt using SHA-256 and SHA-512").
 abbrev pub rounds_word : List ℕ
 rounds_word = codes "rounds="
 
@@ -46,11 +46,11 @@ abbrev pub IsRoundsNumber : List ℕ → Type 0
 IsRoundsNumber [] = ⊥
 IsRoundsNumber (d ∷ ds) = (49 ≤ d) × (d ≤ 57) × All (λ c. (48 ≤ c) × (c ≤ 57)) ds
 
--- rounds_field digits: the word, the digits of the number, and a `$`.
+-- rounds_field digits: `rounds=`, the digits of the number, and a `$`.
 abbrev pub rounds_field : List ℕ → List ℕ
 rounds_field digits = rounds_word ++ (digits ++ dollar ∷ [])
 
--- SpellsRounds rounds part after: this part, followed by what comes after it, spells these rounds.
+-- SpellsRounds rounds part after: this part, if `after` follows it, spells these rounds.
 --   with a field      the part is the field, and the rounds are its number, clamped
 --   without a field   the part is empty, the rounds are the default, and no `rounds=` follows
 abbrev pub SpellsRounds : Rounds → List ℕ → List ℕ → Type 0
@@ -58,21 +58,21 @@ SpellsRounds rounds part after = MatchBool rounds.is_written
     ((digits : List ℕ) × IsRoundsNumber digits × (part ≡ rounds_field digits) × (rounds.count ≡ clamped (digits_value 10 digits)))
     ((part ≡ []) × (rounds.count ≡ default_rounds) × ¬ BeginsWith after rounds_word)
 
--- scrypt's cost part: one character of log2 N, five of r and five of p, each with its lowest six bits first.
+-- scrypt_part cost: one character of log2 N, five of r and five of p. Each number has its lowest six bits first.
 abbrev pub scrypt_part : ScryptCost → List ℕ
 scrypt_part cost = numerals 1 cost.log_n ++ (numerals 5 cost.r ++ numerals 5 cost.p)
 
--- SpellsCost scheme part after: this part, followed by what comes after it, spells the cost of the scheme. scrypt's
--- numbers are those that its characters can say.
+-- SpellsCost scheme part after: this part, if `after` follows it, spells the cost of the scheme. The characters of
+-- scrypt's cost part can express its numbers.
 abbrev pub SpellsCost : Scheme → List ℕ → List ℕ → Type 0
 SpellsCost Md5crypt part after = part ≡ []
 SpellsCost (Sha256crypt rounds) part after = SpellsRounds rounds part after
 SpellsCost (Sha512crypt rounds) part after = SpellsRounds rounds part after
 SpellsCost (Scrypt cost) part after = (part ≡ scrypt_part cost) × (cost.log_n < 64) × (cost.r < 2 ^ 30) × (cost.p < 2 ^ 30)
 
--- ---- the text
+-- ---- the whole string
 
--- SpellsScheme text scheme after: the text is the prefix of the scheme's method, the scheme's cost part, and this.
+-- SpellsScheme text scheme after: the text is the prefix of the scheme's method, the scheme's cost part, and then this.
 abbrev pub SpellsScheme : List ℕ → Scheme → List ℕ → Type 0
 SpellsScheme text scheme after =
     (part : List ℕ) × (text ≡ (method_row (method_of scheme)).prefix ++ (part ++ after)) × SpellsCost scheme part after
@@ -88,8 +88,8 @@ abbrev pub KeepsSalt : Scheme → List ℕ → List ℕ → Type 0
 KeepsSalt (Scrypt cost) field salt = IsAccepted cost × (salt ≡ field) × IsScryptSalt field
 KeepsSalt scheme field salt = salt ≡ take (method_row (method_of scheme)).salt_limit field
 
--- Spells text kept: the text spells what is kept of it. It has no more bytes than the limit, all of them setting bytes.
--- A scheme comes first, then the field of the salt, and then a rest that means nothing.
+-- Spells text kept: the text spells this setting. It has no more bytes than the limit, all of them setting bytes. It
+-- begins with the prefix and the cost of the scheme. The field of the salt follows, and then a rest that is ignored.
 pub record Spells (text : List ℕ) (kept : SettingValue) : Type 0 where
   pub short : length text ≤ setting_limit
   pub bytes : All IsSettingByte text
@@ -99,15 +99,15 @@ pub record Spells (text : List ℕ) (kept : SettingValue) : Type 0 where
   pub scheme : SpellsScheme text kept.scheme (field ++ rest)
   pub salt : KeepsSalt kept.scheme field kept.salt
 
--- ---- the canonical text
+-- ---- the canonical form
 
--- The cost as it is kept. Rounds that the text didn't have are left out.
+-- cost_part scheme: its cost in canonical form. SHA-crypt's rounds appear only if the setting had a `rounds=` field.
 abbrev pub cost_part : Scheme → List ℕ
 cost_part Md5crypt = []
 cost_part (Sha256crypt rounds) = if rounds.is_written then rounds_field (decimal rounds.count) else []
 cost_part (Sha512crypt rounds) = if rounds.is_written then rounds_field (decimal rounds.count) else []
 cost_part (Scrypt cost) = scrypt_part cost
 
--- The canonical text of a setting, which ends with its salt.
+-- canonical_text kept: the setting in canonical form, which ends with its salt.
 abbrev pub canonical_text : SettingValue → List ℕ
 canonical_text kept = (method_row (method_of kept.scheme)).prefix ++ (cost_part kept.scheme ++ kept.salt)

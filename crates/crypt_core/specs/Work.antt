@@ -1,9 +1,9 @@
--- The work of a hash, as a meter counts it: the messages that are digested, and for scrypt the mixings and the memory, in
--- closed form by the lengths of the password and the salt, and for SHA-crypt by one byte of a digest.
+-- The work of a hash, as a meter counts it: the digested messages, and for scrypt also the mixings and the memory. It
+-- is a closed form of the lengths of the password and the salt, and for SHA-crypt of one byte of a digest.
 use Rattle.std.specs.Prelude.{ℕ, ◌+◌, ◌-◌, ◌*◌, ◌^◌, List, length}
 use Rattle.std.specs.Int.{div_ceil}
 use Rattle.prims_core.specs.Digests.{sha256, sha512}
--- a meter raised by some work, and work within other work or below a number
+-- The counts after some more work, and work within other work or below a number.
 pub use Rattle.prims_core.specs.Work.{raised_by, IsBelow, IsWithin}
 use Rattle.prims_core.specs.declared.meter.Work.{Work}
 use Rattle.kdf_core.specs.Scrypt.{part_bytes}
@@ -18,17 +18,17 @@ use Rattle.crypt_core.specs.declared.scheme.Scheme.TheVariants.{Md5crypt, Sha256
 
 -- ---- for a password and a salt of given lengths
 
--- rounds_bytes n digest_length password_length salt_length: the bytes of the messages of n rounds. Each has a digest and
--- a password. The salt is missing from every third, and the password's second place from every seventh, from round 0 on.
+-- rounds_bytes n digest_length password_length salt_length: the bytes of the messages of n rounds. Each has a digest
+-- and a password. Rounds 0, 3, 6, .. omit the salt, and rounds 0, 7, 14, .. omit the second password.
 abbrev pub rounds_bytes : ℕ → ℕ → ℕ → ℕ → ℕ
 rounds_bytes n digest_length password_length salt_length =
     n * (digest_length + password_length) + (n - div_ceil n 3) * salt_length + (n - div_ceil n 7) * password_length
 
--- The work of md5crypt and SHA-crypt, which mix nothing and take no memory.
+-- digests_alone digests bytes: the work of md5crypt or SHA-crypt, which neither mix nor allocate.
 abbrev pub digests_alone : ℕ → ℕ → Work
 digests_alone digests bytes = record { digests = digests; bytes = bytes; mixes = 0; table = 0; scratch = 0 }
 
--- md5crypt_work password_length salt_length: md5crypt has 1,002 messages.
+-- md5crypt_work password_length salt_length: the work of md5crypt, which has 1,002 messages.
 --   first    two passwords and a salt
 --   second   the same, the prefix, and a byte for each binary digit of the password's length
 --   rounds   1,000
@@ -37,8 +37,8 @@ md5crypt_work password_length salt_length = digests_alone (1000 + 2)
     (2 * (2 * password_length + salt_length) + 3 + digit_bytes 1 1 password_length
     + rounds_bytes 1000 (method_row methods.Md5crypt).digest_len password_length salt_length)
 
--- shacrypt_work digest_length a rounds password_length salt_length: SHA-crypt has four messages and the rounds, where a
--- is the first byte of the digest that Drepper calls A.
+-- shacrypt_work digest_length a rounds password_length salt_length: the work of SHA-crypt, which has four messages and
+-- one for each round. a is the first byte of the digest that Drepper calls A.
 --   first    two passwords and a salt
 --   second   the same, and for each binary digit of the password's length a digest for 1 and the password for 0
 --   third    the password as often as it has bytes
@@ -48,7 +48,7 @@ shacrypt_work digest_length a rounds password_length salt_length = digests_alone
     (2 * (2 * password_length + salt_length) + digit_bytes digest_length password_length password_length
     + password_length * password_length + (16 + a) * salt_length + rounds_bytes rounds digest_length password_length salt_length)
 
--- work_by scheme a password_length salt_length: the work with a scheme. Only SHA-crypt has the byte a.
+-- work_by scheme a password_length salt_length: the work with a scheme. Only that of SHA-crypt depends on a.
 abbrev pub work_by : Scheme → ℕ → ℕ → ℕ → Work
 work_by Md5crypt a password_length salt_length = md5crypt_work password_length salt_length
 work_by (Sha256crypt rounds) a password_length salt_length = shacrypt_work 32 a rounds.count password_length salt_length
@@ -57,7 +57,8 @@ work_by (Scrypt cost) a password_length salt_length = scrypt_work cost password_
 
 -- ---- the work, the bound and the cost
 
--- first_byte_by scheme password salt: A's first byte in SHA-crypt, and 0 for the other schemes, whose work has none.
+-- first_byte_by scheme password salt: A's first byte for SHA-crypt, and 0 for the other schemes, whose work does not
+-- depend on it.
 abbrev pub first_byte_by : Scheme → List ℕ → List ℕ → ℕ
 first_byte_by (Sha256crypt rounds) password salt = sha_opening_byte sha256 password salt
 first_byte_by (Sha512crypt rounds) password salt = sha_opening_byte sha512 password salt
@@ -71,8 +72,8 @@ work password kept = work_by kept.scheme (first_byte_by kept.scheme password kep
 abbrev pub work_bound : SettingValue → ℕ → Work
 work_bound kept password_length = work_by kept.scheme 255 password_length (length kept.salt)
 
--- cost_by scheme password_length salt_length: the bound as one number, with which a budget is compared. It is the number
--- of bytes that are digested at most, and for scrypt of those that are mixed, a part in each mixing.
+-- cost_by scheme password_length salt_length: the bound as one number, which is compared with a budget. It is the
+-- greatest number of digested bytes, and scrypt adds the number of mixed bytes, one part in each mixing.
 abbrev pub cost_by : Scheme → ℕ → ℕ → ℕ
 cost_by (Scrypt cost) password_length salt_length =
     let most = work_by (Scrypt cost) 255 password_length salt_length in most.bytes + most.mixes * part_bytes cost

@@ -1,5 +1,5 @@
-//! Checking a stored text, as crypt(3) is used for it: a password fits where its hash by the setting that the
-//! text spells is the text.
+//! Checking a password against a stored hash, as crypt(3) is used for it: the password matches if hashing it with the
+//! setting in the stored hash reproduces the stored hash.
 ghost use Rattle.std.specs.Prelude.{◌≡◌, ◌↔◌, ◌^◌, Err, IsTrue, IfOk};
 ghost use Rattle.prims_core.specs.Work.{IsAtMost};
 ghost use Rattle.crypt_core.specs.declared.setting.fault.SettingFault.{SettingFault as Refusal};
@@ -17,13 +17,13 @@ use prims_core::meter::Meter;
 use std::alloc::Global;
 use thiserror::Error;
 
-/// Why a password can't be compared with a stored text.
+/// Why a password can't be compared with a stored hash.
 #[derive(Clone, Copy, Debug, PartialEq, Eq, Drop, Error)]
 pub enum FitFault {
-    /// The stored text spells no setting.
+    /// The stored hash has no valid setting, and this is the first rule that it breaks.
     #[error("{}", self.text())]
     Setting(SettingFault),
-    /// Memory ran out, which only scrypt asks for.
+    /// scrypt could not allocate. No other method allocates.
     #[error("{}", self.text())]
     OutOfMemory,
 }
@@ -31,7 +31,7 @@ pub enum FitFault {
 impl FitFault {
     ghost use Rattle.crypt_core.specs.FitFaults.{fit_fault_text};
 
-    /// The fault in words.
+    /// Returns the message of the error.
     pub fn text(&self) -> &'static str
         ensures { result.now ≡ fit_fault_text self.now }
     {
@@ -64,15 +64,20 @@ impl From<HashFault> for FitFault {
     }
 }
 
-/// Whether the password fits a stored text: its hash by the setting that the text spells is the whole text,
-/// byte for byte. So a text that is not the one that a hash would have fits no password.
+/// Returns true exactly if hashing the password with the setting in the stored hash reproduces the stored hash.
 ///
-/// The meter counts the work of that one hash, less than 2^41 in each count; before hashing,
-/// [`bound`](crate::work::bound) tells what it can be. Condition: each count of the meter is at most 2^120.
+/// All bytes count, so a stored hash that is not in canonical form matches no password. For example, none matches
+/// `$6$rounds=10$..`, whose rounds are clamped to 1000. The call raises the meter by exactly the work of that one hash,
+/// less than 2^41 in each count; [`bound`](crate::work::bound) returns a bound on it before hashing.
 ///
-/// - `Setting`: the text is refused as a setting. The meter is as it was.
-/// - `OutOfMemory`: a growth of scrypt was refused. The meter has counted the growths before that one and
-///   nothing else. No other method takes memory.
+/// Precondition: each count of the meter is at most 2^120.
+///
+/// # Errors
+///
+/// - `Setting`: the stored hash has no valid setting. The error is the first rule that it breaks, and the meter is
+///   unchanged.
+/// - `OutOfMemory`: scrypt could not allocate. The meter adds only the allocations that succeeded. No other method
+///   allocates.
 pub fn fits(
     alloc: Global,
     password: &Password,

@@ -1,4 +1,4 @@
-//! The text of crypt(3): a password, hashed by a setting.
+//! Hashing a password with a setting, as crypt(3) does.
 ghost use Rattle.std.specs.Prelude.{◌≡◌, ℕ, ◌^◌, ◌≤◌, ◌∷◌, ◌++◌, List, length, IfOk, OnOk, OnErr};
 ghost use Rattle.prims_core.specs.Work.{IsAtMost};
 ghost use Rattle.kdf_core.specs.Params.{IsBounded};
@@ -29,11 +29,11 @@ use std::alloc::{AllocError, Global};
 use std::marker::Model;
 use thiserror::Error;
 
-/// The most bytes of a hashed password: scrypt's canonical text, a `$`, and its packed digest.
+/// The most bytes of a hash: scrypt's longest setting in canonical form, a `$`, and its packed digest.
 pub const HASH_LIMIT: usize = CANONICAL_LIMIT + 1 + SCRYPT_PACKED_LEN;
 
-/// A hashed password, as crypt(3) gives it: a text of at most [`HASH_LIMIT`] bytes. A contract sees it as
-/// the list of its bytes.
+/// The hash of a password, as crypt(3) returns it, of at most [`HASH_LIMIT`] bytes. Contracts see it as the list of its
+/// bytes.
 #[derive(Debug, Drop)]
 pub struct Hashed {
     text: ArrayVec<u8, TEXT_CAPACITY>,
@@ -50,7 +50,7 @@ impl Model for Hashed {
 }
 
 impl Hashed {
-    /// The canonical text of the setting, a `$`, and the packed digest.
+    /// Returns the hash: the setting in canonical form, a `$`, and the packed digest.
     pub fn text(&self) -> &[u8]
         ensures text { result.now ≡ self.now }
         ensures short { length result.now ≤ hash_limit }
@@ -62,7 +62,7 @@ impl Hashed {
 /// Why a password has no hash.
 #[derive(Clone, Copy, Debug, PartialEq, Eq, Drop, Error)]
 pub enum HashFault {
-    /// Memory ran out, which only scrypt asks for.
+    /// scrypt could not allocate. No other method allocates.
     #[error("{}", self.text())]
     OutOfMemory,
 }
@@ -70,7 +70,7 @@ pub enum HashFault {
 impl HashFault {
     ghost use Rattle.crypt_core.specs.HashFaults.{hash_fault_text};
 
-    /// The fault in words.
+    /// Returns the message of the error.
     pub fn text(&self) -> &'static str
         ensures { result.now ≡ hash_fault_text self.now }
     {
@@ -86,12 +86,18 @@ impl From<AllocError> for HashFault {
     }
 }
 
-/// Hashes a password by a setting, as crypt(3) does. The meter counts all its work: each message that is digested, and
-/// for scrypt each mixing and each byte of memory. Each count rises by less than 2^41.
+/// Returns the hash of a password with a setting, as crypt(3) does.
 ///
-/// `OutOfMemory` comes only by a setting of scrypt, where one of its three growths was refused. The
-/// meter has then counted the growths before that one and nothing else. No other method takes memory.
-/// Each count of the meter is at most 2^120 before.
+/// For example, the password `password` with the setting `$1$xxxxxxxx` has the hash
+/// `$1$xxxxxxxx$UYCIxa628.9qXjpQCjM4a.`. The meter counts all the work: each digested message, and for scrypt each
+/// mixing and each byte of memory. Each count rises by less than 2^41.
+///
+/// Precondition: each count of the meter is at most 2^120.
+///
+/// # Errors
+///
+/// - `OutOfMemory`: scrypt could not allocate. The meter adds only those of its three allocations that succeeded. No
+///   other method allocates.
 pub fn hash(
     alloc: Global,
     password: &Password,
@@ -104,7 +110,7 @@ pub fn hash(
     ensures count { OnOk result (meter.new ≡ raised_by meter.old (work password.now setting.now)) }
     ensures below { IsBelow (work password.now setting.now) work_limit }
 
-    // So an error comes only by a setting of scrypt.
+    // By this clause only settings of scrypt lead to an error.
     ensures refused { OnErr result (IsAfterRefusedGrowth meter.old setting.now.scheme meter.new) }
 {
     let digest = digest_of(alloc, password, setting, meter)?;
@@ -115,7 +121,7 @@ pub fn hash(
     Ok(Hashed { text })
 }
 
-/// How many bytes each hash by the setting has, known before hashing: at most [`HASH_LIMIT`].
+/// Returns the number of bytes of every hash with this setting, known before hashing. It is at most [`HASH_LIMIT`].
 pub fn hash_len(setting: &Setting) -> usize
     ensures each { (password : List ℕ) → length (crypt password setting.now) ≡ result }
     ensures short { result ≤ hash_limit }
@@ -123,7 +129,7 @@ pub fn hash_len(setting: &Setting) -> usize
     setting.text().len() + 1 + packed_len(setting.method())
 }
 
-// The digest that the setting's scheme makes of the password.
+// Returns the digest of the password with the setting's scheme and salt.
 fn digest_of(
     alloc: Global,
     password: &Password,
@@ -159,7 +165,7 @@ fn digest_of(
     }
 }
 
-// scrypt's digest.
+// Returns scrypt's digest, which has 32 bytes.
 fn scrypt_digest(
     alloc: Global,
     password: &[u8],

@@ -1,5 +1,4 @@
-//! Salts made of random words: three words of 64 bits are drawn, and their bits are read as
-//! characters of crypt's alphabet.
+//! Salts made of three random numbers of 64 bits, whose bits become characters of crypt's alphabet.
 
 ghost use Rattle.std.specs.Prelude.{◌≡◌, ◌≤◌, length, All, Contains};
 ghost use Rattle.prims_core.specs.Alphabet.{alphabet};
@@ -15,11 +14,13 @@ use arrayvec::ArrayVec;
 use prims_core::alphabet::char_of;
 use rand_core::Rng;
 
-/// The salt of `len` characters, at most [`MADE_SALT_LIMIT`], that three random words give.
+/// Returns the salt of `len` characters that three random numbers make.
 ///
-/// A word gives up to ten characters, six bits for each, lowest bits first; its highest four bits are
-/// not used. A salt of some characters is one that [`Setting::make`](crate::setting::Setting::make)
-/// takes for each method that keeps as many.
+/// Each number gives up to ten characters of six bits, the lowest bits first. Its highest four bits are not used.
+/// [`Setting::make`](crate::setting::Setting::make) takes such a salt, unless it is empty, for each method that keeps
+/// as many characters.
+///
+/// Precondition: `len` is at most [`MADE_SALT_LIMIT`].
 pub fn salt_of(words: [u64; 3], len: usize) -> ArrayVec<u8, MADE_SALT_LIMIT>
     requires { len ≤ made_salt_limit }
     ensures items { result.items ≡ made_salt words len }
@@ -34,8 +35,7 @@ pub fn salt_of(words: [u64; 3], len: usize) -> ArrayVec<u8, MADE_SALT_LIMIT>
     salt
 }
 
-/// How many characters a made salt has: as many as the method keeps, but for scrypt, where
-/// 22 have 132 bits.
+/// Returns the number of characters of a made salt: as many as the method keeps, or 22 for scrypt, which have 132 bits.
 pub fn made_salt_length(method: Method) -> usize
     ensures length { result ≡ made_salt_length method }
     ensures enough { result ≤ made_salt_limit }
@@ -43,7 +43,7 @@ pub fn made_salt_length(method: Method) -> usize
     method.row().made_salt_length
 }
 
-/// The next three words of the generator, in the order in which it gives them.
+/// Returns the next three numbers of the generator, in the order in which it gives them.
 pub fn draw<R: Rng>(rng: &mut R) -> [u64; 3]
     ensures { (result, R.stream rng.new) ≡ three_words (R.stream rng.old) }
 {

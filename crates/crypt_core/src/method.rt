@@ -1,4 +1,4 @@
-//! The methods by which a password is hashed, and the words that name them.
+//! The hashing methods of crypt(5), their names, and what is fixed for each.
 
 ghost use Rattle.std.specs.Prelude.{◌≡◌};
 ghost use Rattle.crypt_core.specs.Methods.{method_named, method_numbered, method_row};
@@ -11,24 +11,25 @@ use crate::pack::{MD5CRYPT_GROUPS, SCRYPT_GROUPS, SHA256CRYPT_GROUPS, SHA512CRYP
 /// The most bytes of salt that md5crypt keeps.
 pub const MD5CRYPT_SALT_LIMIT: usize = 8;
 
-/// The most bytes of salt that SHA-crypt keeps, over either digest.
+/// The most bytes of salt that SHA-crypt keeps, with either digest.
 pub const SHACRYPT_SALT_LIMIT: usize = 16;
 
 /// The most bytes of salt that scrypt keeps. No method keeps more.
 pub const SCRYPT_SALT_LIMIT: usize = 86;
 
-/// The most characters of a made salt, which scrypt has.
+/// The most characters of a made salt: those of scrypt.
 pub const MADE_SALT_LIMIT: usize = 22;
 
-// The characters of md5crypt's packed digest, and of sha256crypt's.
+// The number of characters of md5crypt's packed digest.
 const MD5CRYPT_PACKED_LEN: usize = 22;
 
+// The number of characters of sha256crypt's packed digest.
 const SHA256CRYPT_PACKED_LEN: usize = 43;
 
-/// The characters of sha512crypt's packed digest. No other method's are more.
+/// The number of characters of sha512crypt's packed digest. No other method has more.
 pub const SHA512CRYPT_PACKED_LEN: usize = 86;
 
-/// The characters of scrypt's packed digest.
+/// The number of characters of scrypt's packed digest.
 pub const SCRYPT_PACKED_LEN: usize = 43;
 
 /// A hashing method of crypt(5).
@@ -44,7 +45,7 @@ pub enum Method {
     Scrypt,
 }
 
-/// All methods.
+/// All methods, in the order of the table.
 const METHODS: [Method; 4] = [
     Method::Md5crypt,
     Method::Sha256crypt,
@@ -52,30 +53,32 @@ const METHODS: [Method; 4] = [
     Method::Scrypt,
 ];
 
-/// What is fixed for a method: its row of the table.
+/// The row of a method in the table of what crypt(5) fixes.
 #[derive(Clone, Copy)]
 pub(crate) struct MethodRow {
-    /// The word that names it.
+    /// The method's name.
     pub(crate) name: &'static [u8],
-    /// Another one, or the same where there is none.
+    /// The second name, or the first one again if there is none.
     pub(crate) alias: &'static [u8],
-    /// The number in its prefix, which stands for it in C.
+    /// The number in the prefix, which identifies the method in the calls for C.
     pub(crate) number: u32,
-    /// What a text of the method begins with.
+    /// The characters with which each setting of the method begins.
     pub(crate) prefix: &'static [u8],
-    /// The most bytes of salt that it keeps.
+    /// The most bytes of salt that the method keeps.
     pub(crate) salt_limit: usize,
-    /// The characters of a made salt.
+    /// The number of characters of a made salt.
     pub(crate) made_salt_length: usize,
-    /// The characters of its packed digest.
+    /// The number of characters of the packed digest.
     pub(crate) packed_len: usize,
-    /// The places in the digest that each group of its text takes.
+    /// The groups of the packed digest, as places in the digest.
     pub(crate) groups: &'static [&'static [usize]],
 }
 
 impl Method {
-    /// The method of a name (`md5crypt`, `sha256crypt`, `sha512crypt`, `scrypt`) or of an alias (`md5`, `sha-256`,
-    /// `sha-512`), or `None` for any other word.
+    /// Returns the method with this name or alias, or `None` for any other string.
+    ///
+    /// - Names: `md5crypt`, `sha256crypt`, `sha512crypt`, `scrypt`.
+    /// - Aliases: `md5`, `sha-256`, `sha-512`.
     pub fn named(word: &[u8]) -> Option<Method>
         ensures { result ≡ method_named word.now }
     {
@@ -85,7 +88,7 @@ impl Method {
         })
     }
 
-    /// Returns the method of a number, 1, 5, 6 or 7, as in its prefix, or `None` for any other number.
+    /// Returns the method with this number in its prefix (1, 5, 6 or 7), or `None` for any other number.
     pub fn numbered(number: u32) -> Option<Method>
         ensures { result ≡ method_numbered number }
     {

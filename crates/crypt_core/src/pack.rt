@@ -1,4 +1,4 @@
-//! The text of a digest: its bytes in the method's own groups, each as base-64 numerals.
+//! The packed form of a digest: its bytes in the method's own groups, each as base-64 numerals (crypt(5)).
 ghost use Rattle.std.specs.Prelude.{◌≡◌, ◌+◌, ◌^◌, ◌<◌, length};
 ghost use Rattle.crypt_core.specs.MethodLimits.{digest_len, packed_len};
 ghost use Rattle.crypt_core.specs.Packing.{packed};
@@ -10,7 +10,7 @@ use crate::setting::TEXT_CAPACITY;
 use arrayvec::ArrayVec;
 use prims_core::alphabet::put_group;
 
-/// The places in the digest that each group takes, the first one highest in the group's number.
+/// The groups of md5crypt's digest, as places in it. The first place is the highest byte of the group's number.
 pub(crate) const MD5CRYPT_GROUPS: [&[usize]; 6] = [
     &[0, 6, 12],
     &[1, 7, 13],
@@ -20,6 +20,7 @@ pub(crate) const MD5CRYPT_GROUPS: [&[usize]; 6] = [
     &[11],
 ];
 
+/// The groups of sha256crypt's digest (Drepper's specification, step 22).
 pub(crate) const SHA256CRYPT_GROUPS: [&[usize]; 11] = [
     &[0, 10, 20],
     &[21, 1, 11],
@@ -34,6 +35,7 @@ pub(crate) const SHA256CRYPT_GROUPS: [&[usize]; 11] = [
     &[31, 30],
 ];
 
+/// The groups of sha512crypt's digest (Drepper's specification, step 22).
 pub(crate) const SHA512CRYPT_GROUPS: [&[usize]; 22] = [
     &[0, 21, 42],
     &[22, 43, 1],
@@ -59,6 +61,7 @@ pub(crate) const SHA512CRYPT_GROUPS: [&[usize]; 22] = [
     &[63],
 ];
 
+/// The groups of scrypt's digest: the bytes in their order, three to a group, the first one lowest.
 pub(crate) const SCRYPT_GROUPS: [&[usize]; 11] = [
     &[2, 1, 0],
     &[5, 4, 3],
@@ -73,8 +76,9 @@ pub(crate) const SCRYPT_GROUPS: [&[usize]; 11] = [
     &[31, 30],
 ];
 
-/// The text of a method's digest, of 16, 32, 64 or 32 bytes in the order of `Method`: 22, 43, 86 or 43 characters.
-/// SHA-crypt's groups of bytes are those of its specification's step 22.
+/// Returns the packed form of a method's digest (crypt(5)): 22, 43, 86 or 43 characters, in the order of [`Method`].
+///
+/// Precondition: `digest` has the length of the method's digest, 16, 32, 64 or 32 bytes.
 pub fn pack(method: Method, digest: &[u8]) -> ArrayVec<u8, SHA512CRYPT_PACKED_LEN>
     requires { length digest.now ≡ digest_len method }
     ensures text { result.items ≡ packed method digest.now }
@@ -88,14 +92,14 @@ pub fn pack(method: Method, digest: &[u8]) -> ArrayVec<u8, SHA512CRYPT_PACKED_LE
     ArrayVec::try_from(text.as_slice()).unwrap()
 }
 
-/// How many characters the text of the method's digest has.
+/// Returns the number of characters of the method's packed digest.
 pub fn packed_len(method: Method) -> usize
     ensures { result ≡ packed_len method }
 {
     method.row().packed_len
 }
 
-// The number of the bytes at the places, the first place highest.
+// Returns the number of the bytes at these places, the first place highest.
 fn number_of(digest: &[u8], places: &[usize]) -> u32
     requires { IsGroup (length digest.now) places.now }
     ensures value { result ≡ group_number digest.now places.now }
@@ -113,8 +117,8 @@ mod tests {
     use super::*;
     use std::test::Fail;
 
-    // The texts were computed from the published tables, and the tables' reading was tried on whole
-    // texts of libxcrypt.
+    // The packed forms were computed from the published tables. Whole hashes of libxcrypt confirmed this reading of the
+    // tables.
     #[test]
     fn writes_the_groups_of_each_method(rt: HostRuntime) -> Result<(), Fail> {
         let rising: Vec<u8> = (0..64).collect(rt.alloc())?;

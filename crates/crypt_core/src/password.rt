@@ -1,4 +1,4 @@
-//! Passwords: what they may be, before any scheme sees them.
+//! Passwords: which bytes are accepted, before any scheme sees them.
 ghost use Rattle.std.specs.Prelude.{◌≡◌, ℕ, ◌<◌, ◌≤◌, ◌↔◌, List, length, Contains, IfOk, IfErr, IsErrOf};
 ghost use Rattle.crypt_core.specs.Passwords.{password_limit, IsPassword, IsPasswordRefused};
 
@@ -9,7 +9,7 @@ use thiserror::Error;
 /// The most bytes of a password.
 pub const PASSWORD_LIMIT: usize = 1024;
 
-/// Why bytes are no password.
+/// Why bytes are no password: the first of these errors.
 #[derive(Clone, Copy, Debug, PartialEq, Eq, Drop, Error)]
 pub enum PasswordFault {
     /// More than [`PASSWORD_LIMIT`] bytes.
@@ -23,7 +23,7 @@ pub enum PasswordFault {
 impl PasswordFault {
     ghost use Rattle.crypt_core.specs.PasswordFaults.{password_fault_text};
 
-    /// What is wrong, in words for the user.
+    /// Returns the message of the error.
     pub fn text(&self) -> &'static str
         ensures { result.now ≡ password_fault_text self.now }
     {
@@ -34,7 +34,7 @@ impl PasswordFault {
     }
 }
 
-/// A password of at most [`PASSWORD_LIMIT`] bytes, none of them 0. A contract sees it as the list of its bytes.
+/// A password of at most [`PASSWORD_LIMIT`] bytes, none of them 0. Contracts see it as the list of its bytes.
 #[derive(Drop)]
 pub struct Password {
     bytes: ArrayVec<u8, PASSWORD_LIMIT>,
@@ -49,7 +49,12 @@ impl Model for Password {
 }
 
 impl Password {
-    /// Takes the bytes as a password. Too many bytes are told before a byte 0.
+    /// Returns the password with these bytes.
+    ///
+    /// # Errors
+    ///
+    /// - `TooLong`: there are more than [`PASSWORD_LIMIT`] bytes.
+    /// - `HasNul`: there are no more, and one of them is 0.
     pub fn new(bytes: &[u8]) -> Result<Password, PasswordFault>
         ensures ok { IfOk result (λ password. (password ≡ bytes.now) × IsPassword bytes.now) }
         ensures refused { IfErr result (IsPasswordRefused bytes.now) }
@@ -66,7 +71,7 @@ impl Password {
         Ok(Password { bytes: kept })
     }
 
-    /// The bytes.
+    /// Returns the bytes of the password.
     pub fn bytes(&self) -> &[u8]
         ensures value { result.now ≡ self.now }
         ensures password { IsPassword self.now }

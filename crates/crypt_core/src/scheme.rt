@@ -1,5 +1,5 @@
-//! Schemes: a method with its cost, and no salt. What depends on these two alone is asked of a scheme: the work of a
-//! hash ([`Scheme::bound`], [`Scheme::cost`]), and whether a newer scheme replaces it.
+//! Schemes: a method with its cost, without a salt. A scheme decides the work of a hash for given lengths of password
+//! and salt ([`Scheme::bound`], [`Scheme::cost`]), and whether a newer scheme replaces it.
 
 ghost use Rattle.std.specs.Prelude.{◌≡◌, ◌+◌, ◌≤◌, ◌↔◌, IsOk, IfOk, IfErr, IsTrue, true, false};
 ghost use Rattle.crypt_core.specs.MadeSettings.{TakesCost, made_rounds, made_scheme};
@@ -12,31 +12,31 @@ use crate::setting::MakeFault;
 use kdf_core::params::Params;
 use std::marker::Model;
 
-/// The most rounds of SHA-crypt. A greater number in a setting counts as this one.
+/// The most rounds of SHA-crypt (Drepper's specification). A greater number in a setting is clamped to it.
 pub const MAX_ROUNDS: u64 = 999_999_999;
 
-/// The fewest rounds of SHA-crypt. A smaller number in a setting counts as this one.
+/// The fewest rounds of SHA-crypt (Drepper's specification). A smaller number in a setting is clamped to it.
 pub const MIN_ROUNDS: u64 = 1000;
 
-/// The rounds of SHA-crypt where the setting has no `rounds=` field.
+/// The rounds of SHA-crypt if the setting has no `rounds=` field (Drepper's specification).
 pub const DEFAULT_ROUNDS: u32 = 5000;
 
-/// The least cost of scrypt that a setting is made of, but for 0.
+/// The least cost of a made scheme of scrypt, apart from 0.
 const MIN_COST: u32 = 6;
 
-/// The greatest.
+/// The greatest cost of a made scheme of scrypt.
 const MAX_COST: u32 = 11;
 
 /// The cost of scrypt that 0 stands for.
 const DEFAULT_COST: u32 = 7;
 
-/// What log2 N is above the cost.
+/// log2 N minus the cost.
 const LOG_ABOVE_COST: u32 = 7;
 
-/// The block size r of every made setting of scrypt.
+/// The block size r of every made scheme of scrypt.
 const BLOCK_SIZE: u32 = 32;
 
-/// The number p of parts of every made setting of scrypt.
+/// The parallelization p of every made scheme of scrypt.
 const PARTS: u32 = 1;
 
 /// The rounds of SHA-crypt, from 1000 to 999999999: those of a `rounds=` field, or 5000 without one.
@@ -79,7 +79,7 @@ impl Rounds {
         }
     }
 
-    // The rounds that a cost makes: 0 makes those without a field.
+    // Returns the rounds for a cost. Cost 0 is the default, without a field.
     fn made(cost: u32) -> Rounds
         ensures { result ≡ made_rounds cost }
     {
@@ -89,7 +89,7 @@ impl Rounds {
         Rounds::written(u64::from(cost))
     }
 
-    /// Returns how many rounds they are.
+    /// Returns the number of rounds.
     pub fn count(&self) -> u32
         ensures count { result ≡ self.now.count }
         ensures in_range { IsRounds self.now }
@@ -120,15 +120,15 @@ pub enum Scheme {
 }
 
 impl Scheme {
-    /// Makes the scheme of a method with a cost.
+    /// Returns the scheme of a method with a cost.
     ///
-    /// Cost 0 is the method's default. SHA-crypt takes any other as a number of rounds, clamped to 1000 to 999999999,
-    /// with a `rounds=` field. scrypt takes a cost `c` from 6 to 11, for `N = 2^(c + 7)`, r = 32 and p = 1. md5crypt
+    /// Cost 0 is the method's default. For SHA-crypt any other cost is a number of rounds, clamped to 1000 to
+    /// 999999999, with a `rounds=` field. For scrypt it is 6 to 11 (`N = 2^(cost + 7)`, r = 32, p = 1). md5crypt
     /// ignores it.
     ///
     /// # Errors
     ///
-    /// - `Cost`: the method is scrypt, and the cost neither 0 nor from 6 to 11.
+    /// - `Cost`: the method is scrypt, and the cost is neither 0 nor from 6 to 11.
     pub fn made(method: Method, cost: u32) -> Result<Scheme, MakeFault>
         ensures made { IfOk result (λ scheme. scheme ≡ made_scheme method cost) }
         ensures accepted { IsOk result ↔ TakesCost method cost }
@@ -156,9 +156,10 @@ impl Scheme {
         }
     }
 
-    /// Returns whether a hash of this scheme is out of date where new hashes are made with the scheme `new`: that has
-    /// another method, or the same one with more rounds, or for scrypt a greater `N * r * p`. Whether the rounds have a
-    /// field makes no difference.
+    /// Returns whether a hash of this scheme is out of date once new hashes are made with the scheme `new`.
+    ///
+    /// It is if `new` has another method, or the same one with more rounds or, for scrypt, a greater `N * r * p`.
+    /// Whether the rounds have a field makes no difference.
     pub fn is_replaced_by(&self, new: &Scheme) -> bool
         ensures { result ≡ is_replaced_by self.now new.now }
     {
@@ -171,7 +172,7 @@ impl Scheme {
         }
     }
 
-    /// Returns true, and shows a contract what each part says of itself: its rounds or numbers are in range.
+    /// Returns true. Its contract states the range of the rounds or of scrypt's numbers.
     pub(crate) fn is_in_range(&self) -> bool
         ensures holds { IsTrue result }
         ensures in_range { IsScheme self.now }
@@ -189,7 +190,7 @@ impl Scheme {
 #[cfg(test)]
 mod tests;
 
-// N, r and p of a cost of scrypt.
+// Returns scrypt's parameters for a cost: N = 2^(cost + 7), r = 32 and p = 1.
 fn params_of(cost: u32) -> Params
     requires from { 6 ≤ cost }
     requires to { cost ≤ 11 }

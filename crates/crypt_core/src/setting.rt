@@ -1,7 +1,7 @@
-//! Settings: the method, cost and salt that a text of crypt(5) asks for.
+//! Settings: the method, cost and salt that a string of crypt(5) spells.
 //!
-//! A `Setting` holds what some text spells, and nothing else. [`Setting::read`] takes it from a text
-//! and `Setting::text` gives its one canonical text back.
+//! Each `Setting` is one that some string spells. [`Setting::read`] parses it, and `Setting::text` returns its one
+//! canonical form.
 
 ghost use Rattle.std.specs.Prelude.{◌≡◌, ◌≤◌, ◌↔◌, length, All, Contains, IsTrue};
 ghost use Rattle.prims_core.specs.Alphabet.{alphabet};
@@ -23,22 +23,22 @@ pub use fault::{MakeFault, SettingFault};
 use prims_core::alphabet::value_of;
 use std::marker::Model;
 
-/// The most bytes of a setting's text.
+/// The most bytes of a setting or a stored hash.
 pub const SETTING_LIMIT: usize = 384;
 
-/// What a field for the rounds of SHA-crypt begins with.
+/// The characters with which SHA-crypt's rounds field begins.
 const ROUNDS_WORD: &[u8] = b"rounds=";
 
-/// The characters of scrypt's cost part: one of log2 N, five of r and five of p.
+/// The number of characters of scrypt's cost part: one of log2 N, five of r and five of p.
 pub(crate) const COST_CHARACTERS: usize = 1 + 5 + 5;
 
-/// The most bytes of a canonical text: the three of scrypt's prefix, its cost part and its salt.
+/// The most bytes of a setting in canonical form: the three of scrypt's prefix, its cost part and its salt.
 pub const CANONICAL_LIMIT: usize = 3 + COST_CHARACTERS + SCRYPT_SALT_LIMIT;
 
-/// The bytes that a buffer for a text of crypt(5) has room for, with or without the hash.
+/// The capacity of a buffer for a setting or a hash, in bytes.
 pub const TEXT_CAPACITY: usize = 160;
 
-/// What a text asks for: a method with its cost, and the salt that is kept of it.
+/// A setting: a method with its cost, and the salt that the method keeps.
 #[derive(Debug, Drop)]
 pub struct Setting {
     scheme: Scheme,
@@ -57,7 +57,7 @@ impl Model for Setting {
 }
 
 impl Setting {
-    /// The method.
+    /// Returns the method.
     pub fn method(&self) -> Method
         ensures { result ≡ method_of self.now.scheme }
     {
@@ -71,7 +71,7 @@ impl Setting {
         self.scheme
     }
 
-    /// The kept salt, undecoded, of no more bytes than the method keeps.
+    /// Returns the kept salt as it is spelled, without decoding it. It has no more bytes than the method keeps.
     pub fn salt(&self) -> &[u8]
         ensures kept { result.now ≡ self.now.salt }
         ensures short { length result.now ≤ salt_limit (method_of self.now.scheme) }
@@ -79,8 +79,9 @@ impl Setting {
         self.salt.as_slice()
     }
 
-    /// Returns whether a hash with this setting is out of date where new hashes are made with the setting `new`, as
-    /// [`Scheme::is_replaced_by`] tells of their schemes. Salts make no difference.
+    /// Returns whether a hash with this setting is out of date once new hashes are made with the setting `new`.
+    ///
+    /// [`Scheme::is_replaced_by`] decides that by their schemes. Salts make no difference.
     pub fn replaced_by(&self, new: &Setting) -> bool
         ensures { result ≡ is_replaced_by self.now.scheme new.now.scheme }
     {
@@ -88,7 +89,7 @@ impl Setting {
     }
 }
 
-// Whether each byte is a character of crypt's alphabet.
+// Returns whether each byte is a character of crypt's alphabet.
 fn in_alphabet(bytes: &[u8]) -> bool
     ensures { IsTrue result ↔ All (Contains alphabet) bytes.now }
 {

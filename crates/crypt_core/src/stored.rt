@@ -1,5 +1,5 @@
-//! Stored fields, as a password file has them (shadow(5)): an empty one, a locked one, or a stored hash, which is read
-//! once and keeps its setting.
+//! Stored fields, as a password file has them (shadow(5)): empty, locked, or a stored hash. A stored hash is read once
+//! and keeps its setting.
 
 ghost use Rattle.std.specs.Prelude.{◌≡◌, ◌↔◌, Err, IsTrue, IfOk, IfErr, OnOk, OnErr};
 ghost use Rattle.prims_core.specs.Meter.{HasRoom};
@@ -20,7 +20,7 @@ use prims_core::meter::Meter;
 use std::alloc::Global;
 use std::marker::Model;
 
-/// A stored hash: a text that spells a setting, and this setting. A contract sees both.
+/// A stored hash, and the setting that it spells. Contracts see both.
 #[derive(Drop)]
 pub struct StoredHash<'a> {
     text: &'a [u8],
@@ -39,11 +39,11 @@ impl<'a> Model for StoredHash<'a> {
 }
 
 impl<'a> StoredHash<'a> {
-    /// Reads the setting that a stored hash spells, as [`Setting::read`] does.
+    /// Reads a stored hash and the setting that it spells, as [`Setting::read`] does.
     ///
     /// # Errors
     ///
-    /// The first rule that the text breaks as a setting, in the order of [`SettingFault`].
+    /// The first rule that the stored hash breaks as a setting, in the order of [`SettingFault`].
     pub fn read(text: &'a [u8]) -> Result<StoredHash<'a>, SettingFault>
         ensures spelled { IfOk result (IsHashOf text.now) }
         ensures refused { IfErr result (IsRefused text.now) }
@@ -54,14 +54,14 @@ impl<'a> StoredHash<'a> {
         Ok(StoredHash { text, setting })
     }
 
-    /// Returns the text.
+    /// Returns the bytes of the stored hash.
     pub fn text(&self) -> &'a [u8]
         ensures { result.now ≡ self.now.text }
     {
         self.text
     }
 
-    /// Returns the setting that the text spells.
+    /// Returns the setting that the stored hash spells.
     pub fn setting(&self) -> &Setting
         ensures value { result.now ≡ self.now.setting }
         ensures spelled { Spells self.now.text self.now.setting }
@@ -69,15 +69,17 @@ impl<'a> StoredHash<'a> {
         &self.setting
     }
 
-    /// Returns whether hashing the password with the setting reproduces the text, to the last byte.
+    /// Returns whether hashing the password with the setting reproduces the stored hash, to the last byte.
     ///
-    /// It raises the meter by exactly the work of that one hash, less than 2^41 in each count; before hashing,
-    /// [`bound`](crate::work::bound) tells what it can be. Condition: each count of the meter is at most 2^120.
+    /// The call raises the meter by exactly the work of that one hash, less than 2^41 in each count;
+    /// [`bound`](crate::work::bound) returns a bound on it before hashing.
+    ///
+    /// Precondition: each count of the meter is at most 2^120.
     ///
     /// # Errors
     ///
     /// - `OutOfMemory`: scrypt could not allocate. The meter adds only the allocations that succeeded. No other method
-    ///   takes memory.
+    ///   allocates.
     pub fn fits(
         &self,
         alloc: Global,
@@ -97,7 +99,7 @@ impl<'a> StoredHash<'a> {
     }
 }
 
-/// What a field of a password file stands for.
+/// A field of a password file, by its kind.
 #[derive(Drop)]
 pub enum StoredField<'a> {
     /// An empty field: there is no password.
@@ -113,7 +115,8 @@ impl<'a> StoredField<'a> {
     ///
     /// # Errors
     ///
-    /// The first rule that a field of neither kind breaks as a setting, in the order of [`SettingFault`].
+    /// For a field that is neither empty nor locked, the first rule that it breaks as a setting, in the order of
+    /// [`SettingFault`].
     pub fn read(field: &'a [u8]) -> Result<StoredField<'a>, SettingFault>
         ensures reading { IsFieldReading field.now result }
         ensures one_reading { IsReadOneWay field.now }

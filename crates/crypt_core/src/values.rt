@@ -1,10 +1,10 @@
-//! What tests of several modules ask of a type's values.
+//! Checks of values that the tests of several modules share.
 
 use std::fmt::Debug;
 use std::process::Abort;
 use std::test::Fail;
 
-/// Each value equals itself and its clone, and none of the others.
+/// Checks that each value equals itself and its clone, and none of the others.
 pub fn are_distinct<T: Clone + Debug + PartialEq>(
     rt: &impl Abort,
     values: &[T],

@@ -1,5 +1,5 @@
-//! The work of a hash, known before hashing, so that a service can refuse a setting that would cost it
-//! too much. It is the closed form of what the meter counts, step by step of each scheme.
+//! The work of a hash, known before hashing, so that a service can refuse a setting that would cost it too much. It is
+//! a closed form of what the meter counts.
 ghost use Rattle.std.specs.Prelude.{◌≡◌, ℕ, ◌+◌, ◌*◌, ◌^◌, ◌<◌, ◌≤◌, List, length};
 ghost use Rattle.crypt_core.specs.Cycle.{by_digit, digit_bytes};
 ghost use Rattle.crypt_core.specs.MethodLimits.{md5crypt_salt_limit, salt_limit, scrypt_salt_limit, shacrypt_salt_limit};
@@ -18,18 +18,18 @@ use kdf_core::work::{mixed_bytes, scrypt_work};
 use prims_core::counted::{Counted, CountedMd5, CountedSha256, CountedSha512};
 pub use prims_core::meter::Work;
 
-/// The greatest byte.
+/// The greatest value of a byte.
 const GREATEST_BYTE: u64 = 255;
 
 impl Scheme {
-    /// Returns the bound on the work of one hash with this scheme, for any password of `password_len` bytes and any salt
-    /// of `salt_len` bytes. It hashes nothing and takes no memory.
+    /// Returns the bound on the work of one hash with this scheme, for any password and any salt of these lengths in
+    /// bytes.
     ///
     /// A hash with md5crypt or scrypt counts exactly this. One with SHA-crypt counts up to `255 * salt_len` bytes less.
-    /// Each count is below 2^41.
+    /// Each count is below 2^41. The call neither hashes nor allocates.
     ///
-    /// Conditions: `password_len` is at most [`PASSWORD_LIMIT`](crate::password::PASSWORD_LIMIT), and `salt_len` at most
-    /// what the method keeps: 8, 16, 16 or 86.
+    /// Preconditions: `password_len` is at most [`PASSWORD_LIMIT`](crate::password::PASSWORD_LIMIT), and `salt_len` at
+    /// most what the method keeps (8, 16, 16 or 86).
     pub fn bound(&self, password_len: usize, salt_len: usize) -> Work
         requires password { password_len ≤ password_limit }
         requires salt { salt_len ≤ salt_limit (method_of self.now) }
@@ -52,11 +52,13 @@ impl Scheme {
         }
     }
 
-    /// Returns the greatest cost of one hash with this scheme as one number, for any password of `password_len` bytes and
-    /// any salt of `salt_len` bytes: the bytes of the [`bound`](Scheme::bound), and for scrypt the 128r bytes of each of
-    /// its mixings. A budget is compared with it. It is below 2^42.
+    /// Returns the greatest cost of one hash with this scheme, in bytes, for any password and any salt of these
+    /// lengths.
     ///
-    /// Conditions: as for [`bound`](Scheme::bound).
+    /// The cost is the one number that is compared with a budget: the bytes of the [`bound`](Scheme::bound), and for
+    /// scrypt the 128r bytes of each of its mixings. It is below 2^42.
+    ///
+    /// Preconditions: those of [`bound`](Scheme::bound).
     pub fn cost(&self, password_len: usize, salt_len: usize) -> u64
         requires password { password_len ≤ password_limit }
         requires salt { salt_len ≤ salt_limit (method_of self.now) }
@@ -71,11 +73,12 @@ impl Scheme {
     }
 }
 
-/// Returns the bound on the work of one hash with this setting, for any password of `password_len` bytes, which are at
-/// most [`PASSWORD_LIMIT`](crate::password::PASSWORD_LIMIT). It hashes nothing and takes no memory.
+/// Returns the bound on the work of one hash with this setting, for any password of `password_len` bytes.
 ///
-/// A hash with md5crypt or scrypt counts exactly this. One with SHA-crypt counts up to 255 bytes less for each byte of its
-/// salt. Each count is below 2^41.
+/// A hash with md5crypt or scrypt counts exactly this. One with SHA-crypt counts up to 255 bytes less for each byte of
+/// its salt. Each count is below 2^41. The call neither hashes nor allocates.
+///
+/// Precondition: `password_len` is at most [`PASSWORD_LIMIT`](crate::password::PASSWORD_LIMIT).
 pub fn bound(setting: &Setting, password_len: usize) -> Work
     requires { password_len ≤ password_limit }
     ensures bound { result ≡ work_bound setting.now password_len }
@@ -86,11 +89,12 @@ pub fn bound(setting: &Setting, password_len: usize) -> Work
     setting.scheme().bound(password_len, setting.salt().len())
 }
 
-/// Returns the greatest cost of one hash with this setting as one number, for any password of `password_len` bytes, which
-/// are at most [`PASSWORD_LIMIT`](crate::password::PASSWORD_LIMIT): the bytes of its [`bound`], and for scrypt the 128r
-/// bytes of each of its mixings.
+/// Returns the greatest cost of one hash with this setting, in bytes, for any password of `password_len` bytes.
 ///
-/// A budget is compared with it. It hashes nothing and takes no memory. It is below 2^42 for every setting.
+/// The cost is the one number that is compared with a budget: the bytes of the [`bound`], and for scrypt the 128r bytes
+/// of each of its mixings. It is below 2^42 for every setting. The call neither hashes nor allocates.
+///
+/// Precondition: `password_len` is at most [`PASSWORD_LIMIT`](crate::password::PASSWORD_LIMIT).
 pub fn cost(setting: &Setting, password_len: usize) -> u64
     requires { password_len ≤ password_limit }
     ensures number { result ≡ cost setting.now password_len }
@@ -99,7 +103,7 @@ pub fn cost(setting: &Setting, password_len: usize) -> u64
     setting.scheme().cost(password_len, setting.salt().len())
 }
 
-// The second message of md5crypt has the three bytes `$1$`, and one byte for each binary digit of the
+// Returns the work of md5crypt. The second message has the three bytes `$1$`, and one byte for each binary digit of the
 // password's length.
 fn md5crypt_bound(password: u64, salt: u64) -> Work
     requires password { password ≤ password_limit }
@@ -117,7 +121,8 @@ fn md5crypt_bound(password: u64, salt: u64) -> Work
     )
 }
 
-// SHA-crypt repeats the salt 16 times, and once more for each unit of a byte that only hashing tells.
+// Returns the bound for SHA-crypt, which repeats the salt 16 + a times. Only hashing finds the byte a, so the bound has
+// 255.
 fn shacrypt_bound<H: Counted>(rounds: u32, password: u64, salt: u64) -> Work
     requires rounds { rounds ≤ max_rounds }
     requires password { password ≤ password_limit }
@@ -138,7 +143,7 @@ fn shacrypt_bound<H: Counted>(rounds: u32, password: u64, salt: u64) -> Work
     )
 }
 
-// scrypt's result has 32 bytes.
+// Returns the work of scrypt, whose result has 32 bytes.
 fn scrypt_bound(params: &Params, password: u64, salt: u64) -> Work
     requires password { password ≤ password_limit }
     requires salt { salt ≤ scrypt_salt_limit }
@@ -148,7 +153,7 @@ fn scrypt_bound(params: &Params, password: u64, salt: u64) -> Work
     scrypt_work(params, password, salt, 32)
 }
 
-// The work of a scheme that mixes nothing and takes no memory.
+// Returns the work of a scheme that neither mixes nor allocates.
 fn digests_alone(digests: u64, bytes: u64) -> Work
     ensures { result ≡ digests_alone digests bytes }
 {
@@ -161,7 +166,7 @@ fn digests_alone(digests: u64, bytes: u64) -> Work
     }
 }
 
-// The bytes of a piece for each binary digit of `number`: so many for a 1, and so many for a 0.
+// Returns the bytes of a piece for each binary digit of `number`: `one` for a 1, and `other` for a 0.
 fn digit_bytes(number: u64, one: u64, other: u64) -> u64
     requires number { number ≤ password_limit }
     requires one { one ≤ password_limit }
@@ -178,15 +183,15 @@ fn digit_bytes(number: u64, one: u64, other: u64) -> u64
     bytes
 }
 
-// The bytes of the piece for a binary digit.
+// Returns the bytes of the piece for a binary digit.
 fn piece_bytes(digit: u64, one: u64, other: u64) -> u64
     ensures { result ≡ by_digit one other digit }
 {
     if digit == 1 { one } else { other }
 }
 
-// The bytes of so many rounds. The salt is left out of every third and the password's second place of
-// every seventh, from round 0 on.
+// Returns the bytes of the messages of these rounds. Rounds 0, 3, 6, .. omit the salt, and rounds 0, 7, 14, .. omit the
+// second password.
 fn rounds_bytes(rounds: u64, digest: u64, password: u64, salt: u64) -> u64
     requires rounds { rounds ≤ max_rounds }
     requires digest { digest ≤ 64 }

@@ -1,27 +1,28 @@
--- A key of HMAC-SHA-256 as the code holds it, and the messages that a key and a tag digest.
+-- A key of HMAC-SHA-256 as the code prepares it, and the messages that a key and a tag digest.
 use Rattle.std.specs.Prelude.{◌≡◌, ℕ, ◌*◌, List, [], ◌∷◌, ◌++◌, length, nat_lt, if◌then◌else◌}
 use Rattle.prims_core.specs.Digests.{sha256}
 use Rattle.kdf_core.specs.Hmac.{sha256_block, padded_key, key_digests}
 
--- a key as it is held: under the inner pad, and under the outer pad
+-- A prepared key: its block under the inner pad, and its block under the outer pad.
 pub record PaddedKey : Type 0 where
   pub inner : List ℕ
   pub outer : List ℕ
 
--- what is held was made of this key, which may have any length
+-- IsKeyOf held key: the prepared key was made of this key, which may have any length.
 pub record IsKeyOf (held : PaddedKey) (key : List ℕ) : Type 0 where
   pub inner : held.inner ≡ padded_key key 0x36
   pub outer : held.outer ≡ padded_key key 0x5c
 
--- the messages for a key: the key itself, if it is longer than a block
+-- key_messages key: the key itself, if it is longer than a block.
 abbrev pub key_messages : List ℕ → List (List ℕ)
 key_messages key = if nat_lt sha256_block (length key) then key ∷ [] else []
 
--- the bytes of these messages, for a key of this length
+-- key_bytes key_length: the number of bytes of these messages.
 abbrev pub key_bytes : ℕ → ℕ
 key_bytes key_length = key_digests key_length * key_length
 
--- the messages for a tag: the text after the inner pad, and the digest of that after the outer pad
+-- tag_messages key text: the inner padded key and the text, and then the outer padded key and the digest of the first
+-- message.
 abbrev pub tag_messages : List ℕ → List ℕ → List (List ℕ)
 tag_messages key text =
     let inner = padded_key key 0x36 ++ text in

@@ -1,9 +1,9 @@
--- What is wrong with three numbers that are no parameters of scrypt.
+-- Why three numbers are no parameters of scrypt.
 use Rattle.std.specs.Prelude.{ℕ, List, codes}
 use Rattle.kdf_core.specs.declared.params.ParamFault.{ParamFault}
 use Rattle.kdf_core.specs.declared.params.ParamFault.TheVariants.{Range, AboveCeiling}
 
--- the text of each error
+-- The message of each error.
 abbrev pub param_fault_text : ParamFault → List ℕ
 param_fault_text Range = codes "scrypt range"
 param_fault_text AboveCeiling = codes "above ceiling"

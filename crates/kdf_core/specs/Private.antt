@@ -1,2 +1,2 @@
--- What the private steps of scrypt are said by. A reader of the public clauses needs none of it.
+-- Definitions that only contracts of private steps of scrypt cite. Readers of the public clauses need none of them.
 pub mod Mixing

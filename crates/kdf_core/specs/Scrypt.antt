@@ -7,32 +7,34 @@ use Rattle.prims_core.specs.Words.{words_of, bytes_of_words, little_number, xor_
 use Rattle.kdf_core.specs.Params.{ScryptCost, row_count}
 use Rattle.kdf_core.specs.Pbkdf2.{pbkdf2_sha256}
 
--- Integerify (X): the last 64-byte block of X, which is sixteen words, as a little-endian number
+-- integerify words: Integerify (X), the last 64-byte block of X as a little-endian number (section 5). The block is
+-- sixteen words.
 unfoldable pub integerify : List ℕ → ℕ
 integerify words = little_number 64 (bytes_of_words (drop (length words - 16) words))
 
--- F (X) = BlockMix (X xor V), where V is B after j mixings and j is Integerify (X) mod N
+-- mixed_back n start words: BlockMix (X XOR V), one step of ROMix's second loop (section 5). V is B after j mixings,
+-- and j is Integerify (X) mod N.
 unfoldable pub mixed_back : ℕ → List ℕ → List ℕ → List ℕ
 mixed_back n start words = block_mix (xor_lists words (iterate block_mix (integerify words % n) start))
 
--- ROMix (B): F, N times, begun at B after N mixings
+-- romix n start: ROMix (B), which is N such steps, begun at B after N mixings (section 5).
 unfoldable pub romix : ℕ → List ℕ → List ℕ
 romix n start = iterate (mixed_back n start) n (iterate block_mix n start)
 
--- the bytes of a part, which is 2r blocks of 64 bytes
+-- part_bytes cost: the number of bytes of a part, which is 2r blocks of 64 bytes.
 abbrev pub part_bytes : ScryptCost → ℕ
 part_bytes cost = 128 * cost.r
 
--- the bytes of all p parts
+-- parts_bytes cost: the number of bytes of all p parts.
 abbrev pub parts_bytes : ScryptCost → ℕ
 parts_bytes cost = part_bytes cost * cost.p
 
--- a part under ROMix, as bytes
+-- mixed_part n bytes: ROMix of a part, as bytes.
 unfoldable pub mixed_part : ℕ → List ℕ → List ℕ
 mixed_part n bytes = bytes_of_words (romix n (words_of bytes))
 
--- scrypt (P, S, N, r, p, dkLen): B = PBKDF2 (P, S, 1, 128rp), its p parts under ROMix, and then
--- PBKDF2 (P, B, 1, dkLen), where dkLen is count
+-- scrypt password salt cost count: scrypt (P, S, N, r, p, dkLen) with dkLen = count (section 6). B is PBKDF2 (P, S, 1,
+-- 128rp), its p parts go through ROMix, and the result is PBKDF2 (P, B, 1, dkLen).
 unfoldable pub scrypt : List ℕ → List ℕ → ScryptCost → ℕ → List ℕ
 scrypt password salt cost count =
     let derived = pbkdf2_sha256 password salt 1 (parts_bytes cost) in

@@ -11,18 +11,19 @@ use Rattle.kdf_core.specs.Pbkdf2Messages.{pbkdf2_messages}
 use Rattle.kdf_core.specs.Scrypt.{mixed_part, part_bytes, parts_bytes}
 use Rattle.kdf_core.specs.ScryptWork.{scrypt_work}
 
--- each part of size bytes under ROMix with N rows, joined
+-- mixed_parts n size bytes: ROMix with N rows of each part of size bytes, joined.
 unfoldable pub mixed_parts : ℕ → ℕ → List ℕ → List ℕ
 mixed_parts n size bytes = flat_map (mixed_part n) (chunks_exact bytes size)
 
--- the messages: the password if it is longer than a block of SHA-256, and then those of both derivations
+-- scrypt_messages password salt cost count: the password if it is longer than a block of SHA-256, and then the messages
+-- of both derivations.
 unfoldable pub scrypt_messages : List ℕ → List ℕ → ScryptCost → ℕ → List (List ℕ)
 scrypt_messages password salt cost count =
     let derived = pbkdf2_sha256 password salt 1 (parts_bytes cost) in
     key_messages password ++ pbkdf2_messages password salt 1 (parts_bytes cost)
     ++ pbkdf2_messages password (mixed_parts (row_count cost) (part_bytes cost) derived) 1 count
 
--- the counts of a meter after scrypt
+-- with_scrypt counts cost password_length salt_length count: the counts of a meter after scrypt.
 abbrev pub with_scrypt : Work → ScryptCost → ℕ → ℕ → ℕ → Work
 with_scrypt counts cost password_length salt_length count =
     raised_by counts (scrypt_work cost password_length salt_length count)

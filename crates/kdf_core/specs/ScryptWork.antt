@@ -1,4 +1,4 @@
--- The work of scrypt (RFC 7914, section 6), in closed form by the lengths of a password, a salt and a result.
+-- The work of scrypt (RFC 7914, section 6), as a closed form of the lengths of a password, a salt and a result.
 use Rattle.std.specs.Prelude.{◌≡◌, ℕ, ◌+◌, ◌*◌, ◌⊎◌}
 use Rattle.std.specs.Int.{div_ceil}
 use Rattle.prims_core.specs.declared.meter.Work.{Work}
@@ -6,11 +6,12 @@ use Rattle.kdf_core.specs.Hmac.{sha256_length, key_digests, tag_bytes}
 use Rattle.kdf_core.specs.Params.{ScryptCost, row_count}
 use Rattle.kdf_core.specs.Scrypt.{part_bytes, parts_bytes}
 
--- the bytes of the one table, whose N rows are as long as a part
+-- table_bytes cost: the number of bytes of the one table, whose N rows are as long as a part.
 abbrev pub table_bytes : ScryptCost → ℕ
 table_bytes cost = row_count cost * part_bytes cost
 
--- all five counts, for a password and a salt of these lengths and a result of count bytes:
+-- scrypt_work cost password_length salt_length count: all five counts, for a password and a salt of these lengths and a
+-- result of count bytes.
 --   digests  two for each tag of 32 bytes, of all parts and of the result; one more for a password longer than a block
 --   bytes    that password, and the `tag_bytes` of each tag, whose text is a salt and the number of a block in 4 bytes.
 --            The salt of the result is all parts
@@ -27,12 +28,12 @@ scrypt_work cost password_length salt_length count = record {
   scratch = parts_bytes cost + 2 * part_bytes cost;
 }
 
--- the bytes that are mixed: a part in each mixing
+-- mixed_bytes cost: the number of mixed bytes, one part in each mixing.
 abbrev pub mixed_bytes : ScryptCost → ℕ
 mixed_bytes cost = 2 * row_count cost * cost.p * part_bytes cost
 
--- the counts after scrypt was refused memory: for the table, for the parts, or for the halves. Each allocation before
--- that one is counted
+-- IsAfterRefusal before cost after: these are the counts after scrypt failed to allocate the table, the parts, or the
+-- halves. They include each allocation before the failed one.
 abbrev pub IsAfterRefusal : Work → ScryptCost → Work → Type 0
 IsAfterRefusal before cost after =
     (after ≡ before)

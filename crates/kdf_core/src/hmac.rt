@@ -1,7 +1,7 @@
 //! HMAC over SHA-256 (RFC 2104).
 //!
-//! A key is made ready once, for any number of tags: what is held of it are its block under the
-//! inner pad and under the outer pad. Nothing is allocated.
+//! A key is prepared once for any number of tags: [`HmacKey`] has its block under the inner pad and its block under the
+//! outer pad. Nothing here allocates.
 
 ghost use Rattle.std.specs.Prelude.{◌≡◌, ℕ, ◌+◌, ◌^◌, ◌<◌, List, ◌++◌, length, replicate};
 ghost use Rattle.prims_core.specs.Digests.{sha256};
@@ -14,10 +14,10 @@ use prims_core::counted::{Counted, CountedSha256};
 use prims_core::meter::Meter;
 use std::marker::Model;
 
-/// The bytes of a block of SHA-256, to which a key is brought.
+/// The number of bytes of a block of SHA-256, to which HMAC fills a key.
 pub(crate) const SHA256_BLOCK: usize = 64;
 
-/// The bytes of its digest.
+/// The number of bytes of a digest of SHA-256.
 pub(crate) const SHA256_LENGTH: usize = 32;
 
 // The byte of the inner pad.
@@ -26,8 +26,7 @@ const IPAD: u8 = 0x36;
 // The byte of the outer pad.
 const OPAD: u8 = 0x5c;
 
-/// A key of HMAC-SHA-256, ready for tags. Contracts speak of the key that it was made of, by
-/// `IsKeyOf`.
+/// A key of HMAC-SHA-256, prepared for tags. Contracts relate it to the key of which it was made, with `IsKeyOf`.
 #[derive(Drop)]
 pub struct HmacKey {
     inner: [u8; 64],
@@ -43,10 +42,10 @@ impl Model for HmacKey {
 }
 
 impl HmacKey {
-    /// Makes a key ready (RFC 2104, section 2).
+    /// Returns a key of any length, prepared for tags (RFC 2104, section 2).
     ///
-    /// A key of more than 64 bytes costs one digest of it, any other key none. The meter has room for
-    /// that.
+    /// A key of more than 64 bytes takes one digest of its bytes, and any other key none. Precondition: the meter can
+    /// count that without overflow.
     pub fn new(key: &[u8], meter: &mut Meter) -> HmacKey
         requires digests_room { meter.old.digests + key_digests (length key.now) < 2 ^ 128 }
         requires bytes_room { meter.old.bytes + key_bytes (length key.now) < 2 ^ 128 }
@@ -60,21 +59,24 @@ impl HmacKey {
         }
     }
 
-    /// The tag of `a` followed by `b`, which are never joined (RFC 2104, section 2).
+    /// Returns the tag of `a` followed by `b`, which the call never joins (RFC 2104, section 2).
     ///
-    /// It costs two digests, of 160 bytes and those of `a` and `b`. The meter has room for them.
+    /// A tag takes two digests, of 160 bytes and those of `a` and `b`. Precondition: the meter can count that without
+    /// overflow.
     pub fn tag(&self, a: &[u8], b: &[u8], meter: &mut Meter) -> [u8; 32]
         requires digests_room { meter.old.digests + 2 < 2 ^ 128 }
         requires bytes_room { meter.old.bytes + tag_bytes (length a.now + length b.now) < 2 ^ 128 }
         ensures tag { (key : List ℕ) → IsKeyOf self.now key → result ≡ hmac_sha256 key (a.now ++ b.now) }
         ensures count { meter.new ≡ with_work meter.old 2 (tag_bytes (length a.now + length b.now)) }
     {
+        // H(K XOR ipad, a || b)
         let text = sha256_of(&self.inner, a, b, meter);
+        // H(K XOR opad, H(K XOR ipad, a || b))
         sha256_of(&self.outer, &text, &[], meter)
     }
 }
 
-// The key as it is, or its digest where it has more bytes than a block, and zeros up to a block.
+// Returns the key, or its digest if it is longer than a block, and zeros up to a block.
 fn block_of(key: &[u8], meter: &mut Meter) -> [u8; 64]
     requires digests_room { meter.old.digests + key_digests (length key.now) < 2 ^ 128 }
     requires bytes_room { meter.old.bytes + key_bytes (length key.now) < 2 ^ 128 }
@@ -91,7 +93,7 @@ fn block_of(key: &[u8], meter: &mut Meter) -> [u8; 64]
     block
 }
 
-// A block under a pad.
+// Returns the block XOR the pad.
 fn padded(block: &[u8; 64], pad: u8) -> [u8; 64]
     ensures { result ≡ xor_lists block.now (replicate 64 pad) }
 {
@@ -100,7 +102,7 @@ fn padded(block: &[u8; 64], pad: u8) -> [u8; 64]
     padded
 }
 
-/// Adds `bytes` to `sum` by XOR, byte by byte. The two have one length.
+/// XORs `bytes` into `sum`, byte by byte. Precondition: both have the same length.
 pub(crate) fn xor_into(sum: &mut [u8], bytes: &[u8])
     requires { length sum.old ≡ length bytes.now }
     ensures { sum.new ≡ xor_lists sum.old bytes.now }
@@ -110,7 +112,7 @@ pub(crate) fn xor_into(sum: &mut [u8], bytes: &[u8])
     }
 }
 
-// The SHA-256 digest of three pieces as one message.
+// Returns the SHA-256 digest of the three pieces as one message.
 fn sha256_of(first: &[u8], second: &[u8], third: &[u8], meter: &mut Meter) -> [u8; 32]
     requires digests_room { meter.old.digests + 1 < 2 ^ 128 }
     requires bytes_room { meter.old.bytes + (length first.now + length second.now + length third.now) < 2 ^ 128 }

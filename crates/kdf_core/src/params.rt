@@ -1,7 +1,6 @@
 //! The parameters of scrypt: N, r and p of RFC 7914, section 2, under a ceiling on their product.
 //!
-//! A `Params` is in range and within the ceiling by its invariant, so whoever holds one may ask for
-//! the memory that it stands for.
+//! The invariant of [`Params`] says that they are in range and within the ceiling, so their memory is bounded.
 
 ghost use Rattle.std.specs.Prelude.{◌≡◌, ◌↔◌, ◌≤◌, IfOk, IsOk, IsTrue};
 ghost use Rattle.kdf_core.specs.Params.{cost_of, product, row_count, IsInRange, IsWithinCeiling, IsAccepted, IsBounded};
@@ -9,10 +8,10 @@ ghost use Rattle.kdf_core.specs.Params.{cost_of, product, row_count, IsInRange, 
 use std::marker::Model;
 use thiserror::Error;
 
-// The largest product `N * r * p`: 2^23, so that a table of `128 * N * r` bytes has at most 2^30.
+// The greatest product `N * r * p`: 2^23, so that a table of `128 * N * r` bytes has at most 2^30.
 const CEILING: u64 = 8_388_608;
 
-/// Why three numbers are no parameters of scrypt.
+/// Why three numbers are no parameters of scrypt: the first of these errors.
 #[derive(Clone, Copy, Debug, PartialEq, Eq, Drop, Error)]
 pub enum ParamFault {
     /// log2 N, r or p is 0, or log2 N is 16r or more.
@@ -26,7 +25,7 @@ pub enum ParamFault {
 impl ParamFault {
     ghost use Rattle.kdf_core.specs.ParamFaults.{param_fault_text};
 
-    /// The fault in words.
+    /// Returns the message of the error.
     pub fn text(&self) -> &'static str
         ensures { result.now ≡ param_fault_text self.now }
     {
@@ -37,8 +36,7 @@ impl ParamFault {
     }
 }
 
-/// The parameters of scrypt: in the range of RFC 7914, section 2, and with `N * r * p` at most
-/// 8388608.
+/// The parameters of scrypt: in the range of RFC 7914, section 2, and with `N * r * p` at most 8388608.
 #[derive(Clone, Copy, Debug, PartialEq, Eq)]
 pub struct Params {
     log_n: u8,
@@ -59,7 +57,14 @@ impl Model for Params {
 }
 
 impl Params {
-    /// The parameters with `N = 2^log_n`, or the first fault: `Range`, then `AboveCeiling`.
+    /// Returns the parameters `N = 2^log_n`, block size `r` and parallelization `p` (RFC 7914, section 2).
+    ///
+    /// # Errors
+    ///
+    /// The first of these that applies.
+    ///
+    /// - `Range`: `log_n`, `r` or `p` is 0, or `log_n` is `16 * r` or more.
+    /// - `AboveCeiling`: `N * r * p` is above 8388608.
     pub fn new(log_n: u8, r: u32, p: u32) -> Result<Params, ParamFault>
         ensures numbers { IfOk result (λ params. params ≡ cost_of log_n r p) }
 
@@ -77,7 +82,7 @@ impl Params {
         Ok(Params { log_n, r, p })
     }
 
-    /// log2 N.
+    /// Returns log2 N.
     pub fn log_n(&self) -> u8
         ensures number { result ≡ self.now.log_n }
         ensures accepted { IsAccepted self.now }
@@ -85,7 +90,7 @@ impl Params {
         self.log_n
     }
 
-    /// N, the number of rows of the table: a power of two of at most 2^22.
+    /// Returns N, the number of rows of the table: a power of two of at most 2^22.
     pub fn row_count(&self) -> u32
         ensures number { result ≡ row_count self.now }
         ensures bounded { IsBounded self.now }
@@ -93,7 +98,7 @@ impl Params {
         1 << self.log_n()
     }
 
-    /// The block size r, in units of 128 bytes.
+    /// Returns the block size r, in units of 128 bytes.
     pub fn r(&self) -> u32
         ensures number { result ≡ self.now.r }
         ensures accepted { IsAccepted self.now }
@@ -101,7 +106,7 @@ impl Params {
         self.r
     }
 
-    /// The number p of parts.
+    /// Returns the parallelization p, which is the number of parts.
     pub fn p(&self) -> u32
         ensures number { result ≡ self.now.p }
         ensures accepted { IsAccepted self.now }
@@ -109,7 +114,7 @@ impl Params {
         self.p
     }
 
-    /// The product `N * r * p`, by which scrypt's time grows, and which bounds its memory: at most 2^23.
+    /// Returns the product `N * r * p`, at most 2^23. scrypt's time grows with it, and it bounds scrypt's memory.
     pub fn product(&self) -> u32
         ensures product { result ≡ product self.now }
         ensures within { result ≤ 8388608 }
@@ -118,20 +123,20 @@ impl Params {
     }
 }
 
-// Whether none of the three is 0 and log2 N stays below 16 r.
+// Returns whether none of the three is 0 and log2 N is below 16 r.
 fn is_in_range(log_n: u8, r: u32, p: u32) -> bool
     ensures { IsTrue result ↔ IsInRange (cost_of log_n r p) }
 {
     log_n > 0 && r > 0 && p > 0 && u64::from(log_n) < 16 * u64::from(r)
 }
 
-// Whether `2^log_n * r * p` is at most 2^23. The product of any `r` and `p` fits 64 bits, and is
-// compared with the ceiling divided by N, so that nothing overflows.
+// Returns whether `2^log_n * r * p` is at most 2^23. The product of any `r` and `p` has at most 64 bits. It is compared
+// with the ceiling divided by N, so that nothing overflows.
 fn is_within_ceiling(log_n: u8, r: u32, p: u32) -> bool
     requires in_range { IsInRange (cost_of log_n r p) }
     ensures { IsTrue result ↔ IsWithinCeiling (cost_of log_n r p) }
 {
-    // From 2^24 on N alone is above the ceiling.
+    // From N = 2^24 on, N alone is above the ceiling.
     log_n < 24 && u64::from(r) * u64::from(p) <= CEILING >> log_n
 }
 

@@ -1,7 +1,6 @@
 //! PBKDF2 over HMAC-SHA-256 (RFC 8018, section 5.2).
 //!
-//! Each block is made in arrays of its own and copied to where it belongs, so that nothing is
-//! allocated.
+//! Each block is made in an array of its own and copied to its place, so nothing here allocates.
 
 ghost use Rattle.std.specs.Prelude.{◌≡◌, ℕ, ◌+◌, ◌-◌, ◌*◌, ◌^◌, ◌<◌, ◌≤◌, List, ◌++◌, length, take};
 ghost use Rattle.prims_core.specs.Meter.{with_work};
@@ -13,12 +12,16 @@ use crate::hmac::{HmacKey, SHA256_LENGTH, xor_into};
 use prims_core::meter::Meter;
 use prims_core::words::number_be;
 
-/// Fills `out` with bytes derived from a password, which `key` was made of, and a salt
-/// (RFC 8018, section 5.2).
+/// Fills `out` with the bytes that PBKDF2 derives from a password and a salt (RFC 8018, section 5.2).
 ///
-/// There is at least one round, and `out` has at most `32 * (2^32 - 1)` bytes. With q blocks of 32
-/// bytes, the last one perhaps cut, and c rounds it costs `2cq` digests of
-/// `q(164 + s) + 192q(c - 1)` bytes for a salt of s bytes. The meter has room for them.
+/// `key` is prepared from the password. Let `out` have q blocks of 32 bytes, of which the last may be cut, and let c be
+/// `rounds`. The call then takes `2cq` digests of `q(164 + s) + 192q(c - 1)` bytes for a salt of s bytes.
+///
+/// Preconditions:
+///
+/// - `rounds` is at least 1.
+/// - `out` has at most `32 * (2^32 - 1)` bytes.
+/// - The meter can count the work without overflow.
 pub fn pbkdf2(key: &HmacKey, salt: &[u8], rounds: u32, out: &mut [u8], meter: &mut Meter)
     requires some_round { 1 ≤ rounds }
     requires few_blocks { length out.old ≤ 32 * (2 ^ 32 - 1) }
@@ -35,7 +38,7 @@ pub fn pbkdf2(key: &HmacKey, salt: &[u8], rounds: u32, out: &mut [u8], meter: &m
     }
 }
 
-// Block `number`: the exclusive or of U_1 to U_c.
+// Returns T_i = U_1 XOR U_2 XOR .. XOR U_c. i is `number`, and c is `rounds`.
 fn derived_block(
     key: &HmacKey,
     salt: &[u8],
@@ -50,9 +53,11 @@ fn derived_block(
         → result ≡ block password salt.now rounds number }
     ensures count { meter.new ≡ with_work meter.old (2 * rounds) (block_bytes (length salt.now) rounds) }
 {
+    // U_1 = PRF (P, S || INT (i))
     let mut last = key.tag(salt, &number_be(number), meter);
     let mut sum = last;
     'rounds: for _ in 1..rounds {
+        // U_j = PRF (P, U_(j-1))
         last = key.tag(&last, &[], meter);
         xor_into(&mut sum, &last);
     }

@@ -1,5 +1,4 @@
-//! The standards' vectors of HMAC and PBKDF2, with their work, and callers that stand on the
-//! contracts alone.
+//! The standards' vectors of HMAC and PBKDF2, with their work, and callers that rely only on the contracts.
 
 ghost use Rattle.std.specs.Prelude.{◌≡◌, ◌+◌, ◌≤◌, ◌<◌, ◌++◌, length};
 ghost use Rattle.prims_core.specs.Meter.{with_work};
@@ -14,7 +13,7 @@ use prims_core::meter::Meter;
 use std::alloc::{AllocError, Global};
 use std::test::Fail;
 
-/// Bytes in hexadecimal, as the standards print them.
+/// Returns the bytes in hexadecimal, as the standards print them.
 pub(crate) fn hexadecimal(alloc: Global, bytes: &[u8]) -> Result<String, AllocError> {
     let mut text = String::new(alloc);
     for byte in bytes {
@@ -23,7 +22,7 @@ pub(crate) fn hexadecimal(alloc: Global, bytes: &[u8]) -> Result<String, AllocEr
     Ok(text)
 }
 
-// All counts of a meter: digests, bytes, mixings, bytes of the table and of the scratch.
+// Returns all counts of a meter: digests, bytes, mixings, bytes of the table and of scratch memory.
 pub(crate) fn counts(meter: &Meter) -> (u128, u128, u128, u128, u128) {
     (
         meter.digests(),
@@ -34,7 +33,7 @@ pub(crate) fn counts(meter: &Meter) -> (u128, u128, u128, u128, u128) {
     )
 }
 
-// The tag of two pieces under a key, and the work of both.
+// Returns the tag of two pieces under a key.
 fn tag_of(key: &[u8], a: &[u8], b: &[u8], meter: &mut Meter) -> [u8; 32]
     requires fresh { meter.old ≡ no_work }
     requires short { length key.now + length a.now + length b.now ≤ 1000 }
@@ -45,7 +44,7 @@ fn tag_of(key: &[u8], a: &[u8], b: &[u8], meter: &mut Meter) -> [u8; 32]
     HmacKey::new(key, meter).tag(a, b, meter)
 }
 
-// The first 32 bytes that a password, a salt and two rounds give, and the work of a short password.
+// Returns the first 32 bytes for a password, a salt and two rounds.
 fn two_rounds(password: &[u8], salt: &[u8], meter: &mut Meter) -> [u8; 32]
     requires fresh { meter.old ≡ no_work }
     requires password { length password.now ≤ 64 }
@@ -59,7 +58,7 @@ fn two_rounds(password: &[u8], salt: &[u8], meter: &mut Meter) -> [u8; 32]
     out
 }
 
-// RFC 4231, section 4: its cases 1 to 4, 6 and 7.
+// RFC 4231, section 4: cases 1 to 4, 6 and 7.
 const TAGS: [(&[u8], &[u8], &str); 6] = [
     (
         &[0x0b; 20],
@@ -121,7 +120,7 @@ fn tags_of_the_standard(rt: HostRuntime) -> Result<(), Fail> {
     Ok(())
 }
 
-// RFC 4231, section 4.6: its case 5, whose tag is cut at 128 bits.
+// RFC 4231, section 4.6: case 5, whose tag is cut at 128 bits.
 #[test]
 fn a_tag_cut(rt: HostRuntime) -> Result<(), Fail> {
     let tag = tag_of(&[0x0c; 20], b"Test With ", b"Truncation", &mut Meter::new());
@@ -132,7 +131,7 @@ fn a_tag_cut(rt: HostRuntime) -> Result<(), Fail> {
     Ok(())
 }
 
-// The last two tags are from Python's `hmac`. The key serves any number of them, each for two digests.
+// The last two tags are from Python's `hmac`. One key makes any number of tags, with two digests each.
 #[test]
 fn keys_and_their_work(rt: HostRuntime) -> Result<(), Fail> {
     let rows: [(&[u8], &[u8], u128, u128, &str); 3] = [
@@ -192,9 +191,9 @@ struct Derivation {
     wanted: &'static str,
 }
 
-// The first is of RFC 7914, section 11, whose other vector has 80000 rounds, too many for a test.
-// Then come the inputs of RFC 6070, whose own outputs are of SHA-1, but for the one of 16777216
-// rounds, and a last block that is cut: their outputs are from Python's `hashlib`.
+// The first vector is from RFC 7914, section 11. The other vector of that section has 80000 rounds, too many for a
+// test. The next ones have the inputs of RFC 6070, except the one with 16777216 rounds, and the last one has a block
+// that is cut. RFC 6070 has outputs for SHA-1, so theirs are from Python's `hashlib`.
 const DERIVATIONS: [Derivation; 7] = [
     Derivation {
         password: b"passwd",

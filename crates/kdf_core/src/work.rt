@@ -1,4 +1,4 @@
-//! The work of scrypt, known before it is run: the closed form of what its meter counts, and the bytes that it mixes.
+//! The work of scrypt, known before hashing: the closed form of what its meter counts, and the number of mixed bytes.
 
 ghost use Rattle.std.specs.Prelude.{◌≡◌, ◌+◌, ◌^◌, ◌≤◌};
 ghost use Rattle.kdf_core.specs.Hmac.{tag_bytes};
@@ -10,10 +10,11 @@ use crate::params::Params;
 use crate::scrypt::UNIT_BYTES;
 use prims_core::meter::Work;
 
-/// What a meter counts of scrypt (RFC 7914, section 6), for a password, a salt and a result of so many bytes.
+/// Returns the work of scrypt for a password, a salt and a result of these lengths in bytes (RFC 7914, section 6).
 ///
-/// Each of the three is at most 2^32, for which the bytes that scrypt digests stay far below the 64 bits of a count.
-/// Nothing is derived for it and no memory is taken.
+/// A meter counts exactly this. The call neither derives nor allocates anything.
+///
+/// Preconditions: each length is at most 2^32, so that the digested bytes are far below 2^64.
 pub fn scrypt_work(params: &Params, password_len: u64, salt_len: u64, out_len: u64) -> Work
     requires password { password_len ≤ 2 ^ 32 }
     requires salt { salt_len ≤ 2 ^ 32 }
@@ -39,8 +40,9 @@ pub fn scrypt_work(params: &Params, password_len: u64, salt_len: u64, out_len: u
     }
 }
 
-/// The bytes that scrypt's mixings mix: a part of 128r bytes in each of the 2Np, so 256 for each unit of the product
-/// of N, r and p. They are at most 2^31.
+/// Returns the number of bytes that scrypt mixes, at most 2^31.
+///
+/// They are 128r bytes in each of the 2Np mixings, so 256 for each unit of the product `N * r * p`.
 pub fn mixed_bytes(params: &Params) -> u64
     ensures bytes { result ≡ mixed_bytes params.now }
     ensures below { result ≤ 2 ^ 31 }
@@ -48,8 +50,8 @@ pub fn mixed_bytes(params: &Params) -> u64
     2 * UNIT_BYTES as u64 * u64::from(params.product())
 }
 
-// The bytes that a tag of a salt and the number of a block digests: both padded keys, the inner digest, and
-// these two, of which the number has 4 bytes.
+// Returns the number of bytes that the tag of a salt and a block's number digests. They are two padded keys, the inner
+// digest, the salt, and the 4 bytes of the number.
 fn salted_tag_bytes(salt: u64) -> u64
     requires { salt ≤ 2 ^ 32 }
     ensures { result ≡ tag_bytes (salt + 4) }

@@ -1,12 +1,12 @@
--- Some work, in five counts: what a hash takes, and also all that a meter has counted.
+-- Work, in five counts: that of a hash, or all that a meter has counted.
 use Rattle.std.specs.Prelude.{ℕ, ◌+◌, ◌-◌, ◌≤◌, ◌<◌}
 use Rattle.prims_core.specs.declared.meter.Work.{Work}
 
--- none at all, as of a meter that is new
+-- No work, as of a new meter.
 abbrev pub no_work : Work
 no_work = record { digests = 0; bytes = 0; mixes = 0; table = 0; scratch = 0 }
 
--- some work, and then some more: each count is the sum of both
+-- raised_by counts work: some work, and then some more. Each count is the sum of both.
 abbrev pub raised_by : Work → Work → Work
 raised_by counts work = record {
   digests = counts.digests + work.digests;
@@ -16,7 +16,8 @@ raised_by counts work = record {
   scratch = counts.scratch + work.scratch;
 }
 
--- the work from one reading of a meter to a later one: by how much each count has risen
+-- work_between before after: the work from one reading of a meter to a later one, which is how much each count has
+-- risen.
 abbrev pub work_between : Work → Work → Work
 work_between before after = record {
   digests = after.digests - before.digests;
@@ -26,7 +27,7 @@ work_between before after = record {
   scratch = after.scratch - before.scratch;
 }
 
--- no count is above that of the other
+-- IsWithin work most: no count is above the same count of `most`.
 pub record IsWithin (work most : Work) : Type 0 where
   pub digests : work.digests ≤ most.digests
   pub bytes : work.bytes ≤ most.bytes
@@ -34,7 +35,7 @@ pub record IsWithin (work most : Work) : Type 0 where
   pub table : work.table ≤ most.table
   pub scratch : work.scratch ≤ most.scratch
 
--- no count is above a number
+-- IsAtMost work limit: no count is above the limit.
 pub record IsAtMost (work : Work) (limit : ℕ) : Type 0 where
   pub digests : work.digests ≤ limit
   pub bytes : work.bytes ≤ limit
@@ -42,7 +43,7 @@ pub record IsAtMost (work : Work) (limit : ℕ) : Type 0 where
   pub table : work.table ≤ limit
   pub scratch : work.scratch ≤ limit
 
--- each count is below a number
+-- IsBelow work limit: each count is below the limit.
 pub record IsBelow (work : Work) (limit : ℕ) : Type 0 where
   pub digests : work.digests < limit
   pub bytes : work.bytes < limit

@@ -1,7 +1,7 @@
 //! The alphabet of crypt(5) and its base-64 numerals.
 //!
-//! A character has a value from 0 to 63 and stands for six bits. A number is written lowest six
-//! bits first, so that `/...` is the number 1.
+//! A character has a value from 0 to 63 and stands for six bits. A number has its lowest six bits first, so `/...` is
+//! the number 1.
 
 ghost use Rattle.std.specs.Prelude.{◌≡◌, ℕ, ◌+◌, ◌^◌, ◌<◌, ◌≤◌, ◌++◌, ◌↔◌, length, All, Contains, IfSome, Some, IsSome};
 ghost use Rattle.arrayvec.specs.ArrayVec.{array_vec_len};
@@ -12,7 +12,7 @@ use arrayvec::ArrayVec;
 // The characters in the order of their values.
 const CHARACTERS: [u8; 64] = *b"./0123456789ABCDEFGHIJKLMNOPQRSTUVWXYZabcdefghijklmnopqrstuvwxyz";
 
-/// The character of a value below 64.
+/// Returns the character of a value below 64.
 pub fn char_of(value: u8) -> u8
     requires { value < 64 }
     ensures { result ≡ character_of value }
@@ -20,7 +20,7 @@ pub fn char_of(value: u8) -> u8
     CHARACTERS[value as usize]
 }
 
-/// The value of a character, from 0 to 63, or `None` for a byte outside the alphabet.
+/// Returns the value of a character, from 0 to 63, or `None` for a byte outside the alphabet.
 ///
 /// It is the inverse of [`char_of`].
 pub fn value_of(character: u8) -> Option<u8>
@@ -29,7 +29,7 @@ pub fn value_of(character: u8) -> Option<u8>
     ensures inverse { (v : ℕ) → v < 64 → character_of v ≡ character → result ≡ Some v }
 {
     match character {
-        // `.` and `/` stand directly before the digits.
+        // In ASCII, `.` and `/` directly precede the digits.
         b'.'..=b'9' => Some(character - b'.'),
         b'A'..=b'Z' => Some(character - b'A' + 12),
         b'a'..=b'z' => Some(character - b'a' + 38),
@@ -37,9 +37,13 @@ pub fn value_of(character: u8) -> Option<u8>
     }
 }
 
-/// Appends the lowest `6 * chars` bits of `value`, as that many characters, lowest six bits first.
+/// Appends the lowest `6 * chars` bits of `value` as `chars` characters, the lowest six bits first.
 ///
-/// They are 1 to 5, the value has no more bits than that, and `out` has room for them among its 160 bytes.
+/// Preconditions:
+///
+/// - `chars` is 1 to 5.
+/// - `value` has at most `6 * chars` bits.
+/// - `out` has capacity for the characters, within its 160 bytes.
 pub fn put_group(out: &mut ArrayVec<u8, 160>, value: u32, chars: usize)
     requires some { 1 ≤ chars }
     requires few { chars ≤ 5 }
@@ -55,8 +59,9 @@ pub fn put_group(out: &mut ArrayVec<u8, 160>, value: u32, chars: usize)
     }
 }
 
-/// The number below 2^30 of exactly five characters, lowest six bits first, or `None` for any other
-/// slice.
+/// Returns the number below 2^30 of exactly five characters, or `None` for any other slice.
+///
+/// The lowest six bits come first.
 pub fn read_30(digits: &[u8]) -> Option<u32>
     ensures accepts { IsSome result ↔ ((length digits.now ≡ 5) × All (Contains alphabet) digits.now) }
     ensures number { IfSome result (λ n. (n < 2 ^ 30) × (numerals 5 n ≡ digits.now)) }
@@ -76,7 +81,7 @@ pub fn read_30(digits: &[u8]) -> Option<u32>
 mod tests {
     use super::*;
 
-    // A value that is written and read back.
+    // Writes a value and reads it back.
     fn value_again(value: u8) -> Option<u8>
         requires { value < 64 }
         ensures { result ≡ Some value }
@@ -84,7 +89,7 @@ mod tests {
         value_of(char_of(value))
     }
 
-    // A number of 30 bits that is written and read back.
+    // Writes a number of 30 bits and reads it back.
     fn number_again(number: u32) -> Option<u32>
         requires { number < 2 ^ 30 }
         ensures { result ≡ Some number }

@@ -2,7 +2,7 @@
 
 use std::alloc::{AllocError, Global};
 
-/// The bytes in hexadecimal, two digits each.
+/// Returns the bytes in hexadecimal, two digits each.
 pub(crate) fn hexadecimal(alloc: Global, bytes: &[u8]) -> Result<String, AllocError> {
     let mut text = String::new(alloc);
     for byte in bytes {

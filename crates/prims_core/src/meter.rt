@@ -1,7 +1,7 @@
 //! The meter: five counts of the work done.
 //!
-//! Only the call that does the work raises a count, so what a meter says after a run is what the run
-//! has done through it. A [`Reading`] of the meter before a call gives the [`Work`] of that call.
+//! Only the call that does the work raises a count, so the counts after a run are the work done through the meter. A
+//! [`Reading`] of the meter before a call gives the [`Work`] of that call.
 
 ghost use Rattle.std.specs.Prelude.{◌≡◌, ◌+◌, ◌^◌, ◌<◌};
 ghost use Rattle.prims_core.specs.Work.{no_work, raised_by, work_between, IsBelow, IsWithin};
@@ -9,17 +9,16 @@ ghost use Rattle.prims_core.specs.declared.meter.Work.{Work as Counts};
 
 use std::marker::Model;
 
-/// The work of a hash: the five counts by which it raises a meter. Its form is that of a struct of C. Clauses
-/// see a [`Meter`] and a [`Reading`] as this record too, with counts of up to 128 bits.
+/// The work of a hash: the five counts by which it raises a meter. Its layout is that of a struct of C. Contracts see a
+/// [`Meter`] and a [`Reading`] as this record too, with counts of up to 128 bits.
 #[repr(C)]
 #[derive(Clone, Copy, Debug, PartialEq, Eq)]
 pub struct Work {
-    /// Digests made.
+    /// Finished digests.
     pub digests: u64,
-    /// Bytes digested.
+    /// Digested bytes.
     pub bytes: u64,
-    /// Mixings, which scrypt alone makes: each handles 2r blocks of 64 bytes, so that its price grows
-    /// with r.
+    /// Mixings, which only scrypt makes. Each mixes 2r blocks of 64 bytes, so its price grows with r.
     pub mixes: u64,
     /// Bytes of scrypt's table.
     pub table: u64,
@@ -27,8 +26,8 @@ pub struct Work {
     pub scratch: u64,
 }
 
-/// Counts of the work done: digests, bytes fed to them, mixings of 2r blocks by scrypt, and bytes of
-/// scrypt's tables and scratch memory. Clauses see it as that work.
+/// The counts of the work done: digests, digested bytes, scrypt's mixings of 2r blocks, and the bytes of scrypt's
+/// tables and scratch memory. Contracts see it as that work.
 #[derive(Debug, Drop)]
 pub struct Meter {
     digests: u128,
@@ -46,8 +45,8 @@ impl Model for Meter {
     ghost view = { λ m. record { digests = m.digests; bytes = m.bytes; mixes = m.mixes; table = m.table; scratch = m.scratch } };
 }
 
-/// The counts of a meter at one moment, from which a later one tells its work ([`Meter::work_since`]).
-/// Nothing makes a meter of it. Clauses see it as those counts.
+/// The counts of a meter at one moment, from which [`Meter::work_since`] computes the work since then. No call makes a
+/// meter of it. Contracts see it as those counts.
 #[derive(Clone, Copy, Debug)]
 pub struct Reading {
     digests: u128,
@@ -68,7 +67,7 @@ impl Model for Reading {
 }
 
 impl Meter {
-    /// A meter that has counted nothing.
+    /// Returns a meter that has counted nothing.
     pub fn new() -> Self
         ensures { result ≡ no_work }
     {
@@ -81,42 +80,42 @@ impl Meter {
         }
     }
 
-    /// How many digests were finished.
+    /// Returns the number of finished digests.
     pub fn digests(&self) -> u128
         ensures { result ≡ self.now.digests }
     {
         self.digests
     }
 
-    /// How many bytes were fed to digests.
+    /// Returns the number of digested bytes.
     pub fn bytes(&self) -> u128
         ensures { result ≡ self.now.bytes }
     {
         self.bytes
     }
 
-    /// How many mixings of 2r blocks by scrypt were made.
+    /// Returns the number of scrypt's mixings, of 2r blocks each.
     pub fn mixes(&self) -> u128
         ensures { result ≡ self.now.mixes }
     {
         self.mixes
     }
 
-    /// How many bytes scrypt's tables took.
+    /// Returns the number of bytes of scrypt's tables.
     pub fn table(&self) -> u128
         ensures { result ≡ self.now.table }
     {
         self.table
     }
 
-    /// How many bytes scrypt's scratch memory took.
+    /// Returns the number of bytes of scrypt's scratch memory.
     pub fn scratch(&self) -> u128
         ensures { result ≡ self.now.scratch }
     {
         self.scratch
     }
 
-    /// Returns the counts of this moment.
+    /// Returns the counts at this moment.
     pub fn reading(&self) -> Reading
         ensures { result ≡ self.now }
     {
@@ -131,7 +130,7 @@ impl Meter {
 
     /// Returns the work done since the reading: the rise of each count.
     ///
-    /// No count of the reading is above the meter's, and each has risen by less than 2^64.
+    /// Preconditions: no count of the reading is above the meter's, and each has risen by less than 2^64.
     pub fn work_since(&self, reading: &Reading) -> Work
         requires earlier { IsWithin reading.now self.now }
         requires small { IsBelow (work_between reading.now self.now) (2 ^ 64) }
@@ -147,7 +146,7 @@ impl Meter {
         }
     }
 
-    /// Counts so many bytes fed to a digest.
+    /// Counts `count` bytes that were fed to a digest.
     pub(crate) fn count_bytes(&mut self, count: usize)
         requires { self.old.bytes + count < 2 ^ 128 }
         ensures { self.new ≡ record self.old { bytes = self.old.bytes + count } }
@@ -155,7 +154,7 @@ impl Meter {
         self.bytes += count as u128;
     }
 
-    /// Counts a digest that is finished.
+    /// Counts a finished digest.
     pub(crate) fn count_digest(&mut self)
         requires { self.old.digests + 1 < 2 ^ 128 }
         ensures { self.new ≡ record self.old { digests = self.old.digests + 1 } }
@@ -163,7 +162,7 @@ impl Meter {
         self.digests += 1;
     }
 
-    /// Counts a mixing of 2r blocks by scrypt.
+    /// Counts one of scrypt's mixings, of 2r blocks.
     pub(crate) fn count_mix(&mut self)
         requires { self.old.mixes + 1 < 2 ^ 128 }
         ensures { self.new ≡ record self.old { mixes = self.old.mixes + 1 } }
@@ -171,7 +170,7 @@ impl Meter {
         self.mixes += 1;
     }
 
-    /// Counts so many bytes of a scrypt table.
+    /// Counts the bytes of a table of scrypt.
     pub(crate) fn count_table(&mut self, bytes: usize)
         requires { self.old.table + bytes < 2 ^ 128 }
         ensures { self.new ≡ record self.old { table = self.old.table + bytes } }
@@ -179,7 +178,7 @@ impl Meter {
         self.table += bytes as u128;
     }
 
-    /// Counts so many bytes of scrypt's scratch memory.
+    /// Counts bytes of scrypt's scratch memory.
     pub(crate) fn count_scratch(&mut self, bytes: usize)
         requires { self.old.scratch + bytes < 2 ^ 128 }
         ensures { self.new ≡ record self.old { scratch = self.old.scratch + bytes } }

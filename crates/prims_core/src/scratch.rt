@@ -1,6 +1,6 @@
-//! The memory that scrypt works in besides its table: bytes, and 32-bit words.
+//! The memory that scrypt uses besides its table: bytes, and 32-bit words.
 //!
-//! Each is one growth, made at once in its full size.
+//! Each is one allocation in its full size.
 
 ghost use Rattle.std.specs.Prelude.{◌≡◌, ◌+◌, ◌*◌, ◌^◌, ◌<◌, ◌≤◌, replicate, IfOk, OnOk, OnErr};
 ghost use Rattle.std.specs.Borrow.{sem};
@@ -14,7 +14,7 @@ use std::mem::size_of;
 #[cfg(test)]
 mod tests;
 
-/// Bytes to work on.
+/// Bytes of scratch memory. Contracts see them as a list.
 #[derive(Drop)]
 pub struct ByteScratch {
     bytes: Vec<u8>,
@@ -29,10 +29,13 @@ impl Model for ByteScratch {
 }
 
 impl ByteScratch {
-    /// So many zeros, which the meter counts as scratch.
+    /// Returns `len` zero bytes, which the meter counts as scratch memory.
     ///
-    /// They are at most 2^30 bytes, and the meter has room for them. `AllocError` is answered where memory is
-    /// refused, and nothing is counted then.
+    /// Preconditions: `len` is at most 2^30, and the meter can count it without overflow.
+    ///
+    /// # Errors
+    ///
+    /// - `AllocError`: the allocation failed. The meter is unchanged.
     pub fn new(alloc: Global, len: usize, meter: &mut Meter) -> Result<ByteScratch, AllocError>
         requires fits { len ≤ 2 ^ 30 }
         requires room { meter.old.scratch + len < 2 ^ 128 }
@@ -45,14 +48,14 @@ impl ByteScratch {
         Ok(ByteScratch { bytes })
     }
 
-    /// All the bytes.
+    /// Returns all the bytes.
     pub fn bytes(&self) -> &[u8]
         ensures { result.now ≡ self.now }
     {
         &self.bytes
     }
 
-    /// All the bytes, to be written to.
+    /// Returns all the bytes for writing.
     pub fn bytes_mut(&mut self) -> &mut [u8]
         ensures* writes_back { sem 𝓛 (LendsBytes self.entry result) }
         ensures value { result.now ≡ self.old }
@@ -61,7 +64,7 @@ impl ByteScratch {
     }
 }
 
-/// Words to work on.
+/// Words of scratch memory. Contracts see them as a list.
 #[derive(Drop)]
 pub struct WordScratch {
     words: Vec<u32>,
@@ -76,10 +79,13 @@ impl Model for WordScratch {
 }
 
 impl WordScratch {
-    /// So many zeros, whose bytes, four a word, the meter counts as scratch.
+    /// Returns `words` zero words, whose bytes, four each, the meter counts as scratch memory.
     ///
-    /// They are at most 2^30 bytes, and the meter has room for them. `AllocError` is answered where memory is
-    /// refused, and nothing is counted then.
+    /// Preconditions: the words have at most 2^30 bytes, and the meter can count these without overflow.
+    ///
+    /// # Errors
+    ///
+    /// - `AllocError`: the allocation failed. The meter is unchanged.
     pub fn new(alloc: Global, words: usize, meter: &mut Meter) -> Result<WordScratch, AllocError>
         requires fits { 4 * words ≤ 2 ^ 30 }
         requires room { meter.old.scratch + 4 * words < 2 ^ 128 }
@@ -92,14 +98,14 @@ impl WordScratch {
         Ok(WordScratch { words: zeros })
     }
 
-    /// All the words.
+    /// Returns all the words.
     pub fn words(&self) -> &[u32]
         ensures { result.now ≡ self.now }
     {
         &self.words
     }
 
-    /// All the words, to be written to.
+    /// Returns all the words for writing.
     pub fn words_mut(&mut self) -> &mut [u32]
         ensures* writes_back { sem 𝓛 (LendsWords self.entry result) }
         ensures value { result.now ≡ self.old }

@@ -1,15 +1,14 @@
-//! Numbers as bytes, in the order that a standard asks for.
+//! Numbers as bytes, in the byte order of the standards.
 //!
-//! Block numbers are written with the highest byte first (RFC 8018), and the words of scrypt's blocks
-//! with the lowest byte first (RFC 7914).
+//! Block numbers have the highest byte first (RFC 8018), and the words of scrypt's blocks the lowest byte first (RFC
+//! 7914).
 
 ghost use Rattle.std.specs.Prelude.{◌≡◌, ◌*◌, length};
 ghost use Rattle.prims_core.specs.Words.{big_bytes, bytes_of_words, words_of};
 
 use byteorder::{BigEndian, ByteOrder, LittleEndian};
 
-/// The four bytes of a number, the highest first, as RFC 8018, section 5.2, writes the number of a
-/// block.
+/// Returns the four bytes of a number, the highest first, as INT (i) in RFC 8018, section 5.2.
 pub fn number_be(number: u32) -> [u8; 4]
     ensures { result ≡ big_bytes 4 number }
 {
@@ -18,8 +17,9 @@ pub fn number_be(number: u32) -> [u8; 4]
     bytes
 }
 
-/// Fills `words` with the words of `bytes`, each of four bytes, the lowest first, as RFC 7914,
-/// section 3, reads a block. There are four bytes for each word.
+/// Fills `words` with the words of `bytes`, four bytes each, the lowest first (RFC 7914, section 3).
+///
+/// Precondition: `bytes` has four bytes for each word.
 pub fn load_words(bytes: &[u8], words: &mut [u32])
     requires { length bytes.now ≡ 4 * length words.old }
     ensures { words.new ≡ words_of bytes.now }
@@ -27,8 +27,9 @@ pub fn load_words(bytes: &[u8], words: &mut [u32])
     LittleEndian::read_u32_into(bytes, words);
 }
 
-/// Fills `bytes` with the bytes of `words`, four of each, the lowest first: the way back from
-/// [`load_words`]. There are four bytes for each word.
+/// Fills `bytes` with the bytes of `words`, four of each, the lowest first. It is the inverse of [`load_words`].
+///
+/// Precondition: `bytes` has four bytes for each word.
 pub fn store_words(words: &[u32], bytes: &mut [u8])
     requires { length bytes.old ≡ 4 * length words.now }
     ensures { bytes.new ≡ bytes_of_words words.now }

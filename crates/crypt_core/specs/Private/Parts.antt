@@ -1,4 +1,4 @@
--- What reading takes off the front of a text, part by part, and what making asks of a salt and a cost.
+-- The parts that the parser takes off the front of a setting, one after another, and which salts a method takes.
 use Rattle.std.specs.Prelude.{Option, Some, None, true, false, ◌≡◌, ◌⊎◌, ℕ, ◌^◌, ◌<◌, ◌≤◌, min, List, ◌∷◌, ◌++◌, length, take, All, Contains}
 use Rattle.std.specs.Str.Parse.{digits_value}
 use Rattle.prims_core.specs.Alphabet.{alphabet}
@@ -13,71 +13,74 @@ use Rattle.crypt_core.specs.declared.setting.fault.SettingFault.{SettingFault}
 use Rattle.crypt_core.specs.Refusals.{IsRefused}
 use Rattle.crypt_core.specs.Settings.{dollar, rounds_word, IsField, IsRoundsNumber, IsScryptSalt, IsSettingByte, scrypt_part, setting_limit, SpellsRounds}
 
--- no more bytes than the limit, all of them setting bytes
+-- IsSettingText text: it has no more bytes than the limit, all of them setting bytes.
 pub record IsSettingText (text : List ℕ) : Type 0 where
   pub short : length text ≤ setting_limit
   pub bytes : All IsSettingByte text
 
--- every setting text of this form gets this refusal
+-- AllRefused HasForm fault: every such string that has this form gets this refusal.
 abbrev pub AllRefused : (List ℕ → Type 0) → SettingFault → Type 0
 AllRefused HasForm fault = (text : List ℕ) → IsSettingText text → HasForm text → IsRefused text fault
 
--- a text of SHA-crypt, and what follows its prefix
+-- IsShaText text after: the string is one of SHA-crypt's prefixes, and then this.
 abbrev pub IsShaText : List ℕ → List ℕ → Type 0
 IsShaText text after = (text ≡ prefix methods.Sha256crypt ++ after) ⊎ (text ≡ prefix methods.Sha512crypt ++ after)
 
--- the digits up to a `$` are this number, or the most rounds if they say more, and `rest` follows the `$`
+-- HasNumber field number rest: the field begins with the digits of a number and a `$`, and the rest follows. The number
+-- is theirs, or the most rounds if theirs is greater.
 abbrev pub HasNumber : List ℕ → ℕ → List ℕ → Type 0
 HasNumber field number rest = (digits : List ℕ) × IsRoundsNumber digits × (field ≡ digits ++ (dollar ∷ rest))
     × (number ≡ min (digits_value 10 digits) max_rounds)
 
--- no digits of a number stand there with a `$` behind them
+-- LacksNumber field: it does not begin with the digits of a number and a `$`.
 abbrev pub LacksNumber : List ℕ → Type 0
 LacksNumber field = (digits rest : List ℕ) → IsRoundsNumber digits → field ≡ digits ++ dollar ∷ rest → ⊥
 
--- `rounds=` stands there, but no proper field
+-- LacksRounds after: it begins with `rounds=`, and no number and `$` follow.
 abbrev pub LacksRounds : List ℕ → Type 0
 LacksRounds after = (field : List ℕ) × (after ≡ rounds_word ++ field) × LacksNumber field
 
--- the rounds of a field with this number, or without a field
+-- field_rounds number: the rounds of a field with this number, or without a field.
 abbrev pub field_rounds : Option ℕ → Rounds
 field_rounds (Some number) = record { count = clamped number; is_written = true }
 field_rounds None = record { count = default_rounds; is_written = false }
 
--- these rounds are spelled in front of the rest
+-- HasRounds after rounds rest: `after` begins with a part that spells these rounds, and the rest follows.
 abbrev pub HasRounds : List ℕ → Rounds → List ℕ → Type 0
 HasRounds after rounds rest = (part : List ℕ) × (after ≡ part ++ rest) × SpellsRounds rounds part rest
 
--- the numbers that the characters of scrypt's cost part can say
+-- HasNumerals cost: the characters of scrypt's cost part can express its numbers.
 abbrev pub HasNumerals : ScryptCost → Type 0
 HasNumerals cost = (cost.log_n < 64) × (cost.r < 2 ^ 30) × (cost.p < 2 ^ 30)
 
--- scrypt's three numbers are spelled there
+-- HasNumbers after cost: `after` begins with scrypt's cost part for this cost.
 abbrev pub HasNumbers : List ℕ → ScryptCost → Type 0
 HasNumbers after cost = (rest : List ℕ) × (after ≡ scrypt_part cost ++ rest) × HasNumerals cost
 
--- fewer characters of crypt's alphabet than scrypt's cost part has stand there
+-- LacksCharacters after: it begins with fewer characters of crypt's alphabet than scrypt's cost part has.
 abbrev pub LacksCharacters : List ℕ → Type 0
 LacksCharacters after = (part rest : List ℕ) → length part ≡ scrypt_part_len → All (Contains alphabet) part → after ≡ part ++ rest → ⊥
 
--- the field goes up to the first `$` or to the end
+-- HasField after field: the field goes up to the first `$` or to the end.
 abbrev pub HasField : List ℕ → List ℕ → Type 0
 HasField after field = (rest : List ℕ) × (after ≡ field ++ rest) × IsField field rest
 
--- what a method keeps of the field of the salt, apart from scrypt's numbers
+-- KeepsField method field salt: the method keeps this salt of the field. It is `KeepsSalt` without the rule on scrypt's
+-- numbers.
 abbrev pub KeepsField : Method → List ℕ → List ℕ → Type 0
 KeepsField methods.Scrypt field salt = (salt ≡ field) × IsScryptSalt field
 KeepsField method field salt = salt ≡ take (salt_limit method) field
 
--- this is kept of the field of the salt
+-- SpellsSalt method after salt: the method keeps this salt of the field at the front.
 abbrev pub SpellsSalt : Method → List ℕ → List ℕ → Type 0
 SpellsSalt method after salt = (field : List ℕ) × HasField after field × KeepsField method field salt
 
--- the field is no salt of scrypt, which is the method
+-- LacksSalt method after: the method is scrypt, and the field at the front is no salt of scrypt.
 abbrev pub LacksSalt : Method → List ℕ → Type 0
 LacksSalt method after = (method ≡ methods.Scrypt) × (field : List ℕ) × HasField after field × (¬ IsScryptSalt field)
 
--- one character of crypt's alphabet or more, and no more than the method keeps
+-- TakesSalt method salt: the salt has at least one character, no more than the method keeps, and all of crypt's
+-- alphabet.
 pub record TakesSalt (method : Method) (salt : List ℕ) : Type 0 where
   pub some : 0 < length salt
   pub short : length salt ≤ salt_limit method

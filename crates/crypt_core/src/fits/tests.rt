@@ -1,4 +1,4 @@
-//! Which passwords fit which stored texts, what a check counts, and what is refused.
+//! Which passwords match which stored hashes, what a check counts, and what it refuses.
 
 ghost use Rattle.std.specs.Prelude.{◌≤◌, ◌^◌, length, IsTrue, IfSome};
 ghost use Rattle.prims_core.specs.Meter.{HasRoom};
@@ -15,7 +15,7 @@ const MD5CRYPT: &str = "$1$xxxxxxxx$UYCIxa628.9qXjpQCjM4a.";
 
 const SCRYPT: &str = "$7$2/..../....$rNxJWVHNv/mCNcgE/f6/L4zO6Fos5c2uTzhyzoisI62";
 
-// Passwords, stored texts, and whether they fit.
+// Passwords, stored hashes, and whether they match.
 const VERDICTS: [(&str, &str, bool); 10] = [
     ("password", MD5CRYPT, true),
     ("Password", MD5CRYPT, false),
@@ -25,7 +25,7 @@ const VERDICTS: [(&str, &str, bool); 10] = [
         "$5$saltstring$5B8vYYiY.CVt1RlTTf8KbXBH3hsxY/GNooZaBBGWEc5",
         true,
     ),
-    // another last character, one character more, and one less
+    // Another last character, one character more, and one less.
     (
         "Hello world!",
         "$5$saltstring$5B8vYYiY.CVt1RlTTf8KbXBH3hsxY/GNooZaBBGWEc6",
@@ -41,7 +41,7 @@ const VERDICTS: [(&str, &str, bool); 10] = [
         "$5$saltstring$5B8vYYiY.CVt1RlTTf8KbXBH3hsxY/GNooZaBBGWEc",
         false,
     ),
-    // 10 rounds are clamped to 1000, and the hash says so: the text that was stored is none of crypt(3)'s
+    // The 10 rounds are clamped to 1000, and the hash has 1000, so crypt(3) never returns this stored hash.
     (
         "the minimum number is still observed",
         "$6$rounds=10$roundstoolow$kUMsbe306n21p9R.FRkW3IGn.S9NPN0x50YhH1xhLsPuWGsUSklZt58jaTfF4ZEQpyUNGc0dqbpBYYBaHHrsX.",
@@ -55,7 +55,7 @@ const VERDICTS: [(&str, &str, bool); 10] = [
     ("", SCRYPT, true),
 ];
 
-// Passwords, stored texts, and the counts: digests, bytes, mixings, table and scratch.
+// Passwords, stored hashes, and the counts: digests, bytes, mixings, table and scratch.
 const COUNTS: [(&str, &str, [u128; 5]); 4] = [
     ("password", MD5CRYPT, [1002, 36239, 0, 0, 0]),
     ("Password", MD5CRYPT, [1002, 36239, 0, 0, 0]),
@@ -63,7 +63,7 @@ const COUNTS: [(&str, &str, [u128; 5]); 4] = [
     ("", SCRYPT, [10, 948, 32, 2048, 384]),
 ];
 
-// Stored texts that spell no setting, and the rule that each breaks.
+// Stored hashes without a valid setting, and the rule that each breaks first.
 const REFUSALS: [(&[u8], SettingFault); 13] = [
     (&[b'!'; 385], SettingFault::TooLong),
     (b"$1$a:b", SettingFault::BadCharacter),
@@ -84,12 +84,12 @@ fn password_of(rt: &impl Abort, text: &str) -> Password {
     Password::new(text.as_bytes()).expect(rt, "a password")
 }
 
-// A verdict, or the refusal in words.
+// Returns the verdict, or the message of the error.
 fn in_words(verdict: Result<bool, FitFault>) -> Result<bool, &'static str> {
     verdict.map_err(|fault| fault.text())
 }
 
-// Whether each count is at most 2^120, so that there is room for another check.
+// Returns whether each count is at most 2^120, which `fits` requires.
 fn has_room(meter: &Meter) -> bool
     ensures { IsTrue result → HasRoom meter.now }
 {
@@ -109,7 +109,7 @@ fn fits_own_hash(alloc: Global, password: &Password, setting: &Setting) -> Optio
     fits(alloc, password, hashed.text(), &mut Meter::new()).ok()
 }
 
-// Compares a password with many texts on one meter, which keeps room, and counts those that fit.
+// Compares a password with many stored hashes on one meter, and returns how many match.
 fn count_fitting(alloc: Global, password: &Password, stored: &[&[u8]]) -> usize
     requires { length stored.now ≤ 2 ^ 32 }
 {

@@ -1,4 +1,4 @@
-//! Made salts as the formats state them, and a generator of listed words.
+//! Made salts as docs/FORMATS.md states them, and a generator of listed numbers.
 
 ghost use Rattle.std.specs.Prelude.{◌+◌, ◌%◌, slice_index};
 ghost use Rattle.rand_core.specs.Steps.{stream_of, steps_u64_high};
@@ -9,7 +9,7 @@ use crate::setting::Setting;
 use rand_core::utils;
 use rand_core::utils::NextWord;
 
-// A generator of listed words, which begins anew after the last one.
+// A generator of listed numbers, which starts again after the last one.
 #[derive(Drop)]
 struct Listed {
     words: [u64; 4],
@@ -42,7 +42,7 @@ impl Rng for Listed {
     }
 }
 
-// A made salt of 16 characters is one that SHA-crypt takes.
+// Returns a setting of SHA-crypt with a made salt of 16 characters, which it takes.
 fn setting_of(words: [u64; 3]) -> Setting {
     Setting::make(Method::Sha512crypt, 0, salt_of(words, 16).as_slice()).unwrap()
 }

@@ -1,4 +1,4 @@
-//! Schemes of a method and a cost, and which replace which.
+//! Schemes of a method and a cost, and which replaces which.
 
 use super::*;
 use crate::setting::{MakeFault, Setting};
@@ -6,7 +6,7 @@ use crate::values::are_distinct;
 use std::process::Abort;
 use std::test::Fail;
 
-// The scheme of a method and a cost that it takes.
+// Returns the scheme of a method and a cost that the method takes.
 fn made(rt: &impl Abort, method: Method, cost: u32) -> Scheme {
     Scheme::made(method, cost).expect(rt, "a scheme")
 }

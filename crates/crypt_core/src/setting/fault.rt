@@ -1,4 +1,4 @@
-//! Why a text is no setting, and why a setting can't be made, with the texts that are promised.
+//! Why a string is no setting, and why a setting can't be made, with the messages that are promised.
 
 ghost use Rattle.std.specs.Prelude.{◌≡◌};
 ghost use Rattle.crypt_core.specs.SettingFaults.{setting_fault_text, make_fault_text};
@@ -6,23 +6,22 @@ ghost use Rattle.crypt_core.specs.SettingFaults.{setting_fault_text, make_fault_
 use kdf_core::params::ParamFault;
 use thiserror::Error;
 
-/// Why a text is no setting: the first of these that holds.
+/// Why a string is no setting: the first of these errors.
 #[derive(Clone, Copy, Debug, PartialEq, Eq, Drop, Error)]
 pub enum SettingFault {
-    /// More than [`SETTING_LIMIT`](super::SETTING_LIMIT) bytes.
+    /// It has more than [`SETTING_LIMIT`](super::SETTING_LIMIT) bytes.
     #[error("{}", self.text())]
     TooLong,
-    /// A byte that is not graphic ASCII (0x21 to 0x7e), or one of `:`, `;`, `*`, `!` and the backslash.
+    /// It has a byte that is not graphic ASCII (0x21 to 0x7e), or one of `:`, `;`, `*`, `!` and the backslash.
     #[error("{}", self.text())]
     BadCharacter,
-    /// None of `$1$`, `$5$`, `$6$` and `$7$` stands at the front.
+    /// It begins with none of `$1$`, `$5$`, `$6$` and `$7$`.
     #[error("{}", self.text())]
     UnknownScheme,
-    /// `rounds=` stands after SHA-crypt's prefix, but not followed by a number, which begins with one of 1 to 9, and a
-    /// `$`.
+    /// `rounds=` follows SHA-crypt's prefix, but no number and `$` follow that. A number begins with one of 1 to 9.
     #[error("{}", self.text())]
     BadRounds,
-    /// Fewer characters of crypt's alphabet follow scrypt's prefix than its cost part has: 11.
+    /// Fewer than 11 characters of crypt's alphabet, which scrypt's cost part has, follow its prefix.
     #[error("{}", self.text())]
     BadCost,
     /// N, r or p is outside scrypt's range (RFC 7914, section 2): log2 N, r or p is 0, or log2 N is 16r or more.
@@ -38,7 +37,7 @@ pub enum SettingFault {
 }
 
 impl SettingFault {
-    /// The fault in words.
+    /// Returns the message of the error.
     pub fn text(&self) -> &'static str
         ensures { result.now ≡ setting_fault_text self.now }
     {
@@ -55,7 +54,7 @@ impl SettingFault {
     }
 }
 
-/// Why a setting can't be made: the first of these that holds.
+/// Why a setting can't be made: the first of these errors.
 #[derive(Clone, Copy, Debug, PartialEq, Eq, Drop, Error)]
 pub enum MakeFault {
     /// The salt is empty, or longer than the method keeps.
@@ -64,13 +63,13 @@ pub enum MakeFault {
     /// The salt has a byte outside crypt's alphabet.
     #[error("{}", self.text())]
     SaltCharacter,
-    /// The cost is not one that scrypt takes: 0, or 6 to 11.
+    /// The method is scrypt, and the cost is neither 0 nor from 6 to 11.
     #[error("{}", self.text())]
     Cost,
 }
 
 impl MakeFault {
-    /// The fault in words.
+    /// Returns the message of the error.
     pub fn text(&self) -> &'static str
         ensures { result.now ≡ make_fault_text self.now }
     {

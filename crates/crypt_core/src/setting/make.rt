@@ -1,4 +1,4 @@
-//! Making a setting of a method, a cost and a salt.
+//! Making settings of a method, a cost and a salt.
 
 ghost use Rattle.std.specs.Prelude.{◌≡◌, ℕ, ◌↔◌, Some, IsOk, IfOk, IfErr, OnOk};
 ghost use Rattle.crypt_core.specs.declared.setting.fault.MakeFault.{MakeFault as Fault};
@@ -14,16 +14,22 @@ use crate::scheme::Scheme;
 use arrayvec::ArrayVec;
 
 impl Setting {
-    /// The setting of a method with a cost and a salt of crypt's alphabet, or the first fault.
+    /// Returns the setting of a method with a cost and a given salt.
     ///
-    /// Cost 0 is the method's default. SHA-crypt takes any other as a number of rounds, clamped
-    /// to 1000 to 999999999, that the text will show. scrypt takes a cost `c` from 6 to 11, for `N = 2^(c + 7)`,
-    /// r = 32 and p = 1. md5crypt has no cost, and takes any number. A salt has at least one character, and at most
-    /// as many as the method keeps.
+    /// Cost 0 is the method's default. For SHA-crypt any other cost is a number of rounds, clamped to 1000 to
+    /// 999999999, with a `rounds=` field. For scrypt it is 6 to 11 (`N = 2^(cost + 7)`, r = 32, p = 1). md5crypt
+    /// ignores it. The salt has characters of crypt's alphabet, at least one and at most as many as the method keeps
+    /// (8, 16, 16 or 86).
     ///
-    /// - `SaltLength`: the salt is empty, or has more characters than the method keeps;
-    /// - `SaltCharacter`: one of them is not of crypt's alphabet;
-    /// - `Cost`: scrypt has no such cost.
+    /// For example, the setting of sha512crypt with cost 1 and the salt `ab` is `$6$rounds=1000$ab`.
+    ///
+    /// # Errors
+    ///
+    /// The first of these that applies.
+    ///
+    /// - `SaltLength`: the salt is empty, or has more characters than the method keeps.
+    /// - `SaltCharacter`: the salt has a byte outside crypt's alphabet.
+    /// - `Cost`: the method is scrypt, and the cost is neither 0 nor from 6 to 11.
     pub fn make(method: Method, cost: u32, salt: &[u8]) -> Result<Setting, MakeFault>
         ensures made { IfOk result (λ setting. setting ≡ record { scheme = made_scheme method cost; salt = salt.now }) }
         ensures accepted { IsOk result ↔ ((fault : Fault) → ¬ BreaksMake method cost (Some salt.now) fault) }
@@ -41,12 +47,13 @@ impl Setting {
         }
     }
 
-    /// Makes the setting of a scheme with a salt of crypt's alphabet, of at least one character, and at most as many as
-    /// the method keeps.
+    /// Returns the setting of a scheme with a given salt.
+    ///
+    /// The salt has characters of crypt's alphabet, at least one and at most as many as the method keeps.
     ///
     /// # Errors
     ///
-    /// - `SaltLength`, `SaltCharacter`: as [`Setting::make`] returns them.
+    /// - `SaltLength`, `SaltCharacter`: those of [`Setting::make`].
     pub fn with_salt(scheme: Scheme, salt: &[u8]) -> Result<Setting, MakeFault>
         ensures made { IfOk result (λ setting. setting ≡ record { scheme = scheme; salt = salt.now }) }
         ensures accepted { IsOk result ↔ ((fault : Fault) → ¬ BreaksMake (method_of scheme) 0 (Some salt.now) fault) }
@@ -61,8 +68,9 @@ impl Setting {
         }
     }
 
-    /// Returns the setting of a scheme with a new salt, which three random numbers make, as long as
-    /// [`made_salt_length`] says.
+    /// Returns the setting of a scheme with a new salt, which three random numbers make.
+    ///
+    /// The salt has [`made_salt_length`] characters.
     pub fn salted(scheme: Scheme, words: [u64; 3]) -> Setting
         ensures { result ≡ salted scheme words }
     {
@@ -75,7 +83,7 @@ impl Setting {
     }
 }
 
-// What is kept of a given salt, which is all of it, or the first rule that it breaks.
+// Returns the whole salt, or the first rule that it breaks.
 fn given_salt(method: Method, salt: &[u8]) -> Result<ArrayVec<u8, SCRYPT_SALT_LIMIT>, MakeFault>
     ensures kept { IfOk result (λ kept. kept.items ≡ salt.now) }
     ensures ok { OnOk result (TakesSalt method salt.now) }

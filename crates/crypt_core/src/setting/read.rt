@@ -1,7 +1,7 @@
-//! Reading a setting's text, or naming the first rule that it breaks.
+//! Parsing a setting, or finding the first rule that it breaks.
 //!
-//! The prefix, the cost part and the salt are taken off the front, one after another. It takes no
-//! memory and no meter, and a number of any length is capped while it is read.
+//! The parser takes the prefix, the cost part and the salt off the front, one after another. It neither allocates nor
+//! counts, and it caps a number of any length while it reads it.
 
 ghost use Rattle.std.specs.Prelude.{◌≡◌, ◌≤◌, ◌↔◌, length, ◌++◌, min, take, IsTrue, IfOk, IfErr, OnOk, OnSome, IfSome, IfNone};
 ghost use Rattle.std.specs.Str.Parse.{digits_value};
@@ -24,10 +24,14 @@ use kdf_core::params::{ParamFault, Params};
 use prims_core::alphabet::{read_30, value_of};
 
 impl Setting {
-    /// Reads what a text asks for, or answers the first fault, in the order of `SettingFault`.
+    /// Parses a setting (crypt(5)), or a stored hash, which begins with its setting.
     ///
-    /// What stands after the salt's `$` has to keep the rules on length and bytes and means nothing else, so a stored
-    /// text is the setting of its hash.
+    /// Everything after the salt's `$` must keep the rules on length and bytes, and is otherwise ignored. For example,
+    /// `$5$rounds=10$salt$x` is sha256crypt with 1000 rounds and the salt `salt`.
+    ///
+    /// # Errors
+    ///
+    /// The first rule that the string breaks, in the order of [`SettingFault`].
     pub fn read(text: &[u8]) -> Result<Setting, SettingFault>
         ensures spelled { IfOk result (Spells text.now) }
         ensures each_setting { (kept : SettingValue) → Spells text.now kept → result ≡ Ok kept }
@@ -51,7 +55,7 @@ impl Setting {
     }
 }
 
-// The rules on the text's bytes.
+// Checks the rules on length and bytes.
 fn check_bytes(text: &[u8]) -> Result<(), SettingFault>
     ensures ok { OnOk result (IsSettingText text.now) }
     ensures err { IfErr result (IsRefused text.now) }
@@ -71,7 +75,7 @@ fn is_setting_byte(byte: u8) -> bool
     byte.is_ascii_graphic() && !b":;*!\\".contains(&byte)
 }
 
-// The scheme that the text's front spells, and what follows its prefix and cost part.
+// Returns the scheme at the front of the string, and what follows its prefix and cost part.
 fn scheme_at(text: &[u8]) -> Result<(Scheme, &[u8]), SettingFault>
     requires { IsSettingText text.now }
     ensures ok { IfOk result (λ x. SpellsScheme text.now x.0 x.1.now) }
@@ -95,7 +99,7 @@ fn scheme_at(text: &[u8]) -> Result<(Scheme, &[u8]), SettingFault>
     Err(SettingFault::UnknownScheme)
 }
 
-// The number of the field for SHA-crypt's rounds, if there is one, and what comes after it.
+// Returns the number in SHA-crypt's rounds field, if there is one, and what follows the field.
 fn rounds_at(after: &[u8]) -> Result<(Option<u64>, &[u8]), SettingFault>
     ensures ok { IfOk result (λ x. HasRounds after.now (field_rounds x.0) x.1.now) }
     ensures err { IfErr result (AllRefused (λ text. IsShaText text after.now)) }
@@ -109,7 +113,7 @@ fn rounds_at(after: &[u8]) -> Result<(Option<u64>, &[u8]), SettingFault>
     Ok((Some(number), rest))
 }
 
-// The rounds of a field with this number, or without a field.
+// Returns the rounds of a field with this number, or without a field.
 fn rounds_of(number: Option<u64>) -> Rounds
     ensures { result ≡ field_rounds number }
 {
@@ -119,7 +123,7 @@ fn rounds_of(number: Option<u64>) -> Rounds
     }
 }
 
-// The number of the digits up to a `$`, at most the upper end of rounds, and what follows the `$`.
+// Returns the number before a `$`, capped at the most rounds, and what follows the `$`.
 fn number_at(field: &[u8]) -> Option<(u64, &[u8])>
     ensures none { IfNone result (LacksNumber field.now) }
     ensures some { IfSome result (λ x. HasNumber field.now x.0 x.1.now) }
@@ -132,7 +136,7 @@ fn number_at(field: &[u8]) -> Option<(u64, &[u8])>
     Some((capped_number(digits), &field[end + 1..]))
 }
 
-// Whether these are the digits of a number without a leading zero.
+// Returns whether these are the digits of a number without a leading zero.
 fn is_rounds_number(digits: &[u8]) -> bool
     ensures { IsTrue result ↔ IsRoundsNumber digits.now }
 {
@@ -144,8 +148,8 @@ fn is_rounds_number(digits: &[u8]) -> bool
     }
 }
 
-// The number that the digits say, or the most rounds if it is larger. It is capped after each digit, so
-// that no number of digits overflows.
+// Returns the number of the digits, or the most rounds if it is greater. It is capped after each digit, so that no
+// number of digits overflows.
 fn capped_number(digits: &[u8]) -> u64
     requires { IsRoundsNumber digits.now }
     ensures { result ≡ min (digits_value 10 digits.now) max_rounds }
@@ -157,7 +161,7 @@ fn capped_number(digits: &[u8]) -> u64
     number
 }
 
-// The parameters that follow scrypt's prefix, by their characters.
+// Returns the parameters that the characters after scrypt's prefix express.
 fn params_at(after: &[u8]) -> Result<Params, SettingFault>
     ensures ok { IfOk result (λ cost. HasNumbers after.now cost × IsAccepted cost) }
     ensures long { OnOk result (scrypt_part_len ≤ length after.now) }
@@ -173,7 +177,7 @@ fn params_at(after: &[u8]) -> Result<Params, SettingFault>
     }
 }
 
-// log2 N, r and p by their characters.
+// Returns log2 N, r and p, which the first 11 characters express.
 fn numbers_at(after: &[u8]) -> Option<(u8, u32, u32)>
     ensures none { IfNone result (LacksCharacters after.now) }
     ensures long { OnSome result (scrypt_part_len ≤ length after.now) }
@@ -188,7 +192,7 @@ fn numbers_at(after: &[u8]) -> Option<(u8, u32, u32)>
     Some((log_n, r, p))
 }
 
-// What is kept of the salt's field, or `None` where scrypt doesn't take it.
+// Returns what the method keeps of the salt's field, or `None` if it is no salt of scrypt.
 fn salt_at(method: Method, after: &[u8]) -> Option<ArrayVec<u8, SCRYPT_SALT_LIMIT>>
     ensures none { IfNone result (LacksSalt method after.now) }
     ensures some { IfSome result (λ salt. SpellsSalt method after.now salt.items) }
@@ -205,7 +209,7 @@ fn salt_at(method: Method, after: &[u8]) -> Option<ArrayVec<u8, SCRYPT_SALT_LIMI
     Some(ArrayVec::try_from(field).unwrap())
 }
 
-// How long the field is that begins there, which ends before the first `$`.
+// Returns the length of the field at the front, which ends before the first `$`.
 fn field_len(after: &[u8]) -> usize
     ensures field { HasField after.now (take result after.now) }
     ensures within { result ≤ length after.now }

@@ -1,4 +1,4 @@
-//! Texts and refusals as the formats state them.
+//! Settings and refusals as docs/FORMATS.md states them.
 
 ghost use Rattle.std.specs.Prelude.{◌≡◌};
 
@@ -9,14 +9,14 @@ use kdf_core::params::Params;
 use std::process::Abort;
 use std::test::Fail;
 
-// Reading the text of a setting gives the setting again.
+// Writes a setting and reads it again.
 fn read_again(setting: &Setting) -> Result<Setting, SettingFault>
     ensures { result ≡ Ok setting.now }
 {
     Setting::read(setting.text().as_slice())
 }
 
-// That a setting was read, or the refusal in words.
+// Returns that a setting was read, or the message of the error.
 fn read_in_words(read: Result<Setting, SettingFault>) -> Result<(), &'static str> {
     match read {
         Ok(_) => Ok(()),
@@ -24,7 +24,7 @@ fn read_in_words(read: Result<Setting, SettingFault>) -> Result<(), &'static str
     }
 }
 
-// That a setting was made, or the refusal in words.
+// Returns that a setting was made, or the message of the error.
 fn made_in_words(made: Result<Setting, MakeFault>) -> Result<(), &'static str> {
     match made {
         Ok(_) => Ok(()),
@@ -32,7 +32,7 @@ fn made_in_words(made: Result<Setting, MakeFault>) -> Result<(), &'static str> {
     }
 }
 
-// Reads a text and compares what is kept of it. The canonical text is read again as itself.
+// Reads a setting and compares the parts. Its canonical form is read as itself.
 fn reads(rt: &impl Abort, text: &[u8], method: Method, salt: &[u8], canonical: &[u8]) {
     let setting = Setting::read(text).expect(rt, "a setting");
     let again = read_again(&setting).expect(rt, "the text of a setting");
@@ -278,7 +278,7 @@ fn not_made(rt: HostRuntime) {
     }
 }
 
-// N = 16, r = 1 and p = 1.
+// Returns scrypt with N = 16, r = 1 and p = 1.
 fn small_scrypt(rt: &impl Abort) -> Scheme {
     Scheme::Scrypt(Params::new(4, 1, 1).expect(rt, "parameters"))
 }
@@ -333,7 +333,7 @@ fn without_a_salt_that_the_method_takes(rt: HostRuntime) {
     }
 }
 
-// Three words give up to ten characters each, six bits for one, lowest bits first.
+// Three numbers give up to ten characters each, six bits for one, the lowest bits first.
 #[test]
 fn salted_with_words(rt: HostRuntime) {
     let rows = [
@@ -391,8 +391,8 @@ fn fault_texts(rt: HostRuntime) -> Result<(), Fail> {
     are_distinct(&rt, &make_faults.map(|(fault, _)| fault))
 }
 
-// A text of each method, and whether a hash by it is out of date where new ones are made by another: between methods
-// it is, and by the same setting it isn't.
+// One setting of each method. A hash is out of date if new ones are made with another of them, and not with the same
+// one.
 #[test]
 fn replaced_by_other_methods(rt: HostRuntime) -> Result<(), Fail> {
     let texts = ["$1$ab", "$5$ab", "$6$ab", "$7$2/..../....ab"];
@@ -420,15 +420,15 @@ fn replaced_by_greater_costs(rt: HostRuntime) -> Result<(), Fail> {
         ("$6$ab", "$6$rounds=4999$ab", false),
         ("$6$rounds=10$ab", "$6$rounds=1000$ab", false),
         ("$6$rounds=999999998$ab", "$6$rounds=999999999$ab", true),
-        // N of 16 and 32
+        // N is 16 or 32.
         ("$7$2/..../....ab", "$7$2/..../....", false),
         ("$7$2/..../....ab", "$7$3/..../....ab", true),
         ("$7$3/..../....ab", "$7$2/..../....ab", false),
-        // 64, as 32 times 2 and as 64
+        // N * r * p is 64, as 32 times 2 and as 64.
         ("$7$30..../....ab", "$7$4/..../....ab", false),
         ("$7$4/..../....ab", "$7$30..../....ab", false),
         ("$7$3/....0....ab", "$7$4/..../....ab", false),
-        // 128, and 256 with a smaller N
+        // N * r * p is 128, and 256 with a smaller N.
         ("$7$5/..../....ab", "$7$36..../....ab", true),
         ("$7$36..../....ab", "$7$5/..../....ab", false),
         ("$7$5/..../....ab", "$7$3/....6....ab", true),

@@ -1,4 +1,4 @@
-//! The canonical text of a setting, which ends with its salt.
+//! The canonical form of a setting, which ends with its salt.
 
 ghost use Rattle.std.specs.Prelude.{◌≡◌, ◌+◌, ◌<◌, ◌≤◌, ◌++◌, length, decimal};
 ghost use Rattle.arrayvec.specs.ArrayVec.{array_vec_len};
@@ -13,11 +13,11 @@ use arrayvec::ArrayVec;
 use prims_core::alphabet::put_group;
 
 impl Setting {
-    /// The canonical text, of at most [`CANONICAL_LIMIT`](super::CANONICAL_LIMIT) bytes. Read again, it is this
-    /// setting. With a `$` and the text of the method's digest it stays within
-    /// [`HASH_LIMIT`](crate::hash::HASH_LIMIT).
+    /// Returns the setting in canonical form (crypt(5)), of at most [`CANONICAL_LIMIT`](super::CANONICAL_LIMIT) bytes.
     ///
-    /// It has a `rounds=` field exactly if the setting had one, with the number that is kept.
+    /// [`Setting::read`] parses it as this setting again. It has a `rounds=` field exactly if the setting had one, with
+    /// the clamped number. With a `$` and the packed digest it has at most [`HASH_LIMIT`](crate::hash::HASH_LIMIT)
+    /// bytes.
     pub fn text(&self) -> ArrayVec<u8, TEXT_CAPACITY>
         ensures canonical { result.items ≡ canonical_text self.now }
         ensures spelled { Spells (canonical_text self.now) self.now }

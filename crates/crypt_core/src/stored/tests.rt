@@ -1,4 +1,4 @@
-//! Stored hashes with the passwords that fit them, and what a field of a password file stands for.
+//! Stored hashes with the passwords that match them, and the kinds of field in a password file.
 
 use super::*;
 use crate::hash::tests::counts;
@@ -9,7 +9,7 @@ const SCRYPT: &str = "$7$2/..../....$rNxJWVHNv/mCNcgE/f6/L4zO6Fos5c2uTzhyzoisI62
 
 #[test]
 fn passwords_that_fit(rt: HostRuntime) {
-    // A stored hash, its salt, a password, whether it fits, and what the comparison counts.
+    // A stored hash, its salt, a password, whether they match, and what the comparison counts.
     let rows = [
         (
             MD5CRYPT,

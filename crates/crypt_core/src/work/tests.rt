@@ -1,4 +1,4 @@
-//! Bounds as the formats state them, and hashes that stay within theirs.
+//! Bounds as docs/FORMATS.md states them, and hashes that stay within theirs.
 
 use super::*;
 use crate::hash::hash;
@@ -53,7 +53,7 @@ const BOUNDS: [(&str, usize, [u64; 5]); 16] = [
     ),
 ];
 
-// A setting, the length of a password, and what its hash costs at most.
+// A setting, the length of a password, and the greatest cost of a hash.
 const COSTS: [(&str, usize, u64); 15] = [
     ("$1$xxxxxxxx", 8, 36239),
     ("$1$xxxxxxxx", 1024, 1_927_022),
@@ -74,14 +74,14 @@ const COSTS: [(&str, usize, u64); 15] = [
     ),
     ("$6$rounds=999999999$saltstringsaltst", 8, 89_523_813_984),
     ("$5$rounds=999999999$saltstringsaltst", 8, 57_523_813_984),
-    // The most bytes that are mixed.
+    // The most mixed bytes.
     ("$7$J2..../....", 0, 2_147_486_948),
     ("$7$/...E./....", 512, 5_435_818_660),
     ("$7$/...E./....", 1024, 5_435_819_172),
     ("$7$/...E./....", 0, 5_435_818_148),
 ];
 
-// Settings that are cheap to hash by, and the length of a password.
+// Settings that are cheap to hash with, and the length of a password.
 const HASHED: [(&str, usize); 33] = [
     ("$1$", 0),
     ("$1$ab", 1),

@@ -3,12 +3,12 @@
 use super::*;
 use std::test::Fail;
 
-// The text of a fault, by which tests compare it.
+// Returns the message of an error, which tests compare.
 fn text(fault: ParamFault) -> &'static str {
     fault.text()
 }
 
-// The base-2 logarithm of N, N, r and p.
+// Returns log2 N, N, r and p.
 fn numbers(params: Params) -> (u8, u32, u32, u32) {
     (params.log_n(), params.row_count(), params.r(), params.p())
 }

@@ -1,4 +1,4 @@
--- Each digest is made of bytes, whatever the message.
+-- Every digest consists of bytes, whatever the message.
 use Rattle.std.proofs.Common.{ℕ, zero, suc, ◌<◌, List, [], ◌∷◌, arith}
 use Rattle.std.specs.Prelude.{All, slice_index}
 use Rattle.std.specs.Int.{byte_at, bytes_low_first, bytes_high_first}
@@ -7,7 +7,7 @@ use Rattle.md5.specs.Md5 as M5
 use Rattle.sha2.specs.Sha256 as S256
 use Rattle.sha2.specs.Sha512 as S512
 
--- each number of the list is a byte
+-- AreBytes xs: each number of the list is a byte.
 abbrev pub AreBytes : List ℕ → Type 0
 AreBytes = All (λ b. b < 256)
 

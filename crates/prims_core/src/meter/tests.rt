@@ -1,4 +1,4 @@
-//! What a meter tells of the work done, and a caller that stands on its contracts alone.
+//! The work that a meter has counted, and a caller that relies only on its contracts.
 
 ghost use Rattle.std.specs.Prelude.{◌≡◌};
 ghost use Rattle.prims_core.specs.Meter.{HasRoom};
@@ -17,7 +17,7 @@ const WORK: Work = Work {
     scratch: 7,
 };
 
-// The work of one digest of nothing, by the contracts alone.
+// Returns the work of one digest of nothing, as the contracts alone say.
 fn one_digest(meter: &mut Meter) -> Work
     requires { HasRoom meter.old }
     ensures { result ≡ record no_work { digests = 1 } }
@@ -27,7 +27,7 @@ fn one_digest(meter: &mut Meter) -> Work
     meter.work_since(&before)
 }
 
-// The counts of some work, read without its comparison.
+// Returns the counts of some work, read without its comparison.
 fn counts_of(work: &Work) -> [u64; 5] {
     [
         work.digests,

@@ -1,4 +1,4 @@
-//! What a scratch holds and counts, and callers that stand on its contracts alone.
+//! What scratch memory contains and counts, and callers that rely only on its contracts.
 
 ghost use Rattle.std.specs.Prelude.{◌≡◌, ◌+◌, ◌≤◌, ◌++◌, length, take, drop};
 
@@ -7,7 +7,7 @@ use crate::mix::tests::counts;
 use crate::table::Table;
 use std::test::Fail;
 
-// Writes over the bytes from `start` on.
+// Overwrites the bytes from `start` on.
 fn put_bytes(scratch: &mut ByteScratch, start: usize, bytes: &[u8])
     requires { start + length bytes.now ≤ length scratch.old }
     ensures { scratch.new
@@ -18,7 +18,7 @@ fn put_bytes(scratch: &mut ByteScratch, start: usize, bytes: &[u8])
     all[start..end].copy_from_slice(bytes);
 }
 
-// Writes over all the bytes.
+// Overwrites all the bytes.
 fn fill_bytes(scratch: &mut ByteScratch, bytes: &[u8])
     requires { length bytes.now ≡ length scratch.old }
     ensures { scratch.new ≡ bytes.now }
@@ -26,7 +26,7 @@ fn fill_bytes(scratch: &mut ByteScratch, bytes: &[u8])
     scratch.bytes_mut().copy_from_slice(bytes);
 }
 
-// Writes over the words from `start` on.
+// Overwrites the words from `start` on.
 fn put_words(scratch: &mut WordScratch, start: usize, words: &[u32])
     requires { start + length words.now ≤ length scratch.old }
     ensures { scratch.new
@@ -37,7 +37,7 @@ fn put_words(scratch: &mut WordScratch, start: usize, words: &[u32])
     all[start..end].copy_from_slice(words);
 }
 
-// Writes the first half of the words over the second.
+// Overwrites the second half of the words with the first.
 fn repeat_half(scratch: &mut WordScratch, half: usize)
     requires { length scratch.old ≡ half + half }
     ensures { scratch.new ≡ take half scratch.old ++ take half scratch.old }
@@ -92,8 +92,8 @@ fn writes_words(rt: HostRuntime) -> Result<(), Fail> {
     Ok(())
 }
 
-// With one growth refused, by `rt try --test --fail-alloc N`, that growth isn't counted and the others are. With
-// ample memory all three are.
+// If `rt try --test --fail-alloc N` makes one allocation fail, the meter counts only the others. With ample memory it
+// counts all three.
 #[test]
 fn what_a_refused_growth_leaves(rt: HostRuntime) {
     let mut meter = Meter::new();
