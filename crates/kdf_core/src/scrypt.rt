@@ -1,8 +1,8 @@
 //! scrypt (RFC 7914), over PBKDF2 and block mixing.
 //!
-//! All memory is got before any work: one table, which serves every part in turn, the parts as
-//! bytes, and two halves of words, between which a part goes to and fro while it is mixed with the rows.
-//! While a part is under ROMix its blocks stand diagonal by diagonal, as the mixing takes them.
+//! All memory is allocated before any work: one table, which serves every part in turn, the parts as
+//! bytes, and two halves of words. A part goes to and fro between the halves while it is mixed with the
+//! rows. During ROMix its blocks stand diagonal by diagonal, as the mixing takes them.
 
 ghost use Rattle.std.specs.Prelude.{◌≡◌, ℕ, ◌+◌, ◌-◌, ◌*◌, ◌/◌, ◌^◌, ◌%◌, ◌<◌, ◌≤◌, List, length, OnOk, OnErr};
 ghost use Rattle.std.specs.Fn.{iterate};
@@ -36,14 +36,18 @@ const BLOCK_WORDS: usize = UNIT_WORDS / 2;
 
 /// Fills `out` with bytes derived from a password and a salt (RFC 7914, section 6).
 ///
-/// `out` has at most `32 * (2^32 - 1)` bytes, and each count of the meter is at most 2^120. Three
-/// growths come before all work, in this order: the table of `128 * N * r` bytes, the parts of
-/// `128 * r * p` bytes, and the halves of `256 * r` bytes. Where one is refused the answer is `AllocError`, `out` is as it
-/// was, and the meter has the growths before that one and nothing else.
+/// Preconditions: `out` has at most `32 * (2^32 - 1)` bytes, and each count of the meter is at most 2^120.
 ///
-/// Otherwise the meter rises by these three, by `2 * N * p` mixings, and with q blocks of 32 bytes in
-/// `out`, a password of L bytes and a salt of s bytes by `8rp + 2q` digests of
-/// `4rp(164 + s) + q(164 + 128rp)` bytes; where L is above 64, by one more of L bytes.
+/// Three allocations come before all work, in this order: the table of `128 * N * r` bytes, the parts of
+/// `128 * r * p` bytes, and the halves of `256 * r` bytes. The meter rises by these three and by
+/// `2 * N * p` mixings. With q blocks of 32 bytes in `out`, a password of L bytes and a salt of s bytes it
+/// rises by `8rp + 2q` digests of `4rp(164 + s) + q(164 + 128rp)` bytes; if L is above 64, by one more
+/// digest of L bytes.
+///
+/// # Errors
+///
+/// [`AllocError`] if an allocation is refused. Then `out` is as it was, and the meter has the allocations
+/// before that one and nothing else.
 pub fn scrypt(
     alloc: Global,
     password: &[u8],
@@ -83,7 +87,7 @@ pub fn scrypt(
     Ok(())
 }
 
-// Each of the parts under ROMix, one after another in the same memory.
+// Replaces each of the parts by its ROMix, one after another in the same memory.
 fn mix_parts(
     parts: &mut [u8],
     count: usize,
@@ -112,7 +116,7 @@ fn mix_parts(
     }
 }
 
-// A part under ROMix.
+// Replaces a part by its ROMix.
 fn mix_part(part: &mut [u8], rows: usize, table: &mut Table, halves: &mut [u32], meter: &mut Meter)
     requires power { (k : ℕ) × IsPower rows k }
     requires some_block { (r : ℕ) × (1 ≤ r) × (length halves.old ≡ 2 * part_words r) }
@@ -133,8 +137,8 @@ fn mix_part(part: &mut [u8], rows: usize, table: &mut Table, halves: &mut [u32],
     store_words(x, part);
 }
 
-// Keeps B after 0, 1, .. N - 1 mixings as the rows, each made of the one before it where it stands, and
-// leaves it in `x` after N.
+// Writes B after 0, 1, .. N - 1 mixings to the rows, each made in place from the one before it, and B after N
+// mixings to `x`.
 fn fill_table(table: &mut Table, rows: usize, x: &mut [u32], meter: &mut Meter)
     requires power { (k : ℕ) × IsPower rows k }
     requires some_block { (r : ℕ) × (1 ≤ r) × (length x.old ≡ part_words r) }
@@ -152,7 +156,7 @@ fn fill_table(table: &mut Table, rows: usize, x: &mut [u32], meter: &mut Meter)
     mix_diagonals(table.row(rows - 1), x, meter);
 }
 
-// N times F. Step by step it goes from `x` to `y` and back, so that no block is copied.
+// Applies F to `x` N times. Step by step it goes from `x` to `y` and back, so that no block is copied.
 fn mix_with_rows(table: &Table, rows: usize, x: &mut [u32], y: &mut [u32], meter: &mut Meter)
     requires power { (k : ℕ) × IsPower rows k }
     requires halves { (r : ℕ) × AreHalves r x.old y.old }
@@ -168,7 +172,7 @@ fn mix_with_rows(table: &Table, rows: usize, x: &mut [u32], y: &mut [u32], meter
     }
 }
 
-// F of `x`, in `y`.
+// Writes F of `x` to `y`.
 fn mix_back(table: &Table, rows: usize, x: &[u32], y: &mut [u32], meter: &mut Meter)
     requires power { (k : ℕ) × IsPower rows k }
     requires halves { (r : ℕ) × AreHalves r x.now y.old }
@@ -182,7 +186,7 @@ fn mix_back(table: &Table, rows: usize, x: &[u32], y: &mut [u32], meter: &mut Me
     mix_xor_diagonals(x, row, y, meter);
 }
 
-// The number of the row that F takes for X: Integerify (X) mod N. As N is a power of two of at most 2^32, the first
+// Returns the number of the row that F takes for X: Integerify (X) mod N. As N is a power of two of at most 2^32, the first
 // word of the last block decides, which is the first of its diagonals too.
 fn row_number(words: &[u32], rows: usize) -> usize
     requires power { (k : ℕ) × IsPower rows k }

@@ -4,18 +4,18 @@ use Rattle.std.specs.List.{concat, range_with_len}
 use Rattle.prims_core.specs.Words.{xor_lists}
 use Rattle.prims_core.specs.Salsa.{salsa20_8}
 
--- B[i], the sixteen words of block i of a list of words
+-- block_at i words: B[i], the sixteen words of block i of a list of words.
 abbrev pub block_at : ℕ → List ℕ → List ℕ
 block_at i words = take 16 (drop (16 * i) words)
 
--- X after i of the 2r blocks are mixed: it begins as the last block, and each block B[i] makes it Salsa20/8 of X xor B[i]
--- (steps 1 and 2)
+-- x_after r words i: X after i of the 2r blocks are mixed. It begins as the last block, and each block B[i] makes it
+-- Salsa20/8 of X xor B[i] (steps 1 and 2).
 unfoldable pub x_after : ℕ → List ℕ → ℕ → List ℕ
 x_after r words zero = block_at (2 * r - 1) words
 x_after r words (suc i) = salsa20_8 (xor_lists (x_after r words i) (block_at i words))
 
--- r results at even places, Y[0], Y[2], .., and then r at odd places, Y[1], Y[3], .. (step 3). Y[i] is X after block i is
--- mixed too
+-- block_mix words: r results at even places, Y[0], Y[2], .., and then r at odd places, Y[1], Y[3], .. (step 3). Y[i] is X
+-- after block i is mixed too.
 unfoldable pub block_mix : List ℕ → List ℕ
 block_mix words =
     let r = length words / 32 in

@@ -4,19 +4,20 @@ use Rattle.std.specs.Borrow.{Lends, MutBor, Fml, Array, u8, u32}
 use Rattle.prims_core.specs.contracts.scratch.ByteScratch as bytes
 use Rattle.prims_core.specs.contracts.scratch.WordScratch as words
 
--- so many rows of so many words, which lie in a list one behind another
+-- rows_of rows row_words list: so many rows of so many words, which lie in a list one after another.
 unfoldable pub rows_of : ℕ → ℕ → List ℕ → List (List ℕ)
 rows_of zero row_words list = []
 rows_of (suc rows) row_words list = take row_words list ∷ rows_of rows row_words (drop row_words list)
 
--- a list with new items in place of the old ones, as many as there were: a slice keeps its length
+-- written_over old new: a list with new items in place of the old ones, as many as there were, since a slice keeps its
+-- length.
 abbrev pub written_over : List ℕ → List ℕ → List ℕ
 written_over old new = take (length old) (new ++ drop (length new) old)
 
--- r lends all of the scratch: what is last written through r is what it then holds
+-- LendsBytes scratch r: r lends all of the scratch, which then holds what was last written through r.
 abbrev pub LendsBytes : MutBor (List ℕ) → MutBor (List ℕ) → Fml
 LendsBytes scratch r = Lends bytes.the_row (Array u8 0) scratch r (written_over scratch.now)
 
--- the same of words
+-- LendsWords scratch r: the same of words.
 abbrev pub LendsWords : MutBor (List ℕ) → MutBor (List ℕ) → Fml
 LendsWords scratch r = Lends words.the_row (Array u32 0) scratch r (written_over scratch.now)

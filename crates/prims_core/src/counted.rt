@@ -20,8 +20,8 @@ pub use counted_sha512::CountedSha512;
 
 /// A digest function whose work a meter counts.
 ///
-/// What a running digest holds after its pieces is the message that they make, joined in order, so
-/// that the digest is the same however the message is cut.
+/// A running digest holds the message that its pieces make, joined in order, so the digest is the same
+/// however the message is cut.
 pub trait Counted: Drop {
     // The running digest holds this message.
     ghost holds: { Self → List ℕ → Type 0 };
@@ -34,30 +34,31 @@ pub trait Counted: Drop {
     /// The length of a digest in bytes, from 1 to 64.
     const LEN: usize;
 
-    /// A running digest of the empty message.
+    /// Returns a running digest of the empty message.
     fn begin() -> Self
         ensures { holds result [] };
 
     /// Adds `piece` to the message, and its length to the meter's bytes.
     ///
-    /// The meter has room for it.
+    /// Precondition: the meter has room for it.
     fn feed(&mut self, meter: &mut Meter, piece: &[u8])
         requires { meter.old.bytes + length piece.now < 2 ^ 128 }
         ensures message { (m : List ℕ) → holds self.old m → holds self.new (m ++ piece.now) }
         ensures count { meter.new ≡ record meter.old { bytes = meter.old.bytes + length piece.now } };
 
-    /// The digest of the message, and one more in the meter's digests.
+    /// Returns the digest of the message, and adds one to the meter's digests.
     ///
-    /// The meter has room for it.
+    /// Precondition: the meter has room for it.
     fn finish(self, meter: &mut Meter) -> ArrayVec<u8, 64>
         requires { meter.old.digests + 1 < 2 ^ 128 }
         ensures digest { (m : List ℕ) → holds self m → result.items ≡ digest m }
         ensures length { length result.items ≡ LEN }
         ensures count { meter.new ≡ record meter.old { digests = meter.old.digests + 1 } };
 
-    /// Writes the digest of the message to `out`, which has its length, and adds one to the meter's digests.
+    /// Writes the digest of the message to `out`, and adds one to the meter's digests.
     ///
-    /// The meter has room for it. An implementation may leave this to [`Counted::finish`].
+    /// Preconditions: `out` has the length of a digest, and the meter has room for it. A type that doesn't
+    /// implement this has it by [`Counted::finish`].
     fn finish_into(self, meter: &mut Meter, out: &mut [u8])
     where
         Self: Sized,

@@ -41,7 +41,7 @@ impl Model for Diagonals {
 }
 
 impl Diagonals {
-    /// The block of these sixteen words.
+    /// Returns the block of these sixteen words, which stand row by row.
     #[inline(always)]
     pub(crate) fn of(words: &[u32]) -> Diagonals
         requires { length words.now ≡ 16 }
@@ -56,7 +56,7 @@ impl Diagonals {
         }
     }
 
-    /// Fills `words`, which are sixteen, with the block's.
+    /// Fills `words`, which are sixteen, with the block's, row by row.
     #[inline(always)]
     pub(crate) fn store(&self, words: &mut [u32])
         requires { length words.old ≡ 16 }
@@ -71,7 +71,7 @@ impl Diagonals {
         block.copy_to_slice(words);
     }
 
-    /// The block that stands diagonal by diagonal in these sixteen words.
+    /// Returns the block of these sixteen words, which stand diagonal by diagonal.
     #[inline(always)]
     pub(crate) fn of_diagonals(words: &[u32]) -> Diagonals
         requires { length words.now ≡ 16 }
@@ -101,7 +101,7 @@ impl Diagonals {
         block.copy_to_slice(words);
     }
 
-    /// The exclusive or of two blocks.
+    /// Returns the exclusive or of two blocks.
     #[inline(always)]
     pub(crate) fn xor(&self, other: &Diagonals) -> Diagonals
         ensures { result ≡ xor_lists self.now other.now }
@@ -114,7 +114,7 @@ impl Diagonals {
         }
     }
 
-    /// The sums of the words of two blocks.
+    /// Returns the sums of the words of two blocks.
     #[inline(always)]
     pub(crate) fn sum(&self, other: &Diagonals) -> Diagonals
         ensures { result ≡ zip2 sum_of_words self.now other.now }

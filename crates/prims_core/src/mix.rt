@@ -1,11 +1,11 @@
-//! scryptBlockMix (RFC 7914, section 4): blocks of 64 bytes, mixed one after the other.
+//! scryptBlockMix (RFC 7914, section 4), which mixes blocks of 64 bytes one after another.
 //!
 //! A block is its sixteen words. Each is mixed with the result before it, the first with the last
 //! block, and the results at even places come before those at odd places. ROMix (section 5) mixes the
 //! exclusive or of blocks and a row of its table, which has a call of its own.
 //!
-//! For the whole of ROMix blocks stand diagonal by diagonal, as Salsa20/8 in lanes takes them, so that no
-//! mixing has to rearrange any: `to_diagonals` and `from_diagonals` convert them before and after it.
+//! During the whole of ROMix blocks stand diagonal by diagonal, as Salsa20/8 in lanes takes them, so that
+//! no mixing has to rearrange any. [`to_diagonals`] and [`from_diagonals`] convert them before and after it.
 
 ghost use Rattle.std.specs.Prelude.{◌≡◌, ℕ, ◌+◌, ◌*◌, ◌%◌, ◌^◌, ◌<◌, ◌≤◌, List, length};
 ghost use Rattle.prims_core.specs.BlockMix.{block_at, block_mix};
@@ -25,7 +25,7 @@ const BLOCK_WORDS: usize = 16;
 
 /// Mixes the 2r blocks of `src` into `dst`, as scryptBlockMix does (RFC 7914, section 4), and counts one mixing.
 ///
-/// Both have the 32r words of 2r blocks, for one r of at least 1, and the meter has room.
+/// Preconditions: both have the 32r words of 2r blocks, for one r of at least 1, and the meter has room.
 pub fn block_mix(src: &[u32], dst: &mut [u32], meter: &mut Meter)
     requires blocks { (r : ℕ) × (1 ≤ r) × (length src.now ≡ 32 * r) × (length dst.old ≡ 32 * r) }
     requires room { meter.old.mixes + 1 < 2 ^ 128 }
@@ -37,9 +37,10 @@ pub fn block_mix(src: &[u32], dst: &mut [u32], meter: &mut Meter)
     meter.count_mix();
 }
 
-/// Mixes the 2r blocks of `src` into `dst`, where both stand diagonal by diagonal, and counts one mixing.
+/// Mixes the 2r blocks of `src` into `dst`, where both stand diagonal by diagonal (RFC 7914, section 4), and counts
+/// one mixing.
 ///
-/// Both have the 32r words of 2r blocks, for one r of at least 1, and the meter has room.
+/// Preconditions: both have the 32r words of 2r blocks, for one r of at least 1, and the meter has room.
 pub fn mix_diagonals(src: &[u32], dst: &mut [u32], meter: &mut Meter)
     requires blocks { (r : ℕ) × (1 ≤ r) × (length src.now ≡ 32 * r) × (length dst.old ≡ 32 * r) }
     requires room { meter.old.mixes + 1 < 2 ^ 128 }
@@ -54,10 +55,10 @@ pub fn mix_diagonals(src: &[u32], dst: &mut [u32], meter: &mut Meter)
     meter.count_mix();
 }
 
-/// Mixes the exclusive or of the 2r blocks of `src` and of `row` into `dst`, where all stand diagonal by
-/// diagonal, and counts one mixing.
+/// Mixes the exclusive or of the 2r blocks of `src` and of `row` into `dst`, where all stand diagonal by diagonal, as
+/// the second loop of scryptROMix does (RFC 7914, section 5), and counts one mixing.
 ///
-/// All three have the 32r words of 2r blocks, for one r of at least 1, and the meter has room.
+/// Preconditions: all three have the 32r words of 2r blocks, for one r of at least 1, and the meter has room.
 pub fn mix_xor_diagonals(src: &[u32], row: &[u32], dst: &mut [u32], meter: &mut Meter)
     requires blocks { (r : ℕ) × (1 ≤ r) × (length src.now ≡ 32 * r) × (length row.now ≡ 32 * r)
         × (length dst.old ≡ 32 * r) }
@@ -75,7 +76,7 @@ pub fn mix_xor_diagonals(src: &[u32], row: &[u32], dst: &mut [u32], meter: &mut 
 
 /// Rearranges blocks that stand row by row so that they stand diagonal by diagonal.
 ///
-/// They are whole blocks, of 16 words each.
+/// Precondition: they are whole blocks, of 16 words each.
 pub fn to_diagonals(words: &mut [u32])
     requires whole { length words.old % 16 ≡ 0 }
     ensures { in_rows words.new ≡ words.old }
@@ -89,7 +90,7 @@ pub fn to_diagonals(words: &mut [u32])
 
 /// Rearranges blocks that stand diagonal by diagonal so that they stand row by row.
 ///
-/// They are whole blocks, of 16 words each.
+/// Precondition: they are whole blocks, of 16 words each.
 pub fn from_diagonals(words: &mut [u32])
     requires whole { length words.old % 16 ≡ 0 }
     ensures { words.new ≡ in_rows words.old }

@@ -15,8 +15,8 @@ use std::simd::u32x4;
 #[cfg(test)]
 mod tests;
 
-/// Salsa20/8 (RFC 7914, section 3) of the sixteen words of a block, in place: each word is added to its word after eight
-/// rounds.
+/// Replaces the sixteen words of a block by their Salsa20/8 (RFC 7914, section 3): each word is added to its word after
+/// eight rounds.
 pub fn salsa8(block: &mut [u32; 16])
     ensures { block.new ≡ salsa20_8 block.old }
 {
@@ -24,7 +24,7 @@ pub fn salsa8(block: &mut [u32; 16])
     mixed.store(block);
 }
 
-/// Salsa20/8 of a block in lanes.
+/// Returns Salsa20/8 of a block in lanes.
 #[inline(always)]
 pub(crate) fn salsa8_of(block: &Diagonals) -> Diagonals
     ensures { result ≡ salsa20_8 block.now }

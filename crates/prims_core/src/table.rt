@@ -37,10 +37,13 @@ impl Model for Table {
 }
 
 impl Table {
-    /// So many rows of so many zeros, whose bytes, four a word, the meter counts as table.
+    /// Returns `rows` rows of `row_words` zeros each, and counts their bytes, four a word, as table.
     ///
-    /// They are at most 2^30 bytes, and the meter has room for them. `AllocError` is answered where memory is
-    /// refused, and nothing is counted then.
+    /// Preconditions: they are at most 2^30 bytes, and the meter has room for them.
+    ///
+    /// # Errors
+    ///
+    /// [`AllocError`] if memory is refused. Then nothing is counted.
     pub fn new(
         alloc: Global,
         rows: usize,
@@ -64,7 +67,9 @@ impl Table {
         })
     }
 
-    /// Row `i`, which is below the number of rows.
+    /// Returns row `i`.
+    ///
+    /// Precondition: `i` is below the number of rows.
     #[tactic(auto, using(crate::proofs::RowFacts::row_end))]
     pub fn row(&self, i: usize) -> &[u32]
         requires { i < length self.now }
@@ -75,7 +80,9 @@ impl Table {
         &self.words[start..start + self.row_words]
     }
 
-    /// Makes row `i`, which is below the number of rows, a copy of `row`, which has the same length. The other rows stay.
+    /// Makes row `i` a copy of `row`. The other rows stay.
+    ///
+    /// Preconditions: `i` is below the number of rows, and `row` has the length of a row.
     #[tactic(auto, using(crate::proofs::RowFacts::row_end))]
     pub fn set_row(&mut self, i: usize, row: &[u32])
         requires inside { i < length self.old }
@@ -92,7 +99,8 @@ impl Table {
     /// Makes row `i + 1` what scryptBlockMix (RFC 7914, section 4) makes of row `i`, where both stand diagonal by
     /// diagonal, and counts that mixing. The other rows stay.
     ///
-    /// There is a row `i + 1`. A row has the 32r words of 2r blocks, for one r of at least 1, and the meter has room.
+    /// Preconditions: there is a row `i + 1`, a row has the 32r words of 2r blocks, for one r of at least 1, and the meter
+    /// has room.
     #[tactic(auto, using(crate::proofs::RowFacts::next_row_end))]
     pub fn mix_row(&mut self, i: usize, meter: &mut Meter)
         requires inside { i + 1 < length self.old }

@@ -2,11 +2,12 @@
 -- row and goes on one to the right and one down, and from the last row to the first.
 use Rattle.std.specs.Prelude.{◌≡◌, ℕ, List, [], ◌∷◌, length, slice_index}
 
--- each of the four has four words
+-- HaveFourWords a b c d: each of the four has four words.
 abbrev pub HaveFourWords : List ℕ → List ℕ → List ℕ → List ℕ → Type 0
 HaveFourWords a b c d = (length a ≡ 4) × (length b ≡ 4) × (length c ≡ 4) × (length d ≡ 4)
 
--- the words, row by row, of the matrix with the diagonals 0 5 10 15, 4 9 14 3, 8 13 2 7 and 12 1 6 11
+-- words_on a b c d: the words, row by row, of the matrix with the diagonals 0 5 10 15, 4 9 14 3, 8 13 2 7 and
+-- 12 1 6 11.
 abbrev pub words_on : List ℕ → List ℕ → List ℕ → List ℕ → List ℕ
 words_on a b c d =
     slice_index a 0 ∷ slice_index d 1 ∷ slice_index c 2 ∷ slice_index b 3

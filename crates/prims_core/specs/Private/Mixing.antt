@@ -5,18 +5,18 @@ use Rattle.prims_core.specs.Diagonals.{block_in_rows}
 use Rattle.prims_core.specs.Salsa.{salsa20_8}
 use Rattle.prims_core.specs.Words.{xor_lists}
 
--- The next X, of the X before it and a block: Salsa20/8 of their exclusive or.
+-- mixed_block x block: the next X, of the X before it and a block: Salsa20/8 of their exclusive or.
 abbrev pub mixed_block : List ℕ → List ℕ → List ℕ
 mixed_block x block = salsa20_8 (xor_lists x block)
 
--- Y[i] of the 2r blocks in these words: X after block i is mixed.
+-- y_at r words i: Y[i] of the 2r blocks in these words, which is X after block i is mixed.
 abbrev pub y_at : ℕ → List ℕ → ℕ → List ℕ
 y_at r words i = x_after r words (i + 1)
 
--- Where result i of 2r stands: those at even places before those at odd places.
+-- place_of r i: where result i of 2r stands, those at even places before those at odd places.
 abbrev pub place_of : ℕ → ℕ → ℕ
 place_of r i = i / 2 + i % 2 * r
 
--- The first n of 2r results, of which result i is y i, stand in these words by their diagonals.
+-- ArePlaced y r n words: the first n of 2r results, of which result i is y i, stand in these words by their diagonals.
 abbrev pub ArePlaced : (ℕ → List ℕ) → ℕ → ℕ → List ℕ → Type 0
 ArePlaced y r n words = (i : ℕ) → i < n → block_in_rows (block_at (place_of r i) words) ≡ y i
