@@ -55,7 +55,7 @@ extern "C" {
 #endif
 
 /* The version: 10000 * major + 100 * minor + patch. */
-#define MKPASSWD_VERSION 10000
+#define MKPASSWD_VERSION 10100
 
 /* The size of a buffer for any hash, setting or message, with its byte 0. */
 #define MKPASSWD_TEXT_SIZE 145
