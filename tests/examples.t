@@ -145,13 +145,14 @@ subtest 'Python' => sub {
     my ($service) = blocks_of(slurp("$root/docs/SECURITY.md"), 'python');
     my $tried = <<'END';
 fields = {"ann": "$1$xxxxxxxx$UYCIxa628.9qXjpQCjM4a.", "bob": "!$1$xxxxxxxx$UYCIxa628.9qXjpQCjM4a.", "eve": ""}
+fields.update(kim="$y$j9T$x$x", max="$6$rounds=999999999$ab$x")
 verify, asked = mkpasswd.verify, []
 mkpasswd.verify = lambda password, stored: [asked.append(stored), verify(password, stored)][1]
-print([login(name, "password", fields) for name in ("ann", "bob", "eve", "zoe")], login("ann", "", fields))
+print([name for name in ("ann", "bob", "eve", "kim", "max", "zoe") if login(name, "password", fields)], login("ann", "", fields))
 print([stored == NOBODY for stored in asked], NOBODY.startswith("$6$rounds=656000$"))
 END
-    is_run($python->($service, "\n", $tried), 0, "[True, False, False, False] False\n[False, True, True, True, False] True\n", '',
-        'SECURITY.md: a name that is unknown, locked or without a password costs a hash');
+    is_run($python->($service, "\n", $tried), 0, "['ann'] False\n[False, True, True, True, True, True, False] True\n", '',
+        'SECURITY.md: a name that is unknown, or whose field no password matches, costs a hash');
 };
 
 my $known = '$1$xxxxxxxx$UYCIxa628.9qXjpQCjM4a.';
