@@ -44,6 +44,9 @@ for (
 
 subtest 'mkpasswd-parallel' => sub {
     my $own_help = run("$root/bin/mkpasswd-parallel", '--help')->{out};
+    ok(!(grep { length > 80 } split /\n/, $own_help), 'its help fits a terminal of 80 columns');
+    my @long = $own_help =~ /^  (\S+)[^\n]*\n {20}[^\n]*\n {20}/mg;
+    is("@long", '', 'each option has one or two lines');
     my ($own_table, $own_wanted) = wanted('mkpasswd-parallel', $own_help);
     compare('help of mkpasswd-parallel', $own_table, options_of('help', $own_help));
     compare('mkpasswd-parallel.1', $own_wanted, options_of('manual', slurp("$root/man/mkpasswd-parallel.1")));
