@@ -50,6 +50,10 @@ subtest 'mkpasswd-parallel' => sub {
     my ($own_table, $own_wanted) = wanted('mkpasswd-parallel', $own_help);
     compare('help of mkpasswd-parallel', $own_table, options_of('help', $own_help));
     compare('mkpasswd-parallel.1', $own_wanted, options_of('manual', slurp("$root/man/mkpasswd-parallel.1")));
+    my %offered = (%$wanted, %$own_wanted);
+    delete @offered{ '-s', '--stdin' };
+    my %file = (bash => 'mkpasswd-parallel.bash', zsh => '_mkpasswd-parallel', fish => 'mkpasswd-parallel.fish');
+    compare($file{$_}, \%offered, options_of($_, slurp("$root/completions/$file{$_}"))) for sort keys %file;
 };
 
 subtest 'refusals' => sub {

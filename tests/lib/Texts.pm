@@ -45,15 +45,15 @@ my %options_of = (
     zsh => sub {
         my ($arguments) = $_[0] =~ /^(_arguments.*)/ms;
         return map {
-            my $spec = tr/'"//dr =~ s/^\s*(?:\([^()]*\))?//r;
+            my $spec = tr/'"//dr =~ s/^\s*(?:\([^()]*\)|\*)?//r;
             $spec =~ /^(\{[^}]*\}|-[^\[:]*)\[[^\]]*\](?::(\w+))?/ ? [$2, $1] : ();
         } split /\n/, $arguments;
     },
     fish => sub {
         map {
             my $line = s/'[^']*'|"[^"]*"/text/gr;
-            [$line =~ / -x\b/ ? '=' : '', join ' ', (map { "-$_" } $line =~ / -s (\w)/g), map { "--$_" } $line =~ / -l ([\w-]+)/g];
-        } $_[0] =~ /^complete -c mkpasswd( .*)/mg;
+            [$line =~ / -[xr]\b/ ? '=' : '', join ' ', (map { "-$_" } $line =~ / -s (\w)/g), map { "--$_" } $line =~ / -l ([\w-]+)/g];
+        } $_[0] =~ /^complete -c mkpasswd(?:-parallel)?( .*)/mg;
     },
 );
 
