@@ -471,7 +471,7 @@ subtest 'examples' => sub {
         is_run(run($login, $_, 'password'), 0, '', '', "README.md in $language: $_") for "!$fixed", $empty, '$6$rounds=999999999$ab$x';
     }
     my ($service) = blocks_of(slurp("$root/docs/SECURITY.md"), 'c');
-    my ($include, $login) = ($service // '') =~ /\A((?:#include .*\n)+)(.*)\z/s;
+    my ($include, $login) = ($service // '') =~ /\A((?:#include [^\n]*\n)+)(.*)\z/s;
     my ($nobody) = ($login // '') =~ /^int login/m ? $login =~ s/mkpasswd_verify_str\(/checks(/ && '$6$rounds=656000$nobody.has.this.$' . '.' x 86 : '';
     spew("$scratch/service.c", "#include <stdio.h>\n$include" . <<'END' . "$login\n" . <<'END');
 static int32_t checks(const char *password, const char *stored, uint64_t budget, struct mkpasswd_report *report)

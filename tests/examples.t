@@ -128,6 +128,9 @@ subtest 'commands of README.md and others' => sub {
     spew("$scratch/edit/crates/run_core/$file", $source);
     run({ dir => "$scratch/edit" }, 'sh', '-c', $edit // '');
     is(slurp("$scratch/edit/crates/run_core/$file"), $source =~ s/\Q$old\E/$new/r, 'an edit that the gate refuses');
+    my ($before) = $source =~ /\A(.*\n)fn is_over_budget\(/s;
+    my ($shown, $line) = $readme =~ /note: (src\/\w+\.rt):(\d+):1: it is not proved/;
+    is_deeply([$shown, $line], [$file, 1 + (() = ($before // '') =~ /\n/g)], 'what is refused is where README.md says');
 };
 
 subtest 'Python' => sub {
