@@ -53,7 +53,7 @@ $lines{mkpasswd} = [
     ['--batch -m md5crypt > sha', ['sha256sums']], ['-- x > lo', ['logins']], ['< logins --ch', ['--check']],
 ];
 $lines{'mkpasswd-parallel'} = [
-    ['-m ', [@methods[0 .. $#methods - 1]]], ['--check -m sha', [qw(sha256crypt sha512crypt)]], ['-mm', ['-mmd5crypt']],
+    ['-m ', [@methods]], ['--check -m sha', [qw(sha256crypt sha512crypt)]], ['-mm', ['-mmd5crypt']],
     ['--method=sc', ['--method=scrypt']], ['-', [@parallel]], ['--', [@long_parallel]], ['--j', ['--jobs']], ['--st', []],
     ['--b', [qw(--batch --block-lines --budget)]], ['--r', [qw(--resume-from --rounds --rehash)]],
     ['--prog', [qw(--progress --program)]], ['--sshlogin east --ss', ['--sshlogin']], ['--jobs 2 --che', ['--check']],
@@ -65,13 +65,14 @@ $lines{'mkpasswd-parallel'} = [
     ['--batch < logins > sha', ['sha256sums']], ['< logins --ch', ['--check']],
 ];
 my @commands = sort keys %lines;
-mkdir "$scratch/$_" for qw(bin home folder share share/bash-completion share/bash-completion/completions);
+mkdir "$scratch/$_" for qw(bin home folder share share/bash-completion share/bash-completion/completions fish);
 spew("$scratch/folder/$_", '') for qw(logins sha256sums -file);
 symlink program(), "$scratch/bin/mkpasswd";
 symlink "$root/bin/mkpasswd-parallel", "$scratch/bin/mkpasswd-parallel";
 for my $command (@commands) {
     spew("$scratch/lines of $command", join '', map { "$command $_->[0]\n" } @{ $lines{$command} });
-    symlink "$root/completions/$command.bash", "$scratch/share/bash-completion/completions/$command";
+    symlink "$root/completions/mkpasswd.bash", "$scratch/share/bash-completion/completions/$command";
+    symlink "$root/completions/mkpasswd.fish", "$scratch/fish/$command.fish";
 }
 
 # What a shell runs. It prints the number of a line and a word offered there, for each such word, and "end" at last.
@@ -84,11 +85,10 @@ if [ -n "$package" ]; then
     "${loader%% *}" "$command" '' "$command"
 else
     set -u
-    . "$folder/$command.bash"
+    . "$folder/mkpasswd.bash"
 fi
-function=_${command//-/_}
 spec=$(complete -p "$command")
-[ "$spec" = "complete -F $function $command" ] || echo "$command is completed by: $spec" >&2
+[ "$spec" = "complete -F _mkpasswd $command" ] || echo "$command is completed by: $spec" >&2
 compopt() { asked="$*"; }
 number=0
 while IFS= read -r COMP_LINE; do
@@ -104,7 +104,7 @@ while IFS= read -r COMP_LINE; do
     whole=${COMP_LINE##* }
     asked=
     COMPREPLY=(left over)
-    "$function" "$command" "$word" "${COMP_WORDS[COMP_CWORD - 1]}"
+    _mkpasswd "$command" "$word" "${COMP_WORDS[COMP_CWORD - 1]}"
     if [ "${#COMPREPLY[@]}" = 0 ] && [ "$asked" = '-o default' ]; then
         mapfile -t COMPREPLY < <(compgen -f -- "$word")
     fi
@@ -114,7 +114,7 @@ done < "$input"
 echo end
 BASH
 spew("$scratch/run.fish", <<'FISH');
-set fish_complete_path $folder $fish_complete_path
+set fish_complete_path $fish $fish_complete_path
 set number 0
 for line in (cat $input)
     for word in (complete -C $line | string replace -r '\t.*' '')
@@ -176,7 +176,7 @@ sub try_command {
     my @lines = @{ $lines{$command} };
     my %env = (
         (map { $_ => undef } qw(BASH_ENV ENV FPATH ZDOTDIR XDG_CONFIG_HOME XDG_DATA_HOME XDG_CACHE_HOME BASH_COMPLETION_USER_DIR)),
-        HOME => "$scratch/home", TERM => 'dumb', PATH => "$scratch/bin:$ENV{PATH}", folder => "$root/completions",
+        HOME => "$scratch/home", TERM => 'dumb', PATH => "$scratch/bin:$ENV{PATH}", folder => "$root/completions", fish => "$scratch/fish",
         command => $command, input => "$scratch/lines of $command", XDG_DATA_DIRS => "$scratch/share:/usr/local/share:/usr/share", %$variables,
     );
     my $run = run({ dir => "$scratch/folder", env => \%env }, @command);
