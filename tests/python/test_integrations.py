@@ -142,6 +142,16 @@ def test_hasher_of_django(monkeypatch):
         hasher.verify("password", "mkpasswd" + COSTLY)
 
 
+def test_subclass_for_django():
+    hashers_of_django()
+    names, section = {}, next(section for section in SECTIONS if section.startswith("Django\n"))
+    exec(re.findall("```python\n(.*?)```", section, re.S)[1], names)
+    hasher = names["SitePasswordHasher"]()
+    encoded = hasher.encode("password", hasher.salt())
+    assert encoded.startswith("mkpasswd$6$rounds=656000$") and len(encoded) <= 128
+    assert hasher.verify("password", encoded) and not hasher.must_update(encoded)
+
+
 FILTERS = {
     "new": "{{ 'pässword' | mkpasswd_hash('sha512crypt', 6000) }}",
     "kept": "{{ vaulted | mkpasswd_hash('md5crypt', current=stored) }}",
