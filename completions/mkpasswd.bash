@@ -1,8 +1,9 @@
-# Completes the words of mkpasswd in bash, with the package bash-completion and without it.
+# Completes the words of mkpasswd and mkpasswd-parallel in bash, with the package bash-completion and without it.
 # shellcheck shell=bash
 #
-# bash-completion finds it as share/bash-completion/completions/mkpasswd; without that package ~/.bashrc has to source
-# it. A password, a salt or a number is never completed, so file names are offered behind "<" and ">" alone.
+# bash-completion finds it as share/bash-completion/completions/mkpasswd and mkpasswd-parallel; without that package
+# ~/.bashrc has to source it. A password, a salt, a number or a machine is never completed, so file names are offered for
+# --program, and behind "<" and ">", alone.
 
 _mkpasswd() {
     # The program also takes md5, sha-256 and sha-512. They are other names of these, so a list has no need of them.
@@ -11,6 +12,11 @@ _mkpasswd() {
     local modes=(-s --stdin --batch --check --rehash --budget)
     local cur=$2 at=$COMP_CWORD option word offered=() glued=''
     COMPREPLY=()
+    # mkpasswd-parallel has options of its own, and takes lines alone.
+    if [[ $1 == *-parallel ]]; then
+        options+=(--jobs --sshlogin --block-lines --resume-from --progress --program)
+        modes=(--batch --check --rehash --budget)
+    fi
 
     # Right behind "=", "<" or ">" readline has that as the last word, and an empty one stands behind it.
     if [[ ${COMP_WORDS[at]} == [=\<\>]* ]]; then
@@ -40,8 +46,11 @@ _mkpasswd() {
     case $option in
         -m | --method) offered=("${methods[@]}") ;;
         -S | --salt | -R | --rounds | --budget) ;;
+        --jobs | --sshlogin | --block-lines | --resume-from) ;;
+        --program) compopt -o default ;;
         *)
             case $cur in
+                --program=*) mapfile -t COMPREPLY < <(compgen -f -P --program= -- "${cur#*=}") ;;
                 --method=*) glued=--method= ;;
                 -m?*) glued=-m ;;
                 -*) offered=("${options[@]}" "${modes[@]}") ;;
@@ -54,4 +63,4 @@ _mkpasswd() {
     done
 }
 
-complete -F _mkpasswd mkpasswd
+complete -F _mkpasswd mkpasswd mkpasswd-parallel

@@ -55,7 +55,7 @@ extern "C" {
 #endif
 
 /* The version: 10000 * major + 100 * minor + patch. */
-#define MKPASSWD_VERSION 10000
+#define MKPASSWD_VERSION 10100
 
 /* The size of a buffer for any hash, setting or message, with its byte 0. */
 #define MKPASSWD_TEXT_SIZE 145
@@ -64,8 +64,9 @@ extern "C" {
 #define MKPASSWD_PASSWORD_LIMIT 1024
 
 /* A budget for a login. It admits what mkpasswd_new() makes at cost 0 with any method, for any password, and SHA-crypt
- * with up to 75,000 rounds for any password, up to 1,000,000 rounds for passwords of up to 40 bytes. On one core of
- * 2.5 GHz a hash of this cost takes some 1.3 seconds with sha256crypt, 0.7 with sha512crypt, 0.2 with scrypt. */
+ * with up to 75,000 rounds for any password, sha512crypt with 656,000 rounds for passwords of up to 82 bytes, SHA-crypt
+ * with 1,000,000 rounds for passwords of up to 40 bytes. On one core of 2.5 GHz a hash of this cost takes some 1.3 seconds
+ * with sha256crypt, 0.7 with sha512crypt, 0.2 with scrypt. */
 #define MKPASSWD_BUDGET ((uint64_t)150000000)
 
 /* Methods, numbered as in their prefixes. */

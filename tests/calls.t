@@ -470,6 +470,25 @@ subtest 'examples' => sub {
         is_run(run($login, $fixed, 'password'), 0, "in\n", '', "README.md in $language: the right password");
         is_run(run($login, $_, 'password'), 0, '', '', "README.md in $language: $_") for "!$fixed", $empty, '$6$rounds=999999999$ab$x';
     }
+    my ($service) = blocks_of(slurp("$root/docs/SECURITY.md"), 'c');
+    my ($include, $login) = ($service // '') =~ /\A((?:#include [^\n]*\n)+)(.*)\z/s;
+    my ($nobody) = ($login // '') =~ /^int login/m ? $login =~ s/mkpasswd_verify_str\(/checks(/ && '$6$rounds=656000$nobody.has.this.$' . '.' x 86 : '';
+    spew("$scratch/service.c", "#include <stdio.h>\n$include" . <<'END' . "$login\n" . <<'END');
+static int32_t checks(const char *password, const char *stored, uint64_t budget, struct mkpasswd_report *report)
+{
+    puts(stored);
+    return mkpasswd_verify_str(password, stored, budget, report);
+}
+int login(const char *password, const char *field);
+END
+int main(int argc, char **argv) { return !login(argv[1], argc > 2 ? argv[2] : NULL); }
+END
+    if (my $program = build('SECURITY.md', $cc, '-std=c99', @strict, "$scratch/service.c", @static)) {
+        is_run(run($program, 'password', $fixed), 0, "$fixed\n", '', 'SECURITY.md in c: the right password');
+        is_run(run($program, 'passw0rd', $fixed), 1, "$fixed\n", '', 'SECURITY.md in c: a wrong password');
+        is_run(run($program, 'password', @$_), 1, "$nobody\n", '', "SECURITY.md in c: '@$_' costs a hash")
+            for [], [''], ["!$fixed"], ['*'], ['$y$x'], ['$6$rounds=999999999$ab$x'];
+    }
     needs(python3 => 'python3') or return;
     mkdir "$scratch/broken";
     spew("$scratch/broken/libmkpasswd.so.2", '');

@@ -1,6 +1,6 @@
 #!/usr/bin/env perl
 # Tries the completions in bash, zsh and fish, as somebody meets them who presses Tab: what is offered at the end of a line.
-# The options are those of the program's help, the methods those of its list.
+# The options are those of the help of mkpasswd and of mkpasswd-parallel, the methods those of mkpasswd's list.
 #
 # bash is tried with its function, over the words that readline would make: alone, with "=" taken out of COMP_WORDBREAKS,
 # and with the package bash-completion, which has to find the file by its name. fish prints what it would offer. zsh runs
@@ -12,18 +12,29 @@ use lib "$Bin/lib";
 use Suite;
 use Texts;
 
-my @options = map { /(?<!\S)--?[A-Za-z][\w-]*/g } run(program(), '--help')->{out} =~ /^ +(-.*?)(?:  |$)/mg;
+# The options in the help of a command.
+sub options_in { return map { /(?<!\S)--?[A-Za-z][\w-]*/g } $_[0] =~ /^ +(-.*?)(?:  |$)/mg }
+my @options = options_in(run(program(), '--help')->{out});
 my @long = grep { /^--/ } @options;
 my @methods = (grep({ !/:/ } split /\n/, run(program(), '-m', 'help')->{out}), 'help');
 
-# All long options but these.
-sub but {
-    my %left = map { $_ => 1 } @_;
-    return [grep { !$left{$_} } @long];
+# mkpasswd-parallel has options of its own, and takes those of mkpasswd that go with lines.
+my @own = options_in(run("$root/bin/mkpasswd-parallel", '--help')->{out});
+my %is_own = map { $_ => 1 } @own;
+my @parallel = (@own, grep { !$is_own{$_} && !/^(?:-s|--stdin)\z/ } @options);
+my @long_parallel = grep { /^--/ } @parallel;
+
+# All long options but these, of a command.
+sub but_of {
+    my ($of, @left) = @_;
+    my %left = map { $_ => 1 } @left;
+    return [grep { !$left{$_} } @$of];
 }
+sub but { return but_of(\@long, @_) }
 
 # A line up to the cursor, and what is wanted there. The folder has the files "logins", "sha256sums" and "-file".
-my @lines = (
+my %lines;
+$lines{mkpasswd} = [
     ['-m ', [@methods]], ['-m sha', [qw(sha256crypt sha512crypt)]], ['-m help', ['help']], ['-m lo', []],
     ['--method ', [@methods]], ['--method sc', ['scrypt']], ['--method=', [map { "--method=$_" } @methods]],
     ['--method=sc', ['--method=scrypt']], ['-mm', ['-mmd5crypt']], ['-msha', [qw(-msha256crypt -msha512crypt)]],
@@ -40,12 +51,29 @@ my @lines = (
     (map { [$_, []] } '-- -', '-- --b', '-- x -', '-m md5crypt -- --'),
     ['--check < lo', ['logins']], ['--check < ', [qw(-file logins sha256sums)]],
     ['--batch -m md5crypt > sha', ['sha256sums']], ['-- x > lo', ['logins']], ['< logins --ch', ['--check']],
-);
-mkdir "$scratch/$_" for qw(bin home folder share share/bash-completion share/bash-completion/completions);
+];
+$lines{'mkpasswd-parallel'} = [
+    ['-m ', [@methods]], ['--check -m sha', [qw(sha256crypt sha512crypt)]], ['-mm', ['-mmd5crypt']],
+    ['--method=sc', ['--method=scrypt']], ['-', [@parallel]], ['--', [@long_parallel]], ['--j', ['--jobs']], ['--st', []],
+    ['--b', [qw(--batch --block-lines --budget)]], ['--r', [qw(--resume-from --rounds --rehash)]],
+    ['--prog', [qw(--progress --program)]], ['--sshlogin east --ss', ['--sshlogin']], ['--jobs 2 --che', ['--check']],
+    ['--batch --', but_of(\@long_parallel, qw(--batch --check --rehash))],
+    ['--check --', but_of(\@long_parallel, qw(--batch --check))], ['--rehash --ch', ['--check']],
+    (map { [$_, []] } '', 'lo', '--jobs ', '--jobs=', '--sshlogin lo', '--block-lines ', '--resume-from lo', '--budget ', '-S lo',
+        '--salt=', '-R ', '--batch lo', '--progress ', '-- ', '-- lo', '-- --b', '--batch -- -'),
+    ['--program lo', ['logins']], ['--program=lo', ['--program=logins']], ['--check < lo', ['logins']],
+    ['--batch < logins > sha', ['sha256sums']], ['< logins --ch', ['--check']],
+];
+my @commands = sort keys %lines;
+mkdir "$scratch/$_" for qw(bin home folder share share/bash-completion share/bash-completion/completions fish);
 spew("$scratch/folder/$_", '') for qw(logins sha256sums -file);
-spew("$scratch/lines", join '', map { "mkpasswd $_->[0]\n" } @lines);
 symlink program(), "$scratch/bin/mkpasswd";
-symlink "$root/completions/mkpasswd.bash", "$scratch/share/bash-completion/completions/mkpasswd";
+symlink "$root/bin/mkpasswd-parallel", "$scratch/bin/mkpasswd-parallel";
+for my $command (@commands) {
+    spew("$scratch/lines of $command", join '', map { "$command $_->[0]\n" } @{ $lines{$command} });
+    symlink "$root/completions/mkpasswd.bash", "$scratch/share/bash-completion/completions/$command";
+    symlink "$root/completions/mkpasswd.fish", "$scratch/fish/$command.fish";
+}
 
 # What a shell runs. It prints the number of a line and a word offered there, for each such word, and "end" at last.
 spew("$scratch/run.bash", <<'BASH');
@@ -54,13 +82,13 @@ if [ -n "$package" ]; then
     . "$package" 2> /dev/null
     loader=$(complete -p -D)
     loader=${loader#* -F }
-    "${loader%% *}" mkpasswd '' mkpasswd
+    "${loader%% *}" "$command" '' "$command"
 else
     set -u
     . "$folder/mkpasswd.bash"
 fi
-spec=$(complete -p mkpasswd)
-[ "$spec" = 'complete -F _mkpasswd mkpasswd' ] || echo "mkpasswd is completed by: $spec" >&2
+spec=$(complete -p "$command")
+[ "$spec" = "complete -F _mkpasswd $command" ] || echo "$command is completed by: $spec" >&2
 compopt() { asked="$*"; }
 number=0
 while IFS= read -r COMP_LINE; do
@@ -76,7 +104,7 @@ while IFS= read -r COMP_LINE; do
     whole=${COMP_LINE##* }
     asked=
     COMPREPLY=(left over)
-    _mkpasswd mkpasswd "$word" "${COMP_WORDS[COMP_CWORD - 1]}"
+    _mkpasswd "$command" "$word" "${COMP_WORDS[COMP_CWORD - 1]}"
     if [ "${#COMPREPLY[@]}" = 0 ] && [ "$asked" = '-o default' ]; then
         mapfile -t COMPREPLY < <(compgen -f -- "$word")
     fi
@@ -86,7 +114,7 @@ done < "$input"
 echo end
 BASH
 spew("$scratch/run.fish", <<'FISH');
-set fish_complete_path $folder $fish_complete_path
+set fish_complete_path $fish $fish_complete_path
 set number 0
 for line in (cat $input)
     for word in (complete -C $line | string replace -r '\t.*' '')
@@ -136,21 +164,28 @@ zle-line-init() {
 zle -N zle-line-init
 ZSH
 
-# Tests what a shell offers, line by line, and that it reports no fault.
+# Tests what a shell offers for each command, line by line, and that it reports no fault.
 sub try {
     my ($shell, $variables, @command) = @_;
+    try_command($_, $shell, $variables, @command) for @commands;
+    return;
+}
+
+sub try_command {
+    my ($command, $shell, $variables, @command) = @_;
+    my @lines = @{ $lines{$command} };
     my %env = (
         (map { $_ => undef } qw(BASH_ENV ENV FPATH ZDOTDIR XDG_CONFIG_HOME XDG_DATA_HOME XDG_CACHE_HOME BASH_COMPLETION_USER_DIR)),
-        HOME => "$scratch/home", TERM => 'dumb', PATH => "$scratch/bin:$ENV{PATH}", folder => "$root/completions",
-        input => "$scratch/lines", XDG_DATA_DIRS => "$scratch/share:/usr/local/share:/usr/share", %$variables,
+        HOME => "$scratch/home", TERM => 'dumb', PATH => "$scratch/bin:$ENV{PATH}", folder => "$root/completions", fish => "$scratch/fish",
+        command => $command, input => "$scratch/lines of $command", XDG_DATA_DIRS => "$scratch/share:/usr/local/share:/usr/share", %$variables,
     );
     my $run = run({ dir => "$scratch/folder", env => \%env }, @command);
-    is("$run->{status} $run->{err}", '0 ', "$shell: no fault");
+    is("$run->{status} $run->{err}", '0 ', "$shell: no fault" . ($command eq 'mkpasswd' ? '' : " of $command"));
     my %got;
     push @{ $got{$1} }, $2 while $run->{out} =~ /^(\d+) (.*)$/mg;
-    like($run->{out}, qr/^end\n\z/m, "$shell: all lines are tried");
+    like($run->{out}, qr/^end\n\z/m, "$shell: all lines of $command are tried");
     for (0 .. $#lines) {
-        is_deeply([sort @{ $got{$_} // [] }], [sort @{ $lines[$_][1] }], "$shell: 'mkpasswd $lines[$_][0]'");
+        is_deeply([sort @{ $got{$_} // [] }], [sort @{ $lines[$_][1] }], "$shell: '$command $lines[$_][0]'");
     }
     my %taken = map { $_ => run(program(), '-m', $_, '-S', 'ab', 'password')->{status} } @{ $got{0} };
     is_deeply([grep { $taken{$_} } sort keys %taken], [], "$shell: the program takes each method that is offered");

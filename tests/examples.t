@@ -128,6 +128,9 @@ subtest 'commands of README.md and others' => sub {
     spew("$scratch/edit/crates/run_core/$file", $source);
     run({ dir => "$scratch/edit" }, 'sh', '-c', $edit // '');
     is(slurp("$scratch/edit/crates/run_core/$file"), $source =~ s/\Q$old\E/$new/r, 'an edit that the gate refuses');
+    my ($before) = $source =~ /\A(.*\n)fn is_over_budget\(/s;
+    my ($shown, $line) = $readme =~ /note: (src\/\w+\.rt):(\d+):1: it is not proved/;
+    is_deeply([$shown, $line], [$file, 1 + (() = ($before // '') =~ /\n/g)], 'what is refused is where README.md says');
 };
 
 subtest 'Python' => sub {
@@ -145,13 +148,14 @@ subtest 'Python' => sub {
     my ($service) = blocks_of(slurp("$root/docs/SECURITY.md"), 'python');
     my $tried = <<'END';
 fields = {"ann": "$1$xxxxxxxx$UYCIxa628.9qXjpQCjM4a.", "bob": "!$1$xxxxxxxx$UYCIxa628.9qXjpQCjM4a.", "eve": ""}
+fields.update(kim="$y$j9T$x$x", max="$6$rounds=999999999$ab$x")
 verify, asked = mkpasswd.verify, []
 mkpasswd.verify = lambda password, stored: [asked.append(stored), verify(password, stored)][1]
-print([login(name, "password", fields) for name in ("ann", "bob", "eve", "zoe")], login("ann", "", fields))
+print([name for name in ("ann", "bob", "eve", "kim", "max", "zoe") if login(name, "password", fields)], login("ann", "", fields))
 print([stored == NOBODY for stored in asked], NOBODY.startswith("$6$rounds=656000$"))
 END
-    is_run($python->($service, "\n", $tried), 0, "[True, False, False, False] False\n[False, True, True, True, False] True\n", '',
-        'SECURITY.md: a name that is unknown, locked or without a password costs a hash');
+    is_run($python->($service, "\n", $tried), 0, "['ann'] False\n[False, True, True, True, True, True, False] True\n", '',
+        'SECURITY.md: a name that is unknown, or whose field no password matches, costs a hash');
 };
 
 my $known = '$1$xxxxxxxx$UYCIxa628.9qXjpQCjM4a.';

@@ -32,19 +32,24 @@ sub wanted {
 is($help, slurp("$root/tools/help"), 'help is as it was written down, whole');
 ok(!(grep { length > 80 } split /\n/, $help), 'help fits a terminal of 80 columns');
 
+# The completions have the options of both commands. completion.t tries which are offered for which.
 my ($table, $wanted) = wanted('mkpasswd', $help);
+my $own_help = run("$root/bin/mkpasswd-parallel", '--help')->{out};
+my ($own_table, $own_wanted) = wanted('mkpasswd-parallel', $own_help);
 for (
     ['help', 'help', $help], ['manual', 'manual', $manual], ['README.md', 'readme', $readme],
     ['bash', 'bash', slurp("$root/completions/mkpasswd.bash")], ['zsh', 'zsh', slurp("$root/completions/_mkpasswd")],
     ['fish', 'fish', slurp("$root/completions/mkpasswd.fish")],
 ) {
     my ($place, $kind, $text) = @$_;
-    subtest $place => sub { compare($place, $kind eq 'help' ? $table : $wanted, options_of($kind, $text)) };
+    my %wanted = $kind eq 'help' ? %$table : (%$wanted, $kind =~ /^(?:bash|zsh|fish)$/ ? %$own_wanted : ());
+    subtest $place => sub { compare($place, \%wanted, options_of($kind, $text)) };
 }
 
 subtest 'mkpasswd-parallel' => sub {
-    my $own_help = run("$root/bin/mkpasswd-parallel", '--help')->{out};
-    my ($own_table, $own_wanted) = wanted('mkpasswd-parallel', $own_help);
+    ok(!(grep { length > 80 } split /\n/, $own_help), 'its help fits a terminal of 80 columns');
+    my @long = $own_help =~ /^  (\S+)[^\n]*\n {20}[^\n]*\n {20}/mg;
+    is("@long", '', 'each option has one or two lines');
     compare('help of mkpasswd-parallel', $own_table, options_of('help', $own_help));
     compare('mkpasswd-parallel.1', $own_wanted, options_of('manual', slurp("$root/man/mkpasswd-parallel.1")));
 };

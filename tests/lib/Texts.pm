@@ -43,17 +43,16 @@ my %options_of = (
     },
     # '(those that it shuts out)'{-s+,--long=}'[description]:value:action'
     zsh => sub {
-        my ($arguments) = $_[0] =~ /^(_arguments.*)/ms;
         return map {
-            my $spec = tr/'"//dr =~ s/^\s*(?:\([^()]*\))?//r;
+            my $spec = tr/'"//dr =~ s/^\s*(?:\([^()]*\)|\*)?//r;
             $spec =~ /^(\{[^}]*\}|-[^\[:]*)\[[^\]]*\](?::(\w+))?/ ? [$2, $1] : ();
-        } split /\n/, $arguments;
+        } split /\n/, $_[0];
     },
     fish => sub {
         map {
             my $line = s/'[^']*'|"[^"]*"/text/gr;
-            [$line =~ / -x\b/ ? '=' : '', join ' ', (map { "-$_" } $line =~ / -s (\w)/g), map { "--$_" } $line =~ / -l ([\w-]+)/g];
-        } $_[0] =~ /^complete -c mkpasswd( .*)/mg;
+            [$line =~ / -[xr]\b/ ? '=' : '', join ' ', (map { "-$_" } $line =~ / -s (\w)/g), map { "--$_" } $line =~ / -l ([\w-]+)/g];
+        } $_[0] =~ /^complete (?:-c mkpasswd(?:-parallel)?|\$each)( .*)/mg;
     },
 );
 

@@ -430,5 +430,5 @@ fn puts_words(rt: HostRuntime) {
 
 #[test]
 fn tells_the_version(rt: HostRuntime) {
-    assert_eq!(rt; mkpasswd_version(), 10000);
+    assert_eq!(rt; mkpasswd_version(), 10100);
 }

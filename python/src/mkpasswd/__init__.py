@@ -171,10 +171,10 @@ def verify_and_update(
 
 
 def needs_rehash(stored: Text, method: str = "sha512crypt", rounds: Optional[int] = None) -> bool:
-    """Whether hash() with this method and rounds would improve on the stored hash.
+    """Whether hash() with this method and rounds would replace the stored hash.
 
-    So it is if the method is another one, or the same with more rounds, or for scrypt with a greater N * r * p. An empty
-    or locked field stays as it is.
+    So it is if the method is another one, whatever the stored hash costs, or the same with more rounds, or for scrypt with a
+    greater N * r * p. An empty or locked field stays as it is.
 
     >>> needs_rehash("$6$rounds=20000$salt$x", rounds=10000)
     False
