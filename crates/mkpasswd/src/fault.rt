@@ -195,6 +195,8 @@ impl From<RunFault> for Fault {
 #[cfg(test)]
 mod tests {
     use super::*;
+    use crate::options::plan;
+    use crate::options::tests::words_of;
     use crypt_core::password::PasswordFault;
     use std::test::Fail;
 
@@ -214,6 +216,19 @@ mod tests {
             assert_eq!(rt; shown.as_str(), text);
             assert_eq!(rt; fault.text(), text);
         }
+        Ok(())
+    }
+
+    // Its message is clap's, and its text is empty.
+    #[test]
+    fn shows_rejected_arguments(rt: HostRuntime) -> Result<(), Fail> {
+        let words = words_of(rt.alloc(), &["--nonesuch"])?;
+        let Err(fault) = plan(rt.alloc(), words.as_slice()) else {
+            panic!(rt; "an unknown option has a plan");
+        };
+        let shown = format!(in rt.alloc(); "{fault}")?;
+        let front = "error: unexpected argument '--nonesuch' found\n";
+        assert_eq!(rt; (shown.starts_with(front), fault.text()), (true, ""));
         Ok(())
     }
 

@@ -20,7 +20,7 @@ use Rattle.run_core.specs.JobOptions.{IsAbove, check_cost, is_outdated}
 use Rattle.run_core.specs.LineAnswers.{ComesTo, IsAnswer, IsCostly}
 use Rattle.run_core.specs.Lines.{HasParts, Parts}
 use Rattle.run_core.specs.Makers.{made_cost_by}
-use Rattle.run_core.specs.Private.Answers.{IsChecked, IsDecided, IsSettled, answer_of, answer_text, field_cost}
+use Rattle.run_core.specs.Private.Answers.{IsChecked, HasOutcome, IsSettled, answer_of, answer_text, field_cost}
 use Rattle.run_core.specs.Texts.{as_line, colon}
 use Rattle.run_core.specs.Private.Lines.{HasSoundParts, IsFieldOf, IsLine}
 use Rattle.run_core.specs.declared.answer.Outcome.{Outcome}
@@ -179,7 +179,7 @@ settled_by kind job line stream name password (Some field) None hashings outcome
 pub decided : (kind : Kind) (job : Job) (line : List ℕ) (stream : Stream) (name password : List ℕ) (stored : Option StoredField)
     (hashings : List Hashing) (outcome : Outcome) → IsLine kind line name password stored
     → ¬ IsAbove job.budget (field_cost job stored (length password))
-    → IsSettled job password stored stream hashings outcome → IsDecided kind job line stream name outcome hashings
+    → IsSettled job password stored stream hashings outcome → HasOutcome kind job line stream name outcome hashings
 decided kind job line stream name password stored hashings outcome is within settled =
     let comes = settled_by kind job line stream name password is.field stored hashings outcome is.taken is.field_of within settled in
     inr (inr (is.taken.sound, comes.0, parts_with name password is.field, is.taken.cut, refl, comes.1))
@@ -197,7 +197,7 @@ comes-text job number parts stream Mismatch made comes = refl
 comes-text job number parts stream (Refused fault) made comes = absurd comes
 
 pub decided-answer : (kind : Kind) (job : Job) (number : ℕ) (line : List ℕ) (stream : Stream) (name : List ℕ) (outcome : Outcome) (made : List Hashing)
-    → IsDecided kind job line stream name outcome made → IsAnswer kind job number line stream (answer_of job number name outcome made)
+    → HasOutcome kind job line stream name outcome made → IsAnswer kind job number line stream (answer_of job number name outcome made)
 decided-answer kind job number line stream name outcome made (inl (fault, refused, is, none)) = inl (fault, refused, rw (is, none) refl)
 decided-answer kind job number line stream name outcome made (inr (inl (costly, is, none))) = inr (inl (costly, rw (is, none) refl))
 decided-answer kind job number line stream name outcome made (inr (inr (sound, cheap, parts, cut, named, comes))) =

@@ -9,7 +9,7 @@ use Rattle.run_core.specs.LineRuns.{EndsLines, HasLines, lines_of, piece_size}
 use Rattle.run_core.specs.Output.{Takes, TakesFront}
 use Rattle.run_core.specs.Private.Deliveries.{FinishesBoth, IsKept}
 use Rattle.run_core.specs.Private.LineProgress.{OutputState, TakesTurns, TakesTurnsOf, output_state_of, with_input}
-use Rattle.run_core.specs.Runs.{EndsBy, Finishes, IsWithinTurns, RunState, StopsAt, StopsReading, TakeAll, TakeFront}
+use Rattle.run_core.specs.Runs.{EndsBy, Finishes, IsWithinTurns, RunState, StopsAt, StopsReading, TakeAll, TakeInPart}
 use Rattle.run_core.specs.declared.fault.RunFault.{RunFault}
 use Rattle.run_core.specs.declared.fault.RunFault.TheVariants.{Read, Write, OutOfMemory, Turns, Password}
 use Rattle.run_core.specs.declared.job.Job.{Job}
@@ -30,7 +30,7 @@ module _ {I O E : Type 0} where
       omega (arith, of_input, of_out, of_faults)
 
   front-fails : (start new : RunState I O E) (done : List Answer) (next : Answer) (failed : ℕ)
-      → new.input.failures ≡ start.input.failures → TakeFront failed done next start.out start.faults new.out new.faults
+      → new.input.failures ≡ start.input.failures → TakeInPart failed done next start.out start.faults new.out new.faults
       → failures_of new ≡ failures_of start + failed
   front-fails start new done next failed same front = go (is_refusal next.outcome) front where
     go : (refused : Bool) → MatchBool refused

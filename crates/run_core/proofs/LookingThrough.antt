@@ -8,7 +8,7 @@ use Rattle.run_core.specs.LineRuns.{piece_size}
 use Rattle.run_core.specs.Output.{Takes, TakesFront}
 use Rattle.run_core.specs.Private.Answers.{counted}
 use Rattle.run_core.specs.Private.LineProgress.{AnswersOne, AreGiven, HasRoomIn, IsAt, IsInterrupted, IsSameRun, LooksThrough, OutputState, Position, Represents, TakesTurns}
-use Rattle.run_core.specs.Runs.{TakeFront}
+use Rattle.run_core.specs.Runs.{TakeInPart}
 use Rattle.run_core.specs.Texts.{HasNoLineFeed, line_feed}
 use Rattle.run_core.specs.declared.lines.LineRun.{LineRun}
 use Rattle.run_core.specs.declared.fault.RunFault.{RunFault}
@@ -45,7 +45,7 @@ piece-parts front rest piece end split cut = ap (λ others. front ++ others) (sy
 -- an answer that was given in part, behind those that were given whole
 front-after : {O E : Type 0} (failures : ℕ) (done : List Answer) (next : Answer) (start old new : Device O) (fault_start faults new_faults : Device E)
     → Takes 0 0 start old (texts done) → Takes 0 0 fault_start faults (fault_texts done)
-    → TakeFront failures [] next old faults new new_faults → TakeFront failures done next start fault_start new new_faults
+    → TakeInPart failures [] next old faults new new_faults → TakeInPart failures done next start fault_start new new_faults
 front-after failures done next start old new fault_start faults new_faults text fault_text front = go (is_refusal next.outcome) front where
   go : (refused : Bool) → MatchBool refused
       (Takes 0 0 old new [] × TakesFront failures faults new_faults [] next.text)

@@ -24,10 +24,10 @@ pub record RunState (I O E : Type 0) : Type 0 where
 abbrev pub run_state : {I O E : Type 0} → Device I → Device O → Device E → Stream → Work → RunState I O E
 run_state input out faults stream counts = record { input = input; out = out; faults = faults; stream = stream; counts = counts }
 
--- TakeFront failures done next out faults new_out new_faults: the outputs have taken the answers `done`, and one of
+-- TakeInPart failures done next out faults new_out new_faults: the outputs have taken the answers `done`, and one of
 -- them has then taken a proper prefix of `next`. Exactly `failures` calls of that output failed, and none of the other.
-abbrev pub TakeFront : {O E : Type 0} → ℕ → List Answer → Answer → Device O → Device E → Device O → Device E → Type 0
-TakeFront failures done next out faults new_out new_faults = MatchBool (is_refusal next.outcome)
+abbrev pub TakeInPart : {O E : Type 0} → ℕ → List Answer → Answer → Device O → Device E → Device O → Device E → Type 0
+TakeInPart failures done next out faults new_out new_faults = MatchBool (is_refusal next.outcome)
     (Takes 0 0 out new_out (texts done) × TakesFront failures faults new_faults (fault_texts done) next.text)
     (TakesFront failures out new_out (texts done) next.text × Takes 0 0 faults new_faults (fault_texts done))
 
@@ -93,9 +93,9 @@ module _ {I O E : Type 0} where
   --   OutOfMemory  scrypt could not allocate for a hash of `next`, and nothing of `next` is written
   abbrev pub StopsAt : ℕ → List Answer → Answer → RunState I O E → RunState I O E → RunFault → Type 0
   StopsAt turns done next old new Write = (new.input.failures ≡ old.input.failures)
-      × TakeFront 1 done next old.out old.faults new.out new.faults × IsAfter (hashings_of (done ++ next ∷ [])) old new
+      × TakeInPart 1 done next old.out old.faults new.out new.faults × IsAfter (hashings_of (done ++ next ∷ [])) old new
   StopsAt turns done next old new Turns = (new.input.failures ≡ old.input.failures)
-      × TakeFront 0 done next old.out old.faults new.out new.faults × IsAfter (hashings_of (done ++ next ∷ [])) old new
+      × TakeInPart 0 done next old.out old.faults new.out new.faults × IsAfter (hashings_of (done ++ next ∷ [])) old new
       × (calls_of new ≡ calls_of old + turns)
   StopsAt turns done next old new OutOfMemory = TakeAll 0 0 0 0 0 done old new
       × IsRefusedAmong (after_work old.counts (hashings_of done)) next.hashings new.counts new.stream

@@ -79,10 +79,10 @@ Settles job password field stream before after new_stream result =
     × IsResult (IsSettled job password field stream hashings) result outcome
     × Makes hashings stream before after new_stream result
 
--- IsDecided kind job line stream name outcome hashings: the line has this outcome, whatever its number is. A rejected
+-- HasOutcome kind job line stream name outcome hashings: the line has this outcome, whatever its number is. A rejected
 -- line may have any name.
-abbrev pub IsDecided : Kind → Job → List ℕ → Stream → List ℕ → Outcome → List Hashing → Type 0
-IsDecided kind job line stream name outcome hashings =
+abbrev pub HasOutcome : Kind → Job → List ℕ → Stream → List ℕ → Outcome → List Hashing → Type 0
+HasOutcome kind job line stream name outcome hashings =
     ((fault : LineFault) × IsLineRefused kind line fault × (outcome ≡ Refused fault) × (hashings ≡ []))
     ⊎ ((IsCostly kind job line × (outcome ≡ Refused OverBudget) × (hashings ≡ []))
     ⊎ (IsSound kind line × (¬ IsCostly kind job line) × (parts : Parts) × HasParts kind line parts × (parts.name ≡ name)
@@ -92,10 +92,10 @@ IsDecided kind job line stream name outcome hashings =
 -- could not allocate, the outcome is what it would have been.
 abbrev pub Decides : Kind → Job → List ℕ → Stream → Work → Work → Stream → Result LineAnswer HashFault → Type 0
 Decides kind job line stream before after new_stream (Ok answer) =
-    (hashings : List Hashing) × IsDecided kind job line stream answer.name.now answer.outcome hashings
+    (hashings : List Hashing) × HasOutcome kind job line stream answer.name.now answer.outcome hashings
     × (after ≡ after_work before hashings) × (new_stream ≡ stream_left stream hashings)
 Decides kind job line stream before after new_stream (Err fault) =
-    (name : List ℕ) × (outcome : Outcome) × (hashings : List Hashing) × IsDecided kind job line stream name outcome hashings
+    (name : List ℕ) × (outcome : Outcome) × (hashings : List Hashing) × HasOutcome kind job line stream name outcome hashings
     × IsRefusedAmong before hashings after new_stream
 
 -- answer_text wanted number name outcome hashings is the text of the answer with this number and these parts.

@@ -5,7 +5,7 @@ use Rattle.run_core.specs.Answers.{Answer, fault_texts, texts}
 use Rattle.run_core.specs.DeviceCalls.{FailsToFlush, IsFlushed}
 use Rattle.run_core.specs.Devices.{Device}
 use Rattle.run_core.specs.Output.{Takes, TakesFront}
-use Rattle.run_core.specs.Runs.{TakeFront}
+use Rattle.run_core.specs.Runs.{TakeInPart}
 use Rattle.run_core.specs.declared.fault.RunFault.{RunFault}
 use Rattle.run_core.specs.declared.fault.RunFault.TheVariants.{Write, Turns}
 
@@ -58,8 +58,8 @@ module _ {O E : Type 0} where
   -- IsSentInPart left done next out faults new_out new_faults fault: the outputs have taken the answers `done` and a
   -- proper prefix of `next`. A call failed, or no I/O call was left.
   abbrev pub IsSentInPart : ℕ → List Answer → Answer → Device O → Device E → Device O → Device E → RunFault → Type 0
-  IsSentInPart left done next out faults new_out new_faults Write = TakeFront 1 done next out faults new_out new_faults
-  IsSentInPart left done next out faults new_out new_faults Turns = (left ≡ 0) × TakeFront 0 done next out faults new_out new_faults
+  IsSentInPart left done next out faults new_out new_faults Write = TakeInPart 1 done next out faults new_out new_faults
+  IsSentInPart left done next out faults new_out new_faults Turns = (left ≡ 0) × TakeInPart 0 done next out faults new_out new_faults
   IsSentInPart left done next out faults new_out new_faults fault = ⊥
 
   -- Sends left answer out faults new_out new_faults result: the answer was written, in full or in part.

@@ -1,7 +1,7 @@
 use Rattle.std.proofs.Common.{[], length, true≢false, inl, inr, sym, refl, subst, ◌∙◌}
 use Rattle.std.proofs.lemmas.Result.{err_from_is_err_and}
 use Rattle.run_core.specs.JobOptions.{IsAbove}
-use Rattle.run_core.specs.Private.Answers.{IsDecided, field_cost}
+use Rattle.run_core.specs.Private.Answers.{HasOutcome, field_cost}
 use Rattle.run_core.specs.declared.answer.Outcome.{Outcome}
 use Rattle.run_core.proofs.Deciding.{costly, decided}
 use Rattle.run_core.proofs.answer.answer_line.Goals as goal
@@ -38,7 +38,7 @@ returns-clause-decides g c =
     λ above. true≢false (sym (c.is_over_budget.ensures.1 above) ∙ c.if-is_over_budget.false) in
     let decides = decided c.args.kind c.args.job.now c.args.bytes.now stream _ _ _ settles.1 settles.0 c.in-Ok.ensures.read within settles.2.0 in (
       settles.1,
-      subst (λ (o : Outcome). IsDecided c.args.kind c.args.job.now c.args.bytes.now stream c.in-Ok.line.name.now o settles.1) (sym settles.2.1) decides,
+      subst (λ (o : Outcome). HasOutcome c.args.kind c.args.job.now c.args.bytes.now stream c.in-Ok.line.name.now o settles.1) (sym settles.2.1) decides,
       settles.3.0,
       settles.3.1,
     )
