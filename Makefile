@@ -98,12 +98,13 @@ libmkpasswd.so.2: build/mkpasswd.o libmkpasswd.map
 	$(call shared,build/mkpasswd.o)
 
 # The shared library and the program for other processors, beside the build for CPU.
-hwcaps: build/x86-64-v3/libmkpasswd.so.2
+hwcaps: hwcaps/x86-64-v3/libmkpasswd.so.2
 
-build/x86-64-%/libmkpasswd.so.2: $(SOURCES) build/new.o libmkpasswd.map tools/for-cpu
-	tools/for-cpu x86-64-$* library $(@D)
-	$(call object,$(@D))
-	$(call shared,$(@D)/mkpasswd.o)
+hwcaps/%/libmkpasswd.so.2: $(SOURCES) build/new.o libmkpasswd.map tools/for-cpu
+	@mkdir -p $(@D)
+	tools/for-cpu $* library build/$*
+	$(call object,build/$*)
+	$(call shared,build/$*/mkpasswd.o)
 
 build/%/mkpasswd: $(SOURCES) tools/for-cpu
 	tools/for-cpu $* program $(@D)
@@ -185,4 +186,4 @@ deb: mkpasswd lib hwcaps guard
 	tools/deb .
 
 clean:
-	rm -rf mkpasswd libmkpasswd.a libmkpasswd.so.2 libmkpasswd-crypt.so build crates/*/out mkpasswd-*-linux.tar.gz mkpasswd-*.whl *.deb
+	rm -rf mkpasswd libmkpasswd.a libmkpasswd.so.2 libmkpasswd-crypt.so hwcaps build crates/*/out mkpasswd-*-linux.tar.gz mkpasswd-*.whl *.deb

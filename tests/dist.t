@@ -18,7 +18,7 @@ my ($archive, $second) = map { "$scratch/$_/$name.tar.gz" } qw(first second);
 my ($tree, $alone) = ("$scratch/tree", "$scratch/alone");
 my ($documents, $cc) = ("$tree/share/doc/mkpasswd", $ENV{CC} || 'cc');
 program();
--e "$root/$_" or BAIL_OUT("$_ is not built: run make lib hwcaps") for 'libmkpasswd.a', $library, "build/x86-64-v3/$library";
+-e "$root/$_" or BAIL_OUT("$_ is not built: run make lib hwcaps") for 'libmkpasswd.a', $library, "hwcaps/x86-64-v3/$library";
 
 subtest 'install' => sub {
     my $installed = "$scratch/installed";
@@ -129,7 +129,7 @@ subtest 'libraries' => sub {
 subtest 'the library for x86-64-v3' => sub {
     needs(cc => 'gcc', $cc ne 'cc' || undef) && needs(objdump => 'binutils') or return;
     my @places = map { "$tree/lib/$_" } $library, "glibc-hwcaps/x86-64-v3/$library";
-    is(slurp($places[1]), slurp("$root/build/x86-64-v3/$library"), 'it is the one that make hwcaps built');
+    is(slurp($places[1]), slurp("$root/hwcaps/x86-64-v3/$library"), 'it is the one that make hwcaps built');
     my @parts = map { [run('objdump', '-p', $_)->{out} =~ /((?:SONAME|NEEDED) .*)/g] } @places;
     is_deeply(@parts, 'its soname and what it needs are those of the default build');
     my @calls = map { [sort map { /(\S+ +mkpasswd_\w+)$/ } split /\n/, run('objdump', '-T', $_)->{out}] } @places;
