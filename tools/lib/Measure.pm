@@ -8,7 +8,7 @@ use Exporter qw(import);
 use POSIX qw(strftime uname);
 use Suite;
 
-our @EXPORT = qw(median shown seconds facts write_table read_table);
+our @EXPORT = qw(median shown seconds processor facts write_table read_table);
 
 sub median {
     my @numbers = sort { $a <=> $b } @_;
@@ -23,8 +23,11 @@ sub shown {
     return sprintf '%.*f %s', $number < 9.995 ? 2 : $number < 99.95 ? 1 : 0, $number, $unit;
 }
 
-# A time as a table has it.
-sub seconds { return sprintf '%.4g', $_[0] }
+# Times as a table has them.
+sub seconds { return map { sprintf '%.4g', $_ } @_ }
+
+# The seconds of processor time of all processes that have ended, by the system's clock of 10 ms.
+sub processor { my (undef, undef, @ended) = times; return $ended[0] + $ended[1] }
 
 # The facts of a measurement, each with its name.
 sub facts {
