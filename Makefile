@@ -9,7 +9,7 @@
 # make gate       proves all that no gate on this machine has passed, runs the tests, tries the edits that must fail, and
 #                 without CPU leaves ./mkpasswd
 # make bench      measures against libxcrypt, in some three minutes
-# make speed      measures all that docs/SPEED.md shows, in half an hour, into docs/speed.tsv and docs/costs.tsv
+# make speed      measures all that docs/SPEED.md shows, in a quarter of an hour, into docs/speed.tsv and docs/costs.tsv
 # make plots      makes the tables and drawings of docs/SPEED.md from these
 # make soak       has LINES random lines of each kind answered (default 10000), by the SEED that it prints or is given
 # make lib        builds the C libraries, libmkpasswd.a and libmkpasswd.so.2
