@@ -6,8 +6,8 @@
 #                 proves all, also what an earlier one on this machine has passed
 # make specification  writes docs/SPECIFICATION.md anew, from the clauses and definitions
 # make mutants    writes docs/MUTANTS.md anew; with LOG=FILE from a log of the gate, what refuses each mutant
-# make gate       proves all that no gate on this machine has passed, runs the tests, tries the edits that must fail, and
-#                 without CPU leaves ./mkpasswd
+# make gate       proves all that no gate on this machine has passed, runs the tests, tries the mutants, and without CPU
+#                 leaves ./mkpasswd
 # make bench      measures against libxcrypt, in some three minutes
 # make speed      measures all that docs/SPEED.md shows, in a quarter of an hour, into docs/speed.tsv and docs/costs.tsv
 # make plots      makes the tables and drawings of docs/SPEED.md from these

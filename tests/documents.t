@@ -77,8 +77,8 @@ sub changed { return join ' ', map { (codes($_))[0] } @{ $_[0] }[1, 2] }
 is(run("$root/tools/mutants")->{out}, slurp("$root/docs/MUTANTS.md"), 'MUTANTS.md is what make mutants writes');
 for my $crate (@crates) {
     my @rows = @{ $mutants{$crate} // [] };
-    my @edits = map { s{.*/(.*)\.edit$}{$1}r } glob "$root/crates/$crate/must-fail/*.edit";
-    is_deeply([sort map { codes($_->[0]) } @rows], [sort @edits], "MUTANTS.md: the mutants of $crate");
+    my @mutants = map { s{.*/(.*)\.edit$}{$1}r } glob "$root/crates/$crate/must-fail/*.edit";
+    is_deeply([sort map { codes($_->[0]) } @rows], [sort @mutants], "MUTANTS.md: the mutants of $crate");
     my %is_there = map { ("$_->{file} $_->{name}" => 1) } @{ $functions{$crate} };
     none([grep { !$is_there{$_} } map { changed($_) } @rows], "MUTANTS.md: the functions of $crate");
 }

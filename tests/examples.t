@@ -120,14 +120,14 @@ subtest 'commands of README.md and others' => sub {
         is_run(run({ %in, dir => $scratch }, 'bash', '-c', $parallel // ''), 0, "ann:ok\n", '', 'mkpasswd.1: mkpasswd-parallel');
     }
 
-    # The gate shows that the edit in must-fail/ is refused. These commands make the same one.
-    my ($edit) = map { /^(sed .*)/ } grep { /^sed/ } blocks_of($readme, 'sh');
+    # The gate shows that this mutant is refused. The commands of README.md make the same one.
+    my ($change) = map { /^(sed .*)/ } grep { /^sed/ } blocks_of($readme, 'sh');
     my ($file, $old, $new) = slurp("$root/crates/run_core/must-fail/refused-at-the-budget.edit") =~ /\Afile: (.*)\nold: (.*)\nnew: (.*)\n\z/;
     my $source = slurp("$root/crates/run_core/$file");
-    run('mkdir', '-p', "$scratch/edit/crates/run_core/src");
-    spew("$scratch/edit/crates/run_core/$file", $source);
-    run({ dir => "$scratch/edit" }, 'sh', '-c', $edit // '');
-    is(slurp("$scratch/edit/crates/run_core/$file"), $source =~ s/\Q$old\E/$new/r, 'an edit that the gate refuses');
+    run('mkdir', '-p', "$scratch/mutant/crates/run_core/src");
+    spew("$scratch/mutant/crates/run_core/$file", $source);
+    run({ dir => "$scratch/mutant" }, 'sh', '-c', $change // '');
+    is(slurp("$scratch/mutant/crates/run_core/$file"), $source =~ s/\Q$old\E/$new/r, 'a mutant that the gate refuses');
     my ($before) = $source =~ /\A(.*\n)fn is_over_budget\(/s;
     my ($shown, $line) = $readme =~ /note: (src\/\w+\.rt):(\d+):1: it is not proved/;
     is_deeply([$shown, $line], [$file, 1 + (() = ($before // '') =~ /\n/g)], 'what is refused is where README.md says');

@@ -1,5 +1,5 @@
 #!/usr/bin/env perl
-# tools/gate fails where rt ci does, and where an edit that must fail was none, which rt ci only notes.
+# tools/gate fails if rt ci does, and if a mutant is invalid, which rt ci only notes.
 use strict;
 use warnings;
 use FindBin qw($Bin);

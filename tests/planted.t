@@ -43,13 +43,14 @@ sub copy_tree {
     return run({ dir => $root }, 'sh', '-c', 'find crates -name out -prune -o -type f -print0 | xargs -0 cp -a --parents -t "$0"', $copy);
 }
 
-# A wrapper of the program that stands at this path. Perl code of the row works on @words and $input before the program
-# is run, and on $out, $err and $status after; or the row has the lines of a script, where $real is the program.
+# Wraps the program at this path, which the wrapper also finds if a symlink runs it. Perl code of the row works on @words and
+# $input before the program is run, and on $out, $err and $status after; or the row has the lines of a script, where $real is
+# the program.
 sub wrap {
     my ($path, %code) = @_;
     rename $path, "$path.real" or die "$path: $!";
     my ($before, $after) = map { $_ // '' } @code{qw(before after)};
-    spew($path, defined $code{wrap} ? "#!/usr/bin/env bash\nexport LC_ALL=C\nreal=\$0.real\n$code{wrap}\n" : <<"END");
+    spew($path, defined $code{wrap} ? "#!/usr/bin/env bash\nexport LC_ALL=C\nreal=$path.real\n$code{wrap}\n" : <<"END");
 #!$^X
 use File::Temp qw(tempdir);
 my (\$files, \@words) = (tempdir(CLEANUP => 1), \@ARGV);
@@ -66,7 +67,7 @@ my \$child = fork // die;
 if (!\$child) {
     open STDOUT, '>', "\$files/out" or die;
     open STDERR, '>', "\$files/err" or die;
-    exec "\$0.real", \@words;
+    exec "$path.real", \@words;
 }
 waitpid \$child, 0;
 my \$status = \$? & 127 ? 128 + (\$? & 127) : \$? >> 8;

@@ -24,7 +24,7 @@ my (%entries, @code);
 for (split /^(?=###+ )/m, $made->{out}) {
     my ($level, $name) = /^(###+) ([\w-]+)\n/ or next;
     my $block = qr/^```text\n((?:(?!^```$).)*)^```$/ms;
-    my ($file, $code) = $level eq '###' ? /^`(\S+):\d+`\n\n$block/m : reverse /$block\n\n`(\S+):\d+`;/ or next;
+    my ($file, $code) = $level eq '###' ? /^`(\S+):\d+`\n\n$block/m : reverse m{$block\n\n`(\S+):\d+`;} or next;
     $entries{"$file $name"} = 1 if $level ne '###';
     push @code, [$name, $file, $code];
 }

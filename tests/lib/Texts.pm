@@ -26,14 +26,15 @@ sub shown {
 
 my $word = qr/--?[A-Za-z](?:[\w-]*\w)?/;
 
-# The options in a text of a kind, each with the name of its value, "" without one; "=" where the kind has no names.
+# The options in a text of a kind, each with the name of its value, "" without one; "=" where the kind has no names. perlcritic
+# takes a "/" after "[" for a division, so the patterns there begin with "m{".
 my %options_of = (
-    help => sub { map { [/(?:<| )([A-Z]+)/, $_] } $_[0] =~ /^\s+(-.*?)(?:\s\s|$)/mg },
+    help => sub { map { [m{(?:<| )([A-Z]+)}, $_] } $_[0] =~ /^\s+(-.*?)(?:\s\s|$)/mg },
     manual => sub {
-        map { [/\bAr (\w+)/, join ' ', map { "-$_" } /\bFl (-?[A-Za-z][\w-]*)/g] } shown($_[0]) =~ /^\.It (Fl .*)/mg;
+        map { [m{\bAr (\w+)}, join ' ', map { "-$_" } /\bFl (-?[A-Za-z][\w-]*)/g] } shown($_[0]) =~ /^\.It (Fl .*)/mg;
     },
     # Options: `--long VALUE` (`-s`), `--long`, ..
-    readme => sub { map { [/ ([A-Z]+)`/, $_] } map { /(`--[^`]*`(?: \(`[^`]*`\))?)/g } $_[0] =~ /^Options: (.*)/m },
+    readme => sub { map { [m{ ([A-Z]+)`}, $_] } map { /(`--[^`]*`(?: \(`[^`]*`\))?)/g } $_[0] =~ /^Options: (.*)/m },
     # Words in a list, and those after which a word is looked for: cases of the word before the cursor.
     bash => sub {
         my $text = $_[0] =~ s/^\s*#.*//mgr;

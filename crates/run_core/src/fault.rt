@@ -109,4 +109,22 @@ mod tests {
         assert!(rt; RunFault::Read != RunFault::Write);
         assert!(rt; too_long != RunFault::Password(PasswordFault::HasNul));
     }
+
+    #[test]
+    fn clones_faults_of_runs(rt: HostRuntime) -> Result<(), Fail> {
+        let rows = [
+            (RunFault::Read, "read fault"),
+            (RunFault::Write, "write fault"),
+            (RunFault::OutOfMemory, "out of memory"),
+            (RunFault::Turns, "too many turns"),
+            (
+                RunFault::Password(PasswordFault::HasNul),
+                "password has a zero byte",
+            ),
+        ];
+        for (fault, text) in rows {
+            assert_eq!(rt; fault.clone()?.text(), text);
+        }
+        Ok(())
+    }
 }

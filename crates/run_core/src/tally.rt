@@ -44,6 +44,7 @@ impl Tally {
 #[cfg(test)]
 mod tests {
     use super::*;
+    use std::test::Fail;
 
     #[test]
     fn one_where_a_line_went_wrong(rt: HostRuntime) {
@@ -71,5 +72,17 @@ mod tests {
             };
             assert!(rt; tally != Tally::new(), "{tally:?}");
         }
+    }
+
+    #[test]
+    fn clones_tallies(rt: HostRuntime) -> Result<(), Fail> {
+        let tally = Tally {
+            lines: 9,
+            refused: 2,
+            misfits: 3,
+        };
+        let clone = tally.clone()?;
+        assert_eq!(rt; (clone.lines, clone.refused, clone.misfits), (9, 2, 3));
+        Ok(())
     }
 }

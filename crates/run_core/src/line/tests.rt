@@ -208,3 +208,30 @@ fn tells_faults_and_kinds_apart(rt: HostRuntime) {
     assert!(rt; PASSWORD_TOO_LONG != HAS_NUL);
     assert!(rt; Kind::Batch != Kind::Check);
 }
+
+#[test]
+fn clones_faults_and_kinds(rt: HostRuntime) -> Result<(), Fail> {
+    let rows = [
+        (LineFault::LineTooLong, "line too long"),
+        (LineFault::NoName, "no name"),
+        (LineFault::NameTooLong, "name too long"),
+        (LineFault::NoPassword, "no password field"),
+        (
+            LineFault::Password(PasswordFault::HasNul),
+            "password has a zero byte",
+        ),
+        (
+            LineFault::Setting(SettingFault::ScryptRange),
+            "scrypt range",
+        ),
+        (LineFault::OverBudget, "over budget"),
+    ];
+    for (fault, text) in rows {
+        assert_eq!(rt; fault.clone()?.text(), text);
+    }
+    // A line with one colon has a password for a batch alone.
+    for (kind, fault) in [(Kind::Batch, None), (Kind::Check, NO_PASSWORD)] {
+        assert_eq!(rt; inspect(kind.clone()?, b"ann:x"), fault);
+    }
+    Ok(())
+}
