@@ -24,6 +24,10 @@ use prims_core::meter::Meter;
 /// How often the digest is made anew.
 pub(crate) const ROUNDS: u32 = 1000;
 
+// The rounds run in parts of this many, as a loop within a loop: LLVM takes the calls of MD5's padding there for hot
+// enough to inline them, and those in a single loop not.
+const PART: u32 = 50;
+
 /// The digest of a password and a salt of at most [`MD5CRYPT_SALT_LIMIT`] bytes. The meter counts each of the
 /// 1,002 messages, and each of its counts rises by less than 2^41.
 ///
@@ -44,8 +48,10 @@ pub fn md5crypt(password: &Password, salt: &[u8], meter: &mut Meter) -> [u8; 16]
     let mut digest = [0; 16];
     digest.copy_from_slice(opening(password, salt, meter).as_slice());
     let strings = RoundStrings::new(password, salt);
-    'rounds: for i in 0..ROUNDS {
-        round::<CountedMd5>(i, &mut digest, &strings, meter);
+    'parts: for part in 0..ROUNDS / PART {
+        'rounds: for i in PART * part..PART * (part + 1) {
+            round::<CountedMd5>(i, &mut digest, &strings, meter);
+        }
     }
     digest
 }
