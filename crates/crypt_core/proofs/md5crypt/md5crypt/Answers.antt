@@ -81,5 +81,11 @@ returns-clause-specified c = messages-in_all c.args.password.now c.args.salt.now
 pub returns-clause-messages : goal.returns-clause-messages
 returns-clause-messages c = are_messages c.args.password.now c.args.salt.now
 
+pub returns-clause-each_round : goal.returns-clause-each_round
+returns-clause-each_round c i =
+    let p = c.args.password.now in
+    let s = c.args.salt.now in
+    digest_after-more md5 (md5crypt_opening p s) p s i ∙ ap md5 (sym (message-round p s i))
+
 pub returns-clause-below : goal.returns-clause-below
 returns-clause-below c = omega (arith, ap (λ m. m.bytes) (returns-clause-count c), c.parts.invariant.3)
