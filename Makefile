@@ -8,9 +8,12 @@
 # make mutants    writes docs/MUTANTS.md anew; with LOG=FILE from a log of the gate, what refuses each mutant
 # make gate       proves all that no gate on this machine has passed, runs the tests, tries the mutants, and without CPU
 #                 leaves ./mkpasswd
-# make bench      measures against libxcrypt, in some two minutes
+# make bench      measures against libxcrypt, in some three minutes
+# make speed      measures all that docs/SPEED.md shows, in a quarter of an hour, into docs/speed.tsv and docs/costs.tsv
+# make plots      makes the tables and drawings of docs/SPEED.md from these
 # make soak       has LINES random lines of each kind answered (default 10000), by the SEED that it prints or is given
 # make lib        builds the C libraries, libmkpasswd.a and libmkpasswd.so.2
+# make hwcaps     builds the shared library for x86-64-v3 too, which glibc loads by itself on such a processor
 # make guard      builds libmkpasswd-crypt.so, which stands in front of crypt(3) for one service
 # make fuzz       has libFuzzer make random calls of the C libraries and the guard, with FUZZ_SECONDS for each target (default 200)
 # make install    puts the program, the C libraries, the manuals and the rest under PREFIX (default /usr/local)
@@ -40,7 +43,9 @@ T = $(filter-out tests/planted.t,$(wildcard tests/*.t))
 PROVE = PERL5LIB=tests/lib prove --harness Tally -j4
 FIRST = tests/layers.t tests/specification.t
 
-.PHONY: all run lib guard fuzz test check layers specification mutants gate bench soak install dist wheel deb clean FORCE
+BUILDS = x86-64 x86-64-v3
+
+.PHONY: all run lib hwcaps guard fuzz test check layers specification mutants gate bench speed plots soak install dist wheel deb clean FORCE
 .DELETE_ON_ERROR:
 # rt takes all cores for itself.
 .NOTPARALLEL:
@@ -62,14 +67,25 @@ run: mkpasswd
 
 lib: libmkpasswd.a libmkpasswd.so.2
 
-# One object of the proved calls, the few lines of C that draw a salt, and the toolchain's for memory. It offers what the
-# version script does.
+# One object in a folder, of the proved calls there, the few lines of C that draw a salt, and the toolchain's for memory. It
+# offers what the version script does.
+define object
+	cd $(1) && ar x libcrypt_c.a crypt_c.o && ar x $$(dirname $$($(RT) doc))/c/liblibc_c.a heap.pic.o
+	ld -r -o $(1)/mkpasswd.o $(1)/crypt_c.o build/new.o $(1)/heap.pic.o
+	sed -n 's/^ *\(mkpasswd_[a-z_]*\);$$/\1/p' libmkpasswd.map > $(1)/calls
+	objcopy --keep-global-symbols=$(1)/calls $(1)/mkpasswd.o
+endef
+
+# The shared library of an object.
+define shared
+	$(CC) -shared -Wl,-soname,$(@F) -Wl,--version-script=libmkpasswd.map -Wl,--no-undefined-version \
+		-Wl,-z,relro -Wl,-z,now -Wl,-z,defs $(LDFLAGS) -o $@ $(1)
+endef
+
 build/mkpasswd.o: $(SOURCES) build/cpu build/new.o libmkpasswd.map
 	cd crates/crypt_c && ../../tools/progress ../../build/crypt_c.log -- $(RT) lib $(FOR_CPU)
-	cd build && ar x ../crates/crypt_c/out/libcrypt_c.a crypt_c.o && ar x $$(dirname $$($(RT) doc))/c/liblibc_c.a heap.pic.o
-	ld -r -o $@ build/crypt_c.o build/new.o build/heap.pic.o
-	sed -n 's/^ *\(mkpasswd_[a-z_]*\);$$/\1/p' libmkpasswd.map > build/calls
-	objcopy --keep-global-symbols=build/calls $@
+	cp crates/crypt_c/out/libcrypt_c.a build/libcrypt_c.a
+	$(call object,build)
 
 build/new.o: c/new.c include/mkpasswd.h build/cpu
 	$(CC) -std=c99 -Wall -Wextra -O2 -fPIC -Iinclude -c -o $@ c/new.c
@@ -79,8 +95,19 @@ libmkpasswd.a: build/mkpasswd.o
 	ar rcsD $@ build/mkpasswd.o
 
 libmkpasswd.so.2: build/mkpasswd.o libmkpasswd.map
-	$(CC) -shared -Wl,-soname,$@ -Wl,--version-script=libmkpasswd.map -Wl,--no-undefined-version \
-		-Wl,-z,relro -Wl,-z,now -Wl,-z,defs $(LDFLAGS) -o $@ build/mkpasswd.o
+	$(call shared,build/mkpasswd.o)
+
+# The shared library and the program for other processors, beside the build for CPU.
+hwcaps: hwcaps/x86-64-v3/libmkpasswd.so.2
+
+hwcaps/%/libmkpasswd.so.2: $(SOURCES) build/new.o libmkpasswd.map tools/for-cpu
+	@mkdir -p $(@D)
+	tools/for-cpu $* library build/$*
+	$(call object,build/$*)
+	$(call shared,build/$*/mkpasswd.o)
+
+build/%/mkpasswd: $(SOURCES) tools/for-cpu
+	tools/for-cpu $* program $(@D)
 
 guard: libmkpasswd-crypt.so
 
@@ -101,11 +128,11 @@ fuzz: $(FUZZERS)
 			-artifact_prefix=$$fuzzer. $$fuzzer.corpus || exit 1; \
 	done
 
-test: mkpasswd lib guard
+test: mkpasswd lib hwcaps guard
 	$(PROVE) $(T)
 
 # The layers, the page of definitions and the gate come first, since they need nothing built.
-check: layers gate mkpasswd lib guard
+check: layers gate mkpasswd lib hwcaps guard
 	$(PROVE) tests/planted.t $(filter-out $(FIRST),$(T))
 
 layers:
@@ -129,13 +156,24 @@ gate: build/cpu
 bench: mkpasswd
 	tools/bench ./mkpasswd
 
+speed: mkpasswd $(BUILDS:%=build/%/mkpasswd)
+	tools/bench --instructions $(foreach cpu,$(BUILDS),--build $(cpu)=build/$(cpu)/mkpasswd) --data docs/speed.tsv ./mkpasswd
+	tools/bench-costs --data docs/costs.tsv ./mkpasswd
+
+plots:
+	@mkdir -p build
+	tools/plot costs > build/costs.svg
+	tools/plot ratios > build/ratios.svg
+	tools/plot page > build/SPEED.md
+	mv build/costs.svg build/ratios.svg build/SPEED.md docs/
+
 soak: mkpasswd
 	tools/soak $(if $(LINES),--lines $(LINES)) $(if $(SEED),--seed $(SEED)) ./mkpasswd
 
-install: mkpasswd lib guard
+install: mkpasswd lib hwcaps guard
 	tools/install
 
-dist: mkpasswd lib guard
+dist: mkpasswd lib hwcaps guard
 	tools/pack $(or $(CPU),x86-64-v2)
 
 # Of x86-64 processors a wheel's name tells nothing, so it is for all of them. The next make builds anew for its own CPU.
@@ -144,8 +182,8 @@ wheel:
 	tools/wheel libmkpasswd.so.2 .
 
 # The packages depend on sse4.2-support, which refuses processors that the default build is not for.
-deb: mkpasswd lib guard
+deb: mkpasswd lib hwcaps guard
 	tools/deb .
 
 clean:
-	rm -rf mkpasswd libmkpasswd.a libmkpasswd.so.2 libmkpasswd-crypt.so build crates/*/out mkpasswd-*-linux.tar.gz mkpasswd-*.whl *.deb
+	rm -rf mkpasswd libmkpasswd.a libmkpasswd.so.2 libmkpasswd-crypt.so hwcaps build crates/*/out mkpasswd-*-linux.tar.gz mkpasswd-*.whl *.deb

@@ -13,13 +13,14 @@ my @packages = qw(libmkpasswd-crypt libmkpasswd-dev libmkpasswd2 mkpasswd mkpass
 my @tried = qw(autopkgtest bash-completion gcc libc6-dev man-db parallel pkgconf python3 sse4.2-support whois);
 my %roots = (bookworm => ['bookworm', @tried], trixie => ['trixie', @tried], checks => [qw(bookworm lintian piuparts)],
     base => [qw(bookworm parallel python3 sse4.2-support)]);
+my $newer = 'hwcaps/x86-64-v3/libmkpasswd.so.2';
 my $mirror = $ENV{DEBIAN_MIRROR} || 'http://deb.debian.org/debian';
 
 program();
 sub needs_all {
     my $is_wanted = grep { ($ENV{$_} // '') eq '1' } qw(DEB STRICT);
     needs('DEB=1' => 'none: these tests take a quarter of an hour and 4 GB, so they are run with DEB=1 or STRICT=1', $is_wanted) or return 0;
-    needs('the C library' => 'none: run make lib', -e "$root/libmkpasswd.so.2") or return 0;
+    needs('the C library' => 'none: run make lib hwcaps', -e "$root/libmkpasswd.so.2" && -e "$root/$newer") or return 0;
     needs('the superuser' => 'none: run it as root', $> == 0) or return 0;
     needs(debootstrap => 'debootstrap') && needs('dpkg-checkbuilddeps' => 'dpkg-dev') or return 0;
     for (sort keys %roots) {
@@ -88,9 +89,11 @@ subtest 'content' => sub {
         like($copyright, qr/^License: none\n The owner has not yet chosen a licence\./m, "$_ claims no licence");
         like(output_of(qw(dpkg-deb -f), $deb{$_}, 'Depends'), qr/\bsse4\.2-support\b/, "$_ refuses older processors") if /^(?:lib)?mkpasswd(?:2|-crypt)?$/;
     }
-    for (['mkpasswd', "$scratch/content/mkpasswd/usr/bin"], ['libmkpasswd.so.2', "$scratch/content/libmkpasswd2/usr/lib/x86_64-linux-gnu"]) {
-        my ($file, $folder) = @$_;
-        my @code = map { run('objcopy', qw(-O binary -j .text -j .rodata), "$_/$file", "$scratch/code"); slurp("$scratch/code") } $root, $folder;
+    my $libraries = 'libmkpasswd2/usr/lib/x86_64-linux-gnu';
+    for (['mkpasswd', 'mkpasswd/usr/bin/mkpasswd'], ['libmkpasswd.so.2', "$libraries/libmkpasswd.so.2"],
+        [$newer, "$libraries/glibc-hwcaps/x86-64-v3/libmkpasswd.so.2"]) {
+        my ($file, $packed) = @$_;
+        my @code = map { run('objcopy', qw(-O binary -j .text -j .rodata), $_, "$scratch/code"); slurp("$scratch/code") } "$root/$file", "$scratch/content/$packed";
         ok(length $code[0] > 10000 && $code[0] eq $code[1], "$file has the code that was proved");
     }
 };

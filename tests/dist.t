@@ -18,7 +18,7 @@ my ($archive, $second) = map { "$scratch/$_/$name.tar.gz" } qw(first second);
 my ($tree, $alone) = ("$scratch/tree", "$scratch/alone");
 my ($documents, $cc) = ("$tree/share/doc/mkpasswd", $ENV{CC} || 'cc');
 program();
--e "$root/$_" or BAIL_OUT("$_ is not built: run make lib") for 'libmkpasswd.a', $library;
+-e "$root/$_" or BAIL_OUT("$_ is not built: run make lib hwcaps") for 'libmkpasswd.a', $library, "hwcaps/x86-64-v3/$library";
 
 subtest 'install' => sub {
     my $installed = "$scratch/installed";
@@ -123,6 +123,45 @@ subtest 'libraries' => sub {
         my @words = (qw(-Wall -Wextra -Werror -o), "$scratch/login", "$documents/examples/login.c", split ' ', $config->('--cflags') . " $libs");
         is_run(run($cc, @words), 0, '', '', "login.c builds over $what") and $login->("login.c over $what", "$scratch/login");
     }
+};
+
+# glibc takes the library in glibc-hwcaps/x86-64-v3 by itself on a processor of that kind. With AVX2 hidden it takes the other.
+subtest 'the library for x86-64-v3' => sub {
+    needs(cc => 'gcc', $cc ne 'cc' || undef) && needs(objdump => 'binutils') or return;
+    my @places = map { "$tree/lib/$_" } $library, "glibc-hwcaps/x86-64-v3/$library";
+    is(slurp($places[1]), slurp("$root/hwcaps/x86-64-v3/$library"), 'it is the one that make hwcaps built');
+    my @parts = map { [run('objdump', '-p', $_)->{out} =~ /((?:SONAME|NEEDED) .*)/g] } @places;
+    is_deeply(@parts, 'its soname and what it needs are those of the default build');
+    my @calls = map { [sort map { /(\S+ +mkpasswd_\w+)$/ } split /\n/, run('objdump', '-T', $_)->{out}] } @places;
+    is_deeply(@calls, 'its calls and their version too');
+    isnt(slurp($places[0]), slurp($places[1]), 'its code differs') if $cpu ne 'x86-64-v3';
+    my @settings = ('$1$xxxxxxxx', '$5$rounds=1000$xxxxxxxx', '$6$rounds=1000$xxxxxxxx', '$7$6U..../....xxxxxxxx');
+    spew("$scratch/hashes.c", <<'EOF');
+#include <mkpasswd.h>
+#include <stdio.h>
+int main(int count, char **settings)
+{
+    char hash[MKPASSWD_TEXT_SIZE];
+    for (int at = 1; at < count; at++) {
+        if (!mkpasswd_hash_str("password", settings[at], MKPASSWD_BUDGET, hash, sizeof hash, NULL))
+            return 1;
+        puts(hash);
+    }
+    return 0;
+}
+EOF
+    is_run(run($cc, "-I$tree/include", '-o', "$scratch/hashes", "$scratch/hashes.c", $places[0]), 0, '', '', 'a program builds over it');
+    my $loaded = sub {
+        my ($tunables, $place, $name) = @_;
+        my %env = (LD_LIBRARY_PATH => "$tree/lib", LD_DEBUG => 'libs', GLIBC_TUNABLES => $tunables);
+        my $run = run({ env => \%env }, "$scratch/hashes", @settings);
+        is_deeply([$run->{err} =~ m{calling init: (\S*/libmkpasswd\S*)}g], [$place], $name);
+        is($run->{out}, join('', map { crypt('password', $_) . "\n" } @settings), "$name: the hashes are libxcrypt's");
+    };
+    $loaded->('glibc.cpu.hwcaps=-AVX2', $places[0], 'where there is no AVX2 the default one is loaded');
+    my $is_newer = slurp('/proc/cpuinfo') =~ /^flags\s*:.*\bavx2\b/m;
+    needs('AVX2' => 'none: this processor lacks it', $is_newer) or return;
+    $loaded->(undef, $places[1], 'where there is AVX2 it is loaded');
 };
 
 done_testing;

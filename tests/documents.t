@@ -12,7 +12,7 @@ my $guarantee = 25;
 my %most = ('an option' => 45, 'a scheme' => 62, 'a limit' => 21);
 
 # The files that docs/ARCHITECTURE.md leaves out of every list, and those that it leaves out but for a call for C.
-my $made = qr{^(?:CHANGELOG\.md|docs/(?:ARCHITECTURE|MUTANTS|SPECIFICATION)\.md|tools/specification\.md)$};
+my $made = qr{^(?:CHANGELOG\.md|docs/(?:ARCHITECTURE|MUTANTS|SPECIFICATION)\.md|docs/\w+\.(?:tsv|svg)|tools/specification\.md)$};
 my $on_top = qr{^(?:c|crates/crypt_c|debian|dist|include|python|tests/c|tests/python)/
     |^(?:docs/PYTHON\.md|libmkpasswd\.map|man/.*\.3|tests/(?:calls|deb|python)\.t|tools/bench-python)$}x;
 

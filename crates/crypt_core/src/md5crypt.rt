@@ -1,15 +1,15 @@
 //! The scheme md5crypt of FreeBSD. Its definition speaks of whole messages, an opening and 1,000 rounds; here they go
 //! into running digests piece by piece, so that no message is built whole and nothing is allocated. What
 //! stands beside the digests in the rounds is joined once, in a buffer of fixed capacity.
-ghost use Rattle.std.specs.Prelude.{◌≡◌, ◌+◌, ◌<◌, ◌≤◌, length};
+ghost use Rattle.std.specs.Prelude.{◌≡◌, ℕ, ◌+◌, ◌<◌, ◌≤◌, length};
 ghost use Rattle.prims_core.specs.Digests.{md5};
 ghost use Rattle.prims_core.specs.Meter.{with_work, HaveCountAndSum, HasDigestRoom};
 ghost use Rattle.crypt_core.specs.declared.method.Method.TheVariants.{Md5crypt};
-ghost use Rattle.crypt_core.specs.Md5crypt.{md5crypt_digest};
-ghost use Rattle.crypt_core.specs.Messages.{AreMd5cryptMessages, md5crypt_messages, md5crypt_rounds, opening_message};
+ghost use Rattle.crypt_core.specs.Md5crypt.{md5crypt_digest, md5crypt_opening};
+ghost use Rattle.crypt_core.specs.Messages.{AreMd5cryptMessages, md5crypt_message, md5crypt_messages, md5crypt_rounds, opening_message};
 ghost use Rattle.crypt_core.specs.MethodLimits.{digest_len, md5crypt_salt_limit};
 ghost use Rattle.crypt_core.specs.Passwords.{password_limit};
-ghost use Rattle.crypt_core.specs.RoundMessage.{alternate_message};
+ghost use Rattle.crypt_core.specs.RoundMessage.{alternate_message, digest_after};
 ghost use Rattle.crypt_core.specs.Private.Counting.{with_digest};
 ghost use Rattle.crypt_core.specs.Work.{work_limit};
 ghost use Rattle.crypt_core.specs.WorkBytes.{md5crypt_bytes};
@@ -23,6 +23,10 @@ use prims_core::meter::Meter;
 
 /// How often the digest is made anew.
 pub(crate) const ROUNDS: u32 = 1000;
+
+// The rounds run in parts of this many, as a loop within a loop: LLVM takes the calls of MD5's padding there for hot
+// enough to inline them, and those in a single loop not.
+const PART: u32 = 50;
 
 /// The digest of a password and a salt of at most [`MD5CRYPT_SALT_LIMIT`] bytes. The meter counts each of the
 /// 1,002 messages, and each of its counts rises by less than 2^41.
@@ -39,13 +43,17 @@ pub fn md5crypt(password: &Password, salt: &[u8], meter: &mut Meter) -> [u8; 16]
     ensures specified { HaveCountAndSum (md5crypt_messages password.now salt.now) (md5crypt_rounds + 2)
         (md5crypt_bytes (length password.now) (length salt.now)) }
     ensures messages { AreMd5cryptMessages password.now salt.now }
+    ensures each_round { (i : ℕ) → digest_after md5 (md5crypt_opening password.now salt.now) password.now salt.now (i + 1)
+        ≡ md5 (md5crypt_message password.now salt.now (i + 2)) }
 {
     let password = password.bytes();
     let mut digest = [0; 16];
     digest.copy_from_slice(opening(password, salt, meter).as_slice());
     let strings = RoundStrings::new(password, salt);
-    'rounds: for i in 0..ROUNDS {
-        round::<CountedMd5>(i, &mut digest, &strings, meter);
+    'parts: for part in 0..ROUNDS / PART {
+        'rounds: for i in PART * part..PART * (part + 1) {
+            round::<CountedMd5>(i, &mut digest, &strings, meter);
+        }
     }
     digest
 }

@@ -1,11 +1,11 @@
 //! SHA-crypt (Drepper, "Unix crypt using SHA-256 and SHA-512"), once for both digests. Its definition
 //! speaks of whole messages; here they go into running digests piece by piece. What stands for the
 //! password and the salt in the rounds is made once, in buffers of fixed capacity.
-ghost use Rattle.std.specs.Prelude.{◌≡◌, ◌+◌, ◌*◌, ◌^◌, ◌<◌, ◌≤◌, length};
+ghost use Rattle.std.specs.Prelude.{◌≡◌, ℕ, ◌+◌, ◌*◌, ◌^◌, ◌<◌, ◌≤◌, length};
 ghost use Rattle.std.specs.List.{repeat};
 ghost use Rattle.prims_core.specs.Meter.{with_work, HaveCountAndSum, HasDigestRoom};
 ghost use Rattle.crypt_core.specs.Cycle.{cycle};
-ghost use Rattle.crypt_core.specs.Messages.{AreShacryptMessages, sha_opening_message, shacrypt_messages};
+ghost use Rattle.crypt_core.specs.Messages.{AreShacryptMessages, sha_digest_before, sha_opening_message, shacrypt_message, shacrypt_messages};
 ghost use Rattle.crypt_core.specs.MethodLimits.{shacrypt_salt_limit};
 ghost use Rattle.crypt_core.specs.Passwords.{password_limit};
 ghost use Rattle.crypt_core.specs.RoundMessage.{alternate_message};
@@ -49,6 +49,8 @@ pub fn shacrypt<H: Counted>(
     ensures specified { HaveCountAndSum (shacrypt_messages H.digest password.now salt.now rounds) (rounds + 4)
         (shacrypt_bytes H.LEN (sha_opening_byte H.digest password.now salt.now) rounds (length password.now) (length salt.now)) }
     ensures messages { AreShacryptMessages H.digest password.now salt.now rounds }
+    ensures each_round { (i : ℕ) → sha_digest_before H.digest password.now salt.now (i + 1)
+        ≡ H.digest (shacrypt_message H.digest password.now salt.now (i + 4)) }
 {
     let password = password.bytes();
     let mut digest = opening::<H>(password, salt, meter);

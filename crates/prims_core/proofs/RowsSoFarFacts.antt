@@ -1,5 +1,5 @@
 -- The words of a table so far: more zeros, a row that is read, and a row that is written over.
-use Rattle.std.proofs.Common.{◌≡◌, ℕ, zero, ◌+◌, ◌-◌, ◌<◌, ◌≤◌, List, ◌++◌, length, take, drop, replicate, min, inl, inr, refl, sym, ◌∙◌, ap, arith, length-take, length-drop, length-append, append_assoc}
+use Rattle.std.proofs.Common.{◌≡◌, Bool, true, cond, ℕ, zero, ◌+◌, ◌-◌, ◌<◌, ◌≤◌, List, ◌++◌, length, take, drop, replicate, min, inl, inr, refl, sym, ◌∙◌, ap, arith, length-take, length-drop, length-append, append_assoc}
 use Rattle.std.proofs.Math.Seq.{drop-append-add}
 use Rattle.std.proofs.lemmas.List.{length-replicate, take_at, take_all, take-append-le, drop-append-le, take-replicate, drop-replicate, replicate-append-replicate}
 use Rattle.std.proofs.lemmas.Bool.{cases_lt}
@@ -9,6 +9,15 @@ use Rattle.prims_core.specs.Private.RowsSoFar.{filled_up, AreSoFar}
 pub length-filled_up : (whole : ℕ) (xs : List ℕ) → length xs ≤ whole → length (filled_up whole xs) ≡ whole
 unfolding filled_up
 length-filled_up whole xs within = simp (length-append, length-replicate) (omega arith)
+
+-- what `resize` leaves where it appends zeros
+pub resized : (ok : Bool) (n len k : ℕ) (old new : List ℕ) → ok ≡ true → k < n
+    → new ≡ cond ok (take n old ++ replicate (n - len) 0) old → len ≡ length old → k ≡ len
+    → new ≡ old ++ replicate (n - length old) 0
+resized ok n len k old new succeeds more is counted here =
+    is
+    ∙ ap (λ (b : Bool). cond b (take n old ++ replicate (n - len) 0) old) succeeds
+    ∙ rw (counted, take_all n old (omega arith)) refl
 
 -- zeros that are appended were zeros before
 pub filled_up-more : (whole k : ℕ) (xs : List ℕ) → length xs + k ≤ whole

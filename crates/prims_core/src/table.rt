@@ -1,9 +1,9 @@
 //! The table of scrypt, the V of RFC 7914, section 5: rows of 32-bit words, all of one length.
 //!
 //! All rows are in one vector, one after another, so that a table is one allocation, made at once in
-//! its full size, and a row is mixed in place from the one before it. The vector has only the rows that
-//! were written, and after them one row of zeros, which every row that was not written yet equals. So
-//! each row gets its zeros just before it is written, while they are in the processor's cache.
+//! its full size, and a row is mixed in place from the one before it. The vector is filled only up to the
+//! last row that was written and one row of zeros after it, and each row that it lacks equals that one.
+//! So a row gets its zeros just before it is written, while they are in the processor's cache.
 
 ghost use Rattle.std.specs.Prelude.{◌≡◌, ℕ, ◌+◌, ◌*◌, ◌/◌, ◌^◌, ◌<◌, ◌≤◌, List, [], length, take, drop, replicate, slice_index_or, slice_set, vec_len, vec_capacity, IfOk, OnOk, OnErr};
 ghost use Rattle.prims_core.specs.BlockMix.{block_mix};
@@ -75,6 +75,7 @@ impl Table {
         requires { i < length self.now }
         ensures { result.now ≡ slice_index_or self.now i [] }
     {
+        // A row that was not made yet is zeros, like the last one made.
         let last = self.words.len() - self.row_words;
         let start = last.min(i * self.row_words);
         &self.words[start..start + self.row_words]
@@ -123,8 +124,8 @@ impl Table {
     }
 }
 
-// Appends zeros until the first `end` of the `whole` words are there, and one row of zeros after them
-// unless these are all. The capacity is that of the whole, so no memory is asked for.
+// Appends zeros until `words` has the first `end` of the `whole` words, and a row of zeros after them
+// if there is one. No memory is allocated, since the capacity is that of the whole.
 fn make_rows(words: &mut Vec<u32>, whole: usize, row_words: usize, end: usize)
     requires fits { whole ≤ vec_capacity words.old }
     requires inside { end ≤ whole }
@@ -219,25 +220,25 @@ mod tests {
         Ok(())
     }
 
+    // Salsa20/8 of zeros is zeros, and so is their mixing.
     #[test]
     fn a_row_of_one_not_written(rt: HostRuntime) -> Result<(), Fail> {
         let mut meter = Meter::new();
         let mut table = Table::new(rt.alloc(), 4, 32, &mut meter)?;
         let ones = [1; 32];
         table.set_row(0, &ones);
-        let zeros = [0; 32];
-        let mut mixed = [0; 32];
-        block_mix(&zeros, &mut mixed, &mut meter);
         table.mix_row(2, &mut meter);
+        let zeros = [0; 32];
         assert_eq!(rt;
             (table.row(0), table.row(1), table.row(2), table.row(3)),
             (
                 ones.as_slice(),
                 zeros.as_slice(),
                 zeros.as_slice(),
-                mixed.as_slice()
+                zeros.as_slice()
             )
         );
+        assert_eq!(rt; counts(&meter), [0, 0, 1, 512, 0]);
         Ok(())
     }
 

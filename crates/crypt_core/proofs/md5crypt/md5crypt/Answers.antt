@@ -1,4 +1,4 @@
-use Rattle.std.proofs.Common.{◌≡◌, ◌+◌, length, arith, refl, sym, ◌∙◌, ap}
+use Rattle.std.proofs.Common.{◌≡◌, ◌+◌, ◌*◌, length, arith, refl, sym, ◌∙◌, ap}
 use Rattle.prims_core.specs.Digests.{length-md5, md5}
 use Rattle.crypt_core.specs.Md5crypt.{md5crypt_digest, md5crypt_opening}
 use Rattle.crypt_core.specs.Messages.{md5crypt_message, md5crypt_messages, md5crypt_rounds, opening_message}
@@ -11,8 +11,8 @@ use Rattle.crypt_core.proofs.MessageLists.{digest_after-more, digest_after-none,
 use Rattle.crypt_core.proofs.Metering.{digests_in_all, digests_more, two_digests}
 use Rattle.crypt_core.proofs.md5crypt.md5crypt.Goals as goal
 
-pub rounds-init : goal.rounds-init
-rounds-init c =
+pub parts-init : goal.parts-init
+parts-init c =
     let p = c.args.password.now in
     let s = c.args.salt.now in
     let a = c.args.meter.now in
@@ -64,15 +64,15 @@ rounds-preserved c =
 pub returns-clause-digest : goal.returns-clause-digest
 unfolding md5crypt_digest
 returns-clause-digest c =
-    let last : c.rounds.i ≡ md5crypt_rounds = omega arith in
-    rw last at c.rounds.invariant.0
+    let last : 50 * c.parts.part ≡ md5crypt_rounds = omega arith in
+    rw last at c.parts.invariant.0
 
 pub returns-clause-count : goal.returns-clause-count
 returns-clause-count c =
     let p = c.args.password.now in
     let s = c.args.salt.now in
-    let last : c.rounds.i + 2 ≡ md5crypt_rounds + 2 = omega arith in
-    let counted = rw (last, messages-all p s) at c.rounds.invariant.2 in
+    let last : 50 * c.parts.part + 2 ≡ md5crypt_rounds + 2 = omega arith in
+    let counted = rw (last, messages-all p s) at c.parts.invariant.2 in
     counted ∙ digests_in_all c.args.meter.now (md5crypt_messages p s) (md5crypt_rounds + 2) _ (messages-in_all p s)
 
 pub returns-clause-specified : goal.returns-clause-specified
@@ -81,5 +81,11 @@ returns-clause-specified c = messages-in_all c.args.password.now c.args.salt.now
 pub returns-clause-messages : goal.returns-clause-messages
 returns-clause-messages c = are_messages c.args.password.now c.args.salt.now
 
+pub returns-clause-each_round : goal.returns-clause-each_round
+returns-clause-each_round c i =
+    let p = c.args.password.now in
+    let s = c.args.salt.now in
+    digest_after-more md5 (md5crypt_opening p s) p s i ∙ ap md5 (sym (message-round p s i))
+
 pub returns-clause-below : goal.returns-clause-below
-returns-clause-below c = omega (arith, ap (λ m. m.bytes) (returns-clause-count c), c.rounds.invariant.3)
+returns-clause-below c = omega (arith, ap (λ m. m.bytes) (returns-clause-count c), c.parts.invariant.3)

@@ -169,6 +169,13 @@ pub returns-clause-messages : goal.returns-clause-messages
 returns-clause-messages g c =
     are_messages g.H.Counted.digest c.args.password.now c.args.salt.now c.args.rounds (omega (arith, c.requires.least_rounds))
 
+pub returns-clause-each_round : goal.returns-clause-each_round
+returns-clause-each_round g c i =
+    let h = g.H.Counted.digest in
+    let p = c.args.password.now in
+    let s = c.args.salt.now in
+    digest_after-more h (sha_opening h p s) (password_string h p) (salt_string h p s) i ∙ ap h (sym (message-number h p s i))
+
 pub returns-clause-below : goal.returns-clause-below
 returns-clause-below g c =
     omega (arith, ap (λ m. m.bytes) (returns-clause-count g c), c.rounds.invariant.3, c.requires.most_rounds)
