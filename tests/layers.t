@@ -25,7 +25,7 @@ my %dependencies = (
 );
 
 # The implementations of Counted, by file: the digest's crate and its type there. What is called there, as often as here: the
-# trait's three functions by their definitions, and what these call.
+# trait's four functions by their definitions, and what these call.
 my $prims = 'crates/prims_core/src';
 my $counted = "$prims/counted";
 my %implementations = (

@@ -1,6 +1,6 @@
-//! The scheme md5crypt of FreeBSD. Its definition speaks of whole messages, an opening and 1,000 rounds; here they go
-//! into running digests piece by piece, so that no message is built whole and nothing is allocated. What
-//! stands beside the digests in the rounds is joined once, in a buffer of fixed capacity.
+//! The scheme md5crypt of FreeBSD. Its definition is about whole messages, an opening and 1,000 rounds. The code feeds
+//! them to running digests piece by piece, so that no message is built whole and nothing is allocated. The
+//! strings of the rounds are joined once, in a buffer of fixed capacity.
 ghost use Rattle.std.specs.Prelude.{◌≡◌, ℕ, ◌+◌, ◌<◌, ◌≤◌, length};
 ghost use Rattle.prims_core.specs.Digests.{md5};
 ghost use Rattle.prims_core.specs.Meter.{with_work, HaveCountAndSum, HasDigestRoom};
@@ -21,17 +21,18 @@ use arrayvec::ArrayVec;
 use prims_core::counted::{Counted, CountedMd5};
 use prims_core::meter::Meter;
 
-/// How often the digest is made anew.
+/// The number of rounds.
 pub(crate) const ROUNDS: u32 = 1000;
 
-// The rounds run in parts of this many, as a loop within a loop: LLVM takes the calls of MD5's padding there for hot
-// enough to inline them, and those in a single loop not.
+// The rounds run in parts of this many. LLVM inlines the calls of MD5's padding in a loop within a loop, and not in a
+// single one.
 const PART: u32 = 50;
 
-/// The digest of a password and a salt of at most [`MD5CRYPT_SALT_LIMIT`] bytes. The meter counts each of the
-/// 1,002 messages, and each of its counts rises by less than 2^41.
+/// Returns the digest of a password and a salt. The meter counts each of the 1,002 messages, and each of its counts
+/// rises by less than 2^41.
 ///
-/// The meter has counted at most 2^120 digests and at most 2^120 bytes before.
+/// Preconditions: the salt has at most [`MD5CRYPT_SALT_LIMIT`] bytes, and the meter has counted at most 2^120 digests
+/// and at most 2^120 bytes before.
 ///
 /// [`MD5CRYPT_SALT_LIMIT`]: crate::method::MD5CRYPT_SALT_LIMIT
 pub fn md5crypt(password: &Password, salt: &[u8], meter: &mut Meter) -> [u8; 16]
@@ -58,7 +59,7 @@ pub fn md5crypt(password: &Password, salt: &[u8], meter: &mut Meter) -> [u8; 16]
     digest
 }
 
-// The digest of the second message.
+// Returns the digest of the second message.
 fn opening(password: &[u8], salt: &[u8], meter: &mut Meter) -> ArrayVec<u8, 64>
     requires password { length password.now ≤ password_limit }
     requires salt { length salt.now ≤ md5crypt_salt_limit }

@@ -18,10 +18,10 @@ use prims_core::counted::Counted;
 use prims_core::meter::Meter;
 use std::marker::Model;
 
-/// Room for three passwords and a salt, in bytes. SHA-crypt's salts are the longer ones.
+/// The bytes of three passwords and a salt. SHA-crypt's salts are the longer ones.
 const JOINED_LIMIT: usize = 3 * PASSWORD_LIMIT + SHACRYPT_SALT_LIMIT;
 
-/// The digest of the first message, the salt between two passwords.
+/// Returns the digest of the first message, which is the salt between two passwords.
 pub(crate) fn alternate_digest<C: Counted>(
     password: &[u8],
     salt: &[u8],
@@ -41,7 +41,7 @@ pub(crate) fn alternate_digest<C: Counted>(
     running.finish(meter)
 }
 
-/// Feeds a piece so many times.
+/// Feeds `times` copies of a piece.
 pub(crate) fn feed_repeated<C: Counted>(
     running: &mut C,
     meter: &mut Meter,
@@ -57,7 +57,7 @@ pub(crate) fn feed_repeated<C: Counted>(
     }
 }
 
-/// Feeds `len` bytes of a digest, from its start again and again.
+/// Feeds `len` bytes of a digest that is repeated.
 pub(crate) fn feed_cycle<C: Counted>(running: &mut C, meter: &mut Meter, digest: &[u8], len: usize)
     requires some { 0 < length digest.now }
     requires room { meter.old.bytes + len < 2 ^ 128 }
@@ -68,7 +68,9 @@ pub(crate) fn feed_cycle<C: Counted>(running: &mut C, meter: &mut Meter, digest:
     running.feed(meter, &digest[..len % digest.len()]);
 }
 
-/// `len` bytes of a digest, from its start again and again. They are no more than a password has.
+/// Returns `len` bytes of a digest that is repeated.
+///
+/// Precondition: they are no more than a password has.
 pub(crate) fn cycle_of(digest: &[u8], len: usize) -> ArrayVec<u8, PASSWORD_LIMIT>
     requires some { 0 < length digest.now }
     requires fits { len ≤ password_limit }
@@ -103,7 +105,7 @@ pub(crate) fn feed_digits<C: Counted>(
     }
 }
 
-/// What stands for the password and the salt in every round. A contract sees it as these two.
+/// The two strings of the rounds, which stand for the password and the salt. Contracts see them as these two.
 #[derive(Drop)]
 pub(crate) struct RoundStrings<'a> {
     password: &'a [u8],
@@ -121,7 +123,9 @@ impl<'a> Model for RoundStrings<'a> {
 }
 
 impl<'a> RoundStrings<'a> {
-    /// Joins them. There is room for the longest password and the longest salt.
+    /// Joins the strings.
+    ///
+    /// Precondition: they are no longer than the longest password and the longest salt.
     pub(crate) fn new(password: &'a [u8], salt: &'a [u8]) -> Self
         requires { 3 * length password.now + length salt.now ≤ JOINED_LIMIT }
         ensures { result ≡ record { password = password.now; salt = salt.now } }
@@ -137,7 +141,7 @@ impl<'a> RoundStrings<'a> {
         }
     }
 
-    // The message of round `i` in two pieces, of which one is `before`, the digest of the round before.
+    // Returns the message of round `i` in two pieces, of which one is `before`, the digest of the round before.
     fn pieces<'b>(&'b self, i: u32, before: &'b [u8]) -> (&'b [u8], &'b [u8])
         ensures { result.0.now ++ result.1.now ≡ round_message i before.now self.now.password self.now.salt }
     {
@@ -163,7 +167,7 @@ impl<'a> RoundStrings<'a> {
     }
 }
 
-/// Round `i`: replaces the digest of the round before by that of this one.
+/// Replaces the digest of the round before by that of round `i`.
 pub(crate) fn round<C: Counted>(
     i: u32,
     digest: &mut [u8],

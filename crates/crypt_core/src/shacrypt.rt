@@ -1,6 +1,6 @@
 //! SHA-crypt (Drepper, "Unix crypt using SHA-256 and SHA-512"), once for both digests. Its definition
-//! speaks of whole messages; here they go into running digests piece by piece. What stands for the
-//! password and the salt in the rounds is made once, in buffers of fixed capacity.
+//! is about whole messages. The code feeds them to running digests piece by piece. The strings P and S,
+//! which stand for the password and the salt in the rounds, are made once, in buffers of fixed capacity.
 ghost use Rattle.std.specs.Prelude.{◌≡◌, ℕ, ◌+◌, ◌*◌, ◌^◌, ◌<◌, ◌≤◌, length};
 ghost use Rattle.std.specs.List.{repeat};
 ghost use Rattle.prims_core.specs.Meter.{with_work, HaveCountAndSum, HasDigestRoom};
@@ -23,11 +23,11 @@ use arrayvec::ArrayVec;
 use prims_core::counted::Counted;
 use prims_core::meter::Meter;
 
-/// The digest of a password by SHA-crypt over the digest function `H`, with a salt of at most
-/// [`SHACRYPT_SALT_LIMIT`] bytes and 1000 to 999999999 rounds. It has `H::LEN` bytes. The meter counts each of the
-/// `rounds + 4` messages, and each of its counts rises by less than 2^41.
+/// Returns the digest of a password by SHA-crypt over the digest function `H`, of `H::LEN` bytes. The meter counts each
+/// of the `rounds + 4` messages, and each of its counts rises by less than 2^41.
 ///
-/// The meter has counted at most 2^120 digests and at most 2^120 bytes before.
+/// Preconditions: the salt has at most [`SHACRYPT_SALT_LIMIT`] bytes, there are 1000 to 999999999 rounds, and the meter
+/// has counted at most 2^120 digests and at most 2^120 bytes before.
 ///
 /// [`SHACRYPT_SALT_LIMIT`]: crate::method::SHACRYPT_SALT_LIMIT
 pub fn shacrypt<H: Counted>(
@@ -64,7 +64,7 @@ pub fn shacrypt<H: Counted>(
     digest
 }
 
-// Steps 1 to 12: the digest of the second message.
+// Returns the digest A of the second message (steps 1 to 12).
 fn opening<H: Counted>(password: &[u8], salt: &[u8], meter: &mut Meter) -> ArrayVec<u8, 64>
     requires password { length password.now ≤ password_limit }
     requires salt { length salt.now ≤ shacrypt_salt_limit }
@@ -89,8 +89,8 @@ fn opening<H: Counted>(password: &[u8], salt: &[u8], meter: &mut Meter) -> Array
     running.finish(meter)
 }
 
-// Steps 13 to 16 for the password, and 17 to 20 for the salt: the digest of all the times that the
-// piece is repeated, and as many bytes of it as the piece has.
+// Returns the string P of the password (steps 13 to 16) or the string S of the salt (steps 17 to 20): the
+// digest of the repeated piece, itself repeated to the length of the piece.
 fn string_of<H: Counted>(
     piece: &[u8],
     times: usize,

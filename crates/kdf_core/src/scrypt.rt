@@ -156,7 +156,8 @@ fn fill_table(table: &mut Table, rows: usize, x: &mut [u32], meter: &mut Meter)
     mix_diagonals(table.row(rows - 1), x, meter);
 }
 
-// Applies F to `x` N times. Step by step it goes from `x` to `y` and back, so that no block is copied.
+// Makes the N steps of ROMix's second loop from `x` on. They go from `x` to `y` and back, so that no block is
+// copied.
 fn mix_with_rows(table: &Table, rows: usize, x: &mut [u32], y: &mut [u32], meter: &mut Meter)
     requires power { (k : ℕ) × IsPower rows k }
     requires halves { (r : ℕ) × AreHalves r x.old y.old }
@@ -172,7 +173,7 @@ fn mix_with_rows(table: &Table, rows: usize, x: &mut [u32], y: &mut [u32], meter
     }
 }
 
-// Writes F of `x` to `y`.
+// Writes to `y` what one step of ROMix's second loop makes of `x`.
 fn mix_back(table: &Table, rows: usize, x: &[u32], y: &mut [u32], meter: &mut Meter)
     requires power { (k : ℕ) × IsPower rows k }
     requires halves { (r : ℕ) × AreHalves r x.now y.old }
@@ -186,8 +187,8 @@ fn mix_back(table: &Table, rows: usize, x: &[u32], y: &mut [u32], meter: &mut Me
     mix_xor_diagonals(x, row, y, meter);
 }
 
-// Returns the number of the row that F takes for X: Integerify (X) mod N. As N is a power of two of at most 2^32, the first
-// word of the last block decides, which is the first of its diagonals too.
+// Returns the number of the row that a step takes for X: Integerify (X) mod N. As N is a power of two of at most 2^32,
+// the first word of the last block decides, which is the first of its diagonals too.
 fn row_number(words: &[u32], rows: usize) -> usize
     requires power { (k : ℕ) × IsPower rows k }
     requires some_block { (r : ℕ) × (1 ≤ r) × (length words.now ≡ part_words r) }

@@ -7,5 +7,4 @@ pub mod MatrixFacts
 pub mod MixFacts
 pub mod NumeralFacts
 pub mod RowFacts
-pub mod RowsSoFarFacts
 pub mod WordFacts

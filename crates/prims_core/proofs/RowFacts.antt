@@ -6,8 +6,6 @@ use Rattle.std.proofs.lemmas.List.{drop-drop, take_at, drop_at, take-replicate, 
 use Rattle.std.proofs.lemmas.Nat.{rows}
 use borrow.Rule.Slice.PartMut.{put_mid}
 use Rattle.prims_core.specs.Memory.{rows_of}
-use Rattle.prims_core.specs.Private.RowsSoFar.{filled_up}
-use Rattle.prims_core.proofs.RowsSoFarFacts.{length-filled_up, filled_up-part, filled_up-put}
 
 pub length-rows_of : (n w : ℕ) (xs : List ℕ) → length (rows_of n w xs) ≡ n
 unfolding rows_of
@@ -90,50 +88,33 @@ rows_of-written (suc n) w (suc i) xs row inside long whole =
     )
     (ap (λ (xss : List (List ℕ)). take w xs ∷ xss) below)
 
--- the length of a row of a table of which there are so many words so far
-pub length-row_so_far : (n w : ℕ) (xs : List ℕ) (table : List (List ℕ)) (i : ℕ) → rows_of n w (filled_up (n * w) xs) ≡ table
-    → i < length table → length xs ≤ n * w → length (get_or table i []) ≡ w
-length-row_so_far n w xs table i is inside within =
-    length-row n w (filled_up (n * w) xs) table i is inside (omega (arith, length-filled_up (n * w) xs within))
-
--- what is read of row i where all its words are there
-pub row_there : (n w : ℕ) (xs : List ℕ) (table : List (List ℕ)) (i : ℕ) → rows_of n w (filled_up (n * w) xs) ≡ table
-    → i < length table → i * w + w ≤ length xs → take w (drop (i * w) xs) ≡ get_or table i []
-row_there n w xs table i is inside there =
-    sym (filled_up-part (n * w) (i * w) w xs there) ∙ row_read n w (filled_up (n * w) xs) table i is inside
-
--- that row as a write to a part of a vector leaves it, which has so many items so far
+-- that row as a write to a part of a vector of so many items leaves it
 pub row_written : (n w : ℕ) (xs : List ℕ) (table : List (List ℕ)) (i size items : ℕ) (row : List ℕ)
-    → rows_of n w (filled_up (n * w) xs) ≡ table → i < length table → i * w + w ≤ items → items ≤ n * w
-    → items ≡ length xs → length row ≡ w → size ≡ w
-    → rows_of n w (filled_up (n * w) (take items (put_mid (i * w) size xs row ++ drop (length (put_mid (i * w) size xs row)) xs)))
-    ≡ set table i row
-row_written n w xs table i size items row is inside there within counted long sized =
+    → rows_of n w xs ≡ table → i < length table → n * w ≡ items → items ≡ length xs
+    → length row ≡ w → size ≡ w
+    → rows_of n w (take items (put_mid (i * w) size xs row ++ drop (length (put_mid (i * w) size xs row)) xs)) ≡ set table i row
+row_written n w xs table i size items row is inside whole counted long sized =
+    let ends : i * w + w ≤ n * w = row_end n w xs table i is inside in
     let kept : length (put_mid (i * w) size xs row) ≡ items =
     simp (length-append, length-take, length-drop) (omega arith) in
-    let filled : length (filled_up (n * w) xs) ≡ n * w = length-filled_up (n * w) xs (omega arith) in
-    let same : put_mid (i * w) size (filled_up (n * w) xs) row
-    ≡ take (i * w) (filled_up (n * w) xs) ++ (row ++ drop (i * w + w) (filled_up (n * w) xs)) =
-    rw (sized, drop-drop w (i * w) (filled_up (n * w) xs)) refl in
     rw (
       take_at (put_mid (i * w) size xs row) (drop (length (put_mid (i * w) size xs row)) xs) items kept,
-      filled_up-put (n * w) (i * w) size xs row (omega arith) (omega arith),
-      same,
-      rows_of-written n w i (filled_up (n * w) xs) row (row_inside n w (filled_up (n * w) xs) table i is inside) long (omega arith),
+      sized,
+      drop-drop w (i * w) xs,
+      rows_of-written n w i xs row (row_inside n w xs table i is inside) long (omega arith),
     )
     (ap (λ (rows : List (List ℕ)). set rows i row) is)
 
 -- two rows, where the second was made of the first, written over those two
 pub next_row_written : (n w : ℕ) (xs : List ℕ) (table : List (List ℕ)) (i size items : ℕ) (both made : List ℕ)
-    → rows_of n w (filled_up (n * w) xs) ≡ table → i + 1 < length table → i * w + w + w ≤ items → items ≤ n * w
-    → items ≡ length xs → length made ≡ w → size ≡ 2 * w → both ≡ take w (drop (i * w) xs) ++ made
-    → rows_of n w (filled_up (n * w) (take items (put_mid (i * w) size xs both ++ drop (length (put_mid (i * w) size xs both)) xs)))
-    ≡ set table (i + 1) made
-next_row_written n w xs table i size items both made is inside there within counted long sized written =
+    → rows_of n w xs ≡ table → i + 1 < length table → n * w ≡ items → items ≡ length xs
+    → length made ≡ w → size ≡ 2 * w → both ≡ take w (drop (i * w) xs) ++ made
+    → rows_of n w (take items (put_mid (i * w) size xs both ++ drop (length (put_mid (i * w) size xs both)) xs)) ≡ set table (i + 1) made
+next_row_written n w xs table i size items both made is inside whole counted long sized written =
     let next : (i + 1) * w ≡ i * w + w = omega (arith, add-mul i 1 w) in
     let same : put_mid (i * w) size xs both ≡ put_mid ((i + 1) * w) w xs made =
     rw (written, sized, next, take-add (i * w) w xs, drop-drop w (i * w + w) xs, drop-drop (2 * w) (i * w) xs)
     (ap (λ (rest : List ℕ). take (i * w) xs ++ rest) (append_assoc (take w (drop (i * w) xs)) made (drop (i * w + 2 * w) xs))
     ∙ ap (λ (k : ℕ). take (i * w) xs ++ (take w (drop (i * w) xs) ++ (made ++ drop k xs))) (omega arith)
     ∙ sym (append_assoc (take (i * w) xs) (take w (drop (i * w) xs)) (made ++ drop (i * w + w + w) xs))) in
-    rw same (row_written n w xs table (i + 1) w items made is inside (omega arith) within counted long refl)
+    rw same (row_written n w xs table (i + 1) w items made is inside whole counted long refl)

@@ -57,8 +57,8 @@ pub trait Counted: Drop {
 
     /// Writes the digest of the message to `out`, and adds one to the meter's digests.
     ///
-    /// Preconditions: `out` has the length of a digest, and the meter has room for it. A type that doesn't
-    /// implement this has it by [`Counted::finish`].
+    /// Preconditions: `out` has the length of a digest, and the meter has room for it. The default calls
+    /// [`Counted::finish`] and copies the digest.
     fn finish_into(self, meter: &mut Meter, out: &mut [u8])
     where
         Self: Sized,

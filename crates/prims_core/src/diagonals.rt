@@ -101,7 +101,7 @@ impl Diagonals {
         block.copy_to_slice(words);
     }
 
-    /// Returns the exclusive or of two blocks.
+    /// Returns the XOR of two blocks.
     #[inline(always)]
     pub(crate) fn xor(&self, other: &Diagonals) -> Diagonals
         ensures { result ≡ xor_lists self.now other.now }

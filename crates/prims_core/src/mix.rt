@@ -2,7 +2,7 @@
 //!
 //! A block is its sixteen words. Each is mixed with the result before it, the first with the last
 //! block, and the results at even places come before those at odd places. ROMix (section 5) mixes the
-//! exclusive or of blocks and a row of its table, which has a call of its own.
+//! XOR of blocks and a row of its table, which has a call of its own.
 //!
 //! During the whole of ROMix blocks stand diagonal by diagonal, as Salsa20/8 in lanes takes them, so that
 //! no mixing has to rearrange any. [`to_diagonals`] and [`from_diagonals`] convert them before and after it.
@@ -55,7 +55,7 @@ pub fn mix_diagonals(src: &[u32], dst: &mut [u32], meter: &mut Meter)
     meter.count_mix();
 }
 
-/// Mixes the exclusive or of the 2r blocks of `src` and of `row` into `dst`, where all stand diagonal by diagonal, as
+/// Mixes the XOR of the 2r blocks of `src` and of `row` into `dst`, where all stand diagonal by diagonal, as
 /// the second loop of scryptROMix does (RFC 7914, section 5), and counts one mixing.
 ///
 /// Preconditions: all three have the 32r words of 2r blocks, for one r of at least 1, and the meter has room.
@@ -143,7 +143,7 @@ impl<'a> Blocks for OnDiagonals<'a> {
     }
 }
 
-// The exclusive or of two lists of blocks that stand diagonal by diagonal.
+// The XOR of two lists of blocks that stand diagonal by diagonal.
 #[derive(Drop)]
 struct Xored<'a> {
     words: &'a [u32],

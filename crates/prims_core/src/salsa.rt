@@ -99,7 +99,7 @@ fn quarter_rounds(a: u32x4, b: u32x4, c: u32x4, d: u32x4) -> (u32x4, u32x4, u32x
     (a, b, c, d)
 }
 
-// Adds the sums of `x` and `y`, rotated to the left, to `word` by exclusive or, the bits that the
+// Adds the sums of `x` and `y`, rotated to the left, to `word` by XOR, the bits that the
 // rotation moves up and those that it moves down one after the other: that is faster than their union.
 #[inline(always)]
 fn xor_rotated_sum(word: u32x4, x: u32x4, y: u32x4, bits: u32) -> u32x4

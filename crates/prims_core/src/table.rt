@@ -1,14 +1,11 @@
 //! The table of scrypt, the V of RFC 7914, section 5: rows of 32-bit words, all of one length.
 //!
 //! All rows are in one vector, one after another, so that a table is one allocation, made at once in
-//! its full size, and a row is mixed in place from the one before it. The vector is filled only up to the
-//! last row that was written and one row of zeros after it, and each row that it lacks equals that one.
-//! So a row gets its zeros just before it is written, while they are in the processor's cache.
+//! its full size, and a row is mixed in place from the one before it.
 
-ghost use Rattle.std.specs.Prelude.{◌≡◌, ℕ, ◌+◌, ◌*◌, ◌/◌, ◌^◌, ◌<◌, ◌≤◌, List, [], length, take, drop, replicate, slice_index_or, slice_set, vec_len, vec_capacity, IfOk, OnOk, OnErr};
+ghost use Rattle.std.specs.Prelude.{◌≡◌, ℕ, ◌+◌, ◌*◌, ◌/◌, ◌^◌, ◌<◌, ◌≤◌, List, [], length, take, drop, replicate, slice_index_or, slice_set, IfOk, OnOk, OnErr};
 ghost use Rattle.prims_core.specs.BlockMix.{block_mix};
 ghost use Rattle.prims_core.specs.Diagonals.{in_rows};
-ghost use Rattle.prims_core.specs.Private.RowsSoFar.{filled_up, AreSoFar};
 
 use crate::meter::Meter;
 use crate::mix::mix_diagonals;
@@ -25,15 +22,14 @@ pub struct Table {
 }
 
 impl Model for Table {
-    ghost use Rattle.std.specs.Prelude.{ℕ, ◌*◌, ◌≤◌, List, vec_capacity};
+    ghost use Rattle.std.specs.Prelude.{◌≡◌, ℕ, ◌*◌, List, vec_len};
     ghost use Rattle.prims_core.specs.Memory.{rows_of};
-    ghost use Rattle.prims_core.specs.Private.RowsSoFar.{filled_up, AreSoFar};
 
     ghost Value = { List (List ℕ) };
 
-    ghost view = { λ t. rows_of t.rows t.row_words (filled_up (t.rows * t.row_words) t.words.items) };
+    ghost view = { λ t. rows_of t.rows t.row_words t.words.items };
 
-    ghost invariant = { λ t. (t.rows * t.row_words ≤ vec_capacity t.words) × AreSoFar (t.rows * t.row_words) t.row_words 0 t.words.items };
+    ghost invariant = { λ t. vec_len t.words ≡ t.rows * t.row_words };
 }
 
 impl Table {
@@ -57,8 +53,7 @@ impl Table {
             ≡ record meter.old { table = meter.old.table + 4 * (rows * row_words) }) }
         ensures refused { OnErr result (meter.new ≡ meter.old) }
     {
-        let mut words = Vec::with_capacity(alloc, rows * row_words)?;
-        words.resize(row_words.min(rows * row_words), 0)?;
+        let words = vec![in alloc; 0; rows * row_words]?;
         meter.count_table(rows * row_words * size_of::<u32>());
         Ok(Table {
             words,
@@ -75,9 +70,7 @@ impl Table {
         requires { i < length self.now }
         ensures { result.now ≡ slice_index_or self.now i [] }
     {
-        // A row that was not made yet is zeros, like the last one made.
-        let last = self.words.len() - self.row_words;
-        let start = last.min(i * self.row_words);
+        let start = i * self.row_words;
         &self.words[start..start + self.row_words]
     }
 
@@ -92,16 +85,14 @@ impl Table {
     {
         let start = i * self.row_words;
         let end = start + self.row_words;
-        let whole = self.rows * self.row_words;
-        make_rows(&mut self.words, whole, self.row_words, end);
         self.words[start..end].copy_from_slice(row);
     }
 
     /// Makes row `i + 1` what scryptBlockMix (RFC 7914, section 4) makes of row `i`, where both stand diagonal by
     /// diagonal, and counts that mixing. The other rows stay.
     ///
-    /// Preconditions: there is a row `i + 1`, a row has the 32r words of 2r blocks, for one r of at least 1, and the meter
-    /// has room.
+    /// Preconditions: there is a row `i + 1`, a row has the 32r words of 2r blocks, for one r of at least 1, and the
+    /// meter has room.
     #[tactic(auto, using(crate::proofs::RowFacts::next_row_end))]
     pub fn mix_row(&mut self, i: usize, meter: &mut Meter)
         requires inside { i + 1 < length self.old }
@@ -113,31 +104,7 @@ impl Table {
     {
         let start = i * self.row_words;
         let next = start + self.row_words;
-        let whole = self.rows * self.row_words;
-        make_rows(
-            &mut self.words,
-            whole,
-            self.row_words,
-            next + self.row_words,
-        );
         mix_into_second(&mut self.words[start..next + self.row_words], meter);
-    }
-}
-
-// Appends zeros until `words` has the first `end` of the `whole` words, and a row of zeros after them
-// if there is one. No memory is allocated, since the capacity is that of the whole.
-fn make_rows(words: &mut Vec<u32>, whole: usize, row_words: usize, end: usize)
-    requires fits { whole ≤ vec_capacity words.old }
-    requires inside { end ≤ whole }
-    requires so_far { AreSoFar whole row_words 0 words.old.items }
-    ensures same { filled_up whole words.new.items ≡ filled_up whole words.old.items }
-    ensures made { AreSoFar whole row_words end words.new.items }
-    ensures long { end ≤ vec_len words.new }
-    ensures capacity { vec_capacity words.old ≤ vec_capacity words.new }
-{
-    let len = end + row_words.min(whole - end);
-    if words.len() < len {
-        let _filled = words.resize(len, 0);
     }
 }
 
@@ -175,70 +142,6 @@ mod tests {
             (table.row(0), table.row(1), table.row(2)),
             (zeros.as_slice(), row.as_slice(), zeros.as_slice())
         );
-        Ok(())
-    }
-
-    #[test]
-    fn rows_not_written_are_zeros(rt: HostRuntime) -> Result<(), Fail> {
-        let mut meter = Meter::new();
-        let mut table = Table::new(rt.alloc(), 4, 2, &mut meter)?;
-        let zeros = [0; 2];
-        assert_eq!(rt;
-            (table.row(3), table.row(2), table.row(1), table.row(0)),
-            (
-                zeros.as_slice(),
-                zeros.as_slice(),
-                zeros.as_slice(),
-                zeros.as_slice()
-            ),
-            "before any is written"
-        );
-        let third = [3, 4];
-        table.set_row(2, &third);
-        assert_eq!(rt;
-            (table.row(0), table.row(1), table.row(2), table.row(3)),
-            (
-                zeros.as_slice(),
-                zeros.as_slice(),
-                third.as_slice(),
-                zeros.as_slice()
-            ),
-            "after the third"
-        );
-        let first = [1, 2];
-        table.set_row(0, &first);
-        assert_eq!(rt;
-            (table.row(0), table.row(1), table.row(2), table.row(3)),
-            (
-                first.as_slice(),
-                zeros.as_slice(),
-                third.as_slice(),
-                zeros.as_slice()
-            ),
-            "after the first"
-        );
-        Ok(())
-    }
-
-    // Salsa20/8 of zeros is zeros, and so is their mixing.
-    #[test]
-    fn a_row_of_one_not_written(rt: HostRuntime) -> Result<(), Fail> {
-        let mut meter = Meter::new();
-        let mut table = Table::new(rt.alloc(), 4, 32, &mut meter)?;
-        let ones = [1; 32];
-        table.set_row(0, &ones);
-        table.mix_row(2, &mut meter);
-        let zeros = [0; 32];
-        assert_eq!(rt;
-            (table.row(0), table.row(1), table.row(2), table.row(3)),
-            (
-                ones.as_slice(),
-                zeros.as_slice(),
-                zeros.as_slice(),
-                zeros.as_slice()
-            )
-        );
-        assert_eq!(rt; counts(&meter), [0, 0, 1, 512, 0]);
         Ok(())
     }
 

@@ -13,8 +13,8 @@ pub record HasShape (table : List (List ℕ)) (rows words : ℕ) : Type 0 where
   pub row_count : length table ≡ rows
   pub row_words : (i : ℕ) → i < rows → length (slice_index_or table i []) ≡ words
 
--- HoldsMixings table count start: row i, diagonal by diagonal, holds B after i mixings, for each of the first count rows. B
--- is `start`.
+-- HoldsMixings table count start: row i, diagonal by diagonal, holds B after i mixings, for each of the first count rows.
+-- B is `start`.
 abbrev pub HoldsMixings : List (List ℕ) → ℕ → List ℕ → Type 0
 HoldsMixings table count start = (i : ℕ) → i < count → in_rows (slice_index_or table i []) ≡ iterate block_mix i start
 

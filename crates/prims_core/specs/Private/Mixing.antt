@@ -5,7 +5,7 @@ use Rattle.prims_core.specs.Diagonals.{block_in_rows}
 use Rattle.prims_core.specs.Salsa.{salsa20_8}
 use Rattle.prims_core.specs.Words.{xor_lists}
 
--- mixed_block x block: the next X, of the X before it and a block: Salsa20/8 of their exclusive or.
+-- mixed_block x block: the next X, of the X before it and a block: Salsa20/8 of their XOR.
 abbrev pub mixed_block : List ℕ → List ℕ → List ℕ
 mixed_block x block = salsa20_8 (xor_lists x block)
 

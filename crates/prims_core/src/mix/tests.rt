@@ -73,7 +73,7 @@ fn step_by_seven(bytes: &mut [u8]) {
     }
 }
 
-// Splits each word in two, of which it is the exclusive or.
+// Splits each word in two, of which it is the XOR.
 fn split(words: &mut [u32], row: &mut [u32]) {
     let mut next = 0x9e37_79b9u32;
     for (word, other) in words.iter_mut().zip(row.iter_mut()) {
@@ -136,7 +136,7 @@ fn six_blocks(rt: HostRuntime) -> Result<(), Fail> {
     Ok(())
 }
 
-// The exclusive or of blocks and a row, both by their diagonals, mixed; the result by its rows.
+// The XOR of blocks and a row, both by their diagonals, mixed; the result by its rows.
 fn mix_with_row(words: &mut [u32], row: &mut [u32], mixed: &mut [u32], meter: &mut Meter)
     requires blocks { (r : ℕ) × (1 ≤ r) × (length words.old ≡ 32 * r) × (length row.old ≡ 32 * r)
         × (length mixed.old ≡ 32 * r) }
