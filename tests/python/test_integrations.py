@@ -145,6 +145,25 @@ def test_recipe_of_passlib():
         context.verify("password", COSTLY)
 
 
+def test_passlib_by_hand():
+    """As docs/PYTHON.md has it: passlib's own rounds stay, and the budget admits 82 bytes."""
+    with warnings.catch_warnings():
+        warnings.simplefilter("ignore")
+        theirs = needs("passlib.hash", "python3-passlib").sha512_crypt
+        from mkpasswd.passlib import sha512_crypt as ours
+    stored = ours.hash("x" * 82)
+    assert stored.startswith("$6$rounds=%d$" % theirs.default_rounds) and theirs.default_rounds == 656_000
+    assert ours.verify("x" * 82, stored) and mkpasswd.verify("x" * 82, stored) and not ours.verify("x" * 81, stored)
+    for call in ours.hash, lambda word: ours.verify(word, stored):
+        with pytest.raises(mkpasswd.TooCostly):
+            call("x" * 83)
+        with pytest.raises(ValueError):
+            call("x" * 1025)
+    long = "x" * 1025
+    assert theirs.verify(long, theirs.using(rounds=1000).hash(long))
+    assert mkpasswd.cost(KNOWN, 1024) <= 1_300_000_000
+
+
 def hashers_of_django():
     needs("django", "python3-django")
     from django.conf import settings
