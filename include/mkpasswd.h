@@ -4,11 +4,12 @@
  *     if (mkpasswd_verify_str(password, stored, MKPASSWD_BUDGET, NULL))
  *         let_in();
  *
- * Each call returns 1 if it did what its name says, and 0 otherwise. A 0 covers everything else: a wrong password, a
- * locked account, an empty or malformed field, another scheme, a hash that costs too much, no memory. The report says
- * which (`reason`). It is written as a whole by every call that has one, whatever it held before. If several refusals
- * apply, the first one in this order is reported: password, setting, method, cost, budget, room in `out`, random words,
- * memory.
+ * Each call returns 1 for yes or success: the password matches, the stored hash is outdated, the cost is reported, or `out`
+ * has what was asked for. A 0 covers everything else: a wrong password, a locked account, an empty or malformed field,
+ * another scheme, a hash that costs too much, no memory. The report says which (`reason`). Every call that has a report
+ * writes all of it, whatever it held before. If several refusals apply, the first one in this order is reported: password,
+ * setting, method, cost, budget, room in `out`, random words, memory. Test the result, and not the reason alone: it is never
+ * 0, so `if (report.reason)` lets everybody in.
  *
  * After a 0, mkpasswd_new(), mkpasswd_hash() and mkpasswd_setting() leave the string "*0" in `out` ("*1" if the given
  * setting begins with "*0"), cut to the room there is. No password matches it, so with 3 bytes of room or more a caller who
@@ -17,7 +18,7 @@
  * Input is a pointer and a number of bytes; it may hold any bytes, and needs no byte 0 at its end. The calls that end in
  * _str take strings instead. No call keeps a pointer or has state: any number of threads may call at once, also with the
  * same input. mkpasswd_new() alone asks the system for something, 24 random bytes from getentropy(3), which sets errno if it
- * gives none. Compare a report's reason with the one that you expect: every reason is different from 0.
+ * gives none.
  *
  * The caller makes sure of this:
  * - Each pointer is valid for its number of bytes and is not null, even if that number is 0. In C++ an empty std::vector,
@@ -43,7 +44,7 @@
 extern "C" {
 #endif
 
-/* Where the compiler has these, it warns about an ignored result and about a null that it sees. */
+/* gcc and clang warn about an ignored result. clang, and gcc with -Wall, also warn about a null that they see. */
 #if defined __GNUC__ || defined __clang__
 #define MKPASSWD_EXPORT __attribute__((visibility("default"), nothrow))
 #define MKPASSWD_CHECKED __attribute__((warn_unused_result))
@@ -67,7 +68,11 @@ extern "C" {
  * with up to 75,000 rounds for any password, sha512crypt with 656,000 rounds for passwords of up to 82 bytes, SHA-crypt
  * with 1,000,000 rounds for passwords of up to 40 bytes. On one core of 2.5 GHz a hash of this cost takes some 1.3 seconds
  * with sha256crypt, 0.7 with sha512crypt, 0.2 with scrypt. */
+#ifdef __cplusplus
+#define MKPASSWD_BUDGET static_cast<uint64_t>(150000000)
+#else
 #define MKPASSWD_BUDGET ((uint64_t)150000000)
+#endif
 
 /* Methods, numbered as in their prefixes. */
 #define MKPASSWD_MD5CRYPT 1
@@ -75,8 +80,8 @@ extern "C" {
 #define MKPASSWD_SHA512CRYPT 6
 #define MKPASSWD_SCRYPT 7
 
-/* Reasons. The call returned 1 exactly if the reason is above 0; a reason is never 0. In front of each colon is the
- * message of mkpasswd_words(). */
+/* Reasons. The call returned 1 exactly if the reason is above 0; a reason is never 0. Each comment begins with the message
+ * of mkpasswd_words(), up to its colon. */
 #define MKPASSWD_FITS 1                          /* fits: the password matches the stored hash; mkpasswd_verify() alone */
 #define MKPASSWD_OUTDATED 2                      /* outdated: mkpasswd_needs_rehash() alone */
 #define MKPASSWD_DONE 3                          /* done: all others */

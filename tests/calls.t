@@ -381,6 +381,8 @@ subtest 'warnings' => sub {
         my $all = join '', map { "if (mkpasswd_$_) return 1;\n" } @strings, 'words_str(-1, NULL, 3)';
         is(told($compiler, $all, @static), '', "$compiler: strings may be null");
         is(run("$scratch/told")->{status}, 0, "$compiler: and then no call does anything");
+        is(told($compiler, "if (mkpasswd_verify_str(\"\", \"\", MKPASSWD_BUDGET, &report)) return 1;", '-Wold-style-cast', @static),
+            '', "$compiler: no old cast") if $compiler =~ /\+/;
         for my $old ($compiler =~ /\+/ ? () : qw(fits cost replaced refusal)) {
             for my $kind ('a', 'so') {
                 my $told = told($compiler, "extern int mkpasswd_$old(void); return mkpasswd_$old();", "-I$include", "$libs/libmkpasswd.$kind");
@@ -481,13 +483,15 @@ static int32_t checks(const char *password, const char *stored, uint64_t budget,
 }
 int login(const char *password, const char *field);
 END
-int main(int argc, char **argv) { return !login(argv[1], argc > 2 ? argv[2] : NULL); }
+int main(int argc, char **argv) { return !login(strcmp(argv[1], "null") ? argv[1] : NULL, argc > 2 ? argv[2] : NULL); }
 END
     if (my $program = build('SECURITY.md', $cc, '-std=c99', @strict, "$scratch/service.c", @static)) {
         is_run(run($program, 'password', $fixed), 0, "$fixed\n", '', 'SECURITY.md in c: the right password');
         is_run(run($program, 'passw0rd', $fixed), 1, "$fixed\n", '', 'SECURITY.md in c: a wrong password');
         is_run(run($program, 'password', @$_), 1, "$nobody\n", '', "SECURITY.md in c: '@$_' costs a hash")
             for [], [''], ["!$fixed"], ['*'], ['$y$x'], ['$6$rounds=999999999$ab$x'];
+        is_run(run($program, 'null', @$_), 1, ($_->[0] // $nobody) . "\n", '', "SECURITY.md in c: a null password, '@$_'") for [], [$fixed];
+        is_run(run($program, 'a' x 83, @$_), 1, "$nobody\n", '', "SECURITY.md in c: a long password, '@$_'") for [], [$nobody];
     }
     needs(python3 => 'python3') or return;
     mkdir "$scratch/broken";
@@ -498,17 +502,28 @@ END
 };
 
 subtest 'manuals' => sub {
-    my @pages = glob "$installed/usr/share/man/man3/*.3";
-    is_deeply([map { m{/(\w+)\.3$} } @pages], ['libmkpasswd', @declared], 'one for each call');
-    for my $page (@pages) {
+    my $folder = "$installed/usr/share/man/man3";
+    my @strings = $header =~ /^(?:MKPASSWD_CHECKED )?static inline int32_t (mkpasswd_\w+_str)\(/mg;
+    is_deeply([sort map { m{/(\w+)\.3$} } glob "$folder/*.3"], [sort 'libmkpasswd', @declared, @strings], 'one for each call');
+    for my $call (@strings) {
+        my $page = $call =~ s/_str\z//r;
+        is(slurp("$folder/$call.3"), ".so man3/$page.3\n", "$call: its manual is that of $page");
+        like(slurp("$folder/$page.3"), qr/^\.Sh NAME\n\.Nm $page ,\n\.Nm $call\n/m, "$call: its name is in it");
+    }
+    my ($login) = join('', blocks_of(slurp("$root/docs/SECURITY.md"), 'c')) =~ /^(\/\* .*)/ms;
+    ok(index(join('', blocks_of(slurp("$root/man/mkpasswd_verify.3"), '')), $login // "\0") >= 0, "mkpasswd_verify: SECURITY.md's login is an example");
+    for my $page (map { "$folder/$_.3" } 'libmkpasswd', @declared) {
         my ($name) = $page =~ m{/(\w+)\.3$};
         my $text = slurp($page);
         is_deeply([grep { $text !~ /^\.Sh $_$/m } 'SYNOPSIS', 'RETURN VALUES', 'ERRORS', 'EXAMPLES', 'SECURITY CONSIDERATIONS'], [], "$name: its sections");
-        my ($wanted, $code) = $text =~ /^\.Sh EXAMPLES\n.*?^\.\\" prints: (.*?)\n\.Bd -literal.*?\n(.*?)^\.Ed$/ms;
-        spew("$scratch/example.c", ($code // '') =~ s/\\e/\\/gr =~ s/\\&//gr);
-        my $program = build("$name.example", $cc, '-std=c99', @strict, "$scratch/example.c", @static) or next;
-        my $run = run($program);
-        ok($run->{status} == 0 && $run->{err} eq '' && $run->{out} =~ /\A$wanted\z/, "$name: what its example prints") or diag($run->{out});
+        my @examples = section_of($text, 'EXAMPLES') =~ /^\.\\" prints: (.*?)\n\.Bd -literal.*?\n(.*?)^\.Ed$/msg;
+        cmp_ok(@examples / 2, '==', $name eq 'mkpasswd_verify' ? 2 : 1, "$name: examples");
+        while (my ($wanted, $code) = splice @examples, 0, 2) {
+            spew("$scratch/example.c", $code =~ s/\\e/\\/gr =~ s/\\&//gr);
+            my $program = build("$name.example", $cc, '-std=c99', @strict, "$scratch/example.c", @static) or next;
+            my $run = run($program);
+            ok($run->{status} == 0 && $run->{err} eq '' && $run->{out} =~ /\A$wanted\z/, "$name: what its example prints") or diag($run->{out});
+        }
     }
 };
 

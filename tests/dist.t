@@ -62,7 +62,8 @@ subtest 'sums' => sub {
     is_deeply([sort @summed], [sort @found], 'a sum of each file');
     is(run('grep', '-rlF', '--', "$root/", $tree)->{out}, '', 'no file names the folder that it was built in');
     for (glob "$tree/share/man/man*/*") {
-        like(slurp($_), qr/^\.Os mkpasswd \Q$version\E$/m, s{.*/}{}r . ' has the version');
+        my $manual = slurp($_) =~ /\A\.so (\S+)\n\z/ ? "$tree/share/man/$1" : $_;
+        like(slurp($manual), qr/^\.Os mkpasswd \Q$version\E$/m, s{.*/}{}r . ' has the version');
     }
 };
 

@@ -148,13 +148,15 @@ subtest 'Python' => sub {
     my ($service) = blocks_of(slurp("$root/docs/SECURITY.md"), 'python');
     my $tried = <<'END';
 fields = {"ann": "$1$xxxxxxxx$UYCIxa628.9qXjpQCjM4a.", "bob": "!$1$xxxxxxxx$UYCIxa628.9qXjpQCjM4a.", "eve": ""}
-fields.update(kim="$y$j9T$x$x", max="$6$rounds=999999999$ab$x")
-verify, asked = mkpasswd.verify, []
+fields.update(kim="$y$j9T$x$x", max="$6$rounds=999999999$ab$x", joe=None)
+names, verify, asked = (*fields, "zoe"), mkpasswd.verify, []
 mkpasswd.verify = lambda password, stored: [asked.append(stored), verify(password, stored)][1]
-print([name for name in ("ann", "bob", "eve", "kim", "max", "zoe") if login(name, "password", fields)], login("ann", "", fields))
-print([stored == NOBODY for stored in asked], NOBODY.startswith("$6$rounds=656000$"))
+print([name for name in names if login(name, "", fields)], [name for name in names if login(name, "password", fields)])
+print(len(asked), set(asked) == {NOBODY}, NOBODY.startswith("$6$rounds=656000$"), fields["ann"][:17])
+for password in "\0", "x" * 1025, "\ud800", None, "x" * 83:
+    print([name for name in names[1:] if login(name, password, fields)], end="")
 END
-    is_run($python->($service, "\n", $tried), 0, "['ann'] False\n[False, True, True, True, True, True, False] True\n", '',
+    is_run($python->($service, "\n", $tried), 0, "[] ['ann']\n12 True True \$6\$rounds=656000\$\n[][][][][]", '',
         'SECURITY.md: a name that is unknown, or whose field no password matches, costs a hash');
 };
 

@@ -205,16 +205,55 @@ def test_budgets():
 
 def test_verify_and_update_charges_both_hashes():
     old, new = cost(MD5, 8), cost("$5$rounds=2000$" + "s" * 16, 8)
-    matches, update = verify_and_update("password", MD5, "sha256crypt", 2000, budget=old + new)
-    assert matches is True and update.startswith("$5$rounds=2000$") and verify("password", update)
-    assert verify_and_update("passw0rd", MD5, "sha256crypt", 2000, budget=old + new) == (False, None)
-    for budget in old + new - 1, old, new, 0:
+    for budget in old + new, old + new + 1, math.inf:
+        matches, update = verify_and_update("password", MD5, "sha256crypt", 2000, budget=budget)
+        assert matches is True and update.startswith("$5$rounds=2000$") and verify("password", update)
+        assert verify_and_update("passw0rd", MD5, "sha256crypt", 2000, budget=budget) == (False, None)
+    assert old < new
+    for budget in old + new - 1, new, old:
+        assert verify_and_update("password", MD5, "sha256crypt", 2000, budget=budget) == (True, None)
+        assert verify_and_update("passw0rd", MD5, "sha256crypt", 2000, budget=budget) == (False, None)
+    for budget in old - 1, 1, 0:
         for password in "password", "passw0rd":
-            error = error_of(verify_and_update, password, MD5, "sha256crypt", 2000, budget=budget)
-            assert (type(error), error.cost, error.budget) == (TooCostly, old + new, budget)
+            for wanted in ("sha256crypt", 2000), ("md5crypt",):
+                error = error_of(verify_and_update, password, MD5, *wanted, budget=budget)
+                assert (type(error), error.cost, error.budget) == (TooCostly, old, budget)
     assert verify_and_update("password", MD5, "md5crypt", budget=old) == (True, None)
     assert verify_and_update("passw0rd", MD5, "md5crypt", budget=old) == (False, None)
-    assert verify_and_update("password", MD5, budget=math.inf)[0]
+
+
+def test_the_truth_of_verify_and_update_is_that_of_the_match():
+    """A tuple of two is always true, so that `if verify_and_update(..)` would let everybody in."""
+    for password, stored, method, is_match, is_new in (
+        *(("password", MD5, "md5crypt", True, False), ("password", MD5, "sha256crypt", True, True)),
+        *(("passw0rd", MD5, "md5crypt", False, False), ("passw0rd", MD5, "sha256crypt", False, False)),
+        *(("", MD5, "md5crypt", False, False), *(("password", field, "md5crypt", False, False) for field in LOCKED)),
+        *(("password", field, "sha512crypt", False, False) for field in OTHERS),
+    ):
+        verdict = verify_and_update(password, stored, method)
+        matches, new = verdict
+        assert bool(verdict) is matches is verdict.matches is is_match
+        assert new is verdict.new and (new is not None) is is_new and (matches, new) == verdict
+        assert len(verdict) == 2 and isinstance(verdict, tuple) and verdict[0] is matches and verdict[1] is new
+    for changed in mkpasswd.Verdict(None, None), mkpasswd.Verdict(0, "x"), mkpasswd.Verdict("no", "x"):
+        assert not changed
+
+
+def test_a_rehash_above_the_budget_locks_nobody_out():
+    """A match costs too much only together with the new hash: the old one stays."""
+    scrypt = libxcrypt("password", "$7$CU..../....salt")
+    assert verify("password", scrypt)
+    assert verify_and_update("password", scrypt, rounds=656_000) == (True, None)
+    assert verify_and_update("passw0rd", scrypt, rounds=656_000) == (False, None)
+    assert verify_and_update("password", scrypt, rounds=656_000, budget=2 * mkpasswd.DEFAULT_BUDGET)[1].startswith("$6$")
+    for length in 81, 82, 83, 1024:
+        password = "x" * length
+        stored = hash(password)
+        matches, new = verify_and_update(password, stored, rounds=656_000)
+        assert matches is True and (new is None or new.startswith("$6$rounds=656000$")) and (new is None) is (length > 81)
+        assert verify_and_update("y" + password[1:], stored, rounds=656_000) == (False, None)
+    error = error_of(verify_and_update, "password", COSTLY, rounds=656_000)
+    assert (type(error), error.cost) == (TooCostly, cost(COSTLY, 8))
 
 
 @pytest.mark.parametrize(

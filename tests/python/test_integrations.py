@@ -37,24 +37,89 @@ def test_recipe_of_asyncio():
     assert ticks > 200 and right is True and wrong is False
 
 
-def test_recipe_of_flask():
-    flask = needs("flask", "python3-flask")
-    app = flask.Flask("test")
-    recipe("Flask", app=app, flask=flask, fields={"ann": MD5, "bob": "!" + MD5, "eve": COSTLY, "joe": ""})
-    client = app.test_client()
-    for name, password, status in (
-        *(("ann", "password", 200), ("ann", "passw0rd", 403), ("ann", "x\0", 500), ("ann", "", 403)),
-        *(("bob", "password", 403), ("eve", "x", 403), ("joe", "", 403), ("nobody", "password", 403)),
-    ):
-        assert client.post("/login", data={"name": name, "password": password}).status_code == status
+HIDES = "A login that hides which names exist"
+KNOWN = "$6$rounds=656000$nobodyhasthissal$"
+# Fields that no password matches: unknown, NULL, empty, locked, of another scheme, malformed, too costly, and of another type.
+UNUSABLE = [None, "", "!", "*", "!" + MD5, "$y$j9T$x$x", "x", MD5 + "\n", "$6$rounds=0$a$x", "$6$rounds=999999999$ab$x", 5, b"!"]
+# Passwords that no hash can have.
+ODD = [None, "x\0", "\ud800", "x" * 1025, "\u00e9" * 513, 5, ["x"]]
 
 
-def test_recipe_of_new_hashes():
-    login, fields = recipe("From old hashes to new ones")["login"], {"ann": MD5}
+def test_the_login_is_one_text():
+    text = (ROOT / "docs/SECURITY.md").read_text()
+    assert re.search("```python\n(.*?)```", text, re.S).group(1) == RECIPES[HIDES]
+
+
+@pytest.fixture
+def hashed(monkeypatch):
+    """The greatest cost of each check that hashed something."""
+    verify, costs = mkpasswd.lib.mkpasswd_verify, []
+
+    def counted(*words):
+        done = verify(*words)
+        costs.extend([words[-1].cost] if words[-1].work.bytes else [])
+        return done
+
+    monkeypatch.setattr(mkpasswd.lib, "mkpasswd_verify", counted)
+    return costs
+
+
+def test_a_login_costs_the_same_for_each_field_that_no_password_matches(hashed):
+    login = recipe(HIDES)["login"]
+    fields = {str(number): field for number, field in enumerate(UNUSABLE)}
+    fields["known"] = libxcrypt("password", KNOWN)
+    assert login("known", "passw0rd", fields) is False
+    wanted = hashed.copy()
+    assert wanted == [mkpasswd.cost(KNOWN, len("passw0rd"))]
+    before = dict(fields)
+    for name in [*(name for name in fields if name != "known"), "nobody", None]:
+        hashed.clear()
+        assert login(name, "password", fields) is False and hashed == wanted, fields.get(name)
+    assert login("known", "password", fields) is True and fields == before
+
+
+def test_a_login_with_an_odd_password_is_the_same_for_each_name(hashed):
+    login = recipe(HIDES)["login"]
+    hashed.clear()
+    fields = {"known": KNOWN + "x" * 86, "old": SHA512, "locked": "!" + MD5, "empty": "", "null": None, "costly": COSTLY}
+    before = dict(fields)
+    for password in ODD:
+        for name in [*fields, "nobody", None]:
+            assert login(name, password, fields) is False and not hashed, (name, password)
+    # The budget admits 656000 rounds for 82 bytes.
+    for name in "known", "locked", "empty", "null", "costly", "nobody":
+        assert login(name, "x" * 83, fields) is False and not hashed, name
+    assert fields == before
+
+
+def test_a_login_replaces_old_hashes():
+    login, fields = recipe(HIDES)["login"], {"ann": MD5}
     assert login("ann", "passw0rd", fields) is False and fields == {"ann": MD5}
     assert login("ann", "password", fields) is True and fields["ann"].startswith("$6$rounds=656000$")
     stored = fields["ann"]
     assert login("ann", "password", fields) is True and fields["ann"] == stored
+    # Those whose new hash costs too much get in, and keep the old one.
+    for password, stored in ("password", libxcrypt("password", "$7$CU..../....salt")), ("x" * 83, mkpasswd.hash("x" * 83)):
+        fields["eve"] = stored
+        assert login("eve", password, fields) is True and login("eve", password + "x", fields) is False
+        assert fields["eve"] == stored
+
+
+def test_recipe_of_flask():
+    flask = needs("flask", "python3-flask")
+    app = flask.Flask("test")
+    fields = {"ann": MD5, "bob": "!" + MD5, "eve": COSTLY, "joe": "", "kim": None}
+    names = recipe("Flask", app=app, flask=flask, fields=fields, login=recipe(HIDES)["login"])
+    client = app.test_client()
+    for name, password, status in (
+        *(("ann", "password", 200), ("ann", "passw0rd", 403), ("ann", "", 403), ("bob", "password", 403)),
+        *(("eve", "x", 403), ("joe", "", 403), ("kim", "", 403), ("nobody", "password", 403)),
+        *((name, password, 403) for name in [*fields, "nobody"] for password in ("x\0", "x" * 1025)),
+    ):
+        assert client.post("/login", data={"name": name, "password": password}).status_code == status
+    for data in {}, {"name": "ann"}, {"password": "password"}:
+        assert client.post("/login", data=data).status_code == 403
+    assert names["fields"]["ann"].startswith("$6$rounds=656000$")
 
 
 def test_recipe_of_crypt():
@@ -78,6 +143,25 @@ def test_recipe_of_passlib():
     assert context.verify_and_update("pässword", stored) == (True, None)
     with pytest.raises(mkpasswd.TooCostly):
         context.verify("password", COSTLY)
+
+
+def test_passlib_by_hand():
+    """As docs/PYTHON.md has it: passlib's own rounds stay, and the budget admits 82 bytes."""
+    with warnings.catch_warnings():
+        warnings.simplefilter("ignore")
+        theirs = needs("passlib.hash", "python3-passlib").sha512_crypt
+        from mkpasswd.passlib import sha512_crypt as ours
+    stored = ours.hash("x" * 82)
+    assert stored.startswith("$6$rounds=%d$" % theirs.default_rounds) and theirs.default_rounds == 656_000
+    assert ours.verify("x" * 82, stored) and mkpasswd.verify("x" * 82, stored) and not ours.verify("x" * 81, stored)
+    for call in ours.hash, lambda word: ours.verify(word, stored):
+        with pytest.raises(mkpasswd.TooCostly):
+            call("x" * 83)
+        with pytest.raises(ValueError):
+            call("x" * 1025)
+    long = "x" * 1025
+    assert theirs.verify(long, theirs.using(rounds=1000).hash(long))
+    assert mkpasswd.cost(KNOWN, 1024) <= 1_300_000_000
 
 
 def hashers_of_django():

@@ -51,7 +51,9 @@ def test_types(tmp_path):
         "import math\nimport mkpasswd\n"
         "stored: str = mkpasswd.hash(b'x', 'scrypt', rounds=6)\n"
         "match: bool = mkpasswd.verify('x', stored, budget=math.inf)\n"
-        "update = mkpasswd.verify_and_update('x', stored)[1]\n"
+        "verdict = mkpasswd.verify_and_update('x', stored)\n"
+        "match, new = verdict\nmatch = bool(verdict) and verdict.matches\n"
+        "if new is not None:\n    stored = new\n"
         "print(mkpasswd.cost(stored, 1) + mkpasswd.work(stored, 1).bytes, mkpasswd.crypt('x', mkpasswd.methods[0]))\n"
     )
     run(*mypy, user, env=dict(os.environ, MYPYPATH=str(ROOT / "python/src")))

@@ -119,6 +119,31 @@ def test_crypt_is_the_standard_librarys():
         mkpasswd.crypt("x", COSTLY)
 
 
+def test_where_crypt_differs_from_the_standard_librarys():
+    """As docs/PYTHON.md lists it."""
+    with warnings.catch_warnings():
+        warnings.simplefilter("ignore")
+        theirs = pytest.importorskip("crypt", reason="this Python has no crypt")
+    costly, clamped, null = "$6$rounds=1000000000$ab", "$6$rounds=999$ab", "$1$a\0b"
+    assert theirs.crypt("x", costly) == theirs.crypt("x", clamped) == theirs.crypt("x" * 512, MD5) == "*0"
+    with pytest.raises(mkpasswd.TooCostly):
+        mkpasswd.crypt("x", costly)
+    assert mkpasswd.crypt("x", clamped) == theirs.crypt("x", "$6$rounds=1000$ab")
+    assert mkpasswd.verify("x" * 1024, mkpasswd.crypt("x" * 1024, MD5))
+    with pytest.raises(ValueError):
+        mkpasswd.crypt("x" * 1025, MD5)
+    for salt in "$2b$04$abcdefghijklmnopqrstuu", "$y$j75$abcdefgh", "ab":
+        assert mkpasswd.crypt("x", salt) == "*0" and len(theirs.crypt("x", salt)) > 12
+    with pytest.raises(ValueError):
+        theirs.crypt("x", null)
+    assert mkpasswd.crypt("x", null) == "*0"
+    with pytest.raises(TypeError):
+        theirs.crypt(b"x", MD5)
+    assert mkpasswd.crypt(b"x", MD5.encode()) == theirs.crypt("x", MD5)
+    for name in "METHOD_BLOWFISH", "METHOD_CRYPT":
+        assert hasattr(theirs, name) and not hasattr(mkpasswd, name)
+
+
 def test_salts():
     salts = [mkpasswd.mksalt(mkpasswd.METHOD_MD5) for _ in range(2000)]
     assert len(set(salts)) == 2000

@@ -33,6 +33,7 @@ __all__ = [
     "Reason",
     "Refused",
     "TooCostly",
+    "Verdict",
     "Work",
     "cost",
     "crypt",
@@ -86,6 +87,17 @@ class TooCostly(Refused):
 
     def __str__(self) -> str:
         return "%s: cost %d, budget %d" % (self.reason.words, self.cost, self.budget)
+
+
+class Verdict(NamedTuple):
+    """What verify_and_update() returns. It is true exactly if the password matches."""
+
+    matches: bool  #: whether the password matches
+    new: Optional[str]  #: a new hash, to be stored in place of the old one, or None
+
+    def __bool__(self) -> bool:
+        # A tuple of two is always true.
+        return self.matches is True
 
 
 class Work(NamedTuple):
@@ -148,26 +160,34 @@ def verify_and_update(
     rounds: Optional[int] = None,
     *,
     budget: float = DEFAULT_BUDGET,
-) -> Tuple[bool, Optional[str]]:
+) -> Verdict:
     """Whether the password matches, and a new hash to store if it does and needs_rehash() is true of the stored one.
 
-    >>> verify_and_update("password", "$1$xxxxxxxx$UYCIxa628.9qXjpQCjM4a.", "md5crypt")
-    (True, None)
-    >>> verify_and_update("wrong", "$1$xxxxxxxx$UYCIxa628.9qXjpQCjM4a.")
-    (False, None)
+    The result is a tuple (matches, new) that is true exactly if the password matches.
 
-    If the stored hash is outdated, both hashes together have to be within the budget, whether or not the password
-    matches; otherwise it raises TooCostly, before anything is hashed. It raises what hash() and verify() raise.
+    >>> verify_and_update("password", "$1$xxxxxxxx$UYCIxa628.9qXjpQCjM4a.", "md5crypt")
+    Verdict(matches=True, new=None)
+    >>> bool(verify_and_update("wrong", "$1$xxxxxxxx$UYCIxa628.9qXjpQCjM4a."))
+    False
+
+    The check and the new hash together cost at most the budget. If they would cost more, no new hash is made: a match is
+    then (True, None), and the old hash stays. It raises TooCostly, before anything is hashed, only if the stored hash alone
+    costs more than the budget. Apart from that it raises what hash() and verify() raise.
     """
     word, field, limit = _password(password), _bytes(stored, "stored"), _limit(budget)
     if _is_locked(field):
-        return False, None
+        return Verdict(False, None)
     made = _method(method, rounds)
     is_outdated = _is_outdated(field, made)
-    reserved = _bound(_setting(made), len(word)).cost if is_outdated else 0
-    if not _matches(word, field, limit, reserved):
-        return False, None
-    return True, _new(word, made, limit) if is_outdated else None
+    if not _matches(word, field, limit):
+        return Verdict(False, None)
+    if not is_outdated:
+        return Verdict(True, None)
+    left = limit - _bound(field, len(word)).cost
+    try:
+        return Verdict(True, _new(word, made, left))
+    except TooCostly:
+        return Verdict(True, None)
 
 
 def needs_rehash(stored: Text, method: str = "sha512crypt", rounds: Optional[int] = None) -> bool:
@@ -231,7 +251,7 @@ methods = [METHOD_SHA512, METHOD_SHA256, METHOD_MD5]
 
 
 def mksalt(method: Optional[_Method] = None, *, rounds: Optional[int] = None) -> str:
-    """A new setting for crypt(), as the standard library's crypt.mksalt() made it until Python 3.12.
+    """A new setting for crypt(), as the standard library's crypt.mksalt() made it up to Python 3.12.
 
     >>> mksalt(METHOD_SHA256, rounds=20000).startswith("$5$rounds=20000$")
     True
@@ -250,7 +270,7 @@ def mksalt(method: Optional[_Method] = None, *, rounds: Optional[int] = None) ->
 
 
 def crypt(word: Text, salt: Union[Text, _Method, None] = None, *, budget: float = DEFAULT_BUDGET) -> str:
-    """The hash of `word` with a setting, as the standard library's crypt.crypt() made it until Python 3.12.
+    """The hash of `word` with a setting, as the standard library's crypt.crypt() made it up to Python 3.12.
 
     `salt` is a setting or a stored hash; one of `methods`, for a new salt; or None, for the first of them. If it is not a
     setting of these methods, the result is "*0" ("*1" if the salt begins with "*0"), which no password matches; so it is
@@ -334,15 +354,12 @@ def _new(word: bytes, made: Tuple[int, int], limit: int) -> str:
     return out.value.decode("ascii")
 
 
-def _matches(word: bytes, field: bytes, limit: int, reserved: int = 0) -> bool:
-    """Whether the password matches, within what is left of the limit when so much is reserved for another hash."""
+def _matches(word: bytes, field: bytes, limit: int) -> bool:
     report = Report()
-    left = max(limit - reserved, 0)
-    if lib.mkpasswd_verify(word, len(word), field, len(field), left, report) == 1:
+    if lib.mkpasswd_verify(word, len(word), field, len(field), limit, report) == 1:
         return True
     if report.reason == Reason.DIFFERS.value:
         return False
-    report.cost += reserved
     raise _failure(report, limit)
 
 

@@ -1,6 +1,6 @@
-"""Says where the program is: this package has none of its own."""
+"""Says which program is on the PATH: this package has none of its own."""
 import shutil
 import sys
 
 program = shutil.which("mkpasswd")
-sys.exit("mkpasswd: this is a library for Python; the program is %s" % (program or "not on the PATH"))
+sys.exit("mkpasswd: this is a library for Python; on the PATH is %s" % (program or "no mkpasswd"))

@@ -6,7 +6,7 @@ from typing import Any, Callable, Dict, Optional
 
 from ansible.errors import AnsibleFilterError
 
-from . import Refused, hash, verify, verify_and_update
+from . import Refused, hash, needs_rehash, verify
 
 __all__ = ["FilterModule"]
 
@@ -19,9 +19,8 @@ def mkpasswd_hash(
         word = _text(password)
         if current is not None:
             try:
-                is_match, update = verify_and_update(word, current, method, rounds)
-                if is_match:
-                    return update or current
+                if not needs_rehash(current, method, rounds) and verify(word, current):
+                    return current
             except Refused:
                 pass
         return hash(word, method, rounds=rounds)
