@@ -172,7 +172,6 @@ subtest 'recipes' => sub {
     spew("$scratch/bin/chpasswd", "#!/bin/sh\nexec $chpasswd -R '$system' \"\$@\"\n");
     chmod 0755, "$scratch/bin/chpasswd";
     my $old = crypt('password', '$5$rounds=1000$ab');
-    spew("$folder/passwords", "ann:password\nbob:pass:word\n");
     spew("$folder/password", "password\nmore\n");
     spew("$folder/shadow", "ann:$old$aged\nbob:!$aged\nzoe:\$6\$rounds=999999999\$ab\$x$aged\neve:$known$aged\n");
     spew("$folder/list", "eve:guess\neve:password\nbob:x\nzoe:x\nann:word\n");
@@ -184,6 +183,10 @@ subtest 'recipes' => sub {
         ok(defined $made && is_hash_of($made, $password), $name) or diag(slurp($file));
     };
 
+    spew("$folder/passwords", "ann:password\nbob:" . 'x' x 83 . "\n");
+    is_run($recipe->(0), 1, '', "mkpasswd: line 2: over budget\n", 'a new password that a login would refuse');
+    is(join('', slurp("$system/etc/shadow") =~ /:!:/g), ':!:' x 3, 'such a password changes no account');
+    spew("$folder/passwords", "ann:password\nbob:pass:word\n");
     is_run($recipe->(0), 0, '', '', 'new passwords for many users');
     $has_hash->("$system/etc/shadow", 'ann:', '$6$rounds=656000$', 'password', $today->(), 'the password of ann is new');
     $has_hash->("$system/etc/shadow", 'bob:', '$6$rounds=656000$', 'pass:word', $today->(), 'the password of bob is new');
@@ -197,11 +200,11 @@ subtest 'recipes' => sub {
     my @accounts = (['ann', $old, 19000, 'moved', 'no'], ['bob', "!$old", 19000, 'locked'], ['eve', $known, 19000, 'no'],
         ['max', $old, 0, 'skipped'], ['zoe', '$6$rounds=999999999$ab$x', 19000, 'over budget'], ['kim', $old, 19000, 'changed', 'no']);
     my %before = map { $_->[0] => "$_->[0]:$_->[1]:$_->[2]:0:99999:7:::\n" } @accounts;
-    my %logins = (ann => [qw(password guess password)], eve => ['guess'], kim => [qw(guess password)], tom => ['pass:word']);
+    my %logins = (ann => [qw(password guess password)], eve => ['guess'], kim => [qw(guess password)], tom => ['', 'pass:word']);
     my $reset = sub {
         spew("$system/etc/passwd", join '', map { "$_->[0]:x:1000:1000::/:/bin/sh\n" } @accounts);
         spew("$system/etc/shadow", join '', map { $before{ $_->[0] } } @accounts);
-        return spew("$folder/logins", join '', map { my $name = $_; map { "$name:$_\n" } @{ $logins{$name} // ['password'] } } sort keys %before, 'tom');
+        return spew("$folder/logins", join '', "more\n", map { my $name = $_; map { "$name:$_\n" } @{ $logins{$name} // ['password'] } } sort keys %before, 'tom');
     };
     my $move = sub { run({ %in, dir => $folder, @_ }, 'bash', '-c', $recipes[3] =~ s{ (/etc/shadow)}{ '$system$1'}r) };
     my $shadow = sub { my %lines = map { /^(\w+)/ => "$_\n" } split /\n/, slurp("$system/etc/shadow"); return \%lines };
@@ -214,7 +217,7 @@ subtest 'recipes' => sub {
     };
 
     $reset->();
-    my $told = join '', sort map { my ($name, undef, undef, @told) = @$_; map { "$name:$_\n" } @told } @accounts, ['tom', '', '', 'skipped'];
+    my $told = join '', sort map { my ($name, undef, undef, @told) = @$_; map { "$name:$_\n" } @told } @accounts, map { [$_, '', '', 'skipped'] } qw(more tom);
     is_run($move->($then->("sed -i 's/^kim:/&!/' '$system/etc/shadow'")), 0, $told, '', 'a site moves to another method');
     $has_hash->("$system/etc/shadow", 'ann:', '$6$rounds=656000$', 'password', $today->(), 'the password of ann is hashed anew');
     my $after = $shadow->();
