@@ -174,11 +174,9 @@ subtest 'recipes' => sub {
     spew("$scratch/bin/chpasswd", "#!/bin/sh\nexec $chpasswd -R '$system' \"\$@\"\n");
     chmod 0755, "$scratch/bin/chpasswd";
     my $old = crypt('password', '$5$rounds=1000$ab');
-    spew("$folder/passwords", "ann:password\nbob:pass:word\n");
     spew("$folder/password", "password\nmore\n");
     spew("$folder/shadow", "ann:$old$aged\nbob:!$aged\nzoe:\$6\$rounds=999999999\$ab\$x$aged\neve:$known$aged\n");
     spew("$folder/list", "eve:guess\neve:password\nbob:x\nzoe:x\nann:word\n");
-    spew("$folder/logins", "ann:$old:password\nbob:!:x\neve:$old:guess\n");
     my $recipe = sub { run({ %in, dir => $folder }, 'bash', '-c', $recipes[ $_[0] ]) };
     # Tests that a file has a line with a hash of the password, which begins with the prefix.
     my $has_hash = sub {
@@ -187,6 +185,10 @@ subtest 'recipes' => sub {
         ok(defined $made && is_hash_of($made, $password), $name) or diag(slurp($file));
     };
 
+    spew("$folder/passwords", "ann:password\nbob:" . 'x' x 83 . "\n");
+    is_run($recipe->(0), 1, '', "mkpasswd: line 2: over budget\n", 'a new password that a login would refuse');
+    is(join('', slurp("$system/etc/shadow") =~ /:!:/g), ':!:' x 3, 'such a password changes no account');
+    spew("$folder/passwords", "ann:password\nbob:pass:word\n");
     is_run($recipe->(0), 0, '', '', 'new passwords for many users');
     $has_hash->("$system/etc/shadow", 'ann:', '$6$rounds=656000$', 'password', $today->(), 'the password of ann is new');
     $has_hash->("$system/etc/shadow", 'bob:', '$6$rounds=656000$', 'pass:word', $today->(), 'the password of bob is new');
@@ -194,9 +196,52 @@ subtest 'recipes' => sub {
     $has_hash->("$folder/preseed.cfg", 'd-i passwd/user-password-crypted password ', '$6$rounds=656000$', 'password', '', "Debian's installer");
     $has_hash->("$folder/site.ks", 'rootpw --iscrypted ', '$6$rounds=656000$', 'password', '', 'kickstart');
     is_run($recipe->(2), 0, "eve\n", "mkpasswd: line 5: over budget\n", 'who still has a password of a list');
-    is_run($recipe->(3), 0, '', '', 'a site moves to another method');
+    is_run($recipe->(4), 0, "zoe\n", '', 'stored hashes that could stall a login');
+
+    # The move to another method: each name with its field, its day, and what its logins come to.
+    my @accounts = (['ann', $old, 19000, 'moved', 'no'], ['bob', "!$old", 19000, 'locked'], ['eve', $known, 19000, 'no'],
+        ['max', $old, 0, 'skipped'], ['zoe', '$6$rounds=999999999$ab$x', 19000, 'over budget'], ['kim', $old, 19000, 'changed', 'no']);
+    my %before = map { $_->[0] => "$_->[0]:$_->[1]:$_->[2]:0:99999:7:::\n" } @accounts;
+    my %logins = (ann => [qw(password guess password)], eve => ['guess'], kim => [qw(guess password)], tom => ['', 'pass:word']);
+    my $reset = sub {
+        spew("$system/etc/passwd", join '', map { "$_->[0]:x:1000:1000::/:/bin/sh\n" } @accounts);
+        spew("$system/etc/shadow", join '', map { $before{ $_->[0] } } @accounts);
+        return spew("$folder/logins", join '', "more\n", map { my $name = $_; map { "$name:$_\n" } @{ $logins{$name} // ['password'] } } sort keys %before, 'tom');
+    };
+    my $move = sub { run({ %in, dir => $folder, @_ }, 'bash', '-c', $recipes[3] =~ s{ (/etc/shadow)}{ '$system$1'}r) };
+    my $shadow = sub { my %lines = map { /^(\w+)/ => "$_\n" } split /\n/, slurp("$system/etc/shadow"); return \%lines };
+    # A mkpasswd after whose check something happens.
+    my $then = sub {
+        mkdir "$scratch/then";
+        spew("$scratch/then/mkpasswd", "#!/bin/sh\n'$scratch/bin/mkpasswd' \"\$@\"\nstatus=\$?\n$_[0]\nexit \$status\n");
+        chmod 0755, "$scratch/then/mkpasswd";
+        return (env => { %{ $in{env} }, PATH => "$scratch/then:$in{env}{PATH}" });
+    };
+
+    $reset->();
+    my $told = join '', sort map { my ($name, undef, undef, @told) = @$_; map { "$name:$_\n" } @told } @accounts, map { [$_, '', '', 'skipped'] } qw(more tom);
+    is_run($move->($then->("sed -i 's/^kim:/&!/' '$system/etc/shadow'")), 0, $told, '', 'a site moves to another method');
     $has_hash->("$system/etc/shadow", 'ann:', '$6$rounds=656000$', 'password', $today->(), 'the password of ann is hashed anew');
-    is_run($recipe->(4), 0, "mkpasswd: line 3: over budget\n", '', 'stored hashes that could stall a login');
+    my $after = $shadow->();
+    is($after->{$_}, $before{$_}, "the move leaves $_ alone") for qw(bob eve max zoe);
+    is($after->{kim}, $before{kim} =~ s/:/:!/r, 'a lock during the check stays');
+    is(join(' ', grep { -e "$folder/$_" } qw(logins taken sorted)), '', 'the move takes all logins');
+
+    spew("$folder/logins", "ann:password\n");
+    is_run($move->(), 0, "ann:ok\n", '', 'a login after the move, with no refusal');
+    is_deeply($shadow->(), $after, 'a login after the move changes nothing');
+
+    # A run that ends early loses no login; the next one takes them first.
+    $reset->();
+    isnt($move->($then->('status=3'))->{status}, 0, 'a move whose check fails');
+    is_deeply($shadow->(), \%before, 'a move whose check fails changes nothing');
+    spew("$folder/logins", "eve:password\n");
+    spew("$system/etc/passwd", join '', map { "$_:x:1000:1000::/:/bin/sh\n" } qw(ann eve));
+    isnt($move->()->{status}, 0, 'a move of an account that chpasswd does not know');
+    is_deeply($shadow->(), \%before, 'a move of such an account changes nothing');
+    spew("$system/etc/passwd", slurp("$system/etc/passwd") . "kim:x:1000:1000::/:/bin/sh\n");
+    is_run($move->(), 0, $told =~ s/kim:changed/kim:moved/r, '', 'the logins of a move that ended early');
+    is_run($move->(), 0, "eve:moved\n", '', 'the logins after them');
 };
 
 done_testing;
