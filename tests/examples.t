@@ -223,7 +223,7 @@ subtest 'recipes' => sub {
     is_run($move->($then->("sed -i 's/^kim:/&!/' '$system/etc/shadow'")), 0, $told, '', 'a site moves to another method');
     $has_hash->("$system/etc/shadow", 'ann:', '$6$rounds=656000$', 'password', $today->(), 'the password of ann is hashed anew');
     my $after = $shadow->();
-    is($after->{$_}, $before{$_}, "the move leaves $_ alone") for qw(bob eve max zoe);
+    is($after->{$_}, $before{$_}, "the move keeps the line of $_") for qw(bob eve max zoe);
     is($after->{kim}, $before{kim} =~ s/:/:!/r, 'a lock during the check stays');
     is(join(' ', grep { -e "$folder/$_" } qw(logins taken sorted)), '', 'the move takes all logins');
 
