@@ -66,8 +66,8 @@ extern "C" {
 
 /* A budget for a login. It admits what mkpasswd_new() makes at cost 0 with any method, for any password, and SHA-crypt
  * with up to 75,000 rounds for any password, sha512crypt with 656,000 rounds for passwords of up to 82 bytes, SHA-crypt
- * with 1,000,000 rounds for passwords of up to 40 bytes. On one core of 2.5 GHz a hash of this cost takes some 1.3 seconds
- * with sha256crypt, 0.7 with sha512crypt, 0.2 with scrypt. */
+ * with 1,000,000 rounds for passwords of up to 40 bytes. On one core of 2.5 GHz a hash of this cost takes some 2 seconds
+ * with sha256crypt, 1 with sha512crypt, 0.2 with scrypt. */
 #ifdef __cplusplus
 #define MKPASSWD_BUDGET static_cast<uint64_t>(150000000)
 #else

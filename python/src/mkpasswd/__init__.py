@@ -9,7 +9,7 @@ False
 
 The C library of mkpasswd, whose calls are proved, does the hashing. It knows the cost of a hash before it makes one, so
 a stored hash that would take minutes is refused at once. What a call may cost by default, DEFAULT_BUDGET, is 150,000,000:
-on one core of 2.5 GHz 0.7 seconds of sha512crypt, 1.3 of sha256crypt, or 0.2 of scrypt.
+on one core of 2.5 GHz one second of sha512crypt, two of sha256crypt, or 0.2 of scrypt.
 
 A password or a stored hash is bytes, or a str, which is encoded as UTF-8. A password that has a zero byte or a lone
 surrogate, or more than 1,024 bytes, raises ValueError. No exception has the password in it.
