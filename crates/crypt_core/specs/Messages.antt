@@ -34,8 +34,7 @@ unfoldable pub md5crypt_messages : List ℕ → List ℕ → List (List ℕ)
 md5crypt_messages password salt = map (md5crypt_message password salt) (range_with_len 0 (md5crypt_rounds + 2))
 
 -- AreMd5cryptMessages password salt: these are the messages of the definition of the digest. The opening is the digest
--- of the second message, and the result is that of the last. Each round's message contains the digest of the message
--- before.
+-- of the second message, and the result is that of the last.
 abbrev pub AreMd5cryptMessages : List ℕ → List ℕ → Type 0
 AreMd5cryptMessages password salt =
     (md5crypt_opening password salt ≡ md5 (md5crypt_message password salt 1))

@@ -24,8 +24,8 @@ use prims_core::meter::Meter;
 /// The number of rounds.
 pub(crate) const ROUNDS: u32 = 1000;
 
-// The rounds run in parts of this many. LLVM inlines the calls of MD5's padding in a loop within a loop, and not in a
-// single one.
+// The rounds run in parts of this many, which divides their number. LLVM inlines the calls of MD5's padding in a loop
+// within a loop, and not in a single one.
 const PART: u32 = 50;
 
 /// Returns the digest of a password and a salt. The meter counts each of the 1,002 messages, and each of its counts

@@ -1,6 +1,9 @@
-//! The messages that md5crypt and SHA-crypt share, fed to a running digest: the first one, with a digest repeated and a
-//! piece for each binary digit of a length for the second, and those of the rounds. A round's message is fed in two
-//! pieces: the digest of the round before, and a part of one list that is joined once for all rounds.
+//! What the messages of md5crypt and SHA-crypt have in common. Both feed them to a running digest piece by piece.
+//!
+//! - The first message is the same in both.
+//! - The second has a repeated digest, and one piece for each binary digit of the password's length.
+//! - The rounds' messages are the same in both but for the two strings that stand for the password and the salt. A
+//!   round feeds two pieces: the digest of the round before, and a part of one list that is joined once for all rounds.
 ghost use Rattle.std.specs.Prelude.{◌≡◌, ℕ, ◌+◌, ◌*◌, ◌^◌, ◌<◌, ◌≤◌, List, ◌++◌, length};
 ghost use Rattle.std.specs.List.{repeat};
 ghost use Rattle.prims_core.specs.Meter.{HasDigestRoom};
@@ -57,7 +60,9 @@ pub(crate) fn feed_repeated<C: Counted>(
     }
 }
 
-/// Feeds `len` bytes of a digest that is repeated.
+/// Feeds the first `len` bytes of a digest that is repeated without end.
+///
+/// Precondition: the digest is not empty.
 pub(crate) fn feed_cycle<C: Counted>(running: &mut C, meter: &mut Meter, digest: &[u8], len: usize)
     requires some { 0 < length digest.now }
     requires room { meter.old.bytes + len < 2 ^ 128 }
@@ -68,9 +73,9 @@ pub(crate) fn feed_cycle<C: Counted>(running: &mut C, meter: &mut Meter, digest:
     running.feed(meter, &digest[..len % digest.len()]);
 }
 
-/// Returns `len` bytes of a digest that is repeated.
+/// Returns the first `len` bytes of a digest that is repeated without end.
 ///
-/// Precondition: they are no more than a password has.
+/// Preconditions: the digest is not empty, and `len` is at most [`PASSWORD_LIMIT`].
 pub(crate) fn cycle_of(digest: &[u8], len: usize) -> ArrayVec<u8, PASSWORD_LIMIT>
     requires some { 0 < length digest.now }
     requires fits { len ≤ password_limit }
@@ -105,7 +110,7 @@ pub(crate) fn feed_digits<C: Counted>(
     }
 }
 
-/// The two strings of the rounds, which stand for the password and the salt. Contracts see them as these two.
+/// The two strings that stand for the password and the salt in the rounds. Contracts see these two alone.
 #[derive(Drop)]
 pub(crate) struct RoundStrings<'a> {
     password: &'a [u8],

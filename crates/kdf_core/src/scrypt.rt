@@ -1,8 +1,9 @@
 //! scrypt (RFC 7914), over PBKDF2 and block mixing.
 //!
-//! All memory is allocated before any work: one table, which serves every part in turn, the parts as
-//! bytes, and two halves of words. A part goes to and fro between the halves while it is mixed with the
-//! rows. During ROMix its blocks stand diagonal by diagonal, as the mixing takes them.
+//! All memory is allocated before any work: one table, which serves one part after another; the parts as
+//! bytes; and two halves of words, each as long as a part. While a part is mixed with the rows, each step
+//! reads one half and writes the other. During ROMix its blocks stand diagonal by diagonal, as the mixing
+//! takes them.
 
 ghost use Rattle.std.specs.Prelude.{◌≡◌, ℕ, ◌+◌, ◌-◌, ◌*◌, ◌/◌, ◌^◌, ◌%◌, ◌<◌, ◌≤◌, List, length, OnOk, OnErr};
 ghost use Rattle.std.specs.Fn.{iterate};
@@ -40,9 +41,9 @@ const BLOCK_WORDS: usize = UNIT_WORDS / 2;
 ///
 /// Three allocations come before all work, in this order: the table of `128 * N * r` bytes, the parts of
 /// `128 * r * p` bytes, and the halves of `256 * r` bytes. The meter rises by these three and by
-/// `2 * N * p` mixings. With q blocks of 32 bytes in `out`, a password of L bytes and a salt of s bytes it
-/// rises by `8rp + 2q` digests of `4rp(164 + s) + q(164 + 128rp)` bytes; if L is above 64, by one more
-/// digest of L bytes.
+/// `2 * N * p` mixings. With a password of L bytes, a salt of s bytes and q blocks of 32 bytes in `out`, the
+/// last of which may be short, it also rises by `8rp + 2q` digests of `4rp(164 + s) + q(164 + 128rp)` bytes.
+/// If L is above 64, it rises by one more digest, of L bytes.
 ///
 /// # Errors
 ///
@@ -137,8 +138,8 @@ fn mix_part(part: &mut [u8], rows: usize, table: &mut Table, halves: &mut [u32],
     store_words(x, part);
 }
 
-// Writes B after 0, 1, .. N - 1 mixings to the rows, each made in place from the one before it, and B after N
-// mixings to `x`.
+// Begins with the part in `x`, RFC 7914's B. Writes it after 0, 1, .. N - 1 mixings to the rows, each mixed from the
+// row before it, and after N mixings to `x`.
 fn fill_table(table: &mut Table, rows: usize, x: &mut [u32], meter: &mut Meter)
     requires power { (k : ℕ) × IsPower rows k }
     requires some_block { (r : ℕ) × (1 ≤ r) × (length x.old ≡ part_words r) }
@@ -156,8 +157,8 @@ fn fill_table(table: &mut Table, rows: usize, x: &mut [u32], meter: &mut Meter)
     mix_diagonals(table.row(rows - 1), x, meter);
 }
 
-// Makes the N steps of ROMix's second loop from `x` on. They go from `x` to `y` and back, so that no block is
-// copied.
+// Makes the N steps of ROMix's second loop from `x` on. They write to `y` and to `x` in turn, so that no block is
+// copied. N is even, so the last step writes to `x`.
 fn mix_with_rows(table: &Table, rows: usize, x: &mut [u32], y: &mut [u32], meter: &mut Meter)
     requires power { (k : ℕ) × IsPower rows k }
     requires halves { (r : ℕ) × AreHalves r x.old y.old }
@@ -188,7 +189,7 @@ fn mix_back(table: &Table, rows: usize, x: &[u32], y: &mut [u32], meter: &mut Me
 }
 
 // Returns the number of the row that a step takes for X: Integerify (X) mod N. As N is a power of two of at most 2^32,
-// the first word of the last block decides, which is the first of its diagonals too.
+// the first word of the last block decides. It is the first word of that block's first diagonal too.
 fn row_number(words: &[u32], rows: usize) -> usize
     requires power { (k : ℕ) × IsPower rows k }
     requires some_block { (r : ℕ) × (1 ≤ r) × (length words.now ≡ part_words r) }

@@ -35,7 +35,7 @@ module _ {I O E : Type 0} where
     pub others : new ≡ record old { out = new.out }
     pub gives : Takes 0 1 old.out new.out text
 
-  -- A run read these bytes and wrote these answers, none of which is a rejection or the verdict `no`.
+  -- A run read these bytes and wrote these answers, none of which is a refusal or the verdict `no`.
   pub record Succeeds (read : List ℕ) (answers : List Answer) (old new : RunState I O E) : Type 0 where
     pub input : Reads old.input new.input read
     pub run : Finishes answers old new (Ok (tally_of answers))

@@ -32,12 +32,12 @@ const FAULT_LINE_ROOM: usize = 80;
 /// Runs the command with the arguments after the program's name, and returns the exit status.
 ///
 /// - 0: everything was done, or help or the version was printed.
-/// - 1: a line was rejected or got the verdict `no`.
+/// - 1: a line was refused or got the verdict `no`.
 /// - 2: the arguments or the password are invalid.
 /// - 3: a system error occurred, an allocation failed, or the run needs too many I/O calls.
 ///
 /// [`plan`] plans the arguments, and [`run_methods`], [`run_one`], [`run_batch`] or [`run_check`] runs the plan. After
-/// an error `faults` gets `mkpasswd: MESSAGE` and a line feed. If `clap` rejects the arguments, `faults` gets its own
+/// an error `faults` gets `mkpasswd: MESSAGE` and a line feed. If `clap` refuses the arguments, `faults` gets its own
 /// message instead. Help and the version go to `out`.
 ///
 /// Without a generator a plan that hashes is not run, and the message is `start fault`. The list of the methods, help,

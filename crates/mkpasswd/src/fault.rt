@@ -15,7 +15,7 @@ use thiserror::Error;
 /// The reason why the arguments after the program's name have no plan.
 #[derive(Debug, Drop, Error)]
 pub enum UsageFault {
-    /// `clap` rejects the arguments, or they ask for help or the version. Its own message is printed.
+    /// `clap` refuses the arguments, or they ask for help or the version. Its own message is printed.
     #[error("{0}")]
     Parse(clap::Error),
     /// TYPE names no method.

@@ -56,11 +56,11 @@ enum Mode<'a> {
 ///
 /// The first rule that the arguments break:
 ///
-/// - `Parse`: `clap` rejects the arguments, or they ask for help or the version.
+/// - `Parse`: `clap` refuses the arguments, or they ask for help or the version.
 /// - `Method`: TYPE names no method, and is not `help`.
 /// - `TwoSalts`: the salt is given with `-S` and as an argument.
 /// - `TwoModes`: more than one of PASSWORD, `-s`, `--batch` and `--check` is given.
-/// - `Make`: [`Maker::new`] rejects the method, the cost and the salt.
+/// - `Make`: [`Maker::new`] refuses the method, the cost and the salt.
 ///
 /// If an allocation fails, the error is `OutOfMemory` instead of any later check.
 pub fn plan(alloc: Global, words: &[String]) -> Result<Plan, UsageFault>

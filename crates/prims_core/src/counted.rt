@@ -23,7 +23,7 @@ pub use counted_sha512::CountedSha512;
 /// A running digest holds the message that its pieces make, joined in order, so the digest is the same
 /// however the message is cut.
 pub trait Counted: Drop {
-    // The running digest holds this message.
+    // `holds running message`: the running digest was fed this message.
     ghost holds: { Self → List ℕ → Type 0 };
 
     // The digest of a whole message.
@@ -55,10 +55,10 @@ pub trait Counted: Drop {
         ensures length { length result.items ≡ LEN }
         ensures count { meter.new ≡ record meter.old { digests = meter.old.digests + 1 } };
 
-    /// Writes the digest of the message to `out`, and adds one to the meter's digests.
-    ///
-    /// Preconditions: `out` has the length of a digest, and the meter has room for it. The default calls
+    /// Writes the digest of the message to `out`, and adds one to the meter's digests. The default calls
     /// [`Counted::finish`] and copies the digest.
+    ///
+    /// Preconditions: `out` has the length of a digest, and the meter has room for one more.
     fn finish_into(self, meter: &mut Meter, out: &mut [u8])
     where
         Self: Sized,

@@ -1,11 +1,12 @@
 //! A block of sixteen words in lanes, as the rounds of Salsa20/8 take it.
 //!
-//! The words are a matrix of four rows. A column round begins each column on the main diagonal, so
-//! that the first words of all columns are that diagonal, the second words the one below it, and so
-//! on: these are the vectors, and one quarter round of lanes is then that of all columns.
+//! The words are a matrix of four rows of four. The quarter round of a column begins at its word on the main
+//! diagonal and goes down. So the four columns begin with the main diagonal, and go on with the diagonal
+//! below it, and so on. Each diagonal is one vector, and one quarter round of vectors is that of all four
+//! columns.
 //!
-//! A block stands in memory row by row, as the standard has it, or diagonal by diagonal, which needs no
-//! rearrangement.
+//! In memory a block's words stand row by row, as in the standard, or diagonal by diagonal, in the order of
+//! the vectors.
 
 ghost use Rattle.std.specs.Prelude.{◌≡◌, length};
 ghost use Rattle.std.specs.Simd.Lanes.{zip2};
@@ -16,7 +17,7 @@ ghost use Rattle.prims_core.specs.Salsa.{sum_of_words};
 use std::marker::Model;
 use std::simd::prelude::*;
 
-/// The sixteen words of a block, seen as their list.
+/// The sixteen words of a block. Contracts see their list, row by row.
 #[derive(Drop)]
 pub(crate) struct Diagonals {
     /// The words 0, 5, 10 and 15.
@@ -41,7 +42,7 @@ impl Model for Diagonals {
 }
 
 impl Diagonals {
-    /// Returns the block of these sixteen words, which stand row by row.
+    /// Returns the block whose sixteen words these are, row by row.
     #[inline(always)]
     pub(crate) fn of(words: &[u32]) -> Diagonals
         requires { length words.now ≡ 16 }
@@ -56,7 +57,9 @@ impl Diagonals {
         }
     }
 
-    /// Fills `words`, which are sixteen, with the block's, row by row.
+    /// Writes the block to `words`, row by row.
+    ///
+    /// Precondition: there are sixteen of them.
     #[inline(always)]
     pub(crate) fn store(&self, words: &mut [u32])
         requires { length words.old ≡ 16 }
@@ -71,7 +74,7 @@ impl Diagonals {
         block.copy_to_slice(words);
     }
 
-    /// Returns the block of these sixteen words, which stand diagonal by diagonal.
+    /// Returns the block whose sixteen words these are, diagonal by diagonal.
     #[inline(always)]
     pub(crate) fn of_diagonals(words: &[u32]) -> Diagonals
         requires { length words.now ≡ 16 }
@@ -86,7 +89,9 @@ impl Diagonals {
         }
     }
 
-    /// Fills `words`, which are sixteen, with the block's, diagonal by diagonal.
+    /// Writes the block to `words`, diagonal by diagonal.
+    ///
+    /// Precondition: there are sixteen of them.
     #[inline(always)]
     pub(crate) fn store_diagonals(&self, words: &mut [u32])
         requires { length words.old ≡ 16 }
@@ -114,7 +119,7 @@ impl Diagonals {
         }
     }
 
-    /// Returns the sums of the words of two blocks.
+    /// Returns the block of the sums of two blocks, word by word.
     #[inline(always)]
     pub(crate) fn sum(&self, other: &Diagonals) -> Diagonals
         ensures { result ≡ zip2 sum_of_words self.now other.now }

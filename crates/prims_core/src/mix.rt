@@ -1,11 +1,12 @@
 //! scryptBlockMix (RFC 7914, section 4), which mixes blocks of 64 bytes one after another.
 //!
-//! A block is its sixteen words. Each is mixed with the result before it, the first with the last
-//! block, and the results at even places come before those at odd places. ROMix (section 5) mixes the
-//! XOR of blocks and a row of its table, which has a call of its own.
+//! A block is its sixteen words. Each block is mixed with the result before it, the first with the last
+//! block. The results at even places come before those at odd places. ROMix (section 5) also mixes the XOR
+//! of blocks and a row of its table: [`mix_xor_diagonals`] does both in one pass.
 //!
-//! During the whole of ROMix blocks stand diagonal by diagonal, as Salsa20/8 in lanes takes them, so that
-//! no mixing has to rearrange any. [`to_diagonals`] and [`from_diagonals`] convert them before and after it.
+//! During the whole of ROMix a block's words stand diagonal by diagonal, as Salsa20/8 in lanes takes them:
+//! words 0, 5, 10, 15, then 4, 9, 14, 3, then 8, 13, 2, 7, then 12, 1, 6, 11. So no mixing has to rearrange
+//! any. [`to_diagonals`] and [`from_diagonals`] convert blocks before and after it.
 
 ghost use Rattle.std.specs.Prelude.{◌≡◌, ℕ, ◌+◌, ◌*◌, ◌%◌, ◌^◌, ◌<◌, ◌≤◌, List, length};
 ghost use Rattle.prims_core.specs.BlockMix.{block_at, block_mix};
@@ -169,7 +170,7 @@ fn block_words(words: &[u32], i: usize) -> &[u32]
     &words[BLOCK_WORDS * i..BLOCK_WORDS * i + BLOCK_WORDS]
 }
 
-// Mixes 2r blocks into `dst`, where the results stand diagonal by diagonal.
+// Mixes 2r blocks, and writes the results to `dst` diagonal by diagonal.
 fn mix_blocks<B: Blocks>(src: &B, dst: &mut [u32], r: usize)
     requires { (1 ≤ r) × (length (B.words src.now) ≡ 32 * r) × (length dst.old ≡ 32 * r) }
     ensures { in_rows dst.new ≡ block_mix (B.words src.now) }

@@ -1,7 +1,7 @@
 //! The table of scrypt, the V of RFC 7914, section 5: rows of 32-bit words, all of one length.
 //!
-//! All rows are in one vector, one after another, so that a table is one allocation, made at once in
-//! its full size, and a row is mixed in place from the one before it.
+//! All rows stand one after another in one vector, so a table is one allocation, made at once in its full
+//! size. A row is mixed from the one before it where it stands, without a copy.
 
 ghost use Rattle.std.specs.Prelude.{◌≡◌, ℕ, ◌+◌, ◌*◌, ◌/◌, ◌^◌, ◌<◌, ◌≤◌, List, [], length, take, drop, replicate, slice_index_or, slice_set, IfOk, OnOk, OnErr};
 ghost use Rattle.prims_core.specs.BlockMix.{block_mix};

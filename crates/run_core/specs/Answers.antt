@@ -57,7 +57,7 @@ pub record Answer : Type 0 where
   pub outcome : Outcome
   pub hashings : List Hashing
 
--- is_refusal outcome is true if the line is rejected. Its message is written to `faults`, and every other text to
+-- is_refusal outcome is true if the line is refused. Its message is written to `faults`, and every other text to
 -- `out`.
 abbrev pub is_refusal : Outcome → Bool
 is_refusal (Refused fault) = true
@@ -80,7 +80,7 @@ fault_texts answers = flat_map (λ answer. if is_refusal answer.outcome then ans
 abbrev pub hashings_of : List Answer → List Hashing
 hashings_of answers = flat_map (λ answer. answer.hashings) answers
 
--- tally_of answers is their number, the number of rejected lines, and the number of verdicts `no`.
+-- tally_of answers is their number, the number of refused lines, and the number of verdicts `no`.
 abbrev pub tally_of : List Answer → Tally
 tally_of answers = record {
   lines = length answers;

@@ -64,7 +64,7 @@ ComesTo job parts stream (Refused fault) made = ⊥
 
 -- ---- answers
 
--- refusal number fault is the answer to a rejected line with this number. It draws no random number and makes no hash.
+-- refusal number fault is the answer to a refused line with this number. It draws no random number and makes no hash.
 abbrev pub refusal : ℕ → LineFault → Answer
 refusal number fault = record {
   text = as_line (codes "mkpasswd: line " ++ decimal number ++ codes ": " ++ rendered (Refused fault));

@@ -1,4 +1,4 @@
--- The messages about rejected lines.
+-- The messages about refused lines.
 use Rattle.std.specs.Prelude.{ℕ, List, codes}
 use Rattle.crypt_core.specs.PasswordFaults.{password_fault_text}
 use Rattle.crypt_core.specs.SettingFaults.{setting_fault_text}

@@ -11,7 +11,7 @@ use Rattle.run_core.specs.declared.fault.RunFault.{RunFault}
 use Rattle.run_core.specs.declared.fault.RunFault.TheVariants.{Read, Write, OutOfMemory, Turns, Password}
 use Rattle.run_core.specs.declared.tally.Tally.{Tally}
 
--- A `RunState` is what a run works on: its input, its output, its output for messages about rejected lines, the random
+-- A `RunState` is what a run works on: its input, its output, its output for messages about refused lines, the random
 -- numbers that are left, and the counts of the meter.
 pub record RunState (I O E : Type 0) : Type 0 where
   pub input : Device I

@@ -56,7 +56,7 @@ pub(crate) enum Outcome {
     Refused(LineFault),
 }
 
-/// The answer to a line as a value: its name and its outcome. A rejected line has an empty name.
+/// The answer to a line as a value: its name and its outcome. A refused line has an empty name.
 #[derive(Drop)]
 pub(crate) struct LineAnswer<'a> {
     pub(crate) name: &'a [u8],
@@ -64,7 +64,7 @@ pub(crate) struct LineAnswer<'a> {
 }
 
 impl LineAnswer<'_> {
-    /// Returns the answer to a rejected line.
+    /// Returns the answer to a refused line.
     pub(crate) fn refused(fault: LineFault) -> LineAnswer<'static>
         ensures outcome { result.outcome ≡ Outcome.Refused fault }
         ensures name { result.name.now ≡ [] }
@@ -76,9 +76,9 @@ impl LineAnswer<'_> {
     }
 }
 
-/// Decides the answer to a line: the hash of its password, the verdict on its password, or the rejection of the line.
+/// Decides the answer to a line: the hash of its password, the verdict on its password, or the refusal of the line.
 ///
-/// It rejects a line that breaks a rule, or that can cost more than the budget, before it hashes anything. It draws
+/// It refuses a line that breaks a rule, or that can cost more than the budget, before it hashes anything. It draws
 /// three random numbers for a salt that it makes; for a rehash it draws them after the verdict.
 ///
 /// # Errors
@@ -202,7 +202,7 @@ pub(crate) fn make_hash<R: Rng>(
     hash(alloc, password, &setting, meter)
 }
 
-/// Returns the message about a rejected line: `mkpasswd: line NUMBER: MESSAGE` and a line feed.
+/// Returns the message about a refused line: `mkpasswd: line NUMBER: MESSAGE` and a line feed.
 pub(crate) fn render_refusal(number: u64, fault: &LineFault) -> Text
     ensures { result.items ≡ (refusal number fault.now).text }
 {

@@ -45,7 +45,7 @@ const PIECE_SIZE: usize = 512;
 /// allocates and draws nothing. The budget is the last rule, and changes nothing for any other line.
 ///
 /// With the job's `work` each output line ends with the counts `:digests:bytes:mixes:table` of its own hash. The job's
-/// `rehash` has no effect. The run flushes both outputs once, at the end. The tally counts the lines and the rejected
+/// `rehash` has no effect. The run flushes both outputs once, at the end. The tally counts the lines and the refused
 /// ones.
 ///
 /// For example, with md5crypt and the salt `xxxxxxxx`, the line `ann:password` gives
@@ -157,7 +157,7 @@ struct LineRun<'j, 'o, 'e, 'r, 'm, O: Write, E: Write, R> {
     job: &'j Job,
     /// The output for hashes and verdicts.
     out: &'o mut Output<O>,
-    /// The output for messages about rejected lines.
+    /// The output for messages about refused lines.
     faults: &'e mut Output<E>,
     /// The generator of random numbers for salts.
     rng: &'r mut R,
@@ -346,7 +346,7 @@ impl<O: Write, E: Write, R: Rng> LineRun<'_, '_, '_, '_, '_, O, E, R> {
     }
 }
 
-// Writes the answer to line `number`, which took this work, to `out`, or to `faults` if the line is rejected.
+// Writes the answer to line `number`, which took this work, to `out`, or to `faults` if the line is refused.
 fn give<O: Write, E: Write>(
     number: u64,
     job: &Job,

@@ -4,9 +4,9 @@ ghost use Rattle.std.specs.Prelude.{◌≡◌, []};
 /// The counts of a run's lines. A single password is one line.
 #[derive(Clone, Copy, Debug, PartialEq, Eq)]
 pub struct Tally {
-    /// All lines, including rejected ones.
+    /// All lines, including refused ones.
     pub lines: u64,
-    /// The rejected lines.
+    /// The refused lines.
     pub refused: u64,
     /// The lines with the verdict `no`.
     pub misfits: u64,
@@ -29,7 +29,7 @@ impl Tally {
 
     /// Returns the exit status of a run that ends with this tally.
     ///
-    /// It is 1 if a line was rejected or got the verdict `no`, otherwise 0.
+    /// It is 1 if a line was refused or got the verdict `no`, otherwise 0.
     pub fn status(&self) -> u8
         ensures { result ≡ tally_status self.now }
     {

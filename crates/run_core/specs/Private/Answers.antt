@@ -79,7 +79,7 @@ Settles job password field stream before after new_stream result =
     × IsResult (IsSettled job password field stream hashings) result outcome
     × Makes hashings stream before after new_stream result
 
--- HasOutcome kind job line stream name outcome hashings: the line has this outcome, whatever its number is. A rejected
+-- HasOutcome kind job line stream name outcome hashings: the line has this outcome, whatever its number is. A refused
 -- line may have any name.
 abbrev pub HasOutcome : Kind → Job → List ℕ → Stream → List ℕ → Outcome → List Hashing → Type 0
 HasOutcome kind job line stream name outcome hashings =

@@ -48,7 +48,7 @@ module _ {I : Type 0} where
       IsUnfailed old new × IsDecided new bytes × (count ≤ length buffer) × (take count buffer ≡ first_line bytes)
   FindsLine old new bytes left buffer (Err fault) = IsStopped old new bytes left fault
 
-  -- Obtains old new bytes left result: these bytes were read, and their first line is the password, or is rejected as
+  -- Obtains old new bytes left result: these bytes were read, and their first line is the password, or is refused as
   -- one; or reading stopped before that line was known.
   abbrev pub Obtains : Device I → Device I → List ℕ → ℕ → Result (List ℕ) RunFault → Type 0
   Obtains old new bytes left (Ok password) =
@@ -57,13 +57,13 @@ module _ {I : Type 0} where
       IsUnfailed old new × IsDecided new bytes × IsPasswordRefused (first_line bytes) fault
   Obtains old new bytes left (Err fault) = IsStopped old new bytes left fault
 
--- TakesAsPassword bytes result: the bytes are a password, or are rejected as one.
+-- TakesAsPassword bytes result: the bytes are a password, or are refused as one.
 abbrev pub TakesAsPassword : List ℕ → Result (List ℕ) RunFault → Type 0
 TakesAsPassword bytes (Ok password) = (password ≡ bytes) × IsPassword bytes
 TakesAsPassword bytes (Err (Password fault)) = IsPasswordRefused bytes fault
 TakesAsPassword bytes (Err fault) = ⊥
 
--- ObtainsFrom from old new left result: the password from this source was obtained or rejected.
+-- ObtainsFrom from old new left result: the password from this source was obtained or refused.
 --   Word   the password is the argument, and the input is unchanged
 --   Input  the password is the first line of the input
 abbrev pub ObtainsFrom : {I : Type 0} → PasswordFrom → Device I → Device I → ℕ → Result (List ℕ) RunFault → Type 0

@@ -50,7 +50,7 @@ impl LineBuffer {
         }
     }
 
-    /// Decides the answer to the buffered line, as [`answer_line`] does. It rejects a line that is too long.
+    /// Decides the answer to the buffered line, as [`answer_line`] does. It refuses a line that is too long.
     pub(crate) fn answer<R: Rng>(
         &self,
         alloc: Global,

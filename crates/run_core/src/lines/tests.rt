@@ -156,7 +156,7 @@ fn want_work(
     Ok(())
 }
 
-// Asserts the same of a run over one line. The line is rejected exactly if `faults` gets a message.
+// Asserts the same of a run over one line. The line is refused exactly if `faults` gets a message.
 fn want_line(
     rt: &impl Abort,
     alloc: Global,
@@ -176,7 +176,7 @@ const CHECK: &[&str] = &["--check"];
 
 const COUNTED: &[&str] = &["--check", "--work"];
 
-// Arguments, an input, the numbers of lines, rejected lines and verdicts `no`, and both outputs. The hashes are
+// Arguments, an input, the numbers of lines, refused lines and verdicts `no`, and both outputs. The hashes are
 // published by openssl-passwd(1) and Drepper's specification, or made with libxcrypt.
 const ANSWERED: [(&[&str], &str, (u64, u64, u64), &str, &str); 16] = [
     (&BATCH, "", (0, 0, 0), "", ""),

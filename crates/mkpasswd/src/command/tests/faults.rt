@@ -71,7 +71,7 @@ const READ_FAULT: &str = "mkpasswd: read fault\n";
 
 const WRITE_FAULT: &str = "mkpasswd: write fault\n";
 
-// The line of the error follows the messages about rejected lines.
+// The line of the error follows the messages about refused lines.
 #[test]
 fn tells_a_failed_read(rt: HostRuntime) -> Result<(), Fail> {
     let rows: [(&[&str], &[u8], u64, (&str, &str)); 3] = [

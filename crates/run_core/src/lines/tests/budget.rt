@@ -1,4 +1,4 @@
-//! Lines with a budget. A run answers a line whose cost equals the budget. With a budget one lower it rejects the line
+//! Lines with a budget. A run answers a line whose cost equals the budget. With a budget one lower it refuses the line
 //! before it draws or hashes anything.
 
 use super::*;

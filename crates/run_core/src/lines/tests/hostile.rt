@@ -103,7 +103,7 @@ fn refuses_a_long_name_alone(rt: HostRuntime) -> Result<(), Fail> {
     Ok(())
 }
 
-// Asserts the output for the given number of lines, one of which is rejected exactly if `faults` gets a message.
+// Asserts the output for the given number of lines, one of which is refused exactly if `faults` gets a message.
 fn want_lines(
     rt: &impl Abort,
     alloc: Global,
