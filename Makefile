@@ -15,7 +15,7 @@
 # make lib        builds the C libraries, libmkpasswd.a and libmkpasswd.so.2
 # make hwcaps     builds the shared library for x86-64-v3 too, which glibc loads by itself on such a processor
 # make guard      builds libmkpasswd-crypt.so, which stands in front of crypt(3) for one service
-# make fuzz       has libFuzzer make random calls of the C libraries and the guard, with FUZZ_SECONDS for each target (default 200)
+# make fuzz       has libFuzzer make random calls of the C libraries and the guard, with FUZZ_SECONDS for each target (default 300)
 # make install    puts the program, the C libraries, the manuals and the rest under PREFIX (default /usr/local)
 # make dist       packs the same into an archive that needs no toolchain
 # make wheel      packs the Python package and the shared library, built for every x86-64 processor, into a wheel
