@@ -19,6 +19,18 @@ is(scalar @bare, $bare, 'the page says how many entries have no comment');
 is("$strict->{status} $strict->{err}", ($bare ? 1 : 0) . ' ', 'such an entry is an error of --strict');
 is(scalar(() = $made->{out} =~ /^\*\*No comment yet\.\*\*$/mg), $bare, 'and is marked on the page');
 
+# The links of the page and the names that they show. A head's anchor is its text in small letters without marks, and with a
+# number if an earlier head has the same one.
+my ($anchors, %count) = ('');
+for my $head ($made->{out} =~ /^#+ (.*)$/mg) {
+    my $anchor = lc($head) =~ s/[^\w -]//gr =~ tr/ /-/r;
+    $anchors .= "$head #" . ($count{$anchor}++ ? "$anchor-" . ($count{$anchor} - 1) : $anchor) . "\n";
+}
+my @links = $made->{out} =~ /\[`([\w-]+)(?:\.\w+)?`\]\(([^)]*)\)/g;
+cmp_ok(scalar @links, '>', 2000, 'the page has links');
+is(join(', ', grep { $anchors !~ /^\Q$_\E$/m } map { "$links[2 * $_] $links[2 * $_ + 1]" } 0 .. $#links / 2), '',
+    'each leads to the head of its name');
+
 # The entries and the calls: where they are, and their code. A list in an entry's comment stands in a block of its own.
 my (%entries, @code);
 for (split /^(?=###+ )/m, $made->{out}) {
