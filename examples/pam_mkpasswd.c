@@ -6,9 +6,9 @@
  *
  * The budget may be left out. An error in these arguments, or a file that cannot be read, lets nobody in.
  *
- * A name that is unknown or locked, or whose field no password can match, costs what the hash of NOBODY costs. To keep
- * names secret from a clock, hash all passwords with this method and these rounds, and allow them in the budget: the one
- * that is the default, 150000000, does so for passwords of up to 82 bytes.
+ * A name that is unknown or locked, or whose field is malformed or over the budget, costs what the hash of NOBODY costs. To
+ * keep names secret from a clock, hash all passwords with this method and these rounds, and allow them in the budget: the
+ * one that is the default, 150000000, does so for passwords of up to 82 bytes.
  *
  * The log has what an administrator can correct: an argument, the file, or a field that no password can match. It is the
  * same whatever password was given, and has no name, since users type passwords there. */

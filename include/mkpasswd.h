@@ -36,6 +36,9 @@
 #ifndef MKPASSWD_H
 #define MKPASSWD_H
 
+#ifndef __cplusplus
+#include <stdbool.h>
+#endif
 #include <stddef.h>
 #include <stdint.h>
 #include <string.h>
@@ -44,12 +47,20 @@
 extern "C" {
 #endif
 
-/* gcc and clang warn about an ignored result. clang, and gcc with -Wall, also warn about a null that they see. */
+/* gcc and clang warn about an ignored result. clang, and gcc with -Wall, also warn about a null that they see, and about a
+ * comparison of a _str call's result that always or never holds. gcc warns about an `out` that it sees to have less room than
+ * the call is told. */
 #if defined __GNUC__ || defined __clang__
 #define MKPASSWD_EXPORT __attribute__((visibility("default"), nothrow))
 #define MKPASSWD_CHECKED __attribute__((warn_unused_result))
 #define MKPASSWD_NONNULL __attribute__((nonnull))
+#if defined __GNUC__ && __GNUC__ >= 10
+#define MKPASSWD_WRITES(out, len) __attribute__((access(write_only, out, len)))
 #else
+#define MKPASSWD_WRITES(out, len)
+#endif
+#else
+#define MKPASSWD_WRITES(out, len)
 #define MKPASSWD_EXPORT
 #define MKPASSWD_CHECKED
 #define MKPASSWD_NONNULL
@@ -67,7 +78,8 @@ extern "C" {
 /* A budget for a login. It admits what mkpasswd_new() makes at cost 0 with any method, for any password, and SHA-crypt
  * with up to 75,000 rounds for any password, sha512crypt with 656,000 rounds for passwords of up to 82 bytes, SHA-crypt
  * with 1,000,000 rounds for passwords of up to 40 bytes. On one core of 2.5 GHz a hash of this cost takes some 2 seconds
- * with sha256crypt, 1 with sha512crypt, 0.2 with scrypt. */
+ * with sha256crypt, 1 with sha512crypt, 0.2 with scrypt. scrypt, which alone needs memory, takes at most half as many bytes
+ * as the budget for each call at the same time, and 64 MiB at its own cost. */
 #ifdef __cplusplus
 #define MKPASSWD_BUDGET static_cast<uint64_t>(150000000)
 #else
@@ -88,7 +100,7 @@ extern "C" {
 #define MKPASSWD_REFUSED_PASSWORD_TOO_LONG (-1)  /* password too long: more than MKPASSWD_PASSWORD_LIMIT bytes */
 #define MKPASSWD_REFUSED_PASSWORD_ZERO_BYTE (-2) /* password has a zero byte */
 #define MKPASSWD_REFUSED_SETTING_TOO_LONG (-3)   /* setting too long: more than 384 bytes */
-#define MKPASSWD_REFUSED_BAD_CHARACTER (-4)      /* bad character: no setting has it; also of a locked account (! or *) */
+#define MKPASSWD_REFUSED_BAD_CHARACTER (-4)      /* bad character: no setting has it; also of a locked account, or a line end */
 #define MKPASSWD_REFUSED_UNKNOWN_SCHEME (-5)     /* unknown scheme: none of $1$, $5$, $6$, $7$; also of an empty field */
 #define MKPASSWD_REFUSED_BAD_ROUNDS (-6)         /* bad rounds: `rounds=` without a valid number */
 #define MKPASSWD_REFUSED_BAD_COST (-7)           /* bad cost: scrypt's is not eleven of ./0-9A-Za-z */
@@ -135,8 +147,9 @@ MKPASSWD_EXPORT MKPASSWD_CHECKED MKPASSWD_NONNULL int32_t mkpasswd_verify(const 
 /* Hashes a new password, with a salt from getentropy(3), and puts the hash and a byte 0 into `out`; MKPASSWD_TEXT_SIZE
  * bytes are enough. `cost` is as in `mkpasswd -R`: the rounds of SHA-crypt, which are clamped to 1000 to 999999999; 6 to 11
  * for scrypt, for N = 2^(cost+7), r = 32 and p = 1; 0 for the method's own, 5000 or 7. md5crypt ignores it. */
-MKPASSWD_EXPORT MKPASSWD_CHECKED MKPASSWD_NONNULL int32_t mkpasswd_new(const uint8_t *password, size_t password_len,
-    uint32_t method, uint32_t cost, uint64_t budget, uint8_t *out, size_t out_len, struct mkpasswd_report *report);
+MKPASSWD_EXPORT MKPASSWD_CHECKED MKPASSWD_NONNULL MKPASSWD_WRITES(6, 7) int32_t mkpasswd_new(const uint8_t *password,
+    size_t password_len, uint32_t method, uint32_t cost, uint64_t budget, uint8_t *out, size_t out_len,
+    struct mkpasswd_report *report);
 
 /* Returns 1 exactly if the stored hash has a valid setting and mkpasswd_new() with this method and cost would replace it:
  * the method is another one, or it is the same with more rounds, or for scrypt with a greater N * r * p. */
@@ -150,19 +163,21 @@ MKPASSWD_EXPORT MKPASSWD_CHECKED MKPASSWD_NONNULL int32_t mkpasswd_bound(const u
 
 /* Hashes a password with the setting in a text, which may be a stored hash, as crypt(3) does. It is for a crypt(3) and for
  * tests: a login is mkpasswd_verify(), and a new password mkpasswd_new(). */
-MKPASSWD_EXPORT MKPASSWD_CHECKED MKPASSWD_NONNULL int32_t mkpasswd_hash(const uint8_t *password, size_t password_len,
-    const uint8_t *setting, size_t setting_len, uint64_t budget, uint8_t *out, size_t out_len,
+MKPASSWD_EXPORT MKPASSWD_CHECKED MKPASSWD_NONNULL MKPASSWD_WRITES(6, 7) int32_t mkpasswd_hash(const uint8_t *password,
+    size_t password_len, const uint8_t *setting, size_t setting_len, uint64_t budget, uint8_t *out, size_t out_len,
     struct mkpasswd_report *report);
 
 /* Puts a setting into `out` whose salt is made of three random words of the caller; method and cost are those of
  * mkpasswd_new(). It is for tests and for systems with a random source of their own. */
-MKPASSWD_EXPORT MKPASSWD_CHECKED MKPASSWD_NONNULL int32_t mkpasswd_setting(uint32_t method, uint32_t cost, uint64_t first,
-    uint64_t second, uint64_t third, uint8_t *out, size_t out_len, struct mkpasswd_report *report);
+MKPASSWD_EXPORT MKPASSWD_CHECKED MKPASSWD_NONNULL MKPASSWD_WRITES(6, 7) int32_t mkpasswd_setting(uint32_t method,
+    uint32_t cost, uint64_t first, uint64_t second, uint64_t third, uint8_t *out, size_t out_len,
+    struct mkpasswd_report *report);
 
 /* Puts the message for a reason and a byte 0 into `out`, and returns 1. For any other number it puts "unknown reason" and
  * returns 0. If the room is too small, it puts as much as there is room for, with the byte 0, and returns 0. So whatever
  * it returns, `out` holds a string, unless it has no room at all. */
-MKPASSWD_EXPORT MKPASSWD_NONNULL int32_t mkpasswd_words(int32_t reason, uint8_t *out, size_t out_len);
+MKPASSWD_EXPORT MKPASSWD_NONNULL MKPASSWD_WRITES(2, 3) int32_t mkpasswd_words(int32_t reason, uint8_t *out,
+    size_t out_len);
 
 /* MKPASSWD_VERSION of the library that is linked. */
 MKPASSWD_EXPORT uint32_t mkpasswd_version(void);
@@ -177,69 +192,69 @@ MKPASSWD_EXPORT uint32_t mkpasswd_version(void);
 #define MKPASSWD_OUT(text) ((uint8_t *)(text))
 #endif
 
-MKPASSWD_CHECKED static inline int32_t mkpasswd_verify_str(const char *password, const char *stored, uint64_t budget,
+MKPASSWD_CHECKED static inline bool mkpasswd_verify_str(const char *password, const char *stored, uint64_t budget,
     struct mkpasswd_report *report)
 {
     struct mkpasswd_report own;
 
     return mkpasswd_verify(MKPASSWD_BYTES(password ? password : ""), password ? strlen(password) : 1,
-        MKPASSWD_BYTES(stored ? stored : ""), stored ? strlen(stored) : 0, budget, report ? report : &own);
+        MKPASSWD_BYTES(stored ? stored : ""), stored ? strlen(stored) : 0, budget, report ? report : &own) == 1;
 }
 
-MKPASSWD_CHECKED static inline int32_t mkpasswd_new_str(const char *password, uint32_t method, uint32_t cost,
-    uint64_t budget, char *out, size_t out_len, struct mkpasswd_report *report)
+MKPASSWD_CHECKED MKPASSWD_WRITES(5, 6) static inline bool mkpasswd_new_str(const char *password, uint32_t method,
+    uint32_t cost, uint64_t budget, char *out, size_t out_len, struct mkpasswd_report *report)
 {
     struct mkpasswd_report own;
     uint8_t none;
 
     return mkpasswd_new(MKPASSWD_BYTES(password ? password : ""), password ? strlen(password) : 1, method, cost, budget,
-        out ? MKPASSWD_OUT(out) : &none, out ? out_len : 0, report ? report : &own);
+        out ? MKPASSWD_OUT(out) : &none, out ? out_len : 0, report ? report : &own) == 1;
 }
 
-MKPASSWD_CHECKED static inline int32_t mkpasswd_needs_rehash_str(const char *stored, uint32_t method, uint32_t cost,
+MKPASSWD_CHECKED static inline bool mkpasswd_needs_rehash_str(const char *stored, uint32_t method, uint32_t cost,
     struct mkpasswd_report *report)
 {
     struct mkpasswd_report own;
 
     return mkpasswd_needs_rehash(MKPASSWD_BYTES(stored ? stored : ""), stored ? strlen(stored) : 0, method, cost,
-        report ? report : &own);
+        report ? report : &own) == 1;
 }
 
-MKPASSWD_CHECKED static inline int32_t mkpasswd_bound_str(const char *stored, size_t password_len,
+MKPASSWD_CHECKED static inline bool mkpasswd_bound_str(const char *stored, size_t password_len,
     struct mkpasswd_report *report)
 {
     struct mkpasswd_report own;
 
     return mkpasswd_bound(MKPASSWD_BYTES(stored ? stored : ""), stored ? strlen(stored) : 0, password_len,
-        report ? report : &own);
+        report ? report : &own) == 1;
 }
 
-MKPASSWD_CHECKED static inline int32_t mkpasswd_hash_str(const char *password, const char *setting, uint64_t budget,
-    char *out, size_t out_len, struct mkpasswd_report *report)
+MKPASSWD_CHECKED MKPASSWD_WRITES(4, 5) static inline bool mkpasswd_hash_str(const char *password, const char *setting,
+    uint64_t budget, char *out, size_t out_len, struct mkpasswd_report *report)
 {
     struct mkpasswd_report own;
     uint8_t none;
 
     return mkpasswd_hash(MKPASSWD_BYTES(password ? password : ""), password ? strlen(password) : 1,
         MKPASSWD_BYTES(setting ? setting : ""), setting ? strlen(setting) : 0, budget, out ? MKPASSWD_OUT(out) : &none,
-        out ? out_len : 0, report ? report : &own);
+        out ? out_len : 0, report ? report : &own) == 1;
 }
 
-MKPASSWD_CHECKED static inline int32_t mkpasswd_setting_str(uint32_t method, uint32_t cost, uint64_t first,
-    uint64_t second, uint64_t third, char *out, size_t out_len, struct mkpasswd_report *report)
+MKPASSWD_CHECKED MKPASSWD_WRITES(6, 7) static inline bool mkpasswd_setting_str(uint32_t method, uint32_t cost,
+    uint64_t first, uint64_t second, uint64_t third, char *out, size_t out_len, struct mkpasswd_report *report)
 {
     struct mkpasswd_report own;
     uint8_t none;
 
     return mkpasswd_setting(method, cost, first, second, third, out ? MKPASSWD_OUT(out) : &none, out ? out_len : 0,
-        report ? report : &own);
+        report ? report : &own) == 1;
 }
 
-static inline int32_t mkpasswd_words_str(int32_t reason, char *out, size_t out_len)
+MKPASSWD_WRITES(2, 3) static inline bool mkpasswd_words_str(int32_t reason, char *out, size_t out_len)
 {
     uint8_t none;
 
-    return mkpasswd_words(reason, out ? MKPASSWD_OUT(out) : &none, out ? out_len : 0);
+    return mkpasswd_words(reason, out ? MKPASSWD_OUT(out) : &none, out ? out_len : 0) == 1;
 }
 
 #undef MKPASSWD_BYTES
@@ -247,6 +262,7 @@ static inline int32_t mkpasswd_words_str(int32_t reason, char *out, size_t out_l
 #undef MKPASSWD_EXPORT
 #undef MKPASSWD_CHECKED
 #undef MKPASSWD_NONNULL
+#undef MKPASSWD_WRITES
 
 #ifdef __cplusplus
 }

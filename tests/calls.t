@@ -366,8 +366,8 @@ sub told {
 subtest 'warnings' => sub {
     my @calls = ('verify(bytes, 1, bytes, 1, 1, &report)', 'new(bytes, 1, 6, 0, 1, out, 145, &report)', 'needs_rehash(bytes, 1, 6, 0, &report)',
         'bound(bytes, 1, 1, &report)', 'hash(bytes, 1, bytes, 1, 1, out, 145, &report)', 'setting(6, 0, 1, 2, 3, out, 145, &report)');
-    my @strings = ('verify_str(0, 0, 1, 0)', 'new_str(0, 6, 0, 1, 0, 145, 0)', 'needs_rehash_str(0, 6, 0, 0)', 'bound_str(0, 1, 0)',
-        'hash_str(0, 0, 1, 0, 145, 0)', 'setting_str(6, 0, 1, 2, 3, 0, 145, 0)');
+    my @strings = ('verify_str(0, 0, 1, 0)', 'new_str(0, 6, 0, 1, 0, 0, 0)', 'needs_rehash_str(0, 6, 0, 0)', 'bound_str(0, 1, 0)',
+        'hash_str(0, 0, 1, 0, 0, 0)', 'setting_str(6, 0, 1, 2, 3, 0, 0, 0)');
     for my $compiler (qw(gcc clang g++ clang++)) {
         needs($compiler => $compiler =~ s/clang\K\+\+//r) or next;
         for my $call (@calls, @strings, 'words(-1, out, 145)') {
@@ -378,9 +378,18 @@ subtest 'warnings' => sub {
                 like(told($compiler, "if (mkpasswd_$name($null)) return 1;", @static), qr/nonnull/, "$compiler: $name($null)");
             }
         }
-        my $all = join '', map { "if (mkpasswd_$_) return 1;\n" } @strings, 'words_str(-1, NULL, 3)';
+        my $all = join '', map { "if (mkpasswd_$_) return 1;\n" } @strings, 'words_str(-1, NULL, 0)';
         is(told($compiler, $all, @static), '', "$compiler: strings may be null");
         is(run("$scratch/told")->{status}, 0, "$compiler: and then no call does anything");
+        for my $test ('>= 0', '< 0', '!= MKPASSWD_DIFFERS', '== MKPASSWD_DONE') {
+            like(told($compiler, "if (mkpasswd_verify_str(\"\", \"\", 1, &report) $test) return 1;", @static), qr/comparison of constant/,
+                "$compiler: a result $test");
+        }
+        for my $call ($compiler =~ /^g/ ? ('new_str("", 6, 0, 1, text, 145, 0)', 'hash_str("", "", 1, text, 145, 0)',
+                'setting_str(6, 0, 1, 2, 3, text, 145, 0)', 'words_str(1, text, 145)', 'words(1, small, 145)') : ()) {
+            like(told($compiler, "char text[64]; uint8_t small[64]; (void)text, (void)small; if (mkpasswd_$call) return 1;", @static),
+                qr/writing 145 bytes into a region of size 64/, "$compiler: too little room in $call");
+        }
         is(told($compiler, "if (mkpasswd_verify_str(\"\", \"\", MKPASSWD_BUDGET, &report)) return 1;", '-Wold-style-cast', @static),
             '', "$compiler: no old cast") if $compiler =~ /\+/;
         for my $old ($compiler =~ /\+/ ? () : qw(fits cost replaced refusal)) {
@@ -503,7 +512,7 @@ END
 
 subtest 'manuals' => sub {
     my $folder = "$installed/usr/share/man/man3";
-    my @strings = $header =~ /^(?:MKPASSWD_CHECKED )?static inline int32_t (mkpasswd_\w+_str)\(/mg;
+    my @strings = $header =~ /^(?:MKPASSWD_\w+(?:\(\d, \d\))? )*static inline bool (mkpasswd_\w+_str)\(/mg;
     is_deeply([sort map { m{/(\w+)\.3$} } glob "$folder/*.3"], [sort 'libmkpasswd', @declared, @strings], 'one for each call');
     for my $call (@strings) {
         my $page = $call =~ s/_str\z//r;
@@ -517,10 +526,11 @@ subtest 'manuals' => sub {
         my $text = slurp($page);
         is_deeply([grep { $text !~ /^\.Sh $_$/m } 'SYNOPSIS', 'RETURN VALUES', 'ERRORS', 'EXAMPLES', 'SECURITY CONSIDERATIONS'], [], "$name: its sections");
         my @examples = section_of($text, 'EXAMPLES') =~ /^\.\\" prints: (.*?)\n\.Bd -literal.*?\n(.*?)^\.Ed$/msg;
-        cmp_ok(@examples / 2, '==', $name eq 'mkpasswd_verify' ? 2 : 1, "$name: examples");
+        cmp_ok(@examples / 2, '==', $name eq 'mkpasswd_verify' ? 3 : 1, "$name: examples");
         while (my ($wanted, $code) = splice @examples, 0, 2) {
             spew("$scratch/example.c", $code =~ s/\\e/\\/gr =~ s/\\&//gr);
-            my $program = build("$name.example", $cc, '-std=c99', @strict, "$scratch/example.c", @static) or next;
+            my $program = build("$name.example", $cc, '-std=c99', @strict, "$scratch/example.c", @static,
+                $code =~ /<crypt\.h>/ ? '-lcrypt' : ()) or next;
             my $run = run($program);
             ok($run->{status} == 0 && $run->{err} eq '' && $run->{out} =~ /\A$wanted\z/, "$name: what its example prints") or diag($run->{out});
         }
