@@ -95,7 +95,7 @@ subtest 'costs in README.md' => sub {
 
 # Each block of commands by its first word, with the test that runs it; none runs what proves.
 my %runs = (
-    'README.md: apt' => 'dist.t', 'README.md: git' => '', 'README.md: IFS=' => 'examples.t', 'README.md: cc' => 'calls.t',
+    'README.md: apt' => 'dist.t', 'README.md: git' => '', 'README.md: cc' => 'calls.t',
     'README.md: sed' => 'examples.t', 'PYTHON.md: python3' => 'python/test_package.py', 'SPECIFICATION.md: cd' => '',
 );
 subtest 'commands of README.md and others' => sub {
@@ -110,7 +110,7 @@ subtest 'commands of README.md and others' => sub {
         like(slurp("$root/Makefile"), qr/^$_:/m, "$name: make $_") for sort keys %made;
     }
     my ($parallel, $typed) = map { Texts::shown($_) } slurp("$root/man/mkpasswd.1") =~ /^\.Dl (.*)/mg;
-    for (['README.md', grep { /^IFS=/ } blocks_of($readme, 'sh')], ['mkpasswd.1', $typed]) {
+    for (['README.md', $readme =~ /`(IFS=[^`]+)`/], ['mkpasswd.1', $typed]) {
         my ($name, $command) = @$_;
         my $hashed = run({ %in, stdin => " pass\\word \n" }, 'bash', '-c', $command // '');
         ok($hashed->{out} =~ /^($hash)\n\z/ && is_hash_of($1, ' pass\word '), "$name: a password that is typed") or diag(%$hashed);

@@ -78,6 +78,8 @@ subtest 'costs' => sub {
         '$7$2/..../....', '$7$86....E....NaCl', '$7$BU..../....ab')
     {
         is(cost(read_setting($text), $_), summed($text, $_), "$text, $_ bytes, round by round") for 0, 1, 7, 8, 64, 65, 511, 1024;
+        my @costs = map { cost(read_setting($text), $_) } 0 .. 1024;
+        is(scalar(grep { $costs[$_] < $costs[$_ - 1] } 1 .. $#costs), 0, "$text: no password costs more than a longer one");
     }
     is(join(':', counts(read_setting('$1$xxxxxxxx'), 8, 0)), '1002:36239:0:0', 'the counts of a hash');
 };
