@@ -145,11 +145,15 @@ subtest 'new hashes' => sub {
     more('a wrong password, without a new hash', $unhashed, sizes(1, "ann:$scrypt:Password\n", @words), @scrypt_8);
 };
 
-# A line that is over budget asks for no more than one that is locked, or than a batch without lines.
+# A line that is over budget, or refused by another rule, asks for no more than one that is locked, or a batch without lines.
 subtest 'budgets' => sub {
-    my @words = qw(--budget 0 --check);
-    more('a check over budget', sizes(0, "ann:!:password\n", @words), sizes(1, "ann:$scrypt:password\n", @words));
-    @words = qw(--budget 0 --batch -m scrypt);
-    more('a line over budget', sizes(0, '', @words), sizes(1, "ann:password\n", @words));
+    for my $budget (0, 1000) {
+        my @words = ('--budget', $budget, '--check');
+        more("a check over a budget of $budget", sizes(0, "ann:!:password\n", @words), sizes(1, "ann:$scrypt:password\n", @words));
+        @words = ('--budget', $budget, qw(--batch -m scrypt));
+        more("a line over a budget of $budget", sizes(0, '', @words), sizes(1, "ann:password\n", @words));
+    }
+    my $refused = "ann\n:x\n" . 'n' x 65 . ":x\nann:" . 'p' x 1025 . "\nann:a\0b\n" . 'l' x 2049 . "\n";
+    more('refused lines', sizes(0, '', qw(--batch -m scrypt)), sizes(1, $refused, qw(--batch -m scrypt)));
 };
 done_testing;

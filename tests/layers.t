@@ -1,5 +1,6 @@
 #!/usr/bin/env perl
-# No digest and no mixing passes the meter by, no count comes from a meter that nobody reads, and no text shows a password.
+# No digest and no mixing passes the meter by, no count comes from a meter that nobody reads, no memory is allocated but for
+# scrypt and the arguments, and no text shows a password.
 # What is allowed is in lists here, as the tree has it, and a test fails for whatever else there is. So a change that is all
 # right can fail too: then a list has to grow. Each breach that tests/lib/breaches.pl plants has to be found.
 #
@@ -48,6 +49,27 @@ my %mixings = (
         'mix_blocks in itself', 'mixed_block in mix_blocks', 'mixed_block in itself', 'mixed_block in mixed_block',
         'salsa8_of in mixed_block',
     ],
+);
+
+# Where memory is allocated, or the allocator handed on, by file: to what, as often as here. Whoever has no allocator can't
+# allocate, so a line is read, priced and refused without memory; `in` is the macros that take one.
+my %allocates = (
+    'crates/program/src/main.rt' => 'collect run_command',
+    'crates/mkpasswd/src/command.rt' => 'plan run_plan run_one run_batch run_check show_error show_refusal in',
+    'crates/mkpasswd/src/options.rt' => 'read_words command Command::new with_hash_options with_line_options Arg::new Arg::new '
+        . 'Vec::from_slice ' . 'flag ' x 5 . 'word ' x 6,
+    'crates/run_core/src/one.rt' => 'make_hash',
+    'crates/run_core/src/lines.rt' => 'LineRun::new LineRun::new LineRun answer',
+    'crates/run_core/src/lines/buffer.rt' => 'answer_line',
+    'crates/run_core/src/answer.rt' => 'outcome_of fits make_hash make_hash hash',
+    'crates/crypt_c/src/lib.rt' => 'verify put_hash put_new_hash',
+    'crates/crypt_c/src/calls.rt' => 'counted_hash counted_hash put_hash put_admitted hash',
+    'crates/crypt_core/src/fits.rt' => 'fits',
+    'crates/crypt_core/src/stored.rt' => 'hash',
+    'crates/crypt_core/src/hash.rt' => 'digest_of scrypt_digest scrypt',
+    'crates/kdf_core/src/scrypt.rt' => 'Table::new ByteScratch::new WordScratch::new',
+    "$prims/table.rt" => 'in',
+    "$prims/scratch.rt" => 'in in',
 );
 
 # The type of a password, the calls for C, and the meter. Besides tests a meter is made by the program, and by each of the
@@ -236,6 +258,19 @@ my @rules = (
             my $function = $before =~ /\bfn\s+\z/ ? 'itself' : $before =~ /.*\bfn\s+(\w+)/s ? $1 : 'no function';
             ($left{"$name in $function"}-- // 0) <= 0;
         } places($product, qr/\b(?:salsa8|salsa8_of|mixed_block|mix_blocks)\b/);
+    }],
+    # The allocator is a parameter or a field of this name, and goes where the list says.
+    ['memory is allocated where the list has nothing', sub {
+        my ($path, undef, $product) = @_;
+        my %left;
+        $left{$_}++ for split ' ', $allocates{$path} // '';
+        return (
+            places($product, qr/\bGlobal\b/, qr/\balloc: \KGlobal\b/, qr/\buse std::alloc::(?:\{AllocError, Global\}|Global);/),
+            grep {
+                my ($name) = substr($product, 0, $_) =~ /(?|\b(in)\s|(\w+(?:::\w+)?)(?:::<[^()]*>)?\s?[({])\s*(?:\w+\.)?\z/;
+                ($left{ $name // '' }-- // 0) <= 0;
+            } places($product, qr/\balloc\b(?!: Global)/, qr/\buse\b[^;]*;/),
+        );
     }],
     # The type of a password derives neither Debug nor Display and implements neither.
     ['a password can be printed', sub {

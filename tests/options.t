@@ -113,6 +113,8 @@ subtest 'limits' => sub {
         ['FORMATS.md', $formats, 'least_rounds', qr/^\| rounds of SHA-crypt \| (\d+) to/m],
         ['FORMATS.md', $formats, 'most_rounds', qr/^\| rounds of SHA-crypt \| \d+ to (\d+)/m],
         ['FORMATS.md', $formats, 'ceiling', qr/^\| scrypt \| N \* r \* p at most (\d+)/m],
+        ['FORMATS.md', $formats, 'log2_calls', qr/which is 2\^(\d+) for the program/],
+        ['main', slurp("$root/crates/program/src/main.rt"), 'log2_calls', qr/^const TURNS: u64 = 1 << (\d+);$/m],
     );
     for (@said) {
         my ($place, $text, $limit, $form) = @$_;
@@ -122,7 +124,7 @@ subtest 'limits' => sub {
 
 subtest 'model' => sub {
     my ($model, %limits) = (\%Model::limits, map { @$_ } facts('limit'));
-    is($model->{$_}, $limits{$_}, "model: limit of $_") for grep { !/_cost$/ } sort keys %limits;
+    is($model->{$_}, $limits{$_}, "model: limit of $_") for grep { !/_cost$|^log2_/ } sort keys %limits;
     is_deeply(\@Model::line_refusals, [map { $_->[0] } grep { $_->[2] } facts('refusal')], 'model: refusals of a line');
     for (facts('method')) {
         my ($name, $short, $prefix, $most, $new) = @$_;
