@@ -145,7 +145,7 @@ def test_nothing_raised_has_the_password_in_it(capfd):
     errors += [error_of(*call, secret, "x") for call in ((verify,), (verify_and_update,))]
     errors += [error_of(call, secret, COSTLY) for call in (verify, verify_and_update, crypt)]
     errors += [error_of(verify, secret, 5), error_of(verify, secret, MD5, budget=None), error_of(hash, secret, "bcrypt")]
-    errors += [error_of(hash, secret, rounds=-1), error_of(hash, secret, rounds=10**9)]
+    errors += [error_of(hash, secret, rounds=rounds) for rounds in (-1, 10**9, 10**9 - 1, secret)]
     for error in errors:
         shown = "".join(traceback.format_exception(type(error), error, error.__traceback__))
         while error is not None:
@@ -162,14 +162,19 @@ def test_wrong_types():
             assert type(error) is TypeError and "must be str or bytes, not " in str(error)
     for budget in None, "5", b"5", 1.5, 1.0, math.nan, -math.inf, True, False, [], 5j:
         for call in with_password("x"):
-            assert type(error_of(*call, budget=budget)) is TypeError
+            error = error_of(*call, budget=budget)
+            assert type(error) is TypeError and str(error).startswith("budget must be an int or math.inf, not ")
     for method in None, 6, b"md5crypt", mkpasswd.METHOD_MD5:
         for call in (hash, "x"), (needs_rehash, MD5), (verify_and_update, "x", MD5):
             assert "method must be str, not " in str(error_of(*call, method))
-    for number in "5000", 5000.0, b"5", []:
-        for call in (needs_rehash, MD5, "md5crypt"), (cost, MD5), (work, MD5), (verify_and_update, "x", MD5, "md5crypt"):
-            assert type(error_of(*call, number)) is TypeError
-        assert type(error_of(hash, "x", rounds=number)) is TypeError
+    for number in "5000", 5000.0, b"5", [], True, False:
+        for method in "md5crypt", "sha256crypt", "sha512crypt", "scrypt":
+            for call in (needs_rehash, MD5), (verify_and_update, "x", MD5), (verify_and_update, "x", "!"), (hash, "x"):
+                error = error_of(*call, method, rounds=number)
+                assert type(error) is TypeError and str(error).startswith("rounds must be an int, not ")
+        for call in cost, work:
+            error = error_of(call, MD5, number)
+            assert type(error) is TypeError and str(error).startswith("password_len must be an int, not ")
     for call in (hash, "x", "md5crypt", 5000), (verify, "x", MD5, 5), (mkpasswd.mksalt, None, 5000), (mkpasswd.mksalt, "6"):
         assert type(error_of(*call)) is TypeError
 
@@ -178,10 +183,25 @@ def test_numbers_out_of_range():
     for number in -1, 2**32, 2**32 + 5000, 2**64 + 5000:
         assert type(error_of(hash, "x", rounds=number)) is ValueError
         assert type(error_of(needs_rehash, MD5, "md5crypt", number)) is ValueError
+    # The command and the calls of C clamp these, so that a hash of 12 rounds would have 1000.
+    for number in -1, 1, 12, 999, 10**9, 2**32 - 1, 2**32 + 5000:
+        for method in "sha256crypt", "sha512crypt":
+            for call in (hash, "x"), (needs_rehash, MD5), (verify_and_update, "x", MD5), (verify_and_update, "x", "!"):
+                error = error_of(*call, method, rounds=number)
+                assert type(error) is ValueError and str(error) == "rounds must be 1000 to 999999999, or 0 for 5000"
+    assert needs_rehash(SHA512, rounds=999_999_999) and not needs_rehash(SHA512, rounds=1000)
     for number in -1, 1025, 2**64 + 8:
         assert type(error_of(cost, MD5, number)) is type(error_of(work, MD5, number)) is ValueError
     for call in with_password("x"):
         assert type(error_of(*call, budget=-1)) is ValueError
+
+
+@pytest.mark.parametrize("field", ["$1$ab", "$6$", "$6$rounds=2000$ab", MD5[:-1], MD5[:13], SHA512[:-1], SHA256[:20]])
+def test_a_hash_that_was_cut_matches_nothing(field):
+    """It is not refused, as long as its setting is whole."""
+    for password in "password", "Hello world!", "":
+        assert verify(password, field) is False and verify_and_update(password, field) == (False, None)
+    assert cost(field, 8) > 0 and needs_rehash(field, "scrypt")
 
 
 def test_budgets():
@@ -260,7 +280,8 @@ def test_a_rehash_above_the_budget_locks_nobody_out():
     "method, rounds, front",
     [
         *(("md5crypt", None, "$1$"), ("md5crypt", 5, "$1$"), ("sha256crypt", None, "$5$")),
-        *(("sha256crypt", 1, "$5$rounds=1000$"), ("sha512crypt", 0, "$6$"), ("sha512crypt", 5000, "$6$rounds=5000$")),
+        *(("sha256crypt", 0, "$5$"), ("sha256crypt", 1000, "$5$rounds=1000$"), ("sha512crypt", None, "$6$")),
+        *(("sha512crypt", 0, "$6$"), ("sha512crypt", 5000, "$6$rounds=5000$"), ("scrypt", 0, "$7$CU..../....")),
         *(("sha512crypt", 12345, "$6$rounds=12345$"), ("scrypt", 6, "$7$BU..../....")),
     ],
 )

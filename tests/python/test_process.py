@@ -122,9 +122,7 @@ def test_no_library(library, tmp_path):
     assert status == 1 and said.split("\n")[-2].startswith(words) and said.count("Traceback") == 1
 
 
-def test_python_m_mkpasswd_names_the_program_on_the_path(tmp_path):
-    (tmp_path / "mkpasswd").write_text("#!/bin/sh\n")
-    (tmp_path / "mkpasswd").chmod(0o755)
-    for path, place in (str(tmp_path), str(tmp_path / "mkpasswd")), ("/nowhere", "no mkpasswd"):
-        status, said = ended(sys.executable, "-m", "mkpasswd", "-m", "md5crypt", "x", env=dict(os.environ, PATH=path))
-        assert (status, said) == (1, "mkpasswd: this is a library for Python; on the PATH is %s\n" % place)
+def test_python_m_mkpasswd_names_no_program():
+    """One on the PATH can be Debian's other mkpasswd."""
+    status, said = ended(sys.executable, "-m", "mkpasswd", "-m", "md5crypt", "x")
+    assert (status, said) == (1, "mkpasswd: this is a library for Python and has no command of its own\n")

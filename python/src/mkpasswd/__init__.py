@@ -21,7 +21,7 @@ import math
 import operator
 import os
 import re
-from typing import NamedTuple, Optional, Tuple, Union
+from typing import Any, NamedTuple, Optional, Tuple, Union
 
 from ._library import PASSWORD_LIMIT, TEXT_SIZE, Reason, Report, lib
 
@@ -66,7 +66,10 @@ _SURROGATE = re.compile(b"\xed[\xa0-\xbf]")
 
 
 class Refused(ValueError):
-    """The stored hash is not one of these methods, or a method or its cost does not exist. `reason` is a Reason."""
+    """The stored hash is not one of these methods or has no valid setting, or a method or its cost does not exist.
+
+    `reason` is a Reason.
+    """
 
     def __init__(self, reason: Reason) -> None:
         super().__init__(reason)
@@ -115,16 +118,16 @@ def hash(
 ) -> str:
     """Hash a new password, with a salt from the system.
 
-    `method` is "sha512crypt", "sha256crypt", "scrypt" or "md5crypt". `rounds` is the number of rounds of SHA-crypt,
-    clamped to 1000 to 999999999; for scrypt it is 6 to 11, for N = 2^(rounds + 7), r = 32 and p = 1. Without it the
-    method's own is taken, 5000 or 7. md5crypt ignores it.
+    `method` is "sha512crypt", "sha256crypt", "scrypt" or "md5crypt". `rounds` is the number of rounds of SHA-crypt, 1000
+    to 999999999; for scrypt it is 6 to 11, for N = 2^(rounds + 7), r = 32 and p = 1. None and 0 stand for the method's
+    own, 5000 or 7. md5crypt ignores it.
 
     >>> hash("password", rounds=20000).startswith("$6$rounds=20000$")
     True
 
     Raises TooCostly if the hash costs more than the budget, so that what is made passes verify() with the same budget;
-    Refused for an unknown method or a cost that scrypt does not take; OSError if the system has no random bytes;
-    MemoryError.
+    ValueError for other rounds of SHA-crypt; Refused for an unknown method or a cost that scrypt does not take; OSError
+    if the system has no random bytes; MemoryError.
     """
     return _new(_password(password), _method(method, rounds), _limit(budget))
 
@@ -132,17 +135,17 @@ def hash(
 def verify(password: Text, stored: Text, *, budget: float = DEFAULT_BUDGET) -> bool:
     """Whether the password matches the stored hash.
 
-    It is True only for a match. It is False for a wrong password, and if the stored field is empty or begins with "!" or
-    "*", which is how an account without a password and a locked one are stored.
+    It is True only for a match. It is False for a wrong password, for a hash that was cut after its setting, and if the
+    stored field is empty or begins with "!" or "*", which is how an account without a password and a locked one are stored.
 
     >>> verify("password", "$1$xxxxxxxx$UYCIxa628.9qXjpQCjM4a.")
     True
     >>> verify("password", "!$1$xxxxxxxx$UYCIxa628.9qXjpQCjM4a.")
     False
 
-    Raises TooCostly, before anything is hashed, if the stored hash costs more than the budget, which by default is 0.7
-    seconds of sha512crypt on one core of 2.5 GHz, 1.3 of sha256crypt or 0.2 of scrypt; Refused if it is not one of these
-    methods; MemoryError. math.inf is a budget without a limit.
+    Raises TooCostly, before anything is hashed, if the stored hash costs more than the budget, which by default is one
+    second of sha512crypt on one core of 2.5 GHz, two of sha256crypt or 0.2 of scrypt; Refused if it is not one of these
+    methods or has no valid setting; MemoryError. math.inf is a budget without a limit.
 
     >>> verify("password", "$6$rounds=999999999$salt$x")
     Traceback (most recent call last):
@@ -175,9 +178,9 @@ def verify_and_update(
     costs more than the budget. Apart from that it raises what hash() and verify() raise.
     """
     word, field, limit = _password(password), _bytes(stored, "stored"), _limit(budget)
+    made = _method(method, rounds)
     if _is_locked(field):
         return Verdict(False, None)
-    made = _method(method, rounds)
     is_outdated = _is_outdated(field, made)
     if not _matches(word, field, limit):
         return Verdict(False, None)
@@ -194,14 +197,15 @@ def needs_rehash(stored: Text, method: str = "sha512crypt", rounds: Optional[int
     """Whether hash() with this method and rounds would replace the stored hash.
 
     So it is if the method is another one, whatever the stored hash costs, or the same with more rounds, or for scrypt with a
-    greater N * r * p. An empty or locked field stays as it is.
+    greater N * r * p. It is False for a hash with more rounds than these, and for an empty or locked field.
 
     >>> needs_rehash("$6$rounds=20000$salt$x", rounds=10000)
     False
     >>> needs_rehash("$6$rounds=20000$salt$x", rounds=40000)
     True
 
-    Raises Refused if the stored hash is not one of these methods, or as hash() does.
+    Raises Refused if the stored hash is not one of these methods or has no valid setting. For `method` and `rounds` it
+    raises what hash() does.
     """
     field, made = _bytes(stored, "stored"), _method(method, rounds)
     return not _is_locked(field) and _is_outdated(field, made)
@@ -215,7 +219,7 @@ def cost(stored: Text, password_len: int) -> int:
     >>> cost("$1$xxxxxxxx$UYCIxa628.9qXjpQCjM4a.", 8)
     36239
 
-    Raises Refused if the stored hash is not one of these methods, an empty or locked field too.
+    Raises Refused if the stored hash is not one of these methods or has no valid setting, and for an empty or locked field.
     """
     return _bound(_bytes(stored, "stored"), password_len).cost
 
@@ -281,7 +285,8 @@ def crypt(word: Text, salt: Union[Text, _Method, None] = None, *, budget: float 
     >>> crypt("password", "!")
     '*0'
 
-    Unlike the standard library's it raises TooCostly if the hash costs more than the budget.
+    Unlike the standard library's it raises TooCostly if the hash costs more than the budget, and takes bytes too. The
+    result is always a str, so decode a field of bytes before you compare them.
     """
     if salt is None or isinstance(salt, _Method):
         salt = mksalt(salt)
@@ -325,7 +330,10 @@ def _is_locked(field: bytes) -> bool:
 def _method(method: str, rounds: Optional[int]) -> Tuple[int, int]:
     if not isinstance(method, str):
         raise TypeError("method must be str, not %s" % type(method).__name__)
-    number = 0 if rounds is None else operator.index(rounds)
+    number = 0 if rounds is None else _int(rounds, "rounds")
+    # The library would clamp these, so that `rounds=12` would make a weak hash.
+    if method in ("sha256crypt", "sha512crypt") and number != 0 and not 1000 <= number <= 999_999_999:
+        raise ValueError("rounds must be 1000 to 999999999, or 0 for 5000")
     if not 0 <= number < 2**32:
         raise ValueError("rounds out of the range 0 to 4294967295")
     # The library knows no method 0.
@@ -335,12 +343,19 @@ def _method(method: str, rounds: Optional[int]) -> Tuple[int, int]:
 def _limit(budget: float) -> int:
     if isinstance(budget, float) and budget == math.inf:
         return _NO_LIMIT
-    if isinstance(budget, (bool, float)):
-        raise TypeError("budget must be an int or math.inf, not %r" % budget)
-    number = operator.index(budget)
+    number = _int(budget, "budget", "an int or math.inf")
     if number < 0:
         raise ValueError("budget is negative")
     return min(number, _NO_LIMIT)
+
+
+def _int(value: Any, name: str, kind: str = "an int") -> int:
+    if isinstance(value, (bool, float)):
+        raise TypeError("%s must be %s, not %r" % (name, kind, value))
+    try:
+        return operator.index(value)
+    except TypeError:
+        raise TypeError("%s must be %s, not %s" % (name, kind, type(value).__name__)) from None
 
 
 # Calls of the library.
@@ -373,7 +388,7 @@ def _is_outdated(field: bytes, made: Tuple[int, int]) -> bool:
 
 
 def _bound(field: bytes, password_len: int) -> Report:
-    number = operator.index(password_len)
+    number = _int(password_len, "password_len")
     if number < 0:
         raise ValueError("password_len is negative")
     report = Report()

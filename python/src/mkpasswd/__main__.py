@@ -1,6 +1,4 @@
-"""Says which program is on the PATH: this package has none of its own."""
-import shutil
+"""Says that there is no program: a `mkpasswd` on the PATH can be this project's or Debian's other one."""
 import sys
 
-program = shutil.which("mkpasswd")
-sys.exit("mkpasswd: this is a library for Python; on the PATH is %s" % (program or "no mkpasswd"))
+sys.exit("mkpasswd: this is a library for Python and has no command of its own")

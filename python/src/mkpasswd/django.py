@@ -3,7 +3,7 @@
     PASSWORD_HASHERS = ["mkpasswd.django.MkpasswdPasswordHasher", ..]
 
 Django reads the algorithm in front of the first "$", so a hash is stored as "mkpasswd$6$..". Put "mkpasswd" in front of
-hashes that come from elsewhere. Another method, number of rounds or budget is set in a subclass.
+hashes of these methods that come from elsewhere. Another method, number of rounds or budget is set in a subclass.
 """
 import os
 import re
@@ -17,6 +17,12 @@ from . import DEFAULT_BUDGET, _method, _setting, crypt, hash, needs_rehash, veri
 __all__ = ["MkpasswdPasswordHasher"]
 
 _NAMES = {"1": "md5crypt", "5": "sha256crypt", "6": "sha512crypt", "7": "scrypt"}
+
+# Number, rounds, salt and digest of a whole hash. scrypt's salt begins after eleven characters of cost.
+_FORMS = (
+    re.compile(r"\$([156])\$(?:rounds=([0-9]+)\$)?([^$]*)\$([^$]+)\Z"),
+    re.compile(r"\$(7)\$.{11}()(.*)\$([^$]+)\Z"),
+)
 
 
 class MkpasswdPasswordHasher(BasePasswordHasher):
@@ -51,24 +57,36 @@ class MkpasswdPasswordHasher(BasePasswordHasher):
 
     def harden_runtime(self, password: str, encoded: str) -> None:
         # The rounds that the stored hash has less than a new one; with another method or scrypt a whole new hash.
-        decoded = self.decode(encoded)
         rounds = self.rounds
-        if decoded["method"] == self.method and self.method.startswith("sha"):
-            rounds = max((rounds or 5000) - decoded["rounds"], 1000)
+        try:
+            decoded = self.decode(encoded)
+            if decoded["method"] == self.method and self.method.startswith("sha"):
+                rounds = max((rounds or 5000) - decoded["rounds"], 1000)
+        except ValueError:
+            pass
         try:
             hash(password, self.method, rounds=rounds, budget=self.budget)
         except ValueError:
             pass
 
     def decode(self, encoded: str) -> Dict[str, Any]:
-        setting, dollar, digest = self._field(encoded).rpartition("$")
-        front, salt = _cut(setting)
-        method, given = _NAMES[front[1]], re.search("rounds=([0-9]+)", front)
-        rounds = int(given.group(1)) if given else 5000 if method.startswith("sha") else None
-        return {"algorithm": self.algorithm, "method": method, "rounds": rounds, "salt": salt, "hash": digest}
+        field = self._field(encoded)
+        for form in _FORMS:
+            found = form.match(field)
+            if found:
+                number, given, salt, digest = found.groups()
+                method = _NAMES[number]
+                rounds = int(given) if given else 5000 if method.startswith("sha") else None
+                return {"algorithm": self.algorithm, "method": method, "rounds": rounds, "salt": salt, "hash": digest}
+        raise ValueError("the hash has none of these methods, or was cut")
 
     def safe_summary(self, encoded: str) -> Dict[str, Any]:
-        decoded = self.decode(encoded)
+        # Django's page of a user shows this for whatever is stored.
+        field = self._field(encoded)
+        try:
+            decoded = self.decode(encoded)
+        except ValueError:
+            return {_("algorithm"): self.algorithm, _("hash"): mask_hash(field, show=3)}
         return {
             _("algorithm"): decoded["algorithm"],
             _("method"): decoded["method"],
@@ -78,9 +96,11 @@ class MkpasswdPasswordHasher(BasePasswordHasher):
         }
 
     def _field(self, encoded: str) -> str:
-        if not encoded.startswith(self.algorithm + "$"):
+        algorithm, dollar, rest = encoded.partition("$")
+        if algorithm != self.algorithm:
             raise ValueError("the hash is of another hasher")
-        return encoded[len(self.algorithm) :]
+        # "mkpasswd$" is an empty field and "mkpasswd$!.." a locked one.
+        return rest if rest[:1] in ("", "!", "*") else dollar + rest
 
     def _new_setting(self) -> Tuple[str, str]:
         return _cut(_setting(_method(self.method, self.rounds), os.urandom(24)).decode("ascii"))

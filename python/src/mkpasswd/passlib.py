@@ -3,13 +3,15 @@
     context = passlib.context.CryptContext([mkpasswd.passlib.sha512_crypt, mkpasswd.passlib.md5_crypt], deprecated="auto")
 
 They take passlib's options (`sha512_crypt__rounds`, ..), and their hashes are the same. A hash that costs more than the
-`budget` of its class raises TooCostly, a ValueError; a subclass may have another one.
+budget raises TooCostly, a ValueError. The option `budget` sets another one: `sha512_crypt__budget` of a CryptContext, or
+`sha512_crypt.using(budget=..)`.
 """
-from typing import Any
+import math
+from typing import Any, Union
 
 from passlib import hash as _hash
 
-from . import DEFAULT_BUDGET, crypt
+from . import DEFAULT_BUDGET, _limit, crypt
 
 __all__ = ["md5_crypt", "sha256_crypt", "sha512_crypt"]
 
@@ -18,6 +20,20 @@ class _Crypt:
     budget: float = DEFAULT_BUDGET
     to_string: Any
 
+    # passlib would read a budget from a hash.
+    _unparsed_settings = (*_hash.md5_crypt._unparsed_settings, "budget")
+
+    @classmethod
+    def using(cls, budget: Union[float, str, None] = None, **options: Any) -> Any:
+        """As passlib's, with the option `budget`, which in a file of options is a str."""
+        changed = super().using(**options)  # type: ignore[misc]
+        if budget is not None:
+            if isinstance(budget, str):
+                budget = math.inf if budget == "inf" else int(budget)
+            _limit(budget)
+            changed.budget = budget
+        return changed
+
     def _calc_checksum(self, secret: Any) -> str:
         return crypt(secret, self.to_string(), budget=self.budget).rpartition("$")[2]
 
@@ -25,10 +41,16 @@ class _Crypt:
 class md5_crypt(_Crypt, _hash.md5_crypt):
     """passlib.hash.md5_crypt, hashed by mkpasswd."""
 
+    setting_kwds = (*_hash.md5_crypt.setting_kwds, "budget")
+
 
 class sha256_crypt(_Crypt, _hash.sha256_crypt):
     """passlib.hash.sha256_crypt, hashed by mkpasswd."""
 
+    setting_kwds = (*_hash.sha256_crypt.setting_kwds, "budget")
+
 
 class sha512_crypt(_Crypt, _hash.sha512_crypt):
     """passlib.hash.sha512_crypt, hashed by mkpasswd."""
+
+    setting_kwds = (*_hash.sha512_crypt.setting_kwds, "budget")
