@@ -1,17 +1,21 @@
 """passlib, Django, Ansible and Flask take the package, and the recipes of docs/PYTHON.md do what they say."""
 import asyncio
 import json
+import math
 import os
 import re
 import secrets
+import sys
+import types
 import warnings
 
 import mkpasswd
 import pytest
-from support import COSTLY, MD5, ROOT, SHA512, libxcrypt, missing, needs, run
+from support import COSTLY, MD5, ROOT, SHA256, SHA512, libxcrypt, missing, needs, run, run_python
 
 SECTIONS = (ROOT / "docs/PYTHON.md").read_text().split("\n### ")[1:]
-RECIPES = {section.split("\n")[0]: re.search("```python\n(.*?)```", section, re.S).group(1) for section in SECTIONS}
+BLOCKS = {section.split("\n")[0]: re.findall("```python\n(.*?)```", section, re.S) for section in SECTIONS}
+RECIPES = {name: blocks[0] for name, blocks in BLOCKS.items()}
 
 
 def recipe(name, **names):
@@ -37,9 +41,12 @@ def test_recipe_of_asyncio():
     assert ticks > 200 and right is True and wrong is False
 
 
+# It costs more than the budgets of the samples.
+BEYOND = "$6$rounds=20000000$saltstring$" + "x" * 86
 HIDES = "A login that hides which names exist"
 KNOWN = "$6$rounds=656000$nobodyhasthissal$"
-# Fields that no password matches: unknown, NULL, empty, locked, of another scheme, malformed, too costly, and of another type.
+# Fields that no password matches: unknown, NULL, empty, locked, of another scheme, without a valid setting, too costly, and of
+# another type.
 UNUSABLE = [None, "", "!", "*", "!" + MD5, "$y$j9T$x$x", "x", MD5 + "\n", "$6$rounds=0$a$x", "$6$rounds=999999999$ab$x", 5, b"!"]
 # Passwords that no hash can have.
 ODD = [None, "x\0", "\ud800", "x" * 1025, "\u00e9" * 513, 5, ["x"]]
@@ -105,6 +112,20 @@ def test_a_login_replaces_old_hashes():
         assert fields["eve"] == stored
 
 
+@pytest.mark.parametrize("change", [{"ann": "!" + MD5}, {}, {"ann": SHA512}, {"ann": None}, {"ann": ""}])
+def test_a_login_stores_nothing_over_what_changed_meanwhile(monkeypatch, change):
+    """Over a lock, a deletion, a new password, and a demand for one."""
+    login, fields, new = recipe(HIDES)["login"], {"ann": MD5}, mkpasswd.lib.mkpasswd_new
+
+    def meanwhile(*words):
+        fields.clear()
+        fields.update(change)
+        return new(*words)
+
+    monkeypatch.setattr(mkpasswd.lib, "mkpasswd_new", meanwhile)
+    assert login("ann", "password", fields) is True and fields == change
+
+
 def test_recipe_of_flask():
     flask = needs("flask", "python3-flask")
     app = flask.Flask("test")
@@ -141,8 +162,39 @@ def test_recipe_of_passlib():
     assert matches and new.startswith("$6$rounds=656000$")
     assert context.verify_and_update("passw0rd", MD5) == (False, None)
     assert context.verify_and_update("pässword", stored) == (True, None)
+    assert mkpasswd.cost(BEYOND, 8) > 1_300_000_000
     with pytest.raises(mkpasswd.TooCostly):
-        context.verify("password", COSTLY)
+        context.verify("password", BEYOND)
+    # Passwords that the default budget admits with 5000 rounds, and not with 656000.
+    for word in "x" * 83, "\U0001f511" * 256:
+        matches, new = context.verify_and_update(word, mkpasswd.hash(word))
+        assert matches and new.startswith("$6$rounds=656000$") and mkpasswd.cost(new, len(word.encode())) > 150_000_000
+    new = context.hash("x" * 83)
+    assert context.verify("x" * 83, new) and not context.verify("x" * 82 + "y", new)
+
+
+def test_budget_of_passlib():
+    with warnings.catch_warnings():
+        warnings.simplefilter("ignore")
+        CryptContext = needs("passlib.context", "python3-passlib").CryptContext
+        import mkpasswd.passlib as ours
+    for handler, stored in (ours.md5_crypt, MD5), (ours.sha256_crypt, SHA256), (ours.sha512_crypt, SHA512):
+        word = "password" if stored is MD5 else "Hello world!"
+        most = mkpasswd.cost(stored, len(word))
+        for budget in most, str(most), math.inf, "inf":
+            changed = handler.using(budget=budget)
+            assert changed.verify(word, stored) and changed.using().budget == changed.budget == float(budget)
+            options = {"%s__budget" % handler.name: budget}
+            context = CryptContext([handler], **options)
+            assert context.verify(word, stored) and context.to_dict()["%s__budget" % handler.name] == budget
+        for budget in most - 1, str(most - 1), 0:
+            with pytest.raises(mkpasswd.TooCostly):
+                handler.using(budget=budget).verify(word, stored)
+        for budget, error in (-1, ValueError), ("x", ValueError), (1.5, TypeError), (True, TypeError):
+            with pytest.raises(error):
+                handler.using(budget=budget)
+        assert handler.budget == handler.using().budget == mkpasswd.DEFAULT_BUDGET
+        assert "budget" not in handler.parsehash(stored)
 
 
 def test_passlib_by_hand():
@@ -159,9 +211,26 @@ def test_passlib_by_hand():
             call("x" * 83)
         with pytest.raises(ValueError):
             call("x" * 1025)
+    using = ours.using(budget=1_300_000_000)
+    assert using.verify("x" * 83, using.hash("x" * 83))
     long = "x" * 1025
     assert theirs.verify(long, theirs.using(rounds=1000).hash(long))
     assert mkpasswd.cost(KNOWN, 1024) <= 1_300_000_000
+    stored = theirs.using(rounds=700_000).hash("x")
+    assert theirs.needs_update(stored) is False and theirs.using(rounds=656_000).needs_update(stored) is True
+    assert mkpasswd.needs_rehash(stored, rounds=656_000) is False
+    from mkpasswd.passlib import sha256_crypt
+
+    front = "$5$rounds=%d$" % sha256_crypt.default_rounds
+    assert front == "$5$rounds=535000$"
+    assert mkpasswd.cost(front + "s" * 16, 127) <= mkpasswd.DEFAULT_BUDGET < mkpasswd.cost(front + "s" * 16, 128)
+
+
+# Fields of a database of Django, and those for which the hasher raises: of another scheme, without a valid setting, too costly.
+REFUSED = ["mkpasswd" + field for field in ("$9$x", "$y$j9T$x$x", "$x", "$6$rounds=0$a$x", "$" + MD5, BEYOND)]
+ODD_FIELDS = ["", "!", "!x", "md5$x$x", MD5, "mkpasswdx", "mkpasswd!" + MD5, *REFUSED]
+ODD_FIELDS += ["mkpasswd", "mkpasswd$", "mkpasswd$!", "mkpasswd$*", "mkpasswd$!" + MD5[1:], "mkpasswd$!" + MD5]
+ODD_FIELDS += ["mkpasswd" + field for field in ("$6$", "$1$ab", "$1$ab$", "$6$rounds=2000$ab", "$7$CU..../....ab", MD5[:-1], MD5[:13])]
 
 
 def hashers_of_django():
@@ -169,7 +238,12 @@ def hashers_of_django():
     from django.conf import settings
 
     if not settings.configured:
-        settings.configure(**{name: value for name, value in recipe("Django").items() if name.isupper()})
+        names = {}
+        exec(BLOCKS["Django"][1], names)
+        settings.configure(PASSWORD_HASHERS=names["PASSWORD_HASHERS"])
+        for name in "mysite", "mysite.hashers":
+            sys.modules[name] = types.ModuleType(name)
+        exec(BLOCKS["Django"][0], vars(sys.modules["mysite.hashers"]))
     from django.contrib.auth import hashers
 
     return hashers
@@ -178,20 +252,22 @@ def hashers_of_django():
 def test_recipe_of_django():
     hashers = hashers_of_django()
     encoded = hashers.make_password("pässword")
-    assert encoded.startswith("mkpasswd$6$") and libxcrypt("pässword", encoded[8:]) == encoded[8:]
+    assert encoded.startswith("mkpasswd$6$rounds=656000$") and len(encoded) <= 128 and libxcrypt("pässword", encoded[8:]) == encoded[8:]
     assert hashers.check_password("pässword", encoded) and not hashers.check_password("passwörd", encoded)
-    assert hashers.make_password("Hello world!", "saltstring") == "mkpasswd" + SHA512
+    assert not hashers.get_hasher().must_update(encoded)
+    assert hashers.make_password("x", "saltstring") == "mkpasswd" + libxcrypt("x", "$6$rounds=656000$saltstring")
     for salt in "$", "a$b", "a:b", "é":
         with pytest.raises(ValueError):
             hashers.get_hasher().encode("password", salt)
     stored = []
     assert hashers.check_password("password", "mkpasswd" + MD5, stored.append) and stored == ["password"]
     assert not hashers.check_password("passw0rd", "mkpasswd" + MD5, stored.append) and len(stored) == 1
-    for field in "", "!", "!x", "mkpasswd", "mkpasswd$9$x", "mkpasswd" + MD5[:-1], "md5$x$x", MD5, "mkpasswd" + COSTLY:
-        try:
-            assert not hashers.check_password("password", field)
-        except ValueError:
-            pass
+    for field in ODD_FIELDS:
+        if field in REFUSED:
+            with pytest.raises(mkpasswd.Refused):
+                hashers.check_password("password", field)
+        else:
+            assert hashers.check_password("password", field) is False, field
     for password in "x\0", "x" * 1025, "\ud800":
         assert not hashers.check_password(password, encoded)
         with pytest.raises(ValueError):
@@ -215,6 +291,7 @@ def test_hasher_of_django(monkeypatch):
         assert decoded["rounds"] == {"sha256crypt": 3000, "sha512crypt": 5000}.get(method)
         summary = hasher.safe_summary(encoded)
         assert decoded["hash"] not in summary.values() and decoded["salt"] not in summary.values()
+        assert decoded["hash"] and decoded["salt"] and list(summary) == ["algorithm", "method", "rounds", "salt", "hash"]
     hasher = type("Hasher", (django.MkpasswdPasswordHasher,), {"rounds": 8000})()
     assert hasher.must_update("mkpasswd" + SHA512) and hasher.must_update("mkpasswd" + MD5)
     spent = []
@@ -226,17 +303,81 @@ def test_hasher_of_django(monkeypatch):
         hasher.verify("password", "mkpasswd" + COSTLY)
 
 
-def test_subclass_for_django():
+def test_summary_of_each_field_of_django():
+    """Django's page of a user shows it, whatever is stored."""
     hashers_of_django()
-    names, section = {}, next(section for section in SECTIONS if section.startswith("Django\n"))
-    exec(re.findall("```python\n(.*?)```", section, re.S)[1], names)
-    hasher = names["SitePasswordHasher"]()
-    encoded = hasher.encode("password", hasher.salt())
-    assert encoded.startswith("mkpasswd$6$rounds=656000$") and len(encoded) <= 128
-    assert hasher.verify("password", encoded) and not hasher.must_update(encoded)
+    from mkpasswd.django import MkpasswdPasswordHasher
+
+    hasher = MkpasswdPasswordHasher()
+    for field in ODD_FIELDS:
+        if field.split("$")[0] == "mkpasswd":
+            summary = hasher.safe_summary(field)
+            assert summary["algorithm"] == "mkpasswd" and "UYCIxa628" not in str(summary), field
+            if field not in REFUSED:
+                assert hasher.verify("password", field) is False
+                hasher.harden_runtime("password", field)
+        else:
+            for call in hasher.safe_summary, hasher.decode, hasher.must_update, lambda field: hasher.verify("x", field):
+                with pytest.raises(ValueError):
+                    call(field)
+    for field in "mkpasswd", "mkpasswd$", "mkpasswd$!", "mkpasswd$*", "mkpasswd$!" + MD5[1:], "mkpasswd$!" + MD5:
+        assert hasher.verify("password", field) is hasher.must_update(field) is False
+
+
+SITE = """
+import django
+django.setup()
+import mkpasswd
+from django.contrib.auth import authenticate, forms, get_user_model
+from django.core.management import call_command
+from django.forms import CharField
+
+call_command("migrate", verbosity=0)
+users, long, longest = get_user_model().objects, "x" * 83, "\U0001f511" * 256
+for name, password in ("ann", long), ("bob", longest):
+    users.create(username=name, password="mkpasswd" + mkpasswd.hash(password))
+    assert authenticate(username=name, password=password).username == name
+    assert users.get(username=name).password.startswith("mkpasswd$6$rounds=656000$")
+assert authenticate(username="ann", password=long).username == "ann"
+for password in "y" * 83, "y" * 256:
+    for name in "ann", "nobody":
+        assert authenticate(username=name, password=password) is None
+
+class LoginForm(forms.AuthenticationForm):
+    password = CharField(max_length=256)
+
+for password in "y" * 256, "y" * 257, "y" * 1025, "y\\0":
+    for name in "ann", "nobody":
+        assert not LoginForm(data={"username": name, "password": password}).is_valid()
+assert LoginForm(data={"username": "ann", "password": long}).is_valid()
+assert authenticate(username="ann", password="y" * 1025) is None
+try:
+    authenticate(username="nobody", password="y" * 1025)
+except ValueError as error:
+    print(error)
+for field in %r:
+    forms.ReadOnlyPasswordHashWidget().get_context("password", field, {})
+"""
+
+
+def test_site_of_django(tmp_path):
+    """With the hasher and the settings of docs/PYTHON.md, the login is the same for each name."""
+    needs("django", "python3-django")
+    (tmp_path / "mysite").mkdir()
+    (tmp_path / "mysite/hashers.py").write_text(BLOCKS["Django"][0])
+    (tmp_path / "mysite/settings.py").write_text(
+        BLOCKS["Django"][1] + "INSTALLED_APPS = ['django.contrib.auth', 'django.contrib.contenttypes']\nSECRET_KEY = 'x'\n"
+        "DATABASES = {'default': {'ENGINE': 'django.db.backends.sqlite3', 'NAME': ':memory:'}}\n"
+        "DEFAULT_AUTO_FIELD = 'django.db.models.AutoField'\n"
+    )
+    environment = dict(os.environ, DJANGO_SETTINGS_MODULE="mysite.settings")
+    assert run_python(SITE % ODD_FIELDS, cwd=str(tmp_path), env=environment) == "password too long\n"
 
 
 FILTERS = {
+    "locked": "{{ ('!' + stored) is not match('[!*]') }} {{ '*' is not match('[!*]') }} {{ stored is not match('[!*]') }}",
+    "relocked": "{{ 'password' | mkpasswd_hash('md5crypt', current='!' + stored) }}",
+    "weak": "{{ 'password' | mkpasswd_hash('sha512crypt', 12) }}",
     "new": "{{ 'pässword' | mkpasswd_hash('sha512crypt', 6000) }}",
     "kept": "{{ vaulted | mkpasswd_hash('md5crypt', current=stored) }}",
     "renewed": "{{ 'password' | mkpasswd_hash(current=stored) }}",
@@ -267,5 +408,7 @@ def test_recipe_of_ansible(tmp_path):
     assert said["new"].startswith("$6$rounds=6000$") and mkpasswd.verify("pässword", said["new"])
     assert said["kept"] == MD5 and said["verdicts"] == "True False"
     assert said["renewed"].startswith("$6$") and mkpasswd.verify("password", said["renewed"])
+    assert said["locked"] == "False False True" and mkpasswd.verify("password", said["relocked"])
+    assert "rounds must be 1000 to 999999999, or 0 for 5000" in said["weak"]
     assert mkpasswd.verify("passw0rd", said["changed"]) and mkpasswd.verify("password", said["unlocked"])
     assert "password has a zero byte" in said["refused"] and "must be str or bytes, not int" in said["number"]
