@@ -3,6 +3,7 @@ import ctypes
 import importlib
 import os
 import pathlib
+import re
 import subprocess
 import sys
 import threading
@@ -19,6 +20,10 @@ SHA512 = "$6$saltstring$svn8UoSVapNtMuq1ukKS4tPQd8iKwSMHWjl/O817G3uBnIFNjnQJuesI
 # It would take a second or two, which a test can wait for if the budget is not heeded.
 COSTLY = "$6$rounds=2500000$saltstring$" + "x" * 86
 
+# The Python of docs/PYTHON.md, by the heading of its recipe.
+_SECTIONS = (ROOT / "docs/PYTHON.md").read_text().split("\n### ")[1:]
+BLOCKS = {section.split("\n")[0]: re.findall("```python\n(.*?)```", section, re.S) for section in _SECTIONS}
+
 _crypt = ctypes.CDLL("libcrypt.so.1").crypt
 _crypt.argtypes, _crypt.restype = [ctypes.c_char_p, ctypes.c_char_p], ctypes.c_char_p
 _lock = threading.Lock()
@@ -28,6 +33,13 @@ def libxcrypt(password, setting):
     password, setting = (value.encode() if isinstance(value, str) else value for value in (password, setting))
     with _lock:
         return _crypt(password, setting).decode()
+
+
+def recipe(name, **names):
+    """The names that the first block of a recipe defines."""
+    names.setdefault("mkpasswd", importlib.import_module("mkpasswd"))
+    exec(BLOCKS[name][0], names)
+    return names
 
 
 def needs(module, package):
