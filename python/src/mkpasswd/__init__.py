@@ -135,8 +135,8 @@ def hash(
 def verify(password: Text, stored: Text, *, budget: float = DEFAULT_BUDGET) -> bool:
     """Whether the password matches the stored hash.
 
-    It is True only for a match. It is False for a wrong password, for a hash that was cut after its setting, and if the
-    stored field is empty or begins with "!" or "*", which is how an account without a password and a locked one are stored.
+    It is True only for a match. It is False for a wrong password, for a hash that was cut but has a valid setting, and if
+    the stored field is empty or begins with "!" or "*", as that of an account without a password or of a locked one.
 
     >>> verify("password", "$1$xxxxxxxx$UYCIxa628.9qXjpQCjM4a.")
     True

@@ -20,8 +20,8 @@ class _Crypt:
     budget: float = DEFAULT_BUDGET
     to_string: Any
 
-    # passlib would read a budget from a hash.
-    _unparsed_settings = (*_hash.md5_crypt._unparsed_settings, "budget")
+    # Otherwise passlib's parsehash() would read a budget from a hash.
+    _unparsed_settings = (*getattr(_hash.md5_crypt, "_unparsed_settings", ()), "budget")
 
     @classmethod
     def using(cls, budget: Union[float, str, None] = None, **options: Any) -> Any:
