@@ -96,10 +96,9 @@ def test_a_login_replaces_old_hashes():
         assert fields["eve"] == stored
 
 
-@pytest.mark.parametrize("change", [{"ann": "!" + MD5}, {}, {"ann": SHA512}, {"ann": None}, {"ann": ""}])
-def test_a_login_stores_nothing_over_what_changed_meanwhile(monkeypatch, change):
+def test_a_login_stores_nothing_over_what_changed_meanwhile(monkeypatch):
     """Over a lock, a deletion, a new password, and a demand for one."""
-    login, fields, new = recipe(HIDES)["login"], {"ann": MD5}, mkpasswd.lib.mkpasswd_new
+    login, fields, new = recipe(HIDES)["login"], {}, mkpasswd.lib.mkpasswd_new
 
     def meanwhile(*words):
         fields.clear()
@@ -107,7 +106,9 @@ def test_a_login_stores_nothing_over_what_changed_meanwhile(monkeypatch, change)
         return new(*words)
 
     monkeypatch.setattr(mkpasswd.lib, "mkpasswd_new", meanwhile)
-    assert login("ann", "password", fields) is True and fields == change
+    for change in {"ann": "!" + MD5}, {}, {"ann": SHA512}, {"ann": None}, {"ann": ""}:
+        fields["ann"] = MD5
+        assert login("ann", "password", fields) is True and fields == change
 
 
 def test_recipe_of_flask():
