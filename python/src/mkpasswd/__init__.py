@@ -126,8 +126,8 @@ def hash(
     True
 
     Raises TooCostly if the hash costs more than the budget, so that what is made passes verify() with the same budget;
-    ValueError for other rounds of SHA-crypt; Refused for an unknown method or a cost that scrypt does not take; OSError
-    if the system has no random bytes; MemoryError.
+    ValueError for other rounds of SHA-crypt, and TypeError for a bool; Refused for an unknown method or a cost that scrypt
+    does not take; OSError if the system has no random bytes; MemoryError.
     """
     return _new(_password(password), _method(method, rounds), _limit(budget))
 
