@@ -41,13 +41,20 @@ my @calls = (qw(begin new feed update count_bytes len), qw(finish count_digest t
 my %raised = (count_mix => "$prims/mix.rt", count_table => "$prims/table.rt", count_scratch => "$prims/scratch.rt");
 
 # Where a block is mixed without a count: Salsa20/8 as a call of its own, which only tests use, and the mixing of blocks,
-# which the three calls use that count. A name is in its own function twice where a clause has it too.
+# which the three calls use that count. A name is in its own function twice where a clause has it too. Their loops and the
+# rounds below are listed too, since what is done twice gives the same block.
 my %mixings = (
-    "$prims/salsa.rt" => ['salsa8 in itself', 'salsa8_of in salsa8', 'salsa8_of in itself'],
+    "$prims/salsa.rt" => [
+        'salsa8 in itself', 'salsa8_of in salsa8', 'salsa8_of in itself', 'four_double_rounds in salsa8_of',
+        'four_double_rounds in itself', ('double_round in four_double_rounds') x 5, 'double_round in itself',
+        'double_round in double_round', 'row_round in double_round', 'column_round in double_round', 'column_round in itself',
+        'column_round in column_round', 'quarter_rounds in column_round', 'row_round in itself', 'row_round in row_round',
+        'quarter_rounds in row_round', 'quarter_rounds in itself',
+    ],
     "$prims/mix.rt" => [
         'salsa8_of in no function', 'mix_blocks in block_mix', 'mix_blocks in mix_diagonals', 'mix_blocks in mix_xor_diagonals',
         'mix_blocks in itself', 'mixed_block in mix_blocks', 'mixed_block in itself', 'mixed_block in mixed_block',
-        'salsa8_of in mixed_block',
+        'salsa8_of in mixed_block', 'for in to_diagonals', 'for in from_diagonals', 'for in mix_blocks',
     ],
 );
 
@@ -169,6 +176,8 @@ sub places {
 # Rules. Each has what is wrong where it is broken, and a call that returns those places in a source: in all its code, or in
 # its product, which is without tests.
 my $tests = qr/#\[cfg\(test\)\]\s*mod tests;/;
+my $mixing = qr/\b(?:salsa8|salsa8_of|four_double_rounds|double_round|column_round|row_round|quarter_rounds|mixed_block|mix_blocks)\b/;
+my $loop = qr/\b(?:for(?=\s+\w+\s+in\b)|while|loop|for_each)\b/;
 my $odd_item = qr/\b(?:mod|trait|type|static|dyn)\b|\w\s*!/;
 
 my @rules = (
@@ -257,7 +266,7 @@ my @rules = (
             my ($before, $name) = (substr($product, 0, $_), substr($product, $_) =~ /\A(\w+)/);
             my $function = $before =~ /\bfn\s+\z/ ? 'itself' : $before =~ /.*\bfn\s+(\w+)/s ? $1 : 'no function';
             ($left{"$name in $function"}-- // 0) <= 0;
-        } places($product, qr/\b(?:salsa8|salsa8_of|mixed_block|mix_blocks)\b/);
+        } places($product, $mixings{$path} ? qr/$mixing|$loop/ : $mixing);
     }],
     # The allocator is a parameter or a field of this name, and goes where the list says.
     ['memory is allocated where the list has nothing', sub {
@@ -272,7 +281,7 @@ my @rules = (
             } places($product, qr/\balloc\b(?!: Global)/, qr/\buse\b[^;]*;/),
         );
     }],
-    # The type of a password derives neither Debug nor Display and implements neither.
+    # The type of a password derives neither Debug nor Display and implements neither; nor do those that hold its bytes.
     ['a password can be printed', sub {
         my ($path, undef, $product) = @_;
         my $shows = qr/\b\w*(?:Debug|Display)\b/;
@@ -280,6 +289,7 @@ my @rules = (
             places($product, qr/\bimpl\b[^{};]*$shows[^{};]*\bfor\s+(?:\w+\s*::\s*)*Password\b/),
             $path ne $password ? ()
                 : places($product, qr/#\s*\[\s*derive\b[^\]]*$shows/, qr/#\[derive\([^\]]*\)\]\s*pub enum PasswordFault /),
+            places($product, qr/#\s*\[\s*derive\b[^\]]*$shows[^\]]*\]\s*(?:pub(?:\(\w+\))?\s+)?(?:struct|enum)\s+(?:PasswordFrom|Arguments|Mode|RoundStrings)\b/),
         );
     }],
     # No macro of the tree's own, no file under another name, nothing unsafe but the names of the calls for C, and no text that

@@ -36,6 +36,7 @@ subtest 'a pipe that stays open' => sub {
     local $SIG{PIPE} = 'IGNORE';
     local $SIG{ALRM} = sub { die "late\n" };
     my $hash = crypt 'password', '$1$xxxxxxxx';
+    my $scrypt = crypt 'password', '$7$2/..../....ab';    # also gets its memory after two million digests
     my $locked = '!' . 'x' x 900;    # so that all lines together are twice the memory
     my ($child, $writer);
     my $is_done = eval {
@@ -44,7 +45,7 @@ subtest 'a pipe that stays open' => sub {
         $writer = fork // die "can't fork: $!\n";
         if (!$writer) {
             close $from;
-            print $to "user$_:", $_ % 10 ? $locked : $hash, ":password\n" for 1 .. $many;
+            print $to "user$_:", $_ % 10 ? $locked : $_ % 1000 ? $hash : $scrypt, ":password\n" for 1 .. $many;
             close $to;
             POSIX::_exit(0);
         }

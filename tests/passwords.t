@@ -26,6 +26,7 @@ my @rows = (
     # Many rows in a small table: N = 2^15 with r = 1, the most that RFC 7914 allows there, and N = 2^16 and 2^17 with r = 2.
     ['scrypt --check, N = 2^15', '$7$D/..../....', [8, 8]], ['scrypt --check, N = 2^16', '$7$E0..../....', [22, 65]],
     ['scrypt --check, N = 2^17', '$7$F0..../....', [86, 511]],
+    ['scrypt --check, r = 2^17', '$7$0..U../....', [22, 16]], ['scrypt --check, p = 2^17', '$7$0/......U..', [22, 16]],
 );
 
 # The ways in which the program is given a salt and a password, or crypt's text: its standard input, where the password is
@@ -91,5 +92,5 @@ for my $number (0 .. $#rows) {
         is(join('', @differences), '', "$name: cases where libxcrypt has another text, of " . @cases);
     };
 }
-is($all, 718, 'as many cases as the documents say');
+is($all, 720, 'as many cases as the documents say');
 done_testing;

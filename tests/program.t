@@ -44,6 +44,7 @@ sub refused {
 my @md5 = qw(-m md5crypt -S xxxxxxxx);
 my $md5 = '$1$xxxxxxxx$UYCIxa628.9qXjpQCjM4a.';
 my $most = 'a' x $limits{password};
+my $long = 'a' x 100_000;    # a word that needs more memory than any that the command takes
 
 subtest 'words' => sub {
     my $version = run("$root/tools/version")->{out} =~ s/\n//r;
@@ -75,6 +76,7 @@ subtest 'refusals of the words' => sub {
         [2, 'salt length', qw(-m md5 password nineChars)], [2, 'salt length', qw(-m scrypt -R 5 -S), '', 'password'],
         [2, 'salt character', qw(-m md5 -S a-b password)], [2, 'salt character', qw(--check -S a-b)],
         [2, 'salt character', qw(-m scrypt -R 5 password a-b)], [2, 'cost', qw(-m scrypt -R 12 x)],
+        [2, 'unknown method', '-m', $long, 'x'], [2, 'salt length', '-S', $long, 'x'], [2, 'two salts', '-S', 'ab', $long, $long],
         [2, 'cost', qw(-m scrypt -R 4294967295)], [2, 'cost', { from => '/' }, qw(-m scrypt -R 5 -S ab -s)];
 };
 
@@ -86,7 +88,7 @@ subtest 'passwords' => sub {
     answer('$1$xxxxxxxx$K/D5CvaOI4iV5zX0cnQoW0', \"$most\nb\n", @md5, '-s');
     like(run({ stdin => 'a' x $_ . "\nb\n" }, program(), '-s')->{out}, qr/\A\$6\$[.\/0-9A-Za-z]{16}\$[.\/0-9A-Za-z]{86}\n\z/,
         "a hash of $_ bytes with a made salt") for 512, $limits{password};
-    fault(2, 'password too long', @$_) for [qw(-m md5 -S ab), "${most}a"], [\"${most}a", '-s'], [\"${most}a\n"];
+    fault(2, 'password too long', @$_) for [qw(-m md5 -S ab), "${most}a"], [qw(-m md5 -S ab), $long], [\"${most}a", '-s'], [\"${most}a\n"];
     fault(2, 'password has a zero byte', @$_) for [\"a\0b\n", '-s'], [\"\0", qw(-m scrypt -S ab -s)];
     answer($md5, qw(-m md5 password xxxxxxxx));
     answer($md5, \$_, @md5, '-s') for 'password', "password\n", "password\nmore";
@@ -145,5 +147,8 @@ subtest 'made salts' => sub {
         } 1, 2;
         isnt($salts[0], $salts[1], "another salt in each run: $prefix @words");
     }
+    # A seed of sixteen bits would give one salt twice, nearly always.
+    my %made = map { run(program(), qw(-m md5crypt x))->{out} => 1 } 1 .. 1000;
+    is(keys %made, 1000, 'another salt in each of a thousand runs');
 };
 done_testing;

@@ -118,9 +118,13 @@ return {
         replaced($mix, "    from_diagonals(dst);\n", "    from_diagonals(dst);\n    let _ = mixed_block(&x, &x);\n",
             "    from_diagonals(dst);\n    mix_blocks(&InRows { words: src }, dst, 1);\n"),
         replaced($mix, '    salsa8_of(&x.xor(block))', '    let _ = salsa8_of(x); salsa8_of(&x.xor(block))'),
+        replaced($salsa, '    block.sum(', '    let _ = four_double_rounds(block); block.sum('),
+        replaced($mix, "    'mixing: for", "    for _ in 0..1 { x = src.block(2 * r - 1); }\n    'mixing: for"),
         replaced($salsa, '    mixed.store(block);', '    let _ = salsa8_of(&mixed); mixed.store(block);'),
         replaced($password, "#[derive(Drop)]\npub struct Password", "#[derive(Debug, Drop)]\npub struct Password"),
         replaced($password, 'pub struct Password', "#[derive(Debug)]\npub struct Password"),
+        replaced("crates/$runs/src/job.rt", '#[derive(Drop)]'."\npub enum PasswordFrom", '#[derive(Debug, Drop)]'."\npub enum PasswordFrom"),
+        replaced('crates/mkpasswd/src/options.rt', "#[derive(Clone, Copy)]\nstruct Arguments", "#[derive(Clone, Copy, Debug)]\nstruct Arguments"),
         ['a fourth implementation', "$counted/plain.rt" => 'pub fn plain() {}', "$counted.rt" => 'mod plain;'],
         (map { ["$_ made public", $meter => ["pub(crate) fn $_", "pub fn $_"]] }
             qw(count_bytes count_digest count_mix count_table count_scratch)),

@@ -429,6 +429,36 @@ fn puts_words(rt: HostRuntime) {
 }
 
 #[test]
+fn tells_reports_apart(rt: HostRuntime) {
+    let others = [
+        Report { reason: 78, ..OLD },
+        Report { length: 78, ..OLD },
+        Report { cost: 78, ..OLD },
+        Report { work: WORK, ..OLD },
+        Report {
+            reserved: 78,
+            ..OLD
+        },
+    ];
+    for other in others {
+        assert!(rt; OLD != other, "{other:?}");
+    }
+}
+
+// Three numbers give up to ten characters each.
+#[test]
+fn makes_settings_of_three_words(rt: HostRuntime) {
+    let mut out = [b'.'; 128];
+    let mut report = OLD;
+    let result = mkpasswd_setting(7, 0, 1, 2, 3, &mut out, &mut report);
+    let put = b"$7$CU..../..../.........0.........1.\0";
+    assert_eq!(rt;
+        (result, report, out),
+        (1, told(3, 36, 0, NO_WORK), with_dots(put))
+    );
+}
+
+#[test]
 fn tells_the_version(rt: HostRuntime) {
     assert_eq!(rt; mkpasswd_version(), 10100);
 }

@@ -110,12 +110,14 @@ fn has_no_budget(rt: HostRuntime) -> Result<(), Fail> {
     let md5crypt: &[&str] = &[
         "--budget", "0", "-m", "md5crypt", "-S", "xxxxxxxx", "password",
     ];
-    let scrypt: &[&str] = &["--budget", "0", "-m", "scrypt", "-S", "ab", "x"];
+    let scrypt: &[&str] = &[
+        "--budget", "0", "--rehash", "--work", "-m", "scrypt", "-S", "ab", "x",
+    ];
     let rows = [
         (md5crypt, ANSWER),
         (
             scrypt,
-            "$7$CU..../....ab$TioQ/OazCAbGpb/E7e054xV/7lAamSWFPOGclTgvmt0\n",
+            "$7$CU..../....ab$TioQ/OazCAbGpb/E7e054xV/7lAamSWFPOGclTgvmt0:258:25508:32768:67108864\n",
         ),
     ];
     for (words, line) in rows {

@@ -33,7 +33,7 @@ pub const FLUSH_FAULTS: Step = (Device::Faults, Call::Flush(Ok(())));
 pub const ALL: usize = usize::MAX;
 
 /// The error of a call that the test makes fail.
-pub const FAILURE: ErrorKind = ErrorKind::PermissionDenied;
+pub const FAILURE: ErrorKind = ErrorKind::Interrupted;
 
 // Returns the call with its result replaced by the error.
 fn failed(call: Call) -> Call {
