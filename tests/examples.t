@@ -247,12 +247,13 @@ subtest 'recipes' => sub {
     $ends_early->(1, qr/^\Q$foreign\E\z/, 'a move with the mkpasswd of whois', $tool->(@foreign));
     ok(-e "$folder/logins" || -e "$folder/taken", 'such a move keeps the logins');
     my $told = join '', sort map { my ($name, undef, undef, @told) = @$_; map { "$name:$_\n" } @told } @accounts, ['tom', '', '', 'skipped'];
-    is_run($move->($then->("sed -i 's/^kim:/&!/' '$system/etc/shadow'")), 0, $told, '', 'a site moves to another method');
+    my $moved = $move->($then->("sed -i 's/^kim:/&!/' '$system/etc/shadow'"));
+    is_run($moved, 0, $told, '', 'a site moves to another method');
+    unlike($moved->{out}, qr/more/, 'the move prints no half of a password');
     $has_hash->("$system/etc/shadow", 'ann:', '$6$rounds=656000$', 'password', $today->(), 'the password of ann is hashed anew');
     my $after = $shadow->();
-    is($after->{$_}, $before{$_}, "the move keeps the line of $_") for qw(bob eve max zoe);
-    is($after->{$_}, $before{$_}, "the move keeps the line of $_, whose password is out of date") for qw(ida joe leo);
-    is($after->{ghost}, $before{ghost}, 'the move keeps the line of ghost, who is in no other file');
+    # The passwords of ida, joe and leo are out of date, and ghost has no account.
+    is($after->{$_}, $before{$_}, "the move keeps the line of $_") for qw(bob eve max zoe ida joe leo ghost);
     is($after->{kim}, $before{kim} =~ s/:/:!/r, 'a lock during the check stays');
     my $left = sub { join ' ', grep { -e "$folder/$_" } qw(logins taken stored sorted lines answers refused hashes now new) };
     is($left->(), '', 'the move takes all logins, and removes its files');
