@@ -234,7 +234,7 @@ subtest 'recipes' => sub {
     my $move = sub { run({ %in, dir => $folder, @_ }, 'bash', '-c', $script) };
     my $shadow = sub { my %lines = map { /^(\w+)/ => "$_\n" } split /\n/, slurp("$system/etc/shadow"); return \%lines };
     # A mkpasswd after whose check something happens.
-    my $then = sub { $tool->(mkpasswd => "\$real \"\$@\"\nstatus=\$?\ncase \$* in *--rehash*) $_[0] ;; esac\nexit \$status") };
+    my $then = sub { $tool->(mkpasswd => "\$real \"\$@\"\nstatus=\$?\ncase \$* in *-m*) $_[0] ;; esac\nexit \$status") };
     # Tests a move that fails: its status and message, and that it changes nothing.
     my $ends_early = sub {
         my ($status, $err, $name, %with) = @_;
