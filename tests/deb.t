@@ -7,6 +7,7 @@ use warnings;
 use FindBin qw($Bin);
 use lib "$Bin/lib";
 use Suite;
+use Texts;
 
 my @packages = qw(libmkpasswd-crypt libmkpasswd-dev libmkpasswd2 mkpasswd mkpasswd-parallel python3-mkpasswd);
 # All but ours that the trials need, so that the mirror is asked for whois alone.
@@ -89,6 +90,16 @@ subtest 'content' => sub {
         like($copyright, qr/^License: none\n The owner has not yet chosen a licence\./m, "$_ claims no licence");
         like(output_of(qw(dpkg-deb -f), $deb{$_}, 'Depends'), qr/\bsse4\.2-support\b/, "$_ refuses older processors") if /^(?:lib)?mkpasswd(?:2|-crypt)?$/;
     }
+    my %documents = (mkpasswd => [qw(FORMATS README RECIPES SECURITY SPEED)], 'libmkpasswd-dev' => ['SECURITY'], 'python3-mkpasswd' => ['PYTHON']);
+    for my $package (sort keys %documents) {
+        for my $name (map { "$_.md" } @{ $documents{$package} }) {
+            my ($source) = grep { -e } "$root/docs/$name", "$root/$name";
+            my $packed = run('gzip', '-dc', "$scratch/content/$package/usr/share/doc/$package/$name.gz")->{out};
+            ok($packed eq slurp($source), "$package has $name");
+        }
+    }
+    my ($move) = grep { /^chpasswd -e < new$/m } blocks_of(slurp("$root/docs/RECIPES.md"), 'sh');
+    is(slurp("$scratch/content/mkpasswd/usr/share/doc/mkpasswd/examples/move"), $move, 'mkpasswd has the script of the recipe');
     my $libraries = 'libmkpasswd2/usr/lib/x86_64-linux-gnu';
     for (['mkpasswd', 'mkpasswd/usr/bin/mkpasswd'], ['libmkpasswd.so.2', "$libraries/libmkpasswd.so.2"],
         [$newer, "$libraries/glibc-hwcaps/x86-64-v3/libmkpasswd.so.2"]) {

@@ -7,6 +7,7 @@ use warnings;
 use FindBin qw($Bin);
 use lib "$Bin/lib";
 use Suite;
+use Texts;
 
 my $known = '$1$xxxxxxxx$UYCIxa628.9qXjpQCjM4a.';
 my $version = run("$root/tools/version")->{out} =~ s/\n//r;
@@ -65,6 +66,19 @@ subtest 'sums' => sub {
         my $manual = slurp($_) =~ /\A\.so (\S+)\n\z/ ? "$tree/share/man/$1" : $_;
         like(slurp($manual), qr/^\.Os mkpasswd \Q$version\E$/m, s{.*/}{}r . ' has the version');
     }
+};
+
+subtest 'documents' => sub {
+    my @names = map { m{([^/]*)\z} } glob "$documents/*.md";
+    for my $name (@names) {
+        my ($source) = grep { -e } "$root/docs/$name", "$root/$name";
+        is(slurp("$documents/$name"), slurp($source), "$name is that of the tree");
+    }
+    my ($recipe) = grep { /^chpasswd -e < new$/m } blocks_of(slurp("$root/docs/RECIPES.md"), 'sh');
+    is(slurp("$documents/examples/move"), $recipe, 'move is the script of the recipe');
+    my @said = section_of(slurp("$root/man/mkpasswd.1"), 'FILES') =~ /^\.It Pa (\S+)/mg;
+    is_deeply([grep { !-e "$documents/$_" } @said], [], 'what mkpasswd.1 names is there');
+    is_deeply([sort grep { /md\z/ } @said], [grep { $_ ne 'PYTHON.md' } @names], 'mkpasswd.1 names the documents');
 };
 
 subtest 'README' => sub {

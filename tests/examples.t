@@ -176,8 +176,20 @@ subtest 'recipes' => sub {
     my $old = crypt('password', '$5$rounds=1000$ab');
     spew("$folder/password", "password\nmore\n");
     spew("$folder/shadow", "ann:$old$aged\nbob:!$aged\nzoe:\$6\$rounds=999999999\$ab\$x$aged\neve:$known$aged\n");
-    spew("$folder/list", "eve:guess\neve:password\nbob:x\nzoe:x\nann:word\n");
-    my $recipe = sub { run({ %in, dir => $folder }, 'bash', '-c', $recipes[ $_[0] ]) };
+    spew("$folder/list", "eve:guess\neve:password\nbob:x\nzoe:x\nann:word\neve:password\n");
+    my $recipe = sub { my ($number, %with) = @_; run({ %in, dir => $folder, %with }, 'bash', '-c', $recipes[$number]) };
+    # A tool in front of the one that the recipes take, $real.
+    my $tool = sub {
+        my ($name, $script) = @_;
+        run('rm', '-rf', "$scratch/tools");
+        mkdir "$scratch/tools";
+        spew("$scratch/tools/$name", "#!/bin/sh\nreal='$scratch/bin/$name'\n$script\n");
+        chmod 0755, "$scratch/tools/$name";
+        return (env => { %{ $in{env} }, PATH => "$scratch/tools:$in{env}{PATH}" });
+    };
+    # The mkpasswd of whois.
+    my $foreign = "mkpasswd: unrecognized option '--check'\nTry 'mkpasswd --help' for more information.\n";
+    my @foreign = (mkpasswd => "cat >&2 << 'END'\n${foreign}END\nexit 1");
     # Tests that a file has a line with a hash of the password, which begins with the prefix.
     my $has_hash = sub {
         my ($file, $front, $prefix, $password, $back, $name) = @_;
@@ -196,50 +208,87 @@ subtest 'recipes' => sub {
     $has_hash->("$folder/preseed.cfg", 'd-i passwd/user-password-crypted password ', '$6$rounds=656000$', 'password', '', "Debian's installer");
     $has_hash->("$folder/site.ks", 'rootpw --iscrypted ', '$6$rounds=656000$', 'password', '', 'kickstart');
     is_run($recipe->(2), 0, "eve\n", "mkpasswd: line 5: over budget\n", 'who still has a password of a list');
+    my @joined = -e "$folder/joined" ? split /\n/, slurp("$folder/joined") : ();
+    like($joined[4] // '', qr/^zoe:.*:x$/, 'the line that was refused is in a file');
     is_run($recipe->(4), 0, "zoe\n", '', 'stored hashes that could stall a login');
+    is_run($recipe->(4, $tool->(@foreign)), 1, '', $foreign, 'stored hashes, with the mkpasswd of whois');
+    my $fails = sub { $tool->(mkpasswd => "'$scratch/bin/mkpasswd' \"\$@\" || { echo 'mkpasswd: out of memory' >&2; exit 3; }") };
+    is_run($recipe->(4, $fails->()), 1, '', "mkpasswd: out of memory\n", 'stored hashes, with a mkpasswd that fails');
 
-    # The move to another method: each name with its field, its day, and what its logins come to.
-    my @accounts = (['ann', $old, 19000, 'moved', 'no'], ['bob', "!$old", 19000, 'locked'], ['eve', $known, 19000, 'no'],
-        ['max', $old, 0, 'skipped'], ['zoe', '$6$rounds=999999999$ab$x', 19000, 'over budget'], ['kim', $old, 19000, 'changed', 'no']);
-    my %before = map { $_->[0] => "$_->[0]:$_->[1]:$_->[2]:0:99999:7:::\n" } @accounts;
+    # The move to another method: each name with its field, its day and ages, and what its logins come to.
+    my $day = int(time / 86400);
+    my @accounts = (['ann', $old, '19000:0:99999:7', 'moved', 'no'], ['bob', "!$old", '19000:0:99999:7', 'locked'],
+        ['eve', $known, '19000:0:99999:7', 'no'], ['max', $old, '0:0:99999:7', 'skipped'],
+        ['zoe', '$6$rounds=999999999$ab$x', '19000:0:99999:7', 'over budget'], ['kim', $old, '19000:0:99999:7', 'changed', 'no'],
+        ['ida', $old, '19000:0:90:7:30', 'skipped'], ['joe', $old, ':0:90:7', 'skipped'], ['leo', $old, ($day - 91) . ':0:90:7', 'skipped'],
+        ['pia', $old, ($day - 9) . ':0:90:7', 'moved'], ['ray', $old, '19000:0::', 'moved'], ['ghost', $old, '19000:0:99999:7', 'skipped']);
+    my %before = map { $_->[0] => join(':', @$_[0 .. 2]) . ':' x (6 - $_->[2] =~ tr/://) . "\n" } @accounts;
     my %logins = (ann => [qw(password guess password)], eve => ['guess'], kim => [qw(guess password)], tom => ['', 'pass:word']);
+    my $users = sub { spew("$system/etc/passwd", join '', map { "$_:x:1000:1000::/:/bin/sh\n" } grep { $_ ne 'ghost' } map { $_->[0] } @accounts) };
     my $reset = sub {
-        spew("$system/etc/passwd", join '', map { "$_->[0]:x:1000:1000::/:/bin/sh\n" } @accounts);
+        $users->();
         spew("$system/etc/shadow", join '', map { $before{ $_->[0] } } @accounts);
         return spew("$folder/logins", join '', "more\n", map { my $name = $_; map { "$name:$_\n" } @{ $logins{$name} // ['password'] } } sort keys %before, 'tom');
     };
-    my $move = sub { run({ %in, dir => $folder, @_ }, 'bash', '-c', $recipes[3] =~ s{ (/etc/shadow)}{ '$system$1'}r) };
+    my $script = $recipes[3] =~ s{ (/etc/(?:passwd|shadow))(?= )}{ '$system$1'}gr;
+    my $move = sub { run({ %in, dir => $folder, @_ }, 'bash', '-c', $script) };
     my $shadow = sub { my %lines = map { /^(\w+)/ => "$_\n" } split /\n/, slurp("$system/etc/shadow"); return \%lines };
     # A mkpasswd after whose check something happens.
-    my $then = sub {
-        mkdir "$scratch/then";
-        spew("$scratch/then/mkpasswd", "#!/bin/sh\n'$scratch/bin/mkpasswd' \"\$@\"\nstatus=\$?\n$_[0]\nexit \$status\n");
-        chmod 0755, "$scratch/then/mkpasswd";
-        return (env => { %{ $in{env} }, PATH => "$scratch/then:$in{env}{PATH}" });
+    my $then = sub { $tool->(mkpasswd => "\$real \"\$@\"\nstatus=\$?\ncase \$* in *-m*) $_[0] ;; esac\nexit \$status") };
+    # Tests a move that fails: its status and message, and that it changes nothing.
+    my $ends_early = sub {
+        my ($status, $err, $name, %with) = @_;
+        my $run = $move->(%with);
+        ok($run->{status} == $status && $run->{out} eq '' && $run->{err} =~ $err, $name) or diag(%$run);
+        is_deeply($shadow->(), \%before, "$name: it changes nothing");
     };
 
     $reset->();
-    my $told = join '', sort map { my ($name, undef, undef, @told) = @$_; map { "$name:$_\n" } @told } @accounts, map { [$_, '', '', 'skipped'] } qw(more tom);
-    is_run($move->($then->("sed -i 's/^kim:/&!/' '$system/etc/shadow'")), 0, $told, '', 'a site moves to another method');
+    $ends_early->(1, qr/^\Q$foreign\E\z/, 'a move with the mkpasswd of whois', $tool->(@foreign));
+    ok(-e "$folder/logins" || -e "$folder/taken", 'such a move keeps the logins');
+    my $told = join '', sort map { my ($name, undef, undef, @told) = @$_; map { "$name:$_\n" } @told } @accounts, ['tom', '', '', 'skipped'];
+    my $moved = $move->($then->("sed -i 's/^kim:/&!/' '$system/etc/shadow'"));
+    is_run($moved, 0, $told, '', 'a site moves to another method');
+    unlike($moved->{out}, qr/more/, 'the move prints no half of a password');
     $has_hash->("$system/etc/shadow", 'ann:', '$6$rounds=656000$', 'password', $today->(), 'the password of ann is hashed anew');
     my $after = $shadow->();
-    is($after->{$_}, $before{$_}, "the move keeps the line of $_") for qw(bob eve max zoe);
+    # The passwords of ida, joe and leo are out of date, and ghost has no account.
+    is($after->{$_}, $before{$_}, "the move keeps the line of $_") for qw(bob eve max zoe ida joe leo ghost);
     is($after->{kim}, $before{kim} =~ s/:/:!/r, 'a lock during the check stays');
-    is(join(' ', grep { -e "$folder/$_" } qw(logins taken sorted)), '', 'the move takes all logins');
+    my $left = sub { join ' ', grep { -e "$folder/$_" } qw(logins taken stored sorted lines answers refused hashes now new) };
+    is($left->(), '', 'the move takes all logins, and removes its files');
+    is_run($move->(), 0, '', '', 'a move without logins');
 
     spew("$folder/logins", "ann:password\n");
     is_run($move->(), 0, "ann:ok\n", '', 'a login after the move, with no refusal');
     is_deeply($shadow->(), $after, 'a login after the move changes nothing');
 
+    # The command that runs it waits for a run before it.
+    spew("$folder/logins", "ann:password\n");
+    spew("$folder/move", $script);
+    my ($flock) = section_of($recipes, 'A site moves to another method') =~ /`(flock [^`]*)`/;
+    is_run(run({ %in, dir => $folder }, 'bash', '-c', "flock move sleep 1 &\nsleep 0.3\n$flock"), 0, "ann:ok\n", '', 'a run that waits for another one');
+    spew("$folder/move", "exit 3\n");
+    like(run({ %in, dir => $folder }, 'bash', '-c', $flock)->{out}, qr/^move: /, 'a run that fails says so');
+
     # A run that ends early loses no login; the next one takes them first.
     $reset->();
-    isnt($move->($then->('status=3'))->{status}, 0, 'a move whose check fails');
-    is_deeply($shadow->(), \%before, 'a move whose check fails changes nothing');
+    $ends_early->(3, qr/^mkpasswd: out of memory\n\z/, 'a move whose check fails', $then->("echo 'mkpasswd: out of memory' >&2; status=3"));
+    my ($away, $back) = ("mv '$system/etc/shadow' '$system/away'", "mv '$system/away' '$system/etc/shadow'");
+    my $unread = sub {
+        my ($name, %with) = @_;
+        my $run = $move->(%with);
+        run('sh', '-c', $back);
+        ok($run->{status} && $run->{out} eq '' && $run->{err} =~ m{/etc/shadow}, $name) or diag(%$run);
+    };
+    run('sh', '-c', $away);
+    $unread->('a move that cannot read the fields');
+    $unread->('a move that cannot read the fields after the check', $then->($away));
     spew("$folder/logins", "eve:password\n");
-    spew("$system/etc/passwd", join '', map { "$_:x:1000:1000::/:/bin/sh\n" } qw(ann eve));
-    isnt($move->()->{status}, 0, 'a move of an account that chpasswd does not know');
+    my $vanished = $move->($tool->(chpasswd => "sed -i /^kim:/d '$system/etc/passwd'\n\$real \"\$@\""));
+    ok($vanished->{status} && $vanished->{err} =~ /'kim' does not exist/, 'a move of an account that chpasswd does not know') or diag(%$vanished);
     is_deeply($shadow->(), \%before, 'a move of such an account changes nothing');
-    spew("$system/etc/passwd", slurp("$system/etc/passwd") . "kim:x:1000:1000::/:/bin/sh\n");
+    $users->();
     is_run($move->(), 0, $told =~ s/kim:changed/kim:moved/r, '', 'the logins of a move that ended early');
     is_run($move->(), 0, "eve:moved\n", '', 'the logins after them');
 };
