@@ -141,7 +141,10 @@ sub of_alone {
 }
 
 # The lines that a message names, as pairs of a first and a last one.
-sub named { my ($message) = @_; return map { [$_->[0], $_->[1] // $_->[0]] } map { [/^lines? (\d+)(?: to (\d+))?: /] } grep { /^lines? / } split /; /, $message }
+sub named {
+    my ($message) = @_;
+    return map { /^lines? (\d+)(?: to (\d+))?: / ? [$1, $2 // $1] : () } split /; /, $message;
+}
 
 # Tests what came of a run that said this message and printed answers up to a line: all of these but those that it names, and
 # no other ones. The named ones are answered as the manual tells.
@@ -210,10 +213,9 @@ with_parallel 'arguments' => sub {
     }
     is_run(spread({}, '--program', program(), '--batch', $script), 2, '',
         "mkpasswd: two modes\nmkpasswd-parallel: the lines are read from standard input, as in: < users\n", 'a file among the words');
-    for ("$scratch/none", $script) {
-        my $why = $_ eq $script ? 'Not a directory' : 'No such file or directory';
-        is_run(spread({ stdin => $fifty, env => { TMPDIR => $_ } }, '--program', program(), @batch), 3, '',
-            "mkpasswd-parallel: no temporary folder in $_: $why\n", "TMPDIR=$_");
+    for (["$scratch/none", 'No such file or directory', 'a missing TMPDIR'], [$script, 'Not a directory', 'a file as TMPDIR']) {
+        is_run(spread({ stdin => $fifty, env => { TMPDIR => $_->[0] } }, '--program', program(), @batch), 3, '',
+            "mkpasswd-parallel: no temporary folder in $_->[0]: $_->[1]\n", $_->[2]);
     }
     my $help = spread({}, '--help');
     like("$help->{status}$help->{err}$help->{out}", qr/^0Usage: mkpasswd-parallel /, 'help');
@@ -405,6 +407,7 @@ sub resumes {
     ok($err =~ s/^mkpasswd-parallel: (.*)answered up to line (\d+); --resume-from (\d+) takes the rest\n\z//m, "$name: it tells the line") or return diag($err);
     my ($message, $last, $next) = ($1, $2, $3);
     is($next, $last + 1, "$name: the line to resume from");
+    is_deeply([grep { $_->[1] > $last } named($message)], [], "$name: no line of the next run is named");
     accounts($name, $lines, $message, $last, $out, $err, @words);
     my $rest = spread({ stdin => $lines }, '--program', program(), qw(--jobs 3), "--resume-from=$next", @words);
     is_deeply([@$rest{qw(out err)}], [of_alone($lines, \@words, $next .. $lines =~ tr/\n//)], "$name: the rest");
