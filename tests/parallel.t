@@ -254,7 +254,7 @@ with_parallel 'blocks that fail' => sub {
         accounts($name, $lines, $message, $lines =~ tr/\n//, $run->{out}, '', @batch);
     };
     $fails->('parts of blocks', fates(qw(fine status refuses killed lost few status fine)), "mkpasswd: out of memory\nmkpasswd: salt length\n",
-        'lines 24 to 40: status 3; lines 44 to 60: status 2; lines 64 to 80: status 137; lines 84 to 100: killed or lost; '
+        'lines 24 to 40: status 3; lines 44 to 60: status 2; lines 64 to 80: status 137; lines 81 to 100: killed or lost; '
             . 'lines 104 to 120: no answer; lines 124 to 140: status 3');
     $fails->('neighbours', fates(qw(fine none none most fine most none all fine)), '',
         'lines 21 to 60: status 3; line 80: status 3; lines 120 to 140: status 3; after line 160: status 3');
@@ -407,7 +407,7 @@ sub resumes {
     ok($err =~ s/^mkpasswd-parallel: (.*)answered up to line (\d+); --resume-from (\d+) takes the rest\n\z//m, "$name: it tells the line") or return diag($err);
     my ($message, $last, $next) = ($1, $2, $3);
     is($next, $last + 1, "$name: the line to resume from");
-    is_deeply([grep { $_->[1] > $last } named($message)], [], "$name: no line of the next run is named");
+    is_deeply([grep { $_->[1] >= $last } named($message)], [], "$name: no line of the next run is named");
     accounts($name, $lines, $message, $last, $out, $err, @words);
     my $rest = spread({ stdin => $lines }, '--program', program(), qw(--jobs 3), "--resume-from=$next", @words);
     is_deeply([@$rest{qw(out err)}], [of_alone($lines, \@words, $next .. $lines =~ tr/\n//)], "$name: the rest");
@@ -535,7 +535,7 @@ with_parallel 'killed runs of the program' => sub {
 
 # A cleaner removes the temporary folder, so GNU parallel ends.
 with_parallel 'a temporary folder that goes' => sub {
-    my $child = begin($slow_lines, "$scratch/out", '--program', program(), qw(--jobs 3 --block-lines 10), @slow);
+    my $child = begin($slow_lines, "$scratch/out", '--program', program(), qw(--jobs 8 --block-lines 10), @slow);
     wait_for(sub { -e "$scratch/out" && slurp("$scratch/out") =~ tr/\n// >= 50 });
     left();
     wait_for(sub { waitpid($child, POSIX::WNOHANG) != 0 });
