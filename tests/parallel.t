@@ -1,7 +1,7 @@
 #!/usr/bin/env perl
 # Tries mkpasswd-parallel, which spreads lines over processes and machines. What it prints is what one run of the program
-# prints over the whole input, byte for byte on both streams, with the same status. A block that fails is named, and all
-# others are answered. A run that is ended says up to which line the answers are there, and another one takes the rest.
+# prints over the whole input, byte for byte on both streams, with the same status. Lines without an answer are named, and
+# all others are answered. A run that is ended says up to which line the answers are there, and another one takes the rest.
 # Each run leaves nothing in $TMPDIR and in the home folder, and passwords go to pipes only.
 use strict;
 use warnings;
@@ -9,6 +9,7 @@ use File::Find ();
 use FindBin qw($Bin);
 use lib "$Bin/lib";
 use IO::Socket::INET;
+use List::Util qw(sum);
 use Suite;
 use Time::HiRes qw(sleep time);
 
@@ -83,7 +84,8 @@ sub check_lines {
     return $lines;
 }
 
-# A program that is mkpasswd, but for blocks with a name that says how they fail: of these it answers three lines and a part.
+# A program that is mkpasswd, but for blocks with a name that says how they fail: of these it answers three lines and a part,
+# or no line, all but the last one, or all.
 spew("$scratch/stand_in", <<'SH');
 #!/usr/bin/env bash
 text=$(cat; echo .)
@@ -93,8 +95,9 @@ if [[ ! $text =~ fate_([a-z]*): ]] || [ -e "$TRIED" ]; then
     exit "${PIPESTATUS[1]}"
 fi
 fate=${BASH_REMATCH[1]}
-head -n 3 <<< "$text" | "$PROGRAM" "$@"
-[ "$fate" = few ] && exit 0
+case $fate in none) count=0 ;; most) count=-1 ;; all) count=20 ;; *) count=3 ;; esac
+printf '%s' "$text" | head -n "$count" | "$PROGRAM" "$@"
+case $fate in few) exit 0 ;; none | most | all) exit 3 ;; esac
 printf 'fourth:$1$xx'
 case $fate in
     status) echo 'mkpasswd: out of memory' >&2; exit 3 ;;
@@ -118,6 +121,46 @@ my $has_parallel = run(qw(parallel --version))->{out} =~ /^GNU parallel /;
 sub with_parallel {
     my ($name, $test) = @_;
     return subtest $name => sub { needs('GNU parallel', 'parallel', $has_parallel) && $test->() };
+}
+
+# What one run of the program does with lines.
+my %alone;
+sub alone {
+    my ($lines, @words) = @_;
+    return $alone{"$lines@words"} //= run({ stdin => $lines }, program(), @words);
+}
+
+# What it prints for lines, by their numbers, on standard output and on standard error.
+sub of_alone {
+    my ($lines, $words, @numbers) = @_;
+    my $alone = alone($lines, @$words);
+    my %refused = map { /^mkpasswd: line (\d+): / ? ($1 => $_) : () } split /^/, $alone->{err};
+    my @answers = split /^/, $alone->{out};
+    my %answered = map { $refused{$_} ? () : ($_ => shift @answers) } 1 .. $lines =~ tr/\n//;
+    return map { my $of = $_; join '', map { $of->{$_} // () } @numbers } \%answered, \%refused;
+}
+
+# The lines that a message names, as pairs of a first and a last one.
+sub named {
+    my ($message) = @_;
+    return map { /^lines? (\d+)(?: to (\d+))?: / ? [$1, $2 // $1] : () } split /; /, $message;
+}
+
+# Tests what came of a run that said this message and printed answers up to a line: all of these but those that it names, and
+# no other ones. The named ones are answered as the manual tells.
+sub accounts {
+    my ($name, $lines, $message, $last, $out, $err, @words) = @_;
+    my @named = named($message);
+    my %missing = map { $_ => 1 } map { $_->[0] .. $_->[1] } @named;
+    my ($answers, $refusals) = of_alone($lines, \@words, grep { !$missing{$_} } 1 .. $last);
+    is($out, $answers, "$name: answers up to line $last but for those that are named, and no other ones");
+    is($err, $refusals, "$name: refusals up to the line, and no other ones");
+    for (@named) {
+        my ($from, $to) = @$_;
+        my $head = join '', (split /^/, $lines)[0 .. $to - 1];
+        my $repair = spread({ stdin => $head }, '--program', program(), qw(--jobs 3), "--resume-from=$from", @words);
+        is_deeply([@$repair{qw(out err)}], [of_alone($lines, \@words, $from .. $to)], "$name: lines $from to $to are answered by a run of their own");
+    }
 }
 
 with_parallel 'one run over the whole input' => sub {
@@ -161,11 +204,18 @@ with_parallel 'arguments' => sub {
             qw(0 -1 x 1.5), '1 ', 10**15),
         ['no line to resume from', 2, '--resume-from wants a value', '--resume-from=', '--batch'],
         ['no login', 2, '--sshlogin wants a value', qw(--batch --sshlogin)],
+        (map { ["'$_' for the number of jobs", 2, "no option '$_': --jobs N is the number of processes", $_, '--batch'] } qw(-j -j2 --job)),
         ['no program', 3, "$scratch/none: No such file or directory", '--program', "$scratch/none", '--batch'],
         ['another program', 3, "$false can't be run: status 1 with these words and no line", '--program', $false, '--batch'],
     ) {
         my ($name, $status, $text, @words) = @$_;
         is_run(spread({ stdin => $fifty }, @words), $status, '', "mkpasswd-parallel: $text\n", $name);
+    }
+    is_run(spread({}, '--program', program(), '--batch', $script), 2, '',
+        "mkpasswd: two modes\nmkpasswd-parallel: the lines are read from standard input, as in: < users\n", 'a file among the words');
+    for (["$scratch/none", 'No such file or directory', 'a missing TMPDIR'], [$script, 'Not a directory', 'a file as TMPDIR']) {
+        is_run(spread({ stdin => $fifty, env => { TMPDIR => $_->[0] } }, '--program', program(), @batch), 3, '',
+            "mkpasswd-parallel: no temporary folder in $_->[0]: $_->[1]\n", $_->[2]);
     }
     my $help = spread({}, '--help');
     like("$help->{status}$help->{err}$help->{out}", qr/^0Usage: mkpasswd-parallel /, 'help');
@@ -186,21 +236,29 @@ subtest 'another parallel' => sub {
     $try->("$scratch/bin:$ENV{PATH}", "$wanted; the one there is another", 'another parallel');
     $parallel->('[ "$1" != --version ] || exec echo GNU parallel 1; exit 255');
     $try->("$scratch/bin:$ENV{PATH}", 'GNU parallel ended with status 255; answered up to line 0; --resume-from 1 takes the rest', 'GNU parallel that fails');
+    # One that hands on the answers of a block, and not its refusals. Whose answers these are can't be known.
+    $parallel->('[ "$1" != --version ] || exec echo GNU parallel 1
+printf "mkpasswd-parallel begins 1\nfirst:a\nthird:b\nmkpasswd-parallel ends 1\n"; exec cat > /dev/null');
+    my %how = (stdin => "first:x\n:x\nthird:x\nfourth:x\n", env => { PATH => "$scratch/bin:$ENV{PATH}" });
+    is_run(spread(\%how, '--program', program(), qw(--block-lines 4 --batch)), 3, '', "mkpasswd-parallel: lines 1 to 4: killed or lost\n",
+        'answers without the refusals before them');
 };
 
 with_parallel 'blocks that fail' => sub {
     my @own = (qw(--jobs 3 --block-lines 20 --program), "$scratch/stand_in");
-    my $lines = fates(qw(fine status refuses killed lost few status fine));
-    my @hashed = split /^/, run({ stdin => $lines }, program(), @batch)->{out};
-    my $answers = join '', @hashed[grep { $_ < 20 || $_ >= 140 || $_ % 20 < 3 } 0 .. $#hashed];
-    my $run = spread({ stdin => $lines }, @own, @batch);
-    $run->{err} =~ s/^Killed\n//mg;    # some shells say so
-    is_run($run, 3, $answers, <<'ERR', 'all others are answered, and they are named');
-mkpasswd: out of memory
-mkpasswd: salt length
-mkpasswd-parallel: lines 21 to 40: status 3; lines 41 to 60: status 2; lines 61 to 80: status 137; lines 81 to 100: killed or lost; lines 101 to 120: 3 of 20 lines answered; and 1 more
-ERR
-    $lines = fates(qw(fine once fine));
+    my $fails = sub {
+        my ($name, $lines, $err, $message) = @_;
+        my $run = spread({ stdin => $lines }, @own, @batch);
+        $run->{err} =~ s/^Killed\n//mg;    # some shells say so
+        is("$run->{status} $run->{err}", "3 ${err}mkpasswd-parallel: $message\n", "$name: they are named");
+        accounts($name, $lines, $message, $lines =~ tr/\n//, $run->{out}, '', @batch);
+    };
+    $fails->('parts of blocks', fates(qw(fine status refuses killed lost few status fine)), "mkpasswd: out of memory\nmkpasswd: salt length\n",
+        'lines 24 to 40: status 3; lines 44 to 60: status 2; lines 64 to 80: status 137; lines 81 to 100: killed or lost; '
+            . 'lines 104 to 120: no answer; lines 124 to 140: status 3');
+    $fails->('neighbours', fates(qw(fine none none most fine most none all fine)), '',
+        'lines 21 to 60: status 3; line 80: status 3; lines 120 to 140: status 3; after line 160: status 3');
+    my $lines = fates(qw(fine once fine));
     my $hashed = run({ stdin => $lines }, program(), @batch)->{out};
     is_run(spread({ stdin => $lines }, @own, qw(--sshlogin :), @batch), 0, $hashed, '', 'a block that is lost is tried again');
     ok(unlink($tried), 'it was lost once');
@@ -257,6 +315,10 @@ with_parallel 'full disks' => sub {
     }
     rmdir $tried;
     left();
+    my $limited = run({ stdin => $lines, env => \%env }, 'bash', '-c', 'ulimit -f 20; exec "$@" > "$0"', "$scratch/out", @own, qw(--block-lines 100), @batch);
+    is($limited->{status}, 3, 'a limit of the length of files: status');
+    resumes('a limit of the length of files', $lines, slurp("$scratch/out"), $limited->{err}, @batch);
+    unlink "$scratch/out";
 };
 
 # With few open files it says so, or does what it does with many.
@@ -306,6 +368,9 @@ sub begin {
     exec $script, @words or POSIX::_exit(127);
 }
 
+# The lines of its standard error that neither a shell nor GNU parallel has said.
+sub mkpasswds { return join '', grep { /^mkpasswd/ } split /^/, slurp("$scratch/err") }
+
 # Waits until something is so, and says whether it is.
 sub wait_for {
     my ($is_so) = @_;
@@ -331,29 +396,23 @@ sub below {
     return @below[1 .. $#below];
 }
 
-# Lines of which some are refused, and which take some seconds; and what one run of the program does with them.
+# Lines of which some are refused, and which take some seconds.
 my @slow = (qw(--batch -m sha512crypt -R 10000 -S saltsalt));
 my $slow_lines = join '', map { $_ % 17 ? "user$_:password$_\n" : "no colon\n" } 1 .. 1000;
-my %alone;
-sub alone {
-    my ($lines, @words) = @_;
-    return $alone{"@words"} //= run({ stdin => $lines }, program(), @words);
-}
 
 # Tests a run that was ended by its output and standard error: they are those of one run, up to the line that it tells, and
-# the rest is taken up from there. Returns the line.
+# the rest is taken up from there. Returns the line, and what it told.
 sub resumes {
     my ($name, $lines, $out, $err, @words) = @_;
-    my $alone = alone($lines, @words);
-    ok($err =~ s/^mkpasswd-parallel: .*answered up to line (\d+); --resume-from (\d+) takes the rest\n\z//m, "$name: it tells the line") or return diag($err);
-    my ($last, $next) = ($1, $2);
+    ok($err =~ s/^mkpasswd-parallel: (.*)answered up to line (\d+); --resume-from (\d+) takes the rest\n\z//m, "$name: it tells the line") or return diag($err);
+    my ($message, $last, $next) = ($1, $2, $3);
     is($next, $last + 1, "$name: the line to resume from");
-    my @refused = map { /^mkpasswd: line (\d+): / && $1 <= $last ? $_ : () } split /^/, $alone->{err};
-    is($err, join('', @refused), "$name: refusals up to the line, and no other ones");
-    is($out, join('', (split /^/, $alone->{out})[0 .. $last - @refused - 1]), "$name: answers up to the line, and no other ones");
+    is_deeply([grep { $_->[1] >= $last } named($message)], [], "$name: no line of the next run is named");
+    accounts($name, $lines, $message, $last, $out, $err, @words);
     my $rest = spread({ stdin => $lines }, '--program', program(), qw(--jobs 3), "--resume-from=$next", @words);
-    is_run({ status => $rest->{status}, out => $out . $rest->{out}, err => $err . $rest->{err} }, @$alone{qw(status out err)}, "$name: both runs together");
-    return $last;
+    is_deeply([@$rest{qw(out err)}], [of_alone($lines, \@words, $next .. $lines =~ tr/\n//)], "$name: the rest");
+    is($rest->{status}, alone($lines, @words)->{status}, "$name: status of the rest") if $rest->{err} ne '' || !alone($lines, @words)->{status};
+    return ($last, $message);
 }
 
 with_parallel 'signals' => sub {
@@ -371,6 +430,14 @@ with_parallel 'signals' => sub {
         is_deeply([left()], [], "SIG$signal: nothing is left");
         unlink $tried;
     }
+    spew("$scratch/waits", "#!/bin/sh\necho \$\$ > \"\$TRIED\"\nexec sleep 100\n");
+    chmod 0755, "$scratch/waits";
+    my $child = begin('', '/dev/null', '--program', "$scratch/waits", qw(--resume-from 5 --batch));
+    wait_for(sub { -s $tried });
+    my ($status) = end('TERM', $child);
+    is("$status " . slurp("$scratch/err"), "143 mkpasswd-parallel: SIGTERM; answered up to line 4; --resume-from 5 takes the rest\n", 'SIGTERM before the first block');
+    kill 'KILL', slurp($tried) =~ /(\d+)/;
+    unlink $tried;
 };
 
 with_parallel 'runs that are taken up' => sub {
@@ -383,7 +450,8 @@ with_parallel 'runs that are taken up' => sub {
         my ($status, $seconds) = end($signal, $child, $is_group ? -$child : $child);
         is($status, $wanted, "SIG$signal: status");
         cmp_ok($seconds, '<', 5, "SIG$signal: within 5 seconds");
-        cmp_ok(resumes("SIG$signal", $slow_lines, slurp("$scratch/out"), slurp("$scratch/err"), @slow) // 0, '<', 1000, "SIG$signal: there was a rest");
+        my ($last) = resumes("SIG$signal", $slow_lines, slurp("$scratch/out"), slurp("$scratch/err"), @slow);
+        cmp_ok($last // 0, '<', 1000, "SIG$signal: there was a rest");
         unlink "$scratch/out";
     }
     my $ten = lines_of(10, 'userN:passwordN') . ":x\n";
@@ -415,8 +483,9 @@ with_parallel 'killed processes' => sub {
     needs(ps => 'procps') or return;
     my %told = (
         'the script' => [137, qr/the process that reads was killed; answered up/],
-        'the process that prints' => [3, qr/the process that prints was killed; answered up to line \d+ or more$/],
+        'the process that prints' => [3, qr/the process that prints was killed; answered up to line \d+ or more; --resume-from \d+ or later takes the rest$/],
         'GNU parallel' => [3, qr/GNU parallel ended with signal 9; answered up/],
+        'GNU parallel by SIGHUP' => [3, qr/GNU parallel got a signal; answered up/, 'HUP'],
     );
     for my $name (sort keys %told) {
         my $child = begin($slow_lines, "$scratch/out", '--program', program(), qw(--jobs 2), @slow);
@@ -424,8 +493,8 @@ with_parallel 'killed processes' => sub {
         my @below = below($child);
         my ($printing) = grep { $_->[1] == $child } @below;
         my ($parallel) = grep { $_->[1] == $printing->[0] } @below;
-        my $process = { 'the script' => $child, 'GNU parallel' => $parallel->[0], 'the process that prints' => $printing->[0] }->{$name};
-        my ($status, $seconds) = end('KILL', $child, $process);
+        my $process = { 'the script' => $child, 'the process that prints' => $printing->[0] }->{$name} // $parallel->[0];
+        my ($status, $seconds) = end($told{$name}[2] // 'KILL', $child, $process);
         my @runs = map { $_->[0] } @below;
         my $is_told = wait_for(sub { slurp("$scratch/err") =~ /\n\z/ && !grep { runs($_) } @runs });
         is($status, $told{$name}[0], "$name: status");
@@ -433,9 +502,46 @@ with_parallel 'killed processes' => sub {
         cmp_ok($seconds, '<', 5, "$name: within 5 seconds");
         ok($is_told, "$name: nothing runs any more") or diag(map { "@$_\n" } @below);
         is_deeply([left()], [], "$name: nothing is left");
-        resumes($name, $slow_lines, slurp("$scratch/out"), slurp("$scratch/err"), @slow) if $name !~ /prints/;
+        resumes($name, $slow_lines, slurp("$scratch/out"), mkpasswds(), @slow) if $name !~ /prints/;
         unlink "$scratch/out", "$scratch/err";
     }
+};
+
+# Runs of the program are killed, as the kernel does without memory, and then the run is ended.
+with_parallel 'killed runs of the program' => sub {
+    needs(ps => 'procps') or return;
+    for my $name ('SIGTERM', 'the process that prints') {
+        my $child = begin($slow_lines, "$scratch/out", '--program', program(), qw(--jobs 3 --block-lines 10), @slow);
+        for my $count (20, 60) {
+            wait_for(sub { -e "$scratch/out" && slurp("$scratch/out") =~ tr/\n// >= $count });
+            wait_for(sub { kill 'KILL', map { $_->[2] =~ /^\Q@{[program()]}\E / ? $_->[0] : () } below($child) });
+        }
+        wait_for(sub { slurp("$scratch/out") =~ tr/\n// >= 120 });
+        my ($printing) = grep { $_->[1] == $child } below($child);
+        my ($status) = $name eq 'SIGTERM' ? end('TERM', $child) : end('KILL', $child, $printing->[0]);
+        is($status, $name eq 'SIGTERM' ? 143 : 3, "$name: status");
+        my ($out, $err) = (slurp("$scratch/out"), mkpasswds());
+        like($err, qr/^mkpasswd-parallel: (?:lines? \d+(?: to \d+)?|after line \d+): status 137; /m, "$name: lines are named");
+        if ($name eq 'SIGTERM') { resumes($name, $slow_lines, $out, $err, @slow) }
+        elsif ($err =~ s/^mkpasswd-parallel: (.*)answered up to line (\d+) or more; .*\n\z//m) {
+            my ($message, $last) = ($1, $2);
+            my $counted = ($out . $err) =~ tr/\n// + sum(map { $_->[1] - $_->[0] + 1 } named($message));
+            cmp_ok($counted, '>=', $last, "$name: the line that it tells is no later than the last one");
+            accounts($name, $slow_lines, $message, $counted, $out, $err, @slow);
+        }
+        unlink "$scratch/out", "$scratch/err";
+    }
+};
+
+# A cleaner removes the temporary folder, so GNU parallel ends.
+with_parallel 'a temporary folder that goes' => sub {
+    my $child = begin($slow_lines, "$scratch/out", '--program', program(), qw(--jobs 8 --block-lines 10), @slow);
+    wait_for(sub { -e "$scratch/out" && slurp("$scratch/out") =~ tr/\n// >= 50 });
+    left();
+    wait_for(sub { waitpid($child, POSIX::WNOHANG) != 0 });
+    is($? >> 8, 3, 'status');
+    resumes('it goes', $slow_lines, slurp("$scratch/out"), mkpasswds(), @slow);
+    unlink "$scratch/out", "$scratch/err";
 };
 
 with_parallel 'a program that goes' => sub {
@@ -445,9 +551,8 @@ with_parallel 'a program that goes' => sub {
     my $begun = time;
     my $run = spread({ stdin => $lines }, '--program', "$scratch/goes", qw(--jobs 1 --block-lines 20), @batch);
     $run->{err} =~ s/^.*not found\n//m;
-    $run->{err} =~ s/3 of 20 lines answered/F/;
     is($run->{status}, 3, 'status');
-    like($run->{err}, qr/^mkpasswd-parallel: lines 21 to 40: F; lines 41 to 60: status 127; answered up to line 40; --resume-from 41 takes the rest\n\z/, 'it is told');
+    like($run->{err}, qr/^mkpasswd-parallel: no answer; status 127; answered up to line 23; --resume-from 24 takes the rest\n\z/, 'it is told');
     cmp_ok(time - $begun, '<', 5, 'within 5 seconds');
 };
 
@@ -496,23 +601,33 @@ with_parallel 'progress' => sub {
     my %how = (stdin => lines_of(40, 'userN:passwordN'));
     my @own = ('--program', program(), qw(--jobs 2));
     mkdir "$scratch/few";
-    symlink run('sh', '-c', "command -v $_")->{out} =~ s/\n//r, "$scratch/few/$_" for qw(perl env parallel);
+    symlink run('sh', '-c', "command -v $_")->{out} =~ s/\n//r, "$scratch/few/$_" for qw(perl env parallel sh head);
     my $without = spread({ %how, env => { PATH => "$scratch/few" } }, @own, '--progress', @batch);
     is_run($without, 3, '', "mkpasswd-parallel: pv is wanted on the PATH for --progress (Debian's package pv)\n", 'no pv');
     needs(pv => 'pv') or return;
     my $alone = run(\%how, program(), @batch);
     my $shown = spread(\%how, @own, '--progress', @batch);
     is("$shown->{status} $shown->{out}", "0 $alone->{out}", 'answers with progress');
-    like($shown->{err}, qr{\b40(?:\.0)? +0:00:\d\d \[ *[\d.]+ /s\] \[=+>\] 100%}, 'progress of a file, where it is asked for');
+    like($shown->{err}, qr{\b40(?:\.0)? +0:00:\d\d \[ *(?!0\.00)[\d.]+[km ]/s\] \[=+>\] 100%}, 'progress of a file, where it is asked for');
     my $resumed = spread(\%how, @own, qw(--progress --resume-from 31), @batch);
-    like($resumed->{err}, qr{\b10(?:\.0)? +0:00:\d\d \[ *[\d.]+ /s\] \[=+>\] 100%}, 'progress of the rest');
+    like($resumed->{err}, qr{\b10(?:\.0)? +0:00:\d\d \[ *(?!0\.00)[\d.]+[km ]/s\] \[=+>\] 100%}, 'progress of the rest');
     my $piped = run({ %how, env => \%env }, 'sh', '-c', 'cat | "$@"', '-', $script, @own, '--progress', @batch);
-    like($piped->{err}, qr{\b40(?:\.0)? +0:00:\d\d \[ *[\d.]+ /s\]}, 'progress of a pipe');
+    like($piped->{err}, qr{\b40(?:\.0)? +0:00:\d\d \[ *(?!0\.00)[\d.]+[km ]/s\]}, 'progress of a pipe');
     unlike($piped->{err}, qr/%|ETA/, 'no end of a pipe is known');
     is(spread(\%how, @own, @batch)->{err}, '', 'none in a file, where it is not asked for');
+    my $some_slow = join '', (split /^/, $slow_lines)[0 .. 299];
+    my $refused = spread({ stdin => $some_slow }, @own, '--progress', @slow);
+    is(join('', $refused->{err} =~ /^mkpasswd: .*\n/mg), alone($some_slow, @slow)->{err}, 'refusals have lines of their own in a file with progress');
+    my $child = begin($slow_lines, "$scratch/out", @own, '--progress', @slow);
+    wait_for(sub { -s "$scratch/err" });
+    end('TERM', $child);
+    like(slurp("$scratch/err"), qr/^mkpasswd-parallel: SIGTERM; answered/m, 'so has the last message');
     needs(script => 'bsdutils') or return;
     my $typed = join ' ', map { s/'/'\\''/gr =~ s/.*/'$&'/sr } $script, @own, @batch;
     spew("$scratch/input", $how{stdin});
+    my $bare = run({ env => { %env, PATH => "$scratch/few" } }, (grep { -x } map { "$_/script" } split /:/, $ENV{PATH})[0], '-qec',
+        "$typed < '$scratch/input' > '$scratch/out'", '/dev/null');
+    is($bare->{out}, "mkpasswd-parallel: no progress: pv is not on the PATH\r\n", 'a terminal without pv');
     my $terminal = run({ env => \%env }, 'script', '-qec', "$typed < '$scratch/input' > '$scratch/out'", '/dev/null');
     like($terminal->{out}, qr{/s\] \[=+>\] 100%}, 'progress at a terminal');
     is(slurp("$scratch/out"), $alone->{out}, 'answers beside a terminal');
@@ -607,7 +722,7 @@ CONFIG
         cmp_ok(time - $begun, '<', 5, 'a machine that freezes: within 5 seconds');
         kill CONT => @frozen;
         like(slurp("$scratch/err"), qr/^mkpasswd-parallel: a block lost its machine each time; answered up/m, 'a machine that freezes: it is told');
-        resumes('a machine that freezes', $slow_lines, slurp("$scratch/out"), slurp("$scratch/err") =~ s/^(?!mkpasswd).*\n//mgr, @slow);
+        resumes('a machine that freezes', $slow_lines, slurp("$scratch/out"), mkpasswds(), @slow);
     }
     kill 'TERM', $server;
     waitpid $server, 0;
