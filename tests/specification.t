@@ -28,7 +28,7 @@ for my $head ($made->{out} =~ /^#+ (.*)$/mg) {
 }
 my @links = $made->{out} =~ /\[`([\w-]+)(?:\.\w+)?`\]\(([^)]*)\)/g;
 cmp_ok(scalar @links, '>', 2000, 'the page has links');
-is(join(', ', grep { $anchors !~ /^\Q$_\E$/m } map { "$links[2 * $_] $links[2 * $_ + 1]" } 0 .. $#links / 2), '',
+is(join(', ', grep { $anchors !~ /^\Q$_\E$/m } map { "$links[2 * $_] $links[2 * $_ + 1]" } 0 .. @links / 2 - 1), '',
     'each leads to the head of its name');
 
 # The entries and the calls: where they are, and their code. A list in an entry's comment stands in a block of its own.
