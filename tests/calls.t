@@ -152,7 +152,8 @@ my @no_settings = ('', '!', '*', '!!', 'x', '*0', '*1', '*0abc', "!$fixed", "*$f
     '$1$a:b', 'a:c', '$6$rounds=:$ab', '$7$C:', "\$5\$ab\n", "\$5\$ab\$\x7f", "\$6\$\xc3\xa9", "$fixed\n", "$fixed\0", "\0$fixed",
     "$fixed:", "$fixed\xff", '$5$rounds=$ab', '$6$rounds=01000$ab', '$6$rounds=1000', '$7$C', '$7$20....0...', '$7$./..../....ab',
     '$7$6...../....ab', '$7$6/.........a_b', '$7$E/..../....ab', '$7$GU....0....ab', '$7$HU..../....a_b', '$7$20....0....a_b',
-    "${long_salt}a", '$1$a' . 'a' x 381, '$1$:' . 'a' x 381, 'a' x 385, $fixed . 'a' x 400);
+    "${long_salt}a", '$1$a' . 'a' x 381, '$1$:' . 'a' x 381, 'a' x 385, $fixed . 'a' x 400,
+    '!' . 'a' x 383, '!' . 'a' x 384, '*' . 'a' x 384);
 
 # Fields that have one, and are no hash of "password" or cost too much.
 my @other_fields = (substr($fixed, 0, -1), "$fixed.", "$fixed\$", '$1$', '$1$xxxxxxxx', '$1$xxxxxxxx$', '$6$rounds=10$ab$x',

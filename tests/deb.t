@@ -90,7 +90,7 @@ subtest 'content' => sub {
         like($copyright, qr/^License: none\n The owner has not yet chosen a licence\./m, "$_ claims no licence");
         like(output_of(qw(dpkg-deb -f), $deb{$_}, 'Depends'), qr/\bsse4\.2-support\b/, "$_ refuses older processors") if /^(?:lib)?mkpasswd(?:2|-crypt)?$/;
     }
-    my %documents = (mkpasswd => [qw(FORMATS README RECIPES SECURITY SPEED)], 'libmkpasswd-dev' => ['SECURITY'], 'python3-mkpasswd' => ['PYTHON']);
+    my %documents = (mkpasswd => [qw(FORMATS README RECIPES SECURITY SPEED)], 'libmkpasswd-dev' => ['SECURITY'], 'python3-mkpasswd' => [qw(PYTHON SECURITY)]);
     for my $package (sort keys %documents) {
         for my $name (map { "$_.md" } @{ $documents{$package} }) {
             my ($source) = grep { -e } "$root/docs/$name", "$root/$name";

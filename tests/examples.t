@@ -221,10 +221,14 @@ subtest 'recipes' => sub {
         ['eve', $known, '19000:0:99999:7', 'no'], ['max', $old, '0:0:99999:7', 'skipped'],
         ['zoe', '$6$rounds=999999999$ab$x', '19000:0:99999:7', 'over budget'], ['kim', $old, '19000:0:99999:7', 'changed', 'no'],
         ['ida', $old, '19000:0:90:7:30', 'skipped'], ['joe', $old, ':0:90:7', 'skipped'], ['leo', $old, ($day - 91) . ':0:90:7', 'skipped'],
-        ['pia', $old, ($day - 9) . ':0:90:7', 'moved'], ['ray', $old, '19000:0::', 'moved'], ['ghost', $old, '19000:0:99999:7', 'skipped']);
+        ['pia', $old, ($day - 9) . ':0:90:7', 'moved'], ['ray', $old, '19000:0::', 'moved'], ['ghost', $old, '19000:0:99999:7', 'skipped'],
+        ['sue', $known, '19000:0:99999:7', 'skipped'], ['ted', $known, '19000:0:99999:7', 'skipped']);
     my %before = map { $_->[0] => join(':', @$_[0 .. 2]) . ':' x (6 - $_->[2] =~ tr/://) . "\n" } @accounts;
     my %logins = (ann => [qw(password guess password)], eve => ['guess'], kim => [qw(guess password)], tom => ['', 'pass:word']);
-    my $users = sub { spew("$system/etc/passwd", join '', map { "$_:x:1000:1000::/:/bin/sh\n" } grep { $_ ne 'ghost' } map { $_->[0] } @accounts) };
+    # sue is locked in /etc/passwd, and ted has a hash there: for these /etc/shadow doesn't count.
+    my %own = (sue => '*', ted => $old);
+    my $passwd = join '', map { "$_:" . ($own{$_} // 'x') . ":1000:1000::/:/bin/sh\n" } grep { $_ ne 'ghost' } map { $_->[0] } @accounts;
+    my $users = sub { spew("$system/etc/passwd", $passwd) };
     my $reset = sub {
         $users->();
         spew("$system/etc/shadow", join '', map { $before{ $_->[0] } } @accounts);
@@ -253,7 +257,8 @@ subtest 'recipes' => sub {
     $has_hash->("$system/etc/shadow", 'ann:', '$6$rounds=656000$', 'password', $today->(), 'the password of ann is hashed anew');
     my $after = $shadow->();
     # The passwords of ida, joe and leo are out of date, and ghost has no account.
-    is($after->{$_}, $before{$_}, "the move keeps the line of $_") for qw(bob eve max zoe ida joe leo ghost);
+    is($after->{$_}, $before{$_}, "the move keeps the line of $_") for qw(bob eve max zoe ida joe leo ghost sue ted);
+    is(slurp("$system/etc/passwd"), $passwd, 'the move keeps /etc/passwd, with the lock of sue and the hash of ted');
     is($after->{kim}, $before{kim} =~ s/:/:!/r, 'a lock during the check stays');
     my $left = sub { join ' ', grep { -e "$folder/$_" } qw(logins taken stored sorted lines answers refused hashes now new) };
     is($left->(), '', 'the move takes all logins, and removes its files');

@@ -95,9 +95,12 @@ def test_refused_methods_by_name():
         for call in (hash, "x"), (needs_rehash, MD5), (verify_and_update, "x", MD5):
             error = error_of(*call, method)
             assert (type(error), error.reason, str(error)) == (Refused, Reason.UNKNOWN_METHOD, "unknown method")
+    # The library says "cost", and Python names the argument.
     for rounds in 1, 5, 12, 2**32 - 1:
-        error = error_of(hash, "x", "scrypt", rounds=rounds)
-        assert (type(error), error.reason, str(error)) == (Refused, Reason.COST, "cost")
+        for call in (hash, "x"), (needs_rehash, MD5), (verify_and_update, "x", MD5):
+            error = error_of(*call, "scrypt", rounds=rounds)
+            assert (type(error), error.reason, error.reason.words) == (Refused, Reason.COST, "cost")
+            assert str(error) == "rounds must be 6 to 11, or 0 for 7"
 
 
 @pytest.mark.parametrize(
@@ -291,6 +294,13 @@ def test_new_hashes(method, rounds, front):
     assert not needs_rehash(stored, method, rounds) and not verify("passwörd", stored)
     assert verify_and_update("pässword", stored, method, rounds) == (True, None)
     assert hash("pässword", method, rounds=rounds) != stored
+
+
+def test_new_hashes_are_str():
+    for password in "password", b"password":
+        assert type(hash(password, "md5crypt")) is type(crypt(password, MD5)) is type(crypt(password)) is str
+        for stored in MD5, MD5.encode():
+            assert type(verify_and_update(password, stored).new) is str
 
 
 def test_needs_rehash():

@@ -11,8 +11,8 @@ The C library of mkpasswd, whose calls are proved, does the hashing. It knows th
 a stored hash that would take minutes is refused at once. What a call may cost by default, DEFAULT_BUDGET, is 150,000,000:
 on one core of 2.5 GHz one second of sha512crypt, two of sha256crypt, or 0.2 of scrypt.
 
-A password or a stored hash is bytes, or a str, which is encoded as UTF-8. A password that has a zero byte or a lone
-surrogate, or more than 1,024 bytes, raises ValueError. No exception has the password in it.
+A password or a stored hash is bytes, or a str, which is encoded as UTF-8. A new hash is always a str. A password that has
+a zero byte or a lone surrogate, or more than 1,024 bytes, raises ValueError. No exception has the password in it.
 
 Any number of threads may call at once. Other threads run while a hash is made.
 """
@@ -66,7 +66,7 @@ _SURROGATE = re.compile(b"\xed[\xa0-\xbf]")
 
 
 class Refused(ValueError):
-    """The stored hash is not one of these methods or has no valid setting, or a method or its cost does not exist.
+    """A stored hash without one of these methods or a valid setting, an unknown method, or rounds that scrypt does not take.
 
     `reason` is a Reason.
     """
@@ -76,7 +76,8 @@ class Refused(ValueError):
         self.reason = reason
 
     def __str__(self) -> str:
-        return self.reason.words
+        # The library's message is "cost", which is here the argument `rounds`.
+        return "rounds must be 6 to 11, or 0 for 7" if self.reason is Reason.COST else self.reason.words
 
 
 class TooCostly(Refused):
@@ -116,7 +117,7 @@ class Work(NamedTuple):
 def hash(
     password: Text, method: str = "sha512crypt", *, rounds: Optional[int] = None, budget: float = DEFAULT_BUDGET
 ) -> str:
-    """Hash a new password, with a salt from the system.
+    """Hash a new password, with a salt from the system. The result is a str, also for a password of bytes.
 
     `method` is "sha512crypt", "sha256crypt", "scrypt" or "md5crypt". `rounds` is the number of rounds of SHA-crypt, 1000
     to 999999999; for scrypt it is 6 to 11, for N = 2^(rounds + 7), r = 32 and p = 1. None and 0 stand for the method's
@@ -126,7 +127,7 @@ def hash(
     True
 
     Raises TooCostly if the hash costs more than the budget, so that what is made passes verify() with the same budget;
-    ValueError for other rounds of SHA-crypt, and TypeError for a bool; Refused for an unknown method or a cost that scrypt
+    ValueError for other rounds of SHA-crypt, and TypeError for a bool; Refused for an unknown method or rounds that scrypt
     does not take; OSError if the system has no random bytes; MemoryError.
     """
     return _new(_password(password), _method(method, rounds), _limit(budget))
