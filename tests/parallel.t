@@ -190,10 +190,15 @@ with_parallel 'one run over the whole input' => sub {
 with_parallel 'arguments' => sub {
     my ($fifty, $own) = (lines_of(50, 'userN:passwordN'), [qw(--jobs 4 --block-lines 1)]);
     same(@$_[0, 1], $fifty, $own, @$_[2 .. $#$_]) for
-        ['an unknown option', 2, qw(--batch -Q)], ['a wrong salt', 2, qw(--batch -m md5crypt -S a-b)],
+        ['a wrong number', 2, qw(--batch -R few)], ['a wrong salt', 2, qw(--batch -m md5crypt -S a-b)],
         ['an argument with quotes', 2, '--batch', '-m', "it's {} {#} \$HOME", '-S', 'ab'], ['two modes', 2, qw(--batch --check)],
         ['the list of methods', 0, qw(--batch -m help)], ['the version', 0, qw(--check --version)],
         ['the version alone', 0, '--version'], ['the version by its letter', 0, '-V'];
+    for (['-Q'], ['--block-line', 4], ['--resume=4']) {
+        my @words = ('--batch', @$_);
+        is_run(spread({ stdin => $fifty }, '--program', program(), @words), 2, '', run(program(), @words)->{err}
+            . "mkpasswd-parallel: its own options are in 'mkpasswd-parallel --help'; all others are mkpasswd's\n", "an unknown option: @$_");
+    }
     my $no_mode = "--batch or --check is wanted among mkpasswd's words; --help tells more";
     my $false = run(qw(sh -c), 'command -v false')->{out} =~ s/\n//r;
     for (
@@ -205,6 +210,9 @@ with_parallel 'arguments' => sub {
         ['no line to resume from', 2, '--resume-from wants a value', '--resume-from=', '--batch'],
         ['no login', 2, '--sshlogin wants a value', qw(--batch --sshlogin)],
         (map { ["'$_' for the number of jobs", 2, "no option '$_': --jobs N is the number of processes", $_, '--batch'] } qw(-j -j2 --job)),
+        (map { my ($name, $value) = @$_; ["--$name twice", 2, "--$name is given twice", "--$name", $value, "--$name=$value", '--batch'] }
+            ['jobs', 2], ['block-lines', 2], ['resume-from', 2], ['program', program()]),
+        ['--progress twice', 2, '--progress is given twice', qw(--progress --batch --progress)],
         ['no program', 3, "$scratch/none: No such file or directory", '--program', "$scratch/none", '--batch'],
         ['another program', 3, "$false can't be run: status 1 with these words and no line", '--program', $false, '--batch'],
     ) {
