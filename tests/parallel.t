@@ -587,8 +587,9 @@ with_parallel 'killed runs of the program' => sub {
         my ($out, $err) = (slurp("$scratch/out"), mkpasswds());
         like($err, qr/^mkpasswd-parallel: (?:lines? \d+(?: to \d+)?|after line \d+): killed by signal 9; /m, "$name: lines are named");
         if ($name eq 'SIGTERM') { resumes($name, $slow_lines, $out, $err, @slow) }
-        elsif ($err =~ s/^mkpasswd-parallel: (.*)answered up to line (\d+) or more(?:, except those named)?; .*\n\z//m) {
-            my ($message, $last) = ($1, $2);
+        elsif ($err =~ s/^mkpasswd-parallel: (.*)answered up to line (\d+) or more(.*); --.*\n\z//m) {
+            my ($message, $last, $except) = ($1, $2, $3);
+            is($except, named($message) ? ', except those named' : '', "$name: lines that are named are not answered");
             my $counted = ($out . $err) =~ tr/\n// + sum(map { $_->[1] - $_->[0] + 1 } named($message));
             cmp_ok($counted, '>=', $last, "$name: the line that it tells is no later than the last one");
             accounts($name, $slow_lines, $message, $counted, $out, $err, @slow);
