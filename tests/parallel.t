@@ -11,6 +11,7 @@ use lib "$Bin/lib";
 use IO::Socket::INET;
 use List::Util qw(sum);
 use Suite;
+use Texts ();
 use Time::HiRes qw(sleep time);
 
 my $script = "$root/bin/mkpasswd-parallel";
@@ -190,10 +191,15 @@ with_parallel 'one run over the whole input' => sub {
 with_parallel 'arguments' => sub {
     my ($fifty, $own) = (lines_of(50, 'userN:passwordN'), [qw(--jobs 4 --block-lines 1)]);
     same(@$_[0, 1], $fifty, $own, @$_[2 .. $#$_]) for
-        ['an unknown option', 2, qw(--batch -Q)], ['a wrong salt', 2, qw(--batch -m md5crypt -S a-b)],
+        ['a wrong number', 2, qw(--batch -R few)], ['a wrong salt', 2, qw(--batch -m md5crypt -S a-b)],
         ['an argument with quotes', 2, '--batch', '-m', "it's {} {#} \$HOME", '-S', 'ab'], ['two modes', 2, qw(--batch --check)],
         ['the list of methods', 0, qw(--batch -m help)], ['the version', 0, qw(--check --version)],
         ['the version alone', 0, '--version'], ['the version by its letter', 0, '-V'];
+    for (['-Q'], ['--block-line', 4], ['--resume=4']) {
+        my @words = ('--batch', @$_);
+        is_run(spread({ stdin => $fifty }, '--program', program(), @words), 2, '', run(program(), @words)->{err}
+            . "mkpasswd-parallel: its own options are in 'mkpasswd-parallel --help'; all others are mkpasswd's\n", "an unknown option: @$_");
+    }
     my $no_mode = "--batch or --check is wanted among mkpasswd's words; --help tells more";
     my $false = run(qw(sh -c), 'command -v false')->{out} =~ s/\n//r;
     for (
@@ -205,17 +211,24 @@ with_parallel 'arguments' => sub {
         ['no line to resume from', 2, '--resume-from wants a value', '--resume-from=', '--batch'],
         ['no login', 2, '--sshlogin wants a value', qw(--batch --sshlogin)],
         (map { ["'$_' for the number of jobs", 2, "no option '$_': --jobs N is the number of processes", $_, '--batch'] } qw(-j -j2 --job)),
+        (map { my ($name, $value) = @$_; ["--$name twice", 2, "--$name is given twice", "--$name", $value, "--$name=$value", '--batch'] }
+            ['jobs', 2], ['block-lines', 2], ['resume-from', 2], ['program', program()]),
+        ['--progress twice', 2, '--progress is given twice', qw(--progress --batch --progress)],
         ['no program', 3, "$scratch/none: No such file or directory", '--program', "$scratch/none", '--batch'],
         ['another program', 3, "$false can't be run: status 1 with these words and no line", '--program', $false, '--batch'],
     ) {
         my ($name, $status, $text, @words) = @$_;
         is_run(spread({ stdin => $fifty }, @words), $status, '', "mkpasswd-parallel: $text\n", $name);
     }
+    spew("$scratch/broken", "#!/bin/sh\necho words\necho broken >&2\nkill -KILL \$\$\n");
+    chmod 0755, "$scratch/broken";
+    is_run(spread({}, '--program', "$scratch/broken", '--batch'), 3, "words\n",
+        "broken\nmkpasswd-parallel: $scratch/broken can't be run: killed by signal 9 with these words and no line\n", 'a program that is killed');
     is_run(spread({}, '--program', program(), '--batch', $script), 2, '',
         "mkpasswd: two modes\nmkpasswd-parallel: the lines are read from standard input, as in: < users\n", 'a file among the words');
     for (["$scratch/none", 'No such file or directory', 'a missing TMPDIR'], [$script, 'Not a directory', 'a file as TMPDIR']) {
         is_run(spread({ stdin => $fifty, env => { TMPDIR => $_->[0] } }, '--program', program(), @batch), 3, '',
-            "mkpasswd-parallel: no temporary folder in $_->[0]: $_->[1]\n", $_->[2]);
+            "mkpasswd-parallel: no temporary folder in $_->[0]: $_->[1]; set TMPDIR to another folder\n", $_->[2]);
     }
     my $help = spread({}, '--help');
     like("$help->{status}$help->{err}$help->{out}", qr/^0Usage: mkpasswd-parallel /, 'help');
@@ -235,7 +248,7 @@ subtest 'another parallel' => sub {
     $parallel->('exit 1');
     $try->("$scratch/bin:$ENV{PATH}", "$wanted; the one there is another", 'another parallel');
     $parallel->('[ "$1" != --version ] || exec echo GNU parallel 1; exit 255');
-    $try->("$scratch/bin:$ENV{PATH}", 'GNU parallel ended with status 255; answered up to line 0; --resume-from 1 takes the rest', 'GNU parallel that fails');
+    $try->("$scratch/bin:$ENV{PATH}", 'GNU parallel: status 255; answered up to line 0; --resume-from 1 takes the rest', 'GNU parallel that fails');
     # One that hands on the answers of a block, and not its refusals. Whose answers these are can't be known.
     $parallel->('[ "$1" != --version ] || exec echo GNU parallel 1
 printf "mkpasswd-parallel begins 1\nfirst:a\nthird:b\nmkpasswd-parallel ends 1\n"; exec cat > /dev/null');
@@ -254,7 +267,7 @@ with_parallel 'blocks that fail' => sub {
         accounts($name, $lines, $message, $lines =~ tr/\n//, $run->{out}, '', @batch);
     };
     $fails->('parts of blocks', fates(qw(fine status refuses killed lost few status fine)), "mkpasswd: out of memory\nmkpasswd: salt length\n",
-        'lines 24 to 40: status 3; lines 44 to 60: status 2; lines 64 to 80: status 137; lines 81 to 100: killed or lost; '
+        'lines 24 to 40: status 3; lines 44 to 60: status 2; lines 64 to 80: killed by signal 9; lines 81 to 100: killed or lost; '
             . 'lines 104 to 120: no answer; lines 124 to 140: status 3');
     $fails->('neighbours', fates(qw(fine none none most fine most none all fine)), '',
         'lines 21 to 60: status 3; line 80: status 3; lines 120 to 140: status 3; after line 160: status 3');
@@ -262,6 +275,29 @@ with_parallel 'blocks that fail' => sub {
     my $hashed = run({ stdin => $lines }, program(), @batch)->{out};
     is_run(spread({ stdin => $lines }, @own, qw(--sshlogin :), @batch), 0, $hashed, '', 'a block that is lost is tried again');
     ok(unlink($tried), 'it was lost once');
+};
+
+# The manual shows a run, its last message, and the commands that answer the lines that are named. These are run as they are.
+with_parallel 'the repair in the manual' => sub {
+    my $manual = Texts::shown(slurp("$root/man/mkpasswd-parallel.1") =~ /^\.Ss Parts that fail\n(.*?)^\.S/ms);
+    my ($words) = $manual =~ /^\.Dl mkpasswd-parallel (--batch .*) < users > hashes 2> refused$/m;
+    my ($message) = $manual =~ /^\.Dl mkpasswd-parallel: (.*)$/m;
+    my ($repair) = $manual =~ /^\.Bd -literal.*?\n(.*?)^\.Ed$/ms;
+    my @wanted = map { "head -n $_->[1] users | mkpasswd-parallel --resume-from $_->[0] \\\n    $words >> hashes 2>> refused\n" } named($message);
+    is($repair, join('', @wanted), 'a run for each range, with the options of the first run');
+    my $folder = "$scratch/manual";
+    mkdir $_ for $folder, "$folder/bin";
+    symlink program(), "$folder/bin/mkpasswd";
+    symlink $script, "$folder/bin/mkpasswd-parallel";
+    spew("$folder/users", join '', map { $_ == 456 ? ":x\n" : "user$_:password$_\n" } 1 .. 500);
+    spew("$folder/$_", "$_ of others\n") for qw(hashes refused);
+    run({ dir => $folder, env => { %env, PATH => "$folder/bin:$ENV{PATH}" } }, 'sh', '-c', $repair);
+    is(slurp("$folder/refused"), "refused of others\nmkpasswd: line 456: no name\n", 'the refusal has its number');
+    my ($rounds) = $words =~ /-R (\d+)/;
+    my %hashes = map { /^user(\d+):(.*)\z/ ? ($1 => $2) : () } split /\n/, slurp("$folder/hashes");
+    my @hashed = grep { $hashes{$_} =~ /^\$6\$rounds=$rounds\$/ && crypt("password$_", $hashes{$_}) eq $hashes{$_} } sort { $a <=> $b } keys %hashes;
+    is_deeply(\@hashed, [grep { $_ != 456 } map { $_->[0] .. $_->[1] } named($message)], 'each other line has its hash');
+    like(slurp("$folder/hashes"), qr/\Ahashes of others\n/, 'the other hashes are still there');
 };
 
 with_parallel 'devices' => sub {
@@ -301,8 +337,9 @@ with_parallel 'full disks' => sub {
         for my $free (0, 4096, 16384) {
             my ($full, $seconds) = run_in_full($free, $lines, '"$@"', { TMPDIR => $tried }, @own, @batch);
             is($full->{status}, 3, "\$TMPDIR with $free bytes: status");
-            like($full->{err}, qr/Is the disk full\?\n(?:.*\n)*mkpasswd-parallel: .*answered up to line \d+; |no temporary folder/,
+            like($full->{err}, qr/^mkpasswd-parallel: no (?:temporary folder|room) in \Q$tried\E: .*set TMPDIR to another folder/m,
                 "\$TMPDIR with $free bytes: it is told");
+            unlike($full->{err}, qr/--tmpdir/, "\$TMPDIR with $free bytes: no option of GNU parallel is told");
             is($full->{out}, substr($whole, 0, length $full->{out}), "\$TMPDIR with $free bytes: no other answers");
             cmp_ok($seconds, '<', 5, "\$TMPDIR with $free bytes: within 5 seconds");
         }
@@ -404,9 +441,10 @@ my $slow_lines = join '', map { $_ % 17 ? "user$_:password$_\n" : "no colon\n" }
 # the rest is taken up from there. Returns the line, and what it told.
 sub resumes {
     my ($name, $lines, $out, $err, @words) = @_;
-    ok($err =~ s/^mkpasswd-parallel: (.*)answered up to line (\d+); --resume-from (\d+) takes the rest\n\z//m, "$name: it tells the line") or return diag($err);
-    my ($message, $last, $next) = ($1, $2, $3);
+    ok($err =~ s/^mkpasswd-parallel: (.*)answered up to line (\d+)(.*); --resume-from (\d+) takes the rest\n\z//m, "$name: it tells the line") or return diag($err);
+    my ($message, $last, $except, $next) = ($1, $2, $3, $4);
     is($next, $last + 1, "$name: the line to resume from");
+    is($except, named($message) ? ', except those named' : '', "$name: lines that are named are not answered");
     is_deeply([grep { $_->[1] >= $last } named($message)], [], "$name: no line of the next run is named");
     accounts($name, $lines, $message, $last, $out, $err, @words);
     my $rest = spread({ stdin => $lines }, '--program', program(), qw(--jobs 3), "--resume-from=$next", @words);
@@ -437,6 +475,32 @@ with_parallel 'signals' => sub {
     my ($status) = end('TERM', $child);
     is("$status " . slurp("$scratch/err"), "143 mkpasswd-parallel: SIGTERM; answered up to line 4; --resume-from 5 takes the rest\n", 'SIGTERM before the first block');
     kill 'KILL', slurp($tried) =~ /(\d+)/;
+    unlink $tried;
+};
+
+# A run that is ended names the lines of failed blocks before its last answer, and says why later ones failed.
+with_parallel 'failed blocks of a run that is ended' => sub {
+    for (
+        [23, 23, 'later lines: killed by signal 9; SIGTERM; answered up to line 23', qw(fine killed waits)],
+        [40, 60, 'lines 21 to 40: status 3; SIGTERM; answered up to line 60, except those named', qw(fine none fine waits)],
+        [40, 40, 'after line 40: status 3; SIGTERM; answered up to line 40', qw(fine all waits)],
+    ) {
+        my ($answers, $last, $message, @fates) = @$_;
+        my $child = begin(fates(@fates), "$scratch/out", '--program', "$scratch/stand_in", qw(--jobs 1 --block-lines 20), @batch);
+        wait_for(sub { -s $tried && slurp("$scratch/out") =~ tr/\n// == $answers });
+        sleep 0.2;
+        my ($status) = end('TERM', $child);
+        is("$status " . mkpasswds(), "143 mkpasswd-parallel: $message; --resume-from @{[$last + 1]} takes the rest\n", "@fates");
+        unlink $tried, "$scratch/out";
+    }
+};
+
+# So a shell script starts a background command: it ignores SIGINT, and is ended by SIGTERM.
+with_parallel 'a command in the background' => sub {
+    spew("$scratch/input", fates('waits'));
+    my $text = '"$@" < "$0" > /dev/null & while [ ! -s "$TRIED" ]; do sleep 0.1; done; kill -s INT $!; sleep 1; kill -s TERM $!; wait $!; echo $?';
+    my $run = run({ env => \%env }, 'sh', '-c', $text, "$scratch/input", $script, '--program', "$scratch/stand_in", @batch);
+    like("$run->{out}$run->{err}", qr/\A143\nmkpasswd-parallel: SIGTERM; answered up to line/, 'SIGTERM ends it, and SIGINT did not');
     unlink $tried;
 };
 
@@ -484,7 +548,7 @@ with_parallel 'killed processes' => sub {
     my %told = (
         'the script' => [137, qr/the process that reads was killed; answered up/],
         'the process that prints' => [3, qr/the process that prints was killed; answered up to line \d+ or more; --resume-from \d+ or later takes the rest$/],
-        'GNU parallel' => [3, qr/GNU parallel ended with signal 9; answered up/],
+        'GNU parallel' => [3, qr/GNU parallel: killed by signal 9; answered up/],
         'GNU parallel by SIGHUP' => [3, qr/GNU parallel got a signal; answered up/, 'HUP'],
     );
     for my $name (sort keys %told) {
@@ -521,10 +585,11 @@ with_parallel 'killed runs of the program' => sub {
         my ($status) = $name eq 'SIGTERM' ? end('TERM', $child) : end('KILL', $child, $printing->[0]);
         is($status, $name eq 'SIGTERM' ? 143 : 3, "$name: status");
         my ($out, $err) = (slurp("$scratch/out"), mkpasswds());
-        like($err, qr/^mkpasswd-parallel: (?:lines? \d+(?: to \d+)?|after line \d+): status 137; /m, "$name: lines are named");
+        like($err, qr/^mkpasswd-parallel: (?:lines? \d+(?: to \d+)?|after line \d+): killed by signal 9; /m, "$name: lines are named");
         if ($name eq 'SIGTERM') { resumes($name, $slow_lines, $out, $err, @slow) }
-        elsif ($err =~ s/^mkpasswd-parallel: (.*)answered up to line (\d+) or more; .*\n\z//m) {
-            my ($message, $last) = ($1, $2);
+        elsif ($err =~ s/^mkpasswd-parallel: (.*)answered up to line (\d+) or more(.*); --.*\n\z//m) {
+            my ($message, $last, $except) = ($1, $2, $3);
+            is($except, named($message) ? ', except those named' : '', "$name: lines that are named are not answered");
             my $counted = ($out . $err) =~ tr/\n// + sum(map { $_->[1] - $_->[0] + 1 } named($message));
             cmp_ok($counted, '>=', $last, "$name: the line that it tells is no later than the last one");
             accounts($name, $slow_lines, $message, $counted, $out, $err, @slow);
@@ -552,7 +617,7 @@ with_parallel 'a program that goes' => sub {
     my $run = spread({ stdin => $lines }, '--program', "$scratch/goes", qw(--jobs 1 --block-lines 20), @batch);
     $run->{err} =~ s/^.*not found\n//m;
     is($run->{status}, 3, 'status');
-    like($run->{err}, qr/^mkpasswd-parallel: no answer; status 127; answered up to line 23; --resume-from 24 takes the rest\n\z/, 'it is told');
+    like($run->{err}, qr/^mkpasswd-parallel: later lines: no answer; later lines: status 127; answered up to line 23; --resume-from 24 takes the rest\n\z/, 'it is told');
     cmp_ok(time - $begun, '<', 15, 'within 15 seconds');
 };
 
