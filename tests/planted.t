@@ -121,7 +121,7 @@ sub tried {
     my (%run, $missing);
     for (@sees) {
         my ($test, $name) = @$_;
-        my $run = $run{$test} //= run({ env => { T_ONLY => $only, HARNESS_ACTIVE => undef }, timeout => 300 }, $^X, "$copy/tests/$test");
+        my $run = $run{$test} //= run({ env => { T_ONLY => $only, HARNESS_ACTIVE => undef }, timeout => 1500 }, $^X, "$copy/tests/$test");
         my $escaped = $name =~ s/#/\\#/gr;
         next if $run->{out} =~ /^ *not ok \d+ - \Q$escaped\E$/m && $run->{status};
         # Where a tool is missing, the test is skipped.
