@@ -94,7 +94,8 @@ def test_refused_methods_by_name():
     for method in "bcrypt", "", "SHA512crypt", "md5", "$6$":
         for call in (hash, "x"), (needs_rehash, MD5), (verify_and_update, "x", MD5):
             error = error_of(*call, method)
-            assert (type(error), error.reason, str(error)) == (Refused, Reason.UNKNOWN_METHOD, "unknown method")
+            assert (type(error), error.reason, error.reason.words) == (Refused, Reason.UNKNOWN_METHOD, "unknown method")
+            assert str(error) == "method must be md5crypt, sha256crypt, sha512crypt or scrypt"
     # The library says "cost", and Python names the argument.
     for rounds in 1, 5, 12, 2**32 - 1:
         for call in (hash, "x"), (needs_rehash, MD5), (verify_and_update, "x", MD5):

@@ -58,6 +58,12 @@ _NO_LIMIT = 2**64 - 1
 
 _NUMBERS = {"md5crypt": 1, "sha256crypt": 5, "sha512crypt": 6, "scrypt": 7}
 
+# The library's messages for these, "unknown method" and "cost", name no argument.
+_ARGUMENTS = {
+    Reason.UNKNOWN_METHOD: "method must be %s or %s" % (", ".join(list(_NUMBERS)[:-1]), list(_NUMBERS)[-1]),
+    Reason.COST: "rounds must be 6 to 11, or 0 for 7",
+}
+
 # What a text that is no setting of ours is refused for.
 _NO_SETTING = range(Reason.BAD_SALT.value, Reason.SETTING_TOO_LONG.value + 1)
 
@@ -76,8 +82,7 @@ class Refused(ValueError):
         self.reason = reason
 
     def __str__(self) -> str:
-        # The library's message is "cost", which is here the argument `rounds`.
-        return "rounds must be 6 to 11, or 0 for 7" if self.reason is Reason.COST else self.reason.words
+        return _ARGUMENTS.get(self.reason) or self.reason.words
 
 
 class TooCostly(Refused):
