@@ -268,13 +268,28 @@ subtest 'recipes' => sub {
     is_run($move->(), 0, "ann:ok\n", '', 'a login after the move, with no refusal');
     is_deeply($shadow->(), $after, 'a login after the move changes nothing');
 
-    # The command that runs it waits for a run before it.
+    # A run waits for one before it, and for a check of that one that goes on when it was killed.
     spew("$folder/logins", "ann:password\n");
     spew("$folder/move", $script);
-    my ($flock) = section_of($recipes, 'A site moves to another method') =~ /`(flock [^`]*)`/;
-    is_run(run({ %in, dir => $folder }, 'bash', '-c', "flock move sleep 1 &\nsleep 0.3\n$flock"), 0, "ann:ok\n", '', 'a run that waits for another one');
+    my ($command) = section_of($recipes, 'A site moves to another method') =~ /`(sh move[^`]*)`/;
+    my %slow = $tool->(mkpasswd => <<'END');
+case $* in
+*-m*)
+    echo begins >> order
+    sleep 1
+    "$real" "$@"
+    status=$?
+    echo ends >> order
+    exit $status
+    ;;
+esac
+exec "$real" "$@"
+END
+    my $killed = run({ %in, %slow, dir => $folder }, 'bash', '-c', "sh move &\nsleep 0.5\nkill -KILL \$!\n$command");
+    is($killed->{out}, "ann:ok\n", 'a run after one that was killed');
+    is(slurp("$folder/order"), "begins\nends\n" x 2, 'a run waits for what is left of the one before it');
     spew("$folder/move", "exit 3\n");
-    like(run({ %in, dir => $folder }, 'bash', '-c', $flock)->{out}, qr/^move: /, 'a run that fails says so');
+    like(run({ %in, dir => $folder }, 'bash', '-c', $command)->{out}, qr/^move: /, 'a run that fails says so');
 
     # A run that ends early loses no login; the next one takes them first.
     $reset->();

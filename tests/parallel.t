@@ -317,12 +317,15 @@ with_parallel 'devices' => sub {
     is_deeply([left()], [], 'nothing is left');
 };
 
-# A folder that is full but for some bytes, in which the rest of a shell's command runs.
+# A folder that is full but for some bytes, in which the rest of a shell's command runs. In a chroot the superuser can make no
+# users of its own, and needs none.
+my @as_root = $> == 0 ? () : '--map-root-user';
+
 sub run_in_full {
     my ($free, $stdin, $command, @words) = @_;
     my $mount = 'mount -t tmpfs -o size=64k none "$0" && { head -c "$((65536 - $1))" /dev/zero > "$0/fill"; shift; ' . $command . '; }';
     my $begun = time;
-    my $result = run({ stdin => $stdin, env => { %env, %{ $words[0] } }, timeout => 20 }, qw(unshare --map-root-user --mount sh -c), $mount,
+    my $result = run({ stdin => $stdin, env => { %env, %{ $words[0] } }, timeout => 20 }, 'unshare', @as_root, qw(--mount sh -c), $mount,
         $tried, $free, @words[1 .. $#words]);
     return ($result, time - $begun);
 }
