@@ -285,7 +285,7 @@ case $* in
 esac
 exec "$real" "$@"
 END
-    my $killed = run({ %in, %slow, dir => $folder }, 'bash', '-c', "sh move &\nsleep 0.5\nkill -KILL \$!\n$command");
+    my $killed = run({ %in, %slow, dir => $folder }, 'bash', '-c', "sh move &\nfor i in {1..600}; do [ -s order ] && break; sleep 0.1; done\nkill -KILL \$!\n$command");
     is($killed->{out}, "ann:ok\n", 'a run after one that was killed');
     is(slurp("$folder/order"), "begins\nends\n" x 2, 'a run waits for what is left of the one before it');
     spew("$folder/move", "exit 3\n");
