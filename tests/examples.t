@@ -234,7 +234,7 @@ subtest 'recipes' => sub {
         spew("$system/etc/shadow", join '', map { $before{ $_->[0] } } @accounts);
         return spew("$folder/logins", join '', "more\n", map { my $name = $_; map { "$name:$_\n" } @{ $logins{$name} // ['password'] } } sort keys %before, 'tom');
     };
-    my $script = $recipes[3] =~ s{ (/etc/(?:passwd|shadow))(?= )}{ '$system$1'}gr;
+    my $script = $recipes[3] =~ s{ (/etc/(?:passwd|shadow|\.pwd\.lock))(?= )}{ '$system$1'}gr;
     my $move = sub { run({ %in, dir => $folder, @_ }, 'bash', '-c', $script) };
     my $shadow = sub { my %lines = map { /^(\w+)/ => "$_\n" } split /\n/, slurp("$system/etc/shadow"); return \%lines };
     # A mkpasswd after whose check something happens.
@@ -251,7 +251,10 @@ subtest 'recipes' => sub {
     $ends_early->(1, qr/^\Q$foreign\E\z/, 'a move with the mkpasswd of whois', $tool->(@foreign));
     ok(-e "$folder/logins" || -e "$folder/taken", 'such a move keeps the logins');
     my $told = join '', sort map { my ($name, undef, undef, @told) = @$_; map { "$name:$_\n" } @told } @accounts, ['tom', '', '', 'skipped'];
-    my $moved = $move->($then->("sed -i 's/^kim:/&!/' '$system/etc/shadow'"));
+    # Who locks kim has the lock of the shadow files when the check ends, and for a second more.
+    my $locks = "perl -MFcntl -e 'my \$lock = pack q(s s x4 q q l x4), F_WRLCK, 0, 0, 0, 0; open L, q(>>), shift and fcntl L, F_SETLKW, \$lock or die; sleep 1; system \@ARGV'"
+        . " '$system/etc/.pwd.lock' sed -i 's/^kim:/&!/' '$system/etc/shadow' > /dev/null 2>&1 & sleep 0.5";
+    my $moved = $move->($then->($locks));
     is_run($moved, 0, $told, '', 'a site moves to another method');
     unlike($moved->{out}, qr/more/, 'the move prints no half of a password');
     $has_hash->("$system/etc/shadow", 'ann:', '$6$rounds=656000$', 'password', $today->(), 'the password of ann is hashed anew');
@@ -305,7 +308,7 @@ END
     $unread->('a move that cannot read the fields');
     $unread->('a move that cannot read the fields after the check', $then->($away));
     spew("$folder/logins", "eve:password\n");
-    my $vanished = $move->($tool->(chpasswd => "sed -i /^kim:/d '$system/etc/passwd'\n\$real \"\$@\""));
+    my $vanished = $move->($tool->(chpasswd => "sed -i /^kim:/d '$system/etc/passwd'\nexec \$real \"\$@\""));
     ok($vanished->{status} && $vanished->{err} =~ /'kim' does not exist/, 'a move of an account that chpasswd does not know') or diag(%$vanished);
     is_deeply($shadow->(), \%before, 'a move of such an account changes nothing');
     $users->();
