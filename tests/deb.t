@@ -98,7 +98,7 @@ subtest 'content' => sub {
             ok($packed eq slurp($source), "$package has $name");
         }
     }
-    my ($move) = grep { /^chpasswd -e < new$/m } blocks_of(slurp("$root/docs/RECIPES.md"), 'sh');
+    my ($move) = grep { /^exec chpasswd -e < new"$/m } blocks_of(slurp("$root/docs/RECIPES.md"), 'sh');
     is(slurp("$scratch/content/mkpasswd/usr/share/doc/mkpasswd/examples/move"), $move, 'mkpasswd has the script of the recipe');
     my $libraries = 'libmkpasswd2/usr/lib/x86_64-linux-gnu';
     for (['mkpasswd', 'mkpasswd/usr/bin/mkpasswd'], ['libmkpasswd.so.2', "$libraries/libmkpasswd.so.2"],
