@@ -72,35 +72,35 @@ lib: libmkpasswd.a libmkpasswd.so.2
 define object
 	cd $(1) && ar x libcrypt_c.a crypt_c.o && ar x $$(dirname $$($(RT) doc))/c/liblibc_c.a heap.pic.o
 	ld -r -o $(1)/mkpasswd.o $(1)/crypt_c.o build/new.o $(1)/heap.pic.o
-	sed -n 's/^ *\(mkpasswd_[a-z_]*\);$$/\1/p' libmkpasswd.map > $(1)/calls
+	sed -n 's/^ *\(mkpasswd_[a-z_]*\);$$/\1/p' c/libmkpasswd.map > $(1)/calls
 	objcopy --keep-global-symbols=$(1)/calls $(1)/mkpasswd.o
 endef
 
 # The shared library of an object.
 define shared
-	$(CC) -shared -Wl,-soname,$(@F) -Wl,--version-script=libmkpasswd.map -Wl,--no-undefined-version \
+	$(CC) -shared -Wl,-soname,$(@F) -Wl,--version-script=c/libmkpasswd.map -Wl,--no-undefined-version \
 		-Wl,-z,relro -Wl,-z,now -Wl,-z,defs $(LDFLAGS) -o $@ $(1)
 endef
 
-build/mkpasswd.o: $(SOURCES) build/cpu build/new.o libmkpasswd.map
+build/mkpasswd.o: $(SOURCES) build/cpu build/new.o c/libmkpasswd.map
 	cd crates/crypt_c && ../../tools/progress ../../build/crypt_c.log -- $(RT) lib $(FOR_CPU)
 	cp crates/crypt_c/out/libcrypt_c.a build/libcrypt_c.a
 	$(call object,build)
 
-build/new.o: c/new.c include/mkpasswd.h build/cpu
-	$(CC) -std=c99 -Wall -Wextra -O2 -fPIC -Iinclude -c -o $@ c/new.c
+build/new.o: c/new.c c/mkpasswd.h build/cpu
+	$(CC) -std=c99 -Wall -Wextra -O2 -fPIC -Ic -c -o $@ c/new.c
 
 libmkpasswd.a: build/mkpasswd.o
 	rm -f $@
 	ar rcsD $@ build/mkpasswd.o
 
-libmkpasswd.so.2: build/mkpasswd.o libmkpasswd.map
+libmkpasswd.so.2: build/mkpasswd.o c/libmkpasswd.map
 	$(call shared,build/mkpasswd.o)
 
 # The shared library and the program for other processors, beside the build for CPU.
 hwcaps: hwcaps/x86-64-v3/libmkpasswd.so.2
 
-hwcaps/%/libmkpasswd.so.2: $(SOURCES) build/new.o libmkpasswd.map tools/for-cpu
+hwcaps/%/libmkpasswd.so.2: $(SOURCES) build/new.o c/libmkpasswd.map tools/for-cpu
 	@mkdir -p $(@D)
 	tools/for-cpu $* library build/$*
 	$(call object,build/$*)
@@ -111,16 +111,16 @@ build/%/mkpasswd: $(SOURCES) tools/for-cpu
 
 guard: libmkpasswd-crypt.so
 
-libmkpasswd-crypt.so: guard/crypt.c guard/libmkpasswd-crypt.map include/mkpasswd.h libmkpasswd.a tools/guard
+libmkpasswd-crypt.so: c/guard.c c/libmkpasswd-crypt.map c/mkpasswd.h libmkpasswd.a tools/guard
 	tools/guard $@
 
 # The targets keep what they found in build/fuzz, from where the next run begins.
 FUZZERS := $(patsubst tests/c/fuzz_%.c,build/fuzz/%,$(wildcard tests/c/fuzz_*.c))
 
-build/fuzz/%: tests/c/fuzz_%.c tests/c/fuzz.h guard/crypt.c include/mkpasswd.h libmkpasswd.a
+build/fuzz/%: tests/c/fuzz_%.c tests/c/fuzz.h c/guard.c c/mkpasswd.h libmkpasswd.a
 	@mkdir -p $@.corpus
 	clang -std=gnu11 -Wall -Wextra -Werror -g -O1 -fsanitize=fuzzer,address,undefined -fno-sanitize-recover=all \
-		-Iinclude $< libmkpasswd.a -Wl,--no-as-needed -lcrypt -o $@
+		-Ic $< libmkpasswd.a -Wl,--no-as-needed -lcrypt -o $@
 
 fuzz: $(FUZZERS)
 	for fuzzer in $(FUZZERS); do \

@@ -346,7 +346,7 @@ subtest 'compilers' => sub {
 subtest 'fuzzing' => sub {
     my ($runtime) = run('clang', '-print-runtime-dir')->{out} =~ /(.*)/;
     needs('the runtime of libFuzzer' => 'libclang-rt-14-dev', scalar glob "$runtime/libclang_rt.fuzzer*") or return;
-    my ($options) = slurp("$root/Makefile") =~ /^\tclang (.*?)\s-Iinclude/ms;
+    my ($options) = slurp("$root/Makefile") =~ /^\tclang (.*?)\s-Ic/ms;
     for my $source (glob "$root/tests/c/fuzz_*.c") {
         my ($name) = $source =~ m{(\w+)\.c$};
         my $target = build($name, 'clang', split(/[\s\\]+/, $options), $source, @static, '-lcrypt') or next;
@@ -430,7 +430,7 @@ subtest 'what is installed' => sub {
         my $commands = 'cc() { command "$CC" "$@"; }' . "\n" . readme_block('sh') . 'test -x login';
         is_run(run({ dir => "$scratch/commands", env => \%env }, 'bash', '-euc', $commands), 0, '', '', 'the commands of README.md');
     }
-    for my $path ("$include/mkpasswd.h", glob "$root/*.md $root/tools/*.md $root/docs/*.md $root/examples/* $root/man/* $root/dist/*") {
+    for my $path ("$include/mkpasswd.h", glob "$root/*.md $root/tools/*.md $root/docs/*.md $root/examples/* $root/man/* $root/tools/dist/*") {
         next if $path =~ /CHANGELOG/;
         my @old = slurp($path) =~ /\b(mkpasswd_(?:fits|cost|replaced|refusal)|REFUSED_UNKNOWN_REFUSAL|libmkpasswd\.so\.1)\b/g;
         is("@old", '', 'no old name in ' . ($path =~ s{\Q$root\E/|\Q$installed\E}{}r));

@@ -12,7 +12,7 @@ use Texts;
 my $known = '$1$xxxxxxxx$UYCIxa628.9qXjpQCjM4a.';
 my $version = run("$root/tools/version")->{out} =~ s/\n//r;
 my $cpu = -e "$root/build/cpu" && slurp("$root/build/cpu") =~ /(\S+)/ ? $1 : 'x86-64-v2';
-my @files = split /\n/, slurp("$root/dist/files");
+my @files = split /\n/, slurp("$root/tools/dist/files");
 my ($library) = map { m{lib/(libmkpasswd\.so\.\d+)} } @files;
 my $name = "mkpasswd-$version-x86_64-linux";
 my ($archive, $second) = map { "$scratch/$_/$name.tar.gz" } qw(first second);

@@ -1,7 +1,7 @@
 #!/usr/bin/env perl
 # Tests libmkpasswd-crypt.so, the guard in front of crypt(3): programs and services get the same answers with it and without,
 # but for what docs/DECISIONS.md lists; a setting of any scheme that costs too much is refused at once; what its
-# configuration, its log and its refusals are; and that no line of guard/crypt.c is left out. tests/c/guard.c makes the calls.
+# configuration, its log and its refusals are; and that no line of c/guard.c is left out. tests/c/guard.c makes the calls.
 use strict;
 use warnings;
 use FindBin qw($Bin);
@@ -16,7 +16,7 @@ use Time::HiRes qw(sleep time);
 
 $ENV{PATH} .= ':/usr/sbin:/sbin';
 my $is_root = $> == 0;
-my ($budget) = slurp("$root/include/mkpasswd.h") =~ /define MKPASSWD_BUDGET \(\(uint64_t\)(\d+)\)/;
+my ($budget) = slurp("$root/c/mkpasswd.h") =~ /define MKPASSWD_BUDGET \(\(uint64_t\)(\d+)\)/;
 my $seed = $ENV{SEED} || time ^ $$;
 my @alphabet = ('.', '/', 0 .. 9, 'A' .. 'Z', 'a' .. 'z');
 my %value;
@@ -94,7 +94,7 @@ sub are_alike {
 }
 
 subtest 'what the library has' => sub {
-    cmp_ok(slurp("$root/guard/crypt.c") =~ tr/\n//, '<=', 250, 'crypt.c has at most 250 lines');
+    cmp_ok(slurp("$root/c/guard.c") =~ tr/\n//, '<=', 250, 'crypt.c has at most 250 lines');
     needs(objdump => 'binutils') or return;
     my ($symbols, $parts) = map { run('objdump', $_, $guard)->{out} } '-T', '-p';
     my @exported = $symbols =~ /^[0-9a-f]{16} (?!.*\*(?:UND|ABS)\*).*\s(\S+\s+\S+)$/mg;
@@ -255,14 +255,14 @@ subtest 'the configuration' => sub {
         is_deeply([map { $_->[0] } @got], ['*0', $hash{sha512crypt}], "$name: the defaults");
         is_deeply([map { /(?:\Q$path\E )(.*), so/ } logged()], [$fault || ()], "$name: what the log has");
     }
-    is(slurp("$root/guard/crypt.c") =~ m{"(/etc/[^"]*)"} && $1, '/etc/mkpasswd/guard.conf', 'where it is');
+    is(slurp("$root/c/guard.c") =~ m{"(/etc/[^"]*)"} && $1, '/etc/mkpasswd/guard.conf', 'where it is');
     needs(setpriv => 'util-linux') or return;
     my $path = configured($loose, '600');
     my @nobody = qw(setpriv --reuid=65534 --regid=65534 --clear-groups);
     my $run = run({ env => env_of(1, configuration => $path), stdin => row('secret', '$md5$abcdefgh') . "\n" }, @nobody, $driver);
     like($run->{out}, qr/^ 2a30 /, 'another user, who may not read it: the defaults');
     # Linked with the guard, a program whose file has set-user-ID and another owner has no variable for tests.
-    my $own = built("$scratch/guard/setuid", $cc, qw(-std=gnu11 -O1 -pthread), "-I$root/include", "$root/tests/c/guard.c", "$root/guard/crypt.c",
+    my $own = built("$scratch/guard/setuid", $cc, qw(-std=gnu11 -O1 -pthread), "-I$root/c", "$root/tests/c/guard.c", "$root/c/guard.c",
         "$root/libmkpasswd.a", '-Wl,--no-as-needed', '-lcrypt', '-o', "$scratch/guard/setuid");
     $path = configured("allow sunmd5\n");
     for (0, 1) {
@@ -346,7 +346,7 @@ subtest 'known answers of libxcrypt' => sub {
     }
 };
 
-# Rows that lead everywhere in guard/crypt.c.
+# Rows that lead everywhere in c/guard.c.
 sub all_rows {
     my @more = map { [split] } 'crypt_rn 0', 'crypt_rn 1', 'crypt_rn 2', 'crypt_r 0', 'crypt_r 100';
     return map { my $call = $_; map { row('secret', $_, @$call) } values %setting, values %hash, @no_settings, @hostile } @calls, @more;
@@ -360,7 +360,7 @@ subtest 'sanitizers' => sub {
     for my $compiler (qw(gcc clang)) {
         needs($compiler => $compiler) or next;
         my $path = built("$scratch/guard/sanitized-$compiler", $compiler, qw(-std=gnu11 -g -O1 -DSANITIZED -pthread -fno-delete-null-pointer-checks),
-            @sanitize, "-I$root/include", "$root/tests/c/guard.c", "$root/guard/crypt.c", @libraries, '-o', "$scratch/guard/sanitized-$compiler");
+            @sanitize, "-I$root/c", "$root/tests/c/guard.c", "$root/c/guard.c", @libraries, '-o', "$scratch/guard/sanitized-$compiler");
         my @got = answers(1, { driver => $path }, @rows);
         is(@got, @rows, "$compiler: no complaint") or diag($got[-1][0]);
         ok($known eq join("\n", map { join ' ', map { $_ // 'null' } @$_[0, 2] } @got), "$compiler: the same answers");
@@ -369,7 +369,7 @@ subtest 'sanitizers' => sub {
     }
     needs(clang => 'clang') or return;
     my $fuzzer = built("$scratch/guard/fuzzer", 'clang', qw(-std=gnu11 -Wall -Wextra -Werror -g -O1 -fsanitize=fuzzer), @sanitize,
-        "-I$root/include", "$root/tests/c/fuzz_guard.c", @libraries, '-o', "$scratch/guard/fuzzer");
+        "-I$root/c", "$root/tests/c/fuzz_guard.c", @libraries, '-o', "$scratch/guard/fuzzer");
     my $run = run({ dir => $scratch, timeout => 100 }, $fuzzer, qw(-runs=20000 -max_total_time=20 -max_len=600 -timeout=20));
     is($run->{status}, 0, 'the fuzzer finds nothing') or diag(substr $run->{err}, -3000);
 };

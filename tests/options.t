@@ -11,7 +11,7 @@ use Texts;
 
 my $readme = slurp("$root/README.md");
 my $manual = slurp("$root/man/mkpasswd.1");
-my $header = slurp("$root/include/mkpasswd.h");
+my $header = slurp("$root/c/mkpasswd.h");
 my $help = run(program(), '--help')->{out};
 
 # Tests that a text has the wanted options, one by one, and no other ones.

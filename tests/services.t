@@ -314,7 +314,7 @@ subtest 'pam_mkpasswd' => sub {
     my ($title, $source, $libs) = ('A PAM module of your own', "$root/examples/pam_mkpasswd.c", '/usr/lib/x86_64-linux-gnu');
     my ($installed, $file) = ("$scratch/installed", '/etc/example.passwords');
     cmp_ok(slurp($source) =~ tr/\n//, '<=', 150, 'pam_mkpasswd: lines');
-    is_run(run(qw(cc -std=c99 -Wall -Wextra -Werror -pedantic -O2 -c -o), "$scratch/strict.o", "-I$root/include", $source),
+    is_run(run(qw(cc -std=c99 -Wall -Wextra -Werror -pedantic -O2 -c -o), "$scratch/strict.o", "-I$root/c", $source),
         0, '', '', 'pam_mkpasswd: the compiler has nothing to say');
     is(run({ env => { DESTDIR => $installed, PREFIX => '/usr', LIBDIR => $libs } }, "$root/tools/install")->{status}, 0, 'it is installed');
     local $in{env} = { %{ $in{env} }, PKG_CONFIG_SYSROOT_DIR => $installed, PKG_CONFIG_LIBDIR => "$installed$libs/pkgconfig",

@@ -8,7 +8,7 @@ static void write_nothing(int priority, const char *format, ...)
     (void)format;
 }
 #define syslog write_nothing
-#include "../../guard/crypt.c"
+#include "../../c/guard.c"
 
 #define MUST(holds) ((holds) ? (void)0 : __builtin_trap())
 

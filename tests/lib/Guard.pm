@@ -1,6 +1,6 @@
 package Guard;
 
-# What tests/guard.t takes: the guard, built of guard/; rows of calls with it and without, by tests/c/guard.c; and services on
+# What tests/guard.t takes: the guard, built of c/guard.c; rows of calls with it and without, by tests/c/guard.c; and services on
 # the loopback which check passwords by crypt(3), each with a way to ask it.
 
 use strict;

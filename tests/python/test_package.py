@@ -21,7 +21,7 @@ ELSEWHERE = {name: value for name, value in os.environ.items() if name not in ("
 
 
 def test_numbers_are_the_headers():
-    header = (ROOT / "include/mkpasswd.h").read_text()
+    header = (ROOT / "c/mkpasswd.h").read_text()
     defined = dict(re.findall(r"^#define MKPASSWD_(\w+) \(*(?:uint64_t\))?(-?\d+)\)?", header, re.M))
     assert int(defined["TEXT_SIZE"]) == _library.TEXT_SIZE
     assert int(defined["PASSWORD_LIMIT"]) == _library.PASSWORD_LIMIT

@@ -1,4 +1,4 @@
-"""The C library and its calls, as include/mkpasswd.h declares them.
+"""The C library and its calls, as mkpasswd.h declares them.
 
 `CDLL` releases the interpreter's lock while a call runs. A call keeps no pointer and has no state, so any number of
 threads may call at once.
