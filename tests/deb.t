@@ -98,8 +98,6 @@ subtest 'content' => sub {
             ok($packed eq slurp($source), "$package has $name");
         }
     }
-    my ($move) = grep { /^exec chpasswd -e < new"$/m } blocks_of(slurp("$root/docs/RECIPES.md"), 'sh');
-    is(slurp("$scratch/content/mkpasswd/usr/share/doc/mkpasswd/examples/move"), $move, 'mkpasswd has the script of the recipe');
     my $libraries = 'libmkpasswd2/usr/lib/x86_64-linux-gnu';
     for (['mkpasswd', 'mkpasswd/usr/bin/mkpasswd'], ['libmkpasswd.so.2', "$libraries/libmkpasswd.so.2"],
         [$newer, "$libraries/glibc-hwcaps/x86-64-v3/libmkpasswd.so.2"]) {

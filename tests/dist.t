@@ -74,8 +74,6 @@ subtest 'documents' => sub {
         my ($source) = grep { -e } "$root/docs/$name", "$root/$name";
         is(slurp("$documents/$name"), slurp($source), "$name is that of the tree");
     }
-    my ($recipe) = grep { /^exec chpasswd -e < new"$/m } blocks_of(slurp("$root/docs/RECIPES.md"), 'sh');
-    is(slurp("$documents/examples/move"), $recipe, 'move is the script of the recipe');
     my @said = section_of(slurp("$root/man/mkpasswd.1"), 'FILES') =~ /^\.It Pa (\S+)/mg;
     is_deeply([grep { !-e "$documents/$_" } @said], [], 'what mkpasswd.1 names is there');
     is_deeply([sort grep { /md\z/ } @said], [grep { $_ ne 'PYTHON.md' } @names], 'mkpasswd.1 names the documents');

@@ -1,10 +1,9 @@
 #!/usr/bin/env perl
 # Services of Debian take the hashes of each method that they take, and refuse every other password; and installers and
-# tools take the lines that docs/RECIPES.md has for them.
+# tools take the lines that the documents have for them.
 #
-# The blocks of that document are run as they stand, with the paths that they name: the test runs in namespaces, where /etc
-# and other folders are copies of its own (Services.pm). What a recipe leaves out, such as the port of a service, is here.
-# Blocks in the language "sh" are run by examples.t, those in "bash" and in languages of configurations here alone.
+# The marked blocks of the documents are run as they stand, with the paths that they name: the test runs in namespaces, where
+# /etc and other folders are copies of its own (Services.pm). What a recipe leaves out, such as the port of a service, is here.
 use strict;
 use warnings;
 use FindBin qw($Bin);
@@ -40,7 +39,6 @@ my %user = (md5crypt => 'one', sha256crypt => 'five', sha512crypt => 'six', scry
 my %cost = (md5crypt => 0, sha256crypt => 1000, sha512crypt => 1000, scrypt => 6);
 my %password = map { $_ => "pass word:$_" } values %user;
 
-my $recipes = slurp("$root/docs/RECIPES.md");
 my %in = (dir => "$scratch/recipes", env => { PATH => "$root:$ENV{PATH}", BASH_ENV => undef, HOME => $scratch });
 mkdir $_ for $in{dir}, '/run/www';
 spew('/run/www/index.html', "in\n");
@@ -56,37 +54,19 @@ sub lines_of {
 my $of_methods = join '', map { lines_of($_) } sort keys %cost;
 my ($field) = $of_methods =~ /^six:(.*)/m;
 
-# The blocks of a chapter, without those of chapters in it.
-sub blocks_under {
-    my ($title, $language) = @_;
-    return blocks_of(section_of($recipes, $title) =~ s/^#+ .*//msr, $language);
-}
-
-# Runs the commands of a chapter in the folder of the recipes.
+# Runs marked commands in the folder of the recipes.
 sub run_recipe {
-    my ($title, $language) = @_;
-    my @blocks = blocks_under($title, $language // 'bash');
-    isnt(scalar @blocks, 0, "$title: commands");
-    for (@blocks) {
-        my $run = run(\%in, 'bash', '-euc', $_);
-        is($run->{status}, 0, "$title: its commands") or diag($run->{out} . $run->{err});
-    }
-}
-
-# The only block of a chapter in another language.
-sub block_of {
-    my ($title, $language) = @_;
-    my @blocks = blocks_under($title, $language);
-    is(scalar @blocks, 1, "$title: a block of $language");
-    return $blocks[0] // '';
+    my ($name) = @_;
+    my $run = run(\%in, 'sh', '-euc', marked($name, 'sh'));
+    return is($run->{status}, 0, "$name: its commands") || diag($run->{out} . $run->{err});
 }
 
 # Makes `hashes` of `passwords` as the recipe does, with the other users behind, and runs the recipe of a service.
 sub prepare {
-    my ($title) = @_;
-    run_recipe('Services that check passwords');
+    my ($name) = @_;
+    run_recipe('hashes for services');
     spew("$in{dir}/hashes", slurp("$in{dir}/hashes") . $of_methods);
-    return run_recipe($title);
+    return run_recipe($name);
 }
 
 # Tests that a service takes for each method the right password alone. The code says yes, no, or what else happened.
@@ -129,17 +109,10 @@ sub pam {
     return $run->{status} == 0 ? 'yes' : verdict($told // "status $run->{status}", '', 'Authentication failure');
 }
 
-subtest 'recipes' => sub {
-    my @chapters = grep { blocks_under($_, 'bash') } $recipes =~ /^##+ (.*)/mg;
-    cmp_ok(scalar @chapters, '>=', 10, 'chapters with commands for this test');
-    my $test = slurp("$root/tests/services.t");
-    ok($test =~ /'\Q$_\E'/, "the recipe '$_' is run") for @chapters;
-};
-
 subtest 'nginx' => sub {
     needs(nginx => 'nginx') or return;
     prepare('nginx');
-    my $block = block_of('nginx', 'nginx');
+    my $block = marked('nginx', 'nginx');
     spew("$scratch/nginx.conf", <<"END");
 user www-data;
 pid /run/nginx.pid;
@@ -163,7 +136,7 @@ END
 subtest 'Apache' => sub {
     needs(apache2 => 'apache2') or return;
     prepare('Apache');
-    my $block = block_of('Apache', 'apache');
+    my $block = marked('Apache', 'apache');
     my $loads = join '', map { "LoadModule ${_}_module /usr/lib/apache2/modules/mod_$_.so\n" }
         qw(mpm_event authn_core authn_file authz_core authz_user auth_basic dir);
     spew("$scratch/apache.conf", <<"END");
@@ -190,6 +163,7 @@ subtest 'htpasswd' => sub {
     needs(htpasswd => 'apache2-utils') or return;
     mkdir '/etc/apache2';
     prepare('Apache');
+    run_recipe('htpasswd');
     are_taken('htpasswd', sub {
         my ($name, $password) = @_;
         my $run = run({ stdin => "$password\n" }, 'htpasswd', '-vi', '/etc/apache2/passwords', $name);
@@ -200,7 +174,7 @@ subtest 'htpasswd' => sub {
 subtest 'Dovecot' => sub {
     needs('Dovecot 2.3' => 'dovecot-core, in Debian 12', run('dovecot', '--version')->{out} =~ /^2\.3\./) or return;
     prepare('Dovecot');
-    spew('/etc/dovecot/local.conf', block_of('Dovecot', 'dovecot'));
+    spew('/etc/dovecot/local.conf', marked('Dovecot', 'dovecot'));
     spew('/etc/dovecot/dovecot.conf', <<'END');
 protocols =
 log_path = /dev/stderr
@@ -280,8 +254,8 @@ subtest 'pam_unix' => sub {
 subtest 'vsftpd' => sub {
     needs(vsftpd => 'vsftpd') && needs('pam_pwdfile.so' => 'libpam-pwdfile', -e "$modules/pam_pwdfile.so") or return;
     prepare('vsftpd');
-    spew('/etc/pam.d/vsftpd', block_of('vsftpd', 'pam'));
-    my $block = block_of('vsftpd', 'ini');
+    spew('/etc/pam.d/vsftpd', marked('vsftpd', 'pam'));
+    my $block = marked('vsftpd', 'ini');
     run(qw(install -d /run/vsftpd/empty));
     spew('/etc/vsftpd.conf', <<"END");
 listen=YES
@@ -311,17 +285,16 @@ subtest 'pam_mkpasswd' => sub {
     needs(pamtester => 'pamtester') && needs('pam_modules.h' => 'libpam0g-dev', -e '/usr/include/security/pam_modules.h') or return;
     needs(cc => 'gcc') && needs('pkg-config' => 'pkgconf') && needs('libmkpasswd.so.2' => 'none: run make lib', -e "$root/libmkpasswd.so.2")
         or return;
-    my ($title, $source, $libs) = ('A PAM module of your own', "$root/examples/pam_mkpasswd.c", '/usr/lib/x86_64-linux-gnu');
+    my ($source, $libs) = ("$root/examples/pam_mkpasswd.c", '/usr/lib/x86_64-linux-gnu');
     my ($installed, $file) = ("$scratch/installed", '/etc/example.passwords');
-    cmp_ok(slurp($source) =~ tr/\n//, '<=', 150, 'pam_mkpasswd: lines');
     is_run(run(qw(cc -std=c99 -Wall -Wextra -Werror -pedantic -O2 -c -o), "$scratch/strict.o", "-I$root/c", $source),
         0, '', '', 'pam_mkpasswd: the compiler has nothing to say');
     is(run({ env => { DESTDIR => $installed, PREFIX => '/usr', LIBDIR => $libs } }, "$root/tools/install")->{status}, 0, 'it is installed');
     local $in{env} = { %{ $in{env} }, PKG_CONFIG_SYSROOT_DIR => $installed, PKG_CONFIG_LIBDIR => "$installed$libs/pkgconfig",
         PKG_CONFIG_ALLOW_SYSTEM_CFLAGS => 1, PKG_CONFIG_ALLOW_SYSTEM_LIBS => 1, LD_LIBRARY_PATH => "$installed$libs" };
     symlink "$root/examples", "$in{dir}/examples";
-    prepare($title);
-    my $block = block_of($title, 'pam');
+    prepare('pam_mkpasswd');
+    my $block = marked('pam_mkpasswd', 'pam');
     spew('/etc/pam.d/example', $block);
     are_taken('pam_mkpasswd', sub { pam('example', @_) });
 
@@ -385,7 +358,7 @@ sub is_hash {
 subtest 'installers' => sub {
     needs('debconf-set-selections' => 'debconf') && needs('debconf-communicate' => 'debconf') or return;
     spew("$in{dir}/password", "$password{ann}\nmore\n");
-    run_recipe('A password for an installer', 'sh');
+    run_recipe('installer');
     is_run(run(\%in, qw(debconf-set-selections --checkonly preseed.cfg)), 0, '', '', 'preseed: debconf has nothing to say');
     run(\%in, qw(debconf-set-selections preseed.cfg));
     my ($hash) = run({ %in, stdin => "GET passwd/user-password-crypted\n" }, 'debconf-communicate', 'd-i')->{out} =~ /^0 (.*)\n\z/;
@@ -401,7 +374,7 @@ subtest 'installers' => sub {
 
 subtest 'cloud-init' => sub {
     needs('cloud-init' => 'cloud-init') or return;
-    run_recipe('A password for cloud-init');
+    run_recipe('cloud-init');
     like(run(\%in, qw(cloud-init schema --config-file user-data))->{out}, qr/\A\s*Valid .*user-data\n\z/, 'cloud-init: the schema');
     my $read = 'import yaml; print(*[x for u in yaml.safe_load(open("user-data"))["users"] for x in (u["name"], u["lock_passwd"], u["hashed_passwd"])])';
     my @words = split / |\n/, run(\%in, '/usr/bin/python3', '-c', $read)->{out};
@@ -411,35 +384,20 @@ subtest 'cloud-init' => sub {
 
 subtest 'Ansible' => sub {
     needs('ansible-playbook' => 'ansible-core') or return;
-    my $title = 'A password that Ansible sets';
     local $in{env} = { %{ $in{env} }, LC_ALL => 'C.UTF-8', ANSIBLE_GATHERING => 'explicit' };
     add_accounts();
     spew("$in{dir}/hosts", "localhost ansible_connection=local ansible_python_interpreter=/usr/bin/python3\n");
-    spew("$in{dir}/users.yml", block_of($title, 'yaml'));
-    my ($make, $play) = blocks_under($title, 'bash');
-    is_run(run(\%in, 'bash', '-euc', $make // 'false'), 0, '', '', 'Ansible: the hash is made');
+    spew("$in{dir}/users.yml", marked('Ansible', 'yaml'));
+    run_recipe('Ansible');
     is_hash(slurp("$in{dir}/hash") =~ s/\n\z//r, 'Ansible: the hash');
-
-    # What the module says of a hash in check mode: whether it changes the password, and what it warns of.
-    my $unhashed = 'The input password appears not to have been hashed';
-    my %hash = map { $_->[0] => $_->[1] } ['the recipe', slurp("$in{dir}/hash")], ['a cut hash', substr($field, 0, -1) . "\n"],
-        map { [$_, lines_of($_) =~ s/^.*?://r] } sort keys %cost;
-    my @names = sort keys %hash;
-    my @got = in_processes(4, sub {
-        my ($name) = @_;
-        my $folder = "$scratch/ansible.$$";
-        mkdir $folder;
-        spew("$folder/$_", slurp("$in{dir}/$_")) for qw(hosts users.yml);
-        spew("$folder/hash", $hash{$name});
-        my $run = run({ %in, dir => $folder }, 'bash', '-euc', $play // 'false');
-        my ($changed) = $run->{out} =~ /changed=(\d+)/;
-        my $warned = "$run->{out}$run->{err}" =~ s/\s+/ /gr =~ /$unhashed/ ? ', unhashed' : '';
-        return "$run->{status}, changed: " . ($changed // 'none') . $warned;
-    }, @names);
-    is($got[$_] && $got[$_][0], '0, changed: 1' . ($names[$_] eq 'a cut hash' ? ', unhashed' : ''), "Ansible: $names[$_]") for 0 .. $#names;
-
-    my $changed = run(\%in, 'bash', '-euc', ($play // 'false') =~ s/ --check//r);
-    is($changed->{status}, 0, 'Ansible: the password is set') or diag($changed->{out} . $changed->{err});
+    my $play = marked('playbook', 'sh');
+    my $before = slurp('/etc/shadow');
+    for ($play, $play =~ s/ --check//r) {
+        is(slurp('/etc/shadow'), $before, 'Ansible: nothing has changed before');
+        my $run = run(\%in, 'sh', '-euc', $_);
+        like($run->{out}, qr/changed=1\b/, 'Ansible: the play changes the password') or diag($run->{err});
+        unlike("$run->{out}$run->{err}" =~ s/\s+/ /gr, qr/appears not to have been hashed/, 'Ansible: it takes the hash for one');
+    }
     needs(pamtester => 'pamtester') or return;
     is(pam('pam_unix', 'ann', $password{ann}), 'yes', 'Ansible: a login after it');
     is(pam('pam_unix', 'ann', $password{six}), 'no', 'Ansible: another password');
