@@ -283,21 +283,13 @@ subtest 'messages' => sub {
     is_deeply(\%named, { map { $number{$_} => uc(s/ has a//r =~ tr/ /_/r) . ": $_" } keys %number }, "the header's reasons");
     is_deeply([@defined{qw(MD5CRYPT SHA256CRYPT SHA512CRYPT SCRYPT PASSWORD_LIMIT TEXT_SIZE)}],
         [1, 5, 6, 7, $limits{password}, 1 + length hash_of(read_setting($long_salt), 'x')], "the header's methods and limits");
-    like($header, qr/ABOVE_CEILING .* above $limits{ceiling} /, 'its ceiling');
-    like($header, qr/SETTING_TOO_LONG .* more than $limits{setting} bytes/, 'its longest setting');
 };
 
 subtest 'costs' => sub {
-    my @costs = (['$1$xxxxxxxx', 8, 36239], ['$5$saltstring', 12, 307760], ['$6$rounds=5000$saltstringsaltst', 8, 452160],
-        ['$6$rounds=999999999$saltstringsaltst', 1024, 1976382017456], ['$7$2/..../....', 0, 5044],
-        ['$7$86....E....NaCl', 8, 33656996], ['$7$C6..../....SodiumChloride', 13, 33561316]);
-    is_deeply([map { (split / /)[3] } printed($driver, map { row('bound', '', $_->[0], 0, $_->[1]) } @costs)], [map { $_->[2] } @costs], 'as docs/FORMATS.md has them');
-    is_deeply([printed($driver, row('bound', '', $known[4][1], 0, 8), row('verify', 'password', $fixed, 0, $most))],
-        ['1 3 0 33656996 1026 102564 32768 1048576 18432 0 0 0 0 unchanged', '1 1 0 36239 1002 36239 0 0 0 0 0 0 0 unchanged'], 'works');
     my @within = ((map { [$_, 1024] } '$1$xxxxxxxx', '$5$rounds=75000$saltstringsaltst', '$6$rounds=75000$saltstringsaltst', '$7$CU..../....' . 'a' x 86),
         map { [$_, 40] } '$5$rounds=1000000$saltstringsaltst', '$6$rounds=1000000$saltstringsaltst');
-    my @calls = map { my ($text, $longest) = @$_; map { ['bound', '', $text, 0, $_] } 0 .. $longest } @within;
-    are_made('of each length', [], @calls);
+    my @calls = map { ['bound', '', $_->[0], 0, $_->[1]] } @within;
+    are_made('of the longest passwords', [], @calls);
     ok(!(grep { cost(read_setting($_->[2]), $_->[4]) > $budget } @calls), 'are within MKPASSWD_BUDGET, as the header says');
 };
 
@@ -355,13 +347,17 @@ subtest 'fuzzing' => sub {
     }
 };
 
-# What a compiler of C or C++ says of the text of a program's body.
+# A program of these statements, each in a line of its own after the first ten; what a compiler says of each.
 sub told {
-    my ($compiler, $body, @rest) = @_;
-    spew("$scratch/told.c", "#include <mkpasswd.h>\nint main(void)\n{\nstruct mkpasswd_report report;\nuint8_t out[145], *bytes = out;\n"
-            . "(void)report, (void)bytes;\n$body\nreturn 0;\n}\n");
-    return run({ timeout => 100 }, $compiler, '-Wall', '-Wextra', '-O1', '-x', $compiler =~ /\+/ ? 'c++' : 'c', "$scratch/told.c",
-        '-x', 'none', @rest, '-o', "$scratch/told")->{err};
+    my ($compiler, @statements) = @_;
+    my $language = $compiler =~ /\+/ ? 'c++' : 'c';
+    spew("$scratch/told.c", "#include <mkpasswd.h>\nint main(void)\n{\nstruct mkpasswd_report report;\nuint8_t out[145], *bytes = out, small[64];\n"
+            . "char text[64];\n(void)report, (void)bytes, (void)small, (void)text;\n#line 1\n" . join("\n", @statements, "return 0;\n}\n"));
+    my $run = run({ timeout => 100 }, $compiler, '-Wall', '-Wextra', '-O1', '-x', $language, ($language eq 'c' ? () : '-Wold-style-cast'),
+        "$scratch/told.c", '-x', 'none', @static, '-o', "$scratch/told");
+    my @told = ('') x @statements;
+    $told[$1 - 1] .= $2 while $run->{err} =~ /^[^ :]*told\.c:(\d+):\d+: (.*\n)/mg;
+    return @told;
 }
 
 subtest 'warnings' => sub {
@@ -369,41 +365,32 @@ subtest 'warnings' => sub {
         'bound(bytes, 1, 1, &report)', 'hash(bytes, 1, bytes, 1, 1, out, 145, &report)', 'setting(6, 0, 1, 2, 3, out, 145, &report)');
     my @strings = ('verify_str(0, 0, 1, 0)', 'new_str(0, 6, 0, 1, 0, 0, 0)', 'needs_rehash_str(0, 6, 0, 0)', 'bound_str(0, 1, 0)',
         'hash_str(0, 0, 1, 0, 0, 0)', 'setting_str(6, 0, 1, 2, 3, 0, 0, 0)');
-    for my $compiler (qw(gcc clang g++ clang++)) {
-        needs($compiler => $compiler =~ s/clang\K\+\+//r) or next;
-        for my $call (@calls, @strings, 'words(-1, out, 145)') {
-            my ($name, @arguments) = split /[(),] ?/, $call;
-            like(told($compiler, "mkpasswd_$call;", @static), qr/unused-result/, "$compiler: $name is ignored") if $name ne 'words';
-            for my $place (grep { $arguments[$_] =~ /^[a-z&]/ } 0 .. $#arguments) {
-                my $null = join ', ', map { $_ == $place ? 'NULL' : $arguments[$_] } 0 .. $#arguments;
-                like(told($compiler, "if (mkpasswd_$name($null)) return 1;", @static), qr/nonnull/, "$compiler: $name($null)");
-            }
-        }
-        my $all = join '', map { "if (mkpasswd_$_) return 1;\n" } @strings, 'words_str(-1, NULL, 0)';
-        is(told($compiler, $all, @static), '', "$compiler: strings may be null");
-        is(run("$scratch/told")->{status}, 0, "$compiler: and then no call does anything");
-        for my $test ('>= 0', '< 0', '!= MKPASSWD_DIFFERS', '== MKPASSWD_DONE') {
-            like(told($compiler, "if (mkpasswd_verify_str(\"\", \"\", 1, &report) $test) return 1;", @static), qr/comparison of constant/,
-                "$compiler: a result $test");
-        }
-        for my $call ($compiler =~ /^g/ ? ('new_str("", 6, 0, 1, text, 145, 0)', 'hash_str("", "", 1, text, 145, 0)',
-                'setting_str(6, 0, 1, 2, 3, text, 145, 0)', 'words_str(1, text, 145)', 'words(1, small, 145)') : ()) {
-            like(told($compiler, "char text[64]; uint8_t small[64]; (void)text, (void)small; if (mkpasswd_$call) return 1;", @static),
-                qr/writing 145 bytes into a region of size 64/, "$compiler: too little room in $call");
-        }
-        is(told($compiler, "if (mkpasswd_verify_str(\"\", \"\", MKPASSWD_BUDGET, &report)) return 1;", '-Wold-style-cast', @static),
-            '', "$compiler: no old cast") if $compiler =~ /\+/;
-        for my $old ($compiler =~ /\+/ ? () : qw(fits cost replaced refusal)) {
-            for my $kind ('a', 'so') {
-                my $told = told($compiler, "extern int mkpasswd_$old(void); return mkpasswd_$old();", "-I$include", "$libs/libmkpasswd.$kind");
-                like($told, qr/undefined reference to [`']mkpasswd_$old'/, "$compiler: mkpasswd_$old is gone from libmkpasswd.$kind");
-            }
+    my @long = ('new_str("", 6, 0, 1, text, 145, 0)', 'hash_str("", "", 1, text, 145, 0)', 'setting_str(6, 0, 1, 2, 3, text, 145, 0)',
+        'words_str(1, text, 145)', 'words(1, small, 145)');
+    # Each statement with what a compiler has to say of it, nothing if that is empty.
+    my @rows = map { ["mkpasswd_$_;", qr/unused-result/] } @calls, @strings;
+    for my $call (@calls, 'words(-1, out, 145)') {
+        my ($name, @arguments) = split /[(),] ?/, $call;
+        for my $place (grep { $arguments[$_] =~ /^[a-z&]/ } 0 .. $#arguments) {
+            my $null = join ', ', map { $_ == $place ? 'NULL' : $arguments[$_] } 0 .. $#arguments;
+            push @rows, ["if (mkpasswd_$name($null)) return 1;", qr/nonnull/];
         }
     }
+    push @rows, map { ["if (mkpasswd_verify_str(\"\", \"\", 1, &report) $_) return 1;", qr/comparison of constant/] }
+        '>= 0', '< 0', '!= MKPASSWD_DIFFERS', '== MKPASSWD_DONE';
+    my @right = map { ["if (mkpasswd_$_) return 1;", ''] } @strings, 'words_str(-1, NULL, 0)', 'verify_str("", "", MKPASSWD_BUDGET, &report)';
+    for my $compiler (qw(gcc clang g++ clang++)) {
+        needs($compiler => $compiler =~ s/clang\K\+\+//r) or next;
+        my @wanted = (@rows, ($compiler =~ /^g/ ? map { ["if (mkpasswd_$_) return 1;", qr/writing 145 bytes into a region of size 64/] } @long : ()), @right);
+        my @told = told($compiler, map { $_->[0] } @wanted);
+        for (0 .. $#wanted) {
+            my ($statement, $wanted) = @{ $wanted[$_] };
+            ref $wanted ? like($told[$_], $wanted, "$compiler: $statement") : is($told[$_], '', "$compiler: $statement");
+        }
+        is(join('', told($compiler, map { $_->[0] } @right)), '', "$compiler: strings may be null");
+        is(run("$scratch/told")->{status}, 0, "$compiler: and then no call does anything");
+    }
 };
-
-# The last block in a language of README.md's section for programmers.
-sub readme_block { return (blocks_of(section_of(slurp("$root/README.md"), 'From C, C++ and Python'), $_[0]))[-1] // '' }
 
 subtest 'what is installed' => sub {
     is(@declared, 8, 'the header declares eight calls');
@@ -427,13 +414,8 @@ subtest 'what is installed' => sub {
         is($told, "-I$include -L$libs -lmkpasswd", 'pkg-config');
         mkdir "$scratch/commands";
         symlink "$root/examples", "$scratch/commands/examples";
-        my $commands = 'cc() { command "$CC" "$@"; }' . "\n" . readme_block('sh') . 'test -x login';
+        my $commands = 'cc() { command "$CC" "$@"; }' . "\n" . marked('build of login.c', 'sh') . 'test -x login';
         is_run(run({ dir => "$scratch/commands", env => \%env }, 'bash', '-euc', $commands), 0, '', '', 'the commands of README.md');
-    }
-    for my $path ("$include/mkpasswd.h", glob "$root/*.md $root/tools/*.md $root/docs/*.md $root/examples/* $root/man/* $root/tools/dist/*") {
-        next if $path =~ /CHANGELOG/;
-        my @old = slurp($path) =~ /\b(mkpasswd_(?:fits|cost|replaced|refusal)|REFUSED_UNKNOWN_REFUSAL|libmkpasswd\.so\.1)\b/g;
-        is("@old", '', 'no old name in ' . ($path =~ s{\Q$root\E/|\Q$installed\E}{}r));
     }
 };
 
@@ -470,20 +452,19 @@ subtest 'examples' => sub {
         my $login = build("login-$name", $cc, '-std=c99', @strict, "$root/examples/login.c", @rest);
         are_logins($name, $login) if $login;
     }
-    for (['c', "$cc -std=c99", 'const char *'], ['cpp', ($ENV{CXX} || 'c++') . ' -std=c++98', 'std::string']) {
-        my ($language, $compiler, $string) = @$_;
+    for (['login in C', 'c', "$cc -std=c99", 'const char *'], ['login in C++', 'cpp', ($ENV{CXX} || 'c++') . ' -std=c++98', 'std::string']) {
+        my ($name, $language, $compiler, $string) = @$_;
         my ($compiles) = split ' ', $compiler;
         needs($compiles => 'g++', run('sh', '-c', "command -v $compiles")->{status} == 0) or next;
-        my ($include, $check) = readme_block($language) =~ /\A(#include <.*>\n)\n(.*)/s;
-        spew("$scratch/readme.$language", ($include // '') . "#include <stdio.h>\n" . ($language eq 'cpp' ? "#include <string>\n" : '')
+        my ($include, $check) = marked($name, $language) =~ /\A(#include <.*>\n)\n(.*)/s;
+        spew("$scratch/login.$language", ($include // '') . "#include <stdio.h>\n" . ($language eq 'cpp' ? "#include <string>\n" : '')
             . "static void let_in(void) { puts(\"in\"); }\nint main(int argc, char **argv)\n{\n    $string stored = argv[argc - 2];\n"
             . "    $string password = argv[argc - 1];\n" . ($check // '') . "return 0;\n}\n");
-        my $login = build("README.md in $language", (split ' ', $compiler), @strict, "$scratch/readme.$language", @static) or next;
-        is_run(run($login, $fixed, 'password'), 0, "in\n", '', "README.md in $language: the right password");
-        is_run(run($login, $_, 'password'), 0, '', '', "README.md in $language: $_") for "!$fixed", $empty, '$6$rounds=999999999$ab$x';
+        my $login = build($name, (split ' ', $compiler), @strict, "$scratch/login.$language", @static) or next;
+        is_run(run($login, $fixed, 'password'), 0, "in\n", '', "$name: the right password");
+        is_run(run($login, $_, 'password'), 0, '', '', "$name: $_") for "!$fixed", $empty, '$6$rounds=999999999$ab$x';
     }
-    my ($service) = blocks_of(slurp("$root/docs/SECURITY.md"), 'c');
-    my ($include, $login) = ($service // '') =~ /\A((?:#include [^\n]*\n)+)(.*)\z/s;
+    my ($include, $login) = marked('service in C', 'c') =~ /\A((?:#include [^\n]*\n)+)(.*)\z/s;
     my ($nobody) = ($login // '') =~ /^int login/m ? $login =~ s/mkpasswd_verify_str\(/checks(/ && '$6$rounds=656000$nobody.has.this.$' . '.' x 86 : '';
     spew("$scratch/service.c", "#include <stdio.h>\n$include" . <<'END' . "$login\n" . <<'END');
 static int32_t checks(const char *password, const char *stored, uint64_t budget, struct mkpasswd_report *report)
@@ -495,13 +476,13 @@ int login(const char *password, const char *field);
 END
 int main(int argc, char **argv) { return !login(strcmp(argv[1], "null") ? argv[1] : NULL, argc > 2 ? argv[2] : NULL); }
 END
-    if (my $program = build('SECURITY.md', $cc, '-std=c99', @strict, "$scratch/service.c", @static)) {
-        is_run(run($program, 'password', $fixed), 0, "$fixed\n", '', 'SECURITY.md in c: the right password');
-        is_run(run($program, 'passw0rd', $fixed), 1, "$fixed\n", '', 'SECURITY.md in c: a wrong password');
-        is_run(run($program, 'password', @$_), 1, "$nobody\n", '', "SECURITY.md in c: '@$_' costs a hash")
+    if (my $program = build('service', $cc, '-std=c99', @strict, "$scratch/service.c", @static)) {
+        is_run(run($program, 'password', $fixed), 0, "$fixed\n", '', 'service in C: the right password');
+        is_run(run($program, 'passw0rd', $fixed), 1, "$fixed\n", '', 'service in C: a wrong password');
+        is_run(run($program, 'password', @$_), 1, "$nobody\n", '', "service in C: '@$_' costs a hash")
             for [], [''], ["!$fixed"], ['*'], ['$y$x'], ['$6$rounds=999999999$ab$x'];
-        is_run(run($program, 'null', @$_), 1, ($_->[0] // $nobody) . "\n", '', "SECURITY.md in c: a null password, '@$_'") for [], [$fixed];
-        is_run(run($program, 'a' x 83, @$_), 1, "$nobody\n", '', "SECURITY.md in c: a long password, '@$_'") for [], [$nobody];
+        is_run(run($program, 'null', @$_), 1, ($_->[0] // $nobody) . "\n", '', "service in C: a null password, '@$_'") for [], [$fixed];
+        is_run(run($program, 'a' x 83, @$_), 1, "$nobody\n", '', "service in C: a long password, '@$_'") for [], [$nobody];
     }
     needs(python3 => 'python3') or return;
     mkdir "$scratch/broken";
@@ -520,14 +501,10 @@ subtest 'manuals' => sub {
         is(slurp("$folder/$call.3"), ".so man3/$page.3\n", "$call: its manual is that of $page");
         like(slurp("$folder/$page.3"), qr/^\.Sh NAME\n\.Nm $page ,\n\.Nm $call\n/m, "$call: its name is in it");
     }
-    my ($login) = join('', blocks_of(slurp("$root/docs/SECURITY.md"), 'c')) =~ /^(\/\* .*)/ms;
-    ok(index(join('', blocks_of(slurp("$root/man/mkpasswd_verify.3"), '')), $login // "\0") >= 0, "mkpasswd_verify: SECURITY.md's login is an example");
     for my $page (map { "$folder/$_.3" } 'libmkpasswd', @declared) {
         my ($name) = $page =~ m{/(\w+)\.3$};
         my $text = slurp($page);
-        is_deeply([grep { $text !~ /^\.Sh $_$/m } 'SYNOPSIS', 'RETURN VALUES', 'ERRORS', 'EXAMPLES', 'SECURITY CONSIDERATIONS'], [], "$name: its sections");
         my @examples = section_of($text, 'EXAMPLES') =~ /^\.\\" prints: (.*?)\n\.Bd -literal.*?\n(.*?)^\.Ed$/msg;
-        cmp_ok(@examples / 2, '==', $name eq 'mkpasswd_verify' ? 3 : 1, "$name: examples");
         while (my ($wanted, $code) = splice @examples, 0, 2) {
             spew("$scratch/example.c", $code =~ s/\\e/\\/gr =~ s/\\&//gr);
             my $program = build("$name.example", $cc, '-std=c99', @strict, "$scratch/example.c", @static,

@@ -84,12 +84,13 @@ subtest 'commands' => sub {
 };
 
 subtest 'a password that is typed' => sub {
-    for (map { my $path = $_; map { [name_of($path), $_] } slurp($path) =~ /(?:`|^\.Dl )(IFS= .*? mkpasswd\b[^`\n]*)/mg } documents(), manuals()) {
+    my @typed = map { my $path = $_; map { [name_of($path), $_] } slurp($path) =~ /(?:`|^\.Dl )(IFS= .*? mkpasswd\b[^`\n]*)/mg } documents(), manuals();
+    isnt(scalar @typed, 0, 'it is shown how');
+    for (@typed) {
         my ($name, $command) = @$_;
         my $typed = run({ %in, stdin => " pass\\word \n" }, 'bash', '-c', $name =~ /^man/ ? Texts::shown($command) : $command);
         ok($typed->{out} =~ /^($hash)\n\z/ && is_hash_of($1, ' pass\word '), $name) or diag(%$typed);
     }
-    pass('each one gives its hash');
 };
 
 # What a table says that a hash costs is the least budget that admits it.

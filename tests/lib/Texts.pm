@@ -43,7 +43,7 @@ sub blocks_of {
 sub marked {
     my ($name, $language) = @_;
     my $block = first { defined } map { slurp($_) =~ /^<!-- tested: \Q$name\E -->\n+```\Q$language\E\n(.*?)^```$/ms } documents();
-    ok(defined $block, "a document has '$name' in $language");
+    defined $block or fail("a document has the block '$name' in $language");
     return $block // '';
 }
 
