@@ -2,7 +2,8 @@
 # No digest and no mixing passes the meter by, no count comes from a meter that nobody reads, no memory is allocated but for
 # scrypt and the arguments, and no text shows a password.
 # What is allowed is in lists here, as the tree has it, and a test fails for whatever else there is. So a change that is all
-# right can fail too: then a list has to grow. Each breach that tests/lib/breaches.pl plants has to be found.
+# right can fail too: then a list has to grow. The names of functions that are no crate's own are read from the sources, so
+# they may change. Each breach that tests/lib/breaches.pl plants has to be found.
 #
 # Sources are read without comments, strings and `ghost use`. Tests are what `#[cfg(test)] mod` leaves out of the program:
 # such a block, such a file, and the modules below it. A file that no module names is no test.
@@ -34,47 +35,27 @@ my %implementations = (
     "$counted/counted_sha256.rt" => [qw(sha2 Sha256)],
     "$counted/counted_sha512.rt" => [qw(sha2 Sha512)],
 );
-my @calls = (qw(begin new feed update count_bytes len), qw(finish count_digest try_from finalize as_slice unwrap),
-    qw(finish_into count_digest copy_from_slice finalize as_slice));
+my @calls = (qw(begin new feed update BYTES len), qw(finish DIGEST try_from finalize as_slice unwrap),
+    qw(finish_into DIGEST copy_from_slice finalize as_slice));
 
-# Where counts are raised, besides these files.
-my %raised = (count_mix => "$prims/mix.rt", count_table => "$prims/table.rt", count_scratch => "$prims/scratch.rt");
+# Where counts are raised, besides these files: the counts of the meter in their order, each with its file.
+my $meter = "$prims/meter.rt";
+my @raised = ('', '', "$prims/mix.rt", "$prims/table.rt", "$prims/scratch.rt");
 
-# Where a block is mixed without a count: Salsa20/8 as a call of its own, which only tests use, and the mixing of blocks,
-# which the three calls use that count. A name is in its own function twice where a clause has it too. Their loops and the
-# rounds below are listed too, since what is done twice gives the same block.
-my %mixings = (
-    "$prims/salsa.rt" => [
-        'salsa8 in itself', 'salsa8_of in salsa8', 'salsa8_of in itself', 'four_double_rounds in salsa8_of',
-        'four_double_rounds in itself', ('double_round in four_double_rounds') x 5, 'double_round in itself',
-        'double_round in double_round', 'row_round in double_round', 'column_round in double_round', 'column_round in itself',
-        'column_round in column_round', 'quarter_rounds in column_round', 'row_round in itself', 'row_round in row_round',
-        'quarter_rounds in row_round', 'quarter_rounds in itself',
-    ],
-    "$prims/mix.rt" => [
-        'salsa8_of in no function', 'mix_blocks in block_mix', 'mix_blocks in mix_diagonals', 'mix_blocks in mix_xor_diagonals',
-        'mix_blocks in itself', 'mixed_block in mix_blocks', 'mixed_block in itself', 'mixed_block in mixed_block',
-        'salsa8_of in mixed_block', 'for in to_diagonals', 'for in from_diagonals', 'for in mix_blocks',
-    ],
-);
+# Where a block is mixed without a count: Salsa20/8, also as a call of its own, which only tests use, and the mixing of blocks,
+# which the three calls use that count. For each file how often the functions of Salsa20/8 are used there, and those private
+# to the mixing of blocks, in the order of their definitions; and its loops. What is done twice gives the same block.
+my ($salsa, $mix) = ("$prims/salsa.rt", "$prims/mix.rt");
+my %mixings = ($salsa => [0, 1, 1, 4, 1, 1, 2, 4, (0) x 4], $mix => [0, 2, (0) x 6, 4, 3, 1, 1]);
+my %loops = ($salsa => 0, $mix => 3);
 
-# Where memory is allocated, or the allocator handed on, by file: to what, as often as here. Whoever has no allocator can't
-# allocate, so a line is read, priced and refused without memory; `in` is the macros that take one.
+# Where memory is allocated, by file: what of other crates gets the allocator, as often as here; `in` is the macros that take
+# one. A function or a type of the tree may get it, since what that does with it is seen in its own file. Whoever has no
+# allocator can't allocate, so a line is read, priced and refused without memory.
 my %allocates = (
-    'crates/program/src/main.rt' => 'collect run_command',
-    'crates/mkpasswd/src/command.rt' => 'plan run_plan run_one run_batch run_check show_error show_refusal in',
-    'crates/mkpasswd/src/options.rt' => 'read_words command Command::new with_hash_options with_line_options Arg::new Arg::new '
-        . 'Vec::from_slice ' . 'flag ' x 5 . 'word ' x 6,
-    'crates/run_core/src/one.rt' => 'make_hash',
-    'crates/run_core/src/lines.rt' => 'LineRun::new LineRun::new LineRun answer',
-    'crates/run_core/src/lines/buffer.rt' => 'answer_line',
-    'crates/run_core/src/answer.rt' => 'outcome_of fits make_hash make_hash hash',
-    'crates/crypt_c/src/lib.rt' => 'verify put_hash put_new_hash',
-    'crates/crypt_c/src/calls.rt' => 'counted_hash counted_hash put_hash put_admitted hash',
-    'crates/crypt_core/src/fits.rt' => 'fits',
-    'crates/crypt_core/src/stored.rt' => 'hash',
-    'crates/crypt_core/src/hash.rt' => 'digest_of scrypt_digest scrypt',
-    'crates/kdf_core/src/scrypt.rt' => 'Table::new ByteScratch::new WordScratch::new',
+    'crates/program/src/main.rt' => 'collect',
+    'crates/mkpasswd/src/command.rt' => 'in',
+    'crates/mkpasswd/src/options.rt' => 'Command::new Arg::new Arg::new Vec::from_slice',
     "$prims/table.rt" => 'in',
     "$prims/scratch.rt" => 'in in',
 );
@@ -84,7 +65,6 @@ my %allocates = (
 # has all that the meter counted.
 my $password = 'crates/crypt_core/src/password.rt';
 my $exports = 'crates/crypt_c/src/lib.rt';
-my $meter = "$prims/meter.rt";
 my $hashing_call = qr/^\{\s*\*report = \w+\([^;{}]*&mut \KMeter::new\(\)(?=,?\s*\);\s*report\.answer\(\)\s*\}$)/m;
 my %makes_meter = ('crates/program/src/main.rt' => qr/\bMeter::new\(\)/, $exports => $hashing_call);
 
@@ -100,7 +80,7 @@ sub tree {
     return \%tree;
 }
 
-sub blank { return $_[0] =~ s/[^\n]/ /gr }
+sub blank { return $_[0] =~ tr/\n/ /cr }
 
 # A source without comments, strings, characters and `ghost use`, each place staying where it is.
 memoize('code_of');
@@ -176,9 +156,20 @@ sub places {
 # Rules. Each has what is wrong where it is broken, and a call that returns those places in a source: in all its code, or in
 # its product, which is without tests.
 my $tests = qr/#\[cfg\(test\)\]\s*mod tests;/;
-my $mixing = qr/\b(?:salsa8|salsa8_of|four_double_rounds|double_round|column_round|row_round|quarter_rounds|mixed_block|mix_blocks)\b/;
 my $loop = qr/\b(?:for(?=\s+\w+\s+in\b)|while|loop|for_each)\b/;
 my $odd_item = qr/\b(?:mod|trait|type|static|dyn)\b|\w\s*!/;
+
+# The names that the sources have: what raises the counts of the meter, the functions that mix, those that take the allocator,
+# and the types.
+my $tree = tree();
+my %product = map { $_->{path} => $_->{product} } sources($tree);
+our @counts = $product{$meter} =~ /\bpub\(crate\) fn (\w+)\(&mut self/g;
+our @mixing = ($product{$salsa} =~ /\bfn (\w+)\(/g, $product{$mix} =~ /^(?:#.*\n)?fn (\w+)[<(]/mg);
+my %takes_allocator = map { $_ => 1 } map { /\bfn (\w+)[^{};]*?\balloc: Global\b/g } values %product;
+my %is_type = map { $_ => 1 } map { /\b(?:struct|enum) (\w+)/g } values %product;
+@calls = map { { BYTES => $counts[0], DIGEST => $counts[1] }->{$_} // $_ } @calls;
+my $count = join '|', @counts;
+my $mixes = join '|', @mixing;
 
 my @rules = (
     # Only the implementations name a digest crate, and only in one `use` each.
@@ -226,7 +217,7 @@ my @rules = (
         return (
             1 == (() = $product =~ /$new/g) ? () : 0,
             places($product, qr/\bfn\b/, $new, qr/\bpub fn \w+\(&self\) -> u128\b/,
-                qr/\bpub\(crate\) fn count_\w+\(&mut self(?:, \w+: usize)?\)(?!\s*->)/,
+                qr/\bpub\(crate\) fn \w+\(&mut self(?:, \w+: usize)?\)(?!\s*->)/,
                 qr/\bpub fn reading\(&self\) -> Reading\b/, qr/\bpub fn work_since\(&self, reading: &Reading\) -> Work\b/),
             places($product, qr/\bpub\b/, qr/\bpub struct (?:Meter|Reading|Work) \{/, qr/\bpub \w+: u64,/, qr/\bpub(?:\(crate\))? fn\b/),
             places($product, qr/\bMeter\b/, qr/\bpub struct Meter \{/, qr/\bimpl (?:Model for )?Meter \{/, qr/\{\s*\KMeter \{/),
@@ -254,21 +245,21 @@ my @rules = (
     ['a count is raised beside its work', sub {
         my ($path, undef, $product) = @_;
         return () if $path eq $meter || $implementations{$path};
-        my @here = map { qr/\bmeter\.$_\(/ } grep { $raised{$_} eq $path } keys %raised;
-        return places($product, qr/\bcount_(?:bytes|digest|mix|table|scratch)\b/, @here);
+        my @here = map { qr/\bmeter\.$counts[$_]\(/ } grep { $raised[$_] eq $path } 0 .. $#counts;
+        return places($product, qr/\b(?:$count)\b/, @here);
     }],
-    # Each of the names is in the functions of the list, as often as there, and nowhere else.
+    # No function that mixes is used oftener than the list says, outside of clauses.
     ['a block is mixed that nobody counts', sub {
         my ($path, undef, $product) = @_;
-        my %left;
-        $left{$_}++ for @{ $mixings{$path} // [] };
-        return grep {
-            my ($before, $name) = (substr($product, 0, $_), substr($product, $_) =~ /\A(\w+)/);
-            my $function = $before =~ /\bfn\s+\z/ ? 'itself' : $before =~ /.*\bfn\s+(\w+)/s ? $1 : 'no function';
-            ($left{"$name in $function"}-- // 0) <= 0;
-        } places($product, $mixings{$path} ? qr/$mixing|$loop/ : $mixing);
+        my ($loops, %left) = $loops{$path} // return places($product, qr/\b(?:$mixes)\b/);
+        @left{@mixing} = @{ $mixings{$path} };
+        my $code = $product =~ s/\b(?:requires|ensures)\b\s*\w*\s*(\{(?:[^{}]++|(?1))*\})/blank($&)/ger;
+        return (
+            (grep { substr($code, $_) =~ /\A(\w+)/ && $left{$1}-- <= 0 } places($code, qr/(?<!\bfn )\b(?:$mixes)\b/)),
+            grep { $loops-- <= 0 } places($code, $loop),
+        );
     }],
-    # The allocator is a parameter or a field of this name, and goes where the list says.
+    # The allocator is a parameter or a field of this name, and goes to the tree's own functions and types or where the list says.
     ['memory is allocated where the list has nothing', sub {
         my ($path, undef, $product) = @_;
         my %left;
@@ -277,7 +268,9 @@ my @rules = (
             places($product, qr/\bGlobal\b/, qr/\balloc: \KGlobal\b/, qr/\buse std::alloc::(?:\{AllocError, Global\}|Global);/),
             grep {
                 my ($name) = substr($product, 0, $_) =~ /(?|\b(in)\s|(\w+(?:::\w+)?)(?:::<[^()]*>)?\s?[({])\s*(?:\w+\.)?\z/;
-                ($left{ $name // '' }-- // 0) <= 0;
+                my ($type, $function) = ($name // '') =~ /^(?:(\w+)::)?(\w+)$/;
+                my $is_own = defined $type ? $is_type{$type} && $takes_allocator{$function} : $takes_allocator{ $name // '' } || $is_type{ $name // '' };
+                !$is_own && ($left{ $name // '' }-- // 0) <= 0;
             } places($product, qr/\balloc\b(?!: Global)/, qr/\buse\b[^;]*;/),
         );
     }],
@@ -376,7 +369,6 @@ sub breaches_with {
     return breaches(\%changed);
 }
 
-my $tree = tree();
 binmode Test::More->builder->$_, ':encoding(UTF-8)' for qw(output failure_output);
 cmp_ok(keys %$tree, '>', 40, 'the sources are read');
 is_deeply([breaches($tree)], [], 'the layers hold');

@@ -4,6 +4,12 @@
 use strict;
 use warnings;
 
+# The names of functions that may change, as layers.t reads them.
+our (@counts, @mixing);
+my ($bytes, $digest, undef, $table) = @counts;
+my ($core_call, $core, $rounds) = @mixing;
+my ($mixing, $mixed) = @mixing[-3, -1];
+
 my $counted = 'crates/prims_core/src/counted';
 my $meter = 'crates/prims_core/src/meter.rt';
 my $lib = 'crates/prims_core/src/lib.rt';
@@ -46,8 +52,8 @@ return {
             'fn plain(text: &[u8]) -> [u8; 16] { Md5::digest(text) }', 'impl Deref for CountedMd5 {}'),
         added($sha256, 'impl CountedSha256 { fn plain(self) {} }'),
         added($words, 'pub fn fresh() -> Meter { Meter::new() }', 'pub fn fresh() -> (u8, Meter) {}',
-            "use crate::meter::Meter;\n$makes", "pub fn raise(meter: &mut Meter) {\n    meter.count_bytes(1);\n}"),
-        added('crates/prims_core/src/scratch.rt', 'fn f(meter: &mut Meter) { meter.count_table(1); }'),
+            "use crate::meter::Meter;\n$makes", "pub fn raise(meter: &mut Meter) {\n    meter.$bytes(1);\n}"),
+        added('crates/prims_core/src/scratch.rt', "fn f(meter: &mut Meter) { meter.$table(1); }"),
         added("crates/$runs/src/lib.rt", "$import\n$makes"),
         added('crates/crypt_c/src/report.rt', 'fn f() { let mut meter = Meter::new(); }'),
         added($exports, 'fn f() { let mut meter = Meter::new(); }', '#[unsafe(no_mangle)] pub extern "C" fn other() {}',
@@ -63,11 +69,11 @@ return {
             'macro_rules! fresh { ($t:ident) => { $t::new() } }', 'fn f(meter: &mut Meter) { unsafe { read(meter) }; }',
             'impl fmt::Debug for Password {}', 'fn f() { g(" }'),
         added('crates/crypt_core/src/pack/tests.rt', "$import\n$makes"),
-        added('crates/kdf_core/src/scrypt.rt', 'fn f(block: &mut [u32; 16]) { prims_core::salsa::salsa8(block); }'),
-        added($mix, 'use crate::salsa::salsa8;', 'pub fn mix_aside(x: &Diagonals) { let _ = mixed_block(x, x); }',
-            'fn f() { let g = mixed_block; }'),
-        added($salsa, 'pub fn twice(block: &mut [u32; 16]) { salsa8(block); salsa8(block); }'),
-        added('crates/prims_core/src/table.rt', 'fn f(x: &Diagonals) { crate::salsa::salsa8_of(x); }'),
+        added('crates/kdf_core/src/scrypt.rt', "fn f(block: &mut [u32; 16]) { prims_core::salsa::$core_call(block); }"),
+        added($mix, "use crate::salsa::$core_call;", "pub fn mix_aside(x: &Diagonals) { let _ = $mixed(x, x); }",
+            "fn f() { let g = $mixed; }"),
+        added($salsa, "pub fn twice(block: &mut [u32; 16]) { $core_call(block); $core_call(block); }"),
+        added('crates/prims_core/src/table.rt', "fn f(x: &Diagonals) { crate::salsa::$core(x); }"),
         added("crates/$runs/src/answer.rt", 'fn f(alloc: Global) { let _ = vec![in alloc; 0u8; 9]; }', 'fn f(alloc: Global) { Vec::new(alloc); }',
             'fn f(alloc: Global) { let other = alloc; }', 'fn f(other: Global) {}', 'fn f(alloc: Global) { g(1, alloc); }',
             'use std::alloc::Global as Heap;'),
@@ -81,7 +87,7 @@ return {
         replaced($md5, '    running: Md5,', '    pub running: Md5,'),
         replaced($md5, 'derive(Debug, Drop)', 'derive(Clone, Debug, Drop)'),
         replaced($md5, '        ArrayVec::', '        Md5::digest(b"x"); ArrayVec::', '        let f = Md5::digest; f(b"x"); ArrayVec::',
-            '        plain!{self}; ArrayVec::', '        meter.count_digest(); ArrayVec::'),
+            '        plain!{self}; ArrayVec::', "        meter.$digest(); ArrayVec::"),
         replaced($sha256, '        ArrayVec::', '        Sha256::new().finalize(); ArrayVec::'),
         replaced($sha256, '        out.copy_from_slice(', '        out.copy_from_slice(out); out.copy_from_slice('),
         replaced($sha256, 'self.running.update(piece);', 'self.running.update(piece); self.running.update(piece);'),
@@ -89,8 +95,8 @@ return {
             'Digest::update::<&[u8]>(&mut self.running, piece); self.running.update(piece);'),
         replaced($md5, 'const LEN: usize = 16;', 'const LEN: usize = 16; const PLAIN: Plain = Md5::digest;'),
         replaced($md5, 'self.running.update', 'let running = self.running; self.running.update'),
-        replaced($md5, "        meter.count_digest();\n        ArrayVec::", '        ArrayVec::'),
-        replaced($md5, "        meter.count_digest();\n        out", '        out'),
+        replaced($md5, "        meter.$digest();\n        ArrayVec::", '        ArrayVec::'),
+        replaced($md5, "        meter.$digest();\n        out", '        out'),
         replaced("$counted.rt", 'pub use counted_md5::CountedMd5;', 'pub use counted_md5::CountedMd5 as Md5;'),
         replaced("$counted.rt", "\nmod counted_md5;", "\npub mod counted_md5;"),
         replaced($meter, '    /// Returns the number of digested bytes',
@@ -115,19 +121,19 @@ return {
         replaced($scheme, "#[cfg(test)]\nmod tests {", 'mod tests {', "// #[cfg(test)]\nmod tests {",
             "#[cfg(not(test))]\nmod tests {", "#[cfg(any(test, unix))]\nmod tests {",
             "#[cfg(test)]\nfn helper() {}\nmod tests {"),
-        replaced($mix, "    from_diagonals(dst);\n", "    from_diagonals(dst);\n    let _ = mixed_block(&x, &x);\n",
-            "    from_diagonals(dst);\n    mix_blocks(&InRows { words: src }, dst, 1);\n"),
-        replaced($mix, '    salsa8_of(&x.xor(block))', '    let _ = salsa8_of(x); salsa8_of(&x.xor(block))'),
-        replaced($salsa, '    block.sum(', '    let _ = four_double_rounds(block); block.sum('),
+        replaced($mix, "    from_diagonals(dst);\n", "    from_diagonals(dst);\n    let _ = $mixed(&x, &x);\n",
+            "    from_diagonals(dst);\n    $mixing(&InRows { words: src }, dst, 1);\n"),
+        replaced($mix, "    $core(&x.xor(block))", "    let _ = $core(x); $core(&x.xor(block))"),
+        replaced($salsa, '    block.sum(', "    let _ = $rounds(block); block.sum("),
         replaced($mix, "    'mixing: for", "    for _ in 0..1 { x = src.block(2 * r - 1); }\n    'mixing: for"),
-        replaced($salsa, '    mixed.store(block);', '    let _ = salsa8_of(&mixed); mixed.store(block);'),
+        replaced($salsa, '    mixed.store(block);', "    let _ = $core(&mixed); mixed.store(block);"),
         replaced($password, "#[derive(Drop)]\npub struct Password", "#[derive(Debug, Drop)]\npub struct Password"),
         replaced($password, 'pub struct Password', "#[derive(Debug)]\npub struct Password"),
         replaced("crates/$runs/src/job.rt", '#[derive(Drop)]'."\npub enum PasswordFrom", '#[derive(Debug, Drop)]'."\npub enum PasswordFrom"),
         replaced('crates/mkpasswd/src/options.rt', "#[derive(Clone, Copy)]\nstruct Arguments", "#[derive(Clone, Copy, Debug)]\nstruct Arguments"),
         ['a fourth implementation', "$counted/plain.rt" => 'pub fn plain() {}', "$counted.rt" => 'mod plain;'],
         (map { ["$_ made public", $meter => ["pub(crate) fn $_", "pub fn $_"]] }
-            qw(count_bytes count_digest count_mix count_table count_scratch)),
+            @counts),
         ['a meter made in a library', $hash => $makes],
         ['a meter made in another room of the program', 'crates/program/src/other.rt' => "$import\n$makes", $main => 'mod other;'],
         ['tests that are none, in a file', 'crates/crypt_core/src/hash/tests.rt' => '', $hash => ["#[cfg(test)]\npub(crate) mod tests;", 'pub(crate) mod tests;']],
