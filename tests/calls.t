@@ -295,8 +295,8 @@ subtest 'costs' => sub {
 
 # ---- compilers, linkers and what is installed
 
-# Each build makes the calls of a careless login, and some others, in eight threads: with memory and random words, with each
-# allocation refused in turn, and without words.
+# Each build with the oldest standard makes the calls of a careless login, and some others, in eight threads: with memory and
+# random words, with each allocation refused in turn, and without words.
 subtest 'compilers' => sub {
     my @calls = grep { $_->[0] eq 'verify_str' || $_->[2] eq $fixed } careless();
     my $cheap = '$7$2/..../....ab';
@@ -311,27 +311,21 @@ subtest 'compilers' => sub {
         $rows .= "refuse $_\nentropy " . (@words ? unpack('H*', pack 'Q<3', @words) : 'none') . "\n" . join '', map { row(@$_) . "\n" } @calls;
         $wanted .= join '', map { line(@$_) . "\n" } @calls;
     }
-    my @builds = map {
-        my $compiler = $_;
-        my ($language, @standards) = /\+/ ? qw(c++ c++98 c++11 c++17 c++20) : qw(c c99 c11 c17 c2x);
-        needs($compiler => s/clang\K\+\+//r) ? map { [$compiler, $_, $language] } @standards : ();
-    } qw(gcc clang g++ clang++);
     my @sanitize = ('-g', '-O1', '-DSANITIZED', '-fsanitize=address,undefined', '-fno-sanitize-recover=all');
-    my @kinds = (['static', '-O2', @wrapped, @static], ['shared', '-O0', '-DREPLACE', @shared],
-        ['sanitized', @sanitize, @wrapped, @static]);
-    my @results = in_processes(4, sub {
-        my ($compiler, $standard, $language) = @{ $_[0] };
-        return map {
-            my ($kind, @rest) = @$_;
-            my $path = "$scratch/$compiler-$standard-$kind";
-            my $run = run({ timeout => 300 }, $compiler, "-std=$standard", @strict, '-Wno-long-long', '-x', $language,
-                "$root/tests/c/calls.c", '-x', 'none', @rest, '-o', $path);
-            $run->{err} . join '', $run->{status} ? () : map { "$_\n" } printed($path, $rows =~ /.+/g);
-        } @kinds;
-    }, @builds);
-    for my $number (0 .. $#builds) {
-        is($results[$number][$_], $wanted, "$builds[$number][0] $builds[$number][1], $kinds[$_][0]") for 0 .. $#kinds;
+    my @kinds = (['static', '-O2', @wrapped, @static], ['shared', '-O0', '-DREPLACE', @shared], ['sanitized', @sanitize, @wrapped, @static]);
+    my @builds;
+    for my $compiler (grep { needs($_ => s/clang\K\+\+//r) } qw(gcc clang g++ clang++)) {
+        my ($language, $oldest, @standards) = $compiler =~ /\+/ ? qw(c++ c++98 c++11 c++17 c++20) : qw(c c99 c11 c17 c2x);
+        my @compile = ($compiler, @strict, '-Wno-long-long', "-I$include", '-x', $language, "$root/tests/c/calls.c");
+        is_run(run(@compile, "-std=$_", '-fsyntax-only'), 0, '', '', "$compiler compiles it as $_") for @standards;
+        push @builds, map { my ($kind, @rest) = @$_; ["$compiler $oldest, $kind", @compile, "-std=$oldest", '-x', 'none', @rest] } @kinds;
     }
+    my @results = in_processes(4, sub {
+        my ($name, @compile) = @{ $_[0] };
+        my $run = run({ timeout => 300 }, @compile, '-o', "$scratch/$name");
+        return $run->{err} . join '', $run->{status} ? () : map { "$_\n" } printed("$scratch/$name", $rows =~ /.+/g);
+    }, @builds);
+    is($results[$_] && $results[$_][0], $wanted, $builds[$_][0]) for 0 .. $#builds;
 };
 
 # The targets of `make fuzz`, for as many calls as take a few seconds.
@@ -376,12 +370,13 @@ subtest 'warnings' => sub {
             push @rows, ["if (mkpasswd_$name($null)) return 1;", qr/nonnull/];
         }
     }
-    push @rows, map { ["if (mkpasswd_verify_str(\"\", \"\", 1, &report) $_) return 1;", qr/comparison of constant/] }
-        '>= 0', '< 0', '!= MKPASSWD_DIFFERS', '== MKPASSWD_DONE';
+    # The last ones, since nothing after them is reached.
+    my @constant = map { ["if (mkpasswd_verify_str(\"\", \"\", 1, &report) $_) return 1;", qr/comparison of constant/] }
+        '< 0', '== MKPASSWD_DONE', '>= 0', '!= MKPASSWD_DIFFERS';
     my @right = map { ["if (mkpasswd_$_) return 1;", ''] } @strings, 'words_str(-1, NULL, 0)', 'verify_str("", "", MKPASSWD_BUDGET, &report)';
     for my $compiler (qw(gcc clang g++ clang++)) {
         needs($compiler => $compiler =~ s/clang\K\+\+//r) or next;
-        my @wanted = (@rows, ($compiler =~ /^g/ ? map { ["if (mkpasswd_$_) return 1;", qr/writing 145 bytes into a region of size 64/] } @long : ()), @right);
+        my @wanted = (@rows, ($compiler =~ /^g/ ? map { ["if (mkpasswd_$_) return 1;", qr/writing 145 bytes into a region of size 64/] } @long : ()), @right, @constant);
         my @told = told($compiler, map { $_->[0] } @wanted);
         for (0 .. $#wanted) {
             my ($statement, $wanted) = @{ $wanted[$_] };
