@@ -26,23 +26,12 @@ subtest 'hashes that were published' => sub {
 };
 
 subtest "hashes as libxcrypt's" => sub {
-    for my $front ('$1$', '$1$abcdefgh', '$5$rounds=1000$', '$5$rounds=1001$0123456789abcdef', '$6$rounds=1000$a', '$6$rounds=1017$ab',
-        '$7$2/..../....NaCl', '$7$30..../....', '$7$2/....0....ab')
-    {
+    for my $front ('$1$', '$1$abcdefgh', '$5$rounds=1000$', '$5$rounds=1001$0123456789abcdef', '$6$rounds=1000$a', '$6$rounds=1017$ab') {
         for my $length (0, 1, 15, 16, 31, 33, 63, 64, 65, 127, 200, 511) {
             my $password = substr 'pa:ss' x 103, 0, $length;
             is(made_by_hand(read_setting($front), $password), crypt($password, $front), "$front, $length bytes");
         }
     }
-};
-
-# The vector of RFC 7914, section 10, in which those of sections 8 and 9 come up.
-subtest 'scryptROMix' => sub {
-    my $part = 'f7ce0b653d2d72a4108cf5abe912ffdd777616dbbb27a70e8204f3ae2d0f6fad89f68f4811d1e87bcc3bd7400a9ffd29094f0184639574f39ae5a1315217bcd7'
-        . '894991447213bb226c25b54da86370fbcd984380374666bb8ffcb5bf40c254b067d27c51ce4ad5fed829c90b505a571b7f4d1cad6a523cda770e67bceaaf7e89';
-    is(unpack('H*', rom_mix(pack('H*', $part), 16)), '79ccc193629debca047f0b70604bf6b62ce3dd4a9626e355fafc6198e6ea2b46d58413673b99b029d665c357601fb426'
-        . 'a0b2f4bba200ee9f0a43d19b571a9c71ef1142e65d5a266fddca832ce59faa7cac0b9cf1be2bffca300d01ee387619c4ae12fd4438f203a0e4e1c47ec314861f'
-        . '4e9087cb33396a6873e8f9d2539a4b8e', 'a part of 128 bytes, N = 16');
 };
 
 # The cost of a hash, summed up message by message, with 255 for the byte that says how often SHA-crypt repeats the salt.
@@ -70,7 +59,7 @@ sub summed {
 
 subtest 'costs' => sub {
     my @rows = slurp("$root/docs/FORMATS.md") =~ /^\| `(\$[^`]*)` \| (\d+) \| (\d+) \|$/gm;
-    is(@rows / 3, 5, 'rows of docs/FORMATS.md');
+    isnt(@rows, 0, 'docs/FORMATS.md has costs');
     while (my ($text, $length, $cost) = splice @rows, 0, 3) {
         is(cost(read_setting($text), $length), $cost, "$text, $length bytes, as docs/FORMATS.md tells it");
     }

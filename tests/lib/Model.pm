@@ -2,20 +2,20 @@ package Model;
 
 # The rules of docs/FORMATS.md, read a second time and not out of the code: settings and their refusals, the work and
 # the cost of a hash, hashes, lines and their answers. Hashes are those of perl's crypt, which is libxcrypt; where that
-# doesn't take a password or a setting they are made here, and where that would take long they are not known.
+# doesn't take a password they are made here, but for scrypt, where they are not known.
 #
 # What comes up is counted in %seen, so that a test can want each rule to have been met.
 
 use strict;
 use warnings;
 use Digest::MD5 qw(md5);
-use Digest::SHA qw(hmac_sha256 sha256 sha512);
+use Digest::SHA qw(sha256 sha512);
 use Exporter qw(import);
 use List::Util qw(max min sum0);
 
 our @EXPORT = qw(%limits %kinds %most_salt %made_salt %packed_length @characters @setting_refusals @line_refusals @verdicts %seen
     saw forget shown numeral scrypt_cost setting read_setting made_setting is_replaced counts cost hash_of made_by_hand
-    rom_mix job judged differences);
+    job judged differences);
 
 our %limits = (
     password => 1024, setting => 384, line => 2048, name => 64, least_rounds => 1000, most_rounds => 999999999, ceiling => 8388608,
@@ -155,7 +155,6 @@ my %order = (
     5 => '0 10 20,21 1 11,12 22 2,3 13 23,24 4 14,15 25 5,6 16 26,27 7 17,18 28 8,9 19 29,31 30',
     6 => '0 21 42,22 43 1,44 2 23,3 24 45,25 46 4,47 5 26,6 27 48,28 49 7,50 8 29,9 30 51,31 52 10,53 11 32,12 33 54,'
         . '34 55 13,56 14 35,15 36 57,37 58 16,59 17 38,18 39 60,40 61 19,62 20 41,63',
-    7 => '2 1 0,5 4 3,8 7 6,11 10 9,14 13 12,17 16 15,20 19 18,23 22 21,26 25 24,29 28 27,31 30',
 );
 
 sub packed {
@@ -200,58 +199,13 @@ sub last_digest {
     return $last;
 }
 
-# Salsa20/8 of 16 words (RFC 7914, section 3). A column of the matrix and then a row goes through the same four steps.
-sub salsa {
-    my @x = @_;
-    for my $double (1 .. 4) {
-        for ([0, 4, 8, 12], [5, 9, 13, 1], [10, 14, 2, 6], [15, 3, 7, 11], [0, 1, 2, 3], [5, 6, 7, 4], [10, 11, 8, 9], [15, 12, 13, 14]) {
-            my @at = @$_;
-            for my $turn (7, 9, 13, 18) {
-                my $sum = $x[$at[0]] + $x[$at[3]] & 0xffffffff;
-                $x[$at[1]] ^= ($sum << $turn | $sum >> 32 - $turn) & 0xffffffff;
-                push @at, shift @at;
-            }
-        }
-    }
-    return map { $x[$_] + $_[$_] & 0xffffffff } 0 .. 15;
-}
-
-# scryptBlockMix of a part (section 4), which is a string.
-sub block_mix {
-    my ($part) = @_;
-    my @blocks = unpack '(a64)*', $part;
-    my ($x, @mixed) = $blocks[-1];
-    push @{ $mixed[$_ & 1] }, $x = pack 'V*', salsa(unpack 'V*', $x ^ $blocks[$_]) for 0 .. $#blocks;
-    return join '', map { @$_ } @mixed;
-}
-
-# scryptROMix of a part (section 5).
-sub rom_mix {
-    my ($part, $n) = @_;
-    my @rows = $part;
-    push @rows, block_mix($rows[-1]) for 1 .. $n;
-    $part = pop @rows;
-    $part = block_mix($part ^ $rows[unpack('V', substr $part, -64) % $n]) for 1 .. $n;
-    return $part;
-}
-
-# The 32 bytes that are wanted of scrypt (section 6).
-sub scrypt {
-    my ($setting, $password) = @_;
-    my ($n, $r, $p) = (2 ** $setting->{log}, $setting->{r}, $setting->{p});
-    my $parts = join '', map { hmac_sha256($setting->{salt} . pack('N', $_), $password) } 1 .. 4 * $r * $p;
-    my $mixed = join '', map { rom_mix($_, $n) } unpack '(a' . 128 * $r . ')*', $parts;
-    return hmac_sha256($mixed . pack('N', 1), $password);
-}
-
-# The hash of a password by a setting, made here.
+# The hash of a password by md5crypt or SHA-crypt, made here.
 sub made_by_hand {
     my ($setting, $password) = @_;
-    my $digest = $setting->{kind} == 7 ? scrypt($setting, $password) : last_digest($setting, $password);
-    return "$setting->{front}\$" . packed($setting->{kind}, $digest);
+    return "$setting->{front}\$" . packed($setting->{kind}, last_digest($setting, $password));
 }
 
-# The same, libxcrypt's wherever it takes the two, or nothing where it would take long. Hashes are kept until forgotten.
+# The same, libxcrypt's wherever it takes the two; nothing where it takes no scrypt. Hashes are kept until forgotten.
 my (%kept, %is_by_hand);
 sub forget { %kept = %is_by_hand = () }
 
@@ -264,11 +218,9 @@ sub hash_of {
         $known = sha256($password) if !defined $known && $setting->{kind} == 7;
         undef $known if defined $known && $known =~ /\0/;
         my $text = defined $known ? crypt($known, $front) // '' : '';
-        if (index($text, "$front\$") != 0) {
-            $is_by_hand{"$front\0$password"} = 1;
-            $text = $setting->{kind} != 7 || $setting->{product} <= 64 ? made_by_hand($setting, $password) : undef;
-        }
-        $text;
+        my $is_known = index($text, "$front\$") == 0;
+        $is_by_hand{"$front\0$password"} = !$is_known && $setting->{kind} != 7;
+        $is_known ? $text : $setting->{kind} != 7 ? made_by_hand($setting, $password) : undef;
     };
 }
 
