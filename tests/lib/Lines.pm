@@ -5,7 +5,7 @@ package Lines;
 #
 # - Hash lines go through --batch, by a method with a given salt, with passwords of 0 to 511 bytes and a few longer ones; the
 #   hashes that it has to give become lines of --check, with right passwords, wrong ones, and texts in which one character
-#   is another. (Scrypt's cheap costs have no words of their own: their texts come from crypt.)
+#   is another. (Scrypt's cheap costs have no words of their own: their texts come from crypt, and are checked.)
 # - Hostile lines are put together from pieces of the grammar, stand at the limits, or are good lines that were changed, for
 #   --batch and --check with any flags. They have a budget, or none of them is dear, so that no line takes long.
 
@@ -258,57 +258,25 @@ sub hostile_line {
 
 # ---- Chunks
 
-# The methods and lengths of salts that the chunks of hash lines go through.
-my @plans = map { my $kind = $_; map { [$kind, $_] } 1 .. min(16, $most_salt{$kind}) } 1, 5, 6;
-push @plans, map { [7] } 1 .. 8;
 my %types = (1 => 'md5crypt', 5 => 'sha256crypt', 6 => 'sha512crypt', 7 => 'scrypt');
-
-# The length of a hash line's password: for each fourth line the next one, and else a few bytes; seldom more than 511.
-sub hash_length {
-    my ($place, $most) = @_;
-    return between(512, 1024) if $most == 512 && chance(0.01);
-    return $place % 4 ? int rand 41 : ($place >> 2) % $most;
-}
 
 sub hash_chunk {
     my ($number, $count) = @_;
-    my ($kind, $salt_length) = @{ $plans[$number % @plans] };
+    my $kind = (1, 5, 6, 7)[$number % 4];
     my @work = chance(0.25) ? '--work' : ();
-    my (@checks, @runs);
-    if ($kind == 7) {
-        if (chance(0.1)) {
-            my $made = { kind => 7, type => 'scrypt', cost => 6, salt => salt_text(between(1, 86)) };
-            @checks = hashed(\@runs, job($made, '--batch', @work), [name_of_hash(), bytes_without(hash_length($number, 512), "\0\n")]);
-        }
-        for my $place (@checks .. $count - 1) {
-            my $password = bytes_without(hash_length($number * $chunk_lines{hash}[0] + $place, 512), "\0\n");
-            my $salt = salt_text(chance(0.3) ? between(0, 86) : one_of(0, 1, 22, 85, 86));
-            my $log = chance(0.03) ? 1 : between(2, 6);    # libxcrypt doesn't take N = 2
-            my $setting = setting(7, $salt, log => $log, r => between(1, 6), p => between(1, 4));
-            push @checks, [name_of_hash(), hash_of($setting, $password) // next, $password];
-        }
-    } else {
-        my $choice = rand;
-        my $cost = $choice < 0.6 ? 1000 : $choice < 0.75 ? between(1, 999) : $choice < 0.92 ? between(1001, 1200) : one_of(undef, 0, 5000);
-        my $is_long = $choice >= 0.92 && $kind != 1;
-        my $made = { kind => $kind, type => $types{$kind}, cost => $cost, salt => salt_text($salt_length) };
-        @checks = hashed(\@runs, job($made, '--batch', @work), map {
-            [name_of_hash(), bytes_without(hash_length($number * $chunk_lines{hash}[0] + $_, $is_long ? 65 : 512), "\0\n")]
-        } 0 .. $count - 1);
-    }
-    saw('hash lines') for 1 .. $count;
+    my $cost = chance(0.05) ? one_of(undef, 0) : one_of(1000, 1000, between(1, 999), between(1001, 1200));
+    my $job = $kind != 7 && job({ kind => $kind, type => $types{$kind}, cost => $cost, salt => salt_text(between(1, $most_salt{$kind})) }, '--batch', @work);
+    my @checks = map {
+        my $length = chance(0.01) ? between(512, 1024) : chance(0.25) ? int rand 512 : int rand 41;
+        my $password = bytes_without($length, "\0\n");
+        my $setting = $job ? $job->{setting} : setting(7, salt_text(between(0, 86)), log => between(2, 6), r => between(1, 6), p => between(1, 4));
+        my $hash = hash_of($setting, $password);
+        defined $hash ? [bytes_without(between(1, 64), ":\n"), $hash, $password] : ();
+    } 1 .. $count;
+    saw('hash lines') for @checks;
     my $input = join '', map { join(':', @$_) . "\n" } map { varied(@$_) } shuffle @checks;
     chop $input if chance(0.5);
-    return (@runs, [job(undef, '--check', @work), $input]);
-}
-
-sub name_of_hash { return bytes_without(between(1, 64), ":\n") }
-
-# These names and passwords go through --batch, by one more run. Each is returned with its hash between the two.
-sub hashed {
-    my ($runs, $job, @lines) = @_;
-    push @$runs, [$job, join '', map { "$_->[0]:$_->[1]\n" } @lines];
-    return map { [$_->[0], hash_of($job->{setting}, $_->[1]), $_->[1]] } @lines;
+    return (($job ? [$job, join '', map { "$_->[0]:$_->[2]\n" } @checks] : ()), [job(undef, '--check', @work), $input]);
 }
 
 # A line to check: as it is, with another password, or with another character in its stored text.
