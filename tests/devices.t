@@ -7,9 +7,7 @@
 # One refusal of memory may go unheard, and the whole answer come: std makes the list of the words smaller in
 # the end, and where that is refused it stays as it was.
 #
-# At the end runs that hash are compared with runs that don't, call for memory by call by their sizes: md5crypt and SHA-crypt
-# have to ask for none of their own, and scrypt for its three, whether it makes a hash or checks one, and twice these if it
-# does both for a line.
+# At the end lines of many kinds are compared with none: only scrypt asks for memory.
 use strict;
 use warnings;
 use FindBin;
@@ -94,66 +92,35 @@ for (
     };
 }
 
-# ---- What hashes ask for
-
-# The sizes of all calls for memory of a run that ends with the status, with a point for each write.
+# The sizes of all calls for memory of a run that ends with the status.
 sub sizes {
     my ($status, $input, @words) = @_;
     my $run = with_fault(undef, $input, @words);
     is($run->{status}, $status, "status: @words");
-    return [map { $_->[0] eq 'memory' ? $_->[1] : $_->[0] eq 'write' ? '.' : () } @{ $run->{calls} }];
+    return map { $_->[0] eq 'memory' ? $_->[1] : () } @{ $run->{calls} };
 }
 
-# Wants a run to ask for what one without a hash asks for, and then for these sizes.
-sub more {
-    my ($name, $unhashed, $sizes, @more) = @_;
-    my @before = grep { $_ ne '.' } @$unhashed;
-    return is_deeply([grep { $_ ne '.' } @$sizes], [@before, @more], $name) if @before;
-    return fail("$name: a run without a hash asks for no memory");
-}
-
-# The sizes of scrypt's with N = 2^14 and p = 1, first with r = 32 and then with r = 8: a table of 128 N r bytes, the parts
-# of 128 r p, and the halves of 256 r. The texts are libxcrypt's and openssl-passwd(1)'s.
-my @scrypt_32 = (67108864, 4096, 8192);
-my @scrypt_8 = (16777216, 1024, 2048);
-my $scrypt = '$7$C6..../....xxxxxxxx$Jm9CFcgwqAAI/L5yi2q0wHK8iUY5wk8knbfNZHDcUL.';
-
-# A password that is refused is not hashed, nor is a batch without lines, or a line that is locked.
-subtest 'hashes' => sub {
-    for my $method (qw(md5crypt sha256crypt sha512crypt scrypt)) {
-        my @words = ('-m', $method, '-S', 'ab');
-        my @more = $method eq 'scrypt' ? @scrypt_32 : ();
-        more("a hash by $method", sizes(2, "pass\0word\n", @words, '-s'), sizes(0, "password\n", @words, '-s'), @more);
-        more("a line hashed by $method", sizes(0, '', @words, '--batch'), sizes(0, "ann:password\n", @words, '--batch'), @more);
-    }
-};
-
-subtest 'checks' => sub {
-    my $unhashed = sizes(0, "ann:!:password\n", '--check');
-    more('a check by md5crypt', $unhashed, sizes(0, "ann:$md5:password\n", '--check'));
-    more('a check by sha256crypt', $unhashed, sizes(0, "ann:\$5\$xxxxxxxx\$hP8Y3v5H039Gm6oEwYeXGQOqaUqXVrVPKrFK.zAzZPA:password\n", '--check'));
-    my $sizes = sizes(0, "ann:$scrypt:password\n", '--check');
-    more('a check by scrypt', $unhashed, $sizes, @scrypt_8);
-    my $three = sizes(0, "ann:$md5:password\nbob:$scrypt:password\ncat:$md5:password\n", '--check');
-    is_deeply([@$three[-6 .. -1]], ['.', @scrypt_8, '.', '.'], 'a check by scrypt between two others asks for memory after the first answer');
-};
-
-subtest 'new hashes' => sub {
-    my @words = qw(--check --rehash -m scrypt);
-    my $unhashed = sizes(0, "ann:!:password\n", @words);
-    more('a check by scrypt and a new hash', $unhashed, sizes(0, "ann:$scrypt:password\n", @words), @scrypt_8, @scrypt_32);
-    more('a wrong password, without a new hash', $unhashed, sizes(1, "ann:$scrypt:Password\n", @words), @scrypt_8);
-};
-
-# A line that is over budget, or refused by another rule, asks for no more than one that is locked, or a batch without lines.
-subtest 'budgets' => sub {
-    for my $budget (0, 1000) {
-        my @words = ('--budget', $budget, '--check');
-        more("a check over a budget of $budget", sizes(0, "ann:!:password\n", @words), sizes(1, "ann:$scrypt:password\n", @words));
-        @words = ('--budget', $budget, qw(--batch -m scrypt));
-        more("a line over a budget of $budget", sizes(0, '', @words), sizes(1, "ann:password\n", @words));
-    }
+# With N = 2^14 and p = 1 scrypt asks for a table of 128 N r bytes, the parts of 128 r p, and the halves of 256 r. Nothing else
+# about a line asks for memory. The hashes are libxcrypt's and openssl-passwd(1)'s.
+subtest 'what lines ask for' => sub {
+    my @of_32 = (67108864, 4096, 8192);
+    my @of_8 = (16777216, 1024, 2048);
+    my $scrypt = 'ann:$7$C6..../....xxxxxxxx$Jm9CFcgwqAAI/L5yi2q0wHK8iUY5wk8knbfNZHDcUL.';
     my $refused = "ann\n:x\n" . 'n' x 65 . ":x\nann:" . 'p' x 1025 . "\nann:a\0b\n" . 'l' x 2049 . "\n";
-    more('refused lines', sizes(0, '', qw(--batch -m scrypt)), sizes(1, $refused, qw(--batch -m scrypt)));
+    for (
+        ['a check by md5crypt', [], 0, "ann:$md5:password\n", '--check'],
+        ['a check by sha256crypt', [], 0, "ann:\$5\$xxxxxxxx\$hP8Y3v5H039Gm6oEwYeXGQOqaUqXVrVPKrFK.zAzZPA:password\n", '--check'],
+        ['a check by scrypt', \@of_8, 0, "$scrypt:password\n", '--check'],
+        ['a new hash by scrypt', [@of_8, @of_32], 0, "$scrypt:password\n", qw(--check --rehash -m scrypt)],
+        ['a wrong password, without a new hash', \@of_8, 1, "$scrypt:Password\n", qw(--check --rehash -m scrypt)],
+        ['a check over budget', [], 1, "$scrypt:password\n", qw(--check --budget 1000)],
+        (map { ["a line hashed by $_", [], 0, "ann:password\n", '--batch', '-m', $_] } qw(md5crypt sha256crypt sha512crypt)),
+        ['a line hashed by scrypt', \@of_32, 0, "ann:password\n", qw(--batch -m scrypt)],
+        ['a line over budget', [], 1, "ann:password\n", qw(--batch -m scrypt --budget 1000)],
+        ['refused lines', [], 1, $refused, qw(--batch -m scrypt)],
+    ) {
+        my ($name, $more, $status, $input, @words) = @$_;
+        is_deeply([sizes($status, $input, @words)], [sizes(0, '', @words), @$more], $name);
+    }
 };
 done_testing;

@@ -82,16 +82,11 @@ subtest 'closed outputs' => sub {
 };
 
 subtest 'tools/soak' => sub {
-    my @soak = ("$root/tools/soak", qw(--lines 200 --seed 1 --jobs));
-    my ($one, $two) = map { run(@soak, $_, program()) } 1, 2;
-    is($_->{status}, 0, 'the program is right') || diag($_->{out}) for $one, $two;
-    my ($fingerprint, $other) = map { $_->{out} =~ /fingerprint (\w+)/ } $one, $two;
-    is($fingerprint, $other, 'the same lines by another number of jobs');
-    my $wrong = "$scratch/wrong";
-    spew($wrong, qq(#!/bin/sh\n"@{[program()]}" "\$@"\nexit 0\n));
-    chmod 0755, $wrong;
-    my $found = run(@soak, 2, $wrong);
-    is($found->{status}, 1, 'a program that is wrong');
-    like($found->{out}, qr/^soak: chunk \d+ of the hash lines: --check.*: status 0, and not 1$/m, 'what it names');
+    my @soak = ("$root/tools/soak", qw(--lines 200 --seed 1 --jobs 2));
+    my $run = run(@soak, program());
+    is($run->{status}, 0, 'the program is right') || diag($run->{out});
+    spew("$scratch/wrong", qq(#!/bin/sh\n"@{[program()]}" "\$@"\nexit 0\n));
+    chmod 0755, "$scratch/wrong";
+    like(run(@soak, "$scratch/wrong")->{out}, qr/^soak: chunk \d+ of the hash lines: --check.*: status 0, and not 1$/m, 'what is wrong is named');
 };
 done_testing;

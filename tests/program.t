@@ -50,39 +50,30 @@ subtest 'words' => sub {
     my $version = run("$root/tools/version")->{out} =~ s/\n//r;
     answer("mkpasswd $version", $_) for qw(-V --version);
     refused(@$_) for ["'-Q'", qw(-m md5crypt -S ab -Q password)], ["'--rounds <NUMBER>'", qw(-R 4294967296 password)],
-        ["'--rounds <NUMBER>'", qw(-R few password)], ["'--rounds <NUMBER>'", '-R', '', 'password'], ["'-1'", qw(-R -1 password)],
+        ["'--rounds <NUMBER>'", '-R', '', 'password'], ["'-1'", qw(-R -1 password)],
         ["'--budget <NUMBER>'", qw(--check --budget 18446744073709551616)], ["'--budget <NUMBER>'", qw(--check --budget few)],
-        ["'-1'", qw(--check --budget -1)], ["'--budget <NUMBER>'", qw(--check --budget=-1)], ["'--method <TYPE>'", '-m'],
-        ["'--budget <NUMBER>'", '--budget'], ["'-Q'", qw(-m help -Q)], ["'third'", qw(password ab third)],
-        ["'-x'", qw(-m md5crypt -S ab -x)];
+        ["'--method <TYPE>'", '-m'], ["'-Q'", qw(-m help -Q)], ["'third'", qw(password ab third)];
     # As many words as the command takes, and more of them, which it refuses by the first that is one too many.
     my @taken = qw(-m md5 -S ab -R 5 --work -s --batch --check -- x cd);
     fault(2, 'two salts', @taken);
     refused("unexpected argument '--check'", @taken, ('--check') x 200);
     refused("'--check' cannot be used multiple times", ('--check') x 200);
     my $methods = "Available methods:\nmd5crypt\nsha256crypt\nsha512crypt\nscrypt";
-    answer($methods, qw(-m help));
-    answer($methods, qw(--method help -S ab x cd));
-    answer($methods, { from => '/' }, qw(-m help -R 12 -s --work x));
+    answer($methods, @$_) for [qw(--method help -S ab x cd)], [{ from => '/' }, qw(-m help -R 12 -s --work x)];
 };
 
 subtest 'refusals of the words' => sub {
-    fault(@$_) for [2, 'unknown method', qw(-m sha1 x)], [2, 'unknown method', qw(-m sha1 -S ab x cd)],
-        [2, 'unknown method', '-m', '', 'x'], [2, 'two salts', qw(-S ab x cd)], [2, 'two salts', qw(-S ab x ab)],
-        [2, 'two salts', qw(-m md5crypt -s -S a-b x cd)], [2, 'two modes', qw(-s x)], [2, 'two modes', qw(-s x a-b)],
-        [2, 'two modes', qw(--batch --check)], [3, 'start fault', "\xff"], [2, 'two modes', qw(--check x)],
-        [2, 'two modes', qw(-s --batch)], [2, 'two modes', qw(--check -s)], [2, 'cost', qw(--check -m scrypt -R 12)],
-        [2, 'salt length', qw(-m sha-512 -S seventeen.letters password)], [2, 'salt length', qw(--batch -S seventeen.letters)],
-        [2, 'salt length', qw(-m md5 password nineChars)], [2, 'salt length', qw(-m scrypt -R 5 -S), '', 'password'],
-        [2, 'salt character', qw(-m md5 -S a-b password)], [2, 'salt character', qw(--check -S a-b)],
-        [2, 'salt character', qw(-m scrypt -R 5 password a-b)], [2, 'cost', qw(-m scrypt -R 12 x)],
+    fault(@$_) for [2, 'unknown method', qw(-m sha1 -S ab x cd)], [2, 'unknown method', '-m', '', 'x'], [2, 'two salts', qw(-S ab x ab)],
+        [2, 'two salts', qw(-m md5crypt -s -S a-b x cd)], [2, 'two modes', qw(-s x a-b)], [2, 'two modes', qw(--batch --check)],
+        [2, 'two modes', qw(--check x)], [2, 'two modes', qw(-s --batch)], [3, 'start fault', "\xff"],
+        [2, 'salt length', qw(--batch -S seventeen.letters)], [2, 'salt length', qw(-m md5 password nineChars)],
+        [2, 'salt length', qw(-m scrypt -R 5 -S), '', 'password'], [2, 'salt character', qw(--check -S a-b)],
+        [2, 'salt character', qw(-m scrypt -R 5 password a-b)], [2, 'cost', qw(-m scrypt -R 12 x)], [2, 'cost', qw(--check -m scrypt -R 12)],
         [2, 'unknown method', '-m', $long, 'x'], [2, 'salt length', '-S', $long, 'x'], [2, 'two salts', '-S', 'ab', $long, $long],
-        [2, 'cost', qw(-m scrypt -R 4294967295)], [2, 'cost', { from => '/' }, qw(-m scrypt -R 5 -S ab -s)];
+        [2, 'cost', { from => '/' }, qw(-m scrypt -R 5 -S ab -s)];
 };
 
 subtest 'passwords' => sub {
-    my ($help) = run(program(), '--help')->{out} =~ /password, of at most ([0-9,]*) bytes/;
-    is(($help // '') =~ tr/,//dr, $limits{password}, 'help tells the longest password');
     answer('$1$xxxxxxxx$jveVzs/NezMzUjhy1v7Fo.', @md5, 'a' x 513);
     answer('$1$xxxxxxxx$K/D5CvaOI4iV5zX0cnQoW0', @md5, $most);
     answer('$1$xxxxxxxx$K/D5CvaOI4iV5zX0cnQoW0', \"$most\nb\n", @md5, '-s');
@@ -102,19 +93,19 @@ subtest 'passwords' => sub {
 
 subtest 'devices' => sub {
     fault(3, 'read fault', { from => '/' }, @$_) for ['-s'], [qw(-m md5 -S ab)], ['--batch'], ['--check'];
+    like(slurp("$root/crates/program/src/main.rt"), qr/^const TURNS: u64 = 1 << 40;$/m, '2^40 reads and writes are allowed');
     is_run(run('sh', '-c', 'exec "$0" -s <&-', program()), 3, '', "mkpasswd: read fault\n", 'read fault: a closed input');
     is_run(run({ stdin => "ann:x\n", to => '/dev/full' }, program(), @$_), 3, '', "mkpasswd: write fault\n", "a full output: @$_")
         for [qw(-m md5 -S ab password)], [qw(-m md5 -s)], [qw(-m help)], [qw(--batch -m md5 -S ab)], ['--help'], ['-V'];
 };
 
+# The greatest cost of a line is the least budget that admits it.
 subtest 'budgets' => sub {
     answer($md5, qw(-m md5 --budget 0 password xxxxxxxx));
-    fault(1, 'line 1: over budget', \"h:\$6\$rounds=999999999\$saltstringsaltst\$:password\n", qw(--check --budget 89523813983));
     my $small = "s:\$7\$2/..../....\$rNxJWVHNv/mCNcgE/f6/L4zO6Fos5c2uTzhyzoisI62:\n";
     fault(1, 'line 1: over budget', \$small, qw(--check --budget 5043));
     answer('s:ok', \$small, qw(--check --budget 5044));
     answer('b:locked', \"b:!:x\n", qw(--check --budget 0));
-    fault(1, 'line 1: over budget', \"h:\$7\$J2..../....\$:\n", qw(--check --budget 2147486947));
 };
 
 subtest 'new hashes' => sub {
@@ -122,12 +113,9 @@ subtest 'new hashes' => sub {
     my @rehash = (qw(--check --rehash --work), @md5);
     answer('a:ok:$6$rounds=10000$saltstringsaltst$OW1/O6BYHV6BcXZu8QVeXbDWra3Oeqh0sbHbbMCVNSnCM/UrjmM0Dp8vOuZeHBy/YTBmSK6H9qs/y3RnOaw5v.',
         \"a:\$5\$saltstring\$5B8vYYiY.CVt1RlTTf8KbXBH3hsxY/GNooZaBBGWEc5:Hello world!\n", qw(--check --rehash -R 10000 -S saltstringsaltst));
-    answer("z:ok:$md5:2028:138803:32768:1048576", \"$old:password\n", @rehash);
     fault(1, 'line 1: over budget', \"$old:password\n", @rehash, qw(--budget 33693234));
     answer("z:ok:$md5:2028:138803:32768:1048576", \"$old:password\n", @rehash, qw(--budget 33693235));
-    fault(1, 'line 1: over budget', \"$old:Password\n", @rehash, qw(--budget 33693234));
-    is_run(run({ stdin => "$old:Password\n" }, program(), @rehash, qw(--budget 33693235)), 1, "z:no:1026:102564:32768:1048576\n", '',
-        'a wrong password gets no new hash');
+    is_run(run({ stdin => "$old:Password\n" }, program(), @rehash), 1, "z:no:1026:102564:32768:1048576\n", '', 'a wrong password gets no new hash');
     answer('b:ok', \('b:$6$rounds=5000$toolongsaltstrin$lQ8jolhgVRVhY4b5pZKaysCLi0QBxGoNeKQzQ3glMhwllF7oGDZxUhx1yxdYcz/e1JSbq3y6JMxxl8audkUEm0:'
         . "This is just a test\n"), qw(--check --rehash));
     answer($md5, qw(--rehash -m md5 password xxxxxxxx));
