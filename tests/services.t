@@ -364,12 +364,8 @@ subtest 'installers' => sub {
     my ($hash) = run({ %in, stdin => "GET passwd/user-password-crypted\n" }, 'debconf-communicate', 'd-i')->{out} =~ /^0 (.*)\n\z/;
     is_hash($hash // '', 'preseed: the hash in debconf');
 
-    # No package of Debian 12 reads kickstart files. Their lines are split as Python's shlex does, with comments.
-    needs(python3 => 'python3') or return;
-    my $split = 'import shlex; print("\n".join(shlex.split(open("site.ks").read(), comments=True)))';
-    my @words = split /\n/, run(\%in, 'python3', '-c', $split)->{out};
-    is_deeply([@words[0, 1], scalar @words], ['rootpw', '--iscrypted', 3], 'kickstart: a command with one argument');
-    is_hash($words[2] // '', 'kickstart: the hash');
+    my ($of_kickstart) = slurp("$in{dir}/site.ks") =~ /\Arootpw --iscrypted (\S+)\n\z/;
+    is_hash($of_kickstart // '', 'kickstart: the hash');
 };
 
 subtest 'cloud-init' => sub {
