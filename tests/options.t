@@ -32,7 +32,9 @@ sub has_all {
 }
 
 subtest 'options' => sub {
-    is(slurp("$root/tests/lib/help"), $help, 'help');
+    my $written = slurp("$root/tests/lib/help");
+    has_all('help', [options_of($help)], options_of($written));
+    is($written, $help, 'help, whole');
     for (['manual of mkpasswd', $manual, $help], ['manual of mkpasswd-parallel', $own_manual, $own_help]) {
         my ($place, $text, $of) = @$_;
         has_all($place, [options_of($of)], flags_in($text =~ /^\.It (Fl .*)/mg));
