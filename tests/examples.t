@@ -77,7 +77,7 @@ subtest 'commands' => sub {
         for ($text =~ /^ *```(?:ba)?sh\n(.*?)^ *```$/msg) {
             is_run(run({ stdin => $_ }, 'sh', '-n'), 0, '', '', "$name: a shell parses: " . s/\n.*//sr);
         }
-        my @targets = $text =~ /(?:`|^)make (?:\w+=\S+ )*([a-z]\w*)/mg;
+        my @targets = $text =~ /(?:`|^)make (?:\w+=[^\s`]+ )*([a-z]\w*)/mg;
         is(join(' ', grep { $makefile !~ /^$_:/m } uniq(@targets)), '', "$name: targets of make");
         ok(index($tests, "'$_'") >= 0, "$name: a test runs the block '$_'") for $text =~ /^<!-- tested: (.*) -->$/mg;
     }
