@@ -7,7 +7,7 @@ package Lines;
 #   hashes that it has to give become lines of --check, with right passwords, wrong ones, and texts in which one character
 #   is another. (Scrypt's cheap costs have no words of their own: their texts come from crypt, and are checked.)
 # - Hostile lines are put together from pieces of the grammar, stand at the limits, or are good lines that were changed, for
-#   --batch and --check with any flags. They have a budget, or none of them is dear, so that no line takes long.
+#   --batch and --check with any flags and a budget.
 
 use strict;
 use warnings;
@@ -22,8 +22,8 @@ our @EXPORT = qw(@limits chunks runs);
 our @limits = ('line of 2048', 'line of 2049', 'name of 64', 'name of 65', 'password of 1024', 'password of 1025', 'field of 384',
     'field of 385', 'salt of 86', 'salt of 87', 'product at the ceiling', 'cost at the budget', 'cost behind the budget');
 
-my %chunk_lines = (hash => [100], hostile => [(100) x 12, 800]);    # by turns
-my $dear = 4_000_000;    # a line that costs more is not hashed, but for a few by scrypt
+my %chunk_lines = (hash => [100], hostile => [(40) x 20, 800]);    # by turns
+my $dear = 500_000;    # a hostile line that costs more is not hashed
 
 # The chunks of so many lines of each kind: kind, number and lines of each.
 sub chunks {
@@ -315,38 +315,12 @@ sub good_hashes {
     } 1 .. 16;
 }
 
-# A budget for lines of these costs: none, at one of the costs, beside it, or anything.
+# A budget for lines of these costs: at one of them, just below it, or anything; never so much that a line takes long.
 sub budget {
     my @costs = grep { $_ && $_ <= $dear } @_;
-    my $cost = @costs ? one_of(@costs) : 0;
     my $kind = rand;
-    return if $kind < 0.15;
-    return $cost if $kind < 0.45;
-    return max(0, $cost - 1) if $kind < 0.65;
-    return $dear if $kind < 0.85;
-    return int exp rand log $dear if $kind < 0.92;
-    return one_of(0, '18446744073709551615', 2 ** 41);
-}
-
-# Lines that may cost much, where the words are for scrypt, so that hashes by these words come up too.
-sub dear_lines {
-    my ($job) = @_;
-    my $password = bytes_of(between(0, 70), 'a' .. 'z');
-    return "dear:$password" if !$job->{is_check};
-    my ($log, $r) = @{ one_of([13, 31], [13, 32], [14, 16], [13, 33], [12, 64]) };
-    my $old = one_of(setting(7, 'NaCl', log => $log, r => $r, p => 1), setting(7, 'NaCl', log => 4, r => 1, p => 1),
-        setting(1, 'NaCl'), setting(6, 'NaCl', rounds => 1000, is_written => 1));
-    return 'dear:' . hash_of($old, $password) . ":$password";
-}
-
-# A line that mostly takes no longer than two milliseconds, or is refused by most budgets.
-sub cheap_line {
-    my ($job, $hashes) = @_;
-    for my $try (1 .. 4) {
-        my $line = hostile_line($job, $hashes) =~ tr/\n/\r/r;
-        my $cost = judged($job, $line)->{cost} // 0;
-        return $line if $cost < $dear / 10 || $cost > $dear || chance(0.1) || $try == 4;
-    }
+    return one_of(@costs) - ($kind < 0.3 ? 1 : 0) if @costs && $kind < 0.7;
+    return $kind < 0.9 ? $dear : int exp rand log $dear;
 }
 
 sub hostile_chunk {
@@ -354,22 +328,14 @@ sub hostile_chunk {
     saw('hostile lines') for 1 .. $count;
     my @flags = chance(0.35) ? '--batch' : ('--check', chance(0.45) ? '--rehash' : ());
     my $made = $flags[0] eq '--batch' || @flags > 1 ? hostile_words() : undef;
-    my $may_be_dear = $made && $made->{kind} == 7 && chance(0.5);
-    $made->{cost} = 6 if $may_be_dear;
-    push @flags, '--work' if chance(0.4);
-    my $job = job($made, @flags);
+    my $job = job($made, @flags, chance(0.4) ? '--work' : ());
     my @hashes = $job->{is_check} ? good_hashes() : ();
-    local %Model::seen;    # of what is only looked at here nothing is counted
-    my @lines = map { cheap_line($job, \@hashes) } 1 .. $count;
-    my %is_dear = $may_be_dear ? map { int rand @lines => 1 } 1, 2 : ();
-    $lines[$_] = dear_lines($job) for sort keys %is_dear;
-    $job->{budget} = budget(map { judged($job, $_)->{cost} // () } @lines);
-    $job->{budget} = one_of(undef, 80_000_000, 160_000_000) if $may_be_dear;
-    for my $place (0 .. $#lines) {
-        my $cost = judged($job, $lines[$place])->{cost} // 0;
-        $lines[$place] = one_of($job->{is_check} ? ('n:!:x', 'n::x') : (), ':x', 'n') if $cost > $dear && !$is_dear{$place};
+    my @lines = map { hostile_line($job, \@hashes) =~ tr/\n/\r/r } 1 .. $count;
+    {
+        local %Model::seen;    # of what is only looked at here nothing is counted
+        $job->{budget} = budget(map { judged($job, $_)->{cost} // () } @lines);
     }
-    push @{ $job->{words} }, '--budget', $job->{budget} if defined $job->{budget};
+    push @{ $job->{words} }, '--budget', $job->{budget};
     my $input = join '', map { "$_\n" } @lines;
     chop $input if $lines[-1] ne '' && chance(0.3);
     return [$job, $input];
