@@ -7,20 +7,16 @@ use lib "$Bin/lib";
 use Suite;
 use Texts;
 
-for (
-    ['mandoc', 'mandoc', [qw(mandoc -T lint -W warning)], [qw(mandoc -T utf8)]],
-    ['groff', 'groff-base', [qw(groff -mandoc -ww -z)], [qw(groff -mandoc -Tutf8)]],
-) {
-    my ($name, $package, $lint, $show) = @$_;
+for (['mandoc', 'mandoc', [qw(-T lint -W warning)], [qw(-T utf8)]], ['groff', 'groff-base', [qw(-mandoc -ww -Tutf8)]]) {
+    my ($name, $package, @ways) = @$_;
     subtest $name => sub {
         needs($name => $package) or return;
-        for my $path (glob "$root/man/*.[0-9]") {
-            my ($manual) = $path =~ m{([^/]*)\z};
-            my $run = run(@$lint, $path);
-            is($run->{out} . $run->{err}, '', "$name: nothing to say about $manual");
-            my %lines = map { s/\e\[[0-9;]*m|.\x08//gr =~ s/^\s+|\s+$//gr => 1 } split /\n/, run(@$show, $path)->{out};
+        for my $path (manuals()) {
+            my @runs = map { run($name, @$_, $path) } @ways;
+            is(join('', (map { $_->{err} } @runs), @runs > 1 ? $runs[0]{out} : ()), '', 'nothing to say about ' . name_of($path));
+            my %lines = map { s/\e\[[0-9;]*m|.\x08//gr =~ s/^\s+|\s+$//gr => 1 } split /\n/, $runs[-1]{out};
             my @lost = grep { !$lines{ s/^\s+|\s+$//gr } } map { split /\n/ } blocks_of(slurp($path), 'console');
-            is("@lost", '', "$name: examples of $manual as they are typed");
+            is("@lost", '', 'examples of ' . name_of($path) . ' as they are typed');
         }
     };
 }
