@@ -7,6 +7,7 @@ use strict;
 use warnings;
 use FindBin;
 use lib "$FindBin::Bin/lib";
+use List::Util qw(min);
 use Model;
 use Suite;
 
@@ -41,19 +42,12 @@ my @ways = grep { /-|PASS/ } sort keys %ways;
 # Lengths in bytes where a digest's blocks, or the copies of one, end. libxcrypt takes at most 511.
 my @corners = (0, 1, 15, 16, 17, 31, 32, 33, 63, 64, 65, 127, 128, 129, 255, 256, 511);
 
-# The first and last character of one, two and three bytes; those of three end below the surrogates.
-my @ranges = ([0x01, 0x7f], [0x80, 0x7ff], [0x800, 0xd7ff]);
-
 # A salt and a password of these lengths, the password in characters of one to three bytes, and a way to give them.
 sub case {
     my ($salt_length, $length, $way) = @_;
     my $salt = join '', map { $characters[rand @characters] } 1 .. $salt_length;
     my $password = '';
-    while ((my $left = $length - length $password) > 0) {
-        my ($first, $last) = @{ $ranges[rand($left < 3 ? $left : 3)] };
-        utf8::encode(my $character = chr($first + int rand($last - $first + 1)));
-        $password .= $character;
-    }
+    $password .= (chr(1 + rand 127), "\xc3\xa9", "\xe2\x82\xac")[rand min(3, $length - length $password)] while length $password < $length;
     $way //= $ways[rand @ways];
     $password =~ tr/\n/ / unless $way =~ /PASSWORD/;    # a line has no line feed
     return [$salt, $password, $way];
