@@ -28,23 +28,19 @@ my @long_parallel = grep { /^--/ } @parallel;
 # All long options but these, of a command.
 sub but_of {
     my ($of, @left) = @_;
-    my %left = map { $_ => 1 } @left;
-    return [grep { !$left{$_} } @$of];
+    return [grep { my $option = $_; !grep { $_ eq $option } @left } @$of];
 }
-sub but { return but_of(\@long, @_) }
 
 # A line up to the cursor, and what is wanted there. The folder has the files "logins", "sha256sums" and "-file".
 my %lines;
 $lines{mkpasswd} = [
-    ['-m ', [@methods]], ['-m sha', [qw(sha256crypt sha512crypt)]], ['-m help', ['help']], ['-m lo', []],
-    ['--method ', [@methods]], ['--method sc', ['scrypt']], ['--method=', [map { "--method=$_" } @methods]],
-    ['--method=sc', ['--method=scrypt']], ['-mm', ['-mmd5crypt']], ['-msha', [qw(-msha256crypt -msha512crypt)]],
-    ['--check --method=sha', [qw(--method=sha256crypt --method=sha512crypt)]], ['password -m h', ['help']],
+    ['-m ', [@methods]], ['-m sha', [qw(sha256crypt sha512crypt)]], ['-m lo', []], ['--method sc', ['scrypt']],
+    ['--method=', [map { "--method=$_" } @methods]], ['-mm', ['-mmd5crypt']], ['password -m h', ['help']],
+    ['--check --method=sha', [qw(--method=sha256crypt --method=sha512crypt)]],
     ['-', [@options]], ['--', [@long]], ['--me', ['--method']], ['--method', ['--method']], ['--b', [qw(--batch --budget)]],
     ['--x', []], ['password --', [@long]], ['-m md5crypt pass salt --w', ['--work']], ['-S ab --re', ['--rehash']],
-    ['-s --', but(qw(--stdin --batch --check --rehash --budget))],
-    ['--stdin --', but(qw(--stdin --batch --check --rehash --budget))],
-    ['--batch --', but(qw(--stdin --batch --check --rehash))], ['--check --', but(qw(--stdin --batch --check))],
+    (map { ["$_ --", but_of(\@long, qw(--stdin --batch --check --rehash --budget))] } '-s', '--stdin'),
+    ['--batch --', but_of(\@long, qw(--stdin --batch --check --rehash))], ['--check --', but_of(\@long, qw(--stdin --batch --check))],
     ['--rehash --ch', ['--check']], ['--batch -m md5crypt --b', ['--budget']],
     (map { ["$_", []], ["${_}lo", []] } '', 'password ', 'password salt ', '-S ', '--salt ', '-R ', '--rounds ', '--budget ',
         '--salt=', '--rounds=', '--budget=', '-S ab ', '-m md5crypt ', '-m md5crypt pass salt ', '-s ', '--batch ', '--check ',

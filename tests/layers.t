@@ -370,7 +370,6 @@ sub breaches_with {
 }
 
 binmode Test::More->builder->$_, ':encoding(UTF-8)' for qw(output failure_output);
-cmp_ok(keys %$tree, '>', 40, 'the sources are read');
 is_deeply([breaches($tree)], [], 'the layers hold');
 
 my $planted = do "$Bin/lib/breaches.pl" or die "breaches.pl: $@$!\n";

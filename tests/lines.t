@@ -81,12 +81,4 @@ subtest 'closed outputs' => sub {
     }
 };
 
-subtest 'tools/soak' => sub {
-    my @soak = ("$root/tools/soak", qw(--lines 200 --seed 1 --jobs 2));
-    my $run = run(@soak, program());
-    is($run->{status}, 0, 'the program is right') || diag($run->{out});
-    spew("$scratch/wrong", qq(#!/bin/sh\n"@{[program()]}" "\$@"\nexit 0\n));
-    chmod 0755, "$scratch/wrong";
-    like(run(@soak, "$scratch/wrong")->{out}, qr/^soak: chunk \d+ of the hash lines: --check.*: status 0, and not 1$/m, 'what is wrong is named');
-};
 done_testing;

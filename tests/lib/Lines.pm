@@ -195,17 +195,13 @@ my @fragments = (':', '::', '$', '$$', '*', '!', "\0", "\r", "\xc3\xa9", "\xff",
 sub mutated {
     my ($line) = @_;
     for (1 .. between(1, 3)) {
-        my $place = int rand 1 + length $line;
-        my $part = between(1, one_of(1, 4, 40));
-        my $kind = int rand 10;
-        my $is_inside = $place < length $line;
-        if ($kind < 2 && $is_inside) { substr $line, $place, 1, substr($line, $place, 1) ^ chr 1 << int rand 8 }
-        elsif ($kind == 2) { substr $line, $place, 1, chr int rand 256 if $is_inside }
-        elsif ($kind == 3) { substr $line, $place, $part, '' }
-        elsif ($kind < 6) { substr $line, $place, 0, one_of(@fragments) }
-        elsif ($kind == 6) { substr $line, $place, 0, substr $line, $place, $part }
-        elsif ($kind == 7) { $line = chance(0.5) ? substr $line, 0, $place : substr $line, $place }
-        elsif ($kind == 8) { substr $line, $place, 0, one_of(@fragments) x between(1, one_of(8, 400, 2048)) }
+        my ($place, $part, $kind) = (int rand 1 + length $line, between(1, one_of(1, 4, 40)), int rand 7);
+        if ($kind == 0) { substr $line, $place, 1, substr($line, $place, 1) ^ chr 1 << int rand 8 if $place < length $line }
+        elsif ($kind == 1) { substr $line, $place, $part, '' }
+        elsif ($kind == 2) { substr $line, $place, 0, one_of(@fragments) }
+        elsif ($kind == 3) { substr $line, $place, 0, substr $line, $place, $part }
+        elsif ($kind == 4) { $line = chance(0.5) ? substr $line, 0, $place : substr $line, $place }
+        elsif ($kind == 5) { substr $line, $place, 0, one_of(@fragments) x between(1, one_of(8, 400, 2048)) }
         else { $line =~ s/:/one_of('', '::', ';', "\0:")/e }
     }
     return $line;
