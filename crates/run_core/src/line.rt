@@ -84,7 +84,7 @@ pub fn inspect(kind: Kind, line: &[u8]) -> Option<LineFault>
     ensures refused { IfSome result (IsLineRefused kind line.now) }
     ensures each_refusal { (fault : Refusal) → IsLineRefused kind line.now fault → result ≡ Some fault }
 {
-    match read_line(kind, line) {
+    match parse_line(kind, line) {
         Ok(_) => None,
         Err(fault) => Some(fault),
     }
@@ -104,7 +104,7 @@ pub(crate) struct Line<'a> {
 /// # Errors
 ///
 /// - The first rule that the line breaks, but never `OverBudget`.
-pub(crate) fn read_line(kind: Kind, bytes: &[u8]) -> Result<Line<'_>, LineFault>
+pub(crate) fn parse_line(kind: Kind, bytes: &[u8]) -> Result<Line<'_>, LineFault>
     ensures read { IfOk result (λ line. IsLine kind bytes.now line.name.now line.password line.field) }
     ensures short { IfOk result (λ line. length line.name.now ≤ name_limit) }
     ensures refused { IfErr result (IsLineRefused kind bytes.now) }

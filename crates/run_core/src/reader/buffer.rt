@@ -1,12 +1,11 @@
-//! The buffer for the part of a line that has been read.
+//! The buffer for the line that is being read.
 ghost use Rattle.std.specs.Prelude.{◌≡◌, ℕ, ◌≤◌, ◌++◌, ◌↔◌, [], List, length, IfOk, IsTrue};
-ghost use Rattle.prims_core.specs.Work.{IsWithin};
 ghost use Rattle.run_core.specs.Lines.{name_limit};
 ghost use Rattle.run_core.specs.Private.Answers.{Decides, IsRaisedBelow};
-ghost use Rattle.run_core.specs.Private.LineProgress.{Represents};
 ghost use Rattle.run_core.specs.Private.Headroom.{HasCountsForLine, line_work_limit};
+ghost use Rattle.run_core.specs.Private.Lines.{Represents};
 
-use crate::answer::{LineAnswer, answer_line};
+use crate::answer::{Answered, answer_line};
 use crate::job::Job;
 use crate::line::{Kind, LINE_LIMIT, LineFault};
 use arrayvec::ArrayVec;
@@ -58,17 +57,16 @@ impl LineBuffer {
         job: &Job,
         rng: &mut R,
         meter: &mut Meter,
-    ) -> Result<LineAnswer<'_>, HashFault>
+    ) -> Result<Result<Answered<'_>, LineFault>, HashFault>
         requires { HasCountsForLine meter.old }
         ensures decides { (line : List ℕ) → Represents self.now line
             → Decides kind job.now line (R.stream rng.old) meter.old meter.new (R.stream rng.new) result }
-        ensures short { IfOk result (λ answer. length answer.name.now ≤ name_limit) }
-        ensures rises { IsWithin meter.old meter.new }
+        ensures short { IfOk result (λ answer. IfOk answer (λ answered. length answered.name.now ≤ name_limit)) }
         ensures small { IsRaisedBelow line_work_limit meter.old meter.new }
     {
         match self {
             LineBuffer::Bytes(line) => answer_line(alloc, kind, job, line.as_slice(), rng, meter),
-            LineBuffer::TooLong => Ok(LineAnswer::refused(LineFault::LineTooLong)),
+            LineBuffer::TooLong => Ok(Err(LineFault::LineTooLong)),
         }
     }
 }

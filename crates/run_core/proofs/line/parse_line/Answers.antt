@@ -3,7 +3,7 @@ use Rattle.run_core.specs.Lines.{Parts}
 use Rattle.run_core.specs.Makers.{bytes_of}
 use Rattle.run_core.specs.declared.line.LineFault.TheVariants.{NoPassword, Password}
 use Rattle.run_core.proofs.LineRules.{IsEntry, entry_from_behind, only_field_fault, refusal_unique, refused_field, refused_password, refused_without_parts, taken_not_refused, taken_with_field, taken_without_field}
-use Rattle.run_core.proofs.line.read_line.Goals as goal
+use Rattle.run_core.proofs.line.parse_line.Goals as goal
 
 -- the parts of a line
 abbrev parts_with : List ℕ → List ℕ → Option (List ℕ) → Parts
