@@ -23,7 +23,7 @@ use Rattle.run_core.specs.Makers.{made_cost_by}
 use Rattle.run_core.specs.Private.Answers.{IsChecked, IsSettled, field_cost}
 use Rattle.run_core.specs.Private.Lines.{HasSoundParts, IsFieldOf, IsLine}
 use Rattle.run_core.specs.declared.answer.Outcome.{Outcome}
-use Rattle.run_core.specs.declared.answer.Outcome.TheVariants.{Hashed, Match, Rehashed, Misfit, NoHash, Locked}
+use Rattle.run_core.specs.declared.answer.Outcome.TheVariants.{Match, Rehashed, Misfit}
 use Rattle.run_core.specs.declared.job.Job.{Job}
 use Rattle.run_core.specs.declared.line.Kind.{Kind}
 use Rattle.run_core.proofs.Cuts.{parts_unique}

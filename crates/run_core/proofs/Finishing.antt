@@ -1,5 +1,5 @@
 -- The flushes at the end of a run, which change nothing of what was taken.
-use Rattle.std.proofs.Common.{◌≡◌, ℕ, List, Option, Some, None, Ok, Err, refl, ◌∙◌, arith, inl, inr}
+use Rattle.std.proofs.Common.{◌≡◌, ℕ, List, Option, Some, None, Ok, Err, ◌∙◌, arith, inl, inr}
 use Rattle.std.specs.Io.KnownBytes.{Appends, Keeps}
 use Rattle.run_core.specs.Answers.{Answer, fault_texts, hashings_of, tally_of, texts}
 use Rattle.run_core.specs.Devices.{Device}

@@ -1,6 +1,5 @@
 -- How far a reader of lines has come.
-use Rattle.std.proofs.Common.{◌≡◌, ◌≢◌, ℕ, ◌+◌, ◌-◌, ◌*◌, ◌<◌, ◌≤◌, Bool, true, false, eqb, not, Some, None, take, drop, if◌then◌else◌, ◌⊎◌, inl, inr, List, [], ◌∷◌, ◌++◌, length, Result, Ok, Err, refl, sym, ap, subst, ◌∙◌, append_assoc, append-nil, arith}
-use Rattle.std.specs.Io.KnownBytes.{IsAtEnd}
+use Rattle.std.proofs.Common.{◌≡◌, ◌≢◌, ℕ, ◌+◌, ◌-◌, ◌<◌, ◌≤◌, Bool, true, false, eqb, not, Some, None, take, drop, List, [], ◌∷◌, ◌++◌, length, Ok, Err, refl, sym, ap, subst, ◌∙◌, append_assoc, append-nil, arith}
 use Rattle.std.proofs.KnownBytes.{Consumes-nil}
 use Rattle.std.specs.List.{position, slice_range}
 use Rattle.std.proofs.lemmas.List.{drop-drop, drop-take, length-append, length-take}
@@ -9,7 +8,6 @@ use Rattle.run_core.specs.Devices.{Device, MovesBytes}
 use Rattle.run_core.specs.Input.{Reads}
 use Rattle.run_core.specs.LineRuns.{HasLines, lines_of, piece_size}
 use Rattle.run_core.specs.Private.Deliveries.{IsUnfailed}
-use Rattle.run_core.specs.Private.Fetching.{StopsFetching}
 use Rattle.run_core.specs.Private.Headroom.{HasRoomFor}
 use Rattle.run_core.specs.Private.Lines.{Represents}
 use Rattle.run_core.specs.Private.Readers.{FetchesPiece, GivesNext, HasGiven, HasStopped, IsAt, TakesLine}

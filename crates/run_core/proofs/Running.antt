@@ -5,7 +5,7 @@ use Rattle.std.proofs.Math.Nat.{mul-le-mul_left}
 use Rattle.rand_core.specs.Stream.{Stream}
 use Rattle.prims_core.specs.Work.{IsAtMost}
 use Rattle.prims_core.specs.declared.meter.Work.{Work}
-use Rattle.run_core.specs.Answers.{Answer, Hashing, IsRefusedAmong, after_work, fault_texts, hashings_of, is_misfit, is_refusal, stream_left, tally_of, texts}
+use Rattle.run_core.specs.Answers.{Answer, IsRefusedAmong, after_work, fault_texts, hashings_of, is_misfit, is_refusal, stream_left, tally_of, texts}
 use Rattle.run_core.specs.DeviceCalls.{as_count}
 use Rattle.run_core.specs.Devices.{Device, HasRoomBeforeRun, MovesBytes, turns_limit}
 use Rattle.run_core.specs.LineAnswers.{AreAnswers, IsAnswer}
@@ -17,7 +17,7 @@ use Rattle.run_core.specs.Private.Fetching.{StopsFetching}
 use Rattle.run_core.specs.Private.Headroom.{HasRoomFor, HasRoomForLines, answer_limit, line_work_limit}
 use Rattle.run_core.specs.Private.Lines.{Represents}
 use Rattle.run_core.specs.Private.Readers.{GivesNext, HasGiven, HasStopped, IsAt}
-use Rattle.run_core.specs.Runs.{IsAfter, IsCutShort, IsWithinTurns, RunState, TakeAll, TakeInPart, calls_of, run_state}
+use Rattle.run_core.specs.Runs.{IsAfter, IsWithinTurns, RunState, TakeInPart, calls_of, run_state}
 use Rattle.run_core.specs.declared.answer.Answered.{Answered}
 use Rattle.run_core.specs.declared.fault.RunFault.{RunFault}
 use Rattle.run_core.specs.declared.fault.RunFault.TheVariants.{OutOfMemory}

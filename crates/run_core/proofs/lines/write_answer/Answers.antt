@@ -1,6 +1,6 @@
-use Rattle.std.proofs.Common.{◌≡◌, Bool, true, false, ℕ, ◌+◌, List, [], ◌∷◌, ◌++◌, Some, Result, Ok, Err, ap, refl, subst, sym, ◌∙◌, append-nil, append_assoc, arith, inl, inr}
+use Rattle.std.proofs.Common.{◌≡◌, ℕ, ◌+◌, List, [], ◌∷◌, ◌++◌, Some, Result, Ok, Err, ap, subst, sym, ◌∙◌, append-nil, append_assoc, arith, inl, inr}
 use Rattle.prims_core.specs.Work.{no_work}
-use Rattle.run_core.specs.Answers.{Answer, Hashing, after_work, fault_texts, is_refusal, rendered, texts}
+use Rattle.run_core.specs.Answers.{Hashing, after_work, rendered}
 use Rattle.prims_core.specs.declared.meter.Work.{Work}
 use Rattle.run_core.specs.Devices.{Device}
 use Rattle.run_core.specs.LineAnswers.{answer_of, refusal}
