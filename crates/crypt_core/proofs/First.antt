@@ -1,5 +1,5 @@
 -- At which stage reading a text fails first.
-use Rattle.std.proofs.Common.{◌≡◌, ℕ, ◌≤◌, ◌<◌, Bool, true, false, inl, inr, ◌⊎◌, List, ◌++◌, length, drop, All, refl, sym, ap, subst, ◌∙◌, arith}
+use Rattle.std.proofs.Common.{◌≡◌, ℕ, ◌≤◌, ◌<◌, Bool, true, false, inl, inr, List, ◌++◌, length, drop, All, refl, sym, ap, subst, ◌∙◌, arith}
 use Rattle.std.proofs.Math.Seq.{drop-append_seam}
 use Rattle.std.proofs.lemmas.List.{append_cancel_left}
 use Rattle.kdf_core.specs.Params.{ScryptCost, IsInRange, IsWithinCeiling}
@@ -7,16 +7,18 @@ use Rattle.crypt_core.specs.declared.method.Method.{Method}
 use Rattle.crypt_core.specs.declared.method.Method.TheVariants as methods
 use Rattle.crypt_core.specs.Rounds.{Rounds}
 use Rattle.crypt_core.specs.declared.scheme.Scheme.{Scheme}
-use Rattle.crypt_core.specs.declared.scheme.Scheme.TheVariants.{Md5crypt, Sha256crypt, Sha512crypt, Scrypt}
+use Rattle.crypt_core.specs.declared.scheme.Scheme.TheVariants.{Md5crypt, Shacrypt, Scrypt}
+use Rattle.crypt_core.specs.declared.scheme.Sha.{Sha}
+use Rattle.crypt_core.specs.declared.scheme.Sha.TheVariants.{Sha256, Sha512}
 use Rattle.crypt_core.specs.declared.setting.fault.SettingFault.TheVariants.{TooLong, BadCharacter, UnknownScheme, BadRounds, BadCost, ScryptRange, AboveCeiling, BadSalt}
 use Rattle.crypt_core.specs.MethodLimits.{prefix}
-use Rattle.crypt_core.specs.Private.Parts.{HasNumerals, IsSettingText, IsShaText, KeepsField, LacksCharacters, LacksRounds, SpellsSalt}
+use Rattle.crypt_core.specs.Private.Parts.{HasNumerals, IsSettingText, KeepsField, LacksCharacters, LacksRounds, SpellsSalt}
 use Rattle.crypt_core.specs.Refusals.{IsRefused, LacksCost}
-use Rattle.crypt_core.specs.Schemes.{IsScheme, method_of}
+use Rattle.crypt_core.specs.Schemes.{IsScheme, method_of, sha_method}
 use Rattle.crypt_core.specs.Settings.{IsSettingByte, IsField, BeginsWith, rounds_word, scrypt_part, IsScryptSalt, KeepsSalt, SpellsCost, Spells, SpellsRounds, SpellsScheme, setting_limit}
 use Rattle.crypt_core.specs.TextLimits.{scrypt_part_len}
 use Rattle.crypt_core.proofs.Numerals.{length-scrypt_part, all_scrypt_part}
-use Rattle.crypt_core.proofs.Readings.{prefix_unique, scheme_unique}
+use Rattle.crypt_core.proofs.Readings.{prefix_unique, scheme_unique, sha_apart}
 use Rattle.crypt_core.proofs.Refusals.{lacks_none}
 use Rattle.crypt_core.proofs.Rounds.{field_parts}
 
@@ -40,8 +42,8 @@ after_numbers after rest n parts =
 -- what is kept of a field, with a cost in range
 kept_salt : (scheme : Scheme) (field salt : List ℕ) → IsScheme scheme → KeepsField (method_of scheme) field salt → KeepsSalt scheme field salt
 kept_salt Md5crypt field salt c k = k
-kept_salt (Sha256crypt r) field salt c k = k
-kept_salt (Sha512crypt r) field salt c k = k
+kept_salt (Shacrypt Sha256 r) field salt c k = k
+kept_salt (Shacrypt Sha512 r) field salt c k = k
 kept_salt (Scrypt n) field salt c k = (c, k.0, k.1)
 
 -- all parts of a text that spells a setting
@@ -68,25 +70,14 @@ spelled_rounds r part after s lacks = by r.is_written s
     by false w = w.2 (lacks.0, sym (ap (λ (x : List ℕ). x ++ after) w.0) ∙ lacks.1)
 
 -- so `rounds=` without a proper field is no cost of SHA-crypt
-sha256_lacks : (text after : List ℕ) → text ≡ prefix methods.Sha256crypt ++ after → LacksRounds after → LacksCost methods.Sha256crypt text
-sha256_lacks text after e lacks = ((after, e), none)
+sha_lacks : (text : List ℕ) (sha : Sha) (after : List ℕ) → text ≡ prefix (sha_method sha) ++ after → LacksRounds after → LacksCost (sha_method sha) text
+sha_lacks text sha after e lacks = ((after, e), none)
   where
-    none : (scheme : Scheme) (z : List ℕ) → method_of scheme ≡ methods.Sha256crypt → SpellsScheme text scheme z → ⊥
-    none (Sha256crypt r) z m s =
-        spelled_rounds r s.0 z s.2 (subst LacksRounds (sym (prefix_unique methods.Sha256crypt methods.Sha256crypt (s.0 ++ z) after (sym s.1 ∙ e)).1) lacks)
-    none Md5crypt z m s = absurd cc
-    none (Sha512crypt r) z m s = absurd cc
-    none (Scrypt n) z m s = absurd cc
-
-sha512_lacks : (text after : List ℕ) → text ≡ prefix methods.Sha512crypt ++ after → LacksRounds after → LacksCost methods.Sha512crypt text
-sha512_lacks text after e lacks = ((after, e), none)
-  where
-    none : (scheme : Scheme) (z : List ℕ) → method_of scheme ≡ methods.Sha512crypt → SpellsScheme text scheme z → ⊥
-    none (Sha512crypt r) z m s =
-        spelled_rounds r s.0 z s.2 (subst LacksRounds (sym (prefix_unique methods.Sha512crypt methods.Sha512crypt (s.0 ++ z) after (sym s.1 ∙ e)).1) lacks)
-    none Md5crypt z m s = absurd cc
-    none (Sha256crypt r) z m s = absurd cc
-    none (Scrypt n) z m s = absurd cc
+    none : (scheme : Scheme) (z : List ℕ) → method_of scheme ≡ sha_method sha → SpellsScheme text scheme z → ⊥
+    none (Shacrypt other r) z m s =
+        spelled_rounds r s.0 z s.2 (subst LacksRounds (sym (prefix_unique (sha_method other) (sha_method sha) (s.0 ++ z) after (sym s.1 ∙ e)).1) lacks)
+    none Md5crypt z m s = (sha_apart sha).0 (sym m)
+    none (Scrypt n) z m s = (sha_apart sha).1 (sym m)
 
 -- nor are too few characters one of scrypt
 scrypt_lacks : (text after : List ℕ) → text ≡ prefix methods.Scrypt ++ after → LacksCharacters after → LacksCost methods.Scrypt text
@@ -97,8 +88,7 @@ scrypt_lacks text after e lacks = ((after, e), none)
         let parts : s.0 ++ z ≡ after = (prefix_unique methods.Scrypt methods.Scrypt (s.0 ++ z) after (sym s.1 ∙ e)).1 in
         lacks (scrypt_part n) z (length-scrypt_part n) (all_scrypt_part n) (sym parts ∙ ap (λ (x : List ℕ). x ++ z) s.2.0)
     none Md5crypt z m s = absurd cc
-    none (Sha256crypt r) z m s = absurd cc
-    none (Sha512crypt r) z m s = absurd cc
+    none (Shacrypt sha r) z m s = (sha_apart sha).1 m
 
 -- a text of another method lacks no cost of this one
 other_method : (text : List ℕ) (a b : Method) (after : List ℕ) → (a ≡ b → ⊥) → text ≡ prefix a ++ after → LacksCost b text → ⊥
@@ -137,17 +127,14 @@ module _ (text : List ℕ) (is_text : IsSettingText text) where
   known : (m : Method) (after : List ℕ) → text ≡ prefix m ++ after → ((n : Method) → BeginsWith text (prefix n) → ⊥) → ⊥
   known m after e none = none m (after, e)
 
-  pub refused_rounds : (after : List ℕ) → IsShaText text after → LacksRounds after → IsRefused text BadRounds
+  pub refused_rounds : (sha : Sha) (after : List ℕ) → text ≡ prefix (sha_method sha) ++ after → LacksRounds after → IsRefused text BadRounds
   unfolding IsRefused
-  refused_rounds after (inl e) lacks =
-      inr (not_long, inr (not_bad, inr (known methods.Sha256crypt after e, inl (refl, inl (sha256_lacks text after e lacks)))))
-  refused_rounds after (inr e) lacks =
-      inr (not_long, inr (not_bad, inr (known methods.Sha512crypt after e, inl (refl, inr (sha512_lacks text after e lacks)))))
+  refused_rounds sha after e lacks =
+      inr (not_long, inr (not_bad, inr (known (sha_method sha) after e, inl (refl, (sha, sha_lacks text sha after e lacks)))))
 
   -- nor one of scrypt for rounds
-  no_rounds : (after : List ℕ) → text ≡ prefix methods.Scrypt ++ after → LacksCost methods.Sha256crypt text ⊎ LacksCost methods.Sha512crypt text → ⊥
-  no_rounds after e (inl lacks) = other_method text methods.Scrypt methods.Sha256crypt after (λ same. absurd (cc same)) e lacks
-  no_rounds after e (inr lacks) = other_method text methods.Scrypt methods.Sha512crypt after (λ same. absurd (cc same)) e lacks
+  no_rounds : (after : List ℕ) → text ≡ prefix methods.Scrypt ++ after → (sha : Sha) × LacksCost (sha_method sha) text → ⊥
+  no_rounds after e (sha, lacks) = other_method text methods.Scrypt (sha_method sha) after (λ same. (sha_apart sha).1 (sym same)) e lacks
 
   pub refused_cost : (after : List ℕ) → text ≡ prefix methods.Scrypt ++ after → LacksCharacters after → IsRefused text BadCost
   unfolding IsRefused
@@ -159,7 +146,7 @@ module _ (text : List ℕ) (is_text : IsSettingText text) where
     numbers_known : ((m : Method) → BeginsWith text (prefix m) → ⊥) → ⊥
     numbers_known = known methods.Scrypt (spelled.0 ++ rest) spelled.1
 
-    some_rounds : LacksCost methods.Sha256crypt text ⊎ LacksCost methods.Sha512crypt text → ⊥
+    some_rounds : (sha : Sha) × LacksCost (sha_method sha) text → ⊥
     some_rounds = no_rounds (spelled.0 ++ rest) spelled.1
 
     some_cost : LacksCost methods.Scrypt text → ⊥
@@ -210,5 +197,4 @@ refused_salt text (Scrypt n) field rest t s c m f bad =
       ),
     )
 refused_salt text Md5crypt field rest t s c m f bad = absurd cc
-refused_salt text (Sha256crypt r) field rest t s c m f bad = absurd cc
-refused_salt text (Sha512crypt r) field rest t s c m f bad = absurd cc
+refused_salt text (Shacrypt sha r) field rest t s c m f bad = absurd ((sha_apart sha).1 m)

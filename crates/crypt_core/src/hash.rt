@@ -17,7 +17,7 @@ ghost use Rattle.crypt_core.specs.MethodLimits.{digest_len};
 use crate::md5crypt::md5crypt;
 use crate::pack::{SCRYPT_PACKED_LEN, pack, packed_len};
 use crate::password::Password;
-use crate::scheme::Scheme;
+use crate::scheme::{Scheme, Sha};
 use crate::setting::{CANONICAL_LIMIT, Setting, TEXT_CAPACITY};
 use crate::shacrypt::shacrypt;
 use arrayvec::ArrayVec;
@@ -149,18 +149,10 @@ fn digest_of(
         Scheme::Md5crypt => Ok(ArrayVec::try_from(md5crypt(
             password, salt, meter,
         ).as_slice()).unwrap()),
-        Scheme::Sha256crypt(rounds) => Ok(shacrypt::<CountedSha256>(
-            password,
-            salt,
-            rounds.count(),
-            meter,
-        )),
-        Scheme::Sha512crypt(rounds) => Ok(shacrypt::<CountedSha512>(
-            password,
-            salt,
-            rounds.count(),
-            meter,
-        )),
+        Scheme::Shacrypt(sha, rounds) => Ok(match sha {
+            Sha::Sha256 => shacrypt::<CountedSha256>(password, salt, rounds.count(), meter),
+            Sha::Sha512 => shacrypt::<CountedSha512>(password, salt, rounds.count(), meter),
+        }),
         Scheme::Scrypt(params) => scrypt_digest(alloc, password.bytes(), salt, &params, meter),
     }
 }

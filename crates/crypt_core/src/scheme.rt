@@ -106,15 +106,22 @@ impl Rounds {
     }
 }
 
+/// The digest of SHA-crypt.
+#[derive(Clone, Copy, Debug, PartialEq, Eq)]
+pub enum Sha {
+    /// SHA-256, in sha256crypt.
+    Sha256,
+    /// SHA-512, in sha512crypt.
+    Sha512,
+}
+
 /// A method with its cost.
 #[derive(Clone, Copy, Debug, PartialEq, Eq)]
 pub enum Scheme {
     /// FreeBSD's md5crypt, whose cost is fixed.
     Md5crypt,
-    /// SHA-crypt over SHA-256, with its rounds.
-    Sha256crypt(Rounds),
-    /// SHA-crypt over SHA-512, with its rounds.
-    Sha512crypt(Rounds),
+    /// SHA-crypt over this digest, with its rounds.
+    Shacrypt(Sha, Rounds),
     /// scrypt, with its N, r and p.
     Scrypt(Params),
 }
@@ -136,8 +143,8 @@ impl Scheme {
     {
         match (method, cost) {
             (Method::Md5crypt, _) => Ok(Scheme::Md5crypt),
-            (Method::Sha256crypt, _) => Ok(Scheme::Sha256crypt(Rounds::made(cost))),
-            (Method::Sha512crypt, _) => Ok(Scheme::Sha512crypt(Rounds::made(cost))),
+            (Method::Sha256crypt, _) => Ok(Scheme::Shacrypt(Sha::Sha256, Rounds::made(cost))),
+            (Method::Sha512crypt, _) => Ok(Scheme::Shacrypt(Sha::Sha512, Rounds::made(cost))),
             (Method::Scrypt, 0) => Ok(Scheme::Scrypt(params_of(DEFAULT_COST))),
             (Method::Scrypt, MIN_COST..=MAX_COST) => Ok(Scheme::Scrypt(params_of(cost))),
             (Method::Scrypt, _) => Err(MakeFault::Cost),
@@ -150,8 +157,8 @@ impl Scheme {
     {
         match self {
             Scheme::Md5crypt => Method::Md5crypt,
-            Scheme::Sha256crypt(_) => Method::Sha256crypt,
-            Scheme::Sha512crypt(_) => Method::Sha512crypt,
+            Scheme::Shacrypt(Sha::Sha256, _) => Method::Sha256crypt,
+            Scheme::Shacrypt(Sha::Sha512, _) => Method::Sha512crypt,
             Scheme::Scrypt(_) => Method::Scrypt,
         }
     }
@@ -165,8 +172,10 @@ impl Scheme {
     {
         match (self, new) {
             (Scheme::Md5crypt, Scheme::Md5crypt) => false,
-            (Scheme::Sha256crypt(old), Scheme::Sha256crypt(new))
-            | (Scheme::Sha512crypt(old), Scheme::Sha512crypt(new)) => old.count() < new.count(),
+            (Scheme::Shacrypt(Sha::Sha256, old), Scheme::Shacrypt(Sha::Sha256, new))
+            | (Scheme::Shacrypt(Sha::Sha512, old), Scheme::Shacrypt(Sha::Sha512, new)) => {
+                old.count() < new.count()
+            }
             (Scheme::Scrypt(old), Scheme::Scrypt(new)) => old.product() < new.product(),
             _ => true,
         }
@@ -179,9 +188,7 @@ impl Scheme {
     {
         match self {
             Scheme::Md5crypt => true,
-            Scheme::Sha256crypt(rounds) | Scheme::Sha512crypt(rounds) => {
-                u64::from(rounds.count()) <= MAX_ROUNDS
-            }
+            Scheme::Shacrypt(_, rounds) => u64::from(rounds.count()) <= MAX_ROUNDS,
             Scheme::Scrypt(params) => params.log_n() > 0,
         }
     }

@@ -38,7 +38,7 @@ fn append_cost(text: &mut ArrayVec<u8, TEXT_CAPACITY>, scheme: &Scheme)
 {
     match scheme {
         Scheme::Md5crypt => {}
-        Scheme::Sha256crypt(rounds) | Scheme::Sha512crypt(rounds) => {
+        Scheme::Shacrypt(_, rounds) => {
             if rounds.is_written() {
                 text.try_extend_from_slice(ROUNDS_WORD).unwrap();
                 append_decimal(text, rounds.count());
