@@ -47,7 +47,7 @@ spelled_fails_none text kept s BadSalt b =
     b.5 (subst IsScryptSalt fields.0 (scrypt_kept kept.scheme b.0 s.field kept.salt same.0 s.salt).1)
 
 -- so it gets no refusal
-spelled_not_refused : (text : List ℕ) (kept : SettingValue) → Spells text kept → (fault : SettingFault) → IsRefused text fault → ⊥
+pub spelled_not_refused : (text : List ℕ) (kept : SettingValue) → Spells text kept → (fault : SettingFault) → IsRefused text fault → ⊥
 unfolding IsRefused
 spelled_not_refused text kept s fault refused = spelled_fails_none text kept s fault (first_breaks setting_faults (FailsStage text) fault refused)
 

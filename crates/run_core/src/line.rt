@@ -29,27 +29,21 @@ pub enum Kind {
 
 /// The first rule that a line breaks, in this order.
 #[derive(Clone, Copy, Debug, PartialEq, Eq, Error)]
+#[error("{}", self.text())]
 pub enum LineFault {
     /// The line has more than [`LINE_LIMIT`] bytes.
-    #[error("{}", self.text())]
     LineTooLong,
     /// The line is empty or begins with a colon.
-    #[error("{}", self.text())]
     NoName,
     /// The name, which ends before the first colon or at the end of the line, has more than [`NAME_LIMIT`] bytes.
-    #[error("{}", self.text())]
     NameTooLong,
     /// The line has no colon, or for a check fewer than two.
-    #[error("{}", self.text())]
     NoPassword,
     /// The password, which follows the first colon, or for a check the second, is invalid.
-    #[error("{}", self.text())]
     Password(PasswordFault),
     /// The field to check is not empty, does not begin with `!` or `*`, and spells no setting.
-    #[error("{}", self.text())]
     Setting(SettingFault),
     /// The line can cost more than the budget, which is no rule of the line alone.
-    #[error("{}", self.text())]
     OverBudget,
 }
 

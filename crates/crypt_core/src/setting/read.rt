@@ -33,6 +33,7 @@ impl Setting {
     /// # Errors
     ///
     /// The first rule that the string breaks, in the order of [`SettingFault`].
+    #[tactic(auto, using(crate::proofs::Refusals::one_reading))]
     pub fn read(text: &[u8]) -> Result<Setting, SettingFault>
         ensures spelled { IfOk result (Spells text.now) }
         ensures each_setting { (kept : SettingValue) → Spells text.now kept → result ≡ Ok kept }
@@ -44,13 +45,10 @@ impl Setting {
     {
         check_bytes(text)?;
         match scheme_at(text) {
-            Ok((scheme, after)) => {
-                prove!(scheme.is_in_range());
-                match salt_at(scheme.method(), after) {
-                    Some(salt) => Ok(Setting { scheme, salt }),
-                    None => Err(SettingFault::BadSalt),
-                }
-            }
+            Ok((scheme, after)) => match salt_at(scheme.method(), after) {
+                Some(salt) => Ok(Setting { scheme, salt }),
+                None => Err(SettingFault::BadSalt),
+            },
             Err(fault) => Err(fault),
         }
     }

@@ -13,5 +13,5 @@ returns-in_default-number_at-clause-err c = λ text is_text begins_with.
 pub returns-clause-ok : goal.returns-clause-ok
 returns-clause-ok c = λ text begins_with.
     let found = c.in-Some-number_at.ensures.some in
-    let rounds = written_rounds c.args.after.now c.in-Some.field.now found.0 c.in-Some-number_at.rest.now c.in-Some-number_at.number c.written.result (begins c.args.after.now rounds_word c.in-Some.field c.in-Some.ensures.cases) found.1 found.2 found.3 c.written.ensures in
+    let rounds = written_rounds c.args.after.now c.in-Some.field.now found.0 c.in-Some-number_at.rest.now c.in-Some-number_at.number c.written.result (begins c.args.after.now rounds_word c.in-Some.field c.in-Some.ensures.cases) found.1 found.2 found.3 c.written.ensures.value in
     spelled_front text (Shacrypt c.args.sha c.written.result) c.args.after.now rounds.0 c.in-Some-number_at.rest.now begins_with rounds.1 rounds.2
