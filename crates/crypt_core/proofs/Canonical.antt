@@ -3,7 +3,7 @@ use Rattle.crypt_core.specs.TextLimits.{canonical_limit, hash_limit}
 use Rattle.std.proofs.Common.{◌≡◌, ◌≢◌, ℕ, ◌+◌, ◌≤◌, ◌<◌, ◌^◌, Bool, true, false, not, eqb, ◌&&◌, ◌⊎◌, inl, inr, List, [], ◌∷◌, ◌++◌, length, take, drop, get_or, All, length-append, append-nil, refl, sym, ap, subst, ◌∙◌, append_assoc, arith}
 use Rattle.std.specs.Prelude.{Contains, decimal, codes, nat_le}
 use Rattle.std.specs.List.{AllByRecursion, list_all}
-use Rattle.std.specs.Str.Parse.{AllDigits, digits_value}
+use Rattle.std.specs.Str.Parse.{AllDigits}
 use Rattle.std.proofs.Math.Seq.{take-append_seam, drop-append_seam}
 use Rattle.std.proofs.lemmas.Bool.{and_parts, eqb-false, leb-true, not-true}
 use Rattle.std.proofs.lemmas.List.Sums.{AllPass-from_list_all}
@@ -28,26 +28,12 @@ use Rattle.crypt_core.proofs.PackingLemmas.{packed_len-small}
 
 -- What a setting keeps is bounded
 
-pub clamped_range : (n : ℕ) → (min_rounds ≤ clamped n) × (clamped n ≤ max_rounds)
-clamped_range n = (omega arith, omega arith)
-
 pub in_range : (n : ℕ) → clamped n ≡ n → (min_rounds ≤ n) × (n ≤ max_rounds)
 in_range n e = (omega arith, omega arith)
 
-pub clamped_again : (n : ℕ) → min_rounds ≤ n → n ≤ max_rounds → clamped n ≡ n
-clamped_again n low high = omega arith
-
-rounds_range : (count : ℕ) (flag : Bool) (part after : List ℕ) → SpellsRounds (record { count = count; is_written = flag }) part after → (min_rounds ≤ count) × (count ≤ max_rounds)
-rounds_range count true part after s = let r = clamped_range (digits_value 10 s.0) in (omega (arith, s.3, r.0), omega (arith, s.3, r.1))
-rounds_range count false part after s = (omega (arith, s.1), omega (arith, s.1))
-
 spelled_rounds : (count : ℕ) (flag : Bool) (part after : List ℕ) → SpellsRounds (record { count = count; is_written = flag }) part after → IsRounds (record { count = count; is_written = flag })
-spelled_rounds count true part after s =
-    let range = rounds_range count true part after s in
-    (clamped_again count range.0 range.1, λ e. absurd (cc e))
-spelled_rounds count false part after s =
-    let range = rounds_range count false part after s in
-    (clamped_again count range.0 range.1, λ e. s.1)
+spelled_rounds count true part after s = (omega (arith, s.3), λ e. absurd (cc e))
+spelled_rounds count false part after s = (omega (arith, s.1), λ e. s.1)
 
 pub cost_bounded : (scheme : Scheme) (part after field salt : List ℕ) → SpellsCost scheme part after → KeepsSalt scheme field salt → IsScheme scheme
 cost_bounded Md5crypt part after field salt s k = tt
@@ -233,17 +219,20 @@ begins_within (y ∷ salt) tail (w ∷ word) none end (more, e) =
 rounds_word_no_dollar : AllByRecursion (λ b. b ≢ dollar) rounds_word
 rounds_word_no_dollar = (λ e. omega arith, (λ e. omega arith, (λ e. omega arith, (λ e. omega arith, (λ e. omega arith, (λ e. omega arith, (λ e. omega arith, tt)))))))
 
+-- rounds are spelled by their own part, if no `rounds=` follows where they have no field
+pub rounds_spelled : (sha : Sha) (count : ℕ) (flag : Bool) (after : List ℕ) → IsRounds (record { count = count; is_written = flag }) → (flag ≡ false → ¬ BeginsWith after rounds_word) → SpellsRounds (record { count = count; is_written = flag }) (cost_part (Shacrypt sha (record { count = count; is_written = flag }))) after
+rounds_spelled sha count true after r free =
+    let range = in_range count r.0 in
+    let below : count < 2 ^ 64 = omega (arith, range) in
+    (decimal count, decimal_is_number count (omega (arith, range)) below, refl, sym r.0 ∙ ap clamped (sym (decimal_is_IsNumeral count below).1))
+rounds_spelled sha count false after r free = (refl, r.1 refl, free refl)
+
 rounds_again : (sha : Sha) (count : ℕ) (flag : Bool) (n : ℕ) (part field rest salt tail : List ℕ) → salt ≡ take n field → IsEndOfField tail → SpellsRounds (record { count = count; is_written = flag }) part (field ++ rest) → SpellsRounds (record { count = count; is_written = flag }) (cost_part (Shacrypt sha (record { count = count; is_written = flag }))) (salt ++ tail)
 rounds_again sha count true n part field rest salt tail e end s =
-    let range = rounds_range count true part (field ++ rest) s in
-    let below : count < 2 ^ 64 = omega (arith, range) in (
-      decimal count,
-      decimal_is_number count (omega (arith, range)) below,
-      refl,
-      sym (clamped_again count range.0 range.1) ∙ ap clamped (sym (decimal_is_IsNumeral count below).1),
-    )
+    rounds_spelled sha count true (salt ++ tail) (spelled_rounds count true part (field ++ rest) s) (λ flag. absurd (cc flag))
 rounds_again sha count false n part field rest salt tail e end s =
-    (refl, s.1, λ begins. s.2 (begins_longer n field rest salt rounds_word e (begins_within salt tail rounds_word rounds_word_no_dollar end begins)))
+    rounds_spelled sha count false (salt ++ tail) (spelled_rounds count false part (field ++ rest) s) (λ flag begins.
+    s.2 (begins_longer n field rest salt rounds_word e (begins_within salt tail rounds_word rounds_word_no_dollar end begins)))
 
 cost_again : (scheme : Scheme) (n : ℕ) (part field rest salt tail : List ℕ) → salt ≡ take n field → IsEndOfField tail → SpellsCost scheme part (field ++ rest) → SpellsCost scheme (cost_part scheme) (salt ++ tail)
 cost_again Md5crypt n part field rest salt tail e end s = refl
