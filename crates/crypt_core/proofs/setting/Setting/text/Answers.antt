@@ -16,14 +16,14 @@ pub append_cost-requires : goal.append_cost-requires
 append_cost-requires c =
     let bounded = setting_bounded (record { scheme = c.self.inside.scheme; salt = c.self.inside.salt.items }) c.self.invariant in
     let front : length c.unwrap-text.result.items ≡ length (prefix (method_of c.self.inside.scheme)) =
-    ap length ((rw c.unwrap-text.ensures at c.try_from.ensures).0 ∙ c.row.ensures.prefix) ∙ ap (λ (m : Method). length (prefix m)) c.method.ensures in
+    ap length ((rw c.unwrap-text.ensures at c.try_from.ensures).0 ∙ c.row.ensures.prefix) ∙ ap (λ (m : Method). length (prefix m)) c.method.ensures.method in
     record { room = omega (arith, canonical_short c.self.inside.scheme c.self.inside.salt.items bounded.0 bounded.1, front) }
 
 pub unwrap-requires : goal.unwrap-requires
 unwrap-requires c =
     let bounded = setting_bounded (record { scheme = c.self.inside.scheme; salt = c.self.inside.salt.items }) c.self.invariant in
     let front : length c.unwrap-text.result.items ≡ length (prefix (method_of c.self.inside.scheme)) =
-    ap length ((rw c.unwrap-text.ensures at c.try_from.ensures).0 ∙ c.row.ensures.prefix) ∙ ap (λ (m : Method). length (prefix m)) c.method.ensures in
+    ap length ((rw c.unwrap-text.ensures at c.try_from.ensures).0 ∙ c.row.ensures.prefix) ∙ ap (λ (m : Method). length (prefix m)) c.method.ensures.method in
     c.try_extend_from_slice.ensures.variant.1
     (omega (arith, canonical_short c.self.inside.scheme c.self.inside.salt.items bounded.0 bounded.1, front, ap length c.append_cost.ensures, length-append c.unwrap-text.result.items (cost_part c.self.inside.scheme), ap length c.as_slice.ensures.value))
 
@@ -37,7 +37,7 @@ returns-clause-short c =
     let salt = c.self.inside.salt.items in
     let bounded = setting_bounded (record { scheme = scheme; salt = salt }) c.self.invariant in
     let front : length c.unwrap-text.result.items ≡ length (prefix (method_of c.self.inside.scheme)) =
-    ap length ((rw c.unwrap-text.ensures at c.try_from.ensures).0 ∙ c.row.ensures.prefix) ∙ ap (λ (m : Method). length (prefix m)) c.method.ensures in
+    ap length ((rw c.unwrap-text.ensures at c.try_from.ensures).0 ∙ c.row.ensures.prefix) ∙ ap (λ (m : Method). length (prefix m)) c.method.ensures.method in
     let whole = lengths (prefix (method_of scheme)) (cost_part scheme) salt c.unwrap-text.result.items c.append_cost.new.text.items c.as_slice.result.now c.try_extend_from_slice.new.self.items front c.append_cost.ensures c.as_slice.ensures.value (rw c.unwrap.ensures at c.try_extend_from_slice.ensures.ok) in
     omega (arith, canonical_short scheme salt bounded.0 bounded.1, whole)
 
@@ -47,7 +47,7 @@ returns-clause-room c =
     let salt = c.self.inside.salt.items in
     let bounded = setting_bounded (record { scheme = scheme; salt = salt }) c.self.invariant in
     let front : length c.unwrap-text.result.items ≡ length (prefix (method_of c.self.inside.scheme)) =
-    ap length ((rw c.unwrap-text.ensures at c.try_from.ensures).0 ∙ c.row.ensures.prefix) ∙ ap (λ (m : Method). length (prefix m)) c.method.ensures in
+    ap length ((rw c.unwrap-text.ensures at c.try_from.ensures).0 ∙ c.row.ensures.prefix) ∙ ap (λ (m : Method). length (prefix m)) c.method.ensures.method in
     let whole = lengths (prefix (method_of scheme)) (cost_part scheme) salt c.unwrap-text.result.items c.append_cost.new.text.items c.as_slice.result.now c.try_extend_from_slice.new.self.items front c.append_cost.ensures c.as_slice.ensures.value (rw c.unwrap.ensures at c.try_extend_from_slice.ensures.ok) in
     subst (λ (k : SettingValue). length c.try_extend_from_slice.new.self.items + packed_len (method_of k.scheme) < hash_limit) c.self.view_is
     (omega (arith, packed_short scheme salt bounded.0 bounded.1, whole))
