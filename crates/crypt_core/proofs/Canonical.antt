@@ -69,11 +69,18 @@ length_rounds : (sha : Sha) (count : ℕ) (flag : Bool) → count ≤ max_rounds
 length_rounds sha count true high = length_written count high
 length_rounds sha count false high = omega arith
 
--- the canonical text stays within its limit
-pub canonical_short : (scheme : Scheme) (salt : List ℕ) → IsScheme scheme → length salt ≤ salt_limit (method_of scheme) → length (prefix (method_of scheme)) + (length (cost_part scheme) + length salt) ≤ canonical_limit
-canonical_short Md5crypt salt c l = omega arith
-canonical_short (Shacrypt sha r) salt c l = omega (arith, l, length-prefix (sha_method sha), sha_salt_limit sha, length_rounds sha r.count r.is_written (in_range r.count c.0).1)
-canonical_short (Scrypt n) salt c l = omega (arith, length-scrypt_part n)
+-- the canonical text stays within its limit, and with a `$` and the packed digest within that of a hash
+pub canonical_short : (scheme : Scheme) (salt : List ℕ) → IsScheme scheme → length salt ≤ salt_limit (method_of scheme)
+    → (3 + (length (cost_part scheme) + length salt) ≤ canonical_limit) × (3 + (length (cost_part scheme) + length salt) + packed_len (method_of scheme) < hash_limit)
+canonical_short Md5crypt salt c l = (omega arith, omega arith)
+canonical_short (Shacrypt sha r) salt c l =
+    let part = length_rounds sha r.count r.is_written (in_range r.count c.0).1 in
+    (omega (arith, l, sha_salt_limit sha, part), omega (arith, l, sha_salt_limit sha, part, packed_len-small (sha_method sha)))
+canonical_short (Scrypt n) salt c l = (omega (arith, length-scrypt_part n), omega (arith, length-scrypt_part n))
+
+pub setting_short : (kept : SettingValue) → IsSetting kept
+    → (3 + (length (cost_part kept.scheme) + length kept.salt) ≤ canonical_limit) × (3 + (length (cost_part kept.scheme) + length kept.salt) + packed_len (method_of kept.scheme) < hash_limit)
+setting_short kept is = let bounded = setting_bounded kept is in canonical_short kept.scheme kept.salt bounded.0 bounded.1
 
 -- Digits
 
@@ -253,7 +260,7 @@ canonical_spells_before text kept tail s end tail_bytes short =
     let salt : All IsSettingByte kept.salt = subst (All IsSettingByte) (sym salt_front) (All-take IsSettingByte (salt_limit m) s.field field) in
     let bounded = setting_bounded kept (text, s) in
     record {
-      short = omega (arith, canonical_short kept.scheme kept.salt bounded.0 bounded.1, length-append (canonical_text kept) tail, length-append (prefix m) (part ++ kept.salt), length-append part kept.salt, short);
+      short = omega (arith, (canonical_short kept.scheme kept.salt bounded.0 bounded.1).0, length-prefix m, length-append (canonical_text kept) tail, length-append (prefix m) (part ++ kept.salt), length-append part kept.salt, short);
       bytes = All-append IsSettingByte (canonical_text kept) tail
           (All-append IsSettingByte (prefix m) (part ++ kept.salt) (all_left (prefix m) (front ++ (s.field ++ s.rest)) all)
           (All-append IsSettingByte part kept.salt (cost_bytes kept.scheme bounded.0) salt))
@@ -272,11 +279,3 @@ canonical_spells_before text kept tail s end tail_bytes short =
 pub canonical_spells : (text : List ℕ) (kept : SettingValue) → Spells text kept → Spells (canonical_text kept) kept
 canonical_spells text kept s =
     subst (λ (t : List ℕ). Spells t kept) (append-nil (canonical_text kept)) (canonical_spells_before text kept [] s tt (All-nil IsSettingByte) (omega arith))
-
--- with a `$` and the text of the method's digest it stays within the limit of a hash
-pub packed_short : (scheme : Scheme) (salt : List ℕ) → IsScheme scheme → length salt ≤ salt_limit (method_of scheme)
-    → length (prefix (method_of scheme)) + (length (cost_part scheme) + length salt) + packed_len (method_of scheme) < hash_limit
-packed_short Md5crypt salt c l = omega arith
-packed_short (Shacrypt sha r) salt c l =
-    omega (arith, l, length-prefix (sha_method sha), sha_salt_limit sha, packed_len-small (sha_method sha), length_rounds sha r.count r.is_written (in_range r.count c.0).1)
-packed_short (Scrypt n) salt c l = omega (arith, length-scrypt_part n)

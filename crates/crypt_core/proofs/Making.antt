@@ -19,6 +19,7 @@ use Rattle.crypt_core.specs.Private.Parts.{HasNumerals, TakesSalt}
 use Rattle.crypt_core.specs.Schemes.{IsScheme, method_of}
 use Rattle.crypt_core.specs.Settings.{SettingValue, IsSettingByte, dollar, BeginsWith, rounds_word, SpellsCost, KeepsSalt, cost_part, canonical_text}
 use Rattle.crypt_core.proofs.Canonical.{canonical_short, character_is_byte, cost_bytes, IsSetting, not_dollar, not_equals, prefix_bytes, rounds_spelled}
+use Rattle.crypt_core.proofs.EachMethod.{length-prefix}
 use Rattle.crypt_core.proofs.Fields.{ended_by}
 use Rattle.crypt_core.proofs.Rules.{first_breaks, first_unique}
 
@@ -59,7 +60,7 @@ spelled scheme salt c short all =
     let kept : SettingValue = record { scheme = scheme; salt = salt } in (
       canonical_text kept,
       record {
-        short = omega (arith, canonical_short scheme salt c short, length-append (prefix (method_of scheme)) (cost_part scheme ++ salt), length-append (cost_part scheme) salt);
+        short = omega (arith, (canonical_short scheme salt c short).0, length-prefix (method_of scheme), length-append (prefix (method_of scheme)) (cost_part scheme ++ salt), length-append (cost_part scheme) salt);
         bytes = All-append IsSettingByte (prefix (method_of scheme)) (cost_part scheme ++ salt) (prefix_bytes (method_of scheme))
             (All-append IsSettingByte (cost_part scheme) salt (cost_bytes scheme c) (All-weaker (Contains alphabet) IsSettingByte character_is_byte salt all));
         field = salt;

@@ -1,5 +1,5 @@
 -- A text spells one setting at most.
-use Rattle.std.proofs.Common.{◌≡◌, ◌≢◌, ℕ, List, ◌++◌, drop, get_or, refl, sym, ap, ap₂, ◌∙◌, arith}
+use Rattle.std.proofs.Common.{◌≡◌, ◌≢◌, ℕ, List, ◌++◌, get_or, refl, sym, ap, ap₂, ◌∙◌, arith}
 use Rattle.kdf_core.specs.Params.{ScryptCost}
 use Rattle.crypt_core.specs.declared.method.Method.{Method}
 use Rattle.crypt_core.specs.declared.method.Method.TheVariants as methods
@@ -10,26 +10,13 @@ use Rattle.crypt_core.specs.declared.scheme.Sha.TheVariants.{Sha256, Sha512}
 use Rattle.crypt_core.specs.MethodLimits.{prefix}
 use Rattle.crypt_core.specs.Settings.{SettingValue, scrypt_part, SpellsCost, KeepsSalt, SpellsScheme, Spells}
 use Rattle.crypt_core.specs.Schemes.{method_of, sha_method}
-use Rattle.crypt_core.proofs.Fields.{field_unique}
+use Rattle.crypt_core.proofs.EachMethod.{length-prefix}
+use Rattle.crypt_core.proofs.Fields.{field_unique, same_front}
 use Rattle.crypt_core.proofs.Numerals.{scrypt_part_unique}
 use Rattle.crypt_core.proofs.Rounds.{rounds_unique}
 
 -- the second byte of a prefix tells the method
-mark : Method → ℕ
-mark methods.Md5crypt = 49
-mark methods.Sha256crypt = 53
-mark methods.Sha512crypt = 54
-mark methods.Scrypt = 55
-
-marked : (m : Method) (x : List ℕ) → get_or (prefix m ++ x) 1 0 ≡ mark m
-unfolding mark
-marked methods.Md5crypt x = refl
-marked methods.Sha256crypt x = refl
-marked methods.Sha512crypt x = refl
-marked methods.Scrypt x = refl
-
-marks_differ : (a b : Method) → mark a ≡ mark b → a ≡ b
-unfolding mark
+marks_differ : (a b : Method) → get_or (prefix a) 1 0 ≡ get_or (prefix b) 1 0 → a ≡ b
 marks_differ methods.Md5crypt methods.Md5crypt e = refl
 marks_differ methods.Sha256crypt methods.Sha256crypt e = refl
 marks_differ methods.Sha512crypt methods.Sha512crypt e = refl
@@ -39,18 +26,11 @@ marks_differ methods.Sha256crypt _ e = absurd (omega arith)
 marks_differ methods.Sha512crypt _ e = absurd (omega arith)
 marks_differ methods.Scrypt _ e = absurd (omega arith)
 
-after_prefix : (m : Method) (x : List ℕ) → drop 3 (prefix m ++ x) ≡ x
-after_prefix methods.Md5crypt x = refl
-after_prefix methods.Sha256crypt x = refl
-after_prefix methods.Sha512crypt x = refl
-after_prefix methods.Scrypt x = refl
-
 -- a text has the prefix of one method at most
 pub prefix_unique : (a b : Method) (x y : List ℕ) → prefix a ++ x ≡ prefix b ++ y → (a ≡ b) × (x ≡ y)
-prefix_unique a b x y e = (
-  marks_differ a b (sym (marked a x) ∙ ap (λ (t : List ℕ). get_or t 1 0) e ∙ marked b y),
-  sym (after_prefix a x) ∙ ap (λ (t : List ℕ). drop 3 t) e ∙ after_prefix b y,
-)
+prefix_unique a b x y e =
+    let same = same_front (prefix a) (prefix b) x y (length-prefix a ∙ sym (length-prefix b)) e in
+    (marks_differ a b (ap (λ (t : List ℕ). get_or t 1 0) same.0), same.1)
 
 -- each digest has its own method of SHA-crypt
 sha_unique : (a b : Sha) → sha_method a ≡ sha_method b → a ≡ b

@@ -96,9 +96,10 @@ fn scheme_at(text: &[u8]) -> Result<(Scheme, &[u8]), SettingFault>
     Err(SettingFault::UnknownScheme)
 }
 
-// Returns SHA-crypt with the rounds of the field after its prefix, or those without a field, and what follows the field.
+// Returns SHA-crypt with the rounds that follow its prefix, or those without a field, and what follows the field.
 fn shacrypt_at(sha: Sha, after: &[u8]) -> Result<(Scheme, &[u8]), SettingFault>
-    ensures ok { IfOk result (λ x. (text : List ℕ) → text ≡ prefix (sha_method sha) ++ after.now → SpellsScheme text x.0 x.1.now) }
+    ensures ok { IfOk result (λ x. (text : List ℕ) → text ≡ prefix (sha_method sha) ++ after.now
+        → SpellsScheme text x.0 x.1.now) }
     ensures err { IfErr result (AllRefused (λ text. text ≡ prefix (sha_method sha) ++ after.now)) }
 {
     let Some(field) = after.strip_prefix(ROUNDS_WORD) else {
