@@ -3,7 +3,7 @@
 # make install     installs all of it below PREFIX (default /usr/local); make uninstall removes it
 # make test        tests what is built: T=tests/lines.t one file; with STRICT=1 a tool that is missing is a failure
 # make check       every check there is: layers, gate, tests, planted faults; with ANEW=1 the gate proves everything anew
-# make bench       measures against libxcrypt; make soak and make fuzz try random lines and random calls
+# make bench       measures against libxcrypt, also with the options in BENCH; make soak and make fuzz try random lines and calls
 # make dist        packs an archive; make wheel a Python wheel; make deb Debian packages
 #
 # CPU=x86-64-v3 builds for such processors; the default is x86-64-v2. Say it to each make, also to make install.
