@@ -21,9 +21,8 @@ sub needs_all {
     needs('the C library' => 'none: run make lib hwcaps', -e "$root/libmkpasswd.so.2" && -e "$root/$newer") or return 0;
     needs('the superuser' => 'none: run it as root', $> == 0) or return 0;
     needs(mmdebstrap => 'mmdebstrap') && needs('dpkg-checkbuilddeps' => 'dpkg-dev') or return 0;
-    my ($own) = split /\n/, run('apt-get', 'indextargets', '--format', '$(REPO_URI)', 'Created-By: Packages')->{out};
     for (@suites) {
-        my @made = ('mmdebstrap', '--variant=minbase', '--include=' . join(',', @tried), $_, "$scratch/$_", $ENV{MIRROR} || $own // ());
+        my @made = ('mmdebstrap', '--variant=minbase', '--include=' . join(',', @tried), $_, "$scratch/$_", Suite::mirror() // ());
         my $made = run({ timeout => 1800 }, @made);
         needs("a root of $_", 'none: mmdebstrap says: ' . ($made->{err} =~ /(.*)\n*\z/)[0], !$made->{status}) or return 0;
     }

@@ -22,11 +22,14 @@ program();
     for qw(libmkpasswd.so.2 hwcaps/x86-64-v3/libmkpasswd.so.2 build/SPECIFICATION.md build/MUTANTS.md);
 
 # The files below a folder.
-sub files_in { return sort split /\n/, run('find', $_[0], '!', qw(-type d -printf %P\n))->{out} }
+sub files_in {
+    my @files = sort split /\n/, run('find', $_[0], '!', qw(-type d -printf %P\n))->{out};
+    return @files;
+}
 
-for ([$archive, 0022], [$second, 0077]) {
+for ([$archive, '022'], [$second, '077']) {
     my ($file, $mask) = @$_;
-    my $umask = umask $mask;
+    my $umask = umask oct $mask;
     my $packed = run({ env => { ARCHIVE => $file, TZ => 'Asia/Tokyo' } }, "$root/tools/pack", $cpu);
     umask $umask;
     is($packed->{status}, 0, 'it packs') or diag($packed->{err});
