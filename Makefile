@@ -3,7 +3,9 @@
 # make install     installs all of it below PREFIX (default /usr/local); make uninstall removes it
 # make test        tests what is built: T=tests/lines.t one file; with STRICT=1 a tool that is missing is a failure
 # make check       every check there is: layers, gate, tests, planted faults; with ANEW=1 the gate proves everything anew
-# make bench       measures against libxcrypt, also with the options in BENCH; make soak and make fuzz try random lines and calls
+# make bench       measures against libxcrypt, with the options in BENCH
+# make soak        answers LINES random lines of each kind, by SEED; make fuzz makes random calls, for FUZZ_SECONDS each
+# make specification, make mutants    write build/SPECIFICATION.md and build/MUTANTS.md
 # make dist        packs an archive; make wheel a Python wheel; make deb Debian packages
 #
 # CPU=x86-64-v3 builds for such processors; the default is x86-64-v2. Say it to each make, also to make install.
@@ -95,7 +97,7 @@ guard: libmkpasswd-crypt.so
 libmkpasswd-crypt.so: c/guard.c c/libmkpasswd-crypt.map c/mkpasswd.h libmkpasswd.a tools/guard
 	tools/guard $@
 
-# Each target keeps what it found in build/fuzz, from where the next run begins; FUZZ_SECONDS is the time of each.
+# Each target keeps what it found in build/fuzz, from where the next run begins.
 FUZZERS := $(patsubst tests/c/fuzz_%.c,build/fuzz/%,$(wildcard tests/c/fuzz_*.c))
 
 build/fuzz/%: tests/c/fuzz_%.c tests/c/fuzz.h c/guard.c c/mkpasswd.h libmkpasswd.a
