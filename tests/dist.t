@@ -78,6 +78,10 @@ subtest 'README' => sub {
     like($readme, qr/\Amkpasswd \Q$version\E for Linux on x86-64\n/, 'version');
     unlike($readme, qr/\@/, 'no place is left to be filled');
     like($readme, qr/tar xzf \Q$name.tar.gz\E /, 'it unpacks this archive');
+    my ($unpacks) = slurp("$root/README.md") =~ m{(tar -?xzf mkpasswd-\S*-linux\.tar\.gz [^`&\n]*/usr/local\b[^`&\n]*)};
+    mkdir "$scratch/local";
+    is_run(run({ dir => "$scratch/first" }, 'sh', '-c', ($unpacks // 'false') =~ s{/usr/local}{$scratch/local}r), 0, '', '', 'README.md: it unpacks');
+    is_run(run("$scratch/local/bin/mkpasswd", '--version'), 0, "mkpasswd $version\n", '', 'README.md: it is installed');
     # A name without a folder is in that of the name before; a folder stands for all that is in it.
     my ($list) = $readme =~ /^What is here\n\n(.*?)\n\n/ms;
     my $folder;
