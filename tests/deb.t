@@ -9,7 +9,7 @@ use lib "$Bin/lib";
 use Suite;
 
 my @packages = qw(libmkpasswd-crypt libmkpasswd-dev libmkpasswd2 mkpasswd mkpasswd-parallel python3-mkpasswd);
-# All but ours that the trials need, so that the mirror is asked for whois alone.
+# All but ours that the trials need. The lists of the mirror stay in the roots, since it is asked for whois again.
 my @tried = qw(autopkgtest bash-completion dpkg-dev gcc libc6-dev lintian man-db parallel pkgconf python3 sse4.2-support whois);
 my @suites = qw(bookworm trixie);
 my $newer = 'hwcaps/x86-64-v3/libmkpasswd.so.2';
@@ -22,8 +22,8 @@ sub needs_all {
     needs('the superuser' => 'none: run it as root', $> == 0) or return 0;
     needs(mmdebstrap => 'mmdebstrap') && needs('dpkg-checkbuilddeps' => 'dpkg-dev') or return 0;
     for (@suites) {
-        my @made = ('mmdebstrap', '--variant=minbase', '--include=' . join(',', @tried), $_, "$scratch/$_", Suite::mirror() // ());
-        my $made = run({ timeout => 1800 }, @made);
+        my @words = (qw(--variant=minbase --skip=cleanup), '--include=' . join(',', @tried));
+        my $made = run({ timeout => 1800 }, 'mmdebstrap', @words, $_, "$scratch/$_", Suite::mirror() // ());
         needs("a root of $_", 'none: mmdebstrap says: ' . ($made->{err} =~ /(.*)\n*\z/)[0], !$made->{status}) or return 0;
     }
     return 1;
@@ -43,9 +43,10 @@ sub output_of {
 # Runs a script in a root. /dev/pts and /sys are for GNU parallel, which else warns or counts no processors.
 sub inside {
     my ($place, $script) = @_;
-    my $enter = 'mount -t proc proc "$0/proc"; mount --rbind /sys "$0/sys"; mount --bind /dev/pts "$0/dev/pts"; exec chroot "$0" sh -euc "$1"';
-    return run({ timeout => 1200 }, qw(env -i PATH=/usr/sbin:/usr/bin:/sbin:/bin HOME=/root LC_ALL=C.UTF-8 DEBIAN_FRONTEND=noninteractive),
-        qw(unshare --mount --pid --fork --kill-child sh -euc), $enter, $place, $script);
+    my $enter = 'mount -t proc proc "$0/proc"; mount --rbind /sys "$0/sys"; mount --bind /dev/pts "$0/dev/pts"
+        exec chroot "$0" sh -euc "$1"';
+    my @bare = qw(env -i PATH=/usr/sbin:/usr/bin:/sbin:/bin HOME=/root LC_ALL=C.UTF-8 DEBIAN_FRONTEND=noninteractive);
+    return run({ timeout => 1200 }, @bare, qw(unshare --mount --pid --fork --kill-child sh -euc), $enter, $place, $script);
 }
 
 # Tests that it ends with 0.
@@ -82,7 +83,8 @@ subtest 'content' => sub {
         output_of('sh', '-euc', 'mkdir -p "$1"; dpkg-deb -x "$0" "$1"', $deb{$_}, "$scratch/content/$_");
         like(output_of(qw(dpkg-deb -f), $deb{$_}, 'Depends'), qr/\bsse4\.2-support\b/, "$_ refuses older processors") if /^(?:lib)?mkpasswd(?:2|-crypt)?$/;
     }
-    my %documents = (mkpasswd => [qw(FORMATS MUTANTS README RECIPES SECURITY SPECIFICATION SPEED)], 'libmkpasswd-dev' => ['SECURITY'], 'python3-mkpasswd' => [qw(PYTHON SECURITY)]);
+    my %documents = (mkpasswd => [qw(FORMATS MUTANTS README RECIPES SECURITY SPECIFICATION SPEED)], 'libmkpasswd-dev' => ['SECURITY'],
+        'python3-mkpasswd' => [qw(PYTHON SECURITY)]);
     for my $package (sort keys %documents) {
         ok(-s "$scratch/content/$package/usr/share/doc/$package/$_.md.gz", "$package has $_") for @{ $documents{$package} };
     }

@@ -80,7 +80,8 @@ subtest 'README' => sub {
     like($readme, qr/tar xzf \Q$name.tar.gz\E /, 'it unpacks this archive');
     my ($unpacks) = slurp("$root/README.md") =~ m{(tar -?xzf mkpasswd-\S*-linux\.tar\.gz [^`&\n]*/usr/local\b[^`&\n]*)};
     mkdir "$scratch/local";
-    is_run(run({ dir => "$scratch/first" }, 'sh', '-c', ($unpacks // 'false') =~ s{/usr/local}{$scratch/local}r), 0, '', '', 'README.md: it unpacks');
+    my $command = ($unpacks // 'false') =~ s{/usr/local}{$scratch/local}r;
+    is_run(run({ dir => "$scratch/first" }, 'sh', '-c', $command), 0, '', '', 'README.md: it unpacks');
     is_run(run("$scratch/local/bin/mkpasswd", '--version'), 0, "mkpasswd $version\n", '', 'README.md: it is installed');
     # A name without a folder is in that of the name before; a folder stands for all that is in it.
     my ($list) = $readme =~ /^What is here\n\n(.*?)\n\n/ms;
@@ -90,19 +91,22 @@ subtest 'README' => sub {
     my @unsaid = grep { my $file = $_; !grep { $file =~ m{^\Q$_\E(?:/|$)} } @said } files_in($tree);
     is_deeply([grep { !m{^share/man/man3/|^lib/libmkpasswd\.so$} } @unsaid], [], 'it lists what is there');
     needs(objdump => 'binutils') or return;
-    for (['The program', 'bin/mkpasswd'], ['libmkpasswd.so.2', 'lib/libmkpasswd.so.2'], ['libmkpasswd-crypt.so', 'lib/mkpasswd/libmkpasswd-crypt.so']) {
+    for (['The program', 'bin/mkpasswd'], ['libmkpasswd.so.2', 'lib/libmkpasswd.so.2'],
+        ['libmkpasswd-crypt.so', 'lib/mkpasswd/libmkpasswd-crypt.so']) {
         my ($what, $file) = @$_;
-        my ($glibc) = run('sh', '-c', 'objdump -p "$0" | grep -o "GLIBC_[0-9.]*" | sort -Vu | tail -n 1', "$tree/$file")->{out} =~ /_(\S+)/;
+        my $wanted = 'objdump -p "$0" | grep -o "GLIBC_[0-9.]*" | sort -Vu | tail -n 1';
+        my ($glibc) = run('sh', '-c', $wanted, "$tree/$file")->{out} =~ /_(\S+)/;
         like($readme, qr/^  \Q$what\E: +glibc \Q$glibc\E or later/m, "glibc that $file needs");
     }
     my ($needed) = $readme =~ /^  libmkpasswd\.a: +a C library with (.*?)$(?!\n {9})/ms;
-    my %undefined = map { $_ => 1 } run(qw(nm --undefined-only --format=just-symbols), "$tree/lib/libmkpasswd.a")->{out} =~ /^([a-z]\w*)$/mg;
+    my $symbols = run(qw(nm --undefined-only --format=just-symbols), "$tree/lib/libmkpasswd.a")->{out};
+    my %undefined = map { $_ => 1 } $symbols =~ /^([a-z]\w*)$/mg;
     is_deeply([sort split /,\s+|\s+and\s+/, $needed // ''], [sort keys %undefined], 'functions that libmkpasswd.a needs');
     # The loader hides what the program looks for, as an older processor would lack it. x86-64 is the oldest.
     my ($processor) = $readme =~ /^  A processor: +(x86-64\S*) or better$/m;
     my $older = run({ env => { GLIBC_TUNABLES => 'glibc.cpu.hwcaps=-SSE4_2,-AVX2,-AVX512F' } }, "$tree/bin/mkpasswd", '--version');
-    like("$older->{status} $older->{out}$older->{err}", ($processor // '') eq 'x86-64' ? qr/\A0 / : qr/\A127 this machine lacks a feature of \Q$processor\E,/,
-        'processor that the program needs');
+    my $told = ($processor // '') eq 'x86-64' ? qr/\A0 / : qr/\A127 this machine lacks a feature of \Q$processor\E,/;
+    like("$older->{status} $older->{out}$older->{err}", $told, 'processor that the program needs');
 };
 
 subtest 'the program with only the C library' => sub {
@@ -132,7 +136,8 @@ subtest 'libraries' => sub {
     is(abs_path($config->('--variable=prefix')), abs_path($tree), 'mkpasswd.pc finds the tree that it is in');
     for (['libmkpasswd.so', $config->('--libs')], ['libmkpasswd.a', "$tree/lib/libmkpasswd.a"]) {
         my ($what, $libs) = @$_;
-        my @words = (qw(-Wall -Wextra -Werror -o), "$scratch/login", "$documents/examples/login.c", split ' ', $config->('--cflags') . " $libs");
+        my @words = (qw(-Wall -Wextra -Werror -o), "$scratch/login", "$documents/examples/login.c");
+        push @words, split ' ', $config->('--cflags') . " $libs";
         is_run(run($cc, @words), 0, '', '', "login.c builds over $what") and $login->("login.c over $what", "$scratch/login");
     }
 };
@@ -140,8 +145,9 @@ subtest 'libraries' => sub {
 # glibc takes the library in glibc-hwcaps/x86-64-v3 by itself on a processor of that kind. With AVX2 hidden it takes the other.
 subtest 'the library for x86-64-v3' => sub {
     needs(cc => 'gcc', $cc ne 'cc' || undef) && needs(objdump => 'binutils') or return;
-    my @parts = map { my $file = $_; [map { run('objdump', $_, $file)->{out} =~ /((?:SONAME|NEEDED) .*|\S+ +mkpasswd_\w+)$/mg } '-p', '-T'] } @libraries;
-    is_deeply([sort @{ $parts[0] }], [sort @{ $parts[1] }], 'its soname, its calls and what it needs are those of the default build');
+    my @parts = map { join "\n", sort(run(qw(objdump -p -T), $_)->{out} =~ /((?:SONAME|NEEDED) .*|\S+ +mkpasswd_\w+)$/mg) } @libraries;
+    like($parts[0], qr/ mkpasswd_verify$/m, 'the default build has its calls');
+    is($parts[1], $parts[0], 'its soname, its calls and what it needs are those of the default build');
     isnt(slurp($libraries[0]), slurp($libraries[1]), 'its code differs') if $cpu ne 'x86-64-v3';
     my $loaded = sub {
         my ($tunables, $library, $what) = @_;
@@ -152,7 +158,8 @@ subtest 'the library for x86-64-v3' => sub {
             is("$run->{status} @loaded", "0 $library", "$what is loaded, and takes the hash with $_");
         }
     };
-    is_run(run($cc, "-I$tree/include", '-o', "$scratch/login", "$documents/examples/login.c", $libraries[0]), 0, '', '', 'login.c builds over it');
+    my @built = ('-o', "$scratch/login", "$documents/examples/login.c", $libraries[0]);
+    is_run(run($cc, "-I$tree/include", @built), 0, '', '', 'login.c builds over it');
     $loaded->('glibc.cpu.hwcaps=-AVX2', $libraries[0], 'the default one, where there is no AVX2,');
     my $is_newer = slurp('/proc/cpuinfo') =~ /^flags\s*:.*\bavx2\b/m;
     needs('AVX2' => 'none: this processor lacks it', $is_newer) or return;
