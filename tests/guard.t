@@ -314,7 +314,7 @@ subtest 'known answers of libxcrypt' => sub {
         . ' set -- -qq -o Dir::Etc::sourcelist="$0/sources" -o Dir::Etc::sourceparts=- -o Dir::State::lists="$0/lists" -o Dir::Cache="$0"'
         . ' -o APT::Sandbox::User=root; apt-get "$@" update; apt-get "$@" source --download-only libxcrypt;'
         . ' tar xJf libxcrypt_*.orig.tar.xz --wildcards --strip-components=2 "*/test/ka-table.inc"';
-    my $got = run({ timeout => 60, env => { MIRROR => $ENV{MIRROR} || 'http://deb.debian.org/debian' } }, 'sh', '-c', $get, $scratch);
+    my $got = run({ timeout => 60, env => { MIRROR => Suite::mirror() } }, 'sh', '-c', $get, $scratch);
     needs('the source of libxcrypt', 'libxcrypt, by apt-get source', -e "$scratch/ka-table.inc") or return diag($got->{err});
     my $quoted = qr/"((?:[^"\\]|\\.)*)"/;
     my @table;
