@@ -102,8 +102,6 @@ subtest 'what the library has' => sub {
     my @exported = $symbols =~ /^[0-9a-f]{16} (?!.*\*(?:UND|ABS)\*).*\s(\S+\s+\S+)$/mg;
     is_deeply([sort @exported], [map { "XCRYPT_2.0  $_" } qw(crypt crypt_r crypt_ra crypt_rn)], 'it offers four calls at XCRYPT_2.0');
     is_deeply([sort $parts =~ /(?:SONAME|NEEDED) +(\S+)/g], ['libc.so.6', 'libcrypt.so.1'], 'it needs libcrypt.so.1');
-    my $built = "$root/libmkpasswd-crypt.so";
-    ok(slurp($guard) eq slurp($built), 'it is what make guard builds') if needs('libmkpasswd-crypt.so' => 'none: run make guard', -e $built);
 };
 
 my @calls = ([qw(crypt -1)], [qw(crypt_r -1)], [qw(crypt_rn 32768)], [qw(crypt_rn 40000)], [qw(crypt_ra -1)], [qw(crypt_ra 10)], [qw(crypt_ra 32768)]);
@@ -126,8 +124,6 @@ subtest 'the same answers' => sub {
     my @short = (['scrypt'], ['scrypt', 'crypt_rn', 32768], ['md5crypt', 'crypt_ra', 10], ['md5crypt', 'crypt_ra', -1]);
     my @got = answers(1, {}, map { ('memory 0', row('secret', $setting{ shift @$_ }, @$_)) } @short);
     is_deeply([map { [@$_[0 .. 2]] } @got], [['*0', ENOMEM, '*0'], [undef, ENOMEM, '*0'], [undef, 0, undef], [undef, 0, undef]], 'no memory');
-    my @known = map { ('secret', $setting{$_}, $hash{$_}) } qw(md5crypt sha256crypt yescrypt descrypt);
-    is_run(run({ env => env_of(1) }, $driver, @known), 0, "0 wrong of 3200\n", '', 'many threads');
 };
 
 # ---- random settings
@@ -323,37 +319,30 @@ subtest 'sanitizers' => sub {
         my @got = answers(1, { driver => $path }, @rows);
         is(@got, @rows, "$compiler: no complaint") or diag($got[-1][0]);
         ok($known eq join("\n", map { join ' ', map { $_ // 'null' } @$_[0, 2] } @got), "$compiler: the same answers");
-        my $threads = run({ env => env_of(0) }, $path, map { ('secret', $setting{$_}, $hash{$_}) } qw(md5crypt scrypt nt));
-        is_run($threads, 0, "0 wrong of 2400\n", '', "$compiler: many threads");
+        my $threads = run({ env => env_of(0) }, $path, map { ('secret', $setting{$_}, $hash{$_}) } qw(md5crypt scrypt yescrypt nt));
+        is_run($threads, 0, "0 wrong of 640\n", '', "$compiler: many threads");
     }
-    needs(clang => 'clang') or return;
-    my $fuzzer = built("$scratch/guard/fuzzer", 'clang', qw(-std=gnu11 -fsanitize=fuzzer), @sanitize, "$root/tests/c/fuzz_guard.c", @libraries);
-    my $run = run({ dir => $scratch, timeout => 100 }, $fuzzer, qw(-runs=20000 -max_total_time=20 -max_len=600 -timeout=20));
-    is($run->{status}, 0, 'the fuzzer finds nothing') or diag(substr $run->{err}, -3000);
 };
 
-my $perl = 'while (<STDIN>) { chomp; my ($p, $s) = map { pack "H*", $_ } split / /, $_, -1; print crypt($p, $s) // "none", "\n" }';
-my $python = <<'PYTHON';
+# It opens libcrypt late, so that the guard is in front only because it needs libcrypt itself.
+my @python = ('/usr/bin/python3', '-W', 'ignore', '-c', <<'PYTHON');
 import sys, crypt
 for line in sys.stdin:
-    phrase, setting = (bytes.fromhex(word).decode() for word in line.rstrip("\n").split(" "))
     try:
-        print(crypt.crypt(phrase, setting))
+        print(crypt.crypt(*(bytes.fromhex(word).decode() for word in line.rstrip("\n").split(" "))))
     except OSError:
         print("none")
 PYTHON
-for (['perl', 'perl', 'perl', '-e', $perl], ['Python', 'python3 before 3.13', '/usr/bin/python3', '-W', 'ignore', '-c', $python]) {
-    my ($name, $package, @command) = @$_;
-    subtest $name => sub {
-        needs("crypt of $name", $package, run(@command)->{status} == 0) or return;
-        my ($asked, $hostile) = map { join '', map { my $field = $_; map { unpack('H*', $_) . ' ' . unpack('H*', $field) . "\n" } 'secret', 'Secret' } @$_ }
-            [values %hash, '!' . $hash{sha512crypt}, '*', '!'], \@hostile;
-        my ($with, $without) = map { run({ env => env_of($_), stdin => $asked }, @command)->{out} } 1, 0;
-        is($with, $without, "$name: right, wrong and locked");
-        is(scalar(grep { /^\$|^ab/ } split /\n/, $with), 2 * keys %hash, "$name: hashes");
-        is(run({ env => env_of(1), stdin => $hostile }, @command)->{out} =~ s/^(?:\*0|none)\n//gmr, '', "$name: hostile settings");
-    };
-}
+
+subtest 'Python' => sub {
+    needs('crypt of Python', 'python3 before 3.13', run(@python)->{status} == 0) or return;
+    my ($asked, $hostile) = map { join '', map { my $field = $_; map { unpack('H*', $_) . ' ' . unpack('H*', $field) . "\n" } 'secret', 'Secret' } @$_ }
+        [values %hash, '!' . $hash{sha512crypt}, '*', '!'], \@hostile;
+    my ($with, $without) = map { run({ env => env_of($_), stdin => $asked }, @python)->{out} } 1, 0;
+    is($with, $without, 'Python: right, wrong and locked');
+    is(scalar(grep { /^\$|^ab/ } split /\n/, $with), 2 * keys %hash, 'Python: hashes');
+    is(run({ env => env_of(1), stdin => $hostile }, @python)->{out} =~ s/^(?:\*0|none)\n//gmr, '', 'Python: hostile settings');
+};
 
 # ---- services
 
@@ -364,21 +353,20 @@ my @wanted = map { /^(?:locked|star)$/ ? "$_: no, no" : "$_: yes, no" } @users;
 my %hostile = map { ("h$_" => $hostile[$_]) } 0 .. $#hostile;
 my @hostile_users = sort keys %hostile;
 
-# Tests what a service says without the guard and with it. The code gets the environment, and returns the service's port and
-# command, none if there is nothing to start; the other asks it: yes, no or what else happened.
+# Tests what a service says without the guard and with it. The code gets the guard's environment, and returns the port and
+# the command of the service; the other asks it: yes, no or what else happened.
 sub is_guarded {
     my ($prepare, $ask) = @_;
     for my $is_guarded (0, 1) {
         my $env = env_of($is_guarded);
-        my ($port, @command) = $prepare->($env);
-        my $all = sub { return map { $_->[0] } in_processes(4, sub { $ask->($env, @{ $_[0] }) }, @_) };
-        my $test = sub {
+        my @env = map { "$_=" . ($env->{$_} // '') } sort keys %$env;
+        my ($port, @command) = $prepare->(@env);
+        my $all = sub { return map { $_->[0] } in_processes(4, sub { $ask->(@{ $_[0] }) }, @_) };
+        while_serving($port, ['env', @env, @command], sub {
             my @said = $all->(map { ([$_, 'secret'], [$_, 'wrong']) } @users);
             is_deeply([map { "$_: " . join ', ', splice @said, 0, 2 } @users], \@wanted, $is_guarded ? 'the same with the guard' : 'without the guard');
             is_deeply([$all->(map { [$_, 'secret'] } @hostile_users)], [('no') x @hostile], 'hostile fields are refused') if $is_guarded;
-        };
-        my @env = map { defined $env->{$_} ? "$_=$env->{$_}" : () } sort keys %$env;
-        $port ? while_serving($port, ['env', @env, @command], $test) : $test->();
+        });
     }
 }
 
@@ -392,12 +380,6 @@ sub verdict {
 # Lines of all users.
 sub lines_of { my ($line) = @_; return join '', map { $line =~ s/NAME/$_/gr =~ s/FIELD/$field{$_} \/\/ $hostile{$_}/er } @users, @hostile_users }
 
-# Accounts of the system.
-sub add_accounts {
-    spew('/etc/passwd', "root:x:0:0::/:/bin/sh\nsshd:x:100:65534::/run/sshd:/bin/false\n" . lines_of("NAME:x:1000:1000::/:/bin/sh\n"));
-    spew('/etc/shadow', "root:*:19000::::::\n" . lines_of("NAME:FIELD:19000:0:99999:7:::\n"));
-}
-
 subtest 'nginx' => sub {
     needs_namespaces() && needs(nginx => 'nginx') or return;
     mkdir $_ for '/run/www', '/var/log/nginx';
@@ -407,8 +389,7 @@ subtest 'nginx' => sub {
             . "server { listen 127.0.0.1:8080; root /run/www; auth_basic x; auth_basic_user_file /run/users; } }\n");
     open_log();
     is_guarded(sub { (8080, 'nginx', '-c', "$scratch/nginx.conf") }, sub {
-        my ($env, @login) = @_;
-        my $header = { Authorization => 'Basic ' . encode_base64(join(':', @login), '') };
+        my $header = { Authorization => 'Basic ' . encode_base64(join(':', @_), '') };
         my $status = HTTP::Tiny->new(timeout => 20)->get('http://127.0.0.1:8080/', { headers => $header })->{status};
         return $status == 200 ? 'yes' : $status =~ /^(?:401|403|500)$/ ? 'no' : $status;
     });
@@ -421,15 +402,13 @@ subtest 'Dovecot' => sub {
     needs_namespaces() && needs('Dovecot 2.3' => 'dovecot-core, in Debian 12', run('dovecot', '--version')->{out} =~ /^2\.3\./) or return;
     spew('/run/users', lines_of("NAME:FIELD\n"));
     is_guarded(sub {
-        my ($env) = @_;
-        my $import = join ' ', map { defined $env->{$_} ? "$_=$env->{$_}" : () } sort keys %$env;
-        spew("$scratch/dovecot.conf", "import_environment = \$import_environment $import\nlog_path = /dev/stderr\nprotocols =\nssl = no\n"
+        spew("$scratch/dovecot.conf", "import_environment = \$import_environment @_\nlog_path = /dev/stderr\nprotocols =\nssl = no\n"
                 . "auth_failure_delay = 0\nservice anvil {\n  unix_listener anvil-auth-penalty {\n    mode = 0\n  }\n}\n"
                 . "service auth {\n  inet_listener {\n    address = 127.0.0.1\n    port = 8081\n  }\n}\n"
                 . "passdb {\n  driver = passwd-file\n  args = scheme=CRYPT username_format=%u /run/users\n}\n"
                 . "userdb {\n  driver = static\n  args = uid=65534 gid=65534 home=/tmp\n}\n");
         return (8081, 'dovecot', '-F', '-c', "$scratch/dovecot.conf");
-    }, sub { verdict(0, 77, 'doveadm', '-c', "$scratch/dovecot.conf", 'auth', 'test', @_[1, 2]) });
+    }, sub { verdict(0, 77, 'doveadm', '-c', "$scratch/dovecot.conf", 'auth', 'test', @_) });
 };
 
 subtest 'slapd' => sub {
@@ -441,34 +420,24 @@ subtest 'slapd' => sub {
             . lines_of("\ndn: cn=NAME,o=test\nobjectClass: person\ncn: NAME\nsn: NAME\nuserPassword: {CRYPT}FIELD\n"));
     is(run('slapadd', '-f', "$scratch/slapd.conf", '-l', "$scratch/data")->{status}, 0, 'entries');
     is_guarded(sub { (8082, 'slapd', '-d', 0, '-h', 'ldap://127.0.0.1:8082', '-f', "$scratch/slapd.conf") },
-        sub { verdict(0, 49, 'ldapwhoami', '-x', '-H', 'ldap://127.0.0.1:8082', '-D', "cn=$_[1],o=test", '-w', $_[2]) });
+        sub { verdict(0, 49, 'ldapwhoami', '-x', '-H', 'ldap://127.0.0.1:8082', '-D', "cn=$_[0],o=test", '-w', $_[1]) });
 };
 
-# It closes all descriptors from 3 on when it starts.
+# It closes all descriptors from 3 on when it starts, and asks pam_unix.
 subtest 'sshd' => sub {
     needs_namespaces() && needs(sshd => 'openssh-server') && needs(ssh => 'openssh-client') or return;
-    add_accounts();
     mkdir '/run/sshd';
-    run(qw(ssh-keygen -q -t ed25519 -N), '', '-f', "$scratch/key");
-    spew("$scratch/sshd_config", "Port 8083\nListenAddress 127.0.0.1\nHostKey $scratch/key\nPidFile none\nUsePAM no\nMaxStartups 99\n");
+    spew('/etc/passwd', "root:x:0:0::/:/bin/sh\nsshd:x:100:65534::/run/sshd:/bin/false\n" . lines_of("NAME:x:1000:1000::/:/bin/sh\n"));
+    spew('/etc/shadow', "root:*:19000::::::\n" . lines_of("NAME:FIELD:19000:0:99999:7:::\n"));
+    spew('/etc/pam.d/sshd', "auth required pam_unix.so nodelay\naccount required pam_unix.so\nsession required pam_permit.so\n");
+    spew("$scratch/sshd_config", "Port 8083\nListenAddress 127.0.0.1\nHostKey $scratch/key\nPidFile none\nUsePAM yes\nMaxStartups 99\n");
     spew("$scratch/askpass", "#!/bin/sh\necho \"\$PASSWORD\"\n");
     chmod 0755, "$scratch/askpass";
+    run(qw(ssh-keygen -q -t ed25519 -N), '', '-f', "$scratch/key");
     my @options = map { ('-o', $_) } qw(NumberOfPasswordPrompts=1 PreferredAuthentications=password StrictHostKeyChecking=no UserKnownHostsFile=/dev/null);
     is_guarded(sub { (8083, '/usr/sbin/sshd', '-De', '-f', "$scratch/sshd_config") }, sub {
-        my ($env, $name, $password) = @_;
-        my @askpass = ('env', "PASSWORD=$password", "SSH_ASKPASS=$scratch/askpass", 'SSH_ASKPASS_REQUIRE=force');
-        return verdict(0, 255, @askpass, 'ssh', '-qp', 8083, @options, "$name\@127.0.0.1", 'true');
-    });
-};
-
-subtest 'pam_unix' => sub {
-    needs_namespaces() && needs(pamtester => 'pamtester') or return;
-    add_accounts();
-    spew('/etc/pam.d/guard', "auth required pam_unix.so nodelay\n");
-    is_guarded(sub { () }, sub {
-        my ($env, $name, $password) = @_;
-        my $run = run({ stdin => $password, env => $env, timeout => 20 }, 'pamtester', 'guard', $name, 'authenticate');
-        return $run->{status} == 0 ? 'yes' : "$run->{out}$run->{err}" =~ /Authentication failure/ ? 'no' : "$run->{out}$run->{err}";
+        my @askpass = ('env', "PASSWORD=$_[1]", "SSH_ASKPASS=$scratch/askpass", 'SSH_ASKPASS_REQUIRE=force');
+        return verdict(0, 255, @askpass, 'ssh', '-qp', 8083, @options, "$_[0]\@127.0.0.1", 'true');
     });
 };
 

@@ -42,14 +42,14 @@ sub env_of {
     return { LD_PRELOAD => $is_guarded ? $guard : undef, MKPASSWD_GUARD_CONF => $configuration // "$scratch/none" };
 }
 
-# What rows give, each a list: the result, the error, the output, the microseconds, and of crypt_ra the size. Another driver
-# has a guard of its own.
+# What rows give, each a list: the result, the error, the output, the microseconds. Another driver has a guard of its
+# own.
 sub answers {
     my ($is_guarded, $with, @rows) = @_;
     my $env = env_of($is_guarded && !$with->{driver}, $with->{configuration});
     my $run = run({ env => $env, stdin => join('', map { "$_\n" } @rows), timeout => 600 }, $with->{driver} // $driver);
     my $string = sub { return $_[0] eq 'null' ? undef : $_[0] eq '-' ? '' : pack 'H*', $_[0] };
-    my @answers = map { my @of = split; [$string->($of[0]), $of[1], $string->($of[2]), @of[3 .. $#of]] } split /\n/, $run->{out};
+    my @answers = map { my @of = split; [$string->($of[0]), $of[1], $string->($of[2]), $of[3]] } split /\n/, $run->{out};
     push @answers, ["status $run->{status}: $run->{err}"] if $run->{status} || $run->{err} ne '';
     return @answers;
 }

@@ -84,13 +84,16 @@ def test_refused_fields_by_name(field):
     assert error_of(verify, "password", field, budget=0).reason is REFUSED[field]
 
 
-@pytest.mark.parametrize("method, rounds", [*((m, 0) for m in ("bcrypt", "", "md5", "$6$")), *(("scrypt", n) for n in (1, 5, 12, 2**32 - 1))])
-def test_refused_methods_by_name(method, rounds):
+BAD_METHOD, BAD_ROUNDS = "method must be md5crypt, sha256crypt, sha512crypt or scrypt", "rounds must be 6 to 11, or 0 for 7"
+
+
+def test_refused_methods_by_name():
     """The library says "cost", and Python names the argument."""
-    for call in (hash, "x"), (needs_rehash, MD5), (verify_and_update, "x", MD5):
-        error = error_of(*call, method, rounds=rounds)
-        assert type(error) is Refused and error.reason is (Reason.COST if rounds else Reason.UNKNOWN_METHOD)
-        assert str(error) == ("rounds must be 6 to 11, or 0 for 7" if rounds else "method must be md5crypt, sha256crypt, sha512crypt or scrypt")
+    for method, rounds in *((method, 0) for method in ("bcrypt", "", "md5", "$6$")), *(("scrypt", n) for n in (1, 5, 12, 2**32 - 1)):
+        for call in (hash, "x"), (needs_rehash, MD5), (verify_and_update, "x", MD5):
+            error = error_of(*call, method, rounds=rounds)
+            assert type(error) is Refused and error.reason is (Reason.COST if rounds else Reason.UNKNOWN_METHOD)
+            assert str(error) == (BAD_ROUNDS if rounds else BAD_METHOD)
 
 
 OTHER_REASONS = {Reason.OUT_OF_MEMORY: MemoryError, Reason.NO_RANDOM_WORDS: OSError, Reason.TOO_FEW_BYTES: RuntimeError}
@@ -178,41 +181,34 @@ def test_numbers_are_what_they_hold():
     assert type(error_of(cost, MD5, lying(-1))) is type(error_of(work, MD5, lying(1025))) is ValueError
 
 
+def with_method(method):
+    calls = (hash, "x"), (needs_rehash, MD5), (verify_and_update, "x", MD5), (verify_and_update, "x", "!")
+    return [(*call, method) for call in calls]
+
+
 def test_wrong_types():
     buffers = bytearray(b"x"), memoryview(b"x"), memoryview(b"x" * 9)[::2], memoryview(b"x" * 8).cast("I"), array.array("b", b"x")
     for value in (None, 5, True, 1.5, [], ["x"], object(), *buffers):
         for call in *with_password(value), *with_field(value), (crypt, "x", value or 0):
             error = error_of(*call)
             assert type(error) is TypeError and "must be str or bytes, not " in str(error)
-    for budget in None, "5", b"5", 1.5, 1.0, math.nan, -math.inf, True, False, [], 5j:
-        for call in with_password("x"):
-            error = error_of(*call, budget=budget)
-            assert type(error) is TypeError and str(error).startswith("budget must be an int or math.inf, not ")
-    for method in None, 6, b"md5crypt", mkpasswd.METHOD_MD5:
-        for call in (hash, "x"), (needs_rehash, MD5), (verify_and_update, "x", MD5):
-            assert "method must be str, not " in str(error_of(*call, method))
-    for number in "5000", 5000.0, b"5", [], True, False:
-        for method in "md5crypt", "sha256crypt", "sha512crypt", "scrypt":
-            for call in (needs_rehash, MD5), (verify_and_update, "x", MD5), (verify_and_update, "x", "!"), (hash, "x"):
-                error = error_of(*call, method, rounds=number)
-                assert type(error) is TypeError and str(error).startswith("rounds must be an int, not ")
-        for call in cost, work:
-            error = error_of(call, MD5, number)
-            assert type(error) is TypeError and str(error).startswith("password_len must be an int, not ")
-    for call in (hash, "x", "md5crypt", 5000), (verify, "x", MD5, 5), (mkpasswd.mksalt, None, 5000), (mkpasswd.mksalt, "6"):
-        assert type(error_of(*call)) is TypeError
+    numbers = "5000", 5000.0, b"5", [], True, False, math.nan
+    rounds = [(call, {"rounds": number}) for call in with_method("sha256crypt") + with_method("scrypt") for number in numbers]
+    budgets = [(call, {"budget": number}) for call in with_password("x") for number in (*numbers, None, -math.inf, 5j)]
+    lengths = [((call, MD5, number), {}) for call in (cost, work) for number in (*numbers, None)]
+    methods = [(call, {}) for method in (None, 6, b"md5crypt", mkpasswd.METHOD_MD5) for call in with_method(method)]
+    others = [((hash, "x", "md5crypt", 5000), {}), ((verify, "x", MD5, 5), {}), ((mkpasswd.mksalt, "6"), {})]
+    for (call, *arguments), named in rounds + budgets + lengths + methods + others:
+        assert type(error_of(call, *arguments, **named)) is TypeError
 
 
 def test_numbers_out_of_range():
-    for number in -1, 2**32, 2**32 + 5000, 2**64 + 5000:
-        assert type(error_of(hash, "x", rounds=number)) is ValueError
+    """The command and the calls of C clamp rounds, so that a hash of 12 rounds would have 1000."""
+    for number in -1, 1, 12, 999, 10**9, 2**32 - 1, 2**32 + 5000, 2**64 + 5000:
+        for call in with_method("sha256crypt") + with_method("sha512crypt"):
+            assert str(error_of(*call, rounds=number)) == "rounds must be 1000 to 999999999, or 0 for 5000"
+    for number in -1, 2**32, 2**64 + 5000:
         assert type(error_of(needs_rehash, MD5, "md5crypt", number)) is ValueError
-    # The command and the calls of C clamp these, so that a hash of 12 rounds would have 1000.
-    for number in -1, 1, 12, 999, 10**9, 2**32 - 1, 2**32 + 5000:
-        for method in "sha256crypt", "sha512crypt":
-            for call in (hash, "x"), (needs_rehash, MD5), (verify_and_update, "x", MD5), (verify_and_update, "x", "!"):
-                error = error_of(*call, method, rounds=number)
-                assert type(error) is ValueError and str(error) == "rounds must be 1000 to 999999999, or 0 for 5000"
     assert needs_rehash(SHA512, rounds=999_999_999) and not needs_rehash(SHA512, rounds=1000)
     for number in -1, 1025, 2**64 + 8:
         assert type(error_of(cost, MD5, number)) is type(error_of(work, MD5, number)) is ValueError
