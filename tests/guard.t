@@ -91,7 +91,6 @@ sub are_alike {
         my ($is, $wanted) = map { join ' ', map { $_ // 'null' } @$_ } \@is, \@wanted;
         push @wrong, row(@{ $rows[$number] }) . " wanted: $wanted got: $is" if $is ne $wanted;
     }
-    is(@got, @rows, "$name: an answer to each");
     is(join("\n", @wrong[0 .. min(3, $#wrong)]), '', $name);
     return scalar grep { $_ } @refused;
 }
@@ -174,9 +173,10 @@ my $loose = "budget 999999999999\nallow sunmd5\nbcrypt 31\nyescrypt 11\n";
 subtest 'the configuration' => sub {
     needs_namespaces() or return;
     open_log();
-    my @dear = ('$6$rounds=50000$abcdefgh', '$y$jAT$abcdefghijklmnopqrstu.', '$2b$06$abcdefghijklmnopqrstuu');
+    my @dear = map { "$_\$abcdefghijklmnopqrstu." } '$6$rounds=2500000', '$6$rounds=50000', '$y$jAT', '$2b$06';
     for (
         ['budget', "budget 1000000\n", budget => 1000000], ['no budget', 'budget 0', budget => 0],
+        ['a greater budget', "budget 300000000\nbcrypt 13", budget => 300000000, bcrypt => 13],
         ['limits', "bcrypt 5\nyescrypt 5 # as login.defs has it\n", bcrypt => 5, yescrypt => 5],
         ['no bcrypt and no yescrypt', "# nothing\n\n  bcrypt\t0  \n yescrypt 0#\n#", bcrypt => 0, yescrypt => 0], ['an empty one', ''],
     ) {
@@ -184,9 +184,6 @@ subtest 'the configuration' => sub {
         are_alike($name, { configuration => configured($text) }, \@limits, map { ['secret', $_] } @dear, values %setting);
         is_deeply([grep { /configuration/ } logged()], [], "$name: no complaint");
     }
-    my $dear = { configuration => configured("budget 300000000\nbcrypt 13\n") };
-    my ($over, $within) = map { answers(1, $_, row('secret', '$6$rounds=2500000$abcdefgh')) } {}, $dear;
-    is_deeply([$over->[0], substr $within->[0] // '', 0, 20], ['*0', '$6$rounds=2500000$ab'], 'a greater budget');
     my %allowed = ('gost-yescrypt' => '$gy$j75$abcdefghijklmnopqrstu.', sunmd5 => '$md5$abcdefgh$', sha1crypt => '$sha1$5$abcdefgh$',
         bsdicrypt => '_/...abcd', scrypt => '$7$66..../....abc$def$ghi', yescrypt => '$y$j75/.$abcdefghijklmnopqrstu.');
     for my $name (sort keys %allowed) {
@@ -280,7 +277,7 @@ PERL
 
 subtest 'services that close, chroot, or have no log' => sub {
     needs_namespaces() or return;
-    open_log();
+    my $log = open_log();
     my $is_refused = sub {
         my ($times, $name, $script) = @_;
         my $run = run({ env => env_of(1), timeout => 10 }, 'perl', '-e', $script =~ s/REFUSE/$refuse/r);
@@ -294,7 +291,7 @@ subtest 'services that close, chroot, or have no log' => sub {
     is(scalar(grep { /$line/ } logged()), 1, 'a line before the chroot, and none in it');
     my $other = IO::Socket::UNIX->new(Type => SOCK_DGRAM, Peer => '/dev/log', Blocking => 0);
     for (
-        ['full', sub { 1 while defined $other->send('x') }], ['nobody reads', \&close_log],
+        ['full', sub { 1 while defined $other->send('x') }], ['nobody reads', sub { close $log }],
         ['gone', sub { unlink '/dev/log' }], ['a file', sub { spew('/dev/log', '') }],
     ) {
         $_->[1]->();
@@ -387,14 +384,14 @@ subtest 'nginx' => sub {
     spew('/run/users', lines_of("NAME:FIELD\n"));
     spew("$scratch/nginx.conf", "daemon off; user root; worker_processes 1; pid /run/nginx.pid; error_log stderr;\nevents {}\nhttp { access_log off;\n"
             . "server { listen 127.0.0.1:8080; root /run/www; auth_basic x; auth_basic_user_file /run/users; } }\n");
-    open_log();
+    my $log = open_log();
     is_guarded(sub { (8080, 'nginx', '-c', "$scratch/nginx.conf") }, sub {
         my $header = { Authorization => 'Basic ' . encode_base64(join(':', @_), '') };
         my $status = HTTP::Tiny->new(timeout => 20)->get('http://127.0.0.1:8080/', { headers => $header })->{status};
         return $status == 200 ? 'yes' : $status =~ /^(?:401|403|500)$/ ? 'no' : $status;
     });
     like((logged())[0], qr/^nginx\[\d+\]: mkpasswd guard: refused /, 'a line in the log, with the name at the start');
-    close_log();
+    close $log;
 };
 
 # It gives its processes only what its configuration says.

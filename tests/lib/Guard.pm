@@ -10,7 +10,7 @@ use IO::Socket::UNIX;
 use Socket qw(MSG_DONTWAIT);
 use Suite;
 
-our @EXPORT = qw($guard $driver build_guard built row answers env_of configured open_log close_log logged);
+our @EXPORT = qw($guard $driver build_guard built row answers env_of configured open_log logged);
 
 our ($guard, $driver) = map { "$scratch/guard/$_" } 'libmkpasswd-crypt.so', 'driver';
 my $log;
@@ -65,12 +65,9 @@ sub configured {
 }
 
 sub open_log {
-    close_log();
     unlink '/dev/log';
     return $log = IO::Socket::UNIX->new(Type => SOCK_DGRAM, Local => '/dev/log') || die "/dev/log: $!";
 }
-
-sub close_log { return $log && close $log }
 
 # The lines of the system log since the last time, without priority and time, and what else it got.
 sub logged {

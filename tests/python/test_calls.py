@@ -89,14 +89,18 @@ BAD_METHOD, BAD_ROUNDS = "method must be md5crypt, sha256crypt, sha512crypt or s
 
 def test_refused_methods_by_name():
     """The library says "cost", and Python names the argument."""
-    for method, rounds in *((method, 0) for method in ("bcrypt", "", "md5", "$6$")), *(("scrypt", n) for n in (1, 5, 12, 2**32 - 1)):
+    rows = [*((method, 0) for method in ("bcrypt", "", "md5", "$6$")), *(("scrypt", n) for n in (1, 5, 12, 2**32 - 1))]
+    for method, rounds in rows:
         for call in (hash, "x"), (needs_rehash, MD5), (verify_and_update, "x", MD5):
             error = error_of(*call, method, rounds=rounds)
             assert type(error) is Refused and error.reason is (Reason.COST if rounds else Reason.UNKNOWN_METHOD)
             assert str(error) == (BAD_ROUNDS if rounds else BAD_METHOD)
 
 
-@pytest.mark.parametrize("number, kind", [(-11, MemoryError), (-19, OSError), *((n, RuntimeError) for n in (0, -12, -15, -20, 1, 2, 3, 4))])
+RUNTIME_ERRORS = [(number, RuntimeError) for number in (0, -12, -15, -20, 1, 2, 3, 4)]
+
+
+@pytest.mark.parametrize("number, kind", [(-11, MemoryError), (-19, OSError), *RUNTIME_ERRORS])
 def test_reasons_of_the_library(monkeypatch, number, kind):
     """Those that no argument brings about, and those that no call should report."""
     for name in "verify", "new", "hash", "needs_rehash", "bound":
@@ -139,7 +143,7 @@ class Lying:
 
     __len__ = __hash__ = lambda self: 0
     __eq__ = __lt__ = __le__ = __gt__ = __ge__ = __contains__ = lambda self, other: True
-    __getitem__ = __iter__ = __bytes__ = __buffer__ = __index__ = __int__ = __str__ = __bool__ = encode = lambda self, *other: None
+    __getitem__ = __iter__ = __bytes__ = __buffer__ = __index__ = __str__ = __bool__ = encode = lambda self, *other: None
 
 
 def lying(value, **methods):
@@ -178,8 +182,8 @@ def with_method(method):
 
 
 def test_wrong_types():
-    buffers = bytearray(b"x"), memoryview(b"x"), memoryview(b"x" * 9)[::2], memoryview(b"x" * 8).cast("I"), array.array("b", b"x")
-    for value in (None, 5, True, 1.5, [], ["x"], object(), *buffers):
+    views = memoryview(b"x"), memoryview(b"x" * 9)[::2], memoryview(b"x" * 8).cast("I")
+    for value in (None, 5, True, 1.5, [], ["x"], object(), bytearray(b"x"), array.array("b", b"x"), *views):
         for call in *with_password(value), *with_field(value), (crypt, "x", value or 0):
             error = error_of(*call)
             assert type(error) is TypeError and "must be str or bytes, not " in str(error)
@@ -282,9 +286,13 @@ def test_new_hashes_are_str():
             assert type(verify_and_update(password, stored).new) is str
 
 
-@pytest.mark.parametrize("stored, method, rounds", [(MD5, "md5crypt", 0), (SHA512, "sha512crypt", 5000), ("$7$CU..../....s", "scrypt", 7)])
+SCRYPT = "$7$CU..../....s"
+
+
+@pytest.mark.parametrize("stored, method, rounds", [(MD5, "md5crypt", 0), (SHA512, "sha512crypt", 5000), (SCRYPT, "scrypt", 7)])
 def test_needs_rehash(stored, method, rounds):
-    assert not needs_rehash(stored, method) and not needs_rehash(stored, method, rounds) and needs_rehash(stored, "sha256crypt")
+    assert not needs_rehash(stored, method) and not needs_rehash(stored, method, rounds)
+    assert needs_rehash(stored, "sha256crypt")
     if rounds:
         assert needs_rehash(stored, method, rounds + 1) and not needs_rehash(stored, method, rounds - 1)
     assert needs_rehash(stored) is (stored is not SHA512) and needs_rehash(stored, "scrypt") is (method != "scrypt")

@@ -64,7 +64,8 @@ def wheel(tmp_path_factory):
     needs("wheel", "python3-wheel")
     made = tmp_path_factory.mktemp("made")
     run(ROOT / "tools/wheel", LIBRARY, made / "first")
-    run("sh", "-c", 'umask 077 && "$0" "$1" second', ROOT / "tools/wheel", LIBRARY, cwd=str(made), env=dict(os.environ, TZ="Asia/Tokyo"))
+    elsewhere = dict(cwd=str(made), env=dict(os.environ, TZ="Asia/Tokyo"))
+    run("sh", "-c", 'umask 077 && "$0" "$1" second', ROOT / "tools/wheel", LIBRARY, **elsewhere)
     (first,), (second,) = (list((made / name).iterdir()) for name in ("first", "second"))
     assert first.name == second.name and first.read_bytes() == second.read_bytes()
     return first

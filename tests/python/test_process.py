@@ -47,7 +47,8 @@ WITHOUT_MEMORY = """
 import resource, mkpasswd
 used = int(open("/proc/self/statm").read().split()[0]) * resource.getpagesize()
 resource.setrlimit(resource.RLIMIT_AS, (used + (32 << 20),) * 2)
-for call, *words in (mkpasswd.hash, "x", "scrypt"), *((call, "x", "$7$CU..../....salt") for call in (mkpasswd.verify, mkpasswd.crypt)):
+setting = "$7$CU..../....salt"
+for call, *words in (mkpasswd.hash, "x", "scrypt"), (mkpasswd.verify, "x", setting), (mkpasswd.crypt, "x", setting):
     try:
         print(call(*words))
     except MemoryError as error:
