@@ -125,8 +125,6 @@ subtest 'the same answers' => sub {
     is_deeply([map { [@$_[0 .. 2]] } @got], [['*0', ENOMEM, '*0'], [undef, ENOMEM, '*0'], [undef, 0, undef], [undef, 0, undef]], 'no memory');
 };
 
-# ---- random settings
-
 srand $seed;
 sub any { return $_[rand @_] }
 
@@ -243,8 +241,7 @@ subtest 'the log' => sub {
         '$7$GU..../....abcdefgh' => qr/scrypt: cost 21\d{8}, limit $budget/, '$7$LU..../....abcdefgh' => qr/scrypt: cost not read, limit 0/,
     );
     for (sort keys %line) {
-        answers(1, {}, row('secret', $_));
-        answers(1, {}, row('secret' x 10, $_));
+        for my $phrase ('secret', 'secret' x 10) { answers(1, {}, row($phrase, $_)) }
         my @got = map { s/\[\d+\]//r } logged();
         like($got[0], qr/^driver: mkpasswd guard: refused $line{$_}\z/, "$_: a line");
         is_deeply([@got[1 .. $#got]], [$got[0]], "$_: it doesn't depend on the password");
@@ -299,8 +296,6 @@ subtest 'services that close, chroot, or have no log' => sub {
     }
     is(slurp('/dev/log'), '', 'nothing is written to a file');
 };
-
-# ---- what the compilers see, and programs
 
 subtest 'sanitizers' => sub {
     my @sanitize = ('-g', '-O1', '-fsanitize=address,undefined', '-fno-sanitize-recover=all', "-I$root/c");

@@ -8,7 +8,7 @@ import traceback
 import mkpasswd
 import pytest
 from mkpasswd import Reason, Refused, TooCostly, cost, crypt, hash, needs_rehash, verify, verify_and_update, work
-from support import COSTLY, MD5, SHA256, SHA512, libxcrypt
+from support import COSTLY, MD5, SHA512, libxcrypt
 
 REFUSED = {
     field: reason

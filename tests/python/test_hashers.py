@@ -7,7 +7,7 @@ import warnings
 
 import mkpasswd
 import pytest
-from support import BLOCKS, COSTLY, MD5, SHA256, SHA512, libxcrypt, needs, recipe, run_python
+from support import BLOCKS, MD5, SHA256, SHA512, libxcrypt, needs, recipe, run_python
 
 FRONT = "$6$rounds=656000$"
 # It costs more than the budgets of the samples.

@@ -93,7 +93,10 @@ def test_recipe_of_flask():
     flask, fields = needs("flask", "python3-flask"), {"ann": MD5, "bob": "!" + MD5, "eve": COSTLY, "joe": ""}
     app = flask.Flask("test")
     recipe("Flask", app=app, flask=flask, fields=fields, login=recipe(HIDES)["login"])
-    post = lambda **form: app.test_client().post("/login", data=form).status_code
+
+    def post(**form):
+        return app.test_client().post("/login", data=form).status_code
+
     assert post(name="ann", password="password") == 200 and fields["ann"].startswith("$6$rounds=656000$")
     for name in [*fields, "nobody"]:
         assert [post(name=name, password=word) for word in ("passw0rd", "", "x\0", "x" * 1025)] == [403] * 4
