@@ -261,10 +261,10 @@ my $refuse = 'sub refuse { my $setting = q($6$rounds=999999999$salt$); print cry
 my $closes = <<'PERL';
 use POSIX ();
 use Socket;
-sub descriptors { return scalar(() = glob "/proc/self/fd/*") }
-my $before = descriptors();
+sub look { my @open = glob "/proc/self/fd/*"; print "open: @open\n" if @open != OPEN }
+look();
 REFUSE
-print "more descriptors\n" if descriptors() != $before;
+look();
 POSIX::close($_) for 3 .. 20;
 socketpair my $service, my $client, AF_UNIX, SOCK_STREAM, 0 or die;
 sleep 2;
@@ -275,16 +275,16 @@ PERL
 subtest 'services that close, chroot, or have no log' => sub {
     needs_namespaces() or return;
     my $log = open_log();
+    my $open = run('perl', '-e', 'print scalar(() = glob "/proc/self/fd/*")')->{out};
     my $is_refused = sub {
         my ($times, $name, $script) = @_;
-        my $run = run({ env => env_of(1), timeout => 10 }, 'perl', '-e', $script =~ s/REFUSE/$refuse/r);
+        my $run = run({ env => env_of(1, configured('x')), timeout => 10 }, 'perl', '-e', $script =~ s/REFUSE/$refuse/r =~ s/OPEN/$open/r);
         return is_run($run, 0, "*0 @{[EINVAL]}\n" x $times, '', $name);
     };
     my $line = qr/^perl\[\d+\]: mkpasswd guard: refused sha512crypt: /;
     $is_refused->(2, 'the service keeps its descriptors, and its client gets nothing', $closes);
     is(scalar(grep { /$line/ } logged()), 2, 'each refusal is in the log');
-    mkdir "$scratch/empty";
-    $is_refused->(2, 'below a chroot', "REFUSE sleep 2; chroot '$scratch/empty' or die; refuse();");
+    $is_refused->(2, 'below a chroot', "REFUSE sleep 2; chroot '$scratch/guard' or die; refuse();");
     is(scalar(grep { /$line/ } logged()), 1, 'a line before the chroot, and none in it');
     my $other = IO::Socket::UNIX->new(Type => SOCK_DGRAM, Peer => '/dev/log', Blocking => 0);
     for (
