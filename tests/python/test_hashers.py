@@ -126,32 +126,27 @@ def test_recipe_of_django(hashers, monkeypatch):
             hashers.make_password(password)
 
 
-@pytest.mark.parametrize("method, longest", [("md5crypt", 8), ("sha256crypt", 16), ("sha512crypt", 16), ("scrypt", 86)])
-def test_salts_of_django(hashers, method, longest):
-    """None is cut, as no other call of the package cuts one."""
-    hasher = hasher_with(method=method, rounds=0)
-    encoded = hasher.encode("password", "a" * longest)
-    assert hasher.decode(encoded)["salt"] == "a" * longest and encoded[8:] == libxcrypt("password", encoded[8:])
+@pytest.mark.parametrize(
+    "method, rounds, made, longest",
+    [("md5crypt", None, 8, 8), ("sha256crypt", 3000, 16, 16), ("sha512crypt", None, 16, 16), ("scrypt", 6, 22, 86)],
+)
+def test_hasher_of_django(hashers, method, rounds, made, longest):
+    hasher = hasher_with(method=method, rounds=rounds)
+    for salt in hasher.salt(), "a" * longest:
+        encoded = hasher.encode("password", salt)
+        assert encoded[8:] == libxcrypt("password", encoded[8:]) and encoded.endswith("%s$%s" % (salt, hasher.decode(encoded)["hash"]))
+        assert hasher.verify("password", encoded) and not hasher.verify("passw0rd", encoded) and not hasher.must_update(encoded)
+        decoded, summary = hasher.decode(encoded), hasher.safe_summary(encoded)
+        assert (decoded["algorithm"], decoded["method"], decoded["salt"]) == ("mkpasswd", method, salt)
+        assert decoded["rounds"] == {"sha256crypt": 3000, "sha512crypt": 5000}.get(method)
+        assert list(summary)[1:] == ["method", "rounds", "salt", "hash"] and decoded["hash"] not in summary.values()
+    assert len(hasher.salt()) == made
+    # None is cut, as no other call of the package cuts one.
     for salt in "", "$", "a$b", "a:b", "é", "a" * (longest + 1), "a" * 400:
         with pytest.raises(ValueError):
             hasher.encode("password", salt)
     with pytest.raises(ValueError):
         hashers.make_password("password", salt="a" * 40)
-
-
-METHODS = [("md5crypt", None, 8), ("sha256crypt", 3000, 16), ("sha512crypt", None, 16), ("scrypt", 6, 22)]
-
-
-@pytest.mark.parametrize("method, rounds, salt", METHODS)
-def test_hasher_of_django(hashers, method, rounds, salt):
-    hasher = hasher_with(method=method, rounds=rounds)
-    encoded = hasher.encode("password", hasher.salt())
-    assert hasher.verify("password", encoded) and not hasher.verify("passw0rd", encoded) and not hasher.must_update(encoded)
-    decoded, summary = hasher.decode(encoded), hasher.safe_summary(encoded)
-    assert (decoded["algorithm"], decoded["method"], len(decoded["salt"])) == ("mkpasswd", method, salt)
-    assert encoded.endswith("%s$%s" % (decoded["salt"], decoded["hash"])) and list(summary)[1:] == ["method", "rounds", "salt", "hash"]
-    assert decoded["rounds"] == {"sha256crypt": 3000, "sha512crypt": 5000}.get(method)
-    assert decoded["hash"] not in summary.values() and decoded["salt"] not in summary.values()
 
 
 def test_django_spends_what_is_missing(hashers, monkeypatch):
