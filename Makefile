@@ -1,51 +1,35 @@
-# make            builds ./mkpasswd, a copy of the proved program
-# make run        builds what is missing and hashes a first password
-# make test       tries what is built, in some four minutes: T=tests/lines.t runs one test; with STRICT=1 a tool that is
-#                 missing is a failure
-# make check      the layers, the gate, make test, and planted faults, which the tests have to see; with ANEW=1 the gate
-#                 proves all, also what an earlier one on this machine has passed
-# make specification  writes docs/SPECIFICATION.md anew, from the clauses and definitions
-# make mutants    writes docs/MUTANTS.md anew; with LOG=FILE from a log of the gate, what refuses each mutant
-# make gate       proves all that no gate on this machine has passed, runs the tests, tries the mutants, and without CPU
-#                 leaves ./mkpasswd
-# make bench      measures against libxcrypt, in some three minutes
-# make speed      measures all that docs/SPEED.md shows, in a quarter of an hour, into docs/speed.tsv and docs/costs.tsv
-# make plots      makes the tables and drawings of docs/SPEED.md from these
-# make soak       has LINES random lines of each kind answered (default 10000), by the SEED that it prints or is given
-# make lib        builds the C libraries, libmkpasswd.a and libmkpasswd.so.2
-# make hwcaps     builds the shared library for x86-64-v3 too, which glibc loads by itself on such a processor
-# make guard      builds libmkpasswd-crypt.so, which stands in front of crypt(3) for one service
-# make fuzz       has libFuzzer make random calls of the C libraries and the guard, with FUZZ_SECONDS for each target (default 300)
-# make install    puts the program, the C libraries, the manuals and the rest under PREFIX (default /usr/local)
-# make dist       packs the same into an archive that needs no toolchain
-# make wheel      packs the Python package and the shared library, built for every x86-64 processor, into a wheel
-# make deb        packs all of it into Debian packages, in a root of Debian 12 if this machine has no debhelper
-# make clean      removes what was built
+# make             builds ./mkpasswd, the proved program; make run also hashes a first password
+# make lib         builds the C libraries; make hwcaps the shared one for x86-64-v3 too; make guard the one in front of crypt(3)
+# make install     installs all of it below PREFIX (default /usr/local); make uninstall removes it
+# make test        tests what is built: T=tests/lines.t one file; with STRICT=1 a tool that is missing is a failure
+# make check       every check there is: layers, gate, tests, planted faults; with ANEW=1 the gate proves everything anew
+# make bench       measures against libxcrypt, with the options in BENCH
+# make soak        answers LINES random lines of each kind, by SEED; make fuzz makes random calls, for FUZZ_SECONDS each
+# make specification, make mutants    write build/SPECIFICATION.md and build/MUTANTS.md
+# make dist        packs an archive; make wheel a Python wheel; make deb Debian packages
 #
-# With CPU=x86-64-v3 in its words, make builds for such processors, without for x86-64-v2. Each make has to be told:
-# make CPU=x86-64-v3 && make install CPU=x86-64-v3.
+# CPU=x86-64-v3 builds for such processors; the default is x86-64-v2. Say it to each make, also to make install.
 PREFIX ?= /usr/local
 LIBDIR ?= $(PREFIX)/lib
 RT ?= rt
 CPU =
 
 SOURCES := $(shell find crates -path '*/out' -prune -o \( -name '*.rt' -o -name '*.antt' \) -print) crates.txt
-# The version has one place. The header has it as a number, which tests/calls.t compares.
 VERSION := $(shell tools/version)
 # For x86-64-v4 there is only the toolchain's own compiler, whose code is slower than the portable one.
 FOR_CPU := $(if $(CPU),--cpu $(CPU)) $(if $(filter x86-64-v4,$(CPU)),--backend rattle)
 ARCHIVE ?= mkpasswd-$(VERSION)-$(if $(filter x86-64,$(CPU)),x86_64_v1,$(subst -,_,$(or $(CPU),x86-64)))-linux.tar.gz
+PAGES = build/SPECIFICATION.md build/MUTANTS.md
+BUILT = mkpasswd lib hwcaps guard $(PAGES)
 # The scripts take these from the environment, whatever characters they have.
 export DESTDIR PREFIX LIBDIR ARCHIVE RT
 
-# What make test runs, and how: the harness prints the sums.
 T = $(filter-out tests/planted.t,$(wildcard tests/*.t))
 PROVE = PERL5LIB=tests/lib prove --harness Tally -j4
 FIRST = tests/layers.t tests/specification.t
 
-BUILDS = x86-64 x86-64-v3
-
-.PHONY: all run lib hwcaps guard fuzz test check layers specification mutants gate bench speed plots soak install dist wheel deb clean FORCE
+.PHONY: all run lib hwcaps guard fuzz test check layers specification mutants gate bench soak install uninstall dist wheel deb \
+	clean FORCE
 .DELETE_ON_ERROR:
 # rt takes all cores for itself.
 .NOTPARALLEL:
@@ -53,8 +37,7 @@ BUILDS = x86-64 x86-64-v3
 all: mkpasswd
 
 mkpasswd: $(SOURCES) build/cpu
-	cd crates/program && ../../tools/progress ../../build/program.log -- \
-		$(RT) run $(FOR_CPU) -- -m md5crypt -S xxxxxxxx password
+	cd crates/program && $(RT) run $(FOR_CPU) -- -m md5crypt -S xxxxxxxx password
 	cp crates/program/out/program $@
 
 # The processor of the last build. Another one makes this file new, and so all that is built from it.
@@ -83,7 +66,7 @@ define shared
 endef
 
 build/mkpasswd.o: $(SOURCES) build/cpu build/new.o c/libmkpasswd.map
-	cd crates/crypt_c && ../../tools/progress ../../build/crypt_c.log -- $(RT) lib $(FOR_CPU)
+	cd crates/crypt_c && $(RT) lib $(FOR_CPU)
 	cp crates/crypt_c/out/libcrypt_c.a build/libcrypt_c.a
 	$(call object,build)
 
@@ -114,7 +97,7 @@ guard: libmkpasswd-crypt.so
 libmkpasswd-crypt.so: c/guard.c c/libmkpasswd-crypt.map c/mkpasswd.h libmkpasswd.a tools/guard
 	tools/guard $@
 
-# The targets keep what they found in build/fuzz, from where the next run begins.
+# Each target keeps what it found in build/fuzz, from where the next run begins.
 FUZZERS := $(patsubst tests/c/fuzz_%.c,build/fuzz/%,$(wildcard tests/c/fuzz_*.c))
 
 build/fuzz/%: tests/c/fuzz_%.c tests/c/fuzz.h c/guard.c c/mkpasswd.h libmkpasswd.a
@@ -128,25 +111,28 @@ fuzz: $(FUZZERS)
 			-artifact_prefix=$$fuzzer. $$fuzzer.corpus || exit 1; \
 	done
 
-test: mkpasswd lib hwcaps guard
+test: $(BUILT)
 	$(PROVE) $(T)
 
-# The layers, the page of definitions and the gate come first, since they need nothing built.
-check: layers gate mkpasswd lib hwcaps guard
+# The layers, the specification and the gate come first, since they need nothing built.
+check: layers gate $(BUILT)
 	$(PROVE) tests/planted.t $(filter-out $(FIRST),$(T))
 
 layers:
 	$(PROVE) $(FIRST)
 
-specification:
-	@mkdir -p build
-	tools/specification > build/SPECIFICATION.md
-	mv build/SPECIFICATION.md docs/SPECIFICATION.md
+specification: build/SPECIFICATION.md
 
-mutants:
+mutants: build/MUTANTS.md
+
+build/SPECIFICATION.md: tools/specification tools/specification.md $(SOURCES)
 	@mkdir -p build
-	tools/mutants $(LOG) > build/MUTANTS.md
-	mv build/MUTANTS.md docs/MUTANTS.md
+	tools/specification > $@
+
+# With LOG=FILE the table of refusals is first brought up to date, from a log of the gate.
+build/MUTANTS.md: tools/mutants docs/refusals.tsv $(wildcard crates/*/must-fail/*.edit) $(SOURCES) $(if $(LOG),FORCE)
+	@mkdir -p build
+	tools/mutants $(LOG) > $@
 
 # The gate leaves the program that it proved, so there is none to prove again but for other processors.
 gate: build/cpu
@@ -154,35 +140,30 @@ gate: build/cpu
 	$(if $(CPU),,cp crates/program/out/program mkpasswd)
 
 bench: mkpasswd
-	tools/bench ./mkpasswd
-
-speed: mkpasswd $(BUILDS:%=build/%/mkpasswd)
-	tools/bench --instructions $(foreach cpu,$(BUILDS),--build $(cpu)=build/$(cpu)/mkpasswd) --data docs/speed.tsv ./mkpasswd
-	tools/bench-costs --data docs/costs.tsv ./mkpasswd
-
-plots:
-	@mkdir -p build
-	tools/plot costs > build/costs.svg
-	tools/plot ratios > build/ratios.svg
-	tools/plot page > build/SPEED.md
-	mv build/costs.svg build/ratios.svg build/SPEED.md docs/
+	tools/bench $(BENCH) ./mkpasswd
 
 soak: mkpasswd
 	tools/soak $(if $(LINES),--lines $(LINES)) $(if $(SEED),--seed $(SEED)) ./mkpasswd
 
-install: mkpasswd lib hwcaps guard
+install: $(BUILT)
 	tools/install
 
-dist: mkpasswd lib hwcaps guard
+uninstall:
+	tools/install --remove
+
+dist: $(BUILT)
 	tools/pack $(or $(CPU),x86-64-v2)
 
 # Of x86-64 processors a wheel's name tells nothing, so it is for all of them. The next make builds anew for its own CPU.
 wheel:
+	tools/wheel --check
 	$(MAKE) lib CPU=x86-64
 	tools/wheel libmkpasswd.so.2 .
 
 # The packages depend on sse4.2-support, which refuses processors that the default build is not for.
-deb: mkpasswd lib hwcaps guard
+deb:
+	tools/deb --check
+	$(MAKE) $(BUILT)
 	tools/deb .
 
 clean:

@@ -11,9 +11,12 @@
 #include <fcntl.h>
 #include <inttypes.h>
 #include <mkpasswd.h>
+#include <stdarg.h>
 #include <stdio.h>
 #include <stdlib.h>
+#include <sys/socket.h>
 #include <sys/stat.h>
+#include <sys/un.h>
 #include <syslog.h>
 #include <time.h>
 #include <unistd.h>
@@ -92,6 +95,32 @@ static uint64_t limit_of(const struct scheme *scheme, uint64_t cost)
     return scheme->rule == BCRYPT ? limits.bcrypt : scheme->rule == YESCRYPT ? limits.yescrypt : limits.budget;
 }
 
+/* Sends a line to the system log as syslog(3) does, but through a socket that is closed again. syslog(3) keeps one open, and
+ * when a service has closed all its descriptors, that number soon is a client's connection. The socket isn't connected, so
+ * another thread that writes to a wrong number writes nothing into the log. A line that nobody takes at once is lost. */
+__attribute__((format(printf, 1, 2))) static void log_line(const char *format, ...)
+{
+    static const struct sockaddr_un log = {AF_UNIX, "/dev/log"};
+    static const char months[] = "JanFebMarAprMayJunJulAugSepOctNovDec"; /* as in the C locale */
+    int error = errno, descriptor = socket(AF_UNIX, SOCK_DGRAM | SOCK_CLOEXEC | SOCK_NONBLOCK, 0);
+    time_t now = time(NULL);
+    struct tm at = {0};
+    char text[512], line[640];
+    va_list values;
+
+    if (descriptor >= 0) {
+        localtime_r(&now, &at);
+        va_start(values, format);
+        vsnprintf(text, sizeof text, format, values);
+        va_end(values);
+        snprintf(line, sizeof line, "<%d>%.3s %2d %02d:%02d:%02d %s[%d]: mkpasswd guard: %s", LOG_AUTHPRIV | LOG_WARNING,
+            months + 3 * at.tm_mon, at.tm_mday, at.tm_hour, at.tm_min, at.tm_sec, process, (int)getpid(), text);
+        sendto(descriptor, line, strlen(line), MSG_NOSIGNAL, (const struct sockaddr *)&log, sizeof log);
+        close(descriptor);
+    }
+    errno = error;
+}
+
 /* Writes a line to the system log, unless the last one is less than a second old. It has the cost for the longest password,
  * which doesn't depend on the length of this one. */
 static void log_refusal(const struct scheme *scheme, const char *setting, uint64_t limit)
@@ -107,8 +136,7 @@ static void log_refusal(const struct scheme *scheme, const char *setting, uint64
     if (now - before < 1000000000 || !__sync_bool_compare_and_swap(&last, before, now))
         return;
     snprintf(number, sizeof number, "%" PRIu64, cost);
-    syslog(LOG_AUTHPRIV | LOG_WARNING, "mkpasswd guard: %s[%d]: refused %s: cost %s, limit %" PRIu64, process, (int)getpid(),
-        scheme->name, cost == NOT_READ ? "not read" : number, limit);
+    log_line("refused %s: cost %s, limit %" PRIu64, scheme->name, cost == NOT_READ ? "not read" : number, limit);
 }
 
 /* Puts a token that no password matches into `out`, as libxcrypt does: before it reads the setting, which may be there. */
@@ -242,9 +270,10 @@ __attribute__((constructor)) static void configure(void)
     snprintf(process, sizeof process, "%s", program_invocation_short_name);
     if (file)
         fclose(file);
+    else if (descriptor >= 0)
+        close(descriptor);
     if (fault)
-        syslog(LOG_AUTHPRIV | LOG_WARNING, "mkpasswd guard: %s[%d]: %s %s, so the defaults apply", process,
-            (int)getpid(), path, fault);
+        log_line("%s %s, so the defaults apply", path, fault);
     *(void **)&next_crypt_rn = dlvsym(RTLD_NEXT, "crypt_rn", "XCRYPT_2.0");
     errno = 0; /* as a program finds it */
 }

@@ -281,8 +281,8 @@ my @rules = (
         return (
             places($product, qr/\bimpl\b[^{};]*$shows[^{};]*\bfor\s+(?:\w+\s*::\s*)*Password\b/),
             $path ne $password ? ()
-                : places($product, qr/#\s*\[\s*derive\b[^\]]*$shows/, qr/#\[derive\([^\]]*\)\]\s*pub enum PasswordFault /),
-            places($product, qr/#\s*\[\s*derive\b[^\]]*$shows[^\]]*\]\s*(?:pub(?:\(\w+\))?\s+)?(?:struct|enum)\s+(?:PasswordFrom|Arguments|Mode|RoundStrings)\b/),
+                : places($product, qr/#\s*\[\s*derive\b[^\]]*$shows/, qr/#\[derive\([^\]]*\)\]\s*(?:#\[[^\]]*\]\s*)*pub enum PasswordFault /),
+            places($product, qr/#\s*\[\s*derive\b[^\]]*$shows[^\]]*\]\s*(?:#\s*\[[^\]]*\]\s*)*(?:pub(?:\(\w+\))?\s+)?(?:struct|enum)\s+(?:PasswordFrom|Arguments|Mode|RoundStrings)\b/),
         );
     }],
     # No macro of the tree's own, no file under another name, nothing unsafe but the names of the calls for C, and no text that

@@ -10,7 +10,7 @@ use Suite;
 
 my @files;
 File::Find::find({ no_chdir => 1, wanted => sub { push @files, substr $_, 1 + length $root if -f } },
-    grep { -d } map { "$root/$_" } qw(bin tests tools debian completions examples python guard .ci));
+    grep { -d } map { "$root/$_" } qw(bin tests tools debian completions examples python .ci));
 my %first = map { $_ => slurp("$root/$_") =~ /\A(.*)/ ? $1 : '' } @files;
 
 for (

@@ -3,10 +3,10 @@
  * Each line of standard input is a row CALL NUMBER PHRASE SETTING, the last two in hexadecimal, "-" if empty, "null" for a
  * null pointer. NUMBER is for crypt_r where in the output the setting is, -1 if elsewhere; for crypt_rn the size, and for
  * crypt_ra the size of what it is given, -1 for nothing. For each row a line is printed: what was returned ("null" or a
- * string, in hexadecimal), errno, what is in the output, and the time of this process in microseconds; for crypt_ra also
- * the size. After a line "memory 0" the next row gets no memory.
+ * string, in hexadecimal), errno, what is in the output, and the time of this process in microseconds. After a line
+ * "memory 0" the next row gets no memory.
  *
- * With arguments PHRASE SETTING HASH .. each pair with its hash is tried by four threads at once, 200 times. */
+ * With arguments PHRASE SETTING HASH .. each pair with its hash is tried by four threads at once, 40 times. */
 #define _GNU_SOURCE
 #include <crypt.h>
 #include <errno.h>
@@ -89,8 +89,7 @@ static void make_row(const char *name, int number, const char *phrase, const cha
     print_word(result, sizeof data.output);
     printf(" %d", error);
     print_word(out, room);
-    printf(" %ld", (after.tv_sec - before.tv_sec) * 1000000 + (after.tv_nsec - before.tv_nsec) / 1000);
-    printf(strcmp(name, "crypt_ra") == 0 ? " %d\n" : "\n", size);
+    printf(" %ld\n", (after.tv_sec - before.tv_sec) * 1000000 + (after.tv_nsec - before.tv_nsec) / 1000);
     free(given);
 }
 
@@ -101,7 +100,7 @@ static void *try_often(void *of)
     intptr_t wrong = 0;
     int time;
 
-    for (time = 0; time < 200; time++)
+    for (time = 0; time < 40; time++)
         wrong += strcmp(crypt_r(row[0], row[1], data), row[2]) != 0;
     free(data);
     return (void *)wrong;
@@ -122,7 +121,7 @@ int main(int argc, char **argv)
         wrong += (intptr_t)result;
     }
     if (count)
-        return printf("%ld wrong of %d\n", (long)wrong, 200 * count), 0;
+        return printf("%ld wrong of %d\n", (long)wrong, 40 * count), 0;
     setvbuf(stdout, NULL, _IOLBF, 0);
     while (fgets(line, sizeof line, stdin)) {
         if (strcmp(line, "memory 0\n") == 0)

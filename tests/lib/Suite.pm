@@ -130,6 +130,11 @@ sub needs {
     return 0;
 }
 
+# Debian's mirror: MIRROR, or the first that apt has here.
+sub mirror {
+    return $ENV{MIRROR} || (split /\n/, run('apt-get', 'indextargets', '--format', '$(REPO_URI)', 'Created-By: Packages')->{out})[0];
+}
+
 # A library made of one of tests/c, which is loaded before the C library.
 sub preload {
     my ($name) = @_;

@@ -1,4 +1,5 @@
 """What each call returns and raises."""
+import array
 import copy
 import math
 import pickle
@@ -7,7 +8,7 @@ import traceback
 import mkpasswd
 import pytest
 from mkpasswd import Reason, Refused, TooCostly, cost, crypt, hash, needs_rehash, verify, verify_and_update, work
-from support import COSTLY, MD5, SHA256, SHA512, libxcrypt
+from support import COSTLY, MD5, SHA512, libxcrypt
 
 REFUSED = {
     field: reason
@@ -25,7 +26,7 @@ REFUSED = {
 }
 LOCKED = ["", "!", "*", "!!", "*0", "*1", "*LK*", "!" + MD5, "*" + MD5, "!" + "x" * 500]
 # Settings without a hash, and hashes that are cut, longer, or not written as they are made.
-OTHERS = ["$1$xxxxxxxx", "$1$xxxxxxxx$", MD5[:-1], MD5 + "x", MD5 + "$", "$5$" + MD5[3:], "$5$rounds=10$salt$x"]
+OTHERS = ["$6$", "$1$xxxxxxxx", "$1$xxxxxxxx$", MD5[:-1], SHA512[:-1], MD5 + "x", MD5 + "$", "$5$" + MD5[3:], "$5$rounds=10$salt$x"]
 
 
 def error_of(call, *arguments, **named):
@@ -40,13 +41,6 @@ def with_password(word):
 
 def with_field(field):
     return (verify, "x", field), (verify_and_update, "x", field), (needs_rehash, field), (cost, field, 8), (work, field, 8)
-
-
-def test_standard_hashes():
-    for password, stored in ("password", MD5), ("Hello world!", SHA256), ("Hello world!", SHA512):
-        for word in password, password.encode():
-            for field in stored, stored.encode():
-                assert verify(word, field) is True and verify(word[:-1], field) is False
 
 
 def test_str_is_its_utf8():
@@ -90,44 +84,29 @@ def test_refused_fields_by_name(field):
     assert error_of(verify, "password", field, budget=0).reason is REFUSED[field]
 
 
+BAD_METHOD, BAD_ROUNDS = "method must be md5crypt, sha256crypt, sha512crypt or scrypt", "rounds must be 6 to 11, or 0 for 7"
+
+
 def test_refused_methods_by_name():
-    for method in "bcrypt", "", "SHA512crypt", "md5", "$6$":
+    """The library says "cost", and Python names the argument."""
+    rows = [*((method, 0) for method in ("bcrypt", "", "md5", "$6$")), *(("scrypt", n) for n in (1, 5, 12, 2**32 - 1))]
+    for method, rounds in rows:
         for call in (hash, "x"), (needs_rehash, MD5), (verify_and_update, "x", MD5):
-            error = error_of(*call, method)
-            assert (type(error), error.reason, error.reason.words) == (Refused, Reason.UNKNOWN_METHOD, "unknown method")
-            assert str(error) == "method must be md5crypt, sha256crypt, sha512crypt or scrypt"
-    # The library says "cost", and Python names the argument.
-    for rounds in 1, 5, 12, 2**32 - 1:
-        for call in (hash, "x"), (needs_rehash, MD5), (verify_and_update, "x", MD5):
-            error = error_of(*call, "scrypt", rounds=rounds)
-            assert (type(error), error.reason, error.reason.words) == (Refused, Reason.COST, "cost")
-            assert str(error) == "rounds must be 6 to 11, or 0 for 7"
+            error = error_of(*call, method, rounds=rounds)
+            assert type(error) is Refused and error.reason is (Reason.COST if rounds else Reason.UNKNOWN_METHOD)
+            assert str(error) == (BAD_ROUNDS if rounds else BAD_METHOD)
 
 
-@pytest.mark.parametrize(
-    "number, error, words",
-    [
-        (Reason.OUT_OF_MEMORY.value, MemoryError, "out of memory"),
-        (Reason.NO_RANDOM_WORDS.value, OSError, "no random words"),
-        (Reason.PASSWORD_TOO_LONG.value, ValueError, "password too long"),
-        (Reason.PASSWORD_ZERO_BYTE.value, ValueError, "password has a zero byte"),
-        (Reason.TOO_FEW_BYTES.value, RuntimeError, "too few bytes"),
-        *((number, RuntimeError, "unknown reason") for number in (0, -15, -20, 4, 2**31 - 1)),
-        *((number, RuntimeError, "unexpected reason") for number in (1, 2, 3)),
-    ],
-)
-def test_reasons_of_the_library(monkeypatch, number, error, words):
+RUNTIME_ERRORS = [(number, RuntimeError) for number in (0, -12, -15, -20, 1, 2, 3, 4)]
+
+
+@pytest.mark.parametrize("number, kind", [(-11, MemoryError), (-19, OSError), *RUNTIME_ERRORS])
+def test_reasons_of_the_library(monkeypatch, number, kind):
     """Those that no argument brings about, and those that no call should report."""
-
-    def call(*arguments):
-        arguments[-1].reason = number
-        return 0
-
     for name in "verify", "new", "hash", "needs_rehash", "bound":
-        monkeypatch.setattr(mkpasswd.lib, "mkpasswd_" + name, call)
+        monkeypatch.setattr(mkpasswd.lib, "mkpasswd_" + name, lambda *arguments: setattr(arguments[-1], "reason", number))
     for failing in (hash, "x"), (crypt, "x", MD5), *with_field(MD5):
-        raised = error_of(*failing)
-        assert type(raised) is error and words in str(raised)
+        assert type(error_of(*failing)) is kind
 
 
 def test_passwords_that_are_none():
@@ -159,40 +138,72 @@ def test_nothing_raised_has_the_password_in_it(capfd):
     assert capfd.readouterr() == ("", "")
 
 
+class Lying:
+    """Methods that a subclass of bytes, str, int or float can have; none of them says what the object is."""
+
+    __len__ = __hash__ = lambda self: 0
+    __eq__ = __lt__ = __le__ = __gt__ = __ge__ = __contains__ = lambda self, other: True
+    __getitem__ = __iter__ = __bytes__ = __buffer__ = __index__ = __str__ = __bool__ = encode = lambda self, *other: None
+
+
+def lying(value, **methods):
+    base = type(value)
+    return type("Secret", (Lying, base), methods)(value)
+
+
+@pytest.mark.parametrize("length", [0, 1, 5, 10**6])
+@pytest.mark.parametrize("password", [b"correct horse", "correct h\u00f6rse"])
+def test_subclasses_are_what_they_hold(password, length):
+    """A __len__ of 0 would make a hash of nothing, and a large one would read beyond the object."""
+    secret = lying(password, __len__=lambda self: length)
+    stored = hash(secret, "md5crypt")
+    assert verify(password, stored) and verify(secret, lying(stored)) and not verify(b"", stored)
+    assert verify_and_update(secret, lying(stored), lying("md5crypt")) == (True, None)
+    assert crypt(secret, lying(stored)) == stored and cost(lying(stored), lying(8)) == cost(stored, 8)
+    for wrong in lying(password[:-1]), lying(password[:0]), lying(password * 2):
+        assert not verify(wrong, stored) and not verify_and_update(wrong, stored)
+    assert str(error_of(hash, lying(password * 80, __len__=lambda self: 1))) == "password too long"
+    assert not verify(secret, lying("!" + stored)) and needs_rehash(lying(stored), lying("sha512crypt"))
+
+
+def test_numbers_are_what_they_hold():
+    for call in with_password("x"):
+        assert type(error_of(*call, budget=lying(-1))) is ValueError and type(error_of(*call, budget=lying(1.5))) is TypeError
+    assert type(error_of(verify, "x", MD5, budget=lying(1))) is TooCostly
+    for rounds in -1, 12, 10**9:
+        for call in (hash, "x", lying("sha512crypt")), (needs_rehash, MD5), (mkpasswd.mksalt, mkpasswd.METHOD_SHA512):
+            assert type(error_of(*call, rounds=lying(rounds))) is ValueError
+    assert type(error_of(cost, MD5, lying(-1))) is type(error_of(work, MD5, lying(1025))) is ValueError
+
+
+def with_method(method):
+    calls = (hash, "x"), (needs_rehash, MD5), (verify_and_update, "x", MD5), (verify_and_update, "x", "!")
+    return [(*call, method) for call in calls]
+
+
 def test_wrong_types():
-    for value in None, 5, True, 1.5, [], ["x"], bytearray(b"x"), memoryview(b"x"), object():
+    views = memoryview(b"x"), memoryview(b"x" * 9)[::2], memoryview(b"x" * 8).cast("I")
+    for value in (None, 5, True, 1.5, [], ["x"], object(), bytearray(b"x"), array.array("b", b"x"), *views):
         for call in *with_password(value), *with_field(value), (crypt, "x", value or 0):
             error = error_of(*call)
             assert type(error) is TypeError and "must be str or bytes, not " in str(error)
-    for budget in None, "5", b"5", 1.5, 1.0, math.nan, -math.inf, True, False, [], 5j:
-        for call in with_password("x"):
-            error = error_of(*call, budget=budget)
-            assert type(error) is TypeError and str(error).startswith("budget must be an int or math.inf, not ")
-    for method in None, 6, b"md5crypt", mkpasswd.METHOD_MD5:
-        for call in (hash, "x"), (needs_rehash, MD5), (verify_and_update, "x", MD5):
-            assert "method must be str, not " in str(error_of(*call, method))
-    for number in "5000", 5000.0, b"5", [], True, False:
-        for method in "md5crypt", "sha256crypt", "sha512crypt", "scrypt":
-            for call in (needs_rehash, MD5), (verify_and_update, "x", MD5), (verify_and_update, "x", "!"), (hash, "x"):
-                error = error_of(*call, method, rounds=number)
-                assert type(error) is TypeError and str(error).startswith("rounds must be an int, not ")
-        for call in cost, work:
-            error = error_of(call, MD5, number)
-            assert type(error) is TypeError and str(error).startswith("password_len must be an int, not ")
-    for call in (hash, "x", "md5crypt", 5000), (verify, "x", MD5, 5), (mkpasswd.mksalt, None, 5000), (mkpasswd.mksalt, "6"):
-        assert type(error_of(*call)) is TypeError
+    numbers = "5000", 5000.0, b"5", [], True, False, math.nan
+    rounds = [(call, {"rounds": number}) for call in with_method("sha256crypt") + with_method("scrypt") for number in numbers]
+    budgets = [(call, {"budget": number}) for call in with_password("x") for number in (*numbers, None, -math.inf, 5j)]
+    lengths = [((call, MD5, number), {}) for call in (cost, work) for number in (*numbers, None)]
+    methods = [(call, {}) for method in (None, 6, b"md5crypt", mkpasswd.METHOD_MD5) for call in with_method(method)]
+    others = [((hash, "x", "md5crypt", 5000), {}), ((verify, "x", MD5, 5), {}), ((mkpasswd.mksalt, "6"), {})]
+    for (call, *arguments), named in rounds + budgets + lengths + methods + others:
+        assert type(error_of(call, *arguments, **named)) is TypeError
 
 
 def test_numbers_out_of_range():
-    for number in -1, 2**32, 2**32 + 5000, 2**64 + 5000:
-        assert type(error_of(hash, "x", rounds=number)) is ValueError
+    """The command and the calls of C clamp rounds, so that a hash of 12 rounds would have 1000."""
+    for number in -1, 1, 12, 999, 10**9, 2**32 - 1, 2**32 + 5000, 2**64 + 5000:
+        for call in with_method("sha256crypt") + with_method("sha512crypt"):
+            assert str(error_of(*call, rounds=number)) == "rounds must be 1000 to 999999999, or 0 for 5000"
+    for number in -1, 2**32, 2**64 + 5000:
         assert type(error_of(needs_rehash, MD5, "md5crypt", number)) is ValueError
-    # The command and the calls of C clamp these, so that a hash of 12 rounds would have 1000.
-    for number in -1, 1, 12, 999, 10**9, 2**32 - 1, 2**32 + 5000:
-        for method in "sha256crypt", "sha512crypt":
-            for call in (hash, "x"), (needs_rehash, MD5), (verify_and_update, "x", MD5), (verify_and_update, "x", "!"):
-                error = error_of(*call, method, rounds=number)
-                assert type(error) is ValueError and str(error) == "rounds must be 1000 to 999999999, or 0 for 5000"
     assert needs_rehash(SHA512, rounds=999_999_999) and not needs_rehash(SHA512, rounds=1000)
     for number in -1, 1025, 2**64 + 8:
         assert type(error_of(cost, MD5, number)) is type(error_of(work, MD5, number)) is ValueError
@@ -200,95 +211,66 @@ def test_numbers_out_of_range():
         assert type(error_of(*call, budget=-1)) is ValueError
 
 
-@pytest.mark.parametrize("field", ["$1$ab", "$6$", "$6$rounds=2000$ab", MD5[:-1], MD5[:13], SHA512[:-1], SHA256[:20]])
-def test_a_hash_that_was_cut_matches_nothing(field):
-    """It is not refused, as long as its setting is whole."""
-    for password in "password", "Hello world!", "":
-        assert verify(password, field) is False and verify_and_update(password, field) == (False, None)
-    assert cost(field, 8) > 0 and needs_rehash(field, "scrypt")
-
-
 def test_budgets():
-    for stored in MD5, SHA256, libxcrypt("password", "$7$5/..../....salt"):
-        most = cost(stored, 8)
-        for budget in most, most + 1, 2**64 - 1, 2**64, 2**100, math.inf:
-            assert verify("password", stored, budget=budget) is (stored is not SHA256)
-        for budget in 0, 1, most - 1:
-            for call in verify, crypt:
-                raised = error_of(call, "password", stored, budget=budget)
-                for error in raised, copy.copy(raised), pickle.loads(pickle.dumps(raised)):
-                    assert (type(error), error.reason) == (TooCostly, Reason.OVER_BUDGET)
-                    assert (error.cost, error.budget) == (most, budget)
-                    assert str(error) == "over budget: cost %d, budget %d" % (most, budget)
+    most = cost(MD5, 8)
+    for budget in most, 2**64, 2**100, math.inf:
+        assert verify("password", MD5, budget=budget) is True
+    for budget in 0, most - 1:
+        for call in verify, crypt:
+            raised = error_of(call, "password", MD5, budget=budget)
+            for error in raised, copy.copy(raised), pickle.loads(pickle.dumps(raised)):
+                assert (type(error), error.reason, error.cost, error.budget) == (TooCostly, Reason.OVER_BUDGET, most, budget)
+                assert str(error) == "over budget: cost %d, budget %d" % (most, budget)
     assert error_of(verify, "password", COSTLY).budget == mkpasswd.DEFAULT_BUDGET == 150_000_000
     assert type(error_of(hash, "x" * 1000, rounds=1_000_000)) is TooCostly
-    most = cost("$6$rounds=1000$" + "s" * 16, 1)
-    assert verify("x", hash("x", rounds=1000, budget=most))
-    assert error_of(hash, "x", rounds=1000, budget=most - 1).cost == most
 
 
 def test_verify_and_update_charges_both_hashes():
-    old, new = cost(MD5, 8), cost("$5$rounds=2000$" + "s" * 16, 8)
-    for budget in old + new, old + new + 1, math.inf:
-        matches, update = verify_and_update("password", MD5, "sha256crypt", 2000, budget=budget)
-        assert matches is True and update.startswith("$5$rounds=2000$") and verify("password", update)
-        assert verify_and_update("passw0rd", MD5, "sha256crypt", 2000, budget=budget) == (False, None)
-    assert old < new
-    for budget in old + new - 1, new, old:
-        assert verify_and_update("password", MD5, "sha256crypt", 2000, budget=budget) == (True, None)
-        assert verify_and_update("passw0rd", MD5, "sha256crypt", 2000, budget=budget) == (False, None)
-    for budget in old - 1, 1, 0:
-        for password in "password", "passw0rd":
-            for wanted in ("sha256crypt", 2000), ("md5crypt",):
-                error = error_of(verify_and_update, password, MD5, *wanted, budget=budget)
-                assert (type(error), error.cost, error.budget) == (TooCostly, old, budget)
+    old, new, wanted = cost(MD5, 8), cost("$5$rounds=2000$" + "s" * 16, 8), ("sha256crypt", 2000)
+    matches, update = verify_and_update("password", MD5, *wanted, budget=old + new)
+    assert matches is True and update.startswith("$5$rounds=2000$") and verify("password", update)
+    assert verify_and_update("password", MD5, *wanted, budget=old + new - 1) == (True, None)
     assert verify_and_update("password", MD5, "md5crypt", budget=old) == (True, None)
-    assert verify_and_update("passw0rd", MD5, "md5crypt", budget=old) == (False, None)
+    for budget in old, old + new:
+        assert verify_and_update("passw0rd", MD5, *wanted, budget=budget) == (False, None)
+    for password in "password", "passw0rd":
+        error = error_of(verify_and_update, password, MD5, *wanted, budget=old - 1)
+        assert (type(error), error.cost, error.budget) == (TooCostly, old, old - 1)
 
 
 def test_the_truth_of_verify_and_update_is_that_of_the_match():
     """A tuple of two is always true, so that `if verify_and_update(..)` would let everybody in."""
     for password, stored, method, is_match, is_new in (
         *(("password", MD5, "md5crypt", True, False), ("password", MD5, "sha256crypt", True, True)),
-        *(("passw0rd", MD5, "md5crypt", False, False), ("passw0rd", MD5, "sha256crypt", False, False)),
-        *(("", MD5, "md5crypt", False, False), *(("password", field, "md5crypt", False, False) for field in LOCKED)),
-        *(("password", field, "sha512crypt", False, False) for field in OTHERS),
+        *(("passw0rd", MD5, "sha256crypt", False, False), ("", MD5, "md5crypt", False, False)),
+        *(("password", field, "sha512crypt", False, False) for field in [*LOCKED, *OTHERS]),
     ):
         verdict = verify_and_update(password, stored, method)
         matches, new = verdict
-        assert bool(verdict) is matches is verdict.matches is is_match
+        assert bool(verdict) is matches is verdict.matches is is_match and isinstance(verdict, tuple)
         assert new is verdict.new and (new is not None) is is_new and (matches, new) == verdict
-        assert len(verdict) == 2 and isinstance(verdict, tuple) and verdict[0] is matches and verdict[1] is new
     for changed in mkpasswd.Verdict(None, None), mkpasswd.Verdict(0, "x"), mkpasswd.Verdict("no", "x"):
         assert not changed
 
 
 def test_a_rehash_above_the_budget_locks_nobody_out():
-    """A match costs too much only together with the new hash: the old one stays."""
+    """A match costs too much only together with the new hash: the old one stays. As docs/PYTHON.md has it, with 82 bytes."""
     scrypt = libxcrypt("password", "$7$CU..../....salt")
-    assert verify("password", scrypt)
-    assert verify_and_update("password", scrypt, rounds=656_000) == (True, None)
-    assert verify_and_update("passw0rd", scrypt, rounds=656_000) == (False, None)
-    assert verify_and_update("password", scrypt, rounds=656_000, budget=2 * mkpasswd.DEFAULT_BUDGET)[1].startswith("$6$")
-    for length in 81, 82, 83, 1024:
-        password = "x" * length
-        stored = hash(password)
-        matches, new = verify_and_update(password, stored, rounds=656_000)
-        assert matches is True and (new is None or new.startswith("$6$rounds=656000$")) and (new is None) is (length > 81)
+    for password, stored in ("password", scrypt), ("x" * 82, hash("x" * 82)), ("x" * 1024, hash("x" * 1024)):
+        assert verify_and_update(password, stored, rounds=656_000) == (True, None)
         assert verify_and_update("y" + password[1:], stored, rounds=656_000) == (False, None)
-    error = error_of(verify_and_update, "password", COSTLY, rounds=656_000)
-    assert (type(error), error.cost) == (TooCostly, cost(COSTLY, 8))
+    assert verify_and_update("password", scrypt, rounds=656_000, budget=2 * mkpasswd.DEFAULT_BUDGET)[1].startswith("$6$")
 
 
-@pytest.mark.parametrize(
-    "method, rounds, front",
-    [
-        *(("md5crypt", None, "$1$"), ("md5crypt", 5, "$1$"), ("sha256crypt", None, "$5$")),
-        *(("sha256crypt", 0, "$5$"), ("sha256crypt", 1000, "$5$rounds=1000$"), ("sha512crypt", None, "$6$")),
-        *(("sha512crypt", 0, "$6$"), ("sha512crypt", 5000, "$6$rounds=5000$"), ("scrypt", 0, "$7$CU..../....")),
-        *(("sha512crypt", 12345, "$6$rounds=12345$"), ("scrypt", 6, "$7$BU..../....")),
-    ],
-)
+NEW = {
+    "md5crypt": {None: "$1$", 5: "$1$"},
+    "sha256crypt": {None: "$5$", 0: "$5$", 1000: "$5$rounds=1000$"},
+    "sha512crypt": {None: "$6$", 0: "$6$", 5000: "$6$rounds=5000$", 12345: "$6$rounds=12345$"},
+    "scrypt": {None: "$7$CU..../....", 0: "$7$CU..../....", 6: "$7$BU..../...."},
+}
+
+
+@pytest.mark.parametrize("method, rounds, front", [(method, *row) for method, rows in NEW.items() for row in rows.items()])
 def test_new_hashes(method, rounds, front):
     stored = hash("pässword", method, rounds=rounds)
     assert stored.startswith(front) and stored == libxcrypt("pässword", stored)
@@ -304,14 +286,16 @@ def test_new_hashes_are_str():
             assert type(verify_and_update(password, stored).new) is str
 
 
-def test_needs_rehash():
-    for stored, method, rounds, expected in (
-        *((MD5, "md5crypt", None, False), (MD5, "sha512crypt", None, True), (SHA512, "sha512crypt", None, False)),
-        *((SHA512, "sha512crypt", 5001, True), (SHA512, "sha512crypt", 4999, False), (SHA512, "sha256crypt", None, True)),
-        *((SHA512, "scrypt", None, True), ("$7$CU..../....s", "scrypt", 8, True), ("$7$CU..../....s", "scrypt", 7, False)),
-    ):
-        assert needs_rehash(stored, method, rounds) is expected
-    assert needs_rehash(MD5) and not needs_rehash(SHA512) and hash("x", "scrypt").startswith("$7$CU..../....")
+SCRYPT = "$7$CU..../....s"
+
+
+@pytest.mark.parametrize("stored, method, rounds", [(MD5, "md5crypt", 0), (SHA512, "sha512crypt", 5000), (SCRYPT, "scrypt", 7)])
+def test_needs_rehash(stored, method, rounds):
+    assert not needs_rehash(stored, method) and not needs_rehash(stored, method, rounds)
+    assert needs_rehash(stored, "sha256crypt")
+    if rounds:
+        assert needs_rehash(stored, method, rounds + 1) and not needs_rehash(stored, method, rounds - 1)
+    assert needs_rehash(stored) is (stored is not SHA512) and needs_rehash(stored, "scrypt") is (method != "scrypt")
 
 
 def test_cost_and_work():

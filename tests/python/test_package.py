@@ -48,40 +48,27 @@ def test_types(tmp_path):
     run(*mypy, "--config-file", ROOT / "python/pyproject.toml", ROOT / "python/src/mkpasswd")
     user = tmp_path / "user.py"
     user.write_text(
-        "import math\nimport mkpasswd\n"
-        "stored: str = mkpasswd.hash(b'x', 'scrypt', rounds=6)\n"
-        "match: bool = mkpasswd.verify('x', stored, budget=math.inf)\n"
-        "verdict = mkpasswd.verify_and_update('x', stored)\n"
-        "match, new = verdict\nmatch = bool(verdict) and verdict.matches\n"
-        "if new is not None:\n    stored = new\n"
+        "import math, mkpasswd\nstored: str = mkpasswd.hash(b'x', 'scrypt', rounds=6)\n"
+        "match, new = mkpasswd.verify_and_update('x', stored, budget=math.inf)\nmatch = mkpasswd.verify('x', new or stored)\n"
         "print(mkpasswd.cost(stored, 1) + mkpasswd.work(stored, 1).bytes, mkpasswd.crypt('x', mkpasswd.methods[0]))\n"
+        "mkpasswd.verify('x', None)\nmkpasswd.verify('x', 'y', budget=None)\nmkpasswd.hash(5)\n"
     )
-    run(*mypy, user, env=dict(os.environ, MYPYPATH=str(ROOT / "python/src")))
-    user.write_text("from mkpasswd import hash, verify\nverify('x', None)\nverify('x', 'y', budget=None)\nhash(5)\n")
     status, said = ended(*mypy, user, env=dict(os.environ, MYPYPATH=str(ROOT / "python/src")))
-    assert status == 1 and "Found 3 errors" in said
+    assert status == 1 and "Found 3 errors" in said and set(re.findall(r"user.py:(\d+)", said)) == {"6", "7", "8"}
 
 
 @pytest.fixture(scope="module")
 def wheel(tmp_path_factory):
-    """The wheel of this tree, which a copy of the tree, elsewhere and with another mask, gives in the same bytes."""
+    """The wheel of this tree, which is made in the same bytes elsewhere, at another time and with another mask."""
     needs("build", "python3-build")
     needs("wheel", "python3-wheel")
     made = tmp_path_factory.mktemp("made")
-    run(ROOT / "tools/wheel", LIBRARY, made)
-    copy = tmp_path_factory.mktemp("copy")
-    version = "crates/crypt_core/src/version.rt"
-    files = run("find", "python", "-name", "__pycache__", "-prune", "-o", "-type", "f", "-print", cwd=str(ROOT)).split()
-    for file in [*files, "tools/wheel", "tools/version", "man/mkpasswd.1", version, LIBRARY.name]:
-        (copy / file).parent.mkdir(parents=True, exist_ok=True)
-        shutil.copyfile(str(ROOT / file), str(copy / file))
-    (copy / "tools/wheel").chmod(0o700)
-    (copy / "tools/version").chmod(0o700)
-    run("sh", "-c", "umask 077 && tools/wheel %s made" % LIBRARY.name, cwd=str(copy), env=dict(os.environ, TZ="Asia/Tokyo"))
-    first, second = (list(folder.iterdir()) for folder in (made, copy / "made"))
-    assert [file.name for file in first] == [file.name for file in second]
-    assert first[0].read_bytes() == second[0].read_bytes()
-    return first[0]
+    run(ROOT / "tools/wheel", LIBRARY, made / "first")
+    elsewhere = dict(cwd=str(made), env=dict(os.environ, TZ="Asia/Tokyo"))
+    run("sh", "-c", 'umask 077 && "$0" "$1" second', ROOT / "tools/wheel", LIBRARY, **elsewhere)
+    (first,), (second,) = (list((made / name).iterdir()) for name in ("first", "second"))
+    assert first.name == second.name and first.read_bytes() == second.read_bytes()
+    return first
 
 
 def test_wheel_says_what_it_needs(wheel):
@@ -110,9 +97,8 @@ def test_wheel_in_a_fresh_environment(wheel, tmp_path):
 # The interpreters that there are, one for each version from 3.8 on.
 PYTHONS = {}
 for _minor in range(8, 20):
-    _name = "python3.%d" % _minor
-    _places = glob.glob(os.path.expanduser("~/.pyenv/versions/3.%d.*/bin/%s" % (_minor, _name)))
-    for _place in filter(None, [shutil.which(_name, path="/usr/bin:/usr/local/bin"), *_places]):
+    _places = glob.glob(os.path.expanduser("~/.pyenv/versions/3.%d.*/bin/python3" % _minor))
+    for _place in filter(None, [shutil.which("python3.%d" % _minor, path="/usr/bin:/usr/local/bin"), *_places]):
         PYTHONS.setdefault(_minor, _place)
 
 

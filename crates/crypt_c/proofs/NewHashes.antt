@@ -5,7 +5,8 @@ use Rattle.crypt_core.specs.Replacements.{is_replaced_by}
 use Rattle.crypt_core.specs.Settings.{SettingValue}
 use Rattle.crypt_core.specs.Work.{cost}
 use Rattle.crypt_core.specs.declared.scheme.Scheme.{Scheme}
-use Rattle.crypt_core.specs.declared.scheme.Scheme.TheVariants.{Md5crypt, Sha256crypt, Sha512crypt, Scrypt}
+use Rattle.crypt_core.specs.declared.scheme.Scheme.TheVariants.{Md5crypt, Shacrypt, Scrypt}
+use Rattle.crypt_core.specs.declared.scheme.Sha.TheVariants.{Sha256, Sha512}
 use Rattle.crypt_c.specs.Calls.{Both, IsPasswordRead, IsSchemeMade, IsSettingRead, Opens, rehashed}
 use Rattle.crypt_c.specs.Private.Steps.{IsHashPut}
 use Rattle.crypt_c.specs.Reports.{refused}
@@ -15,8 +16,8 @@ use Rattle.crypt_c.specs.declared.report.Report.{Report}
 
 never_replaced : (scheme : Scheme) → is_replaced_by scheme scheme ≡ false
 never_replaced Md5crypt = refl
-never_replaced (Sha256crypt rounds) = grind arith
-never_replaced (Sha512crypt rounds) = grind arith
+never_replaced (Shacrypt Sha256 rounds) = grind arith
+never_replaced (Shacrypt Sha512 rounds) = grind arith
 never_replaced (Scrypt params) = grind arith
 
 pub new_opens : (password : List ℕ) (method number budget : ℕ) (given : Result (List ℕ × Scheme) Refusal) (report : Report) (new : List ℕ)

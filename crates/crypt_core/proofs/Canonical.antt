@@ -3,7 +3,7 @@ use Rattle.crypt_core.specs.TextLimits.{canonical_limit, hash_limit}
 use Rattle.std.proofs.Common.{◌≡◌, ◌≢◌, ℕ, ◌+◌, ◌≤◌, ◌<◌, ◌^◌, Bool, true, false, not, eqb, ◌&&◌, ◌⊎◌, inl, inr, List, [], ◌∷◌, ◌++◌, length, take, drop, get_or, All, length-append, append-nil, refl, sym, ap, subst, ◌∙◌, append_assoc, arith}
 use Rattle.std.specs.Prelude.{Contains, decimal, codes, nat_le}
 use Rattle.std.specs.List.{AllByRecursion, list_all}
-use Rattle.std.specs.Str.Parse.{AllDigits, digits_value}
+use Rattle.std.specs.Str.Parse.{AllDigits}
 use Rattle.std.proofs.Math.Seq.{take-append_seam, drop-append_seam}
 use Rattle.std.proofs.lemmas.Bool.{and_parts, eqb-false, leb-true, not-true}
 use Rattle.std.proofs.lemmas.List.Sums.{AllPass-from_list_all}
@@ -14,53 +14,38 @@ use Rattle.std.proofs.lemmas.Str.Parse.{digit_at}
 use Rattle.prims_core.specs.Alphabet.{alphabet}
 use Rattle.crypt_core.specs.declared.method.Method.{Method}
 use Rattle.crypt_core.specs.declared.scheme.Scheme.{Scheme}
-use Rattle.crypt_core.specs.declared.scheme.Scheme.TheVariants.{Md5crypt, Sha256crypt, Sha512crypt, Scrypt}
-use Rattle.crypt_core.specs.MethodLimits.{md5crypt_salt_limit, packed_len, prefix, salt_limit, scrypt_salt_limit, shacrypt_salt_limit}
-use Rattle.crypt_core.specs.Schemes.{IsScheme, method_of}
+use Rattle.crypt_core.specs.declared.scheme.Scheme.TheVariants.{Md5crypt, Shacrypt, Scrypt}
+use Rattle.crypt_core.specs.declared.scheme.Sha.{Sha}
+use Rattle.crypt_core.specs.MethodLimits.{packed_len, prefix, salt_limit, scrypt_salt_limit}
+use Rattle.crypt_core.specs.Schemes.{IsScheme, method_of, sha_method}
 use Rattle.crypt_core.specs.Settings.{SettingValue, IsSettingByte, dollar, IsField, BeginsWith, rounds_word, rounds_field, IsRoundsNumber, scrypt_part, SpellsRounds, SpellsCost, IsScryptSalt, KeepsSalt, Spells, cost_part, canonical_text, setting_limit}
 use Rattle.crypt_core.specs.Rounds.{IsRounds, clamped}
 use Rattle.crypt_core.specs.RoundsLimits.{max_rounds, min_rounds}
-use Rattle.crypt_core.proofs.EachMethod.{each_method}
+use Rattle.crypt_core.proofs.EachMethod.{each_method, length-prefix, sha_salt_limit}
 use Rattle.crypt_core.proofs.Fields.{IsEndOfField, ended_by}
 use Rattle.crypt_core.proofs.Numerals.{all_scrypt_part, length-scrypt_part}
+use Rattle.crypt_core.proofs.PackingLemmas.{packed_len-small}
 
 -- What a setting keeps is bounded
-
-pub clamped_range : (n : ℕ) → (min_rounds ≤ clamped n) × (clamped n ≤ max_rounds)
-clamped_range n = (omega arith, omega arith)
 
 pub in_range : (n : ℕ) → clamped n ≡ n → (min_rounds ≤ n) × (n ≤ max_rounds)
 in_range n e = (omega arith, omega arith)
 
-pub clamped_again : (n : ℕ) → min_rounds ≤ n → n ≤ max_rounds → clamped n ≡ n
-clamped_again n low high = omega arith
-
-rounds_range : (count : ℕ) (flag : Bool) (part after : List ℕ) → SpellsRounds (record { count = count; is_written = flag }) part after → (min_rounds ≤ count) × (count ≤ max_rounds)
-rounds_range count true part after s = let r = clamped_range (digits_value 10 s.0) in (omega (arith, s.3, r.0), omega (arith, s.3, r.1))
-rounds_range count false part after s = (omega (arith, s.1), omega (arith, s.1))
-
 spelled_rounds : (count : ℕ) (flag : Bool) (part after : List ℕ) → SpellsRounds (record { count = count; is_written = flag }) part after → IsRounds (record { count = count; is_written = flag })
-spelled_rounds count true part after s =
-    let range = rounds_range count true part after s in
-    (clamped_again count range.0 range.1, λ e. absurd (cc e))
-spelled_rounds count false part after s =
-    let range = rounds_range count false part after s in
-    (clamped_again count range.0 range.1, λ e. s.1)
+spelled_rounds count true part after s = (omega (arith, s.3), λ e. absurd (cc e))
+spelled_rounds count false part after s = (omega (arith, s.1), λ e. s.1)
 
 pub cost_bounded : (scheme : Scheme) (part after field salt : List ℕ) → SpellsCost scheme part after → KeepsSalt scheme field salt → IsScheme scheme
 cost_bounded Md5crypt part after field salt s k = tt
-cost_bounded (Sha256crypt r) part after field salt s k = spelled_rounds r.count r.is_written part after s
-cost_bounded (Sha512crypt r) part after field salt s k = spelled_rounds r.count r.is_written part after s
+cost_bounded (Shacrypt sha r) part after field salt s k = spelled_rounds r.count r.is_written part after s
 cost_bounded (Scrypt n) part after field salt s k = k.0
 
 cut : (n : ℕ) (field salt : List ℕ) → salt ≡ take n field → length salt ≤ n
 cut n field salt e = omega (arith, ap length e, length-take n field)
 
 salt_bounded : (scheme : Scheme) (field salt : List ℕ) → KeepsSalt scheme field salt → length salt ≤ salt_limit (method_of scheme)
-salt_bounded Md5crypt field salt k = cut md5crypt_salt_limit field salt k
-salt_bounded (Sha256crypt r) field salt k = cut shacrypt_salt_limit field salt k
-salt_bounded (Sha512crypt r) field salt k = cut shacrypt_salt_limit field salt k
 salt_bounded (Scrypt n) field salt k = omega (arith, ap length k.1, k.2.0)
+salt_bounded scheme field salt k = cut (salt_limit (method_of scheme)) field salt k
 
 -- what some text spells
 abbrev pub IsSetting : SettingValue → Type 0
@@ -80,16 +65,22 @@ length_written : (count : ℕ) → count ≤ max_rounds → length (rounds_field
 length_written count high =
     omega (arith, length-append (decimal count) (codes "$"), length-append rounds_word (decimal count ++ codes "$"), length-decimal-le 9 count (omega arith) (omega arith) (omega arith))
 
-length_rounds : (count : ℕ) (flag : Bool) → count ≤ max_rounds → length (cost_part (Sha256crypt (record { count = count; is_written = flag }))) ≤ rounds_field_limit
-length_rounds count true high = length_written count high
-length_rounds count false high = omega arith
+length_rounds : (sha : Sha) (count : ℕ) (flag : Bool) → count ≤ max_rounds → length (cost_part (Shacrypt sha (record { count = count; is_written = flag }))) ≤ rounds_field_limit
+length_rounds sha count true high = length_written count high
+length_rounds sha count false high = omega arith
 
--- the canonical text stays within its limit
-pub canonical_short : (scheme : Scheme) (salt : List ℕ) → IsScheme scheme → length salt ≤ salt_limit (method_of scheme) → length (prefix (method_of scheme)) + (length (cost_part scheme) + length salt) ≤ canonical_limit
-canonical_short Md5crypt salt c l = omega arith
-canonical_short (Sha256crypt r) salt c l = omega (arith, length_rounds r.count r.is_written (in_range r.count c.0).1)
-canonical_short (Sha512crypt r) salt c l = omega (arith, length_rounds r.count r.is_written (in_range r.count c.0).1)
-canonical_short (Scrypt n) salt c l = omega (arith, length-scrypt_part n)
+-- the canonical text stays within its limit, and with a `$` and the packed digest within that of a hash
+pub canonical_short : (scheme : Scheme) (salt : List ℕ) → IsScheme scheme → length salt ≤ salt_limit (method_of scheme)
+    → (3 + (length (cost_part scheme) + length salt) ≤ canonical_limit) × (3 + (length (cost_part scheme) + length salt) + packed_len (method_of scheme) < hash_limit)
+canonical_short Md5crypt salt c l = (omega arith, omega arith)
+canonical_short (Shacrypt sha r) salt c l =
+    let part = length_rounds sha r.count r.is_written (in_range r.count c.0).1 in
+    (omega (arith, l, sha_salt_limit sha, part), omega (arith, l, sha_salt_limit sha, part, packed_len-small (sha_method sha)))
+canonical_short (Scrypt n) salt c l = (omega (arith, length-scrypt_part n), omega (arith, length-scrypt_part n))
+
+pub setting_short : (kept : SettingValue) → IsSetting kept
+    → (3 + (length (cost_part kept.scheme) + length kept.salt) ≤ canonical_limit) × (3 + (length (cost_part kept.scheme) + length kept.salt) + packed_len (method_of kept.scheme) < hash_limit)
+setting_short kept is = let bounded = setting_bounded kept is in canonical_short kept.scheme kept.salt bounded.0 bounded.1
 
 -- Digits
 
@@ -176,14 +167,13 @@ field_bytes : (ds : List ℕ) → IsRoundsNumber ds → All IsSettingByte (round
 unfolding is_byte differs
 field_bytes ds n = All-append IsSettingByte rounds_word (ds ++ codes "$") (bytes_mean rounds_word refl) (All-append IsSettingByte ds (codes "$") (number_bytes ds n) (bytes_mean (codes "$") refl))
 
-rounds_bytes : (count : ℕ) (flag : Bool) → min_rounds ≤ count → count ≤ max_rounds → All IsSettingByte (cost_part (Sha256crypt (record { count = count; is_written = flag })))
-rounds_bytes count true low high = field_bytes (decimal count) (decimal_is_number count (omega arith) (omega arith))
-rounds_bytes count false low high = All-nil IsSettingByte
+rounds_bytes : (sha : Sha) (count : ℕ) (flag : Bool) → min_rounds ≤ count → count ≤ max_rounds → All IsSettingByte (cost_part (Shacrypt sha (record { count = count; is_written = flag })))
+rounds_bytes sha count true low high = field_bytes (decimal count) (decimal_is_number count (omega arith) (omega arith))
+rounds_bytes sha count false low high = All-nil IsSettingByte
 
 pub cost_bytes : (scheme : Scheme) → IsScheme scheme → All IsSettingByte (cost_part scheme)
 cost_bytes Md5crypt c = All-nil IsSettingByte
-cost_bytes (Sha256crypt r) c = let range = in_range r.count c.0 in rounds_bytes r.count r.is_written range.0 range.1
-cost_bytes (Sha512crypt r) c = let range = in_range r.count c.0 in rounds_bytes r.count r.is_written range.0 range.1
+cost_bytes (Shacrypt sha r) c = let range = in_range r.count c.0 in rounds_bytes sha r.count r.is_written range.0 range.1
 cost_bytes (Scrypt n) c = All-weaker (Contains alphabet) IsSettingByte character_is_byte (scrypt_part n) (all_scrypt_part n)
 
 -- Bytes
@@ -198,17 +188,13 @@ all_right xs ys all = subst (All IsSettingByte) (drop-append_seam xs ys) (All-dr
 
 -- the salt is a front of its field
 salt_is_front : (scheme : Scheme) (field salt : List ℕ) → KeepsSalt scheme field salt → salt ≡ take (salt_limit (method_of scheme)) field
-salt_is_front Md5crypt field salt k = k
-salt_is_front (Sha256crypt r) field salt k = k
-salt_is_front (Sha512crypt r) field salt k = k
 salt_is_front (Scrypt n) field salt k = k.1 ∙ sym (take_all scrypt_salt_limit field k.2.0)
+salt_is_front scheme field salt k = k
 
 -- the salt is what is kept of it
 salt_again : (scheme : Scheme) (field salt : List ℕ) → KeepsSalt scheme field salt → KeepsSalt scheme salt salt
-salt_again Md5crypt field salt k = sym (take_all md5crypt_salt_limit salt (cut md5crypt_salt_limit field salt k))
-salt_again (Sha256crypt r) field salt k = sym (take_all shacrypt_salt_limit salt (cut shacrypt_salt_limit field salt k))
-salt_again (Sha512crypt r) field salt k = sym (take_all shacrypt_salt_limit salt (cut shacrypt_salt_limit field salt k))
 salt_again (Scrypt n) field salt k = (k.0, refl, subst IsScryptSalt (sym k.1) k.2)
+salt_again scheme field salt k = sym (take_all (salt_limit (method_of scheme)) salt (salt_bounded scheme field salt k))
 
 salt_is_field : (scheme : Scheme) (field rest salt tail : List ℕ) → IsField field rest → KeepsSalt scheme field salt → IsEndOfField tail → IsField salt tail
 salt_is_field scheme field rest salt tail f k end = (
@@ -240,22 +226,24 @@ begins_within (y ∷ salt) tail (w ∷ word) none end (more, e) =
 rounds_word_no_dollar : AllByRecursion (λ b. b ≢ dollar) rounds_word
 rounds_word_no_dollar = (λ e. omega arith, (λ e. omega arith, (λ e. omega arith, (λ e. omega arith, (λ e. omega arith, (λ e. omega arith, (λ e. omega arith, tt)))))))
 
-rounds_again : (count : ℕ) (flag : Bool) (n : ℕ) (part field rest salt tail : List ℕ) → salt ≡ take n field → IsEndOfField tail → SpellsRounds (record { count = count; is_written = flag }) part (field ++ rest) → SpellsRounds (record { count = count; is_written = flag }) (cost_part (Sha256crypt (record { count = count; is_written = flag }))) (salt ++ tail)
-rounds_again count true n part field rest salt tail e end s =
-    let range = rounds_range count true part (field ++ rest) s in
-    let below : count < 2 ^ 64 = omega (arith, range) in (
-      decimal count,
-      decimal_is_number count (omega (arith, range)) below,
-      refl,
-      sym (clamped_again count range.0 range.1) ∙ ap clamped (sym (decimal_is_IsNumeral count below).1),
-    )
-rounds_again count false n part field rest salt tail e end s =
-    (refl, s.1, λ begins. s.2 (begins_longer n field rest salt rounds_word e (begins_within salt tail rounds_word rounds_word_no_dollar end begins)))
+-- rounds are spelled by their own part, if no `rounds=` follows where they have no field
+pub rounds_spelled : (sha : Sha) (count : ℕ) (flag : Bool) (after : List ℕ) → IsRounds (record { count = count; is_written = flag }) → (flag ≡ false → ¬ BeginsWith after rounds_word) → SpellsRounds (record { count = count; is_written = flag }) (cost_part (Shacrypt sha (record { count = count; is_written = flag }))) after
+rounds_spelled sha count true after r free =
+    let range = in_range count r.0 in
+    let below : count < 2 ^ 64 = omega (arith, range) in
+    (decimal count, decimal_is_number count (omega (arith, range)) below, refl, sym r.0 ∙ ap clamped (sym (decimal_is_IsNumeral count below).1))
+rounds_spelled sha count false after r free = (refl, r.1 refl, free refl)
+
+rounds_again : (sha : Sha) (count : ℕ) (flag : Bool) (n : ℕ) (part field rest salt tail : List ℕ) → salt ≡ take n field → IsEndOfField tail → SpellsRounds (record { count = count; is_written = flag }) part (field ++ rest) → SpellsRounds (record { count = count; is_written = flag }) (cost_part (Shacrypt sha (record { count = count; is_written = flag }))) (salt ++ tail)
+rounds_again sha count true n part field rest salt tail e end s =
+    rounds_spelled sha count true (salt ++ tail) (spelled_rounds count true part (field ++ rest) s) (λ flag. absurd (cc flag))
+rounds_again sha count false n part field rest salt tail e end s =
+    rounds_spelled sha count false (salt ++ tail) (spelled_rounds count false part (field ++ rest) s) (λ flag begins.
+    s.2 (begins_longer n field rest salt rounds_word e (begins_within salt tail rounds_word rounds_word_no_dollar end begins)))
 
 cost_again : (scheme : Scheme) (n : ℕ) (part field rest salt tail : List ℕ) → salt ≡ take n field → IsEndOfField tail → SpellsCost scheme part (field ++ rest) → SpellsCost scheme (cost_part scheme) (salt ++ tail)
 cost_again Md5crypt n part field rest salt tail e end s = refl
-cost_again (Sha256crypt r) n part field rest salt tail e end s = rounds_again r.count r.is_written n part field rest salt tail e end s
-cost_again (Sha512crypt r) n part field rest salt tail e end s = rounds_again r.count r.is_written n part field rest salt tail e end s
+cost_again (Shacrypt sha r) n part field rest salt tail e end s = rounds_again sha r.count r.is_written n part field rest salt tail e end s
 cost_again (Scrypt c) n part field rest salt tail e end s = (refl, s.1, s.2, s.3)
 
 -- what a text spells, its canonical text spells, whatever stands behind a `$`
@@ -272,7 +260,7 @@ canonical_spells_before text kept tail s end tail_bytes short =
     let salt : All IsSettingByte kept.salt = subst (All IsSettingByte) (sym salt_front) (All-take IsSettingByte (salt_limit m) s.field field) in
     let bounded = setting_bounded kept (text, s) in
     record {
-      short = omega (arith, canonical_short kept.scheme kept.salt bounded.0 bounded.1, length-append (canonical_text kept) tail, length-append (prefix m) (part ++ kept.salt), length-append part kept.salt, short);
+      short = omega (arith, (canonical_short kept.scheme kept.salt bounded.0 bounded.1).0, length-prefix m, length-append (canonical_text kept) tail, length-append (prefix m) (part ++ kept.salt), length-append part kept.salt, short);
       bytes = All-append IsSettingByte (canonical_text kept) tail
           (All-append IsSettingByte (prefix m) (part ++ kept.salt) (all_left (prefix m) (front ++ (s.field ++ s.rest)) all)
           (All-append IsSettingByte part kept.salt (cost_bytes kept.scheme bounded.0) salt))
@@ -291,11 +279,3 @@ canonical_spells_before text kept tail s end tail_bytes short =
 pub canonical_spells : (text : List ℕ) (kept : SettingValue) → Spells text kept → Spells (canonical_text kept) kept
 canonical_spells text kept s =
     subst (λ (t : List ℕ). Spells t kept) (append-nil (canonical_text kept)) (canonical_spells_before text kept [] s tt (All-nil IsSettingByte) (omega arith))
-
--- with a `$` and the text of the method's digest it stays within the limit of a hash
-pub packed_short : (scheme : Scheme) (salt : List ℕ) → IsScheme scheme → length salt ≤ salt_limit (method_of scheme)
-    → length (prefix (method_of scheme)) + (length (cost_part scheme) + length salt) + packed_len (method_of scheme) < hash_limit
-packed_short Md5crypt salt c l = omega arith
-packed_short (Sha256crypt r) salt c l = omega (arith, length_rounds r.count r.is_written (in_range r.count c.0).1)
-packed_short (Sha512crypt r) salt c l = omega (arith, length_rounds r.count r.is_written (in_range r.count c.0).1)
-packed_short (Scrypt n) salt c l = omega (arith, length-scrypt_part n)

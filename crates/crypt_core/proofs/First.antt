@@ -1,22 +1,26 @@
 -- At which stage reading a text fails first.
-use Rattle.std.proofs.Common.{◌≡◌, ℕ, ◌≤◌, ◌<◌, Bool, true, false, inl, inr, ◌⊎◌, List, ◌++◌, length, drop, All, refl, sym, ap, subst, ◌∙◌, arith}
+use Rattle.std.proofs.Common.{◌≡◌, ℕ, ◌≤◌, ◌<◌, Bool, true, false, inl, inr, List, ◌++◌, length, drop, All, refl, sym, ap, subst, ◌∙◌, arith}
 use Rattle.std.proofs.Math.Seq.{drop-append_seam}
 use Rattle.std.proofs.lemmas.List.{append_cancel_left}
-use Rattle.kdf_core.specs.Params.{ScryptCost, IsInRange, IsWithinCeiling}
+use Rattle.kdf_core.specs.Params.{ScryptCost, IsAccepted, IsInRange, IsWithinCeiling}
 use Rattle.crypt_core.specs.declared.method.Method.{Method}
 use Rattle.crypt_core.specs.declared.method.Method.TheVariants as methods
 use Rattle.crypt_core.specs.Rounds.{Rounds}
 use Rattle.crypt_core.specs.declared.scheme.Scheme.{Scheme}
-use Rattle.crypt_core.specs.declared.scheme.Scheme.TheVariants.{Md5crypt, Sha256crypt, Sha512crypt, Scrypt}
+use Rattle.crypt_core.specs.declared.scheme.Scheme.TheVariants.{Md5crypt, Shacrypt, Scrypt}
+use Rattle.crypt_core.specs.declared.scheme.Sha.{Sha}
+use Rattle.crypt_core.specs.declared.scheme.Sha.TheVariants.{Sha256, Sha512}
 use Rattle.crypt_core.specs.declared.setting.fault.SettingFault.TheVariants.{TooLong, BadCharacter, UnknownScheme, BadRounds, BadCost, ScryptRange, AboveCeiling, BadSalt}
 use Rattle.crypt_core.specs.MethodLimits.{prefix}
-use Rattle.crypt_core.specs.Private.Parts.{HasNumerals, IsSettingText, IsShaText, KeepsField, LacksCharacters, LacksRounds, SpellsSalt}
-use Rattle.crypt_core.specs.Refusals.{IsRefused, LacksCost}
-use Rattle.crypt_core.specs.Schemes.{IsScheme, method_of}
+use Rattle.crypt_core.specs.Private.Parts.{HasNumerals, IsSettingText, KeepsField, LacksCharacters, LacksRounds, SpellsSalt}
+use Rattle.crypt_core.specs.Refusals.{FailsStage, IsRefused, LacksCost, setting_faults}
+use Rattle.crypt_core.specs.Rules.{IsFirstBroken}
+use Rattle.crypt_core.specs.declared.setting.fault.SettingFault.{SettingFault}
+use Rattle.crypt_core.specs.Schemes.{IsScheme, method_of, sha_method}
 use Rattle.crypt_core.specs.Settings.{IsSettingByte, IsField, BeginsWith, rounds_word, scrypt_part, IsScryptSalt, KeepsSalt, SpellsCost, Spells, SpellsRounds, SpellsScheme, setting_limit}
 use Rattle.crypt_core.specs.TextLimits.{scrypt_part_len}
 use Rattle.crypt_core.proofs.Numerals.{length-scrypt_part, all_scrypt_part}
-use Rattle.crypt_core.proofs.Readings.{prefix_unique, scheme_unique}
+use Rattle.crypt_core.proofs.Readings.{prefix_unique, scheme_unique, sha_apart}
 use Rattle.crypt_core.proofs.Refusals.{lacks_none}
 use Rattle.crypt_core.proofs.Rounds.{field_parts}
 
@@ -40,8 +44,8 @@ after_numbers after rest n parts =
 -- what is kept of a field, with a cost in range
 kept_salt : (scheme : Scheme) (field salt : List ℕ) → IsScheme scheme → KeepsField (method_of scheme) field salt → KeepsSalt scheme field salt
 kept_salt Md5crypt field salt c k = k
-kept_salt (Sha256crypt r) field salt c k = k
-kept_salt (Sha512crypt r) field salt c k = k
+kept_salt (Shacrypt Sha256 r) field salt c k = k
+kept_salt (Shacrypt Sha512 r) field salt c k = k
 kept_salt (Scrypt n) field salt c k = (c, k.0, k.1)
 
 -- all parts of a text that spells a setting
@@ -68,25 +72,14 @@ spelled_rounds r part after s lacks = by r.is_written s
     by false w = w.2 (lacks.0, sym (ap (λ (x : List ℕ). x ++ after) w.0) ∙ lacks.1)
 
 -- so `rounds=` without a proper field is no cost of SHA-crypt
-sha256_lacks : (text after : List ℕ) → text ≡ prefix methods.Sha256crypt ++ after → LacksRounds after → LacksCost methods.Sha256crypt text
-sha256_lacks text after e lacks = ((after, e), none)
+sha_lacks : (text : List ℕ) (sha : Sha) (after : List ℕ) → text ≡ prefix (sha_method sha) ++ after → LacksRounds after → LacksCost (sha_method sha) text
+sha_lacks text sha after e lacks = ((after, e), none)
   where
-    none : (scheme : Scheme) (z : List ℕ) → method_of scheme ≡ methods.Sha256crypt → SpellsScheme text scheme z → ⊥
-    none (Sha256crypt r) z m s =
-        spelled_rounds r s.0 z s.2 (subst LacksRounds (sym (prefix_unique methods.Sha256crypt methods.Sha256crypt (s.0 ++ z) after (sym s.1 ∙ e)).1) lacks)
-    none Md5crypt z m s = absurd cc
-    none (Sha512crypt r) z m s = absurd cc
-    none (Scrypt n) z m s = absurd cc
-
-sha512_lacks : (text after : List ℕ) → text ≡ prefix methods.Sha512crypt ++ after → LacksRounds after → LacksCost methods.Sha512crypt text
-sha512_lacks text after e lacks = ((after, e), none)
-  where
-    none : (scheme : Scheme) (z : List ℕ) → method_of scheme ≡ methods.Sha512crypt → SpellsScheme text scheme z → ⊥
-    none (Sha512crypt r) z m s =
-        spelled_rounds r s.0 z s.2 (subst LacksRounds (sym (prefix_unique methods.Sha512crypt methods.Sha512crypt (s.0 ++ z) after (sym s.1 ∙ e)).1) lacks)
-    none Md5crypt z m s = absurd cc
-    none (Sha256crypt r) z m s = absurd cc
-    none (Scrypt n) z m s = absurd cc
+    none : (scheme : Scheme) (z : List ℕ) → method_of scheme ≡ sha_method sha → SpellsScheme text scheme z → ⊥
+    none (Shacrypt other r) z m s =
+        spelled_rounds r s.0 z s.2 (subst LacksRounds (sym (prefix_unique (sha_method other) (sha_method sha) (s.0 ++ z) after (sym s.1 ∙ e)).1) lacks)
+    none Md5crypt z m s = (sha_apart sha).0 (sym m)
+    none (Scrypt n) z m s = (sha_apart sha).1 (sym m)
 
 -- nor are too few characters one of scrypt
 scrypt_lacks : (text after : List ℕ) → text ≡ prefix methods.Scrypt ++ after → LacksCharacters after → LacksCost methods.Scrypt text
@@ -97,8 +90,7 @@ scrypt_lacks text after e lacks = ((after, e), none)
         let parts : s.0 ++ z ≡ after = (prefix_unique methods.Scrypt methods.Scrypt (s.0 ++ z) after (sym s.1 ∙ e)).1 in
         lacks (scrypt_part n) z (length-scrypt_part n) (all_scrypt_part n) (sym parts ∙ ap (λ (x : List ℕ). x ++ z) s.2.0)
     none Md5crypt z m s = absurd cc
-    none (Sha256crypt r) z m s = absurd cc
-    none (Sha512crypt r) z m s = absurd cc
+    none (Shacrypt sha r) z m s = (sha_apart sha).1 m
 
 -- a text of another method lacks no cost of this one
 other_method : (text : List ℕ) (a b : Method) (after : List ℕ) → (a ≡ b → ⊥) → text ≡ prefix a ++ after → LacksCost b text → ⊥
@@ -121,94 +113,58 @@ unknown text not_1 not_5 not_6 not_7 methods.Sha256crypt = not_5
 unknown text not_1 not_5 not_6 not_7 methods.Sha512crypt = not_6
 unknown text not_1 not_5 not_6 not_7 methods.Scrypt = not_7
 
--- a setting text isn't refused for its bytes
 module _ (text : List ℕ) (is_text : IsSettingText text) where
-  not_long : setting_limit < length text → ⊥
-  not_long long = omega (arith, is_text.short, long)
+  -- FirstFrom stage fault: from this stage on, the first one that fails has this refusal
+  abbrev FirstFrom : ℕ → SettingFault → Type 0
+  FirstFrom stage = IsFirstBroken (drop stage setting_faults) (FailsStage text)
 
-  not_bad : (All IsSettingByte text → ⊥) → ⊥
-  not_bad bad = bad is_text.bytes
+  -- the bytes of a setting text are right
+  from_prefix : (fault : SettingFault) → FirstFrom 2 fault → IsRefused text fault
+  unfolding IsRefused
+  from_prefix fault first = inr (λ long. omega (arith, is_text.short, long), inr (λ bad. bad is_text.bytes, first))
 
   pub refused_unknown : ((m : Method) → BeginsWith text (prefix m) → ⊥) → IsRefused text UnknownScheme
-  unfolding IsRefused
-  refused_unknown none = inr (not_long, inr (not_bad, inl (refl, none)))
+  refused_unknown none = from_prefix UnknownScheme (inl (refl, none))
 
-  -- nor one with a prefix for its method
-  known : (m : Method) (after : List ℕ) → text ≡ prefix m ++ after → ((n : Method) → BeginsWith text (prefix n) → ⊥) → ⊥
-  known m after e none = none m (after, e)
+  -- and a prefix tells its method
+  from_cost : (m : Method) (after : List ℕ) (fault : SettingFault) → text ≡ prefix m ++ after → FirstFrom 3 fault → IsRefused text fault
+  from_cost m after fault e first = from_prefix fault (inr (λ none. none m (after, e), first))
 
-  pub refused_rounds : (after : List ℕ) → IsShaText text after → LacksRounds after → IsRefused text BadRounds
-  unfolding IsRefused
-  refused_rounds after (inl e) lacks =
-      inr (not_long, inr (not_bad, inr (known methods.Sha256crypt after e, inl (refl, inl (sha256_lacks text after e lacks)))))
-  refused_rounds after (inr e) lacks =
-      inr (not_long, inr (not_bad, inr (known methods.Sha512crypt after e, inl (refl, inr (sha512_lacks text after e lacks)))))
+  pub refused_rounds : (sha : Sha) (after : List ℕ) → text ≡ prefix (sha_method sha) ++ after → LacksRounds after → IsRefused text BadRounds
+  refused_rounds sha after e lacks = from_cost (sha_method sha) after BadRounds e (inl (refl, (sha, sha_lacks text sha after e lacks)))
 
-  -- nor one of scrypt for rounds
-  no_rounds : (after : List ℕ) → text ≡ prefix methods.Scrypt ++ after → LacksCost methods.Sha256crypt text ⊎ LacksCost methods.Sha512crypt text → ⊥
-  no_rounds after e (inl lacks) = other_method text methods.Scrypt methods.Sha256crypt after (λ same. absurd (cc same)) e lacks
-  no_rounds after e (inr lacks) = other_method text methods.Scrypt methods.Sha512crypt after (λ same. absurd (cc same)) e lacks
+  -- scrypt has no rounds
+  from_scrypt_cost : (after : List ℕ) (fault : SettingFault) → text ≡ prefix methods.Scrypt ++ after → FirstFrom 4 fault → IsRefused text fault
+  from_scrypt_cost after fault e first =
+      from_cost methods.Scrypt after fault e (inr (λ b. other_method text methods.Scrypt (sha_method b.0) after (λ same. (sha_apart b.0).1 (sym same)) e b.1, first))
 
   pub refused_cost : (after : List ℕ) → text ≡ prefix methods.Scrypt ++ after → LacksCharacters after → IsRefused text BadCost
-  unfolding IsRefused
-  refused_cost after e lacks =
-      inr (not_long, inr (not_bad, inr (known methods.Scrypt after e, inr (no_rounds after e, inl (refl, scrypt_lacks text after e lacks)))))
+  refused_cost after e lacks = from_scrypt_cost after BadCost e (inl (refl, scrypt_lacks text after e lacks))
 
-  -- nor one with scrypt's numbers for these
+  -- but numbers
   module _ (n : ScryptCost) (rest : List ℕ) (spelled : SpellsScheme text (Scrypt n) rest) where
-    numbers_known : ((m : Method) → BeginsWith text (prefix m) → ⊥) → ⊥
-    numbers_known = known methods.Scrypt (spelled.0 ++ rest) spelled.1
-
-    some_rounds : LacksCost methods.Sha256crypt text ⊎ LacksCost methods.Sha512crypt text → ⊥
-    some_rounds = no_rounds (spelled.0 ++ rest) spelled.1
-
-    some_cost : LacksCost methods.Scrypt text → ⊥
-    some_cost = lacks_none text (Scrypt n) rest methods.Scrypt spelled
+    from_range : (fault : SettingFault) → FirstFrom 5 fault → IsRefused text fault
+    from_range fault first = from_scrypt_cost (spelled.0 ++ rest) fault spelled.1 (inr (lacks_none text (Scrypt n) rest methods.Scrypt spelled, first))
 
     pub refused_range : (IsInRange n → ⊥) → IsRefused text ScryptRange
-    unfolding IsRefused
-    refused_range outside =
-        inr (not_long, inr (not_bad, inr (numbers_known, inr (some_rounds, inr (some_cost, inl (refl, (n, rest, spelled, outside)))))))
+    refused_range outside = from_range ScryptRange (inl (refl, (n, rest, spelled, outside)))
 
-    -- the numbers are the only ones
+    -- which are the only ones
     same_numbers : (m : ScryptCost) (after : List ℕ) → SpellsScheme text (Scrypt m) after → n ≡ m
     same_numbers m after s = let same : Scrypt n ≡ Scrypt m = (scheme_unique text (Scrypt n) (Scrypt m) rest after spelled s).0 in cc
 
-    module _ (inside : IsInRange n) where
-      in_range : (m : ScryptCost) × (after : List ℕ) × SpellsScheme text (Scrypt m) after × (¬ IsInRange m) → ⊥
-      in_range b = b.3 (subst IsInRange (same_numbers b.0 b.1 b.2) inside)
+    from_ceiling : IsInRange n → (fault : SettingFault) → FirstFrom 6 fault → IsRefused text fault
+    from_ceiling inside fault first = from_range fault (inr (λ b. b.3 (subst IsInRange (same_numbers b.0 b.1 b.2) inside), first))
 
-      pub refused_ceiling : (IsWithinCeiling n → ⊥) → IsRefused text AboveCeiling
-      unfolding IsRefused
-      refused_ceiling above =
-          inr (not_long, inr (not_bad, inr (numbers_known, inr (some_rounds, inr (some_cost, inr (in_range, inl (refl, (n, rest, spelled, above))))))))
+    pub refused_ceiling : IsInRange n → (IsWithinCeiling n → ⊥) → IsRefused text AboveCeiling
+    refused_ceiling inside above = from_ceiling inside AboveCeiling (inl (refl, (n, rest, spelled, above)))
 
-      below_ceiling : IsWithinCeiling n → (m : ScryptCost) × (after : List ℕ) × SpellsScheme text (Scrypt m) after × (¬ IsWithinCeiling m) → ⊥
-      below_ceiling within b = b.3 (subst IsWithinCeiling (same_numbers b.0 b.1 b.2) within)
+    from_salt : IsAccepted n → (fault : SettingFault) → FirstFrom 7 fault → IsRefused text fault
+    from_salt accepted fault first =
+        from_ceiling accepted.0 fault (inr (λ b. b.3 (subst IsWithinCeiling (same_numbers b.0 b.1 b.2) accepted.1), first))
 
 -- a text whose front is spelled, of scrypt, with a salt that isn't taken
 pub refused_salt : (text : List ℕ) (scheme : Scheme) (field rest : List ℕ) → IsSettingText text → SpellsScheme text scheme (field ++ rest) → IsScheme scheme → method_of scheme ≡ methods.Scrypt → IsField field rest → (IsScryptSalt field → ⊥) → IsRefused text BadSalt
-unfolding IsRefused
-refused_salt text (Scrypt n) field rest t s c m f bad =
-    inr (
-      not_long text t,
-      inr (
-        not_bad text t,
-        inr (
-          numbers_known text t n (field ++ rest) s,
-          inr (
-            some_rounds text t n (field ++ rest) s,
-            inr (
-              some_cost text t n (field ++ rest) s,
-              inr (
-                in_range text t n (field ++ rest) s c.0,
-                inr (below_ceiling text t n (field ++ rest) s c.0 c.1, inl (refl, (n, field, rest, s, f, bad))),
-              ),
-            ),
-          ),
-        ),
-      ),
-    )
+refused_salt text (Scrypt n) field rest t s c m f bad = from_salt text t n (field ++ rest) s c BadSalt (inl (refl, (n, field, rest, s, f, bad)))
 refused_salt text Md5crypt field rest t s c m f bad = absurd cc
-refused_salt text (Sha256crypt r) field rest t s c m f bad = absurd cc
-refused_salt text (Sha512crypt r) field rest t s c m f bad = absurd cc
+refused_salt text (Shacrypt sha r) field rest t s c m f bad = absurd ((sha_apart sha).1 m)

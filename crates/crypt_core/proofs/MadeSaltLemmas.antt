@@ -6,7 +6,7 @@ use Rattle.std.proofs.lemmas.List.FromFn.{map-range_with_len_more}
 use Rattle.std.proofs.lemmas.List.Elements.{All-map}
 use Rattle.prims_core.specs.Alphabet.{alphabet, character_of}
 use Rattle.std.specs.Prelude.{Contains, nat_le, slice_index}
-use Rattle.crypt_core.proofs.Numerals.{in_alphabet}
+use Rattle.prims_core.proofs.AlphabetFacts.{Contains-character_of}
 use Rattle.crypt_core.specs.MadeSalts.{made_salt}
 use Rattle.crypt_core.specs.MethodLimits.{made_salt_length, salt_limit}
 use Rattle.crypt_core.specs.declared.method.Method.{Method}
@@ -23,7 +23,7 @@ made_salt-more words n = map-range_with_len_more (made_character words) 0 n n (o
 
 pub all_made_salt : (words : List ℕ) (n : ℕ) → All (Contains alphabet) (made_salt words n)
 unfolding made_salt
-all_made_salt words n = All-map (Contains alphabet) (made_character words) (range_with_len 0 n) (λ k d h. in_alphabet _)
+all_made_salt words n = All-map (Contains alphabet) (made_character words) (range_with_len 0 n) (λ k d h. Contains-character_of _ _ (omega arith) refl)
 
 -- as many characters as a made salt has, the method keeps
 pub made_short : (m : Method) → made_salt_length m ≤ salt_limit m

@@ -1,27 +1,25 @@
 -- What a method, a cost and a salt make is a setting.
-use Rattle.std.proofs.Common.{◌≡◌, ◌≢◌, ℕ, ◌+◌, ◌≤◌, ◌<◌, ◌^◌, ◌*◌, Bool, true, false, inl, inr, ◌⊎◌, List, [], ◌++◌, length, get_or, All, length-append, append-nil, refl, sym, ap, subst, ◌∙◌, arith}
-use Rattle.std.specs.Prelude.{◌↔◌, Contains, decimal, Result, Ok, Err, OnOk, IfErr, IsOk, Option, Some}
+use Rattle.std.proofs.Common.{◌≡◌, ◌≢◌, ℕ, ◌+◌, ◌≤◌, ◌<◌, ◌^◌, ◌*◌, true, false, inl, inr, ◌⊎◌, List, [], ◌++◌, length, get_or, All, length-append, append-nil, refl, sym, ap, subst, ◌∙◌, arith}
+use Rattle.std.specs.Prelude.{◌↔◌, Contains, Result, Ok, Err, OnOk, IfErr, IsOk, Option, Some}
 use Rattle.std.proofs.Math.Nat.{le-mul_of_pos_right, lt_of_not-le, mul-le-mul_right, one-le-mul}
 use Rattle.std.proofs.Math.Pow.{pow_mono}
 use Rattle.kdf_core.specs.Params.{ScryptCost, row_count, IsAccepted}
 use Rattle.std.proofs.lemmas.List.{take_all}
 use Rattle.std.proofs.lemmas.List.Elements.{All-append, All-weaker, All-get_or}
-use Rattle.std.proofs.lemmas.Fmt.{decimal_is_IsNumeral}
 use Rattle.prims_core.specs.Alphabet.{alphabet}
 use Rattle.crypt_core.specs.declared.method.Method.{Method}
 use Rattle.crypt_core.specs.declared.method.Method.TheVariants as methods
 use Rattle.crypt_core.specs.declared.scheme.Scheme.{Scheme}
-use Rattle.crypt_core.specs.declared.scheme.Scheme.TheVariants.{Md5crypt, Sha256crypt, Sha512crypt, Scrypt}
+use Rattle.crypt_core.specs.declared.scheme.Scheme.TheVariants.{Md5crypt, Shacrypt, Scrypt}
 use Rattle.crypt_core.specs.declared.setting.fault.MakeFault.{MakeFault}
 use Rattle.crypt_core.specs.declared.setting.fault.MakeFault.TheVariants.{SaltLength, SaltCharacter, Cost}
-use Rattle.crypt_core.specs.MethodLimits.{md5crypt_salt_limit, prefix, salt_limit, shacrypt_salt_limit}
+use Rattle.crypt_core.specs.MethodLimits.{prefix, salt_limit}
 use Rattle.crypt_core.specs.MadeSettings.{made_scheme, TakesCost, BreaksMake, IsMakeRefused, make_faults}
 use Rattle.crypt_core.specs.Private.Parts.{HasNumerals, TakesSalt}
 use Rattle.crypt_core.specs.Schemes.{IsScheme, method_of}
-use Rattle.crypt_core.specs.Settings.{SettingValue, IsSettingByte, dollar, BeginsWith, rounds_word, SpellsRounds, SpellsCost, KeepsSalt, cost_part, canonical_text}
-use Rattle.crypt_core.specs.Rounds.{clamped, default_rounds}
-use Rattle.crypt_core.specs.RoundsLimits.{max_rounds, min_rounds}
-use Rattle.crypt_core.proofs.Canonical.{canonical_short, character_is_byte, clamped_again, cost_bytes, decimal_is_number, in_range, IsSetting, not_dollar, not_equals, prefix_bytes}
+use Rattle.crypt_core.specs.Settings.{SettingValue, IsSettingByte, dollar, BeginsWith, rounds_word, SpellsCost, KeepsSalt, cost_part, canonical_text}
+use Rattle.crypt_core.proofs.Canonical.{canonical_short, character_is_byte, cost_bytes, IsSetting, not_dollar, not_equals, prefix_bytes, rounds_spelled}
+use Rattle.crypt_core.proofs.EachMethod.{length-prefix}
 use Rattle.crypt_core.proofs.Fields.{ended_by}
 use Rattle.crypt_core.proofs.Rules.{first_breaks, first_unique}
 
@@ -33,12 +31,6 @@ no_rounds salt all (more, e) =
     let begins : salt ≡ rounds_word ++ more = sym (append-nil salt) ∙ e in
     let long : 6 < length salt = omega (arith, ap length begins) in
     not_equals (get_or salt 6 0) (All-get_or (Contains alphabet) salt 6 0 long all) (ap (λ (xs : List ℕ). get_or xs 6 0) begins)
-
-rounds_spelled : (count : ℕ) (flag : Bool) (salt : List ℕ) → min_rounds ≤ count → count ≤ max_rounds → (flag ≡ false → count ≡ default_rounds) → All (Contains alphabet) salt → SpellsRounds (record { count = count; is_written = flag }) (cost_part (Sha256crypt (record { count = count; is_written = flag }))) (salt ++ [])
-rounds_spelled count true salt low high made all =
-    let below : count < 2 ^ 64 = omega arith in
-    (decimal count, decimal_is_number count (omega arith) below, refl, sym (clamped_again count low high) ∙ ap clamped (sym (decimal_is_IsNumeral count below).1))
-rounds_spelled count false salt low high made all = (refl, made refl, no_rounds salt all)
 
 -- so many characters say the numbers that scrypt takes
 pub accepted_numerals : (cost : ScryptCost) → IsAccepted cost → HasNumerals cost
@@ -56,22 +48,19 @@ accepted_numerals cost accepted =
 
 cost_spelled : (scheme : Scheme) (salt : List ℕ) → IsScheme scheme → All (Contains alphabet) salt → SpellsCost scheme (cost_part scheme) (salt ++ [])
 cost_spelled Md5crypt salt c all = refl
-cost_spelled (Sha256crypt r) salt c all = let range = in_range r.count c.0 in rounds_spelled r.count r.is_written salt range.0 range.1 c.1 all
-cost_spelled (Sha512crypt r) salt c all = let range = in_range r.count c.0 in rounds_spelled r.count r.is_written salt range.0 range.1 c.1 all
+cost_spelled (Shacrypt sha r) salt c all = rounds_spelled sha r.count r.is_written (salt ++ []) c (λ flag. no_rounds salt all)
 cost_spelled (Scrypt n) salt c all = let says = accepted_numerals n c in (refl, says.0, says.1, says.2)
 
 salt_kept : (scheme : Scheme) (salt : List ℕ) → IsScheme scheme → length salt ≤ salt_limit (method_of scheme) → All (Contains alphabet) salt → KeepsSalt scheme salt salt
-salt_kept Md5crypt salt c short all = sym (take_all md5crypt_salt_limit salt short)
-salt_kept (Sha256crypt r) salt c short all = sym (take_all shacrypt_salt_limit salt short)
-salt_kept (Sha512crypt r) salt c short all = sym (take_all shacrypt_salt_limit salt short)
 salt_kept (Scrypt n) salt c short all = (c, refl, (short, all))
+salt_kept scheme salt c short all = sym (take_all (salt_limit (method_of scheme)) salt short)
 
 pub spelled : (scheme : Scheme) (salt : List ℕ) → IsScheme scheme → length salt ≤ salt_limit (method_of scheme) → All (Contains alphabet) salt → IsSetting (record { scheme = scheme; salt = salt })
 spelled scheme salt c short all =
     let kept : SettingValue = record { scheme = scheme; salt = salt } in (
       canonical_text kept,
       record {
-        short = omega (arith, canonical_short scheme salt c short, length-append (prefix (method_of scheme)) (cost_part scheme ++ salt), length-append (cost_part scheme) salt);
+        short = omega (arith, (canonical_short scheme salt c short).0, length-prefix (method_of scheme), length-append (prefix (method_of scheme)) (cost_part scheme ++ salt), length-append (cost_part scheme) salt);
         bytes = All-append IsSettingByte (prefix (method_of scheme)) (cost_part scheme ++ salt) (prefix_bytes (method_of scheme))
             (All-append IsSettingByte (cost_part scheme) salt (cost_bytes scheme c) (All-weaker (Contains alphabet) IsSettingByte character_is_byte salt all));
         field = salt;

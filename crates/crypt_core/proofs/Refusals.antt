@@ -1,17 +1,17 @@
 -- What a text spells gets no refusal, and a text gets one refusal at most.
-use Rattle.std.proofs.Common.{◌≡◌, ℕ, inl, inr, List, ◌++◌, sym, ap, subst, ◌∙◌, arith}
+use Rattle.std.proofs.Common.{◌≡◌, ℕ, List, ◌++◌, sym, ap, subst, ◌∙◌, arith}
 use Rattle.std.specs.Prelude.{Result, Ok, Err, IfOk, IfErr}
 use Rattle.kdf_core.specs.Params.{ScryptCost, IsAccepted}
 use Rattle.crypt_core.specs.declared.method.Method.{Method}
 use Rattle.crypt_core.specs.declared.method.Method.TheVariants as methods
 use Rattle.crypt_core.specs.declared.scheme.Scheme.{Scheme}
-use Rattle.crypt_core.specs.declared.scheme.Scheme.TheVariants.{Md5crypt, Sha256crypt, Sha512crypt, Scrypt}
+use Rattle.crypt_core.specs.declared.scheme.Scheme.TheVariants.{Md5crypt, Shacrypt, Scrypt}
 use Rattle.crypt_core.specs.declared.setting.fault.SettingFault.{SettingFault}
 use Rattle.crypt_core.specs.declared.setting.fault.SettingFault.TheVariants.{TooLong, BadCharacter, UnknownScheme, BadRounds, BadCost, ScryptRange, AboveCeiling, BadSalt}
 use Rattle.crypt_core.specs.Readings.{IsReadOneWay, IsReading}
 use Rattle.crypt_core.specs.Refusals.{FailsStage, IsRefused, LacksCost, setting_faults}
 use Rattle.crypt_core.specs.Settings.{SettingValue, IsScryptSalt, KeepsSalt, SpellsScheme, Spells}
-use Rattle.crypt_core.specs.Schemes.{method_of}
+use Rattle.crypt_core.specs.Schemes.{method_of, sha_method}
 use Rattle.crypt_core.proofs.Fields.{field_unique}
 use Rattle.crypt_core.proofs.Readings.{prefix_unique, scheme_unique, setting_unique}
 use Rattle.crypt_core.proofs.Rules.{first_breaks, first_unique}
@@ -26,16 +26,14 @@ lacks_none text scheme after m s lacks =
 scrypt_kept : (scheme : Scheme) (n : ScryptCost) (field salt : List ℕ) → scheme ≡ Scrypt n → KeepsSalt scheme field salt → IsAccepted n × IsScryptSalt field
 scrypt_kept (Scrypt m) n field salt e k = let same : m ≡ n = cc in (subst IsAccepted same k.0, k.2)
 scrypt_kept Md5crypt n field salt e k = absurd cc
-scrypt_kept (Sha256crypt r) n field salt e k = absurd cc
-scrypt_kept (Sha512crypt r) n field salt e k = absurd cc
+scrypt_kept (Shacrypt sha r) n field salt e k = absurd cc
 
 -- reading what a text spells fails at no stage
 pub spelled_fails_none : (text : List ℕ) (kept : SettingValue) → Spells text kept → (fault : SettingFault) → FailsStage text fault → ⊥
 spelled_fails_none text kept s TooLong b = omega (arith, s.short)
 spelled_fails_none text kept s BadCharacter b = b s.bytes
 spelled_fails_none text kept s UnknownScheme b = b (method_of kept.scheme) (s.scheme.0 ++ (s.field ++ s.rest), s.scheme.1)
-spelled_fails_none text kept s BadRounds (inl b) = lacks_none text kept.scheme (s.field ++ s.rest) methods.Sha256crypt s.scheme b
-spelled_fails_none text kept s BadRounds (inr b) = lacks_none text kept.scheme (s.field ++ s.rest) methods.Sha512crypt s.scheme b
+spelled_fails_none text kept s BadRounds (sha, b) = lacks_none text kept.scheme (s.field ++ s.rest) (sha_method sha) s.scheme b
 spelled_fails_none text kept s BadCost b = lacks_none text kept.scheme (s.field ++ s.rest) methods.Scrypt s.scheme b
 spelled_fails_none text kept s ScryptRange b =
     let same = scheme_unique text kept.scheme (Scrypt b.0) (s.field ++ s.rest) b.1 s.scheme b.2 in
@@ -49,7 +47,7 @@ spelled_fails_none text kept s BadSalt b =
     b.5 (subst IsScryptSalt fields.0 (scrypt_kept kept.scheme b.0 s.field kept.salt same.0 s.salt).1)
 
 -- so it gets no refusal
-spelled_not_refused : (text : List ℕ) (kept : SettingValue) → Spells text kept → (fault : SettingFault) → IsRefused text fault → ⊥
+pub spelled_not_refused : (text : List ℕ) (kept : SettingValue) → Spells text kept → (fault : SettingFault) → IsRefused text fault → ⊥
 unfolding IsRefused
 spelled_not_refused text kept s fault refused = spelled_fails_none text kept s fault (first_breaks setting_faults (FailsStage text) fault refused)
 

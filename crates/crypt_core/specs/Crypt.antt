@@ -1,6 +1,5 @@
 -- The hash of a password with a setting (crypt(3)).
 use Rattle.std.specs.Prelude.{ℕ, List, ◌∷◌, ◌++◌}
-use Rattle.prims_core.specs.Digests.{sha256, sha512}
 use Rattle.prims_core.specs.declared.meter.Work.{Work}
 use Rattle.kdf_core.specs.Scrypt.{scrypt}
 use Rattle.kdf_core.specs.ScryptWork.{IsAfterRefusal}
@@ -9,16 +8,15 @@ use Rattle.crypt_core.specs.Methods.{method_row}
 use Rattle.crypt_core.specs.Packing.{packed}
 use Rattle.crypt_core.specs.Settings.{SettingValue, canonical_text, dollar}
 use Rattle.crypt_core.specs.Schemes.{method_of}
-use Rattle.crypt_core.specs.ShaCrypt.{shacrypt_digest}
+use Rattle.crypt_core.specs.ShaCrypt.{digest_function, shacrypt_digest}
 use Rattle.crypt_core.specs.declared.method.Method.TheVariants as methods
 use Rattle.crypt_core.specs.declared.scheme.Scheme.{Scheme}
-use Rattle.crypt_core.specs.declared.scheme.Scheme.TheVariants.{Md5crypt, Sha256crypt, Sha512crypt, Scrypt}
+use Rattle.crypt_core.specs.declared.scheme.Scheme.TheVariants.{Md5crypt, Shacrypt, Scrypt}
 
 -- digest_by scheme password salt: the digest of a password with a scheme and a salt.
 abbrev pub digest_by : Scheme → List ℕ → List ℕ → List ℕ
 digest_by Md5crypt password salt = md5crypt_digest password salt
-digest_by (Sha256crypt rounds) password salt = shacrypt_digest sha256 password salt rounds.count
-digest_by (Sha512crypt rounds) password salt = shacrypt_digest sha512 password salt rounds.count
+digest_by (Shacrypt sha rounds) password salt = shacrypt_digest (digest_function sha) password salt rounds.count
 digest_by (Scrypt cost) password salt = scrypt password salt cost (method_row methods.Scrypt).digest_len
 
 -- crypt password kept: the hash, which is the setting in canonical form, a `$`, and the packed digest.

@@ -9,7 +9,8 @@ use Rattle.crypt_core.specs.Rounds.{Rounds, default_rounds, clamped}
 use Rattle.crypt_core.specs.Rules.{IsFirstBroken}
 use Rattle.crypt_core.specs.Schemes.{method_of}
 use Rattle.crypt_core.specs.declared.scheme.Scheme.{Scheme}
-use Rattle.crypt_core.specs.declared.scheme.Scheme.TheVariants.{Md5crypt, Sha256crypt, Sha512crypt, Scrypt}
+use Rattle.crypt_core.specs.declared.scheme.Scheme.TheVariants.{Md5crypt, Shacrypt, Scrypt}
+use Rattle.crypt_core.specs.declared.scheme.Sha.TheVariants.{Sha256, Sha512}
 use Rattle.crypt_core.specs.declared.setting.fault.MakeFault.{MakeFault}
 use Rattle.crypt_core.specs.declared.setting.fault.MakeFault.TheVariants.{SaltLength, SaltCharacter, Cost}
 use Rattle.crypt_core.specs.MadeSalts.{made_salt}
@@ -28,8 +29,8 @@ made_cost cost = record { log_n = (if cost == 0 then 7 else cost) + 7; r = 32; p
 -- scrypt N, r and p.
 abbrev pub made_scheme : Method → ℕ → Scheme
 made_scheme methods.Md5crypt cost = Md5crypt
-made_scheme methods.Sha256crypt cost = Sha256crypt (made_rounds cost)
-made_scheme methods.Sha512crypt cost = Sha512crypt (made_rounds cost)
+made_scheme methods.Sha256crypt cost = Shacrypt Sha256 (made_rounds cost)
+made_scheme methods.Sha512crypt cost = Shacrypt Sha512 (made_rounds cost)
 made_scheme methods.Scrypt cost = Scrypt (made_cost cost)
 
 -- salted scheme words: a scheme with a new salt, which three random numbers make.

@@ -1,14 +1,15 @@
 -- The refusal of a string that is no setting: that of the first stage at which reading fails.
-use Rattle.std.specs.Prelude.{◌≡◌, ℕ, ◌<◌, ◌⊎◌, List, [], ◌∷◌, ◌++◌, length, All}
+use Rattle.std.specs.Prelude.{◌≡◌, ℕ, ◌<◌, List, [], ◌∷◌, ◌++◌, length, All}
 use Rattle.kdf_core.specs.Params.{ScryptCost, IsInRange, IsWithinCeiling}
 use Rattle.crypt_core.specs.Methods.{method_row}
 use Rattle.crypt_core.specs.Rules.{IsFirstBroken}
-use Rattle.crypt_core.specs.Schemes.{method_of}
+use Rattle.crypt_core.specs.Schemes.{method_of, sha_method}
 use Rattle.crypt_core.specs.Settings.{setting_limit, IsSettingByte, IsField, BeginsWith, IsScryptSalt, SpellsScheme}
 use Rattle.crypt_core.specs.declared.method.Method.{Method}
 use Rattle.crypt_core.specs.declared.method.Method.TheVariants as methods
 use Rattle.crypt_core.specs.declared.scheme.Scheme.{Scheme}
 use Rattle.crypt_core.specs.declared.scheme.Scheme.TheVariants.{Scrypt}
+use Rattle.crypt_core.specs.declared.scheme.Sha.{Sha}
 use Rattle.crypt_core.specs.declared.setting.fault.SettingFault.{SettingFault}
 use Rattle.crypt_core.specs.declared.setting.fault.SettingFault.TheVariants.{TooLong, BadCharacter, UnknownScheme, BadRounds, BadCost, ScryptRange, AboveCeiling, BadSalt}
 
@@ -27,7 +28,7 @@ abbrev pub FailsStage : List ℕ → SettingFault → Type 0
 FailsStage text TooLong = setting_limit < length text
 FailsStage text BadCharacter = ¬ All IsSettingByte text
 FailsStage text UnknownScheme = (method : Method) → ¬ BeginsWith text (method_row method).prefix
-FailsStage text BadRounds = LacksCost methods.Sha256crypt text ⊎ LacksCost methods.Sha512crypt text
+FailsStage text BadRounds = (sha : Sha) × LacksCost (sha_method sha) text
 FailsStage text BadCost = LacksCost methods.Scrypt text
 FailsStage text ScryptRange = (cost : ScryptCost) × (after : List ℕ) × SpellsScheme text (Scrypt cost) after × (¬ IsInRange cost)
 FailsStage text AboveCeiling = (cost : ScryptCost) × (after : List ℕ) × SpellsScheme text (Scrypt cost) after × (¬ IsWithinCeiling cost)

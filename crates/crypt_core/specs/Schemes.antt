@@ -4,18 +4,23 @@ use Rattle.crypt_core.specs.Rounds.{IsRounds}
 use Rattle.crypt_core.specs.declared.method.Method.{Method}
 use Rattle.crypt_core.specs.declared.method.Method.TheVariants as methods
 use Rattle.crypt_core.specs.declared.scheme.Scheme.{Scheme}
-use Rattle.crypt_core.specs.declared.scheme.Scheme.TheVariants.{Md5crypt, Sha256crypt, Sha512crypt, Scrypt}
+use Rattle.crypt_core.specs.declared.scheme.Scheme.TheVariants.{Md5crypt, Shacrypt, Scrypt}
+use Rattle.crypt_core.specs.declared.scheme.Sha.{Sha}
+use Rattle.crypt_core.specs.declared.scheme.Sha.TheVariants.{Sha256, Sha512}
+
+-- sha_method sha: the method of SHA-crypt over this digest.
+abbrev pub sha_method : Sha → Method
+sha_method Sha256 = methods.Sha256crypt
+sha_method Sha512 = methods.Sha512crypt
 
 -- method_of scheme: its method.
 abbrev pub method_of : Scheme → Method
 method_of Md5crypt = methods.Md5crypt
-method_of (Sha256crypt rounds) = methods.Sha256crypt
-method_of (Sha512crypt rounds) = methods.Sha512crypt
+method_of (Shacrypt sha rounds) = sha_method sha
 method_of (Scrypt cost) = methods.Scrypt
 
 -- IsScheme scheme: a setting can have its cost. SHA-crypt's rounds are in range, and scrypt's numbers are accepted.
 abbrev pub IsScheme : Scheme → Type 0
 IsScheme Md5crypt = Unit {0}
-IsScheme (Sha256crypt rounds) = IsRounds rounds
-IsScheme (Sha512crypt rounds) = IsRounds rounds
+IsScheme (Shacrypt sha rounds) = IsRounds rounds
 IsScheme (Scrypt cost) = IsAccepted cost

@@ -7,7 +7,7 @@ use Rattle.crypt_core.specs.declared.method.Method.TheVariants as methods
 use Rattle.crypt_core.specs.Rounds.{Rounds, clamped, default_rounds}
 use Rattle.crypt_core.specs.Schemes.{method_of}
 use Rattle.crypt_core.specs.declared.scheme.Scheme.{Scheme}
-use Rattle.crypt_core.specs.declared.scheme.Scheme.TheVariants.{Md5crypt, Sha256crypt, Sha512crypt, Scrypt}
+use Rattle.crypt_core.specs.declared.scheme.Scheme.TheVariants.{Md5crypt, Shacrypt, Scrypt}
 use Rattle.crypt_core.specs.Methods.{method_row}
 
 -- What is kept of a string: the scheme with its cost, and the salt.
@@ -66,8 +66,7 @@ scrypt_part cost = numerals 1 cost.log_n ++ (numerals 5 cost.r ++ numerals 5 cos
 -- scrypt's cost part can express its numbers.
 abbrev pub SpellsCost : Scheme → List ℕ → List ℕ → Type 0
 SpellsCost Md5crypt part after = part ≡ []
-SpellsCost (Sha256crypt rounds) part after = SpellsRounds rounds part after
-SpellsCost (Sha512crypt rounds) part after = SpellsRounds rounds part after
+SpellsCost (Shacrypt sha rounds) part after = SpellsRounds rounds part after
 SpellsCost (Scrypt cost) part after = (part ≡ scrypt_part cost) × (cost.log_n < 64) × (cost.r < 2 ^ 30) × (cost.p < 2 ^ 30)
 
 -- ---- the whole string
@@ -104,8 +103,7 @@ pub record Spells (text : List ℕ) (kept : SettingValue) : Type 0 where
 -- cost_part scheme: its cost in canonical form. SHA-crypt's rounds appear only if the setting had a `rounds=` field.
 abbrev pub cost_part : Scheme → List ℕ
 cost_part Md5crypt = []
-cost_part (Sha256crypt rounds) = if rounds.is_written then rounds_field (decimal rounds.count) else []
-cost_part (Sha512crypt rounds) = if rounds.is_written then rounds_field (decimal rounds.count) else []
+cost_part (Shacrypt sha rounds) = if rounds.is_written then rounds_field (decimal rounds.count) else []
 cost_part (Scrypt cost) = scrypt_part cost
 
 -- canonical_text kept: the setting in canonical form, which ends with its salt.

@@ -2,8 +2,16 @@
 -- with `$5$`, and SHA-512 in those with `$6$`.
 use Rattle.std.specs.Prelude.{ℕ, ◌+◌, List, ◌++◌, length, slice_index}
 use Rattle.std.specs.List.{repeat}
+use Rattle.prims_core.specs.Digests.{sha256, sha512}
 use Rattle.crypt_core.specs.Cycle.{cycle, digit_pieces}
 use Rattle.crypt_core.specs.RoundMessage.{alternate_message, digest_after}
+use Rattle.crypt_core.specs.declared.scheme.Sha.{Sha}
+use Rattle.crypt_core.specs.declared.scheme.Sha.TheVariants.{Sha256, Sha512}
+
+-- digest_function sha: the digest function h.
+abbrev pub digest_function : Sha → List ℕ → List ℕ
+digest_function Sha256 = sha256
+digest_function Sha512 = sha512
 
 -- sha_opening h password salt: the digest A (steps 1 to 12). In the binary digits of the password's length, a 1 stands
 -- for the digest B, and a 0 for the password.

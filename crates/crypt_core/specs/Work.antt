@@ -2,7 +2,6 @@
 -- is a closed form of the lengths of the password and the salt, and for SHA-crypt of one byte of a digest.
 use Rattle.std.specs.Prelude.{ℕ, ◌+◌, ◌-◌, ◌*◌, ◌^◌, List, length}
 use Rattle.std.specs.Int.{div_ceil}
-use Rattle.prims_core.specs.Digests.{sha256, sha512}
 -- The counts after some more work, and work within other work or below a number.
 pub use Rattle.prims_core.specs.Work.{raised_by, IsBelow, IsWithin}
 use Rattle.prims_core.specs.declared.meter.Work.{Work}
@@ -11,10 +10,11 @@ use Rattle.kdf_core.specs.ScryptWork.{scrypt_work}
 use Rattle.crypt_core.specs.Cycle.{digit_bytes}
 use Rattle.crypt_core.specs.Methods.{method_row}
 use Rattle.crypt_core.specs.Settings.{SettingValue}
-use Rattle.crypt_core.specs.ShaCrypt.{sha_opening_byte}
+use Rattle.crypt_core.specs.Schemes.{sha_method}
+use Rattle.crypt_core.specs.ShaCrypt.{digest_function, sha_opening_byte}
 use Rattle.crypt_core.specs.declared.method.Method.TheVariants as methods
 use Rattle.crypt_core.specs.declared.scheme.Scheme.{Scheme}
-use Rattle.crypt_core.specs.declared.scheme.Scheme.TheVariants.{Md5crypt, Sha256crypt, Sha512crypt, Scrypt}
+use Rattle.crypt_core.specs.declared.scheme.Scheme.TheVariants.{Md5crypt, Shacrypt, Scrypt}
 
 -- ---- for a password and a salt of given lengths
 
@@ -51,8 +51,8 @@ shacrypt_work digest_length a rounds password_length salt_length = digests_alone
 -- work_by scheme a password_length salt_length: the work with a scheme. Only that of SHA-crypt depends on a.
 abbrev pub work_by : Scheme → ℕ → ℕ → ℕ → Work
 work_by Md5crypt a password_length salt_length = md5crypt_work password_length salt_length
-work_by (Sha256crypt rounds) a password_length salt_length = shacrypt_work 32 a rounds.count password_length salt_length
-work_by (Sha512crypt rounds) a password_length salt_length = shacrypt_work 64 a rounds.count password_length salt_length
+work_by (Shacrypt sha rounds) a password_length salt_length =
+    shacrypt_work (method_row (sha_method sha)).digest_len a rounds.count password_length salt_length
 work_by (Scrypt cost) a password_length salt_length = scrypt_work cost password_length salt_length 32
 
 -- ---- the work, the bound and the cost
@@ -60,8 +60,7 @@ work_by (Scrypt cost) a password_length salt_length = scrypt_work cost password_
 -- first_byte_by scheme password salt: A's first byte for SHA-crypt, and 0 for the other schemes, whose work does not
 -- depend on it.
 abbrev pub first_byte_by : Scheme → List ℕ → List ℕ → ℕ
-first_byte_by (Sha256crypt rounds) password salt = sha_opening_byte sha256 password salt
-first_byte_by (Sha512crypt rounds) password salt = sha_opening_byte sha512 password salt
+first_byte_by (Shacrypt sha rounds) password salt = sha_opening_byte (digest_function sha) password salt
 first_byte_by scheme password salt = 0
 
 -- work password kept: the work of hashing a password with a setting.

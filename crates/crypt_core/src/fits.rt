@@ -1,10 +1,9 @@
 //! Checking a password against a stored hash, as crypt(3) is used for it: the password matches if hashing it with the
 //! setting in the stored hash reproduces the stored hash.
-ghost use Rattle.std.specs.Prelude.{◌≡◌, ◌↔◌, ◌^◌, Err, IsTrue, IfOk};
-ghost use Rattle.prims_core.specs.Work.{IsAtMost};
+ghost use Rattle.std.specs.Prelude.{◌≡◌, ◌↔◌, Err, IsTrue, IfOk};
+ghost use Rattle.prims_core.specs.Meter.{HasRoom};
 ghost use Rattle.crypt_core.specs.declared.setting.fault.SettingFault.{SettingFault as Refusal};
 ghost use Rattle.crypt_core.specs.Fits.{Compares, Fits};
-ghost use Rattle.crypt_core.specs.Readings.{IsReadOneWay};
 ghost use Rattle.crypt_core.specs.Refusals.{IsRefused};
 ghost use Rattle.crypt_core.specs.Settings.{SettingValue, Spells};
 ghost use Rattle.crypt_core.specs.Work.{work, work_limit, IsBelow};
@@ -19,12 +18,11 @@ use thiserror::Error;
 
 /// Why a password can't be compared with a stored hash.
 #[derive(Clone, Copy, Debug, PartialEq, Eq, Drop, Error)]
+#[error("{}", self.text())]
 pub enum FitFault {
     /// The stored hash has no valid setting, and this is the first rule that it breaks.
-    #[error("{}", self.text())]
     Setting(SettingFault),
     /// scrypt could not allocate. No other method allocates.
-    #[error("{}", self.text())]
     OutOfMemory,
 }
 
@@ -84,11 +82,10 @@ pub fn fits(
     stored: &[u8],
     meter: &mut Meter,
 ) -> Result<bool, FitFault>
-    requires { IsAtMost meter.old (2 ^ 120) }
+    requires { HasRoom meter.old }
     ensures verdict { IfOk result (λ verdict. IsTrue verdict ↔ Fits password.now stored.now) }
     ensures compared { Compares password.now stored.now meter.old meter.new result }
     ensures below { (kept : SettingValue) → Spells stored.now kept → IsBelow (work password.now kept) work_limit }
-    ensures one_reading { IsReadOneWay stored.now }
     ensures each_refusal { (fault : Refusal) → IsRefused stored.now fault → result ≡ Err (FitFault.Setting fault) }
 {
     Ok(StoredHash::read(stored)?.fits(alloc, password, meter)?)

@@ -1,6 +1,6 @@
 //! Hashing a password with a setting, as crypt(3) does.
-ghost use Rattle.std.specs.Prelude.{◌≡◌, ℕ, ◌^◌, ◌≤◌, ◌∷◌, ◌++◌, List, length, IfOk, OnOk, OnErr};
-ghost use Rattle.prims_core.specs.Work.{IsAtMost};
+ghost use Rattle.std.specs.Prelude.{◌≡◌, ℕ, ◌≤◌, List, length, IfOk, OnOk, OnErr};
+ghost use Rattle.prims_core.specs.Meter.{HasRoom};
 ghost use Rattle.kdf_core.specs.Params.{IsBounded};
 ghost use Rattle.kdf_core.specs.Scrypt.{scrypt};
 ghost use Rattle.kdf_core.specs.ScryptMessages.{with_scrypt};
@@ -15,9 +15,9 @@ ghost use Rattle.crypt_core.specs.Work.{raised_by, work, work_limit, IsBelow};
 ghost use Rattle.crypt_core.specs.MethodLimits.{digest_len};
 
 use crate::md5crypt::md5crypt;
-use crate::pack::{SCRYPT_PACKED_LEN, pack, packed_len};
+use crate::pack::{SCRYPT_PACKED_LEN, pack};
 use crate::password::Password;
-use crate::scheme::Scheme;
+use crate::scheme::{Scheme, Sha};
 use crate::setting::{CANONICAL_LIMIT, Setting, TEXT_CAPACITY};
 use crate::shacrypt::shacrypt;
 use arrayvec::ArrayVec;
@@ -41,12 +41,13 @@ pub struct Hashed {
 
 impl Model for Hashed {
     ghost use Rattle.std.specs.Prelude.{ℕ, List, length, ◌≤◌};
+    ghost use Rattle.crypt_core.specs.TextLimits.{hash_limit};
 
     ghost Value = { List ℕ };
 
     ghost view = { λ h. h.text.items };
 
-    ghost invariant = { λ h. length h.text.items ≤ 144 };
+    ghost invariant = { λ h. length h.text.items ≤ hash_limit };
 }
 
 impl Hashed {
@@ -61,9 +62,9 @@ impl Hashed {
 
 /// Why a password has no hash.
 #[derive(Clone, Copy, Debug, PartialEq, Eq, Drop, Error)]
+#[error("{}", self.text())]
 pub enum HashFault {
     /// scrypt could not allocate. No other method allocates.
-    #[error("{}", self.text())]
     OutOfMemory,
 }
 
@@ -104,7 +105,7 @@ pub fn hash(
     setting: &Setting,
     meter: &mut Meter,
 ) -> Result<Hashed, HashFault>
-    requires { IsAtMost meter.old (2 ^ 120) }
+    requires { HasRoom meter.old }
     ensures text { IfOk result (λ hashed. hashed ≡ crypt password.now setting.now) }
     ensures spells { IfOk result (λ hashed. Spells hashed setting.now) }
     ensures count { OnOk result (meter.new ≡ raised_by meter.old (work password.now setting.now)) }
@@ -125,8 +126,9 @@ pub fn hash(
 pub fn hash_len(setting: &Setting) -> usize
     ensures each { (password : List ℕ) → length (crypt password setting.now) ≡ result }
     ensures short { result ≤ hash_limit }
+    ensures limit { HASH_LIMIT ≡ hash_limit }
 {
-    setting.text().len() + 1 + packed_len(setting.method())
+    setting.text().len() + 1 + setting.method().row().packed_len
 }
 
 // Returns the digest of the password with the setting's scheme and salt.
@@ -136,7 +138,7 @@ fn digest_of(
     setting: &Setting,
     meter: &mut Meter,
 ) -> Result<ArrayVec<u8, 64>, AllocError>
-    requires { IsAtMost meter.old (2 ^ 120) }
+    requires { HasRoom meter.old }
     ensures digest { IfOk result (λ digest. digest.items
         ≡ digest_by setting.now.scheme password.now setting.now.salt) }
     ensures length { IfOk result (λ digest. length digest.items ≡ digest_len (method_of setting.now.scheme)) }
@@ -149,18 +151,10 @@ fn digest_of(
         Scheme::Md5crypt => Ok(ArrayVec::try_from(md5crypt(
             password, salt, meter,
         ).as_slice()).unwrap()),
-        Scheme::Sha256crypt(rounds) => Ok(shacrypt::<CountedSha256>(
-            password,
-            salt,
-            rounds.count(),
-            meter,
-        )),
-        Scheme::Sha512crypt(rounds) => Ok(shacrypt::<CountedSha512>(
-            password,
-            salt,
-            rounds.count(),
-            meter,
-        )),
+        Scheme::Shacrypt(sha, rounds) => Ok(match sha {
+            Sha::Sha256 => shacrypt::<CountedSha256>(password, salt, rounds.count(), meter),
+            Sha::Sha512 => shacrypt::<CountedSha512>(password, salt, rounds.count(), meter),
+        }),
         Scheme::Scrypt(params) => scrypt_digest(alloc, password.bytes(), salt, &params, meter),
     }
 }
@@ -173,7 +167,7 @@ fn scrypt_digest(
     params: &Params,
     meter: &mut Meter,
 ) -> Result<ArrayVec<u8, 64>, AllocError>
-    requires { IsAtMost meter.old (2 ^ 120) }
+    requires { HasRoom meter.old }
     ensures digest { IfOk result (λ digest. digest.items ≡ scrypt password.now salt.now params.now (digest_len Scrypt)) }
     ensures length { IfOk result (λ digest. length digest.items ≡ digest_len Scrypt) }
     ensures count { OnOk result (meter.new

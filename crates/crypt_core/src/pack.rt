@@ -92,13 +92,6 @@ pub fn pack(method: Method, digest: &[u8]) -> ArrayVec<u8, SHA512CRYPT_PACKED_LE
     ArrayVec::try_from(text.as_slice()).unwrap()
 }
 
-/// Returns the number of characters of the method's packed digest.
-pub fn packed_len(method: Method) -> usize
-    ensures { result ≡ packed_len method }
-{
-    method.row().packed_len
-}
-
 // Returns the number of the bytes at these places, the first place highest.
 fn number_of(digest: &[u8], places: &[usize]) -> u32
     requires { IsGroup (length digest.now) places.now }

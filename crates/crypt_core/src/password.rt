@@ -11,12 +11,11 @@ pub const PASSWORD_LIMIT: usize = 1024;
 
 /// Why bytes are no password: the first of these errors.
 #[derive(Clone, Copy, Debug, PartialEq, Eq, Drop, Error)]
+#[error("{}", self.text())]
 pub enum PasswordFault {
     /// More than [`PASSWORD_LIMIT`] bytes.
-    #[error("{}", self.text())]
     TooLong,
     /// A byte 0, which would end the password in C.
-    #[error("{}", self.text())]
     HasNul,
 }
 

@@ -1,7 +1,8 @@
 //! Schemes: a method with its cost, without a salt. A scheme decides the work of a hash for given lengths of password
 //! and salt ([`Scheme::bound`], [`Scheme::cost`]), and whether a newer scheme replaces it.
 
-ghost use Rattle.std.specs.Prelude.{◌≡◌, ◌+◌, ◌≤◌, ◌↔◌, IsOk, IfOk, IfErr, IsTrue, true, false};
+ghost use Rattle.std.specs.Prelude.{◌≡◌, ◌+◌, ◌≤◌, ◌↔◌, IsOk, IfOk, IfErr, true, false};
+ghost use Rattle.kdf_core.specs.Params.{IsAccepted};
 ghost use Rattle.crypt_core.specs.MadeSettings.{TakesCost, made_rounds, made_scheme};
 ghost use Rattle.crypt_core.specs.Replacements.{is_replaced_by};
 ghost use Rattle.crypt_core.specs.Rounds.{IsRounds, default_rounds, clamped};
@@ -61,7 +62,8 @@ impl Model for Rounds {
 impl Rounds {
     /// Returns the rounds of a setting without a `rounds=` field: 5000.
     pub fn unwritten() -> Rounds
-        ensures { result ≡ record { count = default_rounds; is_written = false } }
+        ensures value { result ≡ record { count = default_rounds; is_written = false } }
+        ensures in_range { IsRounds result }
     {
         Rounds {
             count: DEFAULT_ROUNDS,
@@ -71,7 +73,8 @@ impl Rounds {
 
     /// Returns the rounds of a field with this number, clamped to 1000 to 999999999.
     pub fn written(number: u64) -> Rounds
-        ensures { result ≡ record { count = clamped number; is_written = true } }
+        ensures value { result ≡ record { count = clamped number; is_written = true } }
+        ensures in_range { IsRounds result }
     {
         Rounds {
             count: number.clamp(MIN_ROUNDS, MAX_ROUNDS) as u32,
@@ -81,7 +84,8 @@ impl Rounds {
 
     // Returns the rounds for a cost. Cost 0 is the default, without a field.
     fn made(cost: u32) -> Rounds
-        ensures { result ≡ made_rounds cost }
+        ensures value { result ≡ made_rounds cost }
+        ensures in_range { IsRounds result }
     {
         if cost == 0 {
             return Rounds::unwritten();
@@ -106,15 +110,22 @@ impl Rounds {
     }
 }
 
+/// The digest of SHA-crypt.
+#[derive(Clone, Copy, Debug, PartialEq, Eq)]
+pub enum Sha {
+    /// SHA-256, in sha256crypt.
+    Sha256,
+    /// SHA-512, in sha512crypt.
+    Sha512,
+}
+
 /// A method with its cost.
 #[derive(Clone, Copy, Debug, PartialEq, Eq)]
 pub enum Scheme {
     /// FreeBSD's md5crypt, whose cost is fixed.
     Md5crypt,
-    /// SHA-crypt over SHA-256, with its rounds.
-    Sha256crypt(Rounds),
-    /// SHA-crypt over SHA-512, with its rounds.
-    Sha512crypt(Rounds),
+    /// SHA-crypt over this digest, with its rounds.
+    Shacrypt(Sha, Rounds),
     /// scrypt, with its N, r and p.
     Scrypt(Params),
 }
@@ -131,28 +142,38 @@ impl Scheme {
     /// - `Cost`: the method is scrypt, and the cost is neither 0 nor from 6 to 11.
     pub fn made(method: Method, cost: u32) -> Result<Scheme, MakeFault>
         ensures made { IfOk result (λ scheme. scheme ≡ made_scheme method cost) }
+        ensures in_range { IfOk result IsScheme }
         ensures accepted { IsOk result ↔ TakesCost method cost }
         ensures refused { IfErr result (λ fault. fault ≡ MakeFault.Cost) }
     {
         match (method, cost) {
             (Method::Md5crypt, _) => Ok(Scheme::Md5crypt),
-            (Method::Sha256crypt, _) => Ok(Scheme::Sha256crypt(Rounds::made(cost))),
-            (Method::Sha512crypt, _) => Ok(Scheme::Sha512crypt(Rounds::made(cost))),
+            (Method::Sha256crypt, _) => Ok(Scheme::Shacrypt(Sha::Sha256, Rounds::made(cost))),
+            (Method::Sha512crypt, _) => Ok(Scheme::Shacrypt(Sha::Sha512, Rounds::made(cost))),
             (Method::Scrypt, 0) => Ok(Scheme::Scrypt(params_of(DEFAULT_COST))),
             (Method::Scrypt, MIN_COST..=MAX_COST) => Ok(Scheme::Scrypt(params_of(cost))),
             (Method::Scrypt, _) => Err(MakeFault::Cost),
         }
     }
 
-    /// Returns the method of the scheme.
+    /// Returns the method of the scheme. The rounds, or scrypt's numbers, are in range.
     pub fn method(&self) -> Method
-        ensures { result ≡ method_of self.now }
+        ensures method { result ≡ method_of self.now }
+        ensures in_range { IsScheme self.now }
     {
         match self {
             Scheme::Md5crypt => Method::Md5crypt,
-            Scheme::Sha256crypt(_) => Method::Sha256crypt,
-            Scheme::Sha512crypt(_) => Method::Sha512crypt,
-            Scheme::Scrypt(_) => Method::Scrypt,
+            Scheme::Shacrypt(sha, rounds) => {
+                prove!(u64::from(rounds.count()) <= MAX_ROUNDS);
+                match sha {
+                    Sha::Sha256 => Method::Sha256crypt,
+                    Sha::Sha512 => Method::Sha512crypt,
+                }
+            }
+            Scheme::Scrypt(params) => {
+                prove!(params.log_n() > 0);
+                Method::Scrypt
+            }
         }
     }
 
@@ -165,24 +186,12 @@ impl Scheme {
     {
         match (self, new) {
             (Scheme::Md5crypt, Scheme::Md5crypt) => false,
-            (Scheme::Sha256crypt(old), Scheme::Sha256crypt(new))
-            | (Scheme::Sha512crypt(old), Scheme::Sha512crypt(new)) => old.count() < new.count(),
+            (Scheme::Shacrypt(Sha::Sha256, old), Scheme::Shacrypt(Sha::Sha256, new))
+            | (Scheme::Shacrypt(Sha::Sha512, old), Scheme::Shacrypt(Sha::Sha512, new)) => {
+                old.count() < new.count()
+            }
             (Scheme::Scrypt(old), Scheme::Scrypt(new)) => old.product() < new.product(),
             _ => true,
-        }
-    }
-
-    /// Returns true. Its contract states the range of the rounds or of scrypt's numbers.
-    pub(crate) fn is_in_range(&self) -> bool
-        ensures holds { IsTrue result }
-        ensures in_range { IsScheme self.now }
-    {
-        match self {
-            Scheme::Md5crypt => true,
-            Scheme::Sha256crypt(rounds) | Scheme::Sha512crypt(rounds) => {
-                u64::from(rounds.count()) <= MAX_ROUNDS
-            }
-            Scheme::Scrypt(params) => params.log_n() > 0,
         }
     }
 }
@@ -194,7 +203,8 @@ mod tests;
 fn params_of(cost: u32) -> Params
     requires from { 6 ≤ cost }
     requires to { cost ≤ 11 }
-    ensures { result ≡ record { log_n = cost + 7; r = 32; p = 1 } }
+    ensures value { result ≡ record { log_n = cost + 7; r = 32; p = 1 } }
+    ensures accepted { IsAccepted result }
 {
     Params::new((cost + LOG_ABOVE_COST) as u8, BLOCK_SIZE, PARTS).unwrap()
 }

@@ -48,7 +48,6 @@ impl<'a> StoredHash<'a> {
         ensures spelled { IfOk result (IsHashOf text.now) }
         ensures refused { IfErr result (IsRefused text.now) }
         ensures each_refusal { (fault : Refusal) → IsRefused text.now fault → result ≡ Err fault }
-        ensures one_reading { IsReadOneWay text.now }
     {
         let setting = Setting::read(text)?;
         Ok(StoredHash { text, setting })
@@ -117,6 +116,7 @@ impl<'a> StoredField<'a> {
     ///
     /// For a field that is neither empty nor locked, the first rule that it breaks as a setting, in the order of
     /// [`SettingFault`].
+    #[tactic(auto, using(crate::proofs::Refusals::one_reading))]
     pub fn read(field: &'a [u8]) -> Result<StoredField<'a>, SettingFault>
         ensures reading { IsFieldReading field.now result }
         ensures one_reading { IsReadOneWay field.now }

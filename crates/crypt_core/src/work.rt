@@ -11,7 +11,7 @@ ghost use Rattle.crypt_core.specs.Work.{cost, cost_by, digests_alone, md5crypt_w
 ghost use Rattle.crypt_core.specs.WorkBytes.{greatest_byte};
 
 use crate::md5crypt::ROUNDS;
-use crate::scheme::Scheme;
+use crate::scheme::{Scheme, Sha};
 use crate::setting::Setting;
 use kdf_core::params::Params;
 use kdf_core::work::{mixed_bytes, scrypt_work};
@@ -42,10 +42,10 @@ impl Scheme {
         let salt = salt_len as u64;
         match self {
             Scheme::Md5crypt => md5crypt_bound(password, salt),
-            Scheme::Sha256crypt(rounds) => {
+            Scheme::Shacrypt(Sha::Sha256, rounds) => {
                 shacrypt_bound::<CountedSha256>(rounds.count(), password, salt)
             }
-            Scheme::Sha512crypt(rounds) => {
+            Scheme::Shacrypt(Sha::Sha512, rounds) => {
                 shacrypt_bound::<CountedSha512>(rounds.count(), password, salt)
             }
             Scheme::Scrypt(params) => scrypt_bound(params, password, salt),
@@ -67,7 +67,7 @@ impl Scheme {
     {
         let mixed = match self {
             Scheme::Scrypt(params) => mixed_bytes(params),
-            Scheme::Md5crypt | Scheme::Sha256crypt(_) | Scheme::Sha512crypt(_) => 0,
+            Scheme::Md5crypt | Scheme::Shacrypt(..) => 0,
         };
         self.bound(password_len, salt_len).bytes + mixed
     }

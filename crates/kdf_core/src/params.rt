@@ -13,12 +13,11 @@ const CEILING: u64 = 8_388_608;
 
 /// Why three numbers are no parameters of scrypt: the first of these errors.
 #[derive(Clone, Copy, Debug, PartialEq, Eq, Drop, Error)]
+#[error("{}", self.text())]
 pub enum ParamFault {
     /// log2 N, r or p is 0, or log2 N is 16r or more.
-    #[error("{}", self.text())]
     Range,
     /// The product of N, r and p is above 8388608.
-    #[error("{}", self.text())]
     AboveCeiling,
 }
 

@@ -1,6 +1,7 @@
 -- What the command is in the sense of `clap`, and what it makes of some words.
-use Rattle.std.proofs.Common.{◌≡◌, ◌<◌, ◌&&◌, ℕ, Bool, not, true, false, true≢false, zero, suc, sym, ap, refl, arith, List, [], ◌∷◌, length, codes, Some, None, inl, inr, slice_index}
+use Rattle.std.proofs.Common.{◌≡◌, ◌<◌, ◌&&◌, ℕ, Bool, not, true, false, true≢false, zero, suc, sym, ap, ◌∙◌, refl, arith, List, [], ◌∷◌, length, codes, Some, None, inl, inr, slice_index}
 use Rattle.std.specs.Prelude.{pos}
+use Rattle.std.proofs.lemmas.Bool.{not-true}
 use Rattle.std.specs.Str.{bytes_eq}
 use Rattle.clap.specs.declared.builder.value_parser.ValueParser.TheVariants.{Signed, Unsigned}
 use Rattle.std.specs.List.{list_all, slice_index_or}
@@ -47,14 +48,10 @@ lone k id [] = true
 lone zero id (rule ∷ rules) = list_all (λ other. not (bytes_eq other.id id)) rules
 lone (suc k) id (rule ∷ rules) = not (bytes_eq rule.id id) && lone k id rules
 
-not_true : (b : Bool) → not b ≡ true → b ≡ true → ⊥
-not_true true is_not is = true≢false (sym is_not)
-not_true false is_not is = true≢false (sym is)
-
 none_has : (id : Text) (rules : List Rule) → list_all (λ other. not (bytes_eq other.id id)) rules ≡ true
     → (j : ℕ) (z : Rule) → j < length rules → bytes_eq (slice_index_or rules j z).id id ≡ true → ⊥
 none_has id [] all j z lt same = absurd (omega arith)
-none_has id (rule ∷ rules) all zero z lt same = not_true (bytes_eq rule.id id) (both _ _ all).0 same
+none_has id (rule ∷ rules) all zero z lt same = true≢false (sym same ∙ not-true (bytes_eq rule.id id) (both _ _ all).0)
 none_has id (rule ∷ rules) all (suc j) z lt same = none_has id rules (both _ _ all).1 j z (omega arith) same
 
 lone-only : (k : ℕ) (id : Text) (rules : List Rule) → lone k id rules ≡ true
@@ -62,7 +59,7 @@ lone-only : (k : ℕ) (id : Text) (rules : List Rule) → lone k id rules ≡ tr
 lone-only k id [] all j z lt same = absurd (omega arith)
 lone-only zero id (rule ∷ rules) all zero z lt same = refl
 lone-only zero id (rule ∷ rules) all (suc j) z lt same = absurd (none_has id rules all j z (omega arith) same)
-lone-only (suc k) id (rule ∷ rules) all zero z lt same = absurd (not_true (bytes_eq rule.id id) (both _ _ all).0 same)
+lone-only (suc k) id (rule ∷ rules) all zero z lt same = absurd (true≢false (sym same ∙ not-true (bytes_eq rule.id id) (both _ _ all).0))
 lone-only (suc k) id (rule ∷ rules) all (suc j) z lt same = ap suc (lone-only k id rules (both _ _ all).1 j z (omega arith) same)
 
 pub is_rounds : IsOnlyRule command.top.rules 2 rounds_rule (Signed (pos 0) (pos 4294967295))

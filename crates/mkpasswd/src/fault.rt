@@ -14,24 +14,20 @@ use thiserror::Error;
 
 /// The reason why the arguments after the program's name have no plan.
 #[derive(Debug, Drop, Error)]
+#[error("{}", self.text())]
 pub enum UsageFault {
     /// `clap` refuses the arguments, or they ask for help or the version. Its own message is printed.
     #[error("{0}")]
     Parse(clap::Error),
     /// TYPE names no method.
-    #[error("{}", self.text())]
     Method,
     /// The salt is given twice, with `-S` and as an argument.
-    #[error("{}", self.text())]
     TwoSalts,
     /// More than one of PASSWORD, `-s`, `--batch` and `--check` is given.
-    #[error("{}", self.text())]
     TwoModes,
     /// The method does not accept the cost or the given salt.
-    #[error("{}", self.text())]
     Make(MakeFault),
     /// An allocation failed.
-    #[error("{}", self.text())]
     OutOfMemory,
 }
 

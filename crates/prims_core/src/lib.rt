@@ -1,5 +1,5 @@
 //! The ground that every scheme of mkpasswd stands on: crypt's alphabet, the meter of work, the digests that a meter
-//! counts, numbers as bytes, copies into buffers, the mixing of scrypt's blocks, and the memory that this takes.
+//! counts, numbers as bytes, the mixing of scrypt's blocks, and the memory that this takes.
 #![tactic(auto)]
 
 pub mod alphabet;

@@ -15,16 +15,15 @@ use Rattle.crypt_core.specs.declared.method.Method.{Method}
 use Rattle.crypt_core.specs.declared.method.Method.TheVariants.{Md5crypt, Sha256crypt, Sha512crypt, Scrypt}
 use Rattle.crypt_core.specs.declared.stored.StoredField.{StoredField}
 use Rattle.crypt_core.specs.declared.stored.StoredField.TheVariants as fields
-use Rattle.run_core.specs.Answers.{Hashing, counts_text, hashing, new_hash, new_hashing, rendered}
+use Rattle.run_core.specs.Answers.{Hashing, hashing, new_hash, new_hashing}
 use Rattle.run_core.specs.JobOptions.{IsAbove, check_cost, is_outdated}
-use Rattle.run_core.specs.LineAnswers.{ComesTo, IsAnswer, IsCostly}
+use Rattle.run_core.specs.LineAnswers.{ComesTo, IsAnswer, IsCostly, answer_of}
 use Rattle.run_core.specs.Lines.{HasParts, Parts}
 use Rattle.run_core.specs.Makers.{made_cost_by}
-use Rattle.run_core.specs.Private.Answers.{IsChecked, HasOutcome, IsSettled, answer_of, answer_text, field_cost}
-use Rattle.run_core.specs.Texts.{as_line, colon}
+use Rattle.run_core.specs.Private.Answers.{IsChecked, IsSettled, field_cost}
 use Rattle.run_core.specs.Private.Lines.{HasSoundParts, IsFieldOf, IsLine}
 use Rattle.run_core.specs.declared.answer.Outcome.{Outcome}
-use Rattle.run_core.specs.declared.answer.Outcome.TheVariants.{Hashed, Match, Rehashed, Mismatch, NoHash, Locked, Refused}
+use Rattle.run_core.specs.declared.answer.Outcome.TheVariants.{Match, Rehashed, Misfit}
 use Rattle.run_core.specs.declared.job.Job.{Job}
 use Rattle.run_core.specs.declared.line.Kind.{Kind}
 use Rattle.run_core.proofs.Cuts.{parts_unique}
@@ -143,7 +142,7 @@ unstored-cheap kind job line parts field has is unstored costly =
 comes-stored : (job : Job) (stream : Stream) (name password field : List ℕ) (stored : StoredHash) (hashings : List Hashing) (outcome : Outcome)
     → stored.text ≡ field → Spells field stored.setting → IsChecked job password stored stream hashings outcome
     → ComesTo job (parts_with name password (Some field)) stream outcome hashings
-comes-stored job stream name password field stored hashings Mismatch is spells checked =
+comes-stored job stream name password field stored hashings Misfit is spells checked =
     (field, stored.setting, (refl, spells), (λ equal. checked.0 (equal ∙ sym is)), checked.1)
 comes-stored job stream name password field stored hashings Match is spells checked =
     (field, stored.setting, (refl, spells), checked.0 ∙ is, checked.1, checked.2)
@@ -176,41 +175,13 @@ settled_by kind job line stream name password (Some field) (Some (fields.Hash st
 settled_by kind job line stream name password None (Some stored) hashings outcome taken of within settled = absurd of
 settled_by kind job line stream name password (Some field) None hashings outcome taken of within settled = absurd of
 
-pub decided : (kind : Kind) (job : Job) (line : List ℕ) (stream : Stream) (name password : List ℕ) (stored : Option StoredField)
+pub decided : (kind : Kind) (job : Job) (number : ℕ) (line : List ℕ) (stream : Stream) (name password : List ℕ) (stored : Option StoredField)
     (hashings : List Hashing) (outcome : Outcome) → IsLine kind line name password stored
     → ¬ IsAbove job.budget (field_cost job stored (length password))
-    → IsSettled job password stored stream hashings outcome → HasOutcome kind job line stream name outcome hashings
-decided kind job line stream name password stored hashings outcome is within settled =
+    → IsSettled job password stored stream hashings outcome → IsAnswer kind job number line stream (answer_of job name outcome hashings)
+decided kind job number line stream name password stored hashings outcome is within settled =
     let comes = settled_by kind job line stream name password is.field stored hashings outcome is.taken is.field_of within settled in
-    inr (inr (is.taken.sound, comes.0, parts_with name password is.field, is.taken.cut, refl, comes.1))
-
--- ---- its answer
-
-comes-text : (job : Job) (number : ℕ) (parts : Parts) (stream : Stream) (outcome : Outcome) (made : List Hashing) → ComesTo job parts stream outcome made
-    → answer_text job.work number parts.name outcome made ≡ as_line (parts.name ++ colon ∷ rendered outcome ++ counts_text job.work made)
-comes-text job number parts stream (Hashed hash) made comes = refl
-comes-text job number parts stream NoHash made comes = refl
-comes-text job number parts stream Locked made comes = refl
-comes-text job number parts stream Match made comes = refl
-comes-text job number parts stream (Rehashed hash) made comes = refl
-comes-text job number parts stream Mismatch made comes = refl
-comes-text job number parts stream (Refused fault) made comes = absurd comes
-
-pub decided-answer : (kind : Kind) (job : Job) (number : ℕ) (line : List ℕ) (stream : Stream) (name : List ℕ) (outcome : Outcome) (made : List Hashing)
-    → HasOutcome kind job line stream name outcome made → IsAnswer kind job number line stream (answer_of job number name outcome made)
-decided-answer kind job number line stream name outcome made (inl (fault, refused, is, none)) = inl (fault, refused, rw (is, none) refl)
-decided-answer kind job number line stream name outcome made (inr (inl (costly, is, none))) = inr (inl (costly, rw (is, none) refl))
-decided-answer kind job number line stream name outcome made (inr (inr (sound, cheap, parts, cut, named, comes))) =
-    let text = comes-text job number parts stream outcome made comes in
-    inr (inr (
-      sound,
-      cheap,
-      parts,
-      cut,
-      comes,
-      subst (λ (n : List ℕ). answer_text job.work number n outcome made
-          ≡ as_line (parts.name ++ colon ∷ rendered outcome ++ counts_text job.work made)) named text,
-    ))
+    inr (inr (is.taken.sound, comes.0, parts_with name password is.field, is.taken.cut, outcome, comes.1, refl))
 
 -- ---- what a check would come to, if its memory were not refused
 
@@ -231,4 +202,4 @@ would_check job password stored stream =
       checked = (decides.0 refl, old, refl, refl);
     }
     go true decides false recent = record { outcome = Match; more = []; checked = (decides.0 refl, recent, refl) }
-    go false decides outdated any = record { outcome = Mismatch; more = []; checked = (λ equal. true≢false (sym (decides.1 equal)), refl) }
+    go false decides outdated any = record { outcome = Misfit; more = []; checked = (λ equal. true≢false (sym (decides.1 equal)), refl) }

@@ -1,5 +1,6 @@
 -- The words that a setting takes from a stream, and what it costs whatever they are.
 use Rattle.std.proofs.Common.{◌≡◌, ℕ, Bool, true, false, not, List, length, Option, Some, None, is_some, refl, sym, ap, ◌∙◌}
+use Rattle.std.proofs.lemmas.Bool.{not-true, not-false}
 use Rattle.std.proofs.lemmas.List.FromFn.{length-map-range_with_len}
 use Rattle.rand_core.specs.Stream.{Stream}
 use Rattle.crypt_core.specs.MadeSalts.{made_salt, three_words}
@@ -23,14 +24,6 @@ given_stream recipe stream given = rw given refl
 drawn_stream : (recipe : Recipe) (stream : Stream) → is_some recipe.salt ≡ false → stream_after recipe stream ≡ (three_words stream).1
 drawn_stream recipe stream none = rw none refl
 
-not_true : (b : Bool) → not b ≡ true → b ≡ false
-not_true true e = cc
-not_true false e = refl
-
-not_false : (b : Bool) → not b ≡ false → b ≡ true
-not_false true e = refl
-not_false false e = cc
-
 -- the setting and the stream, as the recipe has them
 pub record IsDrawn (recipe : Recipe) (before after : Stream) (kept : SettingValue) : Type 0 where
   pub kept_is : kept ≡ next_setting recipe before
@@ -42,7 +35,7 @@ pub is_drawn : (recipe : Recipe) (before after : Stream) (words : List ℕ) (kep
     → IsDrawn recipe before after kept
 is_drawn recipe before after words kept draws is on drawn made = record {
   kept_is = made ∙ ap (λ (p : List ℕ × Stream). setting_by recipe p.0) drawn;
-  stream_is = ap (λ (p : List ℕ × Stream). p.1) drawn ∙ sym (drawn_stream recipe before (not_true (is_some recipe.salt) (sym is ∙ on)));
+  stream_is = ap (λ (p : List ℕ × Stream). p.1) drawn ∙ sym (drawn_stream recipe before (not-true (is_some recipe.salt) (sym is ∙ on)));
 }
 
 -- a given salt takes none
@@ -50,7 +43,7 @@ pub is_not_drawn : (recipe : Recipe) (before after : Stream) (words : List ℕ) 
     → draws ≡ not (is_some recipe.salt) → draws ≡ false → after ≡ before → kept ≡ setting_by recipe words
     → IsDrawn recipe before after kept
 is_not_drawn recipe before after words kept draws is off same made =
-    let given = not_false (is_some recipe.salt) (sym is ∙ off) in
+    let given = not-false (is_some recipe.salt) (sym is ∙ off) in
     record {
       kept_is = made ∙ same_setting recipe words (three_words before).0 given;
       stream_is = same ∙ sym (given_stream recipe before given);

@@ -8,16 +8,16 @@ use Rattle.crypt_core.specs.Passwords.{IsPassword, password_limit}
 use Rattle.crypt_core.specs.Work.{raised_by, work}
 use Rattle.run_core.specs.Answers.{hashings_of, new_hashing, password_answer}
 use Rattle.run_core.specs.Devices.{Device}
-use Rattle.run_core.specs.Input.{IsDecided}
+use Rattle.run_core.specs.Input.{IsDecided, first_line}
 use Rattle.run_core.specs.Makers.{next_setting, stream_after}
 use Rattle.run_core.specs.One.{EndsOne, EndsPassword}
 use Rattle.run_core.specs.Output.{Takes}
 use Rattle.run_core.specs.Private.Deliveries.{Delivers, FinishesBoth}
-use Rattle.run_core.specs.Private.Fetching.{ObtainsFrom}
+use Rattle.run_core.specs.Private.Fetching.{IsPasswordFault, ObtainsFrom, StopsFetching}
 use Rattle.run_core.specs.Runs.{IsAfter, RunState, TakeAll, run_state}
 use Rattle.run_core.specs.Texts.{HasNoLineFeed}
 use Rattle.run_core.specs.declared.fault.RunFault.{RunFault}
-use Rattle.run_core.specs.declared.fault.RunFault.TheVariants.{Read, Write, OutOfMemory, Turns, Password}
+use Rattle.run_core.specs.declared.fault.RunFault.TheVariants.{OutOfMemory}
 use Rattle.run_core.specs.declared.job.Job.{Job}
 use Rattle.run_core.specs.declared.job.PasswordFrom.{PasswordFrom}
 use Rattle.run_core.specs.declared.job.PasswordFrom.TheVariants.{Word, Input}
@@ -47,52 +47,45 @@ module _ {I O E : Type 0} (turns : ℕ) (job : Job) where
 
   -- ---- the password
 
+  -- it is refused
+  ends-refused : (Decided Undecided : Type 0) (password : List ℕ) (old : RunState I O E) (input : Device I) (fault : RunFault)
+      → Decided → input.failures ≡ old.input.failures → IsPasswordFault fault password
+      → EndsPassword Decided Undecided turns job password old (before_giving old input old.stream old.counts) (Err fault)
+  ends-refused Decided Undecided password old input fault decided unfailed (rule, is, refused) = inr (inr (inr (
+    rule,
+    is,
+    (decided, refused),
+    takes-none old input old.stream old.counts 0 (unfailed ∙ sym (add-zero _)),
+    still old input,
+  )))
+
+  -- or not known
+  ends-undecided : (Decided Undecided : Type 0) (password : List ℕ) (old : RunState I O E) (input : Device I) (left : ℕ) (fault : RunFault)
+      → Undecided → StopsFetching left old.input input fault → input.calls + left ≡ old.input.calls + turns
+      → EndsPassword Decided Undecided turns job password old (before_giving old input old.stream old.counts) (Err fault)
+  ends-undecided Decided Undecided password old input left fault undecided (moves, stops) calls = inr (inl (
+    [],
+    (undecided, refl),
+    (
+      still old input,
+      moves,
+      elim stops [
+        | inl (is, failed) ↦ inl (is, takes-none old input old.stream old.counts 1 failed)
+        | inr (is, unfailed, none) ↦ inr (is, takes-none old input old.stream old.counts 0 (unfailed ∙ sym (add-zero _)), omega (arith, none, calls))
+      ],
+    ),
+  ))
+
   -- there is none
   pub ends-without_password : (from : PasswordFrom) (old : RunState I O E) (input : Device I) (left : ℕ) (fault : RunFault)
       → ObtainsFrom from old.input input left (Err fault) → input.calls + left ≡ old.input.calls + turns
       → EndsOne turns job from old (before_giving old input old.stream old.counts) (Err fault)
-  ends-without_password (Word word) old input left (Password fault) (same, refused) calls = (
-    same,
-    (
-      (tt, refused),
-      takes-none old input old.stream old.counts 0 (ap (λ d. d.failures) same ∙ sym (add-zero _)),
-      still old input,
-    ),
-  )
-  ends-without_password (Word word) old input left Read obtains calls = absurd obtains.1
-  ends-without_password (Word word) old input left Write obtains calls = absurd obtains.1
-  ends-without_password (Word word) old input left OutOfMemory obtains calls = absurd obtains.1
-  ends-without_password (Word word) old input left Turns obtains calls = absurd obtains.1
-  ends-without_password Input old input left (Password fault) (bytes, reads, (unfailed, decided, refused)) calls = (
-    bytes,
-    reads,
-    (
-      (decided, refused),
-      takes-none old input old.stream old.counts 0 (unfailed ∙ sym (add-zero _)),
-      still old input,
-    ),
-  )
-  ends-without_password Input old input left Read (bytes, reads, (failed, undecided, moves)) calls = (
-    bytes,
-    reads,
-    inr (inl ([], (undecided, refl), (takes-none old input old.stream old.counts 1 failed, still old input, moves))),
-  )
-  ends-without_password Input old input left Turns (bytes, reads, (unfailed, undecided, none, moves)) calls = (
-    bytes,
-    reads,
-    inr (inl (
-      [],
-      (undecided, refl),
-      (
-        takes-none old input old.stream old.counts 0 (unfailed ∙ sym (add-zero _)),
-        still old input,
-        moves,
-        omega (arith, none, calls),
-      ),
-    )),
-  )
-  ends-without_password Input old input left Write (bytes, reads, obtains) calls = absurd obtains
-  ends-without_password Input old input left OutOfMemory (bytes, reads, obtains) calls = absurd obtains
+  ends-without_password (Word word) old input left fault (same, refused) calls =
+      (same, ends-refused ⊤ ⊥ word.items old input fault tt (ap (λ d. d.failures) same) refused)
+  ends-without_password Input old input left fault (bytes, reads, inl (undecided, stops)) calls =
+      (bytes, reads, ends-undecided (IsDecided input bytes) _ (first_line bytes) old input left fault undecided stops calls)
+  ends-without_password Input old input left fault (bytes, reads, inr (unfailed, decided, refused)) calls =
+      (bytes, reads, ends-refused (IsDecided input bytes) _ (first_line bytes) old input fault decided unfailed refused)
 
   -- the run ends as it does by that password, wherever it comes from
   ends-with_password : (from : PasswordFrom) (old new : RunState I O E) (left : ℕ) (password : List ℕ) (result : Result Tally RunFault)
@@ -118,15 +111,16 @@ module _ {I O E : Type 0} (turns : ℕ) (job : Job) where
       → EndsOne turns job from old (before_giving old input stream counts) (Err OutOfMemory)
   ends-out_of_memory from password old input stream counts left obtains drawn refused =
       let is = is_password from old.input input left password obtains in
-      ends-with_password from old (before_giving old input stream counts) left password (Err OutOfMemory) obtains (λ Decided Undecided decided. inr (inr (
+      ends-with_password from old (before_giving old input stream counts) left password (Err OutOfMemory) obtains (λ Decided Undecided decided. inr (inr (inl (
         [],
         password_answer job password old.stream,
         (decided, is.0, refl),
-        (
+        inr (inr (
+          refl,
           takes-none old input stream counts 0 (is.1 ∙ sym (add-zero _)),
           ([], new_hashing job password old.stream, [], refl, refused, drawn),
-        ),
-      )))
+        )),
+      ))))
 
   -- it is made: the words are drawn, and its work is counted
   pub record HasHash (from : PasswordFrom) (password line : List ℕ) (old : RunState I O E) (input : Device I) (stream : Stream) (counts : Work) (left : ℕ) : Type 0 where
@@ -156,34 +150,24 @@ module _ {I O E : Type 0} (turns : ℕ) (job : Job) where
       → HasHash from password line old input stream counts left
       → Delivers left old.out out line {A = Unit {0}} (Err fault)
       → EndsOne turns job from old (run_state input out old.faults stream counts) (Err fault)
-  ends-sending from password line old input out stream counts left Write has (sent, unsent, split, some, takes) =
+  ends-sending from password line old input out stream counts left fault has delivers =
       let is = is_password from old.input input left password has.obtains in
-      ends-with_password from old (run_state input out old.faults stream counts) left password (Err Write) has.obtains (λ Decided Undecided decided. inr (inr (
+      let after = after_answer from password line old input out old.faults stream counts left has in
+      ends-with_password from old (run_state input out old.faults stream counts) left password (Err fault) has.obtains (λ Decided Undecided decided. inr (inr (inl (
         [],
         password_answer job password old.stream,
         (decided, is.0, refl),
-        (
-          is.1,
-          ((sent, unsent, split ∙ has.line_is, some, takes), takes-nothing old.faults),
-          after_answer from password line old input out old.faults stream counts left has,
-        ),
-      )))
-  ends-sending from password line old input out stream counts left Turns has ((sent, unsent, split, some, takes), made) =
-      let is = is_password from old.input input left password has.obtains in
-      ends-with_password from old (run_state input out old.faults stream counts) left password (Err Turns) has.obtains (λ Decided Undecided decided. inr (inr (
-        [],
-        password_answer job password old.stream,
-        (decided, is.0, refl),
-        (
-          is.1,
-          ((sent, unsent, split ∙ has.line_is, some, takes), takes-nothing old.faults),
-          after_answer from password line old input out old.faults stream counts left has,
-          (let calls = has.calls in omega (arith, calls, made)),
-        ),
-      )))
-  ends-sending from password line old input out stream counts left Read has delivers = absurd delivers
-  ends-sending from password line old input out stream counts left OutOfMemory has delivers = absurd delivers
-  ends-sending from password line old input out stream counts left (Password fault) has delivers = absurd delivers
+        elim delivers [
+          | inl (stop, (sent, unsent, split, some, takes)) ↦
+              inl (stop, (is.1, ((sent, unsent, split ∙ has.line_is, some, takes), takes-nothing old.faults), after))
+          | inr (stop, (sent, unsent, split, some, takes), made) ↦
+              inr (inl (
+                stop,
+                (is.1, ((sent, unsent, split ∙ has.line_is, some, takes), takes-nothing old.faults), after),
+                (let calls = has.calls in omega (arith, calls, made)),
+              ))
+        ],
+      ))))
 
   -- it is given
   answered : (from : PasswordFrom) (password line : List ℕ) (old : RunState I O E) (input : Device I) (out : Device O) (stream : Stream) (counts : Work) (left : ℕ)
@@ -226,5 +210,5 @@ module _ {I O E : Type 0} (turns : ℕ) (job : Job) where
       let ends = finishes-with_fault (answer ∷ []) old (run_state input out old.faults stream counts) new_out faults A fault
       (answered from password line old input out stream counts left has takes) flushes in
       let ok = (is_password from old.input input left password has.obtains).0 in
-      rw ends.0 (ends-with_password from old (run_state input new_out faults stream counts) left password (Err Write) has.obtains
-      (λ Decided Undecided decided. inl (answer ∷ [], (decided, ok, refl), rw ends.0 at ends.1)))
+      ends-with_password from old (run_state input new_out faults stream counts) left password (Err fault) has.obtains
+      (λ Decided Undecided decided. inl (answer ∷ [], (decided, ok, refl), ends))

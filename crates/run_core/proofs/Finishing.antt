@@ -1,5 +1,5 @@
 -- The flushes at the end of a run, which change nothing of what was taken.
-use Rattle.std.proofs.Common.{◌≡◌, ℕ, List, Option, Some, None, Ok, Err, refl, ◌∙◌, arith, inl, inr}
+use Rattle.std.proofs.Common.{◌≡◌, ℕ, List, Option, Some, None, Ok, Err, ◌∙◌, arith, inl, inr}
 use Rattle.std.specs.Io.KnownBytes.{Appends, Keeps}
 use Rattle.run_core.specs.Answers.{Answer, fault_texts, hashings_of, tally_of, texts}
 use Rattle.run_core.specs.Devices.{Device}
@@ -7,7 +7,6 @@ use Rattle.run_core.specs.Output.{Takes}
 use Rattle.run_core.specs.Private.Deliveries.{FinishesBoth, IsFinished, IsUnfinished}
 use Rattle.run_core.specs.Runs.{Finishes, RunState, IsAfter, TakeAll, run_state}
 use Rattle.run_core.specs.declared.fault.RunFault.{RunFault}
-use Rattle.run_core.specs.declared.fault.RunFault.TheVariants.{Read, Write, OutOfMemory, Turns, Password}
 use Rattle.run_core.specs.declared.tally.Tally.{Tally}
 
 -- ---- one output
@@ -74,30 +73,20 @@ module _ {I O E : Type 0} where
   pub finishes-with_fault : (answers : List Answer) (old mid : RunState I O E) (out : Device O) (faults : Device E) (A : Type 0) (fault : RunFault)
       → HasAnswered answers old mid
       → FinishesBoth mid.out mid.faults out faults {A = A} (Err fault)
-      → (fault ≡ Write) × Finishes answers old (flushed mid out faults) (Err fault)
-  finishes-with_fault answers old mid out faults A Write answered (inl (first, same)) = (
-    refl,
-    (
-      inl (record {
+      → Finishes answers old (flushed mid out faults) (Err fault)
+  finishes-with_fault answers old mid out faults A fault answered (is, flushes) = (
+    is,
+    elim flushes [
+      | inl (first, same) ↦ inl (record {
         of_input = answered.takes.of_input;
         text = takes-unflushed old.out mid.out out (texts answers) answered.takes.text first;
         fault_text = rw same answered.takes.fault_text;
-      }),
-      record { stream = answered.after.stream; counts = answered.after.counts },
-    ),
-  )
-  finishes-with_fault answers old mid out faults A Write answered (inr (first, second)) = (
-    refl,
-    (
-      inr (record {
+      })
+      | inr (first, second) ↦ inr (record {
         of_input = answered.takes.of_input;
         text = takes-flushed old.out mid.out out (texts answers) answered.takes.text first;
         fault_text = takes-unflushed old.faults mid.faults faults (fault_texts answers) answered.takes.fault_text second;
-      }),
-      record { stream = answered.after.stream; counts = answered.after.counts },
-    ),
+      })
+    ],
+    record { stream = answered.after.stream; counts = answered.after.counts },
   )
-  finishes-with_fault answers old mid out faults A Read answered flushes = absurd flushes
-  finishes-with_fault answers old mid out faults A OutOfMemory answered flushes = absurd flushes
-  finishes-with_fault answers old mid out faults A Turns answered flushes = absurd flushes
-  finishes-with_fault answers old mid out faults A (Password fault) answered flushes = absurd flushes

@@ -6,7 +6,7 @@ use Rattle.crypt_core.specs.Passwords.{IsPasswordRefused, password_limit}
 use Rattle.crypt_core.specs.declared.password.PasswordFault.{PasswordFault}
 use Rattle.crypt_core.specs.declared.password.PasswordFault.TheVariants.{TooLong, HasNul}
 use Rattle.run_core.specs.Devices.{Device}
-use Rattle.run_core.specs.Input.{first_line, Reads}
+use Rattle.run_core.specs.Input.{first_line, IsDecided, Reads}
 use Rattle.run_core.specs.Private.Fetching.{Obtains}
 use Rattle.run_core.specs.Texts.{line_feed}
 use Rattle.run_core.specs.declared.fault.RunFault.{RunFault}
@@ -62,18 +62,26 @@ module _ {I : Type 0} (old new : Device I) (bytes : List ℕ) (left : ℕ) where
       ])
   taken_line (Err fault) reads got = tt
 
-  refused_as : (fault : PasswordFault) → Reads old new bytes → Obtains old new bytes left (Err (Password fault))
+  refused_as : (fault : PasswordFault) → Reads old new bytes → IsDecided new bytes → IsPasswordRefused (first_line bytes) fault
       → IfSome old.shown (λ all. IsPasswordRefused (first_line all) fault)
-  refused_as TooLong reads got = each _ bytes _ (decided _ _ bytes reads.shown got.1) (λ all line. elim line [
-    | inl same ↦ omega (arith, ap length same, got.2)
+  refused_as TooLong reads told refused = each _ bytes _ (decided _ _ bytes reads.shown told) (λ all line. elim line [
+    | inl same ↦ omega (arith, ap length same, refused)
     | inr long ↦ long.1
   ])
-  refused_as HasNul reads got = each _ bytes _ (decided _ _ bytes reads.shown got.1) (λ all line. elim line [
-    | inl same ↦ subst (λ xs. IsPasswordRefused xs HasNul) (sym same) got.2
-    | inr long ↦ absurd (omega (arith, long.0, got.2.0))
+  refused_as HasNul reads told refused = each _ bytes _ (decided _ _ bytes reads.shown told) (λ all line. elim line [
+    | inl same ↦ subst (λ xs. IsPasswordRefused xs HasNul) (sym same) refused
+    | inr long ↦ absurd (omega (arith, long.0, refused.0))
   ])
+
+  refused_line_as : (fault : PasswordFault) → Reads old new bytes → Obtains old new bytes left (Err (Password fault))
+      → IfSome old.shown (λ all. IsPasswordRefused (first_line all) fault)
+  refused_line_as fault reads (inl (undecided, (moves, inl stopped))) = absurd (cc (stopped.0))
+  refused_line_as fault reads (inl (undecided, (moves, inr stopped))) = absurd (cc (stopped.0))
+  refused_line_as fault reads (inr (unfailed, told, (rule, is, refused))) =
+      let same : fault ≡ rule = cc (is) in
+      refused_as fault reads told (subst (IsPasswordRefused (first_line bytes)) (sym same) refused)
 
   pub refused_line : (result : Result (List ℕ) RunFault) → Reads old new bytes → Obtains old new bytes left result
       → (fault : PasswordFault) → IsErrOf result (Password fault)
       → IfSome old.shown (λ all. IsPasswordRefused (first_line all) fault)
-  refused_line result reads got fault is = refused_as fault reads (subst (Obtains old new bytes left) is got)
+  refused_line result reads got fault is = refused_line_as fault reads (subst (Obtains old new bytes left) is got)

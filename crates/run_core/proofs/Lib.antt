@@ -1,4 +1,3 @@
-pub mod Answering
 pub mod Counting
 pub mod Cuts
 pub mod Deciding
@@ -6,17 +5,15 @@ pub mod Drawing
 pub mod Ending
 pub mod Finishing
 pub mod FirstLines
-pub mod LastLine
 pub mod LineAnswering
-pub mod LineCalls
-pub mod LineEnding
 pub mod LineFeeds
 pub mod LineOptions
+pub mod LineReading
 pub mod LineRules
 pub mod LinesOf
-pub mod LookingThrough
 pub mod Moving
 pub mod Reading
 pub mod Recipes
+pub mod Running
 pub mod Sending
 pub mod Showing

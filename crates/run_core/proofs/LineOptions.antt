@@ -1,5 +1,5 @@
 -- What a budget and new hashes change of the answers to lines, and that they change nothing for a single password.
-use Rattle.std.proofs.Common.{◌≡◌, ℕ, List, Result, inl, inr, refl, sym, ◌∙◌, arith, ◌≤◌, ◌⊎◌, Bool, true, false, true≢false, length, Option, None, Some}
+use Rattle.std.proofs.Common.{◌≡◌, ◌↔◌, ℕ, List, Result, inl, inr, refl, sym, ◌∙◌, arith, ◌≤◌, ◌⊎◌, Bool, true, false, true≢false, length, Option, None, Some}
 use Rattle.std.proofs.lemmas.Option.{none-some}
 use Rattle.rand_core.specs.Stream.{Stream}
 use Rattle.crypt_core.specs.Crypt.{crypt}
@@ -12,7 +12,7 @@ use Rattle.run_core.specs.Lines.{HasParts, IsSound, Parts}
 use Rattle.run_core.specs.One.{EndsOne}
 use Rattle.run_core.specs.Runs.{RunState}
 use Rattle.run_core.specs.declared.answer.Outcome.{Outcome}
-use Rattle.run_core.specs.declared.answer.Outcome.TheVariants.{Hashed, Match, Rehashed, Mismatch, NoHash, Locked, Refused}
+use Rattle.run_core.specs.declared.answer.Outcome.TheVariants.{Hashed, Match, Rehashed, Misfit, NoHash, Locked}
 use Rattle.run_core.specs.declared.fault.RunFault.{RunFault}
 use Rattle.run_core.specs.declared.job.Job.{Job}
 use Rattle.run_core.specs.declared.job.PasswordFrom.{PasswordFrom}
@@ -30,46 +30,35 @@ free : (kind : Kind) (job : Job) (line : List ℕ) → ¬ IsCostly kind (without
 free kind job line costly = costly.above
 
 -- a budget changes nothing of what parts come to
-comes-without : (job : Job) (parts : Parts) (stream : Stream) (outcome : Outcome) (made : List Hashing)
-    → ComesTo job parts stream outcome made → ComesTo (without_budget job) parts stream outcome made
-comes-without job parts stream (Hashed hash) made comes = comes
-comes-without job parts stream NoHash made comes = comes
-comes-without job parts stream Locked made comes = comes
-comes-without job parts stream Match made comes = comes
-comes-without job parts stream (Rehashed hash) made comes = comes
-comes-without job parts stream Mismatch made comes = comes
-comes-without job parts stream (Refused fault) made comes = absurd comes
-
-comes-within : (job : Job) (parts : Parts) (stream : Stream) (outcome : Outcome) (made : List Hashing)
-    → ComesTo (without_budget job) parts stream outcome made → ComesTo job parts stream outcome made
-comes-within job parts stream (Hashed hash) made comes = comes
-comes-within job parts stream NoHash made comes = comes
-comes-within job parts stream Locked made comes = comes
-comes-within job parts stream Match made comes = comes
-comes-within job parts stream (Rehashed hash) made comes = comes
-comes-within job parts stream Mismatch made comes = comes
-comes-within job parts stream (Refused fault) made comes = absurd comes
+comes-budgeted : (job : Job) (parts : Parts) (stream : Stream) (outcome : Outcome) (made : List Hashing)
+    → ComesTo job parts stream outcome made ↔ ComesTo (without_budget job) parts stream outcome made
+comes-budgeted job parts stream (Hashed hash) made = ((λ comes. comes), λ comes. comes)
+comes-budgeted job parts stream NoHash made = ((λ comes. comes), λ comes. comes)
+comes-budgeted job parts stream Locked made = ((λ comes. comes), λ comes. comes)
+comes-budgeted job parts stream Match made = ((λ comes. comes), λ comes. comes)
+comes-budgeted job parts stream (Rehashed hash) made = ((λ comes. comes), λ comes. comes)
+comes-budgeted job parts stream Misfit made = ((λ comes. comes), λ comes. comes)
 
 module _ (kind : Kind) (job : Job) (number : ℕ) (line : List ℕ) (stream : Stream) (answer : Answer) where
   -- so another answer stands
   answer-without : ¬ IsCostly kind job line → IsAnswer kind job number line stream answer → IsAnswer kind (without_budget job) number line stream answer
   answer-without cheap (inl refused) = inl refused
   answer-without cheap (inr (inl (costly, is))) = absurd (cheap costly)
-  answer-without cheap (inr (inr (sound, within, parts, cut, comes, text))) =
-      inr (inr (sound, free kind job line, parts, cut, comes-without job parts stream answer.outcome answer.hashings comes, text))
+  answer-without cheap (inr (inr (sound, within, parts, cut, outcome, comes, is))) =
+      inr (inr (sound, free kind job line, parts, cut, outcome, (comes-budgeted job parts stream outcome answer.hashings).0 comes, is))
 
   -- and the other way round
   answer-within : ¬ IsCostly kind job line → IsAnswer kind (without_budget job) number line stream answer → IsAnswer kind job number line stream answer
   answer-within cheap (inl refused) = inl refused
   answer-within cheap (inr (inl (costly, is))) = absurd costly.above
-  answer-within cheap (inr (inr (sound, within, parts, cut, comes, text))) =
-      inr (inr (sound, cheap, parts, cut, comes-within job parts stream answer.outcome answer.hashings comes, text))
+  answer-within cheap (inr (inr (sound, within, parts, cut, outcome, comes, is))) =
+      inr (inr (sound, cheap, parts, cut, outcome, (comes-budgeted job parts stream outcome answer.hashings).1 comes, is))
 
   -- what breaks no rule and costs too much is refused
   costly-refused : IsCostly kind job line → IsAnswer kind job number line stream answer → answer ≡ refusal number OverBudget
   costly-refused costly (inl (fault, refused, is)) = absurd (costly.sound fault refused.breaks)
   costly-refused costly (inr (inl (other, is))) = is
-  costly-refused costly (inr (inr (sound, cheap, parts, cut, comes, text))) = absurd (cheap costly)
+  costly-refused costly (inr (inr (sound, cheap, parts, cut, outcome, comes, is))) = absurd (cheap costly)
 
 pub only_refuses : (kind : Kind) (job : Job) → OnlyRefuses kind job
 only_refuses kind job = record {
@@ -152,39 +141,32 @@ module _ (kind : Kind) (job : Job) (line : List ℕ) (stream : Stream) where
       above = costly.above;
     }
 
-    comes-unrenewed : (parts : Parts) (outcome : Outcome) (made : List Hashing) → IsSound kind line → HasParts kind line parts
-        → ComesTo job parts stream outcome made → ComesTo (without_rehash job) parts stream outcome made
-    comes-unrenewed parts (Hashed hash) made sound cut comes = comes
-    comes-unrenewed parts NoHash made sound cut comes = comes
-    comes-unrenewed parts Locked made sound cut comes = comes
-    comes-unrenewed parts Match made sound cut (field, kept, spelled, same, new, is) = (field, kept, spelled, same, refl, is)
-    comes-unrenewed parts (Rehashed hash) made sound cut (field, kept, spelled, same, outdated, is_new, is) =
-        absurd (true≢false (sym outdated ∙ recent parts field kept sound cut spelled (inl same)))
-    comes-unrenewed parts Mismatch made sound cut comes = comes
-    comes-unrenewed parts (Refused fault) made sound cut comes = absurd comes
-
     comes-renewed : (parts : Parts) (outcome : Outcome) (made : List Hashing) → IsSound kind line → HasParts kind line parts
-        → ComesTo (without_rehash job) parts stream outcome made → ComesTo job parts stream outcome made
-    comes-renewed parts (Hashed hash) made sound cut comes = comes
-    comes-renewed parts NoHash made sound cut comes = comes
-    comes-renewed parts Locked made sound cut comes = comes
-    comes-renewed parts Match made sound cut (field, kept, spelled, same, new, is) =
-        (field, kept, spelled, same, recent parts field kept sound cut spelled (inl same), is)
-    comes-renewed parts (Rehashed hash) made sound cut (field, kept, spelled, same, outdated, is_new, is) = absurd (true≢false (sym outdated))
-    comes-renewed parts Mismatch made sound cut comes = comes
-    comes-renewed parts (Refused fault) made sound cut comes = absurd comes
+        → ComesTo job parts stream outcome made ↔ ComesTo (without_rehash job) parts stream outcome made
+    comes-renewed parts (Hashed hash) made sound cut = ((λ comes. comes), λ comes. comes)
+    comes-renewed parts NoHash made sound cut = ((λ comes. comes), λ comes. comes)
+    comes-renewed parts Locked made sound cut = ((λ comes. comes), λ comes. comes)
+    comes-renewed parts Match made sound cut = (
+      (λ (field, kept, spelled, same, new, is). (field, kept, spelled, same, refl, is)),
+      λ (field, kept, spelled, same, new, is). (field, kept, spelled, same, recent parts field kept sound cut spelled (inl same), is),
+    )
+    comes-renewed parts (Rehashed hash) made sound cut = (
+      (λ (field, kept, spelled, same, outdated, is_new, is). absurd (true≢false (sym outdated ∙ recent parts field kept sound cut spelled (inl same)))),
+      λ (field, kept, spelled, same, outdated, is_new, is). absurd (true≢false (sym outdated)),
+    )
+    comes-renewed parts Misfit made sound cut = ((λ comes. comes), λ comes. comes)
 
     answer-unrenewed : (number : ℕ) (answer : Answer) → IsAnswer kind job number line stream answer → IsAnswer kind (without_rehash job) number line stream answer
     answer-unrenewed number answer (inl refused) = inl refused
     answer-unrenewed number answer (inr (inl (costly, is))) = inr (inl (costly-unrenewed costly, is))
-    answer-unrenewed number answer (inr (inr (sound, cheap, parts, cut, comes, text))) =
-        inr (inr (sound, (λ costly. cheap (costly-renewed costly)), parts, cut, comes-unrenewed parts answer.outcome answer.hashings sound cut comes, text))
+    answer-unrenewed number answer (inr (inr (sound, cheap, parts, cut, outcome, comes, is))) =
+        inr (inr (sound, (λ costly. cheap (costly-renewed costly)), parts, cut, outcome, (comes-renewed parts outcome answer.hashings sound cut).0 comes, is))
 
     answer-renewed : (number : ℕ) (answer : Answer) → IsAnswer kind (without_rehash job) number line stream answer → IsAnswer kind job number line stream answer
     answer-renewed number answer (inl refused) = inl refused
     answer-renewed number answer (inr (inl (costly, is))) = inr (inl (costly-renewed costly, is))
-    answer-renewed number answer (inr (inr (sound, cheap, parts, cut, comes, text))) =
-        inr (inr (sound, (λ costly. cheap (costly-unrenewed costly)), parts, cut, comes-renewed parts answer.outcome answer.hashings sound cut comes, text))
+    answer-renewed number answer (inr (inr (sound, cheap, parts, cut, outcome, comes, is))) =
+        inr (inr (sound, (λ costly. cheap (costly-unrenewed costly)), parts, cut, outcome, (comes-renewed parts outcome answer.hashings sound cut).1 comes, is))
 
 pub only_renews : (kind : Kind) (job : Job) → OnlyRenews kind job
 only_renews kind job number line stream answer still =

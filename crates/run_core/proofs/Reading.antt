@@ -7,9 +7,8 @@ use Rattle.std.proofs.lemmas.List.{length-append, length-drop, length-take-le, t
 use Rattle.run_core.specs.Devices.{Device, MovesBytes}
 use Rattle.run_core.specs.Input.{first_line, Reads}
 use Rattle.run_core.specs.Private.Deliveries.{IsUnfailed}
-use Rattle.run_core.specs.Private.Fetching.{Fetches, FindsLine, IsUndecided, buffer_size}
+use Rattle.run_core.specs.Private.Fetching.{Fetches, FindsLine, IsUndecided, StopsFetching, buffer_size}
 use Rattle.run_core.specs.declared.fault.RunFault.{RunFault}
-use Rattle.run_core.specs.declared.fault.RunFault.TheVariants.{Read, Write, OutOfMemory, Turns, Password}
 use Rattle.run_core.proofs.LineFeeds.{feed_at, feed_at-append, first_line-is, first_line-whole, has_feed, lacks_feed, position-feed, position-none}
 use Rattle.run_core.proofs.Moving.{moves-trans}
 
@@ -156,32 +155,28 @@ module _ {I : Type 0} where
       (lacks_feed _ (before.no_line_feed ∙ sym size), omega (arith, size, room))
 
   -- a fetch failed, or no turn was left for it
+  pub stops-later : (old mid new : Device I) (left left_new : ℕ) (fault : RunFault) → IsUnfailed old mid → MovesBytes 0 old mid
+      → StopsFetching left mid new fault → left_new ≡ left - 1 → StopsFetching left_new old new fault
+  stops-later old mid new left left_new fault unfailed moves stops took = (
+    moves-trans 0 old mid new moves stops.0,
+    elim stops.1 [
+      | inl (is, failed) ↦ inl (is, omega (arith, unfailed, failed))
+      | inr (is, still, none) ↦ inr (is, still ∙ unfailed, omega (arith, took, none))
+    ],
+  )
+
   pub reading-cut : (old mid new : Device I) (buffer next : List ℕ) (filled turns left left_new : ℕ) (fault : RunFault)
       → IsReading old mid buffer filled turns left → filled < buffer_size
       → Fetches left mid new (drop filled next) (Err fault) → left_new ≡ left - 1
       → (bytes : List ℕ) × Reads old new bytes × FindsLine old new bytes left_new next (Err fault)
-  reading-cut old mid new buffer next filled turns left left_new Read before room fetched took = (
+  reading-cut old mid new buffer next filled turns left left_new fault before room fetched took = (
     take filled buffer,
-    subst (Reads old new) (append-nil _) (Reads-trans old mid new _ [] before.reads fetched.1),
+    subst (Reads old new) (append-nil _) (Reads-trans old mid new _ [] before.reads fetched.0),
     (
-      (let unfailed = before.unfailed in omega (arith, unfailed, fetched.0)),
       undecided old mid buffer filled turns left before room,
-      moves-trans 0 old mid new before.moves fetched.2,
+      stops-later old mid new left left_new fault before.unfailed before.moves fetched.1 took,
     ),
   )
-  reading-cut old mid new buffer next filled turns left left_new Turns before room fetched took = (
-    take filled buffer,
-    subst (Reads old new) (append-nil _) (Reads-trans old mid new _ [] before.reads fetched.1),
-    (
-      fetched.0 ∙ before.unfailed,
-      undecided old mid buffer filled turns left before room,
-      omega (arith, took, fetched.2),
-      moves-trans 0 old mid new before.moves fetched.3,
-    ),
-  )
-  reading-cut old mid new buffer next filled turns left left_new Write before room fetched took = absurd fetched
-  reading-cut old mid new buffer next filled turns left left_new OutOfMemory before room fetched took = absurd fetched
-  reading-cut old mid new buffer next filled turns left left_new (Password fault) before room fetched took = absurd fetched
 
   -- the buffer is full
   pub reading-full : (old mid : Device I) (buffer : List ℕ) (filled turns left : ℕ)

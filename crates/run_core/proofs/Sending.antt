@@ -52,6 +52,7 @@ module _ {T : Type 0} where
     pub takes : Takes 0 0 old new sent
     pub calls : new.calls + left ≡ old.calls + turns
     pub fewer : left ≤ turns
+    pub untried : left ≡ turns → rest ≡ text
     pub moves : MovesBytes 0 old new
 
   -- a `give` that took some bytes of the rest
@@ -82,6 +83,7 @@ module _ {T : Type 0} where
         });
         calls = omega (arith, before.calls, calls);
         fewer = omega (arith, were_fewer);
+        untried = λ same. absurd (omega (arith, were_fewer, some_left, same));
         moves = moves-trans 0 old mid new before.moves (record {
           idle = omega (arith, no_idle);
           calls = omega (arith, calls, bytes, no_failure, some_taken);
@@ -95,5 +97,6 @@ module _ {T : Type 0} where
     takes = takes-nothing old;
     calls = refl;
     fewer = omega arith;
+    untried = λ same. refl;
     moves = moves-none old;
   }

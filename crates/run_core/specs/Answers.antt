@@ -1,17 +1,17 @@
 -- The answer to one item, a password or a line, and the hashes that it takes.
-use Rattle.std.specs.Prelude.{◌≡◌, Bool, ℕ, List, [], ◌∷◌, ◌++◌, length, fold, count_by, flat_map, decimal, codes, if◌then◌else◌, true, false}
+use Rattle.std.specs.Prelude.{◌≡◌, Bool, ℕ, List, [], ◌∷◌, ◌++◌, length, fold, count_by, flat_map, decimal, codes, if◌then◌else◌, true, false, Result, Ok, Err}
 use Rattle.rand_core.specs.Stream.{Stream}
 use Rattle.prims_core.specs.Work.{no_work}
 use Rattle.prims_core.specs.declared.meter.Work.{Work}
 use Rattle.crypt_core.specs.Crypt.{crypt, IsAfterRefusedGrowth}
 use Rattle.crypt_core.specs.Settings.{SettingValue}
 use Rattle.crypt_core.specs.Work.{raised_by, work}
-use Rattle.run_core.specs.LineFaults.{line_fault_text}
 use Rattle.run_core.specs.Makers.{next_setting, stream_after}
 use Rattle.run_core.specs.Texts.{as_line, colon}
 use Rattle.run_core.specs.declared.answer.Outcome.{Outcome}
-use Rattle.run_core.specs.declared.answer.Outcome.TheVariants.{Hashed, Match, Rehashed, Mismatch, NoHash, Locked, Refused}
+use Rattle.run_core.specs.declared.answer.Outcome.TheVariants.{Hashed, Match, Rehashed, Misfit, NoHash, Locked}
 use Rattle.run_core.specs.declared.job.Job.{Job}
+use Rattle.run_core.specs.declared.line.LineFault.{LineFault}
 use Rattle.run_core.specs.declared.tally.Tally.{Tally}
 
 -- ---- the hashes for an answer
@@ -50,22 +50,22 @@ IsRefusedAmong before hashings after stream =
 
 -- An `Answer` is what a run returns for a password or a line.
 --   text      the bytes that it writes
---   outcome   the outcome that these bytes render
+--   outcome   the outcome that these bytes render, or the reason for which the line is refused
 --   hashings  the hashes that it makes, in order
 pub record Answer : Type 0 where
   pub text : List ℕ
-  pub outcome : Outcome
+  pub outcome : Result Outcome LineFault
   pub hashings : List Hashing
 
 -- is_refusal outcome is true if the line is refused. Its message is written to `faults`, and every other text to
 -- `out`.
-abbrev pub is_refusal : Outcome → Bool
-is_refusal (Refused fault) = true
-is_refusal outcome = false
+abbrev pub is_refusal : Result Outcome LineFault → Bool
+is_refusal (Ok outcome) = false
+is_refusal (Err fault) = true
 
 -- is_misfit outcome is true if the password does not match its stored hash.
-abbrev pub is_misfit : Outcome → Bool
-is_misfit Mismatch = true
+abbrev pub is_misfit : Result Outcome LineFault → Bool
+is_misfit (Ok Misfit) = true
 is_misfit outcome = false
 
 -- texts answers is what these answers write to `out`, one after another.
@@ -95,10 +95,9 @@ abbrev pub rendered : Outcome → List ℕ
 rendered (Hashed hash) = hash
 rendered Match = codes "ok"
 rendered (Rehashed hash) = codes "ok" ++ colon ∷ hash
-rendered Mismatch = codes "no"
+rendered Misfit = codes "no"
 rendered NoHash = codes "none"
 rendered Locked = codes "locked"
-rendered (Refused fault) = line_fault_text fault
 
 -- counts_text wanted made is a colon and a decimal number for each of four counts of the work of these hashes. It is
 -- empty if `wanted` is false.
@@ -123,4 +122,4 @@ abbrev pub password_answer : Job → List ℕ → Stream → Answer
 password_answer job password stream =
     let hash = new_hash job password stream in
     let made = new_hashing job password stream ∷ [] in
-    record { text = as_line (hash ++ counts_text job.work made); outcome = Hashed hash; hashings = made }
+    record { text = as_line (hash ++ counts_text job.work made); outcome = Ok (Hashed hash); hashings = made }

@@ -1,16 +1,17 @@
 -- The outcome of a line, depending on its parts, and the answers to the lines of an input.
-use Rattle.std.specs.Prelude.{◌≡◌, ◌≢◌, ℕ, ◌+◌, ◌⊎◌, ⊤, List, [], ◌∷◌, ◌++◌, length, codes, decimal, true, false, Some, None}
+use Rattle.std.specs.Prelude.{◌≡◌, ◌≢◌, ℕ, ◌+◌, ◌⊎◌, ⊤, List, [], ◌∷◌, ◌++◌, length, codes, decimal, true, false, Some, None, Ok, Err}
 use Rattle.rand_core.specs.Stream.{Stream}
 use Rattle.crypt_core.specs.Crypt.{crypt}
 use Rattle.crypt_core.specs.Settings.{SettingValue, Spells}
 use Rattle.crypt_core.specs.StoredFields.{IsLocked}
 use Rattle.run_core.specs.Answers.{Answer, Hashing, counts_text, hashing, new_hash, new_hashing, rendered, stream_left}
 use Rattle.run_core.specs.JobOptions.{IsAbove, check_cost, is_outdated}
+use Rattle.run_core.specs.LineFaults.{line_fault_text}
 use Rattle.run_core.specs.Lines.{Parts, HasParts, IsLineRefused, IsSound}
 use Rattle.run_core.specs.Makers.{made_cost_by}
 use Rattle.run_core.specs.Texts.{as_line, colon}
 use Rattle.run_core.specs.declared.answer.Outcome.{Outcome}
-use Rattle.run_core.specs.declared.answer.Outcome.TheVariants.{Hashed, Match, Rehashed, Mismatch, NoHash, Locked, Refused}
+use Rattle.run_core.specs.declared.answer.Outcome.TheVariants.{Hashed, Match, Rehashed, Misfit, NoHash, Locked}
 use Rattle.run_core.specs.declared.job.Job.{Job}
 use Rattle.run_core.specs.declared.line.Kind.{Kind}
 use Rattle.run_core.specs.declared.line.LineFault.{LineFault}
@@ -47,7 +48,7 @@ HasSetting parts field kept = (parts.field ≡ Some field) × Spells field kept
 --   Locked    the field begins with `!` or `*`
 --   Match     hashing the password with the setting in the field reproduces the field, which is not out of date
 --   Rehashed  likewise, but the setting is out of date, so the password is hashed again
---   Mismatch  hashing the password with the setting in the field does not reproduce the field
+--   Misfit    hashing the password with the setting in the field does not reproduce the field
 abbrev pub ComesTo : Job → Parts → Stream → Outcome → List Hashing → Type 0
 ComesTo job parts stream (Hashed hash) made =
     (parts.field ≡ None) × (hash ≡ new_hash job parts.password stream) × (made ≡ new_hashing job parts.password stream ∷ [])
@@ -58,17 +59,25 @@ ComesTo job parts stream Match made = (field : List ℕ) × (kept : SettingValue
 ComesTo job parts stream (Rehashed hash) made = (field : List ℕ) × (kept : SettingValue) × HasSetting parts field kept
     × (crypt parts.password kept ≡ field) × (is_outdated job kept ≡ true) × (hash ≡ new_hash job parts.password stream)
     × (made ≡ hashing parts.password kept stream ∷ new_hashing job parts.password stream ∷ [])
-ComesTo job parts stream Mismatch made = (field : List ℕ) × (kept : SettingValue) × HasSetting parts field kept
+ComesTo job parts stream Misfit made = (field : List ℕ) × (kept : SettingValue) × HasSetting parts field kept
     × (crypt parts.password kept ≢ field) × (made ≡ hashing parts.password kept stream ∷ [])
-ComesTo job parts stream (Refused fault) made = ⊥
 
 -- ---- answers
+
+-- answer_of job name outcome made is the answer to a line with this name and this outcome, for which these hashes are
+-- made: the name, the outcome, and the counts of the hashes' work if the job asks for them.
+abbrev pub answer_of : Job → List ℕ → Outcome → List Hashing → Answer
+answer_of job name outcome made = record {
+  text = as_line (name ++ colon ∷ rendered outcome ++ counts_text job.work made);
+  outcome = Ok outcome;
+  hashings = made;
+}
 
 -- refusal number fault is the answer to a refused line with this number. It draws no random number and makes no hash.
 abbrev pub refusal : ℕ → LineFault → Answer
 refusal number fault = record {
-  text = as_line (codes "mkpasswd: line " ++ decimal number ++ codes ": " ++ rendered (Refused fault));
-  outcome = Refused fault;
+  text = as_line (codes "mkpasswd: line " ++ decimal number ++ codes ": " ++ line_fault_text fault);
+  outcome = Err fault;
   hashings = [];
 }
 
@@ -80,8 +89,8 @@ IsAnswer kind job number line stream answer =
     ((fault : LineFault) × IsLineRefused kind line fault × (answer ≡ refusal number fault))
     ⊎ ((IsCostly kind job line × (answer ≡ refusal number OverBudget))
     ⊎ (IsSound kind line × (¬ IsCostly kind job line) × (parts : Parts) × HasParts kind line parts
-    × ComesTo job parts stream answer.outcome answer.hashings
-    × (answer.text ≡ as_line (parts.name ++ colon ∷ rendered answer.outcome ++ counts_text job.work answer.hashings))))
+    × (outcome : Outcome) × ComesTo job parts stream outcome answer.hashings
+    × (answer ≡ answer_of job parts.name outcome answer.hashings)))
 
 -- AreAnswers kind job number lines stream answers: these are the answers to lines that are numbered from `number` on.
 -- Each begins with the random numbers that the one before it left.

@@ -28,9 +28,8 @@ TakesFront failures old new whole text =
 --   Turns  `turns` calls were made, none failed, and some of it was left
 abbrev pub Gives : {A T : Type 0} → ℕ → Device T → Device T → List ℕ → Result A RunFault → Type 0
 Gives turns old new text (Ok answer) = Takes 0 1 old new text
-Gives turns old new text (Err Write) = TakesFront 1 old new [] text ⊎ Takes 1 1 old new text
-Gives turns old new text (Err Turns) = TakesFront 0 old new [] text × (new.calls ≡ old.calls + turns)
-Gives turns old new text (Err fault) = ⊥
+Gives turns old new text (Err fault) = ((fault ≡ Write) × (TakesFront 1 old new [] text ⊎ Takes 1 1 old new text))
+    ⊎ ((fault ≡ Turns) × TakesFront 0 old new [] text × (new.calls ≡ old.calls + turns))
 
 -- Shows turns old new text result: writing and flushing `text` ended with this result. At most `turns` calls were made
 -- to write it, and each of them moved a byte or failed.

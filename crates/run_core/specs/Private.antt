@@ -3,5 +3,5 @@ pub mod Answers
 pub mod Deliveries
 pub mod Fetching
 pub mod Headroom
-pub mod LineProgress
 pub mod Lines
+pub mod Readers

@@ -71,20 +71,23 @@ module _ {I O E : Type 0} where
   abbrev pub Finishes : List Answer → RunState I O E → RunState I O E → Result Tally RunFault → Type 0
   Finishes answers old new (Ok tally) =
       (tally ≡ tally_of answers) × TakeAll 0 0 0 1 1 answers old new × IsAfter (hashings_of answers) old new
-  Finishes answers old new (Err Write) =
-      (TakeAll 0 1 0 1 0 answers old new ⊎ TakeAll 0 0 1 1 1 answers old new) × IsAfter (hashings_of answers) old new
-  Finishes answers old new (Err fault) = ⊥
+  Finishes answers old new (Err fault) =
+      (fault ≡ Write) × (TakeAll 0 1 0 1 0 answers old new ⊎ TakeAll 0 0 1 1 1 answers old new) × IsAfter (hashings_of answers) old new
 
   -- StopsReading turns done old new fault: the run stopped while it read, and flushed nothing. It has written the
   -- answers `done`. Each `fetch` that did not fail returned a byte, so the end of the input was not found.
   --   Read   one read failed
   --   Turns  `turns` calls were made, and none failed
   abbrev pub StopsReading : ℕ → List Answer → RunState I O E → RunState I O E → RunFault → Type 0
-  StopsReading turns done old new Read =
-      TakeAll 1 0 0 0 0 done old new × IsAfter (hashings_of done) old new × MovesBytes 0 old.input new.input
-  StopsReading turns done old new Turns = TakeAll 0 0 0 0 0 done old new × IsAfter (hashings_of done) old new
-      × MovesBytes 0 old.input new.input × (calls_of new ≡ calls_of old + turns)
-  StopsReading turns done old new fault = ⊥
+  StopsReading turns done old new fault = IsAfter (hashings_of done) old new × MovesBytes 0 old.input new.input
+      × (((fault ≡ Read) × TakeAll 1 0 0 0 0 done old new)
+      ⊎ ((fault ≡ Turns) × TakeAll 0 0 0 0 0 done old new × (calls_of new ≡ calls_of old + turns)))
+
+  -- IsCutShort failures done next old new: the outputs have taken the answers `done` and a proper prefix of `next`, whose
+  -- hashes were made. Exactly `failures` calls failed, all of the output of `next`.
+  abbrev pub IsCutShort : ℕ → List Answer → Answer → RunState I O E → RunState I O E → Type 0
+  IsCutShort failures done next old new = (new.input.failures ≡ old.input.failures)
+      × TakeInPart failures done next old.out old.faults new.out new.faults × IsAfter (hashings_of (done ++ next ∷ [])) old new
 
   -- StopsAt turns done next old new fault: the run stopped at the answer `next`, and flushed nothing. It has written
   -- the answers `done` in full.
@@ -92,14 +95,11 @@ module _ {I O E : Type 0} where
   --   Turns        `turns` calls were made, and none failed
   --   OutOfMemory  scrypt could not allocate for a hash of `next`, and nothing of `next` is written
   abbrev pub StopsAt : ℕ → List Answer → Answer → RunState I O E → RunState I O E → RunFault → Type 0
-  StopsAt turns done next old new Write = (new.input.failures ≡ old.input.failures)
-      × TakeInPart 1 done next old.out old.faults new.out new.faults × IsAfter (hashings_of (done ++ next ∷ [])) old new
-  StopsAt turns done next old new Turns = (new.input.failures ≡ old.input.failures)
-      × TakeInPart 0 done next old.out old.faults new.out new.faults × IsAfter (hashings_of (done ++ next ∷ [])) old new
-      × (calls_of new ≡ calls_of old + turns)
-  StopsAt turns done next old new OutOfMemory = TakeAll 0 0 0 0 0 done old new
-      × IsRefusedAmong (after_work old.counts (hashings_of done)) next.hashings new.counts new.stream
-  StopsAt turns done next old new fault = ⊥
+  StopsAt turns done next old new fault =
+      ((fault ≡ Write) × IsCutShort 1 done next old new)
+      ⊎ (((fault ≡ Turns) × IsCutShort 0 done next old new × (calls_of new ≡ calls_of old + turns))
+      ⊎ ((fault ≡ OutOfMemory) × TakeAll 0 0 0 0 0 done old new
+      × IsRefusedAmong (after_work old.counts (hashings_of done)) next.hashings new.counts new.stream))
 
   -- EndsBy AreAll AreBefore AreUpTo IsBad turns old new result: the run ends with this result. The first arguments say
   -- which answers it has made.
@@ -111,9 +111,8 @@ module _ {I O E : Type 0} where
       → ℕ → RunState I O E → RunState I O E → Result Tally RunFault → Type 0
   EndsBy AreAll AreBefore AreUpTo IsBad turns old new (Ok tally) =
       (answers : List Answer) × AreAll answers × Finishes answers old new (Ok tally)
-  EndsBy AreAll AreBefore AreUpTo IsBad turns old new (Err (Password fault)) =
-      IsBad fault × TakeAll 0 0 0 0 0 [] old new × IsAfter [] old new
   EndsBy AreAll AreBefore AreUpTo IsBad turns old new (Err fault) =
       ((answers : List Answer) × AreAll answers × Finishes answers old new (Err fault))
       ⊎ (((done : List Answer) × AreBefore done × StopsReading turns done old new fault)
-      ⊎ ((done : List Answer) × (next : Answer) × AreUpTo (done ++ next ∷ []) × StopsAt turns done next old new fault))
+      ⊎ (((done : List Answer) × (next : Answer) × AreUpTo (done ++ next ∷ []) × StopsAt turns done next old new fault)
+      ⊎ ((bad : PasswordFault) × (fault ≡ Password bad) × IsBad bad × TakeAll 0 0 0 0 0 [] old new × IsAfter [] old new)))

@@ -17,7 +17,7 @@ ghost use Rattle.run_core.specs.Private.Headroom.{HasCountsForLine, answer_limit
 ghost use Rattle.run_core.specs.Texts.{as_line};
 
 use crate::job::Job;
-use crate::line::{Kind, Line, LineFault, NAME_LIMIT, read_line};
+use crate::line::{Kind, Line, LineFault, NAME_LIMIT, parse_line};
 use arrayvec::ArrayVec;
 use crypt_core::hash::{HASH_LIMIT, HashFault, Hashed, hash};
 use crypt_core::password::Password;
@@ -47,36 +47,22 @@ pub(crate) enum Outcome {
     /// The password matches, and this is its new hash, because the stored setting is out of date.
     Rehashed(Hashed),
     /// The password does not match its stored hash.
-    Mismatch,
+    Misfit,
     /// The field is empty.
     NoHash,
     /// The field is locked: it begins with `!` or `*`.
     Locked,
-    /// The line breaks a rule, or can cost more than the budget.
-    Refused(LineFault),
 }
 
-/// The answer to a line as a value: its name and its outcome. A refused line has an empty name.
+/// The answer to a line as a value: its name, its outcome, and the work of its hashes.
 #[derive(Drop)]
-pub(crate) struct LineAnswer<'a> {
+pub(crate) struct Answered<'a> {
     pub(crate) name: &'a [u8],
     pub(crate) outcome: Outcome,
+    pub(crate) work: Work,
 }
 
-impl LineAnswer<'_> {
-    /// Returns the answer to a refused line.
-    pub(crate) fn refused(fault: LineFault) -> LineAnswer<'static>
-        ensures outcome { result.outcome ≡ Outcome.Refused fault }
-        ensures name { result.name.now ≡ [] }
-    {
-        LineAnswer {
-            name: b"",
-            outcome: Outcome::Refused(fault),
-        }
-    }
-}
-
-/// Decides the answer to a line: the hash of its password, the verdict on its password, or the refusal of the line.
+/// Decides the answer to a line, or the reason for its refusal.
 ///
 /// It refuses a line that breaks a rule, or that can cost more than the budget, before it hashes anything. It draws
 /// three random numbers for a salt that it makes; for a rehash it draws them after the verdict.
@@ -91,25 +77,26 @@ pub(crate) fn answer_line<'a, R: Rng>(
     bytes: &'a [u8],
     rng: &mut R,
     meter: &mut Meter,
-) -> Result<LineAnswer<'a>, HashFault>
+) -> Result<Result<Answered<'a>, LineFault>, HashFault>
     requires { HasCountsForLine meter.old }
     ensures decides { Decides kind job.now bytes.now (R.stream rng.old) meter.old meter.new (R.stream rng.new) result }
-    ensures short { IfOk result (λ answer. length answer.name.now ≤ name_limit) }
-    ensures rises { IsWithin meter.old meter.new }
+    ensures short { IfOk result (λ answer. IfOk answer (λ answered. length answered.name.now ≤ name_limit)) }
     ensures small { IsRaisedBelow line_work_limit meter.old meter.new }
 {
-    let line = match read_line(kind, bytes) {
+    let line = match parse_line(kind, bytes) {
         Ok(line) => line,
-        Err(fault) => return Ok(LineAnswer::refused(fault)),
+        Err(fault) => return Ok(Err(fault)),
     };
     if is_over_budget(job, &line) {
-        return Ok(LineAnswer::refused(LineFault::OverBudget));
+        return Ok(Err(LineFault::OverBudget));
     }
+    let before = meter.reading();
     let outcome = outcome_of(alloc, job, &line, rng, meter)?;
-    Ok(LineAnswer {
+    Ok(Ok(Answered {
         name: line.name,
         outcome,
-    })
+        work: meter.work_since(&before),
+    }))
 }
 
 // Returns whether the line can cost more than the budget. Without a budget it computes no cost.
@@ -168,7 +155,7 @@ fn outcome_of<R: Rng>(
         StoredField::Hash(stored) => stored,
     };
     if !stored.fits(alloc, password, meter)? {
-        return Ok(Outcome::Mismatch);
+        return Ok(Outcome::Misfit);
     }
     if !job.renews(&stored.setting().scheme()) {
         return Ok(Outcome::Match);
@@ -234,10 +221,9 @@ pub(crate) fn render(job: &Job, name: Option<&[u8]>, outcome: &Outcome, work: &W
             append(&mut text, b"ok:");
             append(&mut text, hash.text());
         }
-        Outcome::Mismatch => append(&mut text, b"no"),
+        Outcome::Misfit => append(&mut text, b"no"),
         Outcome::NoHash => append(&mut text, b"none"),
         Outcome::Locked => append(&mut text, b"locked"),
-        Outcome::Refused(fault) => append(&mut text, fault.text().as_bytes()),
     }
     if job.work {
         append_counts(&mut text, work);

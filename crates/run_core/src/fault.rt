@@ -7,21 +7,17 @@ use thiserror::Error;
 
 /// The error that ends a run.
 #[derive(Clone, Copy, Debug, PartialEq, Eq, Error)]
+#[error("{}", self.text())]
 pub enum RunFault {
     /// A read of the input failed.
-    #[error("{}", self.text())]
     Read,
     /// A write or a flush of an output failed.
-    #[error("{}", self.text())]
     Write,
     /// scrypt could not allocate.
-    #[error("{}", self.text())]
     OutOfMemory,
     /// The run needs one more I/O call than its limit allows.
-    #[error("{}", self.text())]
     Turns,
     /// The password is invalid.
-    #[error("{}", self.text())]
     Password(PasswordFault),
 }
 

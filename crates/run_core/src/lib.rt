@@ -10,6 +10,7 @@ pub mod line;
 pub mod lines;
 pub mod methods;
 pub mod one;
+mod reader;
 pub mod tally;
 #[cfg(test)]
 mod test_devices;

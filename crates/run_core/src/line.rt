@@ -29,27 +29,21 @@ pub enum Kind {
 
 /// The first rule that a line breaks, in this order.
 #[derive(Clone, Copy, Debug, PartialEq, Eq, Error)]
+#[error("{}", self.text())]
 pub enum LineFault {
     /// The line has more than [`LINE_LIMIT`] bytes.
-    #[error("{}", self.text())]
     LineTooLong,
     /// The line is empty or begins with a colon.
-    #[error("{}", self.text())]
     NoName,
     /// The name, which ends before the first colon or at the end of the line, has more than [`NAME_LIMIT`] bytes.
-    #[error("{}", self.text())]
     NameTooLong,
     /// The line has no colon, or for a check fewer than two.
-    #[error("{}", self.text())]
     NoPassword,
     /// The password, which follows the first colon, or for a check the second, is invalid.
-    #[error("{}", self.text())]
     Password(PasswordFault),
     /// The field to check is not empty, does not begin with `!` or `*`, and spells no setting.
-    #[error("{}", self.text())]
     Setting(SettingFault),
     /// The line can cost more than the budget, which is no rule of the line alone.
-    #[error("{}", self.text())]
     OverBudget,
 }
 
@@ -84,7 +78,7 @@ pub fn inspect(kind: Kind, line: &[u8]) -> Option<LineFault>
     ensures refused { IfSome result (IsLineRefused kind line.now) }
     ensures each_refusal { (fault : Refusal) → IsLineRefused kind line.now fault → result ≡ Some fault }
 {
-    match read_line(kind, line) {
+    match parse_line(kind, line) {
         Ok(_) => None,
         Err(fault) => Some(fault),
     }
@@ -104,7 +98,7 @@ pub(crate) struct Line<'a> {
 /// # Errors
 ///
 /// - The first rule that the line breaks, but never `OverBudget`.
-pub(crate) fn read_line(kind: Kind, bytes: &[u8]) -> Result<Line<'_>, LineFault>
+pub(crate) fn parse_line(kind: Kind, bytes: &[u8]) -> Result<Line<'_>, LineFault>
     ensures read { IfOk result (λ line. IsLine kind bytes.now line.name.now line.password line.field) }
     ensures short { IfOk result (λ line. length line.name.now ≤ name_limit) }
     ensures refused { IfErr result (IsLineRefused kind bytes.now) }

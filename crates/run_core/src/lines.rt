@@ -1,38 +1,30 @@
 //! The runs over the lines of an input. A run answers each line once it has read the end of that line, and before it
 //! reads more. So it holds one line and one piece of the input at a time, whatever the size of the input.
-ghost use Rattle.std.specs.Prelude.{◌≡◌, ℕ, ◌+◌, ◌^◌, ◌<◌, ◌≤◌, ◌++◌, [], List, length, OnOk};
-ghost use Rattle.prims_core.specs.Work.{IsAtMost, no_work};
-ghost use Rattle.run_core.specs.Answers.{Answer, Hashing, after_work, tally_of};
-ghost use Rattle.run_core.specs.DeviceCalls.{IsUnflushed};
+ghost use Rattle.std.specs.Prelude.{◌≡◌, ◌+◌, ◌^◌, ◌<◌, ◌≤◌, length, IfOk, OnOk};
+ghost use Rattle.prims_core.specs.Work.{IsAtMost};
+ghost use Rattle.run_core.specs.Answers.{Answer};
 ghost use Rattle.run_core.specs.Devices.{HasRoomBeforeRun, HasRoomWithinRun, MovesBytes, turns_limit};
-ghost use Rattle.run_core.specs.LineAnswers.{IsAnswer};
 ghost use Rattle.run_core.specs.LineOptions.{OnlyRefuses, OnlyRenews, RenewsNone};
-ghost use Rattle.run_core.specs.LineRuns.{EndsLines, piece_size};
+ghost use Rattle.run_core.specs.LineRuns.{EndsLines};
 ghost use Rattle.run_core.specs.Lines.{name_limit};
-ghost use Rattle.run_core.specs.Private.Answers.{answer_of, counted};
-ghost use Rattle.run_core.specs.Private.Deliveries.{IsUnfailed, Sends};
-ghost use Rattle.run_core.specs.Private.Headroom.{answer_limit, lines_limit};
-ghost use Rattle.run_core.specs.Private.LineProgress.{AnswersLast, AnswersOne, GoesToEnd, HasRoomIn, HasRoomToAnswer, HasRoomToRead, IsAt, IsSameRun, LooksThrough, OutputState, ReadsPiece, Represents, TakesTurns, TakesTurnsOf, position_of, spare_fetch, state_of, with_input};
+ghost use Rattle.run_core.specs.Private.Answers.{Renders, counted, outcome_of};
+ghost use Rattle.run_core.specs.Private.Deliveries.{Sends};
+ghost use Rattle.run_core.specs.Private.Headroom.{HasRoomFor, answer_limit};
 ghost use Rattle.run_core.specs.Runs.{IsWithinTurns, run_state};
 ghost use Rattle.run_core.specs.declared.line.Kind.TheVariants.{Batch, Check};
 
-mod buffer;
-
-use crate::answer::{LineAnswer, Outcome, render, render_refusal};
+use crate::answer::{Answered, Outcome, render, render_refusal};
 use crate::device::{Input, Output};
 use crate::fault::RunFault;
 use crate::job::Job;
-use crate::line::Kind;
+use crate::line::{Kind, LineFault};
+use crate::reader::LineReader;
 use crate::tally::Tally;
-use crate::transfer::{fetch_piece, finish_both, line_feed_at, send};
-use buffer::LineBuffer;
-use prims_core::meter::{Meter, Work};
+use crate::transfer::{finish_both, send};
+use prims_core::meter::Meter;
 use rand_core::Rng;
 use std::alloc::Global;
 use std::io::{Read, Write};
-
-// The most bytes of one read.
-const PIECE_SIZE: usize = 512;
 
 /// Hashes the password of each line `name:password` of the input and writes `name:HASH` to `out`.
 ///
@@ -90,8 +82,17 @@ pub fn run_batch<I: Read, O: Write, E: Write, R: Rng>(
     ensures budget { OnlyRefuses Batch job.now }
     ensures rehash { RenewsNone Batch job.now }
 {
-    let mut run = LineRun::new(alloc, Kind::Batch, job, out, faults, rng, meter, turns);
-    run.answer_all(input)
+    answer_lines(
+        alloc,
+        Kind::Batch,
+        job,
+        input,
+        out,
+        faults,
+        rng,
+        meter,
+        turns,
+    )
 }
 
 /// Checks the password of each line `name:field:password` of the input and writes its verdict to `out`.
@@ -144,261 +145,102 @@ pub fn run_check<I: Read, O: Write, E: Write, R: Rng>(
     ensures budget { OnlyRefuses Check job.now }
     ensures rehash { OnlyRenews Check job.now }
 {
-    let mut run = LineRun::new(alloc, Kind::Check, job, out, faults, rng, meter, turns);
-    run.answer_all(input)
+    answer_lines(
+        alloc,
+        Kind::Check,
+        job,
+        input,
+        out,
+        faults,
+        rng,
+        meter,
+        turns,
+    )
 }
 
-/// A run over lines: its options, its outputs, generator and meter, and its progress.
-#[derive(Drop)]
-struct LineRun<'j, 'o, 'e, 'r, 'm, O: Write, E: Write, R> {
-    /// The allocator for scrypt.
+// Answers each line as soon as it is read, and flushes both outputs at the end.
+fn answer_lines<I: Read, O: Write, E: Write, R: Rng>(
     alloc: Global,
     kind: Kind,
-    job: &'j Job,
-    /// The output for hashes and verdicts.
-    out: &'o mut Output<O>,
-    /// The output for messages about refused lines.
-    faults: &'e mut Output<E>,
-    /// The generator of random numbers for salts.
-    rng: &'r mut R,
-    /// The meter of the work of each hash.
-    meter: &'m mut Meter,
-    /// The part of the current line that has been read.
-    buffer: LineBuffer,
-    /// The tally of the lines answered so far.
-    tally: Tally,
-    /// The number of I/O calls that the run may still make.
-    turns_left: u64,
-}
-
-impl<'j, 'o, 'e, 'r, 'm, O: Write, E: Write, R> LineRun<'j, 'o, 'e, 'r, 'm, O, E, R> {
-    /// Returns a run that has read and answered nothing.
-    fn new(
-        alloc: Global,
-        kind: Kind,
-        job: &'j Job,
-        out: &'o mut Output<O>,
-        faults: &'e mut Output<E>,
-        rng: &'r mut R,
-        meter: &'m mut Meter,
-        turns: u64,
-    ) -> LineRun<'j, 'o, 'e, 'r, 'm, O, E, R>
-        ensures kind { result.kind ≡ kind }
-        ensures job { result.job.now ≡ job.now }
-        ensures out { (result.out.ghost_name ≡ out.entry.ghost_name) × (result.out.now ≡ out.old) }
-        ensures faults { (result.faults.ghost_name ≡ faults.entry.ghost_name) × (result.faults.now ≡ faults.old) }
-        ensures rng { (result.rng.ghost_name ≡ rng.entry.ghost_name) × (result.rng.now ≡ rng.old) }
-        ensures meter { (result.meter.ghost_name ≡ meter.entry.ghost_name) × (result.meter.now ≡ meter.old) }
-        ensures none_held { Represents result.buffer [] }
-        ensures no_line { result.tally ≡ tally_of [] }
-        ensures turns { result.turns_left ≡ turns }
-    {
-        LineRun {
-            alloc,
-            kind,
-            job,
-            out,
-            faults,
-            rng,
-            meter,
-            buffer: LineBuffer::new(),
-            tally: Tally::new(),
-            turns_left: turns,
-        }
-    }
-}
-
-impl<O: Write, E: Write, R: Rng> LineRun<'_, '_, '_, '_, '_, O, E, R> {
-    /// Answers all lines of the input and flushes both outputs.
-    fn answer_all<I: Read>(&mut self, input: &mut Input<I>) -> Result<Tally, RunFault>
-        requires none_held { Represents self.old.buffer [] }
-        requires no_line { self.old.tally ≡ tally_of [] }
-        requires turns { self.old.turns_left ≤ turns_limit }
-        requires devices { HasRoomBeforeRun input.old × HasRoomBeforeRun self.old.out.now × HasRoomBeforeRun self.old.faults.now }
-        requires counts { IsAtMost self.old.meter.now (2 ^ 100) }
-        ensures ends { EndsLines self.old.turns_left self.old.kind self.old.job.now
-            (with_input input.old (state_of R.stream self.old)) (with_input input.new (state_of R.stream self.new)) result }
-        ensures within_turns { IsWithinTurns self.old.turns_left
-            (with_input input.old (state_of R.stream self.old)) (with_input input.new (state_of R.stream self.new)) }
-        ensures fault_room { HasRoomWithinRun self.new.faults.now }
-        ensures same { IsSameRun self.old self.new }
-    {
-        self.read_all(input)?;
-        self.end()?;
-        finish_both(self.out, self.faults)?;
-        Ok(self.tally)
-    }
-
-    // Reads the whole input and answers each line that a line feed ends.
-    fn read_all<I: Read>(&mut self, input: &mut Input<I>) -> Result<(), RunFault>
-        requires none_held { Represents self.old.buffer [] }
-        requires no_line { self.old.tally ≡ tally_of [] }
-        requires room { HasRoomToRead (position_of self.old) (with_input input.old (state_of R.stream self.old)) }
-        ensures goes { GoesToEnd self.old.turns_left self.old.kind self.old.job.now
-            (with_input input.old (state_of R.stream self.old)) (with_input input.new (state_of R.stream self.new)) (position_of self.new) result }
-        ensures room { OnOk result (HasRoomToRead (position_of self.new) (with_input input.new (state_of R.stream self.new))) }
-        ensures turns { TakesTurnsOf 1 self.old.turns_left self.new.turns_left
-            (with_input input.old (state_of R.stream self.old)) (with_input input.new (state_of R.stream self.new)) }
-        ensures fault_room { HasRoomWithinRun self.new.faults.now }
-        ensures same { IsSameRun self.old self.new }
-    {
-        let mut has_more = true;
-        'fetches: while has_more {
-            has_more = self.read_piece(input)?;
-        }
-        Ok(())
-    }
-
-    // Reads one piece and answers each line that ends in it. Returns whether the piece has a byte.
-    fn read_piece<I: Read>(&mut self, input: &mut Input<I>) -> Result<bool, RunFault>
-        requires room { HasRoomToRead (position_of self.old) (with_input input.old (state_of R.stream self.old)) }
-        ensures reads { ReadsPiece self.old.kind self.old.job.now
-            (with_input input.old (state_of R.stream self.old)) (position_of self.old)
-            (with_input input.new (state_of R.stream self.new)) (position_of self.new) result }
-        ensures room { OnOk result (HasRoomToRead (position_of self.new) (with_input input.new (state_of R.stream self.new))) }
-        ensures fewer { OnOk result (self.new.turns_left < self.old.turns_left) }
-        ensures turns { TakesTurnsOf (spare_fetch result) self.old.turns_left self.new.turns_left
-            (with_input input.old (state_of R.stream self.old)) (with_input input.new (state_of R.stream self.new)) }
-        ensures fault_room { HasRoomWithinRun self.new.faults.now }
-        ensures same { IsSameRun self.old self.new }
-    {
-        let mut piece = [0; PIECE_SIZE];
-        let count = fetch_piece(input, &mut piece, &mut self.turns_left)?;
-        if count == 0 {
-            return Ok(false);
-        }
-        self.answer_lines_in(&piece[..count])?;
-        Ok(true)
-    }
-
-    // Answers each line that ends in the piece, in order, and buffers what follows the last line feed.
-    fn answer_lines_in(&mut self, piece: &[u8]) -> Result<(), RunFault>
-        requires size { length piece.now ≤ piece_size }
-        requires room { HasRoomToAnswer (length piece.now) (position_of self.old) (state_of R.stream self.old) }
-        ensures looked { (start : OutputState O E) → (bytes : List ℕ)
-            → IsAt self.old.kind self.old.job.now start (state_of R.stream self.old) bytes (position_of self.old)
-            → LooksThrough self.old.kind self.old.job.now start (state_of R.stream self.new) (bytes ++ piece.now) (position_of self.new) result }
-        ensures room { OnOk result (HasRoomIn self.new.tally (state_of R.stream self.new)) }
-        ensures lines { self.new.tally.lines ≤ self.old.tally.lines + length piece.now }
-        ensures turns { TakesTurns self.old.turns_left self.new.turns_left (state_of R.stream self.old) (state_of R.stream self.new) }
-        ensures fault_room { HasRoomWithinRun self.new.faults.now }
-        ensures same { IsSameRun self.old self.new }
-    {
-        let mut rest = piece;
-        'lines: while let Some(end) = line_feed_at(rest) {
-            self.buffer.append(&rest[..end]);
-            self.answer_buffered()?;
-            rest = &rest[end + 1..];
-        }
-        self.buffer.append(rest);
-        Ok(())
-    }
-
-    // Answers the last line of the input if no line feed ends it.
-    fn end(&mut self) -> Result<(), RunFault>
-        requires room { HasRoomToAnswer 1 (position_of self.old) (state_of R.stream self.old) }
-        ensures answers { (start : OutputState O E) → (bytes : List ℕ)
-            → IsAt self.old.kind self.old.job.now start (state_of R.stream self.old) bytes (position_of self.old)
-            → AnswersLast self.old.kind self.old.job.now start (state_of R.stream self.new) bytes (position_of self.new) result }
-        ensures room { OnOk result (HasRoomIn self.new.tally (state_of R.stream self.new)) }
-        ensures turns { TakesTurns self.old.turns_left self.new.turns_left (state_of R.stream self.old) (state_of R.stream self.new) }
-        ensures fault_room { HasRoomWithinRun self.new.faults.now }
-        ensures same { IsSameRun self.old self.new }
-    {
-        if self.buffer.is_empty() {
-            return Ok(());
-        }
-        self.answer_buffered()
-    }
-
-    // Answers the line in the buffer and empties the buffer.
-    fn answer_buffered(&mut self) -> Result<(), RunFault>
-        requires room { HasRoomToAnswer 1 (position_of self.old) (state_of R.stream self.old) }
-        ensures answers { (line : List ℕ) → Represents self.old.buffer line
-            → (answer : Answer) × IsAnswer self.old.kind self.old.job.now (self.old.tally.lines + 1) line (R.stream self.old.rng.now) answer
-            × AnswersOne self.new.turns_left answer (state_of R.stream self.old) (state_of R.stream self.new) result
-            × OnOk result (self.new.tally ≡ counted self.old.tally answer.outcome) }
-        ensures held { OnOk result (Represents self.new.buffer []) }
-        ensures room { OnOk result (HasRoomIn self.new.tally (state_of R.stream self.new)) }
-        ensures lines { self.new.tally.lines ≤ self.old.tally.lines + 1 }
-        ensures turns { TakesTurns self.old.turns_left self.new.turns_left (state_of R.stream self.old) (state_of R.stream self.new) }
-        ensures fault_room { HasRoomWithinRun self.new.faults.now }
-        ensures same { IsSameRun self.old self.new }
-    {
-        let number = self.tally.lines + 1;
-        let before = self.meter.reading();
-        let answer = self
-            .buffer
-            .answer(self.alloc, self.kind, self.job, self.rng, self.meter)?;
-        let work = self.meter.work_since(&before);
-        give(
-            number,
-            self.job,
-            &answer,
-            &work,
-            self.out,
-            self.faults,
-            &mut self.turns_left,
-        )?;
-        count_line(&mut self.tally, &answer.outcome);
-        self.buffer = LineBuffer::new();
-        Ok(())
-    }
-}
-
-// Writes the answer to line `number`, which took this work, to `out`, or to `faults` if the line is refused.
-fn give<O: Write, E: Write>(
-    number: u64,
     job: &Job,
-    answer: &LineAnswer<'_>,
-    work: &Work,
+    input: &mut Input<I>,
+    out: &mut Output<O>,
+    faults: &mut Output<E>,
+    rng: &mut R,
+    meter: &mut Meter,
+    turns: u64,
+) -> Result<Tally, RunFault>
+    requires turns { turns ≤ turns_limit }
+    requires devices { HasRoomBeforeRun input.old × HasRoomBeforeRun out.old × HasRoomBeforeRun faults.old }
+    requires counts { IsAtMost meter.old (2 ^ 100) }
+    ensures ends { EndsLines turns kind job.now
+        (run_state input.old out.old faults.old (R.stream rng.old) meter.old)
+        (run_state input.new out.new faults.new (R.stream rng.new) meter.new) result }
+    ensures within_turns { IsWithinTurns turns
+        (run_state input.old out.old faults.old (R.stream rng.old) meter.old)
+        (run_state input.new out.new faults.new (R.stream rng.new) meter.new) }
+    ensures fault_room { HasRoomWithinRun faults.new }
+{
+    let mut left = turns;
+    let mut reader = LineReader::new();
+    let mut tally = Tally::new();
+    'lines: while reader.next_line(input, &mut left)? {
+        let answer = reader.line().answer(alloc, kind, job, rng, meter)?;
+        write_answer(job, tally.lines + 1, &answer, out, faults, &mut left)?;
+        count_line(&mut tally, &answer);
+    }
+    finish_both(out, faults)?;
+    Ok(tally)
+}
+
+// Writes the answer to line `number` to `out`, or to `faults` if the line is refused.
+fn write_answer<O: Write, E: Write>(
+    job: &Job,
+    number: u64,
+    answer: &Result<Answered<'_>, LineFault>,
     out: &mut Output<O>,
     faults: &mut Output<E>,
     left: &mut u64,
 ) -> Result<(), RunFault>
-    requires turns { left.old ≤ turns_limit }
-    requires out_room { HasRoomWithinRun out.old }
-    requires faults_room { HasRoomWithinRun faults.old }
-    requires short { length answer.now.name.now ≤ name_limit }
-    ensures sends { (hashings : List Hashing) → after_work no_work hashings ≡ work.now
-        → Sends left.new (answer_of job.now number answer.now.name.now answer.now.outcome hashings) out.old faults.old out.new faults.new result }
-    ensures unfailed { OnOk result (IsUnfailed out.old out.new × IsUnfailed faults.old faults.new) }
-    ensures unflushed { IsUnflushed out.old out.new × IsUnflushed faults.old faults.new }
+    requires out_room { HasRoomFor answer_limit left.old out.old }
+    requires faults_room { HasRoomFor answer_limit left.old faults.old }
+    requires flushes { faults.old.flushes ≤ 2 ^ 62 }
+    requires short { IfOk answer.now (λ answered. length answered.name.now ≤ name_limit) }
+    ensures sends { (next : Answer) → Renders job.now number answer.now next
+        → Sends left.new next out.old faults.old out.new faults.new result }
     ensures calls { out.new.calls + faults.new.calls + left.new ≡ out.old.calls + faults.old.calls + left.old }
-    ensures fewer { left.new ≤ left.old }
+    ensures fewer { OnOk result (left.new < left.old) }
     ensures out_moves { MovesBytes 0 out.old out.new }
     ensures faults_moves { MovesBytes 0 faults.old faults.new }
-    ensures out_bytes { out.new.bytes ≤ out.old.bytes + answer_limit }
-    ensures faults_bytes { faults.new.bytes ≤ faults.old.bytes + answer_limit }
-    ensures fault_failures { faults.new.failures ≤ faults.old.failures + 1 }
-    ensures fault_flushes { faults.new.flushes ≡ faults.old.flushes }
+    ensures failures { out.new.failures + faults.new.failures ≤ out.old.failures + faults.old.failures + 1 }
+    ensures out_room { OnOk result (HasRoomFor answer_limit left.new out.new) }
+    ensures faults_room { OnOk result (HasRoomFor answer_limit left.new faults.new) }
+    ensures fault_room { HasRoomWithinRun faults.new }
 {
-    match &answer.outcome {
-        Outcome::Refused(fault) => send(faults, render_refusal(number, fault).as_slice(), left),
-        outcome => send(
-            out,
-            render(job, Some(answer.name), outcome, work).as_slice(),
-            left,
-        ),
+    match answer {
+        Ok(answered) => {
+            let text = render(job, Some(answered.name), &answered.outcome, &answered.work);
+            send(out, text.as_slice(), left)
+        }
+        Err(fault) => send(faults, render_refusal(number, fault).as_slice(), left),
     }
 }
 
-// Adds a line with this outcome to the tally.
-fn count_line(tally: &mut Tally, outcome: &Outcome)
-    requires room { tally.old.lines < lines_limit }
+// Adds a line with this answer to the tally.
+fn count_line(tally: &mut Tally, answer: &Result<Answered<'_>, LineFault>)
+    requires lines { tally.old.lines < turns_limit }
     requires refused { tally.old.refused ≤ tally.old.lines }
     requires misfits { tally.old.misfits ≤ tally.old.lines }
-    ensures { tally.new ≡ counted tally.old outcome.now }
+    ensures { tally.new ≡ counted tally.old (outcome_of answer.now) }
 {
     tally.lines += 1;
-    match outcome {
-        Outcome::Mismatch => tally.misfits += 1,
-        Outcome::Refused(_) => tally.refused += 1,
-        Outcome::Hashed(_)
-        | Outcome::Match
-        | Outcome::Rehashed(_)
-        | Outcome::NoHash
-        | Outcome::Locked => {}
+    match answer {
+        Ok(answered) => {
+            if let Outcome::Misfit = answered.outcome {
+                tally.misfits += 1;
+            }
+        }
+        Err(_) => tally.refused += 1,
     }
 }
 

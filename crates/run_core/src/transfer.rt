@@ -63,12 +63,13 @@ pub(crate) fn send<O: Write>(
     text: &[u8],
     left: &mut u64,
 ) -> Result<(), RunFault>
-    requires turns { left.old ≤ turns_limit }
-    requires room { HasRoomWithinRun out.old }
-    requires short { length text.now < 2 ^ 63 }
+    requires failures_room { out.old.failures < 2 ^ 64 - 1 }
+    requires calls_room { out.old.calls + left.old < 2 ^ 64 }
+    requires bytes_room { out.old.bytes + length text.now < 2 ^ 64 }
     ensures delivers { Delivers left.old out.old out.new text.now result }
     ensures turns { out.new.calls + left.new ≡ out.old.calls + left.old }
     ensures fewer { left.new ≤ left.old }
+    ensures some_turn { OnOk result (0 < length text.now → left.new < left.old) }
     ensures moves { MovesBytes 0 out.old out.new }
     ensures few_bytes { out.new.bytes ≤ out.old.bytes + length text.now }
     ensures few_failures { out.new.failures ≤ out.old.failures + 1 }

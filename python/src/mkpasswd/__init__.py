@@ -272,6 +272,7 @@ def mksalt(method: Optional[_Method] = None, *, rounds: Optional[int] = None) ->
     if rounds is not None:
         if not isinstance(rounds, int):
             raise TypeError("%s object cannot be interpreted as an integer" % type(rounds).__name__)
+        rounds = int.__index__(rounds)
         if method == METHOD_MD5:
             raise ValueError("%r doesn't support the rounds argument" % (method,))
         if not 1000 <= rounds <= 999_999_999:
@@ -309,9 +310,10 @@ def crypt(word: Text, salt: Union[Text, _Method, None] = None, *, budget: float 
 # Arguments.
 
 
+# A subclass can have a __len__ or an __eq__ of its own. So its value is taken by a method of the base class, here and below.
 def _bytes(value: Text, name: str) -> bytes:
     if isinstance(value, bytes):
-        return value
+        return bytes.__getitem__(value, slice(None))
     if isinstance(value, str):
         # The strict codec would raise a UnicodeEncodeError, which carries the whole str.
         return str.encode(value, "utf-8", "surrogatepass")
@@ -336,6 +338,7 @@ def _is_locked(field: bytes) -> bool:
 def _method(method: str, rounds: Optional[int]) -> Tuple[int, int]:
     if not isinstance(method, str):
         raise TypeError("method must be str, not %s" % type(method).__name__)
+    method = str.__str__(method)
     number = 0 if rounds is None else _int(rounds, "rounds")
     # The library would clamp these, so that `rounds=12` would make a weak hash.
     if method in ("sha256crypt", "sha512crypt") and number != 0 and not 1000 <= number <= 999_999_999:
@@ -347,7 +350,7 @@ def _method(method: str, rounds: Optional[int]) -> Tuple[int, int]:
 
 
 def _limit(budget: float) -> int:
-    if isinstance(budget, float) and budget == math.inf:
+    if isinstance(budget, float) and float.__eq__(budget, math.inf):
         return _NO_LIMIT
     number = _int(budget, "budget", "an int or math.inf")
     if number < 0:
@@ -359,7 +362,7 @@ def _int(value: Any, name: str, kind: str = "an int") -> int:
     if isinstance(value, (bool, float)):
         raise TypeError("%s must be %s, not %r" % (name, kind, value))
     try:
-        return operator.index(value)
+        return int.__index__(operator.index(value))
     except TypeError:
         raise TypeError("%s must be %s, not %s" % (name, kind, type(value).__name__)) from None
 

@@ -37,8 +37,10 @@ class MkpasswdPasswordHasher(BasePasswordHasher):
     def encode(self, password: str, salt: str) -> str:
         if not salt or "$" in salt:
             raise ValueError("salt must be provided and must not have a $")
-        encoded = crypt(password, self._new_setting()[0] + salt, budget=self.budget)
-        if encoded.startswith("*"):
+        setting = self._new_setting()[0] + salt
+        encoded = crypt(password, setting, budget=self.budget)
+        # A long salt would be cut, and of a bad one there is no hash.
+        if not encoded.startswith(setting + "$"):
             raise ValueError("bad salt")
         return self.algorithm + encoded
 

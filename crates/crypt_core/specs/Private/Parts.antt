@@ -1,17 +1,16 @@
 -- The parts that the parser takes off the front of a setting, one after another, and which salts a method takes.
-use Rattle.std.specs.Prelude.{Option, Some, None, true, false, ◌≡◌, ◌⊎◌, ℕ, ◌^◌, ◌<◌, ◌≤◌, min, List, ◌∷◌, ◌++◌, length, take, All, Contains}
+use Rattle.std.specs.Prelude.{◌≡◌, ℕ, ◌^◌, ◌<◌, ◌≤◌, min, List, ◌∷◌, ◌++◌, length, take, All, Contains}
 use Rattle.std.specs.Str.Parse.{digits_value}
 use Rattle.prims_core.specs.Alphabet.{alphabet}
 use Rattle.kdf_core.specs.Params.{ScryptCost}
 use Rattle.crypt_core.specs.declared.method.Method.{Method}
 use Rattle.crypt_core.specs.declared.method.Method.TheVariants as methods
-use Rattle.crypt_core.specs.MethodLimits.{prefix, salt_limit}
-use Rattle.crypt_core.specs.Rounds.{clamped, default_rounds, Rounds}
+use Rattle.crypt_core.specs.MethodLimits.{salt_limit}
 use Rattle.crypt_core.specs.RoundsLimits.{max_rounds}
 use Rattle.crypt_core.specs.TextLimits.{scrypt_part_len}
 use Rattle.crypt_core.specs.declared.setting.fault.SettingFault.{SettingFault}
 use Rattle.crypt_core.specs.Refusals.{IsRefused}
-use Rattle.crypt_core.specs.Settings.{dollar, rounds_word, IsField, IsRoundsNumber, IsScryptSalt, IsSettingByte, scrypt_part, setting_limit, SpellsRounds}
+use Rattle.crypt_core.specs.Settings.{dollar, rounds_word, IsField, IsRoundsNumber, IsScryptSalt, IsSettingByte, scrypt_part, setting_limit}
 
 -- IsSettingText text: it has no more bytes than the limit, all of them setting bytes.
 pub record IsSettingText (text : List ℕ) : Type 0 where
@@ -21,10 +20,6 @@ pub record IsSettingText (text : List ℕ) : Type 0 where
 -- AllRefused HasForm fault: every such string that has this form gets this refusal.
 abbrev pub AllRefused : (List ℕ → Type 0) → SettingFault → Type 0
 AllRefused HasForm fault = (text : List ℕ) → IsSettingText text → HasForm text → IsRefused text fault
-
--- IsShaText text after: the string is one of SHA-crypt's prefixes, and then this.
-abbrev pub IsShaText : List ℕ → List ℕ → Type 0
-IsShaText text after = (text ≡ prefix methods.Sha256crypt ++ after) ⊎ (text ≡ prefix methods.Sha512crypt ++ after)
 
 -- HasNumber field number rest: the field begins with the digits of a number and a `$`, and the rest follows. The number
 -- is theirs, or the most rounds if theirs is greater.
@@ -39,15 +34,6 @@ LacksNumber field = (digits rest : List ℕ) → IsRoundsNumber digits → field
 -- LacksRounds after: it begins with `rounds=`, and no number and `$` follow.
 abbrev pub LacksRounds : List ℕ → Type 0
 LacksRounds after = (field : List ℕ) × (after ≡ rounds_word ++ field) × LacksNumber field
-
--- field_rounds number: the rounds of a field with this number, or without a field.
-abbrev pub field_rounds : Option ℕ → Rounds
-field_rounds (Some number) = record { count = clamped number; is_written = true }
-field_rounds None = record { count = default_rounds; is_written = false }
-
--- HasRounds after rounds rest: `after` begins with a part that spells these rounds, and the rest follows.
-abbrev pub HasRounds : List ℕ → Rounds → List ℕ → Type 0
-HasRounds after rounds rest = (part : List ℕ) × (after ≡ part ++ rest) × SpellsRounds rounds part rest
 
 -- HasNumerals cost: the characters of scrypt's cost part can express its numbers.
 abbrev pub HasNumerals : ScryptCost → Type 0

@@ -8,31 +8,24 @@ use thiserror::Error;
 
 /// Why a string is no setting: the first of these errors.
 #[derive(Clone, Copy, Debug, PartialEq, Eq, Drop, Error)]
+#[error("{}", self.text())]
 pub enum SettingFault {
     /// It has more than [`SETTING_LIMIT`](super::SETTING_LIMIT) bytes.
-    #[error("{}", self.text())]
     TooLong,
     /// It has a byte that is not graphic ASCII (0x21 to 0x7e), or one of `:`, `;`, `*`, `!` and the backslash.
-    #[error("{}", self.text())]
     BadCharacter,
     /// It begins with none of `$1$`, `$5$`, `$6$` and `$7$`.
-    #[error("{}", self.text())]
     UnknownScheme,
     /// `rounds=` follows SHA-crypt's prefix, but no number and `$` follow that. A number begins with one of 1 to 9.
-    #[error("{}", self.text())]
     BadRounds,
     /// Fewer than 11 characters of crypt's alphabet, which scrypt's cost part has, follow its prefix.
-    #[error("{}", self.text())]
     BadCost,
     /// N, r or p is outside scrypt's range (RFC 7914, section 2): log2 N, r or p is 0, or log2 N is 16r or more.
-    #[error("{}", self.text())]
     ScryptRange,
     /// The product of N, r and p is above 8388608.
-    #[error("{}", self.text())]
     AboveCeiling,
     /// scrypt's salt has more than [`SCRYPT_SALT_LIMIT`](crate::method::SCRYPT_SALT_LIMIT) bytes, or one outside
     /// crypt's alphabet.
-    #[error("{}", self.text())]
     BadSalt,
 }
 
@@ -56,15 +49,13 @@ impl SettingFault {
 
 /// Why a setting can't be made: the first of these errors.
 #[derive(Clone, Copy, Debug, PartialEq, Eq, Drop, Error)]
+#[error("{}", self.text())]
 pub enum MakeFault {
     /// The salt is empty, or longer than the method keeps.
-    #[error("{}", self.text())]
     SaltLength,
     /// The salt has a byte outside crypt's alphabet.
-    #[error("{}", self.text())]
     SaltCharacter,
     /// The method is scrypt, and the cost is neither 0 nor from 6 to 11.
-    #[error("{}", self.text())]
     Cost,
 }
 

@@ -40,7 +40,6 @@ impl Setting {
         match given_salt(method, salt) {
             Ok(salt) => {
                 let scheme = Scheme::made(method, cost)?;
-                prove!(scheme.is_in_range());
                 Ok(Setting { scheme, salt })
             }
             Err(fault) => Err(fault),
@@ -60,10 +59,7 @@ impl Setting {
         ensures refused { IfErr result (λ fault. (cost : ℕ) → IsMakeRefused (method_of scheme) cost (Some salt.now) fault) }
     {
         match given_salt(scheme.method(), salt) {
-            Ok(salt) => {
-                prove!(scheme.is_in_range());
-                Ok(Setting { scheme, salt })
-            }
+            Ok(salt) => Ok(Setting { scheme, salt }),
             Err(fault) => Err(fault),
         }
     }
@@ -74,7 +70,6 @@ impl Setting {
     pub fn salted(scheme: Scheme, words: [u64; 3]) -> Setting
         ensures { result ≡ salted scheme words }
     {
-        prove!(scheme.is_in_range());
         let salt = salt_of(words, made_salt_length(scheme.method()));
         Setting {
             scheme,

@@ -3,14 +3,15 @@
 //! The parser takes the prefix, the cost part and the salt off the front, one after another. It neither allocates nor
 //! counts, and it caps a number of any length while it reads it.
 
-ghost use Rattle.std.specs.Prelude.{◌≡◌, ◌≤◌, ◌↔◌, length, ◌++◌, min, take, IsTrue, IfOk, IfErr, OnOk, OnSome, IfSome, IfNone};
+ghost use Rattle.std.specs.Prelude.{◌≡◌, ◌≤◌, ◌↔◌, ℕ, List, length, ◌++◌, min, take, IsTrue, IfOk, IfErr, OnOk, OnSome, IfSome, IfNone};
 ghost use Rattle.std.specs.Str.Parse.{digits_value};
 ghost use Rattle.kdf_core.specs.Params.{cost_of, IsAccepted};
 ghost use Rattle.crypt_core.specs.declared.setting.fault.SettingFault.{SettingFault as Refusal};
 ghost use Rattle.crypt_core.specs.MethodLimits.{prefix};
-ghost use Rattle.crypt_core.specs.Private.Parts.{AllRefused, HasField, HasNumber, HasNumbers, HasRounds, IsSettingText, IsShaText, LacksCharacters, LacksNumber, LacksSalt, SpellsSalt, field_rounds};
+ghost use Rattle.crypt_core.specs.Private.Parts.{AllRefused, HasField, HasNumber, HasNumbers, IsSettingText, LacksCharacters, LacksNumber, LacksSalt, SpellsSalt};
 ghost use Rattle.crypt_core.specs.Readings.{IsReadOneWay};
 ghost use Rattle.crypt_core.specs.Refusals.{IsRefused};
+ghost use Rattle.crypt_core.specs.Schemes.{sha_method};
 ghost use Rattle.crypt_core.specs.Settings.{SettingValue, IsSettingByte, IsRoundsNumber, IsScryptSalt, SpellsScheme, Spells};
 ghost use Rattle.crypt_core.specs.RoundsLimits.{max_rounds};
 ghost use Rattle.crypt_core.specs.TextLimits.{scrypt_part_len};
@@ -18,7 +19,7 @@ ghost use Rattle.crypt_core.specs.TextLimits.{scrypt_part_len};
 use super::fault::SettingFault;
 use super::{COST_CHARACTERS, ROUNDS_WORD, SETTING_LIMIT, Setting, in_alphabet};
 use crate::method::{Method, SCRYPT_SALT_LIMIT};
-use crate::scheme::{MAX_ROUNDS, Rounds, Scheme};
+use crate::scheme::{MAX_ROUNDS, Rounds, Scheme, Sha};
 use arrayvec::ArrayVec;
 use kdf_core::params::{ParamFault, Params};
 use prims_core::alphabet::{read_30, value_of};
@@ -32,6 +33,7 @@ impl Setting {
     /// # Errors
     ///
     /// The first rule that the string breaks, in the order of [`SettingFault`].
+    #[tactic(auto, using(crate::proofs::Refusals::one_reading))]
     pub fn read(text: &[u8]) -> Result<Setting, SettingFault>
         ensures spelled { IfOk result (Spells text.now) }
         ensures each_setting { (kept : SettingValue) → Spells text.now kept → result ≡ Ok kept }
@@ -43,13 +45,10 @@ impl Setting {
     {
         check_bytes(text)?;
         match scheme_at(text) {
-            Ok((scheme, after)) => {
-                prove!(scheme.is_in_range());
-                match salt_at(scheme.method(), after) {
-                    Some(salt) => Ok(Setting { scheme, salt }),
-                    None => Err(SettingFault::BadSalt),
-                }
-            }
+            Ok((scheme, after)) => match salt_at(scheme.method(), after) {
+                Some(salt) => Ok(Setting { scheme, salt }),
+                None => Err(SettingFault::BadSalt),
+            },
             Err(fault) => Err(fault),
         }
     }
@@ -85,12 +84,10 @@ fn scheme_at(text: &[u8]) -> Result<(Scheme, &[u8]), SettingFault>
         return Ok((Scheme::Md5crypt, after));
     }
     if let Some(after) = text.strip_prefix(Method::Sha256crypt.row().prefix) {
-        let (number, rest) = rounds_at(after)?;
-        return Ok((Scheme::Sha256crypt(rounds_of(number)), rest));
+        return shacrypt_at(Sha::Sha256, after);
     }
     if let Some(after) = text.strip_prefix(Method::Sha512crypt.row().prefix) {
-        let (number, rest) = rounds_at(after)?;
-        return Ok((Scheme::Sha512crypt(rounds_of(number)), rest));
+        return shacrypt_at(Sha::Sha512, after);
     }
     if let Some(after) = text.strip_prefix(Method::Scrypt.row().prefix) {
         let params = params_at(after)?;
@@ -99,28 +96,19 @@ fn scheme_at(text: &[u8]) -> Result<(Scheme, &[u8]), SettingFault>
     Err(SettingFault::UnknownScheme)
 }
 
-// Returns the number in SHA-crypt's rounds field, if there is one, and what follows the field.
-fn rounds_at(after: &[u8]) -> Result<(Option<u64>, &[u8]), SettingFault>
-    ensures ok { IfOk result (λ x. HasRounds after.now (field_rounds x.0) x.1.now) }
-    ensures err { IfErr result (AllRefused (λ text. IsShaText text after.now)) }
+// Returns SHA-crypt with the rounds that follow its prefix, or those without a field, and what follows the field.
+fn shacrypt_at(sha: Sha, after: &[u8]) -> Result<(Scheme, &[u8]), SettingFault>
+    ensures ok { IfOk result (λ x. (text : List ℕ) → text ≡ prefix (sha_method sha) ++ after.now
+        → SpellsScheme text x.0 x.1.now) }
+    ensures err { IfErr result (AllRefused (λ text. text ≡ prefix (sha_method sha) ++ after.now)) }
 {
     let Some(field) = after.strip_prefix(ROUNDS_WORD) else {
-        return Ok((None, after));
+        return Ok((Scheme::Shacrypt(sha, Rounds::unwritten()), after));
     };
     let Some((number, rest)) = number_at(field) else {
         return Err(SettingFault::BadRounds);
     };
-    Ok((Some(number), rest))
-}
-
-// Returns the rounds of a field with this number, or without a field.
-fn rounds_of(number: Option<u64>) -> Rounds
-    ensures { result ≡ field_rounds number }
-{
-    match number {
-        Some(number) => Rounds::written(number),
-        None => Rounds::unwritten(),
-    }
+    Ok((Scheme::Shacrypt(sha, Rounds::written(number)), rest))
 }
 
 // Returns the number before a `$`, capped at the most rounds, and what follows the `$`.

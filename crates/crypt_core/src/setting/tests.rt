@@ -3,7 +3,7 @@
 ghost use Rattle.std.specs.Prelude.{◌≡◌};
 
 use super::*;
-use crate::scheme::Rounds;
+use crate::scheme::{Rounds, Sha};
 use crate::values::are_distinct;
 use kdf_core::params::Params;
 use std::process::Abort;
@@ -285,11 +285,15 @@ fn small_scrypt(rt: &impl Abort) -> Scheme {
 
 #[test]
 fn with_salts(rt: HostRuntime) {
-    let sha512crypt = Scheme::Sha512crypt(Rounds::written(5000));
+    let sha512crypt = Scheme::Shacrypt(Sha::Sha512, Rounds::written(5000));
     let rows = [
         (Scheme::Md5crypt, b"ab".as_slice(), b"$1$ab".as_slice()),
         (Scheme::Md5crypt, b"xxxxxxxx", b"$1$xxxxxxxx"),
-        (Scheme::Sha256crypt(Rounds::unwritten()), b"z", b"$5$z"),
+        (
+            Scheme::Shacrypt(Sha::Sha256, Rounds::unwritten()),
+            b"z",
+            b"$5$z",
+        ),
         (
             sha512crypt,
             b"saltstringsaltst",
@@ -310,7 +314,7 @@ fn without_a_salt_that_the_method_takes(rt: HostRuntime) {
         (Scheme::Md5crypt, b"".as_slice(), MakeFault::SaltLength),
         (Scheme::Md5crypt, b"123456789", MakeFault::SaltLength),
         (
-            Scheme::Sha256crypt(Rounds::unwritten()),
+            Scheme::Shacrypt(Sha::Sha256, Rounds::unwritten()),
             &[b'a'; 17],
             MakeFault::SaltLength,
         ),
@@ -318,7 +322,7 @@ fn without_a_salt_that_the_method_takes(rt: HostRuntime) {
         (small_scrypt(&rt), b"", MakeFault::SaltLength),
         (Scheme::Md5crypt, b"a-b", MakeFault::SaltCharacter),
         (
-            Scheme::Sha256crypt(Rounds::unwritten()),
+            Scheme::Shacrypt(Sha::Sha256, Rounds::unwritten()),
             b"a$",
             MakeFault::SaltCharacter,
         ),

@@ -7,13 +7,13 @@ ghost use Rattle.crypt_core.specs.Schemes.{IsScheme, method_of};
 ghost use Rattle.crypt_core.specs.MethodLimits.{packed_len};
 ghost use Rattle.crypt_core.specs.Settings.{cost_part, canonical_text, Spells};
 
-use super::{ROUNDS_WORD, Setting, TEXT_CAPACITY};
+use super::{CANONICAL_LIMIT, ROUNDS_WORD, Setting, TEXT_CAPACITY};
 use crate::scheme::Scheme;
 use arrayvec::ArrayVec;
 use prims_core::alphabet::put_group;
 
 impl Setting {
-    /// Returns the setting in canonical form (crypt(5)), of at most [`CANONICAL_LIMIT`](super::CANONICAL_LIMIT) bytes.
+    /// Returns the setting in canonical form (crypt(5)), of at most [`CANONICAL_LIMIT`] bytes.
     ///
     /// [`Setting::read`] parses it as this setting again. It has a `rounds=` field exactly if the setting had one, with
     /// the clamped number. With a `$` and the packed digest it has at most [`HASH_LIMIT`](crate::hash::HASH_LIMIT)
@@ -22,6 +22,7 @@ impl Setting {
         ensures canonical { result.items ≡ canonical_text self.now }
         ensures spelled { Spells (canonical_text self.now) self.now }
         ensures short { array_vec_len result ≤ canonical_limit }
+        ensures limit { CANONICAL_LIMIT ≡ canonical_limit }
         ensures room { array_vec_len result + packed_len (method_of self.now.scheme) < hash_limit }
     {
         let mut text = ArrayVec::try_from(self.scheme.method().row().prefix).unwrap();
@@ -38,7 +39,7 @@ fn append_cost(text: &mut ArrayVec<u8, TEXT_CAPACITY>, scheme: &Scheme)
 {
     match scheme {
         Scheme::Md5crypt => {}
-        Scheme::Sha256crypt(rounds) | Scheme::Sha512crypt(rounds) => {
+        Scheme::Shacrypt(_, rounds) => {
             if rounds.is_written() {
                 text.try_extend_from_slice(ROUNDS_WORD).unwrap();
                 append_decimal(text, rounds.count());

@@ -1,27 +1,26 @@
 -- The results of the steps that decide an answer.
-use Rattle.std.specs.Prelude.{◌≡◌, ◌≢◌, Bool, ℕ, ◌+◌, ◌<◌, ◌⊎◌, true, false, List, [], ◌∷◌, ◌++◌, decimal, flat_map, if◌then◌else◌, Option, Some, None, Result, Ok, Err}
+use Rattle.std.specs.Prelude.{◌≡◌, ◌≢◌, Bool, ℕ, ◌+◌, ◌<◌, true, false, List, [], ◌∷◌, ◌++◌, decimal, flat_map, if◌then◌else◌, Option, Some, None, Result, Ok, Err}
 use Rattle.rand_core.specs.Stream.{Stream}
+use Rattle.prims_core.specs.Work.{no_work}
 use Rattle.prims_core.specs.declared.meter.Work.{Work}
 use Rattle.crypt_core.specs.Crypt.{crypt}
 use Rattle.crypt_core.specs.declared.hash.HashFault.{HashFault}
 use Rattle.crypt_core.specs.StoredFields.{StoredHash}
 use Rattle.crypt_core.specs.declared.stored.StoredField.{StoredField}
 use Rattle.crypt_core.specs.declared.stored.StoredField.TheVariants as fields
-use Rattle.run_core.specs.Answers.{Answer, Hashing, IsRefusedAmong, after_work, counts_text, hashing, is_misfit, is_refusal, new_hash, new_hashing, rendered, stream_left}
+use Rattle.run_core.specs.Answers.{Answer, Hashing, IsRefusedAmong, after_work, hashing, is_misfit, is_refusal, new_hash, new_hashing, stream_left}
 use Rattle.run_core.specs.DeviceCalls.{as_count}
-use Rattle.run_core.specs.LineAnswers.{ComesTo, IsCostly, refusal}
-use Rattle.run_core.specs.Lines.{HasParts, IsLineRefused, IsSound, Parts}
+use Rattle.run_core.specs.LineAnswers.{IsAnswer, answer_of, refusal}
 use Rattle.run_core.specs.Makers.{made_cost_by}
 use Rattle.run_core.specs.JobOptions.{check_cost, is_outdated}
-use Rattle.run_core.specs.declared.answer.LineAnswer.{LineAnswer}
+use Rattle.run_core.specs.declared.answer.Answered.{Answered}
 use Rattle.run_core.specs.declared.answer.Outcome.{Outcome}
-use Rattle.run_core.specs.declared.answer.Outcome.TheVariants.{Hashed, Match, Rehashed, Mismatch, NoHash, Locked, Refused}
+use Rattle.run_core.specs.declared.answer.Outcome.TheVariants.{Hashed, Match, Rehashed, Misfit, NoHash, Locked}
 use Rattle.run_core.specs.declared.job.Job.{Job}
 use Rattle.run_core.specs.declared.line.Kind.{Kind}
 use Rattle.run_core.specs.declared.line.LineFault.{LineFault}
-use Rattle.run_core.specs.declared.line.LineFault.TheVariants.{OverBudget}
 use Rattle.run_core.specs.declared.tally.Tally.{Tally}
-use Rattle.run_core.specs.Texts.{as_line, colon}
+use Rattle.run_core.specs.Texts.{colon}
 
 -- IsRaisedBelow limit before after: each count has risen by less than `limit`.
 pub record IsRaisedBelow (limit : ℕ) (before after : Work) : Type 0 where
@@ -47,7 +46,7 @@ Makes hashings stream before after new_stream (Err fault) = IsRefusedAmong befor
 -- IsChecked job password stored stream hashings outcome: comparing the password with its stored hash has this outcome,
 -- and takes these hashes. If scrypt could not allocate, the outcome is what it would have been.
 abbrev pub IsChecked : Job → List ℕ → StoredHash → Stream → List Hashing → Outcome → Type 0
-IsChecked job password stored stream hashings Mismatch =
+IsChecked job password stored stream hashings Misfit =
     (crypt password stored.setting ≢ stored.text) × (hashings ≡ hashing password stored.setting stream ∷ [])
 IsChecked job password stored stream hashings Match =
     (crypt password stored.setting ≡ stored.text) × (is_outdated job stored.setting ≡ false)
@@ -79,34 +78,21 @@ Settles job password field stream before after new_stream result =
     × IsResult (IsSettled job password field stream hashings) result outcome
     × Makes hashings stream before after new_stream result
 
--- HasOutcome kind job line stream name outcome hashings: the line has this outcome, whatever its number is. A refused
--- line may have any name.
-abbrev pub HasOutcome : Kind → Job → List ℕ → Stream → List ℕ → Outcome → List Hashing → Type 0
-HasOutcome kind job line stream name outcome hashings =
-    ((fault : LineFault) × IsLineRefused kind line fault × (outcome ≡ Refused fault) × (hashings ≡ []))
-    ⊎ ((IsCostly kind job line × (outcome ≡ Refused OverBudget) × (hashings ≡ []))
-    ⊎ (IsSound kind line × (¬ IsCostly kind job line) × (parts : Parts) × HasParts kind line parts × (parts.name ≡ name)
-    × ComesTo job parts stream outcome hashings))
+-- Renders job number answer next: `next` is the answer with this number that the value stands for. The counts of the
+-- value are those of its hashes.
+abbrev pub Renders : Job → ℕ → Result Answered LineFault → Answer → Type 0
+Renders job number (Ok answered) next = (next ≡ answer_of job answered.name.now answered.outcome next.hashings)
+    × (after_work no_work next.hashings ≡ answered.work)
+Renders job number (Err fault) next = next ≡ refusal number fault
 
--- Decides kind job line stream before after new_stream result: the step for a line ended with this result. If scrypt
--- could not allocate, the outcome is what it would have been.
-abbrev pub Decides : Kind → Job → List ℕ → Stream → Work → Work → Stream → Result LineAnswer HashFault → Type 0
-Decides kind job line stream before after new_stream (Ok answer) =
-    (hashings : List Hashing) × HasOutcome kind job line stream answer.name.now answer.outcome hashings
-    × (after ≡ after_work before hashings) × (new_stream ≡ stream_left stream hashings)
-Decides kind job line stream before after new_stream (Err fault) =
-    (name : List ℕ) × (outcome : Outcome) × (hashings : List Hashing) × HasOutcome kind job line stream name outcome hashings
-    × IsRefusedAmong before hashings after new_stream
-
--- answer_text wanted number name outcome hashings is the text of the answer with this number and these parts.
-abbrev pub answer_text : Bool → ℕ → List ℕ → Outcome → List Hashing → List ℕ
-answer_text wanted number name (Refused fault) hashings = (refusal number fault).text
-answer_text wanted number name outcome hashings = as_line (name ++ colon ∷ rendered outcome ++ counts_text wanted hashings)
-
--- answer_of job number name outcome hashings is the answer with this number and these parts.
-abbrev pub answer_of : Job → ℕ → List ℕ → Outcome → List Hashing → Answer
-answer_of job number name outcome hashings =
-    record { text = answer_text job.work number name outcome hashings; outcome = outcome; hashings = hashings }
+-- Decides kind job line stream before after new_stream result: the step for a line ended with this result, whatever the
+-- line's number is. If scrypt could not allocate, `next` is the answer that the line would have got.
+abbrev pub Decides : Kind → Job → List ℕ → Stream → Work → Work → Stream → Result (Result Answered LineFault) HashFault → Type 0
+Decides kind job line stream before after new_stream (Ok answer) = (number : ℕ) → (next : Answer)
+    × IsAnswer kind job number line stream next × Renders job number answer next
+    × (after ≡ after_work before next.hashings) × (new_stream ≡ stream_left stream next.hashings)
+Decides kind job line stream before after new_stream (Err fault) = (number : ℕ) → (next : Answer)
+    × IsAnswer kind job number line stream next × IsRefusedAmong before next.hashings after new_stream
 
 -- ---- texts
 
@@ -130,9 +116,14 @@ wanted_text wanted work = if wanted then work_text work else []
 -- ---- the tally
 
 -- counted tally outcome is the tally after one more line with this outcome.
-abbrev pub counted : Tally → Outcome → Tally
+abbrev pub counted : Tally → Result Outcome LineFault → Tally
 counted tally outcome = record {
   lines = tally.lines + 1;
   refused = tally.refused + as_count (is_refusal outcome);
   misfits = tally.misfits + as_count (is_misfit outcome);
 }
+
+-- outcome_of answer is the outcome of a value, or the reason for its refusal.
+abbrev pub outcome_of : Result Answered LineFault → Result Outcome LineFault
+outcome_of (Ok answered) = Ok answered.outcome
+outcome_of (Err fault) = Err fault

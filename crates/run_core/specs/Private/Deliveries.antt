@@ -24,9 +24,8 @@ module _ {T : Type 0} where
   --   Turns  a proper prefix of it was taken, and all `turns` calls were made
   abbrev pub Delivers : ℕ → Device T → Device T → List ℕ → {A : Type 0} → Result A RunFault → Type 0
   Delivers turns old new text (Ok answer) = Takes 0 0 old new text
-  Delivers turns old new text (Err Write) = TakesFront 1 old new [] text
-  Delivers turns old new text (Err Turns) = TakesFront 0 old new [] text × (new.calls ≡ old.calls + turns)
-  Delivers turns old new text (Err fault) = ⊥
+  Delivers turns old new text (Err fault) = ((fault ≡ Write) × TakesFront 1 old new [] text)
+      ⊎ ((fault ≡ Turns) × TakesFront 0 old new [] text × (new.calls ≡ old.calls + turns))
 
   -- IsKept old new: a flush changes neither the contents nor the counts, except those of flushes and failures.
   pub record IsKept (old new : Device T) : Type 0 where
@@ -51,19 +50,14 @@ module _ {O E : Type 0} where
   -- FinishesBoth out faults new_out new_faults result: both outputs were flushed, up to the first flush that failed.
   abbrev pub FinishesBoth : Device O → Device E → Device O → Device E → {A : Type 0} → Result A RunFault → Type 0
   FinishesBoth out faults new_out new_faults (Ok done) = IsFinished out new_out × IsFinished faults new_faults
-  FinishesBoth out faults new_out new_faults (Err Write) =
-      (IsUnfinished out new_out × (new_faults ≡ faults)) ⊎ (IsFinished out new_out × IsUnfinished faults new_faults)
-  FinishesBoth out faults new_out new_faults (Err fault) = ⊥
+  FinishesBoth out faults new_out new_faults (Err fault) = (fault ≡ Write)
+      × ((IsUnfinished out new_out × (new_faults ≡ faults)) ⊎ (IsFinished out new_out × IsUnfinished faults new_faults))
 
-  -- IsSentInPart left done next out faults new_out new_faults fault: the outputs have taken the answers `done` and a
-  -- proper prefix of `next`. A call failed, or no I/O call was left.
-  abbrev pub IsSentInPart : ℕ → List Answer → Answer → Device O → Device E → Device O → Device E → RunFault → Type 0
-  IsSentInPart left done next out faults new_out new_faults Write = TakeInPart 1 done next out faults new_out new_faults
-  IsSentInPart left done next out faults new_out new_faults Turns = (left ≡ 0) × TakeInPart 0 done next out faults new_out new_faults
-  IsSentInPart left done next out faults new_out new_faults fault = ⊥
-
-  -- Sends left answer out faults new_out new_faults result: the answer was written, in full or in part.
+  -- Sends left answer out faults new_out new_faults result: the answer was written, in full or in part. In part, a call
+  -- failed, or no I/O call was left.
   abbrev pub Sends : ℕ → Answer → Device O → Device E → Device O → Device E → {A : Type 0} → Result A RunFault → Type 0
   Sends left answer out faults new_out new_faults (Ok done) =
       Takes 0 0 out new_out (texts (answer ∷ [])) × Takes 0 0 faults new_faults (fault_texts (answer ∷ []))
-  Sends left answer out faults new_out new_faults (Err fault) = IsSentInPart left [] answer out faults new_out new_faults fault
+  Sends left answer out faults new_out new_faults (Err fault) =
+      ((fault ≡ Write) × TakeInPart 1 [] answer out faults new_out new_faults)
+      ⊎ ((fault ≡ Turns) × (left ≡ 0) × TakeInPart 0 [] answer out faults new_out new_faults)

@@ -1,7 +1,8 @@
 -- One `fetch`, the first line in a buffer that is filled with `fetch`, and the password in that line.
-use Rattle.std.specs.Prelude.{◌≡◌, ◌≢◌, ℕ, ◌+◌, ◌≤◌, List, [], length, take, Result, Ok, Err}
+use Rattle.std.specs.Prelude.{◌≡◌, ◌≢◌, ℕ, ◌+◌, ◌≤◌, ◌⊎◌, List, [], length, take, Result, Ok, Err}
 use Rattle.std.specs.Io.KnownBytes.{IsAtEnd}
 use Rattle.crypt_core.specs.Passwords.{IsPassword, IsPasswordRefused, password_limit}
+use Rattle.crypt_core.specs.declared.password.PasswordFault.{PasswordFault}
 use Rattle.run_core.specs.Devices.{Device, MovesBytes}
 use Rattle.run_core.specs.Input.{first_line, IsDecided, Reads}
 use Rattle.run_core.specs.Private.Deliveries.{FailsOnce, IsUnfailed}
@@ -21,47 +22,45 @@ buffer_size = password_limit + 1
 abbrev pub IsUndecided : List ℕ → Type 0
 IsUndecided bytes = HasNoLineFeed bytes × (length bytes ≤ password_limit)
 
--- IsStopped old new bytes left fault: a read failed, or no I/O call was left, before the password was known. Each read
--- that succeeded had returned a byte.
-abbrev pub IsStopped : {I : Type 0} → Device I → Device I → List ℕ → ℕ → RunFault → Type 0
-IsStopped old new bytes left Read = FailsOnce old new × IsUndecided bytes × MovesBytes 0 old new
-IsStopped old new bytes left Turns = IsUnfailed old new × IsUndecided bytes × (left ≡ 0) × MovesBytes 0 old new
-IsStopped old new bytes left fault = ⊥
+-- IsPasswordFault fault bytes: the bytes are refused as a password, and this error tells by which rule.
+abbrev pub IsPasswordFault : RunFault → List ℕ → Type 0
+IsPasswordFault fault bytes = (rule : PasswordFault) × (fault ≡ Password rule) × IsPasswordRefused bytes rule
 
 module _ {I : Type 0} where
+  -- StopsFetching left old new fault: a read failed, or no I/O call was left. Each read that succeeded had returned a
+  -- byte.
+  abbrev pub StopsFetching : ℕ → Device I → Device I → RunFault → Type 0
+  StopsFetching left old new fault = MovesBytes 0 old new
+      × (((fault ≡ Read) × FailsOnce old new) ⊎ ((fault ≡ Turns) × IsUnfailed old new × (left ≡ 0)))
+
   -- Fetches left old new buffer result: one `fetch` ended with this result.
   --   Ok     the first bytes of the buffer were read; if they are none, the input is at its end
-  --   Read   the read failed
-  --   Turns  no I/O call was left
+  --   Err    nothing was read
   abbrev pub Fetches : ℕ → Device I → Device I → List ℕ → Result ℕ RunFault → Type 0
   Fetches left old new buffer (Ok count) =
       (count ≤ length buffer) × IsUnfailed old new × Reads old new (take count buffer)
       × (count ≡ 0 → IsAtEnd new.shown) × (count ≢ 0 → MovesBytes 0 old new) × MovesBytes 1 old new
-  Fetches left old new buffer (Err Read) = FailsOnce old new × Reads old new [] × MovesBytes 0 old new
-  Fetches left old new buffer (Err Turns) = IsUnfailed old new × Reads old new [] × (left ≡ 0) × MovesBytes 0 old new
-  Fetches left old new buffer (Err fault) = ⊥
+  Fetches left old new buffer (Err fault) = Reads old new [] × StopsFetching left old new fault
 
   -- FindsLine old new bytes left buffer result: these bytes were read, and their first line is at the front of the
   -- buffer; or reading stopped before that line was known.
   abbrev pub FindsLine : Device I → Device I → List ℕ → ℕ → List ℕ → Result ℕ RunFault → Type 0
   FindsLine old new bytes left buffer (Ok count) =
       IsUnfailed old new × IsDecided new bytes × (count ≤ length buffer) × (take count buffer ≡ first_line bytes)
-  FindsLine old new bytes left buffer (Err fault) = IsStopped old new bytes left fault
+  FindsLine old new bytes left buffer (Err fault) = IsUndecided bytes × StopsFetching left old new fault
 
   -- Obtains old new bytes left result: these bytes were read, and their first line is the password, or is refused as
   -- one; or reading stopped before that line was known.
   abbrev pub Obtains : Device I → Device I → List ℕ → ℕ → Result (List ℕ) RunFault → Type 0
   Obtains old new bytes left (Ok password) =
       IsUnfailed old new × IsDecided new bytes × (password ≡ first_line bytes) × IsPassword password
-  Obtains old new bytes left (Err (Password fault)) =
-      IsUnfailed old new × IsDecided new bytes × IsPasswordRefused (first_line bytes) fault
-  Obtains old new bytes left (Err fault) = IsStopped old new bytes left fault
+  Obtains old new bytes left (Err fault) = (IsUndecided bytes × StopsFetching left old new fault)
+      ⊎ (IsUnfailed old new × IsDecided new bytes × IsPasswordFault fault (first_line bytes))
 
 -- TakesAsPassword bytes result: the bytes are a password, or are refused as one.
 abbrev pub TakesAsPassword : List ℕ → Result (List ℕ) RunFault → Type 0
 TakesAsPassword bytes (Ok password) = (password ≡ bytes) × IsPassword bytes
-TakesAsPassword bytes (Err (Password fault)) = IsPasswordRefused bytes fault
-TakesAsPassword bytes (Err fault) = ⊥
+TakesAsPassword bytes (Err fault) = IsPasswordFault fault bytes
 
 -- ObtainsFrom from old new left result: the password from this source was obtained or refused.
 --   Word   the password is the argument, and the input is unchanged

@@ -6,16 +6,9 @@ use Rattle.crypt_core.specs.TextLimits.{hash_limit}
 use Rattle.crypt_core.specs.Work.{work_limit}
 use Rattle.run_core.specs.Devices.{Device, turns_limit}
 use Rattle.run_core.specs.Lines.{name_limit}
+use Rattle.run_core.specs.LineRuns.{piece_size}
+use Rattle.run_core.specs.Runs.{RunState}
 use Rattle.run_core.specs.declared.tally.Tally.{Tally}
-
--- calls_limit is the most calls that both outputs count at the end of a run: those before it, and the I/O calls of the
--- run.
-abbrev pub calls_limit : ℕ
-calls_limit = 2 ^ 63 + turns_limit
-
--- lines_limit is more than the number of lines that a run can read.
-abbrev pub lines_limit : ℕ
-lines_limit = 2 ^ 50
 
 -- line_work_limit is above each count of the work for a line, which takes at most two hashes.
 abbrev pub line_work_limit : ℕ
@@ -37,23 +30,25 @@ count_limit = 21
 abbrev pub answer_limit : ℕ
 answer_limit = verdict_front_limit + 1 + hash_limit + 4 * count_limit + 1
 
--- HasRoomFor lines device: the counts of the device are within their limits after the answers to this number of lines.
-pub record HasRoomFor {T : Type 0} (lines : ℕ) (device : Device T) : Type 0 where
+-- HasRoomFor size left device: with this number of I/O calls left, and at most `size` bytes in each of them and in one
+-- more, the counts of the device do not overflow.
+pub record HasRoomFor {T : Type 0} (size left : ℕ) (device : Device T) : Type 0 where
   pub failures : device.failures ≤ 2 ^ 62
-  pub calls : device.calls ≤ calls_limit
-  pub bytes : device.bytes ≤ 2 ^ 62 + answer_limit * lines
-  pub flushes : device.flushes ≤ 2 ^ 62
+  pub calls : device.calls + left ≤ 2 ^ 63
+  pub bytes : device.bytes + size * (left + 1) ≤ 2 ^ 63
 
 -- HasCountsForLine counts: the hashes for one more line do not overflow the counts.
 abbrev pub HasCountsForLine : Work → Type 0
 HasCountsForLine counts = IsAtMost counts (2 ^ 110)
 
--- HasCountsFor lines counts: after the answers to this number of lines, the lines that a run can still read do not
--- overflow the counts.
-abbrev pub HasCountsFor : ℕ → Work → Type 0
-HasCountsFor lines counts = IsAtMost counts (2 ^ 100 + line_work_limit * lines)
-
--- IsTallied tally: no count of the tally exceeds the number of its lines.
-pub record IsTallied (tally : Tally) : Type 0 where
+-- HasRoomForLines left tally now: with this number of I/O calls left, nothing overflows in the rest of a run over lines.
+-- Each line takes at least one I/O call.
+pub record HasRoomForLines {I O E : Type 0} (left : ℕ) (tally : Tally) (now : RunState I O E) : Type 0 where
+  pub turns : tally.lines + left ≤ turns_limit
   pub refused : tally.refused ≤ tally.lines
   pub misfits : tally.misfits ≤ tally.lines
+  pub input : HasRoomFor piece_size left now.input
+  pub out : HasRoomFor answer_limit left now.out
+  pub faults : HasRoomFor answer_limit left now.faults
+  pub flushes : (now.out.flushes ≤ 2 ^ 62) × (now.faults.flushes ≤ 2 ^ 62)
+  pub counts : IsAtMost now.counts (2 ^ 100 + line_work_limit * tally.lines)

@@ -7,10 +7,17 @@ use Rattle.run_core.specs.Lines.{HasParts, IsCut, IsSound, Parts, line_limit, na
 use Rattle.run_core.specs.Texts.{colon}
 use Rattle.run_core.specs.declared.line.Kind.{Kind}
 use Rattle.run_core.specs.declared.line.Kind.TheVariants.{Batch, Check}
+use Rattle.run_core.specs.declared.reader.buffer.LineBuffer.{LineBuffer}
+use Rattle.run_core.specs.declared.reader.buffer.LineBuffer.TheVariants.{Bytes, TooLong}
 
 -- IsTooLong line: the line has more bytes than a line may have.
 abbrev pub IsTooLong : List ℕ → Type 0
 IsTooLong line = line_limit < length line
+
+-- Represents buffer line: the buffer holds this part of a line. It has the same bytes, or both are too long.
+abbrev pub Represents : LineBuffer → List ℕ → Type 0
+Represents (Bytes bytes) line = bytes.items ≡ line
+Represents TooLong line = IsTooLong line
 
 -- HasSoundParts kind line parts: the line breaks no rule, and these are its parts.
 pub record HasSoundParts (kind : Kind) (line : List ℕ) (parts : Parts) : Type 0 where

@@ -37,12 +37,12 @@ pub(crate) fn read_password<I: Read>(
     ensures moves { MovesBytes 1 input.old input.new }
 {
     let mut buffer = [0; BUFFER_SIZE];
-    let end = read_line(input, &mut buffer, left)?;
+    let end = read_first_line(input, &mut buffer, left)?;
     Ok(Password::new(&buffer[..end])?)
 }
 
 // Reads until the first line is complete, and returns the number of its bytes.
-fn read_line<I: Read>(
+fn read_first_line<I: Read>(
     input: &mut Input<I>,
     buffer: &mut [u8],
     left: &mut u64,

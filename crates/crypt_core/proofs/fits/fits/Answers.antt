@@ -1,13 +1,10 @@
-use Rattle.std.specs.Prelude.{Ok, Err}
-use Rattle.crypt_core.specs.Readings.{IsReadOneWay}
 use Rattle.crypt_core.proofs.Readings.{setting_unique}
+use Rattle.crypt_core.proofs.Refusals.{spelled_not_refused}
 use Rattle.crypt_core.proofs.fits.fits.Goals as goal
 
 pub returns-in_err-read-clause-below : goal.returns-in_err-read-clause-below
-unfolding IsReadOneWay
 returns-in_err-read-clause-below c = λ kept spelled.
-    let both = c.read.ensures.one_reading (Ok kept) (Err c.in_err-read.field-0.0) spelled c.in_err-read.ensures.refused in
-    absurd cc
+    absurd (spelled_not_refused c.args.stored.now kept spelled _ c.in_err-read.ensures.refused)
 
 pub returns-in_err-fits-clause-below : goal.returns-in_err-fits-clause-below
 returns-in_err-fits-clause-below c = λ kept spelled.

@@ -4,7 +4,7 @@ use Rattle.crypt_core.specs.MethodLimits.{packed_len}
 use Rattle.crypt_core.specs.Packing.{packed, packed_group}
 use Rattle.crypt_core.specs.Private.Tables.{AreGroups, groups_in, group_number}
 use Rattle.crypt_core.proofs.PackingLemmas.{all_groups, group_at, group_size, groups_fit, length-packed, packed-drop, packed_len-small, packed_by}
-use Rattle.crypt_core.proofs.Numerals.{length-numerals}
+use Rattle.prims_core.proofs.NumeralFacts.{length-numerals}
 use Rattle.crypt_core.proofs.pack.pack.Goals as goal
 
 pub number_of-requires : goal.number_of-requires

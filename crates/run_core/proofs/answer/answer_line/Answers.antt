@@ -1,19 +1,35 @@
-use Rattle.std.proofs.Common.{[], length, true≢false, inl, inr, sym, refl, subst, ◌∙◌}
+use Rattle.std.proofs.Common.{◌≡◌, List, length, arith, true≢false, inl, inr, sym, refl, ap, ◌∙◌}
 use Rattle.std.proofs.lemmas.Result.{err_from_is_err_and}
+use Rattle.prims_core.specs.Work.{no_work}
+use Rattle.prims_core.specs.declared.meter.Work.{Work}
+use Rattle.crypt_core.specs.Work.{raised_by}
+use Rattle.run_core.specs.Answers.{Hashing, after_work}
 use Rattle.run_core.specs.JobOptions.{IsAbove}
-use Rattle.run_core.specs.Private.Answers.{HasOutcome, field_cost}
+use Rattle.run_core.specs.LineAnswers.{answer_of, refusal}
+use Rattle.run_core.specs.Private.Answers.{field_cost}
+use Rattle.run_core.specs.Private.Headroom.{line_work_limit}
 use Rattle.run_core.specs.declared.answer.Outcome.{Outcome}
+use Rattle.run_core.specs.declared.line.LineFault.TheVariants.{OverBudget}
+use Rattle.run_core.proofs.Counting.{after_hashings, small_rise}
 use Rattle.run_core.proofs.Deciding.{costly, decided}
 use Rattle.run_core.proofs.answer.answer_line.Goals as goal
 
 pub returns-in-Err-clause-decides : goal.returns-in-Err-clause-decides
-returns-in-Err-clause-decides g c = ([], inl (c.in-Err.fault, c.in-Err.ensures.refused, c.refused.ensures.outcome, refl), refl, refl)
+returns-in-Err-clause-decides g c number =
+    let answer = refusal number c.in-Err.fault in
+    (answer, inl (c.in-Err.fault, c.in-Err.ensures.refused, refl), refl, refl, refl)
 
 pub returns-then-is_over_budget-clause-decides : goal.returns-then-is_over_budget-clause-decides
-returns-then-is_over_budget-clause-decides g c =
+returns-then-is_over_budget-clause-decides g c number =
     let above = c.is_over_budget.ensures.0 c.if-is_over_budget.true in
     let is_costly = costly c.args.kind c.args.job.now c.args.bytes.now _ _ _ c.in-Ok.ensures.read above in
-    ([], inr (inl (is_costly, c.refused-then-is_over_budget.ensures.outcome, refl)), refl, refl)
+    (refusal number OverBudget, inr (inl (is_costly, refl)), refl, refl, refl)
+
+pub work_since-requires : goal.work_since-requires
+work_since-requires g c = record {
+  earlier = rw c.reading-before.ensures c.outcome_of.ensures.rises;
+  small = rw c.reading-before.ensures (small_rise line_work_limit c.args.meter.now c.outcome_of.new.meter (omega arith) c.outcome_of.ensures.small);
+}
 
 pub returns-in_err-outcome-clause-decides : goal.returns-in_err-outcome-clause-decides
 returns-in_err-outcome-clause-decides g c =
@@ -22,23 +38,31 @@ returns-in_err-outcome-clause-decides g c =
     let settles = c.in_err-outcome.ensures.settles in
     let within : ¬ IsAbove c.args.job.now.budget (field_cost c.args.job.now c.in-Ok.line.field (length c.in-Ok.line.password)) =
     λ above. true≢false (sym (c.is_over_budget.ensures.1 above) ∙ c.if-is_over_budget.false) in
-    rw p.1 (
-      c.in-Ok.line.name.now,
-      settles.0,
-      settles.1,
-      decided c.args.kind c.args.job.now c.args.bytes.now stream _ _ _ settles.1 settles.0 c.in-Ok.ensures.read within settles.2,
+    rw p.1 (λ number. (
+      answer_of c.args.job.now c.in-Ok.line.name.now settles.0 settles.1,
+      decided c.args.kind c.args.job.now number c.args.bytes.now stream _ _ _ settles.1 settles.0 c.in-Ok.ensures.read within settles.2,
       settles.3,
-    )
+    ))
+
+-- the work that is told is that of the hashes
+told_work : (before after reading told : Work) (hashings : List Hashing) → after ≡ after_work before hashings → reading ≡ before
+    → ((more : Work) → after ≡ raised_by reading more → told ≡ more) → after_work no_work hashings ≡ told
+told_work before after reading told hashings made read raised =
+    sym (raised (after_work no_work hashings) (made ∙ (after_hashings before hashings ∙ ap (λ (w : Work). raised_by w (after_work no_work hashings)) (sym read))))
 
 pub returns-clause-decides : goal.returns-clause-decides
-returns-clause-decides g c =
+returns-clause-decides g c number =
+    let job = c.args.job.now in
     let stream = g.R.Rng.stream c.args.rng.now in
     let settles = c.in_ok-outcome.ensures.settles in
-    let within : ¬ IsAbove c.args.job.now.budget (field_cost c.args.job.now c.in-Ok.line.field (length c.in-Ok.line.password)) =
-    λ above. true≢false (sym (c.is_over_budget.ensures.1 above) ∙ c.if-is_over_budget.false) in
-    let decides = decided c.args.kind c.args.job.now c.args.bytes.now stream _ _ _ settles.1 settles.0 c.in-Ok.ensures.read within settles.2.0 in (
-      settles.1,
-      subst (λ (o : Outcome). HasOutcome c.args.kind c.args.job.now c.args.bytes.now stream c.in-Ok.line.name.now o settles.1) (sym settles.2.1) decides,
+    let within : ¬ IsAbove job.budget (field_cost job c.in-Ok.line.field (length c.in-Ok.line.password)) =
+    λ above. true≢false (sym (c.is_over_budget.ensures.1 above) ∙ c.if-is_over_budget.false) in (
+      answer_of job c.in-Ok.line.name.now settles.0 settles.1,
+      decided c.args.kind job number c.args.bytes.now stream _ _ _ settles.1 settles.0 c.in-Ok.ensures.read within settles.2.0,
+      (
+        ap (λ (o : Outcome). answer_of job c.in-Ok.line.name.now o settles.1) (sym settles.2.1),
+        told_work c.args.meter.now c.outcome_of.new.meter c.reading-before.result c.work_since.result settles.1 settles.3.0 c.reading-before.ensures c.work_since.ensures.raised,
+      ),
       settles.3.0,
       settles.3.1,
     )

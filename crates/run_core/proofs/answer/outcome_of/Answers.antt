@@ -11,7 +11,7 @@ use Rattle.crypt_core.specs.declared.stored.StoredField.TheVariants.{Hash}
 use Rattle.run_core.specs.Answers.{hashing, new_hash, new_hashing}
 use Rattle.run_core.specs.JobOptions.{is_outdated}
 use Rattle.run_core.specs.Makers.{next_setting}
-use Rattle.run_core.specs.declared.answer.Outcome.TheVariants.{Hashed, Match, Mismatch, Rehashed}
+use Rattle.run_core.specs.declared.answer.Outcome.TheVariants.{Hashed, Match, Misfit, Rehashed}
 use Rattle.run_core.proofs.Deciding.{would_check}
 use Rattle.run_core.proofs.answer.outcome_of.Goals as goal
 
@@ -68,7 +68,7 @@ returns-then-not-branch-clause-settles g c =
     let stream = g.R.Rng.stream c.args.rng.now in
     let verdict = c.in_ok-fits.ensures.verdict in
     rw field_is (
-      Mismatch,
+      Misfit,
       hashing password stored.setting stream ∷ [],
       (((λ same. true≢false (sym (verdict.1 same) ∙ c.if-not-branch.true)), refl), refl),
       (c.in_ok-fits.ensures.count, refl),

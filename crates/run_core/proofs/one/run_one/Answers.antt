@@ -27,9 +27,6 @@ the_line job password stream hash before after reading told is counted read rais
     ap (λ (h : List ℕ). as_line (h ++ wanted_text job.work told)) is
     ∙ ap (λ (w : Work). as_line (new_hash job password stream ++ wanted_text job.work w)) (raised more risen)
 
-pub send-requires-clause-turns : goal.send-requires-clause-turns
-send-requires-clause-turns g c = omega (arith, c.obtain.ensures.fewer, c.requires.turns)
-
 pub returns-in_err-password-clause-ends : goal.returns-in_err-password-clause-ends
 returns-in_err-password-clause-ends g c =
     let p = err_from_is_err_and c.from_residual.result c.from_residual.ensures.1 in

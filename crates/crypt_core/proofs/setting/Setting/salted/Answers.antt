@@ -14,6 +14,6 @@ invariant_of-result c =
     let len : length c.salt_of-salt.result.items ≡ made_salt_length c.method.result = c.salt_of-salt.ensures.length ∙ c.made_salt_length.ensures.length in
     let few : length c.unwrap.result.items ≤ salt_limit c.method.result = omega (arith, ap length is, len, made_short c.method.result) in
     let short : length c.unwrap.result.items ≤ salt_limit (method_of c.args.scheme) =
-    subst (λ (m : Method). length c.unwrap.result.items ≤ salt_limit m) c.method.ensures few in
+    subst (λ (m : Method). length c.unwrap.result.items ≤ salt_limit m) c.method.ensures.method few in
     let characters : All (Contains alphabet) c.unwrap.result.items = rw is c.salt_of-salt.ensures.characters in
-    spelled c.args.scheme c.unwrap.result.items c.is_in_range.ensures.in_range short characters
+    spelled c.args.scheme c.unwrap.result.items c.method.ensures.in_range short characters

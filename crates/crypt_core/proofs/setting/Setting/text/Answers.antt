@@ -1,31 +1,29 @@
 use Rattle.crypt_core.specs.TextLimits.{hash_limit}
 use Rattle.std.proofs.Common.{◌≡◌, ◌+◌, ◌<◌, List, ℕ, ◌++◌, length, ap, subst, ◌∙◌, length-append, arith}
-use Rattle.crypt_core.specs.declared.method.Method.{Method}
-use Rattle.crypt_core.specs.MethodLimits.{packed_len, prefix}
+use Rattle.crypt_core.specs.MethodLimits.{packed_len}
 use Rattle.crypt_core.specs.Settings.{SettingValue, Spells, canonical_text, cost_part}
 use Rattle.crypt_core.specs.Schemes.{method_of}
-use Rattle.crypt_core.proofs.Canonical.{setting_bounded, canonical_short, canonical_spells, packed_short}
+use Rattle.crypt_core.proofs.Canonical.{canonical_spells, setting_short}
+use Rattle.crypt_core.proofs.EachMethod.{length-prefix}
 use Rattle.crypt_core.proofs.setting.Setting.text.Goals as goal
 
 -- how long the text is with each part
-lengths : (front cost salt begun costed salted whole : List ℕ) → length begun ≡ length front → costed ≡ begun ++ cost → salted ≡ salt → whole ≡ costed ++ salted → length whole ≡ length front + length cost + length salt
-lengths front cost salt begun costed salted whole begins with_cost is_salt with_salt =
+lengths : (cost salt begun costed salted whole : List ℕ) → length begun ≡ 3 → costed ≡ begun ++ cost → salted ≡ salt → whole ≡ costed ++ salted → length whole ≡ 3 + (length cost + length salt)
+lengths cost salt begun costed salted whole begins with_cost is_salt with_salt =
     omega (arith, begins, ap length with_cost, ap length is_salt, ap length with_salt, length-append begun cost, length-append costed salted)
 
 pub append_cost-requires : goal.append_cost-requires
 append_cost-requires c =
-    let bounded = setting_bounded (record { scheme = c.self.inside.scheme; salt = c.self.inside.salt.items }) c.self.invariant in
-    let front : length c.unwrap-text.result.items ≡ length (prefix (method_of c.self.inside.scheme)) =
-    ap length ((rw c.unwrap-text.ensures at c.try_from.ensures).0 ∙ c.row.ensures.prefix) ∙ ap (λ (m : Method). length (prefix m)) c.method.ensures in
-    record { room = omega (arith, canonical_short c.self.inside.scheme c.self.inside.salt.items bounded.0 bounded.1, front) }
+    let short = setting_short (record { scheme = c.self.inside.scheme; salt = c.self.inside.salt.items }) c.self.invariant in
+    let front = ap length ((rw c.unwrap-text.ensures at c.try_from.ensures).0 ∙ c.row.ensures.prefix) ∙ length-prefix c.method.result in
+    record { room = omega (arith, short.0, front) }
 
 pub unwrap-requires : goal.unwrap-requires
 unwrap-requires c =
-    let bounded = setting_bounded (record { scheme = c.self.inside.scheme; salt = c.self.inside.salt.items }) c.self.invariant in
-    let front : length c.unwrap-text.result.items ≡ length (prefix (method_of c.self.inside.scheme)) =
-    ap length ((rw c.unwrap-text.ensures at c.try_from.ensures).0 ∙ c.row.ensures.prefix) ∙ ap (λ (m : Method). length (prefix m)) c.method.ensures in
+    let short = setting_short (record { scheme = c.self.inside.scheme; salt = c.self.inside.salt.items }) c.self.invariant in
+    let front = ap length ((rw c.unwrap-text.ensures at c.try_from.ensures).0 ∙ c.row.ensures.prefix) ∙ length-prefix c.method.result in
     c.try_extend_from_slice.ensures.variant.1
-    (omega (arith, canonical_short c.self.inside.scheme c.self.inside.salt.items bounded.0 bounded.1, front, ap length c.append_cost.ensures, length-append c.unwrap-text.result.items (cost_part c.self.inside.scheme), ap length c.as_slice.ensures.value))
+    (omega (arith, short.0, front, ap length c.append_cost.ensures, length-append c.unwrap-text.result.items (cost_part c.self.inside.scheme), ap length c.as_slice.ensures.value))
 
 pub returns-clause-spelled : goal.returns-clause-spelled
 returns-clause-spelled c =
@@ -33,21 +31,17 @@ returns-clause-spelled c =
 
 pub returns-clause-short : goal.returns-clause-short
 returns-clause-short c =
-    let scheme = c.self.inside.scheme in
     let salt = c.self.inside.salt.items in
-    let bounded = setting_bounded (record { scheme = scheme; salt = salt }) c.self.invariant in
-    let front : length c.unwrap-text.result.items ≡ length (prefix (method_of c.self.inside.scheme)) =
-    ap length ((rw c.unwrap-text.ensures at c.try_from.ensures).0 ∙ c.row.ensures.prefix) ∙ ap (λ (m : Method). length (prefix m)) c.method.ensures in
-    let whole = lengths (prefix (method_of scheme)) (cost_part scheme) salt c.unwrap-text.result.items c.append_cost.new.text.items c.as_slice.result.now c.try_extend_from_slice.new.self.items front c.append_cost.ensures c.as_slice.ensures.value (rw c.unwrap.ensures at c.try_extend_from_slice.ensures.ok) in
-    omega (arith, canonical_short scheme salt bounded.0 bounded.1, whole)
+    let short = setting_short (record { scheme = c.self.inside.scheme; salt = salt }) c.self.invariant in
+    let front = ap length ((rw c.unwrap-text.ensures at c.try_from.ensures).0 ∙ c.row.ensures.prefix) ∙ length-prefix c.method.result in
+    let whole = lengths (cost_part c.self.inside.scheme) salt c.unwrap-text.result.items c.append_cost.new.text.items c.as_slice.result.now c.try_extend_from_slice.new.self.items front c.append_cost.ensures c.as_slice.ensures.value (rw c.unwrap.ensures at c.try_extend_from_slice.ensures.ok) in
+    omega (arith, short.0, whole)
 
 pub returns-clause-room : goal.returns-clause-room
 returns-clause-room c =
-    let scheme = c.self.inside.scheme in
     let salt = c.self.inside.salt.items in
-    let bounded = setting_bounded (record { scheme = scheme; salt = salt }) c.self.invariant in
-    let front : length c.unwrap-text.result.items ≡ length (prefix (method_of c.self.inside.scheme)) =
-    ap length ((rw c.unwrap-text.ensures at c.try_from.ensures).0 ∙ c.row.ensures.prefix) ∙ ap (λ (m : Method). length (prefix m)) c.method.ensures in
-    let whole = lengths (prefix (method_of scheme)) (cost_part scheme) salt c.unwrap-text.result.items c.append_cost.new.text.items c.as_slice.result.now c.try_extend_from_slice.new.self.items front c.append_cost.ensures c.as_slice.ensures.value (rw c.unwrap.ensures at c.try_extend_from_slice.ensures.ok) in
+    let short = setting_short (record { scheme = c.self.inside.scheme; salt = salt }) c.self.invariant in
+    let front = ap length ((rw c.unwrap-text.ensures at c.try_from.ensures).0 ∙ c.row.ensures.prefix) ∙ length-prefix c.method.result in
+    let whole = lengths (cost_part c.self.inside.scheme) salt c.unwrap-text.result.items c.append_cost.new.text.items c.as_slice.result.now c.try_extend_from_slice.new.self.items front c.append_cost.ensures c.as_slice.ensures.value (rw c.unwrap.ensures at c.try_extend_from_slice.ensures.ok) in
     subst (λ (k : SettingValue). length c.try_extend_from_slice.new.self.items + packed_len (method_of k.scheme) < hash_limit) c.self.view_is
-    (omega (arith, packed_short scheme salt bounded.0 bounded.1, whole))
+    (omega (arith, short.1, whole))

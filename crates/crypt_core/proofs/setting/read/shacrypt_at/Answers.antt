@@ -1,0 +1,17 @@
+use Rattle.crypt_core.specs.Settings.{rounds_word}
+use Rattle.crypt_core.specs.declared.scheme.Scheme.TheVariants.{Shacrypt}
+use Rattle.crypt_core.proofs.AfterFront.{begins}
+use Rattle.crypt_core.proofs.First.{refused_rounds, spelled_front}
+use Rattle.crypt_core.proofs.Rounds.{written_rounds}
+use Rattle.crypt_core.proofs.setting.read.shacrypt_at.Goals as goal
+
+pub returns-in_default-number_at-clause-err : goal.returns-in_default-number_at-clause-err
+returns-in_default-number_at-clause-err c = λ text is_text begins_with.
+    refused_rounds text is_text c.args.sha c.args.after.now begins_with
+    (c.in-Some.field.now, begins c.args.after.now rounds_word c.in-Some.field c.in-Some.ensures.cases, c.in_default-number_at.ensures.none)
+
+pub returns-clause-ok : goal.returns-clause-ok
+returns-clause-ok c = λ text begins_with.
+    let found = c.in-Some-number_at.ensures.some in
+    let rounds = written_rounds c.args.after.now c.in-Some.field.now found.0 c.in-Some-number_at.rest.now c.in-Some-number_at.number c.written.result (begins c.args.after.now rounds_word c.in-Some.field c.in-Some.ensures.cases) found.1 found.2 found.3 c.written.ensures.value in
+    spelled_front text (Shacrypt c.args.sha c.written.result) c.args.after.now rounds.0 c.in-Some-number_at.rest.now begins_with rounds.1 rounds.2

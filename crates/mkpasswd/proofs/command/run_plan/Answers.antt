@@ -1,0 +1,15 @@
+use Rattle.std.proofs.Common.{refl}
+use Rattle.std.proofs.lemmas.Result.{err_from_is_err_and}
+use Rattle.mkpasswd.proofs.command.run_plan.Goals as goal
+
+pub returns-in_err-run_batch-in-Batch-Some-clause-runs : goal.returns-in_err-run_batch-in-Batch-Some-clause-runs
+returns-in_err-run_batch-in-Batch-Some-clause-runs g c =
+    let p = err_from_is_err_and c.from_residual-in_err-run_batch-in-Batch-Some.result c.from_residual-in_err-run_batch-in-Batch-Some.ensures.1 in
+    let run = c.in_err-run_batch-in-Batch-Some.ensures in
+    rw (p.1, p.2, c.in-Batch-Some.is-0, c.in-Batch-Some.is-1) (refl, (run.ends, run.within_turns))
+
+pub returns-in_err-run_check-in-Check-Some-clause-runs : goal.returns-in_err-run_check-in-Check-Some-clause-runs
+returns-in_err-run_check-in-Check-Some-clause-runs g c =
+    let p = err_from_is_err_and c.from_residual-in_err-run_check-in-Check-Some.result c.from_residual-in_err-run_check-in-Check-Some.ensures.1 in
+    let run = c.in_err-run_check-in-Check-Some.ensures in
+    rw (p.1, p.2, c.in-Check-Some.is-0, c.in-Check-Some.is-1) (refl, (run.ends, run.within_turns))

@@ -1,0 +1,206 @@
+-- How far a reader of lines has come.
+use Rattle.std.proofs.Common.{◌≡◌, ◌≢◌, ℕ, ◌+◌, ◌-◌, ◌<◌, ◌≤◌, Bool, true, false, eqb, not, Some, None, take, drop, List, [], ◌∷◌, ◌++◌, length, Ok, Err, refl, sym, ap, subst, ◌∙◌, append_assoc, append-nil, arith}
+use Rattle.std.proofs.KnownBytes.{Consumes-nil}
+use Rattle.std.specs.List.{position, slice_range}
+use Rattle.std.proofs.lemmas.List.{drop-drop, drop-take, length-append, length-take}
+use Rattle.run_core.specs.DeviceCalls.{as_count}
+use Rattle.run_core.specs.Devices.{Device, MovesBytes}
+use Rattle.run_core.specs.Input.{Reads}
+use Rattle.run_core.specs.LineRuns.{HasLines, lines_of, piece_size}
+use Rattle.run_core.specs.Private.Deliveries.{IsUnfailed}
+use Rattle.run_core.specs.Private.Headroom.{HasRoomFor}
+use Rattle.run_core.specs.Private.Lines.{Represents}
+use Rattle.run_core.specs.Private.Readers.{FetchesPiece, GivesNext, HasGiven, HasStopped, IsAt, TakesLine}
+use Rattle.run_core.specs.Texts.{HasNoLineFeed, line_feed}
+use Rattle.run_core.specs.declared.fault.RunFault.{RunFault}
+use Rattle.run_core.specs.declared.reader.LineReader.{LineReader}
+use Rattle.run_core.specs.declared.reader.buffer.LineBuffer.{LineBuffer}
+use Rattle.run_core.proofs.LinesOf.{AllByRecursion-push, HasNoLineFeed-append, HasNoLineFeed-nil, HasNoLineFeed-position, cut-at_feed, lines_of-last, lines_of-nil, lines_of-with_line_feeds, with_line_feeds, with_line_feeds-behind_line}
+use Rattle.run_core.proofs.Moving.{moves-none, moves-trans}
+use Rattle.run_core.proofs.Reading.{Reads-trans, stops-later}
+
+-- ---- a piece
+
+-- a range without its first bytes
+range-rest : (xs : List ℕ) (start end k : ℕ) → start + k ≤ end → slice_range xs (start + k) end ≡ drop k (slice_range xs start end)
+range-rest xs start end k within =
+    ap (λ ys. take (end - (start + k)) ys) (sym (drop-drop k start xs))
+    ∙ (sym (drop-take k (end - (start + k)) (drop start xs))
+    ∙ ap (λ n. drop k (take n (drop start xs))) (omega arith))
+
+pub takes-to_feed : (bytes : List ℕ) (start end at : ℕ) (unread : List ℕ) (buffer new_buffer : LineBuffer)
+    → start ≤ end → slice_range bytes start end ≡ unread → position (λ b. eqb b 10) unread ≡ Some at
+    → ((part : List ℕ) → Represents buffer part → Represents new_buffer (part ++ take at unread))
+    → TakesLine unread (slice_range bytes (start + (at + 1)) end) buffer new_buffer true
+takes-to_feed bytes start end at unread buffer new_buffer within is found holds =
+    let cut = cut-at_feed unread at found in
+    let inside = cut.within in
+    let few : start + (at + 1) ≤ end = omega (arith, inside, ap length is, length-take (end - start) (drop start bytes)) in
+    let rest : slice_range bytes (start + (at + 1)) end ≡ drop (at + 1) unread = range-rest bytes start end (at + 1) few ∙ ap (λ ys. drop (at + 1) ys) is in (
+      take at unread,
+      cut.parts ∙ ap (λ others. take at unread ++ line_feed ∷ others) (sym rest),
+      cut.no_feed,
+      holds,
+    )
+
+pub takes-all : (bytes : List ℕ) (end : ℕ) (unread : List ℕ) (buffer new_buffer : LineBuffer) → position (λ b. eqb b 10) unread ≡ None
+    → ((part : List ℕ) → Represents buffer part → Represents new_buffer (part ++ unread))
+    → TakesLine unread (slice_range bytes end end) buffer new_buffer false
+takes-all bytes end unread buffer new_buffer none holds =
+    let zero : end - end ≡ 0 = omega arith in
+    (ap (λ n. take n (drop end bytes)) zero, HasNoLineFeed-position unread none, holds)
+
+-- ---- lines
+
+module _ {I : Type 0} where
+  pub given-none : (input : Device I) (reader : LineReader) → reader.piece ≡ [] → reader.at_end ≡ false → HasGiven input input reader []
+  given-none input reader unread more = record {
+    bytes = [];
+    reads = record { shown = Consumes-nil _; counted = omega arith };
+    unfailed = refl;
+    moves = rw more (moves-none input);
+    at = rw (more, unread) ((refl, tt), omega arith);
+  }
+
+  -- these lines were given, and behind them a part of a line is in the buffer
+  pub record IsSeeking (start now : Device I) (piece : List ℕ) (buffer : LineBuffer) (lines : List (List ℕ)) : Type 0 where
+    pub bytes : List ℕ
+    pub part : List ℕ
+    pub reads : Reads start now bytes
+    pub unfailed : IsUnfailed start now
+    pub moves : MovesBytes 0 start now
+    pub has : HasLines bytes lines (part ++ piece)
+    pub no_feed : HasNoLineFeed part
+    pub held : Represents buffer part
+
+  pub seeking-start : (start now : Device I) (reader : LineReader) (buffer : LineBuffer) (lines : List (List ℕ)) → reader.at_end ≡ false → Represents buffer []
+      → HasGiven start now reader lines → IsSeeking start now reader.piece buffer lines
+  seeking-start start now reader buffer lines more cleared given = record {
+    bytes = given.bytes;
+    part = [];
+    reads = given.reads;
+    unfailed = given.unfailed;
+    moves = subst (λ at_end. MovesBytes (as_count at_end) start now) more given.moves;
+    has = (subst (λ at_end. IsAt now reader.piece at_end lines given.bytes) more given.at).0;
+    no_feed = HasNoLineFeed-nil;
+    held = cleared;
+  }
+
+  -- all was moved into the buffer, and more was read
+  seeking-read : (start now new : Device I) (piece next fetched : List ℕ) (buffer new_buffer : LineBuffer) (lines : List (List ℕ))
+      → IsSeeking start now piece buffer lines → TakesLine piece next buffer new_buffer false → Reads now new fetched
+      → IsUnfailed now new → MovesBytes 0 now new → IsSeeking start new fetched new_buffer lines
+  seeking-read start now new piece next fetched buffer new_buffer lines is moved reads unfailed moves = record {
+    bytes = is.bytes ++ fetched;
+    part = is.part ++ piece;
+    reads = Reads-trans start now new is.bytes fetched is.reads reads;
+    unfailed = unfailed ∙ is.unfailed;
+    moves = moves-trans 0 start now new is.moves moves;
+    has = (ap (λ bytes. bytes ++ fetched) is.has.0 ∙ append_assoc (with_line_feeds lines) (is.part ++ piece) fetched, is.has.1);
+    no_feed = HasNoLineFeed-append is.part piece is.no_feed moved.1;
+    held = moved.2 is.part is.held;
+  }
+
+  pub seeking-more : (start now new : Device I) (piece next fetched : List ℕ) (buffer new_buffer : LineBuffer) (lines : List (List ℕ)) (left : ℕ) (found : Bool) → found ≡ true
+      → TakesLine piece next buffer new_buffer false → Reads now new fetched → FetchesPiece left now new fetched (Ok found)
+      → IsSeeking start now piece buffer lines → IsSeeking start new fetched new_buffer lines
+  seeking-more start now new piece next fetched buffer new_buffer lines left true some moved reads got before =
+      seeking-read start now new piece next fetched buffer new_buffer lines before moved reads got.0 got.1
+  seeking-more start now new piece next fetched buffer new_buffer lines left false some moved reads got before = absurd (cc)
+
+  -- the line is complete
+  pub seeking-found : (start now : Device I) (piece : List ℕ) (buffer : LineBuffer) (next : LineReader) (lines : List (List ℕ)) (left : ℕ)
+      → next.at_end ≡ false → TakesLine piece next.piece buffer next.buffer true → length piece ≤ piece_size
+      → IsSeeking start now piece buffer lines → GivesNext left start now next lines (Ok true)
+  seeking-found start now piece buffer next lines left more moved size is =
+      let front = moved.0 in
+      let line = is.part ++ front in
+      let few : length next.piece < piece_size = omega (arith, size, ap length moved.1, length-append front (line_feed ∷ next.piece)) in
+      let has : HasLines is.bytes (lines ++ line ∷ []) next.piece = (
+        is.has.0
+            ∙ (sym (append_assoc (with_line_feeds lines) is.part piece)
+            ∙ (ap (λ others. (with_line_feeds lines ++ is.part) ++ others) moved.1
+            ∙ with_line_feeds-behind_line (with_line_feeds lines ++ is.part) lines is.part front line next.piece refl refl)),
+        AllByRecursion-push HasNoLineFeed lines line is.has.1 (HasNoLineFeed-append is.part front is.no_feed moved.2),
+      ) in (
+        line,
+        moved.3 is.part is.held,
+        record {
+          bytes = is.bytes;
+          reads = is.reads;
+          unfailed = is.unfailed;
+          moves = rw more is.moves;
+          at = rw more (has, few);
+        },
+      )
+
+  -- the input is at its end
+  pub seeking-end : (start now new : Device I) (piece moved_piece : List ℕ) (buffer : LineBuffer) (next : LineReader) (lines : List (List ℕ)) (left new_left : ℕ) (found is_empty : Bool) → found ≡ false
+      → next.at_end ≡ true → TakesLine piece moved_piece buffer next.buffer false → Reads now new next.piece → FetchesPiece left now new next.piece (Ok found)
+      → ((part : List ℕ) → Represents next.buffer part → (is_empty ≡ true → part ≡ []) × (part ≡ [] → is_empty ≡ true))
+      → IsSeeking start now piece buffer lines → GivesNext new_left start new next lines (Ok (not is_empty))
+  seeking-end start now new piece moved_piece buffer next lines left new_left true is_empty none at_end moved reads got tells before = absurd (cc)
+  seeking-end start now new piece moved_piece buffer next lines left new_left false is_empty none at_end moved reads got tells is =
+      go is_empty (tells line (moved.2 is.part is.held))
+    where
+      line : List ℕ
+      line = is.part ++ piece
+
+      no_feed : HasNoLineFeed line
+      no_feed = HasNoLineFeed-append is.part piece is.no_feed moved.1
+
+      lines_are : lines_of (is.bytes ++ next.piece) ≡ lines ++ lines_of line
+      lines_are = ap lines_of (ap (λ more. is.bytes ++ more) got.2 ∙ append-nil is.bytes ∙ is.has.0) ∙ lines_of-with_line_feeds lines line is.has.1
+
+      given : (given_lines : List (List ℕ)) → given_lines ≡ lines_of (is.bytes ++ next.piece) → HasGiven start new next given_lines
+      given given_lines all = record {
+        bytes = is.bytes ++ next.piece;
+        reads = Reads-trans start now new is.bytes next.piece is.reads reads;
+        unfailed = got.0 ∙ is.unfailed;
+        moves = rw at_end (moves-trans 1 start now new is.moves got.1);
+        at = rw at_end (got.3, all);
+      }
+
+      go : (is_empty : Bool) → (is_empty ≡ true → line ≡ []) × (line ≡ [] → is_empty ≡ true) → GivesNext new_left start new next lines (Ok (not is_empty))
+      go true tells =
+          (at_end, given lines (sym (lines_are ∙ ap (λ part. lines ++ lines_of part) (tells.0 refl) ∙ ap (λ others. lines ++ others) lines_of-nil ∙ append-nil lines)))
+      go false tells =
+          let some : line ≢ [] = λ none. let both = tells.1 none in absurd (cc) in
+          (line, moved.2 is.part is.held, given (lines ++ line ∷ []) (sym (lines_are ∙ ap (λ others. lines ++ others) (lines_of-last line no_feed some))))
+
+  -- a read failed, or no I/O call was left for it
+  pub seeking-failed : (start now new : Device I) (piece next fetched : List ℕ) (buffer new_buffer : LineBuffer) (lines : List (List ℕ)) (left new_left : ℕ) (fault : RunFault)
+      → TakesLine piece next buffer new_buffer false → Reads now new fetched → FetchesPiece left now new fetched (Err fault) → new_left ≡ left - 1
+      → IsSeeking start now piece buffer lines → HasStopped new_left start new lines fault
+  seeking-failed start now new piece next fetched buffer new_buffer lines left new_left fault moved reads got took is = record {
+    bytes = is.bytes ++ fetched;
+    rest = is.part ++ piece;
+    reads = Reads-trans start now new is.bytes fetched is.reads reads;
+    has = (ap (λ more. is.bytes ++ more) got.0 ∙ append-nil is.bytes ∙ is.has.0, is.has.1);
+    no_feed = HasNoLineFeed-append is.part piece is.no_feed moved.1;
+    stops = stops-later start now new left new_left fault is.unfailed is.moves got.1 took;
+  }
+
+  -- ---- the loop
+
+  pub record IsNexting (old_reader : LineReader) (old now : Device I) (reader : LineReader) (old_left left : ℕ) : Type 0 where
+    pub more : reader.at_end ≡ false
+    pub seeking : (start : Device I) (lines : List (List ℕ)) → HasGiven start old old_reader lines → IsSeeking start now reader.piece reader.buffer lines
+    pub room : HasRoomFor piece_size left now
+    pub calls : now.calls + left ≡ old.calls + old_left
+    pub fewer : left ≤ old_left
+
+  unfailed-fetched : (now new : Device I) (fetched : List ℕ) (left : ℕ) (found : Bool) → FetchesPiece left now new fetched (Ok found) → IsUnfailed now new
+  unfailed-fetched now new fetched left true got = got.0
+  unfailed-fetched now new fetched left false got = got.0
+
+  pub room-fetched : (now new : Device I) (fetched : List ℕ) (left new_left : ℕ) (found : Bool) → HasRoomFor piece_size left now → Reads now new fetched
+      → FetchesPiece left now new fetched (Ok found) → length fetched ≤ piece_size → 0 < left → new_left ≡ left - 1 → new.calls + new_left ≡ now.calls + left
+      → HasRoomFor piece_size new_left new
+  room-fetched now new fetched left new_left found room reads got size some took calls =
+      let unfailed = unfailed-fetched now new fetched left found got in
+      let counted = reads.counted in
+      let failures = room.failures in
+      let bytes = room.bytes in
+      let all = room.calls in
+      record { failures = omega (arith, failures, unfailed); calls = omega (arith, all, calls); bytes = omega (arith, bytes, counted, size, some, took) }

@@ -1,0 +1,129 @@
+use Rattle.std.proofs.Common.{◌+◌, arith}
+use Rattle.std.proofs.lemmas.Result.{err_from_is_err_and}
+use Rattle.run_core.specs.Runs.{run_state}
+use Rattle.run_core.proofs.Running.{ends-flushed, ends-reading, ends-unanswered, ends-unflushed, ends-unsent, given-line, renders-outcome, room-less, running-answered, running-start}
+use Rattle.run_core.proofs.lines.answer_lines.Goals as goal
+
+pub lines-init : goal.lines-init
+lines-init g c =
+    let start = run_state c.args.input.now c.args.out.now c.args.faults.now (g.R.Rng.stream c.args.rng.now) c.args.meter.now in
+    running-start c.args.turns c.args.kind c.args.job.now start c.new-reader.result c.new-tally.result
+    c.new-reader.ensures.unread c.new-reader.ensures.no_end c.new-tally.ensures c.requires.turns c.requires.devices c.requires.counts
+
+-- ---- reading failed
+
+pub returns-in_err-next_line-clause-ends : goal.returns-in_err-next_line-clause-ends
+returns-in_err-next_line-clause-ends g c =
+    let is = c.lines.invariant in
+    let p = err_from_is_err_and c.from_residual.result c.from_residual.ensures.1 in
+    rw (p.1, p.2) (ends-reading is c.next_line.new.input c.next_line.new.left c.next_line.ensures.turns c.in_err-next_line.field-0.0
+    (c.in_err-next_line.ensures.gives c.args.input.now is.lines is.given)).0
+
+pub returns-in_err-next_line-clause-within_turns : goal.returns-in_err-next_line-clause-within_turns
+returns-in_err-next_line-clause-within_turns g c =
+    let is = c.lines.invariant in
+    (ends-reading is c.next_line.new.input c.next_line.new.left c.next_line.ensures.turns c.in_err-next_line.field-0.0
+    (c.in_err-next_line.ensures.gives c.args.input.now is.lines is.given)).1
+
+-- ---- a line is answered
+
+pub answer-requires : goal.answer-requires
+answer-requires g c =
+    let room = c.lines.invariant.room in
+    let lines = room.turns in
+    let counts = room.counts in
+    record {
+      digests = (let count = counts.digests in omega (arith, count, lines));
+      bytes = (let count = counts.bytes in omega (arith, count, lines));
+      mixes = (let count = counts.mixes in omega (arith, count, lines));
+      table = (let count = counts.table in omega (arith, count, lines));
+      scratch = (let count = counts.scratch in omega (arith, count, lines));
+    }
+
+pub returns-in_err-answer-clause-ends : goal.returns-in_err-answer-clause-ends
+returns-in_err-answer-clause-ends g c =
+    let is = c.lines.invariant in
+    let p = err_from_is_err_and c.from_residual-in_err-answer.result c.from_residual-in_err-answer.ensures.1 in
+    let line = given-line c.next_line.new.left c.args.input.now c.next_line.new.input c.next_line.new.self is.lines c.in_ok-next_line.field-0 c.if-branch.true (c.in_ok-next_line.ensures.gives c.args.input.now is.lines is.given) in
+    let got = c.in_err-answer.ensures.decides line.0 (rw c.line.ensures line.1) (c.lines.tally.lines + 1) in
+    rw (p.1, p.2) (ends-unanswered is c.next_line.new.input c.next_line.new.left c.next_line.ensures.turns c.next_line.new.self line.0 line.2 got.0 got.1
+    (g.R.Rng.stream c.answer.new.rng) c.answer.new.meter got.2).0
+
+pub returns-in_err-answer-clause-within_turns : goal.returns-in_err-answer-clause-within_turns
+returns-in_err-answer-clause-within_turns g c =
+    let is = c.lines.invariant in
+    let line = given-line c.next_line.new.left c.args.input.now c.next_line.new.input c.next_line.new.self is.lines c.in_ok-next_line.field-0 c.if-branch.true (c.in_ok-next_line.ensures.gives c.args.input.now is.lines is.given) in
+    let got = c.in_err-answer.ensures.decides line.0 (rw c.line.ensures line.1) (c.lines.tally.lines + 1) in
+    (ends-unanswered is c.next_line.new.input c.next_line.new.left c.next_line.ensures.turns c.next_line.new.self line.0 line.2 got.0 got.1
+    (g.R.Rng.stream c.answer.new.rng) c.answer.new.meter got.2).1
+
+pub write_answer-requires-clause-out_room : goal.write_answer-requires-clause-out_room
+write_answer-requires-clause-out_room g c = room-less _ _ _ _ c.next_line.ensures.fewer c.lines.invariant.room.out
+
+pub write_answer-requires-clause-faults_room : goal.write_answer-requires-clause-faults_room
+write_answer-requires-clause-faults_room g c = room-less _ _ _ _ c.next_line.ensures.fewer c.lines.invariant.room.faults
+
+pub returns-in_err-write_answer-clause-ends : goal.returns-in_err-write_answer-clause-ends
+returns-in_err-write_answer-clause-ends g c =
+    let is = c.lines.invariant in
+    let p = err_from_is_err_and c.from_residual-in_err-write_answer.result c.from_residual-in_err-write_answer.ensures.1 in
+    let line = given-line c.next_line.new.left c.args.input.now c.next_line.new.input c.next_line.new.self is.lines c.in_ok-next_line.field-0 c.if-branch.true (c.in_ok-next_line.ensures.gives c.args.input.now is.lines is.given) in
+    let got = c.in_ok-answer.ensures.decides line.0 (rw c.line.ensures line.1) (c.lines.tally.lines + 1) in
+    let wrote = c.in_err-write_answer.ensures in
+    rw (p.1, p.2) (ends-unsent is c.next_line.new.input c.next_line.new.left c.next_line.ensures.turns c.next_line.new.self line.0 line.2 got.0 got.1
+    c.write_answer.new.out c.write_answer.new.faults (g.R.Rng.stream c.answer.new.rng) c.answer.new.meter c.write_answer.new.left (Unit {0})
+    c.in_err-write_answer.field-0.0 got.4 got.3 (wrote.sends got.0 got.2) wrote.out_moves wrote.faults_moves wrote.failures wrote.calls).0
+
+pub returns-in_err-write_answer-clause-within_turns : goal.returns-in_err-write_answer-clause-within_turns
+returns-in_err-write_answer-clause-within_turns g c =
+    let is = c.lines.invariant in
+    let line = given-line c.next_line.new.left c.args.input.now c.next_line.new.input c.next_line.new.self is.lines c.in_ok-next_line.field-0 c.if-branch.true (c.in_ok-next_line.ensures.gives c.args.input.now is.lines is.given) in
+    let got = c.in_ok-answer.ensures.decides line.0 (rw c.line.ensures line.1) (c.lines.tally.lines + 1) in
+    let wrote = c.in_err-write_answer.ensures in
+    (ends-unsent is c.next_line.new.input c.next_line.new.left c.next_line.ensures.turns c.next_line.new.self line.0 line.2 got.0 got.1
+    c.write_answer.new.out c.write_answer.new.faults (g.R.Rng.stream c.answer.new.rng) c.answer.new.meter c.write_answer.new.left (Unit {0})
+    c.in_err-write_answer.field-0.0 got.4 got.3 (wrote.sends got.0 got.2) wrote.out_moves wrote.faults_moves wrote.failures wrote.calls).1
+
+pub lines-preserved : goal.lines-preserved
+lines-preserved g c =
+    let is = c.lines.invariant in
+    let next = c.in_ok-next_line.ensures in
+    let line = given-line c.next_line.new.left c.args.input.now c.next_line.new.input c.next_line.new.self is.lines c.in_ok-next_line.field-0 c.if-branch.true (next.gives c.args.input.now is.lines is.given) in
+    let got = c.in_ok-answer.ensures.decides line.0 (rw c.line.ensures line.1) (c.lines.tally.lines + 1) in
+    let wrote = c.in_ok-write_answer.ensures in
+    let outcome = renders-outcome c.args.job.now (c.lines.tally.lines + 1) c.in_ok-answer.answer got.0 got.2 in
+    running-answered is c.next_line.new.input c.next_line.new.left next.turns c.next_line.new.self line.0 line.2 got.0 got.1
+    c.write_answer.new.out c.write_answer.new.faults (g.R.Rng.stream c.answer.new.rng) c.answer.new.meter c.write_answer.new.left c.count_line.new.tally
+    c.in_ok-write_answer.field-0 got.4 got.3 (wrote.sends got.0 got.2) wrote.out_moves wrote.faults_moves wrote.calls wrote.fewer next.fewer
+    (rw outcome c.count_line.ensures) next.room wrote.out_room wrote.faults_room c.answer.ensures.small
+
+-- ---- all lines were answered
+
+pub returns-in_err-finish_both-clause-ends : goal.returns-in_err-finish_both-clause-ends
+returns-in_err-finish_both-clause-ends g c =
+    let is = c.lines.invariant in
+    let p = err_from_is_err_and c.from_residual-in_err-finish_both.result c.from_residual-in_err-finish_both.ensures.1 in
+    rw (p.1, p.2) (ends-unflushed is c.next_line.new.input c.next_line.new.left c.next_line.ensures.turns c.next_line.new.self
+    c.finish_both.new.out c.finish_both.new.faults (Unit {0}) c.in_err-finish_both.field-0.0 c.in_ok-next_line.field-0 c.if-branch.false
+    (c.in_ok-next_line.ensures.gives c.args.input.now is.lines is.given) c.in_err-finish_both.ensures.finishes).0
+
+pub returns-in_err-finish_both-clause-within_turns : goal.returns-in_err-finish_both-clause-within_turns
+returns-in_err-finish_both-clause-within_turns g c =
+    let is = c.lines.invariant in
+    (ends-unflushed is c.next_line.new.input c.next_line.new.left c.next_line.ensures.turns c.next_line.new.self
+    c.finish_both.new.out c.finish_both.new.faults (Unit {0}) c.in_err-finish_both.field-0.0 c.in_ok-next_line.field-0 c.if-branch.false
+    (c.in_ok-next_line.ensures.gives c.args.input.now is.lines is.given) c.in_err-finish_both.ensures.finishes).1
+
+pub returns-clause-ends : goal.returns-clause-ends
+returns-clause-ends g c =
+    let is = c.lines.invariant in
+    (ends-flushed is c.next_line.new.input c.next_line.new.left c.next_line.ensures.turns c.next_line.new.self
+    c.finish_both.new.out c.finish_both.new.faults c.in_ok-finish_both.field-0 c.in_ok-next_line.field-0 c.if-branch.false
+    (c.in_ok-next_line.ensures.gives c.args.input.now is.lines is.given) c.in_ok-finish_both.ensures.finishes).0
+
+pub returns-clause-within_turns : goal.returns-clause-within_turns
+returns-clause-within_turns g c =
+    let is = c.lines.invariant in
+    (ends-flushed is c.next_line.new.input c.next_line.new.left c.next_line.ensures.turns c.next_line.new.self
+    c.finish_both.new.out c.finish_both.new.faults c.in_ok-finish_both.field-0 c.in_ok-next_line.field-0 c.if-branch.false
+    (c.in_ok-next_line.ensures.gives c.args.input.now is.lines is.given) c.in_ok-finish_both.ensures.finishes).1

@@ -1,0 +1,11 @@
+use Rattle.run_core.specs.Runs.{run_state}
+use Rattle.run_core.proofs.Running.{IsRunning}
+use Rattle.run_core.proofs.lines.answer_lines.Given as goal
+
+abbrev pub invariant-lines : goal.invariant-lines
+invariant-lines g l = IsRunning l.fn.turns l.fn.kind l.fn.job
+    (run_state l.fn.input l.fn.out l.fn.faults (g.R.Rng.stream l.fn.rng) l.fn.meter)
+    (run_state l.input l.out l.faults (g.R.Rng.stream l.rng) l.meter) l.reader l.tally l.left
+
+abbrev pub decreases-lines : goal.decreases-lines
+decreases-lines g l = l.left

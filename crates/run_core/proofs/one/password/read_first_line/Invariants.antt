@@ -1,0 +1,9 @@
+use Rattle.std.proofs.Common.{length, ◌-◌}
+use Rattle.run_core.proofs.Reading.{IsReading}
+use Rattle.run_core.proofs.one.password.read_first_line.Given as goal
+
+abbrev pub invariant-fetches : goal.invariant-fetches
+invariant-fetches g l = IsReading l.fn.input l.input l.buffer l.filled l.fn.left l.left
+
+abbrev pub decreases-fetches : goal.decreases-fetches
+decreases-fetches g l = length l.buffer - l.filled

@@ -1,0 +1,8 @@
+use Rattle.run_core.proofs.LineReading.{IsNexting}
+use Rattle.run_core.proofs.reader.LineReader.next_line.Given as goal
+
+abbrev pub invariant-fetches : goal.invariant-fetches
+invariant-fetches g l = IsNexting l.fn.self l.fn.input l.input l.self l.fn.left l.left
+
+abbrev pub decreases-fetches : goal.decreases-fetches
+decreases-fetches g l = l.left
