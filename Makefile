@@ -129,10 +129,9 @@ build/SPECIFICATION.md: tools/specification tools/specification.md $(SOURCES)
 	@mkdir -p build
 	tools/specification > $@
 
-# With LOG=FILE the table of refusals is first brought up to date, from a log of the gate.
-build/MUTANTS.md: tools/mutants docs/refusals.tsv $(wildcard crates/*/must-fail/*.edit) $(SOURCES) $(if $(LOG),FORCE)
+build/MUTANTS.md: tools/mutants $(wildcard crates/*/must-fail/*.edit) $(SOURCES)
 	@mkdir -p build
-	tools/mutants $(LOG) > $@
+	tools/mutants > $@
 
 # The gate leaves the program that it proved, so there is none to prove again but for other processors.
 gate: build/cpu
