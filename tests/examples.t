@@ -78,7 +78,7 @@ subtest 'commands' => sub {
             is_run(run({ stdin => $_ }, 'sh', '-n'), 0, '', '', "$name: a shell parses: " . s/\n.*//sr);
         }
         my @targets = $text =~ /(?:`|^)make (?:\w+=[^\s`]+ )*([a-z]\w*)/mg;
-        is(join(' ', grep { $makefile !~ /^$_:/m } uniq(@targets)), '', "$name: targets of make");
+        is(join(' ', grep { $makefile !~ /^$_:/m } uniq(@targets)), '', "$name: targets of make") if $name ne 'CHANGELOG.md';    # which tells the past
         ok(index($tests, "'$_'") >= 0, "$name: a test runs the block '$_'") for $text =~ /^<!-- tested: (.*) -->$/mg;
     }
 };
