@@ -246,12 +246,30 @@ cost_again Md5crypt n part field rest salt tail e end s = refl
 cost_again (Shacrypt sha r) n part field rest salt tail e end s = rounds_again sha r.count r.is_written n part field rest salt tail e end s
 cost_again (Scrypt c) n part field rest salt tail e end s = (refl, s.1, s.2, s.3)
 
+-- a scheme in range and a salt in its place: the parts of a canonical text, and a tail behind them
+pub spelled_parts : (kept : SettingValue) (tail : List ℕ) → IsScheme kept.scheme → length kept.salt ≤ salt_limit (method_of kept.scheme)
+    → All IsSettingByte kept.salt → IsField kept.salt tail → SpellsCost kept.scheme (cost_part kept.scheme) (kept.salt ++ tail) → KeepsSalt kept.scheme kept.salt kept.salt
+    → All IsSettingByte tail → canonical_limit + length tail ≤ setting_limit → Spells (canonical_text kept ++ tail) kept
+spelled_parts kept tail c l bytes is_field cost keeps tail_bytes short =
+    let m : Method = method_of kept.scheme in
+    let part : List ℕ = cost_part kept.scheme in
+    record {
+      short = omega (arith, (canonical_short kept.scheme kept.salt c l).0, length-prefix m, length-append (canonical_text kept) tail, length-append (prefix m) (part ++ kept.salt), length-append part kept.salt, short);
+      bytes = All-append IsSettingByte (canonical_text kept) tail
+          (All-append IsSettingByte (prefix m) (part ++ kept.salt) (prefix_bytes m) (All-append IsSettingByte part kept.salt (cost_bytes kept.scheme c) bytes))
+          tail_bytes;
+      field = kept.salt;
+      rest = tail;
+      is_field = is_field;
+      scheme = (part, append_assoc (prefix m) (part ++ kept.salt) tail ∙ ap (λ (x : List ℕ). prefix m ++ x) (append_assoc part kept.salt tail), cost);
+      salt = keeps;
+    }
+
 -- what a text spells, its canonical text spells, whatever stands behind a `$`
 pub canonical_spells_before : (text : List ℕ) (kept : SettingValue) (tail : List ℕ) → Spells text kept → IsEndOfField tail → All IsSettingByte tail → canonical_limit + length tail ≤ setting_limit
     → Spells (canonical_text kept ++ tail) kept
 canonical_spells_before text kept tail s end tail_bytes short =
     let m : Method = method_of kept.scheme in
-    let part : List ℕ = cost_part kept.scheme in
     let front = s.scheme.0 in
     let all : All IsSettingByte (prefix m ++ (front ++ (s.field ++ s.rest))) = subst (All IsSettingByte) s.scheme.1 s.bytes in
     let after : All IsSettingByte (front ++ (s.field ++ s.rest)) = all_right (prefix m) (front ++ (s.field ++ s.rest)) all in
@@ -259,22 +277,8 @@ canonical_spells_before text kept tail s end tail_bytes short =
     let salt_front = salt_is_front kept.scheme s.field kept.salt s.salt in
     let salt : All IsSettingByte kept.salt = subst (All IsSettingByte) (sym salt_front) (All-take IsSettingByte (salt_limit m) s.field field) in
     let bounded = setting_bounded kept (text, s) in
-    record {
-      short = omega (arith, (canonical_short kept.scheme kept.salt bounded.0 bounded.1).0, length-prefix m, length-append (canonical_text kept) tail, length-append (prefix m) (part ++ kept.salt), length-append part kept.salt, short);
-      bytes = All-append IsSettingByte (canonical_text kept) tail
-          (All-append IsSettingByte (prefix m) (part ++ kept.salt) (all_left (prefix m) (front ++ (s.field ++ s.rest)) all)
-          (All-append IsSettingByte part kept.salt (cost_bytes kept.scheme bounded.0) salt))
-          tail_bytes;
-      field = kept.salt;
-      rest = tail;
-      is_field = salt_is_field kept.scheme s.field s.rest kept.salt tail s.is_field s.salt end;
-      scheme = (
-        part,
-        append_assoc (prefix m) (part ++ kept.salt) tail ∙ ap (λ (x : List ℕ). prefix m ++ x) (append_assoc part kept.salt tail),
-        cost_again kept.scheme (salt_limit m) front s.field s.rest kept.salt tail salt_front end s.scheme.2,
-      );
-      salt = salt_again kept.scheme s.field kept.salt s.salt;
-    }
+    spelled_parts kept tail bounded.0 bounded.1 salt (salt_is_field kept.scheme s.field s.rest kept.salt tail s.is_field s.salt end)
+    (cost_again kept.scheme (salt_limit m) front s.field s.rest kept.salt tail salt_front end s.scheme.2) (salt_again kept.scheme s.field kept.salt s.salt) tail_bytes short
 
 pub canonical_spells : (text : List ℕ) (kept : SettingValue) → Spells text kept → Spells (canonical_text kept) kept
 canonical_spells text kept s =

@@ -1,11 +1,11 @@
 -- What a method, a cost and a salt make is a setting.
-use Rattle.std.proofs.Common.{◌≡◌, ◌≢◌, ℕ, ◌+◌, ◌≤◌, ◌<◌, ◌^◌, ◌*◌, true, false, inl, inr, ◌⊎◌, List, [], ◌++◌, length, get_or, All, length-append, append-nil, refl, sym, ap, subst, ◌∙◌, arith}
+use Rattle.std.proofs.Common.{◌≡◌, ◌≢◌, ℕ, ◌+◌, ◌≤◌, ◌<◌, ◌^◌, ◌*◌, true, false, inl, inr, ◌⊎◌, List, [], ◌++◌, length, get_or, All, append-nil, refl, sym, ap, subst, ◌∙◌, arith}
 use Rattle.std.specs.Prelude.{◌↔◌, Contains, Result, Ok, Err, OnOk, IfErr, IsOk, Option, Some}
 use Rattle.std.proofs.Math.Nat.{le-mul_of_pos_right, lt_of_not-le, mul-le-mul_right, one-le-mul}
 use Rattle.std.proofs.Math.Pow.{pow_mono}
 use Rattle.kdf_core.specs.Params.{ScryptCost, row_count, IsAccepted}
 use Rattle.std.proofs.lemmas.List.{take_all}
-use Rattle.std.proofs.lemmas.List.Elements.{All-append, All-weaker, All-get_or}
+use Rattle.std.proofs.lemmas.List.Elements.{All-nil, All-weaker, All-get_or}
 use Rattle.prims_core.specs.Alphabet.{alphabet}
 use Rattle.crypt_core.specs.declared.method.Method.{Method}
 use Rattle.crypt_core.specs.declared.method.Method.TheVariants as methods
@@ -13,13 +13,12 @@ use Rattle.crypt_core.specs.declared.scheme.Scheme.{Scheme}
 use Rattle.crypt_core.specs.declared.scheme.Scheme.TheVariants.{Md5crypt, Shacrypt, Scrypt}
 use Rattle.crypt_core.specs.declared.setting.fault.MakeFault.{MakeFault}
 use Rattle.crypt_core.specs.declared.setting.fault.MakeFault.TheVariants.{SaltLength, SaltCharacter, Cost}
-use Rattle.crypt_core.specs.MethodLimits.{prefix, salt_limit}
+use Rattle.crypt_core.specs.MethodLimits.{salt_limit}
 use Rattle.crypt_core.specs.MadeSettings.{made_scheme, TakesCost, BreaksMake, IsMakeRefused, make_faults}
 use Rattle.crypt_core.specs.Private.Parts.{HasNumerals, TakesSalt}
 use Rattle.crypt_core.specs.Schemes.{IsScheme, method_of}
 use Rattle.crypt_core.specs.Settings.{SettingValue, IsSettingByte, dollar, BeginsWith, rounds_word, SpellsCost, KeepsSalt, cost_part, canonical_text}
-use Rattle.crypt_core.proofs.Canonical.{canonical_short, character_is_byte, cost_bytes, IsSetting, not_dollar, not_equals, prefix_bytes, rounds_spelled}
-use Rattle.crypt_core.proofs.EachMethod.{length-prefix}
+use Rattle.crypt_core.proofs.Canonical.{character_is_byte, IsSetting, not_dollar, not_equals, rounds_spelled, spelled_parts}
 use Rattle.crypt_core.proofs.Fields.{ended_by}
 use Rattle.crypt_core.proofs.Rules.{first_breaks, first_unique}
 
@@ -58,21 +57,10 @@ salt_kept scheme salt c short all = sym (take_all (salt_limit (method_of scheme)
 pub spelled : (scheme : Scheme) (salt : List ℕ) → IsScheme scheme → length salt ≤ salt_limit (method_of scheme) → All (Contains alphabet) salt → IsSetting (record { scheme = scheme; salt = salt })
 spelled scheme salt c short all =
     let kept : SettingValue = record { scheme = scheme; salt = salt } in (
-      canonical_text kept,
-      record {
-        short = omega (arith, (canonical_short scheme salt c short).0, length-prefix (method_of scheme), length-append (prefix (method_of scheme)) (cost_part scheme ++ salt), length-append (cost_part scheme) salt);
-        bytes = All-append IsSettingByte (prefix (method_of scheme)) (cost_part scheme ++ salt) (prefix_bytes (method_of scheme))
-            (All-append IsSettingByte (cost_part scheme) salt (cost_bytes scheme c) (All-weaker (Contains alphabet) IsSettingByte character_is_byte salt all));
-        field = salt;
-        rest = [];
-        is_field = (All-weaker (Contains alphabet) (λ b. b ≢ dollar) not_dollar salt all, ended_by [] tt);
-        scheme = (
-          cost_part scheme,
-          ap (λ (x : List ℕ). prefix (method_of scheme) ++ (cost_part scheme ++ x)) (sym (append-nil salt)),
-          cost_spelled scheme salt c all,
-        );
-        salt = salt_kept scheme salt c short all;
-      },
+      canonical_text kept ++ [],
+      spelled_parts kept [] c short (All-weaker (Contains alphabet) IsSettingByte character_is_byte salt all)
+          (All-weaker (Contains alphabet) (λ b. b ≢ dollar) not_dollar salt all, ended_by [] tt) (cost_spelled scheme salt c all) (salt_kept scheme salt c short all)
+          (All-nil IsSettingByte) (omega arith),
     )
 
 -- what is kept of a salt that the scheme's method takes
