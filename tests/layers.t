@@ -69,8 +69,8 @@ my %allocates = (
     'crates/run_core/src/lines.rt' => 'LineRun::new LineRun::new LineRun answer',
     'crates/run_core/src/lines/buffer.rt' => 'answer_line',
     'crates/run_core/src/answer.rt' => 'outcome_of fits make_hash make_hash hash',
-    'crates/crypt_c/src/lib.rt' => 'verify put_hash put_new_hash',
-    'crates/crypt_c/src/calls.rt' => 'counted_hash counted_hash put_hash put_admitted hash',
+    'crates/crypt_c/src/lib.rt' => 'verify log_in put_hash put_new_hash',
+    'crates/crypt_c/src/calls.rt' => 'compare decline decline compare counted_hash counted_hash hash_of new_hash_of hash_within hash_within counted_hash hash',
     'crates/crypt_core/src/fits.rt' => 'fits',
     'crates/crypt_core/src/stored.rt' => 'hash',
     'crates/crypt_core/src/hash.rt' => 'digest_of scrypt_digest scrypt',
@@ -85,7 +85,7 @@ my %allocates = (
 my $password = 'crates/crypt_core/src/password.rt';
 my $exports = 'crates/crypt_c/src/lib.rt';
 my $meter = "$prims/meter.rt";
-my $hashing_call = qr/^\{\s*\*report = \w+\([^;{}]*&mut \KMeter::new\(\)(?=,?\s*\);\s*report\.answer\(\)\s*\}$)/m;
+my $hashing_call = qr/^\{\s*tell\(\s*report,\s*\w+\([^;{}()]*&mut \KMeter::new\(\)(?=,?\s*\),?\s*\)\s*\}$)/m;
 my %makes_meter = ('crates/program/src/main.rt' => qr/\bMeter::new\(\)/, $exports => $hashing_call);
 
 # Reading.
