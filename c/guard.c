@@ -168,6 +168,7 @@ static char *guarded(const char *phrase, const char *setting, struct crypt_data 
         return refused(EINVAL);
     if (strlen(phrase) >= CRYPT_MAX_PASSPHRASE_SIZE)
         return refused(ERANGE);
+    /* Without a line in the log: fields of locked accounts would hide the lines that matter. */
     if (!(scheme = scheme_of(setting)))
         return refused(EINVAL);
     cost = cost_of(scheme, setting, strlen(phrase));
@@ -176,6 +177,7 @@ static char *guarded(const char *phrase, const char *setting, struct crypt_data 
         return log_refusal(scheme, setting, limit), refused(EINVAL);
     if (cost == NOT_READ || (scheme->rule != HASHED && scheme->rule != SCRYPT))
         return next_crypt_rn ? next_crypt_rn(phrase, setting, data, sizeof *data) : refused(EINVAL);
+    /* Not into the output, where the setting may be. */
     if (!mkpasswd_hash_str(phrase, setting, limit, hash, sizeof hash, &report))
         return refused(report.reason == MKPASSWD_REFUSED_OUT_OF_MEMORY ? ENOMEM : EINVAL);
     memcpy(data->output, hash, report.length + 1);
