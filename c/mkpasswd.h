@@ -1,14 +1,15 @@
 /* mkpasswd hashes and checks passwords with the crypt(5) methods md5crypt ($1$), sha256crypt ($5$), sha512crypt ($6$) and
  * scrypt ($7$). For C99 and C++98, and later ones; link with -lmkpasswd. libmkpasswd(3) is the manual. A login is
  *
- *     if (mkpasswd_verify_str(password, stored, MKPASSWD_BUDGET, NULL))
+ *     if (mkpasswd_login_str(password, stored, MKPASSWD_SHA512CRYPT, 656000, MKPASSWD_BUDGET, NULL))
  *         let_in();
  *
  * Each call returns 1 for yes or success: the password matches, the stored hash is outdated, the cost is reported, or `out`
  * has what was asked for. A 0 covers everything else: a wrong password, a locked account, an empty or malformed field,
  * another scheme, a hash that costs too much, no memory. The report says which (`reason`). Every call that has a report
  * writes all of it, whatever it held before. If several refusals apply, the first one in this order is reported: password,
- * setting, method, cost, budget, room in `out`, random words, memory. Test the result, and not the reason alone: it is never
+ * setting, method, cost, budget, room in `out`, random words, memory; by mkpasswd_login() password, method, cost, field,
+ * budget, memory. Test the result, and not the reason alone: it is never
  * 0, so `if (report.reason)` lets everybody in.
  *
  * After a 0, mkpasswd_new(), mkpasswd_hash() and mkpasswd_setting() leave the string "*0" in `out` ("*1" if the given
@@ -94,8 +95,8 @@ extern "C" {
 
 /* Reasons. The call returned 1 exactly if the reason is above 0; a reason is never 0. Each comment begins with the message
  * of mkpasswd_words(), up to its colon. */
-#define MKPASSWD_FITS 1                          /* fits: the password matches the stored hash; mkpasswd_verify() alone */
-#define MKPASSWD_OUTDATED 2                      /* outdated: mkpasswd_needs_rehash() alone */
+#define MKPASSWD_FITS 1                          /* fits: the password matches; mkpasswd_verify() and mkpasswd_login() */
+#define MKPASSWD_OUTDATED 2                      /* outdated: mkpasswd_needs_rehash(), and mkpasswd_login() for a match */
 #define MKPASSWD_DONE 3                          /* done: all others */
 #define MKPASSWD_REFUSED_PASSWORD_TOO_LONG (-1)  /* password too long: more than MKPASSWD_PASSWORD_LIMIT bytes */
 #define MKPASSWD_REFUSED_PASSWORD_ZERO_BYTE (-2) /* password has a zero byte */
@@ -110,9 +111,9 @@ extern "C" {
 #define MKPASSWD_REFUSED_OUT_OF_MEMORY (-11)     /* out of memory: scrypt alone allocates */
 #define MKPASSWD_REFUSED_TOO_FEW_BYTES (-12)     /* too few bytes: `out` has no room for the result and a byte 0 */
 #define MKPASSWD_REFUSED_UNKNOWN_METHOD (-13)    /* unknown method */
-#define MKPASSWD_REFUSED_COST (-14)              /* cost: scrypt takes 0 and 6 to 11 */
+#define MKPASSWD_REFUSED_COST (-14)              /* cost: scrypt takes 0 and 6 to 11, new SHA-crypt 0 and 1000 to 999999999 */
 #define MKPASSWD_OVER_BUDGET (-16)               /* over budget: the hash can cost more than the budget */
-#define MKPASSWD_DIFFERS (-17)                   /* differs: the password doesn't match; mkpasswd_verify() alone */
+#define MKPASSWD_DIFFERS (-17)                   /* differs: the password doesn't match; mkpasswd_verify() and mkpasswd_login() */
 #define MKPASSWD_CURRENT (-18)                   /* current: not outdated; mkpasswd_needs_rehash() alone */
 #define MKPASSWD_NO_RANDOM_WORDS (-19)           /* no random words: the system gave none; mkpasswd_new() alone */
 
@@ -144,9 +145,28 @@ typedef char mkpasswd_report_has_work_at_16[offsetof(struct mkpasswd_report, wor
 MKPASSWD_EXPORT MKPASSWD_CHECKED MKPASSWD_NONNULL int32_t mkpasswd_verify(const uint8_t *password, size_t password_len,
     const uint8_t *stored, size_t stored_len, uint64_t budget, struct mkpasswd_report *report);
 
+/* Checks the password of a login. Returns 1 exactly if mkpasswd_verify() with this budget does. The reason is then
+ * MKPASSWD_FITS, or MKPASSWD_OUTDATED if mkpasswd_needs_rehash() with this method and cost returns 1 too: then store what
+ * mkpasswd_new() makes of the password. `method` and `cost` are those that the service gives mkpasswd_new(). `field` is what
+ * is stored for the name, and empty for an unknown name.
+ *
+ * A name without a usable hash costs what a new hash costs, so that the time does not tell which names exist. If the field is
+ * empty, locked, malformed, of another scheme or above the budget, the call hashes the password with this method and cost and
+ * a fixed salt, drops the hash, and returns 0 with the reason of mkpasswd_verify(); `work` is exactly the work of that hash.
+ * If that hash can cost more than the budget, or scrypt gets no memory for it, it is not made.
+ *
+ * A refused password, method or cost is refused at once, whatever the field is. A wrong password for an outdated hash costs
+ * what that hash costs, so its time tells such a name until its owner has logged in. */
+MKPASSWD_EXPORT MKPASSWD_CHECKED MKPASSWD_NONNULL int32_t mkpasswd_login(const uint8_t *password, size_t password_len,
+    const uint8_t *field, size_t field_len, uint32_t method, uint32_t cost, uint64_t budget, struct mkpasswd_report *report);
+
 /* Hashes a new password, with a salt from getentropy(3), and puts the hash and a byte 0 into `out`; MKPASSWD_TEXT_SIZE
- * bytes are enough. `cost` is as in `mkpasswd -R`: the rounds of SHA-crypt, which are clamped to 1000 to 999999999; 6 to 11
- * for scrypt, for N = 2^(cost+7), r = 32 and p = 1; 0 for the method's own, 5000 or 7. md5crypt ignores it. */
+ * bytes are enough. `cost` is as in `mkpasswd -R`: the rounds of SHA-crypt; 6 to 11 for scrypt, for N = 2^(cost+7), r = 32
+ * and p = 1; 0 for the method's own, 5000 or 7. md5crypt ignores it.
+ *
+ * Rounds other than 0 and 1000 to 999999999 are refused, here and by mkpasswd_login(). The formats clamp them, and so do the
+ * command and all other calls; but a service whose cost is 12, as bcrypt's may be, should hear of it before it stores a hash
+ * that is cheap to guess. */
 MKPASSWD_EXPORT MKPASSWD_CHECKED MKPASSWD_NONNULL MKPASSWD_WRITES(6, 7) int32_t mkpasswd_new(const uint8_t *password,
     size_t password_len, uint32_t method, uint32_t cost, uint64_t budget, uint8_t *out, size_t out_len,
     struct mkpasswd_report *report);
@@ -168,7 +188,7 @@ MKPASSWD_EXPORT MKPASSWD_CHECKED MKPASSWD_NONNULL MKPASSWD_WRITES(6, 7) int32_t 
     struct mkpasswd_report *report);
 
 /* Puts a setting into `out` whose salt is made of three random words of the caller; method and cost are those of
- * mkpasswd_new(). It is for tests and for systems with a random source of their own. */
+ * mkpasswd_new(), but rounds are clamped. It is for tests and for systems with a random source of their own. */
 MKPASSWD_EXPORT MKPASSWD_CHECKED MKPASSWD_NONNULL MKPASSWD_WRITES(6, 7) int32_t mkpasswd_setting(uint32_t method,
     uint32_t cost, uint64_t first, uint64_t second, uint64_t third, uint8_t *out, size_t out_len,
     struct mkpasswd_report *report);
@@ -199,6 +219,15 @@ MKPASSWD_CHECKED static inline bool mkpasswd_verify_str(const char *password, co
 
     return mkpasswd_verify(MKPASSWD_BYTES(password ? password : ""), password ? strlen(password) : 1,
         MKPASSWD_BYTES(stored ? stored : ""), stored ? strlen(stored) : 0, budget, report ? report : &own) == 1;
+}
+
+MKPASSWD_CHECKED static inline bool mkpasswd_login_str(const char *password, const char *field, uint32_t method,
+    uint32_t cost, uint64_t budget, struct mkpasswd_report *report)
+{
+    struct mkpasswd_report own;
+
+    return mkpasswd_login(MKPASSWD_BYTES(password ? password : ""), password ? strlen(password) : 1,
+        MKPASSWD_BYTES(field ? field : ""), field ? strlen(field) : 0, method, cost, budget, report ? report : &own) == 1;
 }
 
 MKPASSWD_CHECKED MKPASSWD_WRITES(5, 6) static inline bool mkpasswd_new_str(const char *password, uint32_t method,

@@ -1,5 +1,5 @@
+pub mod Logins
 pub mod NewHashes
 pub mod Putting
 pub mod ReasonNumbers
-pub mod ReadOnce
 pub mod Verdicts

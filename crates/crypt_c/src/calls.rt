@@ -1,146 +1,301 @@
-//! What the calls do with their arguments, once these are read.
+//! What the calls do: they read their arguments, hash, and return the report.
 //!
 //! A step that can hash takes a new meter, and its report has all that this meter counted. So it hashes nothing that it
 //! does not report: nothing above the budget, without capacity for the hash, or after a refusal. tests/layers.t checks
 //! that it makes no other meter.
-ghost use Rattle.std.specs.Prelude.{◌≡◌, ◌↔◌, ◌<◌, ◌≤◌, ◌<ℤ◌, pos, List, [], Result, length, IfOk, IfErr, IsOkAnd, IsTrue, OnErr, OnOk};
+ghost use Rattle.std.specs.Prelude.{◌≡◌, ◌⊎◌, ◌<◌, ◌≤◌, ◌<ℤ◌, pos, List, [], Result, length, take, IfOk, IfErr, IsTrue, MatchBool, MatchResult, OnErr, OnOk};
 ghost use Rattle.prims_core.specs.Work.{no_work};
 ghost use Rattle.crypt_core.specs.Crypt.{IsAfterRefusedGrowth, crypt};
-ghost use Rattle.crypt_core.specs.Passwords.{password_limit};
-ghost use Rattle.crypt_core.specs.Replacements.{is_replaced_by};
 ghost use Rattle.crypt_core.specs.Settings.{Spells};
 ghost use Rattle.crypt_core.specs.Work.{cost, work};
-ghost use Rattle.crypt_c.specs.Calls.{Hashes, HashesAnew, PutsSetting, PutsHash, Verifies, admission, bounded, rehashed};
-ghost use Rattle.crypt_c.specs.Private.Steps.{IsHashPut};
-ghost use Rattle.crypt_c.specs.Reports.{put, refused, token};
+ghost use Rattle.crypt_core.specs.declared.scheme.Scheme.{Scheme as Made};
+ghost use Rattle.crypt_c.specs.Calls.{Bounds, Compares, Hashes, HashesAnew, IsHashWork, IsOutdated, IsSchemeMade, LogsIn, Opens, PutsSetting, Rehashes, TakesNewCost, Verifies, admission};
+ghost use Rattle.crypt_c.specs.Private.Steps.{IsPut, IsTold, MakesHash, MakesHashAnew, MakesHashOf};
+ghost use Rattle.crypt_c.specs.Reasons.{reason_row};
+ghost use Rattle.crypt_c.specs.Reports.{either, put, refused, token};
 
+use crate::reading::{new_scheme_of, scheme_of};
 use crate::reason::{Reason, Refusal};
 use crate::report::{Report, leave, token};
 use crypt_core::hash::{HashFault, Hashed, hash, hash_len};
-use crypt_core::password::Password;
-use crypt_core::scheme::Scheme;
+use crypt_core::password::{PASSWORD_LIMIT, Password, PasswordFault};
 use crypt_core::setting::Setting;
 use crypt_core::work::{bound, cost};
 use prims_core::meter::{Meter, Work};
 use std::alloc::Global;
 
-/// Compares the password's hash with the stored one, if the budget allows it, and returns the report.
+/// Compares the password's hash with the stored one, if the budget allows it.
 pub(crate) fn verify(
     alloc: Global,
-    given: Result<(Password, Setting), Refusal>,
+    password: &[u8],
     stored: &[u8],
     budget: u64,
     meter: &mut Meter,
+) -> Result<Report, Report>
+    requires new { meter.old ≡ no_work }
+    ensures verifies { Verifies password.now stored.now budget (either result) }
+    ensures lets_in { pos 0 <ℤ (either result).reason → Opens password.now stored.now budget }
+    ensures opens { Opens password.now stored.now budget
+        → (pos 0 <ℤ (either result).reason) ⊎ ((either result).reason ≡ (reason_row (Reason.Refused Refusal.OutOfMemory)).0) }
+    ensures counted { meter.new ≡ (either result).work }
+    ensures reserved { (either result).reserved ≡ 0 }
+{
+    let password = Password::new(password)?;
+    let setting = Setting::read(stored)?;
+    let most = cost_within(&password, &setting, budget)?;
+    Ok(compare(
+        alloc,
+        &password,
+        &setting,
+        most,
+        stored,
+        Reason::Fits,
+        meter,
+    ))
+}
+
+/// Compares the password's hash with the stored one, which may be outdated. If it can't be checked, the password is
+/// hashed as a new one is, so that the call costs the same.
+pub(crate) fn log_in(
+    alloc: Global,
+    password: &[u8],
+    field: &[u8],
+    method: u32,
+    cost: u32,
+    budget: u64,
+    meter: &mut Meter,
+) -> Result<Report, Report>
+    requires new { meter.old ≡ no_work }
+    ensures logs_in { LogsIn password.now field.now method cost budget (either result) }
+    ensures lets_in { pos 0 <ℤ (either result).reason → Opens password.now field.now budget }
+    ensures opens { (scheme : Made) → IsSchemeMade TakesNewCost method cost scheme → Opens password.now field.now budget
+        → (pos 0 <ℤ (either result).reason) ⊎ ((either result).reason ≡ (reason_row (Reason.Refused Refusal.OutOfMemory)).0) }
+    ensures outdated { (either result).reason ≡ (reason_row Reason.Outdated).0 → IsOutdated field.now method cost }
+    ensures replaced { pos 0 <ℤ (either result).reason → IsOutdated field.now method cost
+        → (either result).reason ≡ (reason_row Reason.Outdated).0 }
+    ensures counted { meter.new ≡ (either result).work }
+    ensures reserved { (either result).reserved ≡ 0 }
+{
+    let password = Password::new(password)?;
+    let scheme = new_scheme_of(method, cost)?;
+    let decoy = Setting::salted(scheme, [0; 3]);
+    let setting = match Setting::read(field) {
+        Ok(setting) => setting,
+        Err(fault) => {
+            let refused = Report::from(fault);
+            return Ok(decline(alloc, &password, &decoy, budget, refused, meter));
+        }
+    };
+    match cost_within(&password, &setting, budget) {
+        Ok(most) => {
+            let fits = if setting.scheme().is_replaced_by(&scheme) {
+                Reason::Outdated
+            } else {
+                Reason::Fits
+            };
+            Ok(compare(alloc, &password, &setting, most, field, fits, meter))
+        }
+        Err(refused) => Ok(decline(alloc, &password, &decoy, budget, refused, meter)),
+    }
+}
+
+// Makes and drops a hash with the setting `new`, if the budget allows it, and returns the refusal with its work.
+fn decline(
+    alloc: Global,
+    password: &Password,
+    new: &Setting,
+    budget: u64,
+    refused: Report,
+    meter: &mut Meter,
 ) -> Report
     requires new { meter.old ≡ no_work }
-    ensures verifies { Verifies stored.now budget given result }
-    ensures opens { pos 0 <ℤ result.reason → IsOkAnd given
-        (λ both. (crypt both.0 both.1 ≡ stored.now) × (cost both.1 (length both.0) ≤ budget)) }
+    requires idle { refused.work ≡ no_work }
+    ensures declines { (result ≡ record refused { work = result.work })
+        × IsHashWork password.now new.now budget result.work }
+    ensures counted { meter.new ≡ result.work }
+{
+    if cost_within(password, new, budget).is_err() {
+        return refused;
+    }
+    let (_, work) = counted_hash(alloc, password, new, meter);
+    Report { work, ..refused }
+}
+
+// Compares the password's hash with the stored one, at the cost `most`. The reason is `fits` if they are the same.
+fn compare(
+    alloc: Global,
+    password: &Password,
+    setting: &Setting,
+    most: u64,
+    stored: &[u8],
+    fits: Reason,
+    meter: &mut Meter,
+) -> Report
+    requires new { meter.old ≡ no_work }
+    requires most { most ≡ cost setting.now (length password.now) }
+    requires fits { (fits ≡ Reason.Fits) ⊎ (fits ≡ Reason.Outdated) }
+    ensures compares { Compares password.now setting.now stored.now fits result }
+    ensures same { pos 0 <ℤ result.reason → (crypt password.now setting.now ≡ stored.now) × (result.reason ≡ (reason_row fits).0) }
+    ensures opens { crypt password.now setting.now ≡ stored.now
+        → (pos 0 <ℤ result.reason) ⊎ (result.reason ≡ (reason_row (Reason.Refused Refusal.OutOfMemory)).0) }
     ensures counted { meter.new ≡ result.work }
     ensures reserved { result.reserved ≡ 0 }
 {
-    let (password, setting) = match given {
-        Ok(both) => both,
-        Err(refusal) => return Report::refused(refusal, 0),
-    };
-    let most = match cost_within(&password, &setting, budget) {
-        Ok(most) => most,
-        Err(refused) => return refused,
-    };
-    let (hashed, work) = counted_hash(alloc, &password, &setting, meter);
+    let (hashed, work) = counted_hash(alloc, password, setting, meter);
     let reason = match hashed {
-        Ok(hashed) if hashed.text() == stored => Reason::Fits,
+        Ok(hashed) if hashed.text() == stored => fits,
         Ok(_) => Reason::Refused(Refusal::Differs),
         Err(_) => Reason::Refused(Refusal::OutOfMemory),
     };
     Report::new(reason, 0, most, work)
 }
 
-/// Writes the password's hash to `out`, if the budget and the capacity allow it, and returns the report.
-///
-/// After a refusal it writes `lock`.
+/// Hashes the password with the setting in the text, and writes the hash to `out`, or after a refusal the token.
 pub(crate) fn put_hash(
     alloc: Global,
-    given: Result<(Password, Setting), Refusal>,
+    password: &[u8],
+    text: &[u8],
     budget: u64,
-    lock: &[u8],
     out: &mut [u8],
     meter: &mut Meter,
-) -> Report
+) -> Result<Report, Report>
     requires new { meter.old ≡ no_work }
-    ensures hashes { Hashes budget lock.now out.old given result out.new }
-    ensures locked { ¬ (pos 0 <ℤ result.reason) → out.new ≡ put lock.now out.old }
-    ensures reserved { result.reserved ≡ 0 }
-    ensures within { pos 0 <ℤ result.reason → result.cost ≤ budget }
-    ensures counted { meter.new ≡ result.work }
-    ensures put { pos 0 <ℤ result.reason → IsOkAnd given (λ both. IsHashPut both.0 both.1.scheme result out.new) }
+    ensures hashes { Hashes password.now text.now budget out.old (either result) out.new }
+    ensures locked { ¬ (pos 0 <ℤ (either result).reason) → out.new ≡ put (token text.now) out.old }
+    ensures within { pos 0 <ℤ (either result).reason → (either result).cost ≤ budget }
+    ensures counted { meter.new ≡ (either result).work }
+    ensures reserved { (either result).reserved ≡ 0 }
 {
-    let (password, setting) = match given {
-        Ok(both) => both,
-        Err(refusal) => return leave(Report::refused(refusal, 0), out, lock),
-    };
-    match admit(&password, &setting, budget, out.len()) {
-        Ok(most) => put_admitted(alloc, &password, &setting, most, lock, out, meter),
-        Err(refused) => leave(refused, out, lock),
-    }
+    let hashed = hash_of(alloc, password, text, budget, out.len(), meter);
+    put_hashed(hashed, token(text), out)
 }
 
-/// Writes the password's hash with the setting that three random numbers make, and returns the report.
+/// Hashes the password with a new setting, and writes the hash to `out`, or after a refusal the token.
 ///
-/// It does so if the budget and the capacity allow the hash. After a refusal it writes the token. Missing random
-/// numbers are the last refusal before the hash.
+/// Three random numbers, `words`, make the salt. That they are missing is the last refusal before the hash.
 pub(crate) fn put_new_hash(
     alloc: Global,
-    given: Result<(Password, Scheme), Refusal>,
+    password: &[u8],
+    method: u32,
+    cost: u32,
     words: &[u64],
     budget: u64,
     out: &mut [u8],
     meter: &mut Meter,
-) -> Report
+) -> Result<Report, Report>
     requires new { meter.old ≡ no_work }
-    ensures hashes { HashesAnew words.now budget out.old given result out.new }
-    ensures locked { ¬ (pos 0 <ℤ result.reason) → out.new ≡ put (token []) out.old }
-    ensures reserved { result.reserved ≡ 0 }
-    ensures within { pos 0 <ℤ result.reason → result.cost ≤ budget }
-    ensures counted { meter.new ≡ result.work }
-    ensures put { pos 0 <ℤ result.reason → IsOkAnd given (λ both. IsHashPut both.0 both.1 result out.new) }
+    ensures hashes { HashesAnew password.now method cost budget words.now out.old (either result) out.new }
+    ensures locked { ¬ (pos 0 <ℤ (either result).reason) → out.new ≡ put (token []) out.old }
+    ensures opens { pos 0 <ℤ (either result).reason → Opens password.now (take (either result).length out.new) budget }
+    ensures current { pos 0 <ℤ (either result).reason
+        → Rehashes (take (either result).length out.new) method cost (refused Refusal.Current 0) }
+    ensures counted { meter.new ≡ (either result).work }
+    ensures reserved { (either result).reserved ≡ 0 }
 {
-    let (password, scheme) = match given {
-        Ok(both) => both,
-        Err(refusal) => return leave(Report::refused(refusal, 0), out, token(b"")),
-    };
-    if words.len() == 3 {
-        let setting = Setting::salted(scheme, [words[0], words[1], words[2]]);
-        return put_hash(
-            alloc,
-            Ok((password, setting)),
-            budget,
-            token(b""),
-            out,
-            meter,
-        );
-    }
-    // Neither the cost nor the length of a hash depends on the random numbers.
-    let refused = match admit(
-        &password,
-        &Setting::salted(scheme, [0; 3]),
+    let hashed = new_hash_of(
+        alloc,
+        password,
+        method,
+        cost,
+        words,
         budget,
         out.len(),
-    ) {
-        Ok(most) => Report::refused(Refusal::NoRandomWords, most),
-        Err(refused) => refused,
-    };
-    leave(refused, out, token(b""))
+        meter,
+    );
+    put_hashed(hashed, token(b""), out)
+}
+
+// Writes the hash to `out`, or after a refusal `lock`, and returns the report.
+fn put_hashed(
+    hashed: Result<(Hashed, Report), Report>,
+    lock: &[u8],
+    out: &mut [u8],
+) -> Result<Report, Report>
+    ensures puts { IsPut hashed lock.now out.old (either result) out.new }
+{
+    match hashed {
+        Ok((hashed, report)) => Ok(leave(report, out, hashed.text())),
+        Err(refused) => Err(leave(refused, out, lock)),
+    }
+}
+
+// Hashes the password with the setting in the text, for `room` bytes, and returns the hash and the report.
+fn hash_of(
+    alloc: Global,
+    password: &[u8],
+    text: &[u8],
+    budget: u64,
+    room: usize,
+    meter: &mut Meter,
+) -> Result<(Hashed, Report), Report>
+    requires new { meter.old ≡ no_work }
+    ensures makes { MakesHashOf password.now text.now budget room result }
+    ensures told { IsTold budget room meter.new result }
+{
+    let password = Password::new(password)?;
+    let setting = Setting::read(text)?;
+    hash_within(alloc, &password, &setting, budget, room, meter)
+}
+
+// Hashes the password with a new setting, for `room` bytes, and returns the hash and the report.
+fn new_hash_of(
+    alloc: Global,
+    password: &[u8],
+    method: u32,
+    cost: u32,
+    words: &[u64],
+    budget: u64,
+    room: usize,
+    meter: &mut Meter,
+) -> Result<(Hashed, Report), Report>
+    requires new { meter.old ≡ no_work }
+    ensures makes { MakesHashAnew password.now method cost words.now budget room result }
+    ensures told { IsTold budget room meter.new result }
+    ensures opens { IfOk result (λ made. Opens password.now made.0 budget) }
+    ensures current { IfOk result (λ made. Rehashes made.0 method cost (refused Refusal.Current 0)) }
+{
+    let password = Password::new(password)?;
+    let scheme = new_scheme_of(method, cost)?;
+    if words.len() == 3 {
+        let setting = Setting::salted(scheme, [words[0], words[1], words[2]]);
+        return hash_within(alloc, &password, &setting, budget, room, meter);
+    }
+    // Neither the cost nor the length of a hash depends on the random numbers.
+    let most = admit(&password, &Setting::salted(scheme, [0; 3]), budget, room)?;
+    Err(Report::refused(Refusal::NoRandomWords, most))
+}
+
+// Hashes, if the budget and then `room` bytes allow it, and returns the hash and the report.
+fn hash_within(
+    alloc: Global,
+    password: &Password,
+    setting: &Setting,
+    budget: u64,
+    room: usize,
+    meter: &mut Meter,
+) -> Result<(Hashed, Report), Report>
+    requires new { meter.old ≡ no_work }
+    ensures makes { MakesHash password.now setting.now budget room result }
+    ensures told { IsTold budget room meter.new result }
+    ensures spells { IfOk result (λ made. Spells made.0 setting.now × (crypt password.now setting.now ≡ made.0)
+        × (cost setting.now (length password.now) ≤ budget)) }
+{
+    let most = admit(password, setting, budget, room)?;
+    let (hashed, work) = counted_hash(alloc, password, setting, meter);
+    match hashed {
+        Ok(hashed) => {
+            let report = Report::new(Reason::Done, hashed.text().len() as u32, most, work);
+            Ok((hashed, report))
+        }
+        Err(_) => Err(Report::new(Reason::Refused(Refusal::OutOfMemory), 0, most, work)),
+    }
 }
 
 // Returns the cost, if the budget and then the capacity allow the hash, or else the report of the refusal.
 fn admit(password: &Password, setting: &Setting, budget: u64, room: usize) -> Result<u64, Report>
     ensures { result ≡ admission budget room password.now setting.now }
 {
-    let most = match cost_within(password, setting, budget) {
-        Ok(most) => most,
-        Err(refused) => return Err(refused),
-    };
+    let most = cost_within(password, setting, budget)?;
     if hash_len(setting) >= room {
         return Err(Report::refused(Refusal::TooFewBytes, most));
     }
@@ -158,40 +313,6 @@ fn cost_within(password: &Password, setting: &Setting, budget: u64) -> Result<u6
         return Err(Report::refused(Refusal::OverBudget, most));
     }
     Ok(most)
-}
-
-// Hashes, and writes the hash, for which `out` has the capacity, or `lock` if scrypt could not allocate. Returns the
-// report.
-fn put_admitted(
-    alloc: Global,
-    password: &Password,
-    setting: &Setting,
-    most: u64,
-    lock: &[u8],
-    out: &mut [u8],
-    meter: &mut Meter,
-) -> Report
-    requires new { meter.old ≡ no_work }
-    requires room { length (crypt password.now setting.now) < length out.old }
-    ensures puts { PutsHash password.now setting.now most lock.now out.old result out.new }
-    ensures locked { ¬ (pos 0 <ℤ result.reason) → out.new ≡ put lock.now out.old }
-    ensures reserved { result.reserved ≡ 0 }
-    ensures put { pos 0 <ℤ result.reason → most ≡ cost setting.now (length password.now)
-        → IsHashPut password.now setting.now.scheme result out.new }
-    ensures cost { result.cost ≡ most }
-    ensures counted { meter.new ≡ result.work }
-{
-    let (hashed, work) = counted_hash(alloc, password, setting, meter);
-    match hashed {
-        Ok(hashed) => {
-            let report = Report::new(Reason::Done, hashed.text().len() as u32, most, work);
-            leave(report, out, hashed.text())
-        }
-        Err(_) => {
-            let report = Report::new(Reason::Refused(Refusal::OutOfMemory), 0, most, work);
-            leave(report, out, lock)
-        }
-    }
 }
 
 // Hashes, and returns the hash and its work, which is all that the meter has counted.
@@ -214,56 +335,54 @@ fn counted_hash(
     (hashed, work)
 }
 
-/// Returns the report of the greatest cost and work of a hash.
-pub(crate) fn tell_bound(given: Result<(usize, Setting), Refusal>) -> Report
-    requires { IfOk given (λ both. both.0 ≤ password_limit) }
-    ensures bounded { result ≡ bounded given }
-    ensures reserved { result.reserved ≡ 0 }
+/// Returns the report of the greatest cost and work of a hash with the setting in the text.
+pub(crate) fn tell_bound(password_len: usize, text: &[u8]) -> Result<Report, Report>
+    ensures bounds { Bounds password_len text.now (either result) }
+    ensures reserved { (either result).reserved ≡ 0 }
 {
-    match given {
-        Ok((len, setting)) => Report::new(
-            Reason::Done,
-            0,
-            cost(&setting, len),
-            bound(&setting, len),
-        ),
-        Err(refusal) => Report::refused(refusal, 0),
+    if password_len > PASSWORD_LIMIT {
+        return Err(Report::from(PasswordFault::TooLong));
+    }
+    let setting = Setting::read(text)?;
+    let most = cost(&setting, password_len);
+    Ok(Report::new(Reason::Done, 0, most, bound(&setting, password_len)))
+}
+
+/// Returns the report on whether a hash with the method and the cost would replace the stored one.
+pub(crate) fn tell_rehash(stored: &[u8], method: u32, cost: u32) -> Result<Report, Report>
+    ensures rehashes { Rehashes stored.now method cost (either result) }
+    ensures outdated { pos 0 <ℤ (either result).reason → IsOutdated stored.now method cost }
+    ensures replaced { IsOutdated stored.now method cost → pos 0 <ℤ (either result).reason }
+    ensures reserved { (either result).reserved ≡ 0 }
+{
+    let setting = Setting::read(stored)?;
+    let scheme = scheme_of(method, cost)?;
+    if setting.scheme().is_replaced_by(&scheme) {
+        Ok(Report::without_work(Reason::Outdated, 0))
+    } else {
+        Err(Report::refused(Refusal::Current, 0))
     }
 }
 
-/// Returns the report on whether a hash with the scheme would replace one with the setting.
-pub(crate) fn tell_rehash(given: Result<(Setting, Scheme), Refusal>) -> Report
-    ensures rehashed { result ≡ rehashed given }
-    ensures outdated { pos 0 <ℤ result.reason
-        ↔ IsOkAnd given (λ both. IsTrue (is_replaced_by both.0.scheme both.1)) }
-    ensures reserved { result.reserved ≡ 0 }
+/// Writes the setting that three random numbers make to `out`, or after a refusal the token, and returns the report.
+pub(crate) fn put_setting(
+    method: u32,
+    cost: u32,
+    words: [u64; 3],
+    out: &mut [u8],
+) -> Result<Report, Report>
+    ensures puts { PutsSetting method cost words out.old (either result) out.new }
+    ensures locked { ¬ (pos 0 <ℤ (either result).reason) → out.new ≡ put (token []) out.old }
+    ensures reserved { (either result).reserved ≡ 0 }
 {
-    match given {
-        Ok((setting, scheme)) => if setting.scheme().is_replaced_by(&scheme) {
-            Report::without_work(Reason::Outdated, 0)
-        } else {
-            Report::refused(Refusal::Current, 0)
-        },
-        Err(refusal) => Report::refused(refusal, 0),
-    }
-}
-
-/// Writes the setting that three random numbers make, if the capacity allows it, and returns the report.
-///
-/// After a refusal it writes the token.
-pub(crate) fn put_setting(made: Result<Scheme, Refusal>, words: [u64; 3], out: &mut [u8]) -> Report
-    ensures makes { PutsSetting words out.old made result out.new }
-    ensures locked { ¬ (pos 0 <ℤ result.reason) → out.new ≡ put (token []) out.old }
-    ensures reserved { result.reserved ≡ 0 }
-{
-    let scheme = match made {
+    let scheme = match scheme_of(method, cost) {
         Ok(scheme) => scheme,
-        Err(refusal) => return leave(Report::refused(refusal, 0), out, token(b"")),
+        Err(refusal) => return Err(leave(Report::from(refusal), out, token(b""))),
     };
     let text = Setting::salted(scheme, words).text();
     if text.len() >= out.len() {
-        return leave(Report::refused(Refusal::TooFewBytes, 0), out, token(b""));
+        return Err(leave(Report::refused(Refusal::TooFewBytes, 0), out, token(b"")));
     }
     let report = Report::without_work(Reason::Done, text.len() as u32);
-    leave(report, out, text.as_slice())
+    Ok(leave(report, out, text.as_slice()))
 }

@@ -1,4 +1,4 @@
-//! mkpasswd for C: the calls of `include/mkpasswd.h`, which says how to use each of them.
+//! mkpasswd for C: the calls of `c/mkpasswd.h`, which says how to use each of them.
 //!
 //! A list of bytes is a pointer and a number of bytes. A call that can fail returns 1 if it did what its name says,
 //! else 0. It always writes the whole report, which has the reason. So a caller who compares nothing denies access.
@@ -8,30 +8,30 @@
 //! random numbers, memory. The calls share no state and start no threads, so many threads may call at once.
 #![tactic(auto)]
 
-ghost use Rattle.std.specs.Prelude.{◌≡◌, ◌≢◌, ◌⊎◌, ◌↔◌, ◌<◌, ◌≤◌, pos, ℕ, List, [], ◌∷◌, length, take, codes, Result};
+ghost use Rattle.std.specs.Prelude.{◌≡◌, ◌≢◌, ◌⊎◌, ◌↔◌, ◌<◌, ◌≤◌, pos, ℕ, List, [], ◌∷◌, length, take, codes};
+ghost use Rattle.prims_core.specs.Work.{no_work};
+ghost use Rattle.crypt_core.specs.Passwords.{IsPassword, IsPasswordRefused};
 ghost use Rattle.crypt_core.specs.Settings.{SettingValue, Spells};
+ghost use Rattle.crypt_core.specs.declared.password.PasswordFault.{PasswordFault};
 ghost use Rattle.crypt_core.specs.declared.scheme.Scheme.{Scheme};
-ghost use Rattle.crypt_c.specs.Calls.{Both, Hashes, HashesAnew, IsLengthRead, IsOutdated, IsPasswordRead, IsSchemeMade, IsSettingRead, PutsSetting, Opens, Verifies, bounded, rehashed};
+ghost use Rattle.crypt_c.specs.Calls.{Agrees, Bounds, Hashes, HashesAnew, IsHashWork, IsOutdated, IsSchemeMade, IsUncheckable, LogsIn, Opens, PutsSetting, Rehashes, TakesNewCost, Verifies, decoy};
 ghost use Rattle.crypt_c.specs.Reasons.{reason_row};
 ghost use Rattle.crypt_c.specs.Reports.{Answers, put, refused, token};
 ghost use Rattle.crypt_c.specs.declared.reason.Reason.{Reason as Why};
-ghost use Rattle.crypt_c.specs.declared.reason.Reason.TheVariants.{Refused};
-ghost use Rattle.crypt_c.specs.declared.reason.Refusal.{Refusal};
-ghost use Rattle.crypt_c.specs.declared.reason.Refusal.TheVariants.{Current, OutOfMemory};
+ghost use Rattle.crypt_c.specs.declared.reason.Reason.TheVariants.{Outdated, Refused};
+ghost use Rattle.crypt_c.specs.declared.reason.Refusal.TheVariants.{Current, OutOfMemory, Password};
+ghost use Rattle.crypt_c.specs.declared.report.Report.{Report as Told};
 
 mod calls;
 mod reading;
 mod reason;
 mod report;
 
-use calls::{put_hash, put_new_hash, put_setting, tell_bound, tell_rehash, verify};
+use calls::{log_in, put_hash, put_new_hash, put_setting, tell_bound, tell_rehash, verify};
 use crypt_core::version::VERSION_NUMBER;
 use prims_core::meter::Meter;
-use reading::{
-    length_and_setting, password_and_scheme, password_and_setting, scheme_of, setting_and_scheme,
-};
 use reason::Reason;
-use report::{Report, put, token};
+use report::{Report, put, tell};
 use std::alloc::Global;
 
 /// Returns 1 if the password matches the stored hash and its hash costs at most the budget.
@@ -59,20 +59,64 @@ pub extern "C" fn mkpasswd_verify(
     ensures lets_in { result ≡ pos 1 → Opens password.now stored.now budget }
     ensures opens { Opens password.now stored.now budget
         → (result ≡ pos 1) ⊎ (report.new.reason ≡ (reason_row (Refused OutOfMemory)).0) }
-    ensures read { (given : Result (List ℕ × SettingValue) Refusal)
-        × Both (IsPasswordRead password.now) (IsSettingRead stored.now) given }
-    ensures each { (given : Result (List ℕ × SettingValue) Refusal)
-        → Both (IsPasswordRead password.now) (IsSettingRead stored.now) given
-        → Verifies stored.now budget given report.new }
+    ensures verifies { Verifies password.now stored.now budget report.new }
 {
-    *report = verify(
-        alloc,
-        password_and_setting(password, stored),
-        stored,
-        budget,
-        &mut Meter::new(),
-    );
-    report.answer()
+    tell(
+        report,
+        verify(alloc, password, stored, budget, &mut Meter::new()),
+    )
+}
+
+/// Returns 1 exactly if [`mkpasswd_verify`] does, and the reason tells whether [`mkpasswd_needs_rehash`] would return 1.
+///
+/// If the field has no hash that can be checked within the budget, the call hashes the password with a new setting of the
+/// method and the cost, and returns 0. So it costs what a new hash costs, whether the name is known or not. A name that
+/// is not known has an empty field.
+///
+/// # Errors
+///
+/// - `Password`: the password is invalid. The field makes no difference.
+/// - `UnknownMethod`, `Cost`: no method has the number, or a new hash cannot have the cost.
+/// - `Setting`, `OverBudget`: the field has no valid hash, or one that can cost more than the budget. The work is that of
+///   the new hash, or none if that can cost more than the budget.
+/// - `Differs`: the password does not match.
+/// - `OutOfMemory`: scrypt could not allocate.
+#[unsafe(no_mangle)]
+pub extern "C" fn mkpasswd_login(
+    alloc: Global,
+    password: &[u8],
+    field: &[u8],
+    method: u32,
+    cost: u32,
+    budget: u64,
+    report: &mut Report,
+) -> i32
+    ensures answers { Answers result report.new }
+    ensures lets_in { result ≡ pos 1 → Opens password.now field.now budget }
+    ensures opens { (scheme : Scheme) → IsSchemeMade TakesNewCost method cost scheme → Opens password.now field.now budget
+        → (result ≡ pos 1) ⊎ (report.new.reason ≡ (reason_row (Refused OutOfMemory)).0) }
+    ensures outdated { report.new.reason ≡ (reason_row Outdated).0 ↔ (result ≡ pos 1) × IsOutdated field.now method cost }
+    ensures as_verify { (scheme : Scheme) → IsSchemeMade TakesNewCost method cost scheme
+        → (verified : Told) × Verifies password.now field.now budget verified × Agrees report.new verified }
+    ensures decoy { (scheme : Scheme) → IsSchemeMade TakesNewCost method cost scheme → IsPassword password.now
+        → IsUncheckable password.now field.now budget → IsHashWork password.now (decoy scheme) budget report.new.work }
+    ensures alike { (fault : PasswordFault) → IsPasswordRefused password.now fault → report.new ≡ refused (Password fault) 0 }
+    ensures within { (report.new.work ≡ no_work)
+        ⊎ ((kept : SettingValue) × IsHashWork password.now kept budget report.new.work) }
+    ensures logs_in { LogsIn password.now field.now method cost budget report.new }
+{
+    tell(
+        report,
+        log_in(
+            alloc,
+            password,
+            field,
+            method,
+            cost,
+            budget,
+            &mut Meter::new(),
+        ),
+    )
 }
 
 /// Hashes a password with a new setting of the method and the cost, and writes the hash and a byte 0 to `out`.
@@ -87,7 +131,7 @@ pub extern "C" fn mkpasswd_verify(
 /// # Errors
 ///
 /// - `Password`: the password is invalid.
-/// - `UnknownMethod`, `Cost`: no method has the number, or the method does not accept the cost.
+/// - `UnknownMethod`, `Cost`: no method has the number, or the method does not accept the cost, or would clamp it.
 /// - `OverBudget`: the hash can cost more than the budget.
 /// - `TooFewBytes`: the hash and the byte 0 do not fit into `out`.
 /// - `NoRandomWords`: `words` does not have three numbers.
@@ -104,26 +148,24 @@ pub extern "C" fn mkpasswd_new_from(
     report: &mut Report,
 ) -> i32
     ensures answers { Answers result report.new }
-    ensures read { (given : Result (List ℕ × Scheme) Refusal)
-        × Both (IsPasswordRead password.now) (IsSchemeMade method cost) given }
-    ensures each { (given : Result (List ℕ × Scheme) Refusal)
-        → Both (IsPasswordRead password.now) (IsSchemeMade method cost) given
-        → HashesAnew words.now budget out.old given report.new out.new }
+    ensures hashes { HashesAnew password.now method cost budget words.now out.old report.new out.new }
     ensures locked { result ≡ pos 0 → out.new ≡ put (token []) out.old }
     ensures then_opens { result ≡ pos 1 → Opens password.now (take report.new.length out.new) budget }
-    ensures then_current { result ≡ pos 1 → (given : Result (SettingValue × Scheme) Refusal)
-        × Both (IsSettingRead (take report.new.length out.new)) (IsSchemeMade method cost) given
-        × (rehashed given ≡ refused Current 0) }
+    ensures then_current { result ≡ pos 1 → Rehashes (take report.new.length out.new) method cost (refused Current 0) }
 {
-    *report = put_new_hash(
-        alloc,
-        password_and_scheme(password, method, cost),
-        words,
-        budget,
-        out,
-        &mut Meter::new(),
-    );
-    report.answer()
+    tell(
+        report,
+        put_new_hash(
+            alloc,
+            password,
+            method,
+            cost,
+            words,
+            budget,
+            out,
+            &mut Meter::new(),
+        ),
+    )
 }
 
 /// Returns 1 if a new hash with the method and the cost would replace the stored one.
@@ -144,13 +186,9 @@ pub extern "C" fn mkpasswd_needs_rehash(
 ) -> i32
     ensures answers { Answers result report.new }
     ensures outdated { result ≡ pos 1 ↔ IsOutdated stored.now method cost }
-    ensures read { (given : Result (SettingValue × Scheme) Refusal)
-        × Both (IsSettingRead stored.now) (IsSchemeMade method cost) given }
-    ensures each { (given : Result (SettingValue × Scheme) Refusal)
-        → Both (IsSettingRead stored.now) (IsSchemeMade method cost) given → report.new ≡ rehashed given }
+    ensures rehashes { Rehashes stored.now method cost report.new }
 {
-    *report = tell_rehash(setting_and_scheme(stored, method, cost));
-    report.answer()
+    tell(report, tell_rehash(stored, method, cost))
 }
 
 /// Reports the greatest cost and the greatest work of a hash with this setting, for any password of this length.
@@ -164,13 +202,9 @@ pub extern "C" fn mkpasswd_needs_rehash(
 #[unsafe(no_mangle)]
 pub extern "C" fn mkpasswd_bound(stored: &[u8], password_len: usize, report: &mut Report) -> i32
     ensures answers { Answers result report.new }
-    ensures read { (given : Result (ℕ × SettingValue) Refusal)
-        × Both (IsLengthRead password_len) (IsSettingRead stored.now) given }
-    ensures each { (given : Result (ℕ × SettingValue) Refusal)
-        → Both (IsLengthRead password_len) (IsSettingRead stored.now) given → report.new ≡ bounded given }
+    ensures bounds { Bounds password_len stored.now report.new }
 {
-    *report = tell_bound(length_and_setting(password_len, stored));
-    report.answer()
+    tell(report, tell_bound(password_len, stored))
 }
 
 /// Hashes a password with a setting, and writes the hash and a byte 0 to `out`.
@@ -193,24 +227,15 @@ pub extern "C" fn mkpasswd_hash(
     report: &mut Report,
 ) -> i32
     ensures answers { Answers result report.new }
-    ensures read { (given : Result (List ℕ × SettingValue) Refusal)
-        × Both (IsPasswordRead password.now) (IsSettingRead setting.now) given }
-    ensures each { (given : Result (List ℕ × SettingValue) Refusal)
-        → Both (IsPasswordRead password.now) (IsSettingRead setting.now) given
-        → Hashes budget (token setting.now) out.old given report.new out.new }
+    ensures hashes { Hashes password.now setting.now budget out.old report.new out.new }
     ensures within { result ≡ pos 1 → report.new.cost ≤ budget }
     ensures locked { result ≡ pos 0 → out.new ≡ put (token setting.now) out.old }
     ensures apart { (token setting.now ≢ setting.now) × ((kept : SettingValue) → ¬ Spells (token setting.now) kept) }
 {
-    *report = put_hash(
-        alloc,
-        password_and_setting(password, setting),
-        budget,
-        token(setting),
-        out,
-        &mut Meter::new(),
-    );
-    report.answer()
+    tell(
+        report,
+        put_hash(alloc, password, setting, budget, out, &mut Meter::new()),
+    )
 }
 
 /// Makes a setting with a method, a cost and three random numbers, and writes it and a byte 0 to `out`.
@@ -230,13 +255,13 @@ pub extern "C" fn mkpasswd_setting(
     report: &mut Report,
 ) -> i32
     ensures answers { Answers result report.new }
-    ensures made { (given : Result Scheme Refusal) × IsSchemeMade method cost given }
-    ensures each { (given : Result Scheme Refusal) → IsSchemeMade method cost given
-        → PutsSetting (first ∷ second ∷ third ∷ []) out.old given report.new out.new }
+    ensures puts { PutsSetting method cost (first ∷ second ∷ third ∷ []) out.old report.new out.new }
     ensures locked { result ≡ pos 0 → out.new ≡ put (token []) out.old }
 {
-    *report = put_setting(scheme_of(method, cost), [first, second, third], out);
-    report.answer()
+    tell(
+        report,
+        put_setting(method, cost, [first, second, third], out),
+    )
 }
 
 /// Writes the message for a reason and a byte 0 to `out`, cut to the capacity of `out`.

@@ -130,23 +130,3 @@ impl Reason {
         }
     }
 }
-
-impl From<PasswordFault> for Refusal {
-    ghost use Rattle.crypt_c.specs.declared.reason.Refusal.TheVariants.{Password};
-
-    ghost from_gives = { λ fault refusal. refusal ≡ Password fault };
-
-    fn from(fault: PasswordFault) -> Refusal {
-        Refusal::Password(fault)
-    }
-}
-
-impl From<SettingFault> for Refusal {
-    ghost use Rattle.crypt_c.specs.declared.reason.Refusal.TheVariants.{Setting};
-
-    ghost from_gives = { λ fault refusal. refusal ≡ Setting fault };
-
-    fn from(fault: SettingFault) -> Refusal {
-        Refusal::Setting(fault)
-    }
-}

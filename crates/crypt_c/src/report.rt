@@ -1,9 +1,11 @@
 //! The report of a call, and the string that it leaves in the caller's bytes.
 ghost use Rattle.std.specs.Prelude.{◌≡◌, ◌↔◌, ◌⊎◌, ◌<ℤ◌, pos};
 ghost use Rattle.prims_core.specs.Work.{no_work};
-ghost use Rattle.crypt_c.specs.Reports.{Leaves, put, refused, reported, token};
+ghost use Rattle.crypt_c.specs.Reports.{Leaves, either, put, refused, reported, token};
 
 use crate::reason::{Reason, Refusal};
+use crypt_core::password::PasswordFault;
+use crypt_core::setting::SettingFault;
 use prims_core::meter::Work;
 
 // The work of a call that hashed nothing.
@@ -58,14 +60,46 @@ impl Report {
     {
         Report::new(reason, length, 0, NO_WORK)
     }
+}
 
-    /// Returns the result of the call: 1 if the reason is above 0, else 0.
-    pub(crate) fn answer(&self) -> i32
-        ensures one_or_zero { (result ≡ pos 1) ⊎ (result ≡ pos 0) }
-        ensures positive { result ≡ pos 1 ↔ pos 0 <ℤ self.now.reason }
-    {
-        if self.reason > 0 { 1 } else { 0 }
+impl From<PasswordFault> for Report {
+    ghost use Rattle.crypt_c.specs.declared.reason.Refusal.TheVariants.{Password};
+
+    ghost from_gives = { λ fault report. report ≡ refused (Password fault) 0 };
+
+    fn from(fault: PasswordFault) -> Report {
+        Report::refused(Refusal::Password(fault), 0)
     }
+}
+
+impl From<SettingFault> for Report {
+    ghost use Rattle.crypt_c.specs.declared.reason.Refusal.TheVariants.{Setting};
+
+    ghost from_gives = { λ fault report. report ≡ refused (Setting fault) 0 };
+
+    fn from(fault: SettingFault) -> Report {
+        Report::refused(Refusal::Setting(fault), 0)
+    }
+}
+
+impl From<Refusal> for Report {
+    ghost from_gives = { λ refusal report. report ≡ refused refusal 0 };
+
+    fn from(refusal: Refusal) -> Report {
+        Report::refused(refusal, 0)
+    }
+}
+
+/// Writes the report of a call and returns its result: 1 if the reason is above 0, else 0.
+pub(crate) fn tell(report: &mut Report, told: Result<Report, Report>) -> i32
+    ensures told { report.new ≡ either told }
+    ensures one_or_zero { (result ≡ pos 1) ⊎ (result ≡ pos 0) }
+    ensures positive { result ≡ pos 1 ↔ pos 0 <ℤ (either told).reason }
+{
+    *report = match told {
+        Ok(told) | Err(told) => told,
+    };
+    if report.reason > 0 { 1 } else { 0 }
 }
 
 /// Returns the string that a refusal leaves in place of a hash with the setting (crypt(3)).

@@ -1,5 +1,8 @@
+//! The calls that hash: their results, reports and strings.
 use super::*;
 use prims_core::meter::Work;
+
+mod settings;
 
 // The hash of "password" from openssl-passwd(1), and the work of one hash with its setting, for a password of 8 bytes.
 const STORED: &[u8] = b"$1$xxxxxxxx$UYCIxa628.9qXjpQCjM4a.";
@@ -122,6 +125,129 @@ fn refuses_what_is_stored(rt: HostRuntime) {
             (0, told(reason, 0, 0, NO_WORK)),
             "{stored:?}"
         );
+    }
+}
+
+// The cost of sha512crypt with 5000 rounds, a salt of 16 characters and a password of 8 bytes.
+const SHA_COST: u64 = 452160;
+
+// A stored hash that was cut, with the salt of the hash that is made for a name that is not known.
+const SHA: &[u8] = b"$6$................";
+
+#[test]
+fn logs_in(rt: HostRuntime) {
+    let rows: [(&[u8], &[u8], u32, u32, u64, i32, i32, u64, Work); 17] = [
+        (b"password", STORED, 1, 0, COST, 1, 1, COST, WORK),
+        (b"password", STORED, 6, 0, COST, 1, 2, COST, WORK),
+        (b"Password", STORED, 1, 0, COST, 0, -17, COST, WORK),
+        (b"Password", STORED, 6, 0, COST, 0, -17, COST, WORK),
+        (b"password", b"$1$xxxxxxxx", 6, 0, COST, 0, -17, COST, WORK),
+        (
+            b"",
+            SCRYPT,
+            7,
+            0,
+            SCRYPT_COST,
+            1,
+            2,
+            SCRYPT_COST,
+            SCRYPT_WORK,
+        ),
+        (
+            b"",
+            SCRYPT,
+            1,
+            0,
+            SCRYPT_COST,
+            1,
+            2,
+            SCRYPT_COST,
+            SCRYPT_WORK,
+        ),
+        // A stored hash that can't be checked costs what a new one costs.
+        (b"password", b"", 1, 0, COST, 0, -5, 0, WORK),
+        (b"password", b"*", 1, 9, COST, 0, -4, 0, WORK),
+        (
+            b"password",
+            b"!$1$xxxxxxxx$UYCIxa628.9qXjpQCjM4a.",
+            1,
+            0,
+            COST,
+            0,
+            -4,
+            0,
+            WORK,
+        ),
+        (b"password", b"$y$j9T$x", 1, 0, u64::MAX, 0, -5, 0, WORK),
+        (b"password", b"$7$M0..../....", 1, 0, COST, 0, -9, 0, WORK),
+        (b"password", SHA, 1, 0, SHA_COST - 1, 0, -16, SHA_COST, WORK),
+        // The budget does not allow a new hash either.
+        (
+            b"password",
+            SHA,
+            6,
+            0,
+            SHA_COST - 1,
+            0,
+            -16,
+            SHA_COST,
+            NO_WORK,
+        ),
+        (b"password", STORED, 1, 0, COST - 1, 0, -16, COST, NO_WORK),
+        (b"password", b"", 1, 0, COST - 1, 0, -5, 0, NO_WORK),
+        (b"password", b"", 7, 0, 134245795, 0, -5, 0, NO_WORK),
+    ];
+    for (password, field, method, price, budget, answer, reason, cost, work) in rows {
+        let mut report = OLD;
+        let result = mkpasswd_login(
+            rt.alloc(),
+            password,
+            field,
+            method,
+            price,
+            budget,
+            &mut report,
+        );
+        assert_eq!(rt;
+            (result, report),
+            (answer, told(reason, 0, cost, work)),
+            "{field:?} {method} {budget}"
+        );
+    }
+}
+
+// A refused password precedes a refused method, and that a refused cost, whatever the field is.
+#[test]
+fn refuses_logins(rt: HostRuntime) {
+    let long = [b'a'; 1025];
+    let rows: [(&[u8], u32, u32, i32); 8] = [
+        (&long, 2, 5, -1),
+        (b"a\0b", 2, 5, -2),
+        (b"x", 2, 5, -13),
+        (b"x", 7, 12, -14),
+        (b"x", 5, 1, -14),
+        (b"x", 6, 999, -14),
+        (b"x", 6, 1000000000, -14),
+        (b"x", 5, u32::MAX, -14),
+    ];
+    for (password, method, cost, reason) in rows {
+        for field in [STORED, b"", b"!", SCRYPT] {
+            let mut report = OLD;
+            let result = mkpasswd_login(
+                rt.alloc(),
+                password,
+                field,
+                method,
+                cost,
+                u64::MAX,
+                &mut report,
+            );
+            assert_eq!(rt;
+                (result, report),
+                (0, told(reason, 0, 0, NO_WORK)),
+                "{field:?} {method} {cost}"
+            );
+        }
     }
 }
 
@@ -266,11 +392,14 @@ fn puts_new_hashes(rt: HostRuntime) {
 #[test]
 fn refuses_new_hashes(rt: HostRuntime) {
     let long = [b'a'; 1025];
-    let rows: [(&[u8], u32, u32, i32); 4] = [
+    let rows: [(&[u8], u32, u32, i32); 7] = [
         (&long, 2, 5, -1),
         (b"a\0b", 2, 5, -2),
         (b"x", 2, 5, -13),
         (b"x", 7, 5, -14),
+        (b"x", 5, 999, -14),
+        (b"x", 6, 1, -14),
+        (b"x", 6, 1000000000, -14),
     ];
     for (password, method, cost, reason) in rows {
         let mut out = [b'.'; 128];
@@ -291,174 +420,4 @@ fn refuses_new_hashes(rt: HostRuntime) {
             "{method}"
         );
     }
-}
-
-#[test]
-fn tells_what_is_outdated(rt: HostRuntime) {
-    let rows: [(&[u8], u32, u32, i32, i32); 9] = [
-        (STORED, 6, 0, 1, 2),
-        (b"$6$ab", 1, 0, 1, 2),
-        (b"$6$ab", 6, 5001, 1, 2),
-        (b"$6$ab", 6, 5000, 0, -18),
-        (b"$6$rounds=5001$cd", 6, 0, 0, -18),
-        (STORED, 1, 9, 0, -18),
-        (b"abc", 2, 5, 0, -5),
-        (STORED, 2, 5, 0, -13),
-        (STORED, 7, 5, 0, -14),
-    ];
-    for (stored, method, cost, answer, reason) in rows {
-        let mut report = OLD;
-        let result = mkpasswd_needs_rehash(stored, method, cost, &mut report);
-        assert_eq!(rt;
-            (result, report),
-            (answer, told(reason, 0, 0, NO_WORK)),
-            "{stored:?} {method} {cost}"
-        );
-    }
-}
-
-#[test]
-fn tells_bounds(rt: HostRuntime) {
-    let rows: [(&[u8], usize, i32, i32, u64, Work); 5] = [
-        (STORED, 8, 1, 3, COST, WORK),
-        (SCRYPT, 0, 1, 3, SCRYPT_COST, SCRYPT_WORK),
-        (STORED, 1025, 0, -1, 0, NO_WORK),
-        (b"abc", usize::MAX, 0, -1, 0, NO_WORK),
-        (b"abc", 8, 0, -5, 0, NO_WORK),
-    ];
-    for (stored, len, answer, reason, cost, work) in rows {
-        let mut report = OLD;
-        let result = mkpasswd_bound(stored, len, &mut report);
-        assert_eq!(rt;
-            (result, report),
-            (answer, told(reason, 0, cost, work)),
-            "{stored:?} {len}"
-        );
-    }
-}
-
-#[test]
-fn makes_settings(rt: HostRuntime) {
-    let rows: [(u32, u32, usize, i32, i32, u32, &[u8]); 13] = [
-        (1, 0, 128, 1, 3, 11, b"$1$/0......\0"),
-        (1, 77, 12, 1, 3, 11, b"$1$/0......\0"),
-        (5, 0, 40, 1, 3, 19, b"$5$/0..............\0"),
-        (6, 10, 40, 1, 3, 31, b"$6$rounds=1000$/0..............\0"),
-        (
-            7,
-            0,
-            40,
-            1,
-            3,
-            36,
-            b"$7$CU..../..../0....................\0",
-        ),
-        (
-            7,
-            11,
-            40,
-            1,
-            3,
-            36,
-            b"$7$GU..../..../0....................\0",
-        ),
-        (2, 5, 40, 0, -13, 0, b"*0\0"),
-        (7, 5, 40, 0, -14, 0, b"*0\0"),
-        (1, 0, 11, 0, -12, 0, b"*0\0"),
-        (1, 0, 3, 0, -12, 0, b"*0\0"),
-        (1, 0, 2, 0, -12, 0, b"*\0"),
-        (7, 5, 1, 0, -14, 0, b"\0"),
-        (7, 5, 0, 0, -14, 0, b""),
-    ];
-    for (method, cost, room, answer, reason, length, put) in rows {
-        assert!(rt; room <= 128);
-        let mut out = [b'.'; 128];
-        let mut report = OLD;
-        let result = mkpasswd_setting(method, cost, 129, 0, 0, &mut out[..room], &mut report);
-        assert_eq!(rt;
-            (result, report, out),
-            (answer, told(reason, length, 0, NO_WORK), with_dots(put)),
-            "{method} {cost} {room}"
-        );
-    }
-}
-
-#[test]
-fn puts_words(rt: HostRuntime) {
-    let rows: [(i32, usize, i32, &[u8]); 33] = [
-        (1, 40, 1, b"fits\0"),
-        (2, 40, 1, b"outdated\0"),
-        (3, 40, 1, b"done\0"),
-        (-1, 40, 1, b"password too long\0"),
-        (-2, 40, 1, b"password has a zero byte\0"),
-        (-3, 40, 1, b"setting too long\0"),
-        (-4, 40, 1, b"bad character\0"),
-        (-5, 40, 1, b"unknown scheme\0"),
-        (-6, 40, 1, b"bad rounds\0"),
-        (-7, 40, 1, b"bad cost\0"),
-        (-8, 40, 1, b"scrypt range\0"),
-        (-9, 40, 1, b"above ceiling\0"),
-        (-10, 40, 1, b"bad salt\0"),
-        (-11, 40, 1, b"out of memory\0"),
-        (-12, 40, 1, b"too few bytes\0"),
-        (-13, 40, 1, b"unknown method\0"),
-        (-14, 40, 1, b"cost\0"),
-        (-16, 40, 1, b"over budget\0"),
-        (-17, 40, 1, b"differs\0"),
-        (-18, 40, 1, b"current\0"),
-        (-19, 40, 1, b"no random words\0"),
-        (0, 40, 0, b"unknown reason\0"),
-        (4, 40, 0, b"unknown reason\0"),
-        (-15, 40, 0, b"unknown reason\0"),
-        (-20, 40, 0, b"unknown reason\0"),
-        (i32::MIN, 40, 0, b"unknown reason\0"),
-        (i32::MAX, 4, 0, b"unk\0"),
-        (0, 0, 0, b""),
-        (-17, 8, 1, b"differs\0"),
-        (-17, 7, 0, b"differ\0"),
-        (-17, 2, 0, b"d\0"),
-        (-17, 1, 0, b"\0"),
-        (-17, 0, 0, b""),
-    ];
-    for (reason, room, answer, put) in rows {
-        assert!(rt; room <= 128);
-        let mut out = [b'.'; 128];
-        let result = mkpasswd_words(reason, &mut out[..room]);
-        assert_eq!(rt; (result, out), (answer, with_dots(put)), "{reason} {room}");
-    }
-}
-
-#[test]
-fn tells_reports_apart(rt: HostRuntime) {
-    let others = [
-        Report { reason: 78, ..OLD },
-        Report { length: 78, ..OLD },
-        Report { cost: 78, ..OLD },
-        Report { work: WORK, ..OLD },
-        Report {
-            reserved: 78,
-            ..OLD
-        },
-    ];
-    for other in others {
-        assert!(rt; OLD != other, "{other:?}");
-    }
-}
-
-// Three numbers give up to ten characters each.
-#[test]
-fn makes_settings_of_three_words(rt: HostRuntime) {
-    let mut out = [b'.'; 128];
-    let mut report = OLD;
-    let result = mkpasswd_setting(7, 0, 1, 2, 3, &mut out, &mut report);
-    let put = b"$7$CU..../..../.........0.........1.\0";
-    assert_eq!(rt;
-        (result, report, out),
-        (1, told(3, 36, 0, NO_WORK), with_dots(put))
-    );
-}
-
-#[test]
-fn tells_the_version(rt: HostRuntime) {
-    assert_eq!(rt; mkpasswd_version(), 10100);
 }

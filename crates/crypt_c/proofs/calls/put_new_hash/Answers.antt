@@ -1,0 +1,23 @@
+use Rattle.std.proofs.Common.{ℕ, List}
+use Rattle.crypt_c.specs.Calls.{Opens, Rehashes}
+use Rattle.crypt_c.specs.Reports.{refused}
+use Rattle.crypt_c.specs.declared.reason.Refusal.TheVariants.{Current}
+use Rattle.crypt_c.proofs.NewHashes.{put_whole, puts_new_hash}
+use Rattle.crypt_c.proofs.calls.put_new_hash.Goals as goal
+
+pub returns-clause-hashes : goal.returns-clause-hashes
+returns-clause-hashes c =
+    puts_new_hash c.args.password.now c.args.method c.args.cost c.args.budget c.args.words.now c.args.out.now c.new_hash_of-hashed.result _
+    c.put_hashed.new.out c.new_hash_of-hashed.ensures.makes (rw c.token.ensures at c.put_hashed.ensures.puts)
+
+pub returns-clause-opens : goal.returns-clause-opens
+returns-clause-opens c =
+    put_whole (λ (text : List ℕ). Opens c.args.password.now text c.args.budget) c.args.budget c.token.result.now c.args.out.now _
+    c.new_hash_of-hashed.result _ c.put_hashed.new.out c.new_hash_of-hashed.ensures.told c.put_hashed.ensures.puts
+    c.new_hash_of-hashed.ensures.opens
+
+pub returns-clause-current : goal.returns-clause-current
+returns-clause-current c =
+    put_whole (λ (text : List ℕ). Rehashes text c.args.method c.args.cost (refused Current 0)) c.args.budget c.token.result.now c.args.out.now _
+    c.new_hash_of-hashed.result _ c.put_hashed.new.out c.new_hash_of-hashed.ensures.told c.put_hashed.ensures.puts
+    c.new_hash_of-hashed.ensures.current

@@ -1,0 +1,4 @@
+use Rattle.crypt_c.proofs.mkpasswd_hash.Goals as goal
+
+pub returns-clause-hashes : goal.returns-clause-hashes
+returns-clause-hashes c = rw c.tell.ensures.told c.put_hash.ensures.hashes

@@ -1,0 +1,29 @@
+use Rattle.std.proofs.Common.{inl, inr, rules}
+use Rattle.crypt_c.proofs.Logins.{agrees, alike, pretends, within}
+use Rattle.crypt_c.proofs.mkpasswd_login.Goals as goal
+
+pub returns-clause-opens : goal.returns-clause-opens
+returns-clause-opens c = λ scheme made opens. elim (c.log_in.ensures.opens scheme made opens) [
+  | inl positive ↦ inl (search (rules, c.tell.ensures.positive.1 positive))
+  | inr lacks ↦ inr (rw c.tell.ensures.told lacks)
+]
+
+pub returns-clause-as_verify : goal.returns-clause-as_verify
+returns-clause-as_verify c = λ scheme made.
+    rw c.tell.ensures.told (agrees c.args.password.now c.args.field.now c.args.method c.args.cost c.args.budget scheme _ made c.log_in.ensures.logs_in)
+
+pub returns-clause-decoy : goal.returns-clause-decoy
+returns-clause-decoy c = λ scheme made is never.
+    rw c.tell.ensures.told (pretends c.args.password.now c.args.field.now c.args.method c.args.cost c.args.budget scheme _ made is never
+    c.log_in.ensures.logs_in)
+
+pub returns-clause-alike : goal.returns-clause-alike
+returns-clause-alike c = λ fault broken.
+    rw c.tell.ensures.told (alike c.args.password.now c.args.field.now c.args.method c.args.cost c.args.budget fault _ broken c.log_in.ensures.logs_in)
+
+pub returns-clause-within : goal.returns-clause-within
+returns-clause-within c =
+    rw c.tell.ensures.told (within c.args.password.now c.args.field.now c.args.method c.args.cost c.args.budget _ c.log_in.ensures.logs_in)
+
+pub returns-clause-logs_in : goal.returns-clause-logs_in
+returns-clause-logs_in c = rw c.tell.ensures.told c.log_in.ensures.logs_in
