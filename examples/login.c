@@ -4,12 +4,16 @@
  *
  * Exits with 0 if the password matches the stored hash, with 1 if it doesn't, and with 2 and a message if there is nothing
  * to compare: the usage is wrong, a read fails or there is no input, the stored hash or the password is invalid, the hash
- * would cost more than the budget, or memory runs out. */
+ * would cost more than the budget, or memory runs out. A STORED that can't be checked costs what a new hash costs. */
 #define _POSIX_C_SOURCE 200809L /* for read */
 #include <mkpasswd.h>
 #include <stdio.h>
 #include <string.h>
 #include <unistd.h>
+
+/* What the service gives mkpasswd_new for its hashes. */
+#define METHOD MKPASSWD_SHA512CRYPT
+#define ROUNDS 656000
 
 static int fail(const char *message)
 {
@@ -48,8 +52,8 @@ static int login(const char *stored, const uint8_t *password, size_t len)
     struct mkpasswd_report report;
     char message[MKPASSWD_TEXT_SIZE];
 
-    if (mkpasswd_verify(password, len, (const uint8_t *)stored, strlen(stored), MKPASSWD_BUDGET, &report))
-        return 0;
+    if (mkpasswd_login(password, len, (const uint8_t *)stored, strlen(stored), METHOD, ROUNDS, MKPASSWD_BUDGET, &report))
+        return 0; /* if the reason is MKPASSWD_OUTDATED, a service stores what mkpasswd_new makes of the password */
     if (report.reason == MKPASSWD_DIFFERS)
         return 1;
     mkpasswd_words_str(report.reason, message, sizeof message);

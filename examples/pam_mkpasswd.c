@@ -6,9 +6,9 @@
  *
  * The budget may be left out. An error in these arguments, or a file that cannot be read, lets nobody in.
  *
- * A name that is unknown or locked, or whose field is malformed or over the budget, costs what the hash of NOBODY costs. To
- * keep names secret from a clock, hash all passwords with this method and these rounds, and allow them in the budget: the
- * one that is the default, 150000000, does so for passwords of up to 82 bytes.
+ * A name that is unknown or locked, or whose field is malformed or over the budget, costs what a hash of METHOD with ROUNDS
+ * costs. To keep names secret from a clock, hash all passwords with these, and allow them in the budget: the one that is the
+ * default, 150000000, does so for passwords of up to 82 bytes.
  *
  * The log has what an administrator can correct: an argument, the file, or a field that no password can match. It is the
  * same whatever password was given, and has no name, since users type passwords there. */
@@ -24,9 +24,9 @@
 
 #define FIELD_LIMIT 384 /* of a stored hash, in bytes */
 
-/* 656000 rounds of sha512crypt, and a digest that belongs to no known password. */
-#define NOBODY "$6$rounds=656000$nobody.has.this.$" \
-    "......................................................................................"
+/* The cost of an unknown name. */
+#define METHOD MKPASSWD_SHA512CRYPT
+#define ROUNDS 656000
 
 struct field {
     unsigned long line; /* the number of its line in the file; 0 if there is none */
@@ -95,23 +95,22 @@ static int find(pam_handle_t *pam, const char *path, const char *name, struct fi
     return is_read;
 }
 
-/* Whether some password may match. If the field is neither locked nor empty and none can, the log has the reason, which
- * is that of the empty password. */
-static int may_match(pam_handle_t *pam, const char *path, const struct field *field, uint64_t budget)
+/* Logs why no password can match the field, unless it is locked or empty. It asks for the empty password, so that the log
+ * tells nothing of the one that was given. */
+static void log_useless(pam_handle_t *pam, const char *path, const struct field *field, uint64_t budget)
 {
     struct mkpasswd_report report;
     char message[MKPASSWD_TEXT_SIZE];
 
     if (field->len == 0 || field->bytes[0] == '!' || field->bytes[0] == '*')
-        return 0;
+        return;
     if (mkpasswd_bound(field->bytes, field->len, 0, &report)) {
         if (report.cost <= budget)
-            return 1;
+            return;
         report.reason = MKPASSWD_OVER_BUDGET;
     }
     mkpasswd_words_str(report.reason, message, sizeof message);
     pam_syslog(pam, LOG_WARNING, "%s: line %lu: %s", path, field->line, message);
-    return 0;
 }
 
 int pam_sm_authenticate(pam_handle_t *pam, int flags, int count, const char **given)
@@ -120,7 +119,6 @@ int pam_sm_authenticate(pam_handle_t *pam, int flags, int count, const char **gi
     struct mkpasswd_report report;
     struct field field;
     uint64_t budget;
-    int is_known;
 
     (void)flags;
     if (!read_arguments(pam, count, given, &path, &budget))
@@ -129,12 +127,8 @@ int pam_sm_authenticate(pam_handle_t *pam, int flags, int count, const char **gi
         return PAM_AUTH_ERR;
     if (!find(pam, path, name, &field))
         return PAM_AUTHINFO_UNAVAIL;
-    is_known = may_match(pam, path, &field, budget);
-    if (!is_known) {
-        field.len = strlen(NOBODY);
-        memcpy(field.bytes, NOBODY, field.len);
-    }
-    if (mkpasswd_verify((const uint8_t *)password, strlen(password), field.bytes, field.len, budget, &report) && is_known)
+    log_useless(pam, path, &field, budget);
+    if (mkpasswd_login((const uint8_t *)password, strlen(password), field.bytes, field.len, METHOD, ROUNDS, budget, &report))
         return PAM_SUCCESS;
     return PAM_AUTH_ERR;
 }

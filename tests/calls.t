@@ -67,6 +67,7 @@ sub line {
         made => sub {
             return 'unknown method' if $n[0] !~ /^[1567]$/;
             return 'cost' if $n[0] == 7 && $n[1] !~ /^([06-9]|1[01])$/;
+            return 'cost' if $name eq 'new' && $n[0] =~ /[56]/ && $n[1] && ($n[1] < 1000 || $n[1] > 999_999_999);
             $made = made_setting(@n[0, 1], salt_of($made_salt{ $n[0] }, $name eq 'setting' ? @n[2 .. 4] : @words ? @words : (0) x 3));
             $setting //= $made;
             return '';
@@ -208,6 +209,48 @@ subtest 'a careless login' => sub {
     are_made('null strings', [], map { ['verify_str', @$_] } [undef, $fixed, 0, $budget], ['a', undef, 0, $budget], [undef, undef, 0, $most]);
     are_made('in eight threads', ['threads 8'], @calls);
     are_refused([], @calls);
+};
+
+# The line of a login: that of mkpasswd_verify, but a hash that fits may be outdated, and a field that can't be checked has the
+# work of a new hash.
+sub login_line {
+    my ($password, $field, $method, $cost, $limit) = @_;
+    my @line = split / /, line('verify', $password, $field, 0, $limit);
+    my ($refused) = line('new', $password, '', 145, $method, $cost, $most) =~ /^0 (-1|-2|-13|-14) /;
+    return "0 $refused" . ' 0' x 11 . ' unchanged' if $refused;
+    $line[1] = 2 if $line[0] && line('needs_rehash', '', $field, 0, $method, $cost) =~ /^1/;
+    my $decoy = made_setting($method, $cost, '.' x $made_salt{$method})->{front};
+    @line[4 .. 10] = (split / /, line('hash', $password, $decoy, 145, $limit))[4 .. 10] if $line[1] =~ /^-([3-9]|10|16)$/;
+    return join ' ', @line;
+}
+
+sub are_logged_in {
+    my ($name, $rows, @logins) = @_;
+    my @got = printed($driver, @$rows, map { my ($password, $field, @n) = @$_; map { row("login$_", $password, $field, 0, @n) }
+            '', ($password // '') . ($field // '') =~ /\0/ ? () : '_str' } @logins);
+    my @wanted = map { (login_line(@$_)) x (($_->[0] // '') . ($_->[1] // '') =~ /\0/ ? 1 : 2) } @logins;
+    is_deeply(\@got, \@wanted, $name);
+}
+
+subtest 'logins' => sub {
+    my @prices = ([1, 0], [5, 1000], [6, 0], [6, 10_000], [7, 6], [6, 999], [5, 1], [6, 1_000_000_000], [7, 5], [2, 0]);
+    my @fields = (@no_settings, @other_fields, map { $_->[1] } @known[0 .. 4]);
+    my @logins = map { my $field = $_; map { ['password', $field, @$_, $budget] } @prices[1 .. 3] } @fields;
+    push @logins, map { my $price = $_; map { [@$_[0, 1], @$price, $budget] } @known[0 .. 4], ['', $fixed], ['a' x 1025, $fixed], ["a\0", ''], ["\0", "!"] } @prices;
+    push @logins, map { my $limit = $_; map { ['password', $_, 6, 0, $limit] } $fixed, '', '!', $known[4][1] } 0, 36238, 36239, 452159, 452160, $most;
+    are_logged_in('each field', [], @logins);
+    are_logged_in('in eight threads', ['threads 8'], @logins[0 .. 150]);
+    for (1 .. 4) {
+        local $refused = $_;
+        are_logged_in("allocation $_ refused", ["refuse $_"], map { ['password', $_, 7, 6, $budget] } $fixed, '', '!', $known[4][1]);
+    }
+    # The right and a wrong hash with the salt of a dropped one, and the fields that have none: the same work for all.
+    for my $price ([1, 0], [5, 2000], [6, 0], [7, 6]) {
+        my $setting = made_setting(@$price, '.' x $made_salt{ $price->[0] });
+        my @kinds = (hash_of($setting, 'password'), hash_of($setting, 'Password'), undef, '', "!$fixed", '$y$j9T$salt$hash', '$6$rounds=999999999$ab$x');
+        my %works = map { join(' ', (split / /)[4 .. 8]) => 1 } printed($driver, map { row('login_str', 'password', $_, 0, @$price, $budget) } @kinds);
+        is(keys %works, 1, "the same work for each kind of field at $price->[0], $price->[1]");
+    }
 };
 
 # Each refusal together with each other one.
@@ -355,9 +398,9 @@ sub told {
 }
 
 subtest 'warnings' => sub {
-    my @calls = ('verify(bytes, 1, bytes, 1, 1, &report)', 'new(bytes, 1, 6, 0, 1, out, 145, &report)', 'needs_rehash(bytes, 1, 6, 0, &report)',
+    my @calls = ('verify(bytes, 1, bytes, 1, 1, &report)', 'login(bytes, 1, bytes, 1, 6, 0, 1, &report)', 'new(bytes, 1, 6, 0, 1, out, 145, &report)', 'needs_rehash(bytes, 1, 6, 0, &report)',
         'bound(bytes, 1, 1, &report)', 'hash(bytes, 1, bytes, 1, 1, out, 145, &report)', 'setting(6, 0, 1, 2, 3, out, 145, &report)');
-    my @strings = ('verify_str(0, 0, 1, 0)', 'new_str(0, 6, 0, 1, 0, 0, 0)', 'needs_rehash_str(0, 6, 0, 0)', 'bound_str(0, 1, 0)',
+    my @strings = ('verify_str(0, 0, 1, 0)', 'login_str(0, 0, 6, 0, 1, 0)', 'new_str(0, 6, 0, 1, 0, 0, 0)', 'needs_rehash_str(0, 6, 0, 0)', 'bound_str(0, 1, 0)',
         'hash_str(0, 0, 1, 0, 0, 0)', 'setting_str(6, 0, 1, 2, 3, 0, 0, 0)');
     my @long = ('new_str("", 6, 0, 1, text, 145, 0)', 'hash_str("", "", 1, text, 145, 0)', 'setting_str(6, 0, 1, 2, 3, text, 145, 0)',
         'words_str(1, text, 145)', 'words(1, small, 145)');
@@ -388,7 +431,7 @@ subtest 'warnings' => sub {
 };
 
 subtest 'what is installed' => sub {
-    is(@declared, 8, 'the header declares eight calls');
+    is(@declared, 9, 'the header declares nine calls');
     if (needs(objdump => 'binutils')) {
         my ($symbols, $parts, $names) = map { run(@$_)->{out} } ['objdump', '-T', "$libs/libmkpasswd.so"],
             ['objdump', '-p', "$libs/libmkpasswd.so"], ['nm', '-g', '--defined-only', "$libs/libmkpasswd.a"];

@@ -65,7 +65,7 @@ my %allocates = (
 # has all that the meter counted.
 my $password = 'crates/crypt_core/src/password.rt';
 my $exports = 'crates/crypt_c/src/lib.rt';
-my $hashing_call = qr/^\{\s*\*report = \w+\([^;{}]*&mut \KMeter::new\(\)(?=,?\s*\);\s*report\.answer\(\)\s*\}$)/m;
+my $hashing_call = qr/^\{\s*tell\(\s*report,\s*\w+\([^;{}()]*&mut \KMeter::new\(\)(?=,?\s*\),?\s*\)\s*\}$)/m;
 my %makes_meter = ('crates/program/src/main.rt' => qr/\bMeter::new\(\)/, $exports => $hashing_call);
 
 # Reading.

@@ -195,6 +195,8 @@ static int32_t make(const struct row *row, uint8_t *out, struct mkpasswd_report 
 #endif
     return IS("verify") ? mkpasswd_verify(password, pass_len, text, len, n[0], report)
         : IS("verify_str") ? mkpasswd_verify_str(pass, str, n[0], report)
+        : IS("login") ? mkpasswd_login(password, pass_len, text, len, method, cost, n[2], report)
+        : IS("login_str") ? mkpasswd_login_str(pass, str, method, cost, n[2], report)
         : IS("new") ? mkpasswd_new(password, pass_len, method, cost, n[2], out, room, report)
         : IS("new_over") ? mkpasswd_new((uint8_t *)memcpy(out, password, pass_len), pass_len, method, cost, n[2], out, room, report)
         : IS("new_str") ? mkpasswd_new_str(pass, method, cost, n[2], chars, room, report)

@@ -1,5 +1,32 @@
-/* mkpasswd_hash, mkpasswd_verify and mkpasswd_bound, with any password and any text, beside libxcrypt. */
+/* mkpasswd_hash, mkpasswd_verify, mkpasswd_login and mkpasswd_bound, with any password and any text, beside libxcrypt. */
 #include "fuzz.h"
+
+/* A login does what mkpasswd_verify and mkpasswd_needs_rehash say, and hashes if it is not refused: within the budget, and
+ * for a field that can't be checked as much as for an unknown name. */
+static void log_in(const uint8_t *password, size_t len, const uint8_t *field, size_t field_len, uint8_t choice, uint64_t budget)
+{
+    static const uint32_t chosen[][2] = {{1, 0}, {5, 1000}, {6, 0}, {6, 1001}, {6, 999}, {5, 1000000000}, {7, 5}, {2, 0}};
+    const uint32_t *of = chosen[choice >> 1 & 7];
+    struct mkpasswd_report verified, unknown;
+    int32_t opens = mkpasswd_verify(password, len, field, field_len, budget, &verified);
+    int32_t never = mkpasswd_login(password, len, field, 0, of[0], of[1], budget, &unknown);
+    uint8_t *out = new_out(0);
+    int32_t is_in = checked(mkpasswd_login(password, len, field, field_len, of[0], of[1], budget, &report), out, 0, NULL);
+    struct mkpasswd_report told = report;
+
+    MUST(!never && told.work.bytes <= budget && unknown.work.bytes <= budget);
+    if (unknown.reason != MKPASSWD_REFUSED_UNKNOWN_SCHEME) {
+        MUST(!is_in && memcmp(&told, &unknown, sizeof told) == 0 && told.cost == 0 && told.work.digests == 0);
+        return;
+    }
+    MUST(is_in == opens && told.cost == verified.cost);
+    MUST((told.reason == MKPASSWD_OUTDATED) == (is_in && mkpasswd_needs_rehash(field, field_len, of[0], of[1], &report)));
+    MUST(is_in || told.reason == verified.reason);
+    if (verified.work.digests)
+        MUST(memcmp(&told.work, &verified.work, sizeof told.work) == 0);
+    else
+        MUST(memcmp(&told.work, &unknown.work, sizeof told.work) == 0);
+}
 
 int LLVMFuzzerTestOneInput(const uint8_t *data, size_t size)
 {
@@ -43,6 +70,7 @@ int LLVMFuzzerTestOneInput(const uint8_t *data, size_t size)
         MUST(report.reason == MKPASSWD_FITS && (!(by_crypt = crypted(password, len, text)) || strcmp(by_crypt, text) == 0));
     else if (report.reason == MKPASSWD_DIFFERS)
         MUST(!(by_crypt = crypted(password, len, text)) || strcmp(by_crypt, text) != 0);
+    log_in(password, len, stored, text_len, data[1], budget);
     out = new_out(0);
     checked(mkpasswd_bound(stored, text_len, len, &report), out, 0, NULL);
     return 0;
