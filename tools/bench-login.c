@@ -1,0 +1,62 @@
+/* Measures mkpasswd_login for each kind of field, in turns, and prints the median of each in processor time:
+ *
+ *     make lib && cc -O2 -Ic tools/bench-login.c libmkpasswd.a -o build/bench-login && build/bench-login [ROUNDS [LOGINS]]
+ *
+ * ROUNDS are those of sha512crypt (default 5000), LOGINS the number for each kind (default 200). Only the right password may
+ * return 1; the others should take the same time. */
+#define _POSIX_C_SOURCE 199309L
+#include <mkpasswd.h>
+#include <stdio.h>
+#include <stdlib.h>
+#include <time.h>
+
+#define MOST 10000
+
+static double now(void)
+{
+    struct timespec time;
+
+    clock_gettime(CLOCK_PROCESS_CPUTIME_ID, &time);
+    return (double)time.tv_sec * 1e3 + (double)time.tv_nsec / 1e6;
+}
+
+static int by_time(const void *a, const void *b)
+{
+    double x = *(const double *)a, y = *(const double *)b;
+
+    return (x > y) - (x < y);
+}
+
+int main(int argc, char **argv)
+{
+    static double times[7][MOST];
+    uint32_t rounds = argc > 1 ? (uint32_t)atol(argv[1]) : 5000;
+    long logins = argc > 2 ? atol(argv[2]) : 200, place;
+    char right[MKPASSWD_TEXT_SIZE], wrong[MKPASSWD_TEXT_SIZE], locked[MKPASSWD_TEXT_SIZE + 1];
+    const char *fields[] = {right, wrong, NULL, "", locked, "$y$j9T$F5Jx5fExrKuPp53xLKQ..1$X3DX6M94c7o.9agCG9G317fhZg9SqC.5i5rd.RhAtQ7",
+        "$6$rounds=999999999$saltsaltsaltsalt$x"};
+    const char *names[] = {"right password", "wrong password", "unknown name", "empty", "locked", "yescrypt", "above the budget"};
+    int kind;
+
+    if (logins < 1 || logins > MOST
+        || !mkpasswd_new_str("password", MKPASSWD_SHA512CRYPT, rounds, MKPASSWD_BUDGET, right, sizeof right, NULL)
+        || !mkpasswd_new_str("Password", MKPASSWD_SHA512CRYPT, rounds, MKPASSWD_BUDGET, wrong, sizeof wrong, NULL)) {
+        fprintf(stderr, "usage: bench-login [ROUNDS [LOGINS]]\n");
+        return 2;
+    }
+    snprintf(locked, sizeof locked, "!%s", right);
+    for (place = 0; place < logins; place++)
+        for (kind = 0; kind < 7; kind++) {
+            double before = now();
+            int is_in = mkpasswd_login_str("password", fields[kind], MKPASSWD_SHA512CRYPT, rounds, MKPASSWD_BUDGET, NULL);
+
+            times[kind][place] = now() - before;
+            if (is_in != (kind == 0))
+                return 1;
+        }
+    for (kind = 0; kind < 7; kind++) {
+        qsort(times[kind], (size_t)logins, sizeof **times, by_time);
+        printf("%-16s %8.3f ms\n", names[kind], times[kind][logins / 2]);
+    }
+    return 0;
+}
