@@ -17,7 +17,8 @@ my ($program, $script, $played) = map { "$scratch/$_" } qw(bin/mkpasswd bin/mkpa
 run('cp', $script, $played);
 my @batch = qw(--batch -m md5crypt -S xxxxxxxx);
 my @slow = (qw(--batch -m sha512crypt -R 8000 -S saltsalt));
-my $slow_lines = join '', map { $_ % 17 ? "user$_:password$_\n" : "no colon\n" } 1 .. 600;
+my $slow_lines = join '', map { $_ % 17 ? "user$_:password$_\n" : "no colon\n" } 1 .. 300;
+my $slow_alone = run({ stdin => $slow_lines }, $program, @slow);
 my $thirty = join '', map { "user$_:password$_\n" } 1 .. 30;
 
 # Tests that the script does with lines what the program does alone.
@@ -76,14 +77,13 @@ sub wait_for {
 
 sub answers { return -e "$scratch/out" ? slurp("$scratch/out") =~ tr/\n// : 0 }
 
-# Waits for the end of a run that was begun. Returns its status, or the number of a signal and 128.
+# The status of a run that was begun, or the number of its signal and 128.
 sub ended {
     my ($child) = @_;
     wait_for(sub { waitpid($child, POSIX::WNOHANG) != 0 }) or kill KILL => $child;
     return $? & 127 ? 128 + ($? & 127) : $? >> 8;
 }
 
-# The processes that a process has begun.
 sub below { my ($process) = @_; return split ' ', run('ps', '-o', 'pid=', '--ppid', $process)->{out} }
 
 # Tests a run that was ended: what it printed is that of one run up to the line that it names, and another run takes the rest.
@@ -92,7 +92,8 @@ sub resumes {
     my ($last) = $err =~ s/^mkpasswd-parallel: $why; answered up to line (\d+); --resume-from (\d+) takes the rest\n\z//m ? $1 : ();
     is($2, ($last // 0) + 1, "$name: it says the line") or return diag($err);
     my $how = { stdin => $lines };
-    my ($alone, $rest) = (run($how, $program, @words), run($how, $script, "--resume-from=$2", @words));
+    my $alone = $lines eq $slow_lines ? $slow_alone : run($how, $program, @words);
+    my $rest = run($how, $script, "--resume-from=$2", @words);
     is(($out . $err) =~ tr/\n//, $last, "$name: so many lines are answered");
     is($out . $rest->{out}, $alone->{out}, "$name: the answers of both runs are those of one");
     is($err . $rest->{err}, $alone->{err}, "$name: so are the refusals");
@@ -130,37 +131,30 @@ subtest 'arguments' => sub {
         is_run(run({ stdin => $thirty }, $script, @words), 2, '', "mkpasswd-parallel: $text\n", "@words");
     }
     is_run(run({ stdin => $thirty }, $script, qw(--resume-from 31), @batch), 0, '', '', 'no line is left');
-    spew("$scratch/alone", slurp($script));
-    is_run(run({ env => { PATH => '/nowhere' } }, $^X, "$scratch/alone", '--batch'), 3, '', "mkpasswd-parallel: mkpasswd: No such file or directory\n"
-        . "mkpasswd-parallel: mkpasswd: status 127\n", 'no program');
+    my $no_program = run({ env => { PATH => '/nowhere' } }, $^X, $played, '--batch');
+    like("$no_program->{status} $no_program->{err}", qr/^3 mkpasswd-parallel: mkpasswd: No such file or directory\n/, 'no program');
 };
 
 # Random moments, and each of the three signals, to the script and to its whole group as Ctrl-C sends it.
 subtest 'interrupted and resumed' => sub {
-    my $end_early = 0;
     for my $round (1 .. 20) {
         my ($signal, $status) = @{ (['INT', 130], ['TERM', 143], ['HUP', 129])[$round % 3] };
         my $child = begin($slow_lines, $script, '--jobs', 1 + $round % 4, @slow);
-        my $from = int rand 500;
+        my $from = int rand 200;
         wait_for(sub { answers() >= $from });
-        sleep rand 0.1;
         kill $signal, $round % 2 ? -$child : $child;
-        my $got = ended($child);
-        last if $got < 128 && ++$end_early > 3;    # it was done
-        next if $got < 128;
-        is($got, $status, "SIG$signal at $from: status");
+        is(ended($child), $status, "SIG$signal at $from: status");
         resumes("SIG$signal at $from", $slow_lines, "SIG$signal", slurp("$scratch/out"), slurp("$scratch/err"), @slow);
     }
 };
 
 subtest 'killed' => sub {
     needs(ps => 'procps') or return;
-    my $alone = run({ stdin => $slow_lines }, $program, @slow);
     my $child = begin($slow_lines, $script, qw(--jobs 2), @slow);
-    for my $count (20, 150) { wait_for(sub { answers() >= $count }); kill KILL => (below($child))[0] }
-    is_run({ status => ended($child), map { $_ => slurp("$scratch/$_") } qw(out err) }, @$alone{qw(status out err)}, 'workers: others answer their lines');
+    for my $count (20, 100) { wait_for(sub { answers() >= $count }); kill KILL => (below($child))[0] }
+    is_run({ status => ended($child), map { $_ => slurp("$scratch/$_") } qw(out err) }, @$slow_alone{qw(status out err)}, 'workers: others answer their lines');
     $child = begin($slow_lines, $script, qw(--jobs 2), @slow);
-    wait_for(sub { answers() >= 100 });
+    wait_for(sub { answers() >= 50 });
     my @workers = below($child);
     kill KILL => $child;
     is(ended($child), 137, 'the script: status');
@@ -168,10 +162,10 @@ subtest 'killed' => sub {
     my ($out, $err) = map { slurp("$scratch/$_") } qw(out err);
     my $next = 1 + ($out . $err) =~ tr/\n//;
     my $rest = run({ stdin => $slow_lines }, $script, '--resume-from', $next, @slow);
-    is_deeply([$out . $rest->{out}, $err . $rest->{err}], [@$alone{qw(out err)}], 'the script: the number of answered lines is that to resume from');
+    is_deeply([$out . $rest->{out}, $err . $rest->{err}], [@$slow_alone{qw(out err)}], 'the script: the number of answered lines is that to resume from');
 };
 
-# A mkpasswd that another script plays, which begins to answer as mkpasswd does.
+# A script plays mkpasswd, and does something else at the third line.
 subtest 'workers that fail' => sub {
     my $lines = "one:x\ntwo:x\nthree:x\nfour:x\n";
     for (
@@ -209,7 +203,8 @@ subtest 'devices' => sub {
     }
     # A pipe that takes nothing for a while, and is not waited for.
     my $slowly = 'perl -MFcntl -e "fcntl STDOUT, F_SETFL, O_NONBLOCK; exec @ARGV" "$@" | (sleep 1; cat)';
-    is(run({ stdin => $lines x 5 }, 'sh', '-c', $slowly, '-', $script, @batch)->{out}, run({ stdin => $lines x 5 }, $program, @batch)->{out}, 'an output that does not block');
+    my ($many, @slowly) = ({ stdin => $lines x 5 }, 'sh', '-c', $slowly, '-', $script);
+    is(run($many, @slowly, @batch)->{out}, run($many, $program, @batch)->{out}, 'an output that does not block');
 };
 
 subtest 'limits' => sub {
@@ -230,25 +225,90 @@ subtest 'limits' => sub {
 # What the process around it hands over changes nothing.
 subtest 'environment' => sub {
     my %how = (stdin => batch_lines());
+    mkdir "$scratch/lib";
+    spew("$scratch/lib/POSIX.pm", 'die "not this one"');
     for (
         [PERL_UNICODE => 'SDA'], [PERL_UNICODE => ''], [PERL5OPT => '-CS'], [PERL5OPT => '-Mopen=:std,:utf8'], [PERLIO => ':crlf'], [PERL5LIB => "$scratch/lib"],
         [LC_ALL => 'C.UTF-8'], [LC_NUMERIC => 'de_DE.UTF-8'], [TMPDIR => '/nowhere'], [PARALLEL => '--jobs 0'], [BASH_ENV => '/nowhere'],
     ) {
         my ($name, $value) = @$_;
-        mkdir "$scratch/lib";
-        spew("$scratch/lib/POSIX.pm", 'die "not this one"');
         same("$name=$value", { %how, env => { LC_ALL => undef, PERL_BADLANG => 0, $name => $value } }, [], @batch);
     }
-    same('standard signals that are ignored', { %how }, [], @batch) for local @SIG{qw(CHLD PIPE)} = ('IGNORE') x 2;
     my @sh = ('sh', '-c', 'mkdir "$0" && cd "$0" && rmdir "$0" && exec "$@"', "$scratch/gone");
     my $alone = run(\%how, $program, @batch);
     is_run(run(\%how, @sh, $script, @batch), @$alone{qw(status out err)}, 'a folder that is gone');
     if (needs('setpriv, as root,' => 'util-linux', $> == 0)) {
         chmod 0700, "$scratch/locked";
-        my @other = qw(setpriv --reuid 65534 --clear-groups);
-        is_run(run({ %how, dir => "$scratch/locked" }, @other, $script, @batch), @$alone{qw(status out err)}, 'a folder that cannot be entered');
+        my $run = run({ %how, dir => "$scratch/locked" }, qw(setpriv --reuid 65534 --clear-groups), $script, @batch);
+        is_run($run, @$alone{qw(status out err)}, 'a folder that cannot be entered');
     }
-    mkdir "$scratch/sh";
-    symlink '/bin/bash', "$scratch/sh/sh";
-    is_run(run({ %how, env => { PATH => "$scratch/sh:$ENV{PATH}", LC_ALL => 'C.UTF-8' } }, 'sh', '-c', '"$@"', '-', $script, @batch), @$alone{qw(status out err)}, 'bash as sh');
+    symlink '/bin/bash', "$scratch/bin/sh";
+    same('bash as sh', { %how, env => { PATH => "$scratch/bin:$ENV{PATH}" } }, [], @batch);
 };
+
+# While the first line takes long, others wait for it, but no more than so many.
+subtest 'memory and time' => sub {
+    my $child = begin("first:x\n" . ":\n" x 1_000_000, $script, qw(--jobs 2 --batch -m sha512crypt -R 3000000 -S ab --budget 300000000));
+    my $most = 0;
+    while (!waitpid $child, POSIX::WNOHANG) { ($most) = (eval { slurp("/proc/$child/status") } // '') =~ /^VmHWM:\s+(\d+)/m ? $1 : $most; sleep 0.02 }
+    is(slurp("$scratch/err") =~ tr/\n// + answers(), 1_000_001, 'a million lines behind one that takes long');
+    cmp_ok($most, '<', 80_000, 'kB of memory') && cmp_ok($most, '>', 0, 'it was measured');
+    my $drops = '(echo a:x; sleep 3; echo b:x) | "$0" "$@" | while read -r line; do date +%s; done';
+    my $begun = int time;
+    my ($first, $second) = split ' ', run('sh', '-c', $drops, $script, @batch)->{out};
+    cmp_ok($first - $begun, '<=', 2, 'the first answer comes at once');
+    cmp_ok($second - $first, '>=', 2, 'and waits for no more lines');
+};
+
+subtest 'progress' => sub {
+    my $run = run({ stdin => $slow_lines }, $script, qw(--progress --jobs 2), @slow);
+    like($run->{err}, qr{^\d+ lines, [\d.]+ a second, \d+ %, 0:00:\d\d left\n}m, 'a file: part and time left');
+    like($run->{err}, qr{\n300 lines, [\d.]+ a second, 100 %, 0:00:00 left\n\z}, 'a file: all at the end');
+    is(join('', $run->{err} =~ /^(mkpasswd: .*\n)/mg), $slow_alone->{err}, 'refusals have lines of their own');
+    like(run('sh', '-c', '(echo a:x; sleep 2) | "$@"', '-', $script, '--progress', @batch)->{err}, qr{^1 lines, [\d.]+ a second\n}m, 'a pipe: no end is known');
+    needs(script => 'bsdutils') or return;
+    spew("$scratch/input", $slow_lines);
+    my $typed = run('script', '-qec', "$script --jobs 1 @slow < $scratch/input > $scratch/out", '/dev/null')->{out};
+    like($typed, qr{\d+ lines, [\d.]+ a second, \d+ %, \d:\d\d:\d\d left\r\e\[Kmkpasswd: line \d+: no}, 'a terminal: it is wiped before a refusal');
+    is(slurp("$scratch/out"), $slow_alone->{out}, 'a terminal: answers beside it');
+};
+
+# Two machines: an sshd in a network namespace each. One is lost, silently, and the others answer its lines. The recipe for
+# fleets on both.
+subtest 'machines' => sub {
+    my ($sshd) = grep { -x } map { "$_/sshd" } '/usr/sbin', split /:/, $ENV{PATH};
+    needs(sshd => 'openssh-server', $sshd) or return;
+    needs('ip, or a network of its own,' => 'iproute2', !run(qw(unshare --net --mount ip link set lo up))->{status}) or return;
+    run('sh', '-c', 'mkdir -p /run/sshd "$0/ssh"; for key in host user; do ssh-keygen -q -t ed25519 -N "" -f "$0/ssh/$key"; done', $scratch);
+    my $config = "-o IdentityFile=$scratch/ssh/user -o UserKnownHostsFile=/dev/null -o StrictHostKeyChecking=no -o LogLevel=ERROR";
+    my ($ssh) = grep { -x } map { "$_/ssh" } split /:/, $ENV{PATH};
+    spew("$scratch/bin/ssh", "#!/bin/sh\nexec $ssh $config \"\$@\"\n");
+    chmod 0755, "$scratch/bin/ssh";
+    my $server = "$sshd -f /dev/null -o HostKey=$scratch/ssh/host -o AuthorizedKeysFile=$scratch/ssh/user.pub -o StrictModes=no -o PidFile=none"
+        . " -o SetEnv=PATH=$scratch/bin:/usr/bin:/bin -o PermitRootLogin=yes";
+    my $network = 'mkdir -p /run/netns; mount -t tmpfs none /run/netns; ip link set lo up; for n in 1 2; do ip netns add m$n;'
+        . ' ip link add v$n type veth peer name w$n netns m$n; ip addr add 10.0.$n.1/24 dev v$n; ip link set v$n up;'
+        . " ip -n m\$n addr add 10.0.\$n.2/24 dev w\$n; ip -n m\$n link set w\$n up; ip netns exec m\$n $server; done";
+    my $on_both = sub {
+        my ($command, @words) = @_;
+        my $way = "PATH=$scratch/bin:$ENV{PATH}";
+        my @own = qw(unshare --net --mount --pid --fork --kill-child sh -c);
+        return run({ stdin => $slow_lines, dir => $scratch, env => { HOME => $scratch } }, 'env', $way, @own, "{ $network; } > /dev/null 2>&1; $command", '-', @words);
+    };
+    my @hosts = qw(--on 10.0.1.2/2 --on=10.0.2.2);
+    is_run($on_both->('"$@"', $script, qw(--jobs 0), @hosts, @slow), @$slow_alone{qw(status out err)}, 'two machines');
+    my ($begun, @dear) = (time, map { s/^8000$/50000/r } @slow);
+    my $lost = $on_both->('(sleep 3; ip link set v1 down) & exec "$@"', $script, '--jobs', 1, @hosts, @dear);
+    cmp_ok(time - $begun, '>', 9, 'one of two machines is lost: it was lost before the end');
+    is_run($lost, @{ run({ stdin => $slow_lines }, $program, @dear) }{qw(status out err)}, 'one of two machines is lost');
+    my $all = $on_both->('(sleep 3; ip link set v1 down) & exec "$@"', $script, qw(--jobs 0), @hosts[0, 1], @dear);
+    like($all->{err}, qr/^mkpasswd-parallel: 10\.0\.1\.2: status 255; answered up to line \d+; /m, 'the only machine is lost');
+    needs(parallel => 'parallel') or return;
+    my ($recipe) = grep { /--sshloginfile/ } Texts::blocks_of(slurp("$root/docs/RECIPES.md"), 'sh');
+    spew("$scratch/hosts", "10.0.1.2\n10.0.2.2\n");
+    spew("$scratch/passwords", my $lines = batch_lines() . "\n");
+    $on_both->("set -e\n" . $recipe =~ s/-m \S+ -R \d+/-m md5crypt -S xxxxxxxx/r);
+    is_deeply([map { slurp("$scratch/$_") } qw(hashes refused)], [@{ run({ stdin => $lines }, $program, @batch) }{qw(out err)}], 'the recipe for a fleet');
+};
+
+done_testing;
