@@ -9,9 +9,8 @@ use Suite;
 use Texts ();
 use Time::HiRes qw(sleep time);
 
-# The script finds the program beside it, and another user can run both.
 chmod 0755, $scratch or die;
-mkdir "$scratch/$_" for qw(bin played locked);
+mkdir "$scratch/$_" for qw(bin played locked full lib);
 run('cp', program(), "$root/bin/mkpasswd-parallel", "$scratch/bin");
 my ($program, $script, $played) = map { "$scratch/$_" } qw(bin/mkpasswd bin/mkpasswd-parallel played/mkpasswd-parallel);
 run('cp', $script, $played);
@@ -24,34 +23,30 @@ my $thirty = join '', map { "user$_:password$_\n" } 1 .. 30;
 # Tests that the script does with lines what the program does alone.
 sub same {
     my ($name, $how, $own, @words) = @_;
-    my ($alone, $run) = (run($how, $program, @words), run($how, $script, @$own, @words));
-    is($run->{$_}, $alone->{$_}, "$name: $_") for qw(status out err);
+    my $alone = run($how, $program, @words);
+    is_run(run($how, $script, @$own, @words), @$alone{qw(status out err)}, $name);
     return $alone;
 }
 
 # Lines for a batch: hashes, each kind of refused line, lines that look like answers or refusals, empty ones, long ones.
 sub batch_lines {
     my @odd = (
-        '', ':', ':password', 'n' x 65 . ':password', 'n' x 64 . ':password', 'n' x 65, 'no colon', 'n:' . 'p' x 2046, 'n:' . 'p' x 2047,
-        'n' x 2048, 'n' x 2049, ':' x 2050, 'n:' . 'p' x 70000, 'n:' . 'p' x 1025, 'n:' . 'p' x 1024, "n:a\0b", "\0:a", "n:a\0" . 'p' x 1024,
-        'n:', 'n::', 'n:a:b', "n:a\r", "\r", "\xff\xfe:\xfc", ' ', 'mkpasswd: line 3: no name', 'mkpasswd: out of memory', 'mkpasswd:no', 'a:no',
+        '', ':', ':password', 'no colon', (map { 'n' x $_ . ':password' } 64, 65), (map { 'n' x $_ } 65, 2048, 2049), ':' x 2050,
+        (map { 'n:' . 'p' x $_ } 0, 1024, 1025, 2046, 2047, 70000), "n:a\0b", "\0:a", "n:a\0" . 'p' x 1024, 'n::', 'n:a:b',
+        "n:a\r", "\r", "\xff\xfe:\xfc", ' ', 'mkpasswd: line 3: no name', 'mkpasswd: out of memory', 'mkpasswd:no',
     );
     my @lines = map { $_ % 11 ? "user$_:password$_" : $odd[$_ / 11 % @odd] } 1 .. 2999;
     $lines[$_ - 1] = '' for 801 .. 1003, grep { $_ % 100 == 1 } 2001 .. 2999;
     return join "\n", @lines, 'last:one';
 }
 
-# Lines for a check of the output of a batch: each verdict, and each kind of refused field.
 sub check_lines {
     my ($hashed) = @_;
-    my @fields = ('', '!', '*', 'x' x 385, '$1$a b', '$2b$10$x', '$5$rounds=0$ab', '$7$A', '$7$E/..../....ab', '$6$rounds=999999999$ab$x');
-    my ($number, $lines) = (0, '');
-    for ((grep { /^user[0-9]*:\$1/ } split /\n/, $hashed)[0 .. 499]) {
-        my ($name, $hash) = /^(user\d+):([^:]*)/;
-        my ($password, $kind) = ($name =~ s/user/password/r, ++$number % 7);
-        $lines .= "$name:" . ($kind < 4 ? "$hash:$password\n" : $kind < 6 ? "$hash:$password \n" : "$fields[$number / 7 % @fields]:\n");
-    }
-    return $lines;
+    my @fields = ('', '!', '*', 'x' x 385, '$1$a b', '$2b$10$x', '$5$rounds=0$a', '$7$E/..../....a', '$6$rounds=9999999$a$x');
+    my @hashes = ($hashed =~ /^user(\d+):(\$1[^:\n]*)/mg)[0 .. 999];
+    my @ends = map { "$hashes[2 * $_ + 1]:password$hashes[2 * $_]" } 0 .. 499;
+    my @kinds = map { $_ % 7 < 4 ? $ends[$_] : $_ % 7 < 6 ? "$ends[$_] " : "$fields[$_ / 7 % @fields]:" } 0 .. 499;
+    return join '', map { "user$_:$kinds[$_]\n" } 0 .. 499;
 }
 
 # Begins a run in a process group of its own, with files for its input, its output and its standard error.
@@ -62,55 +57,43 @@ sub begin {
     my $child = fork // die;
     return $child if $child;
     setpgrp;
-    $SIG{$_} = 'DEFAULT' for qw(INT TERM HUP);
     open STDIN, '<', "$scratch/input" or die;
     open STDOUT, '>', "$scratch/out" or die;
     open STDERR, '>', "$scratch/err" or die;
     exec @command or POSIX::_exit(127);
 }
 
-sub wait_for {
-    my ($is_so) = @_;
-    for (1 .. 1200) { return 1 if $is_so->(); sleep 0.05 }
-    return 0;
-}
-
+sub wait_for { my ($is_so) = @_; for (1 .. 1200) { return 1 if $is_so->(); sleep 0.05 } return 0 }
 sub answers { return -e "$scratch/out" ? slurp("$scratch/out") =~ tr/\n// : 0 }
+sub below { return split ' ', slurp("/proc/$_[0]/task/$_[0]/children") }
 
-# The status of a run that was begun, or the number of its signal and 128.
 sub ended {
     my ($child) = @_;
     wait_for(sub { waitpid($child, POSIX::WNOHANG) != 0 }) or kill KILL => $child;
     return $? & 127 ? 128 + ($? & 127) : $? >> 8;
 }
 
-sub below { my ($process) = @_; return split ' ', run('ps', '-o', 'pid=', '--ppid', $process)->{out} }
-
 # Tests a run that was ended: what it printed is that of one run up to the line that it names, and another run takes the rest.
 sub resumes {
     my ($name, $lines, $why, $out, $err, @words) = @_;
-    my ($last) = $err =~ s/^mkpasswd-parallel: $why; answered up to line (\d+); --resume-from (\d+) takes the rest\n\z//m ? $1 : ();
+    my $said = qr/^mkpasswd-parallel: $why; answered up to line (\d+); --resume-from (\d+) takes the rest\n\z/m;
+    my ($last) = $err =~ s/$said// ? $1 : ();
     is($2, ($last // 0) + 1, "$name: it says the line") or return diag($err);
-    my $how = { stdin => $lines };
-    my $alone = $lines eq $slow_lines ? $slow_alone : run($how, $program, @words);
-    my $rest = run($how, $script, "--resume-from=$2", @words);
+    my $alone = $lines eq $slow_lines ? $slow_alone : run({ stdin => $lines }, $program, @words);
+    my $rest = run({ stdin => $lines }, $script, "--resume-from=$2", @words);
     is(($out . $err) =~ tr/\n//, $last, "$name: so many lines are answered");
     is($out . $rest->{out}, $alone->{out}, "$name: the answers of both runs are those of one");
-    is($err . $rest->{err}, $alone->{err}, "$name: so are the refusals");
-    return $last;
+    return is($err . $rest->{err}, $alone->{err}, "$name: so are the refusals");
 }
 
 subtest 'one run over the whole input' => sub {
-    my $batch = same('a batch', { stdin => batch_lines() }, [qw(--jobs 3)], @batch);
-    cmp_ok($batch->{err} =~ tr/\n//, '>=', 300, 'refused lines in the batch');
-    my $worked = same('--work and --budget', { stdin => batch_lines() }, ['--jobs=2'], qw(--batch --work --budget 100000 -m md5 -S xxxxxxxx));
+    same('a batch', { stdin => batch_lines() }, [qw(--jobs 3)], @batch);
+    my $worked = same('--work and --budget', { stdin => batch_lines() }, ['--jobs=2'], @batch, qw(--work --budget 100000));
     my $check = check_lines($worked->{out});
     same('a check', { stdin => $check }, [qw(--jobs 3)], qw(--check --budget 500000));
-    same('a check with new hashes', { stdin => $check }, [], qw(--check --rehash -m sha256crypt -R 1000 -S ab --work --budget 300000));
-    same('wrong passwords alone', { stdin => $thirty =~ s/:/:\$1\$xxxxxxxx\$UYCIxa628.9qXjpQCjM4a.:/gr }, [], '--check', '--work');
-    same('no input', { stdin => '' }, [], @batch);
-    same('one line without a line feed', { stdin => 'ann:x' }, [], @batch);
-    same('CRLF', { stdin => $thirty =~ s/\n/\r\n/gr }, [], @batch);
+    same('a check with new hashes', { stdin => $check }, [], qw(--check --rehash -m sha256 -R 1000 -S ab --work --budget 300000));
+    same('a wrong password', { stdin => "ann:\$1\$xxxxxxxx\$UYCIxa628.9qXjpQCjM4a.:x\n" }, [], qw(--check --work));
+    same(@$_, [], @batch) for ['no input', { stdin => '' }], ['CRLF', { stdin => "a:x\r\n:\r\n" }], ['no end', { stdin => 'a:x' }];
     same('more lines than wait at once', { stdin => "first:x\n" . ":\n" x 150_000 }, [], qw(--batch -R 400000 -S ab));
     my @joined = map { run({ stdin => batch_lines() }, 'sh', '-c', 'exec "$@" 2>&1', '-', $_, @batch)->{out} } $program, $script;
     is($joined[1], $joined[0], 'answers and refusals in one stream');
@@ -122,8 +105,9 @@ subtest 'arguments' => sub {
     same(@$_) for ['a wrong number', {}, [], qw(--batch -R few)], ['a wrong salt', {}, [], qw(--batch -m md5crypt -S a-b)],
         ['the version', {}, [], '-V'], ['methods', {}, [], qw(--batch -m help)], ['two modes', {}, ['--jobs', 2], qw(--batch -s)];
     for (
-        ["--batch or --check is wanted among mkpasswd's words; --help tells more", '-s'], ['--jobs 0 wants --on HOST', qw(--jobs 0 --batch)],
-        ['--jobs wants a number from 0 to 999', qw(--jobs=few --batch)], ['--jobs is given twice', qw(--batch --jobs 1 --jobs 2)],
+        ["--batch or --check is wanted among mkpasswd's words; --help tells more", '-s'],
+        ['--jobs 0 wants --on HOST', qw(--jobs 0 --batch)], ['--jobs is given twice', qw(--batch --jobs 1 --jobs 2)],
+        ['--jobs wants a number from 0 to 999', qw(--jobs=few --batch)],
         (map { ['--resume-from wants a number from 1 to 999999999999999', '--batch', "--resume-from=$_"] } 0, 'x', '1 ', 10**15),
         ['--resume-from wants no more than 31 for this input', qw(--resume-from 32), @batch],
     ) {
@@ -132,15 +116,14 @@ subtest 'arguments' => sub {
     }
     is_run(run({ stdin => $thirty }, $script, qw(--resume-from 31), @batch), 0, '', '', 'no line is left');
     my $no_program = run({ env => { PATH => '/nowhere' } }, $^X, $played, '--batch');
-    like("$no_program->{status} $no_program->{err}", qr/^3 mkpasswd-parallel: mkpasswd: No such file or directory\n/, 'no program');
+    like("$no_program->{status} $no_program->{err}", qr/^3 mkpasswd-parallel: mkpasswd: No such file/, 'no program');
 };
 
-# Random moments, and each of the three signals, to the script and to its whole group as Ctrl-C sends it.
 subtest 'interrupted and resumed' => sub {
     for my $round (1 .. 20) {
         my ($signal, $status) = @{ (['INT', 130], ['TERM', 143], ['HUP', 129])[$round % 3] };
         my $child = begin($slow_lines, $script, '--jobs', 1 + $round % 4, @slow);
-        my $from = int rand 200;
+        my $from = 1 + int rand 200;
         wait_for(sub { answers() >= $from });
         kill $signal, $round % 2 ? -$child : $child;
         is(ended($child), $status, "SIG$signal at $from: status");
@@ -149,10 +132,10 @@ subtest 'interrupted and resumed' => sub {
 };
 
 subtest 'killed' => sub {
-    needs(ps => 'procps') or return;
     my $child = begin($slow_lines, $script, qw(--jobs 2), @slow);
     for my $count (20, 100) { wait_for(sub { answers() >= $count }); kill KILL => (below($child))[0] }
-    is_run({ status => ended($child), map { $_ => slurp("$scratch/$_") } qw(out err) }, @$slow_alone{qw(status out err)}, 'workers: others answer their lines');
+    my %whole = (status => ended($child), map { $_ => slurp("$scratch/$_") } qw(out err));
+    is_run(\%whole, @$slow_alone{qw(status out err)}, 'workers: others answer their lines');
     $child = begin($slow_lines, $script, qw(--jobs 2), @slow);
     wait_for(sub { answers() >= 50 });
     my @workers = below($child);
@@ -162,46 +145,45 @@ subtest 'killed' => sub {
     my ($out, $err) = map { slurp("$scratch/$_") } qw(out err);
     my $next = 1 + ($out . $err) =~ tr/\n//;
     my $rest = run({ stdin => $slow_lines }, $script, '--resume-from', $next, @slow);
-    is_deeply([$out . $rest->{out}, $err . $rest->{err}], [@$slow_alone{qw(out err)}], 'the script: the number of answered lines is that to resume from');
+    is_deeply([$out . $rest->{out}, $err . $rest->{err}], [@$slow_alone{qw(out err)}], 'the script: the next run takes the rest');
 };
 
-# A script plays mkpasswd, and does something else at the third line.
 subtest 'workers that fail' => sub {
     my $lines = "one:x\ntwo:x\nthree:x\nfour:x\n";
     for (
-        ['out of memory', 'out of memory', 'echo "mkpasswd: out of memory" >&2; exit 3'], ['status 3', 'line 3: status 3, twice', 'exit 3'],
-        ['a signal', 'line 3: killed by signal 9, twice', 'kill -9 $$'], ['noise', 'no answer: Welcome!', 'echo Welcome!'],
-        ['the answer of another line', 'no answer: four:\$1\$x', 'echo "four:\$1\$x"'], ['a blank', 'no answer: three: x', 'echo "three: x"'],
-        ['a refusal of another line', 'no answer: mkpasswd: line 9: no name', 'echo "mkpasswd: line 9: no name"'],
+        ['out of memory', 'out of memory', 'echo "mkpasswd: out of memory" >&2; exit 3'],
+        ['status 3', 'line 3: status 3, twice', 'exit 3'], ['a signal', 'line 3: killed by signal 9, twice', 'kill -9 $$'],
+        map { ["'$_'", 'no answer: ' . quotemeta, "echo '$_'"] } 'Welcome!', 'four:$1$x', 'three: x', 'mkpasswd: line 9: no name',
     ) {
         my ($name, $why, $does) = @$_;
-        spew("$scratch/played/mkpasswd", "#!/bin/sh\nwhile read -r line; do case \$line in three:*) $does ;; *) echo \"\${line%%:*}:\\\$1\\\$x\" ;; esac; done\n");
+        my $answers = 'while read -r line; do case $line in three:*) ' . $does . ' ;; *) echo "${line%%:*}:\$1\$x" ;; esac; done';
+        spew("$scratch/played/mkpasswd", "#!/bin/sh\n$answers\n");
         chmod 0755, "$scratch/played/mkpasswd";
         my $run = run({ stdin => $lines, timeout => 60 }, $played, qw(--jobs 1), @batch);
-        like("$run->{status} $run->{err}", qr/^3 mkpasswd-parallel: $why; answered up to line 2; --resume-from 3 takes the rest\n\z/, "$name: it is told");
+        my $rest = 'answered up to line 2; --resume-from 3 takes the rest';
+        like("$run->{status} $run->{err}", qr/^3 mkpasswd-parallel: $why; $rest\n\z/, "$name: it is told");
         is($run->{out}, "one:\$1\$x\ntwo:\$1\$x\n", "$name: the lines before are answered");
     }
 };
 
+my $none = 'answered up to line 0; --resume-from 1 takes the rest';
 subtest 'devices' => sub {
-    my $none = 'answered up to line 0; --resume-from 1 takes the rest';
     my %how = (stdin => $thirty);
     is_run(run({ %how, to => '/dev/full' }, $script, @batch), 3, '', "mkpasswd-parallel: write fault; $none\n", 'a full output');
     is_run(run({ from => '/' }, $script, @batch), 3, '', "mkpasswd-parallel: read fault; $none\n", 'an input that is a folder');
-    is_run(run(\%how, 'sh', '-c', 'exec "$@" <&-', '-', $script, @batch), 3, '', "mkpasswd-parallel: read fault\n", 'no input');
+    is_run(run('sh', '-c', 'exec "$@" <&-', '-', $script, @batch), 3, '', "mkpasswd-parallel: read fault\n", 'a closed input');
     is(run(\%how, 'sh', '-c', 'exec "$@" >&-', '-', $script, @batch)->{status}, 3, 'no output');
-    is(run(\%how, 'bash', '-c', '"$@" | head -n 0; exit ${PIPESTATUS[0]}', '-', $script, @batch)->{status}, 3, 'an output that closes');
+    my @closes = ('bash', '-c', '"$@" | true; exit ${PIPESTATUS[0]}', '-', $script);
+    is(run({ stdin => $thirty x 500 }, @closes, @batch)->{status}, 3, 'an output that closes');
     my $lines = join '', map { $_ % 50 ? "user$_:password$_\n" : ":\n" } 1 .. 2000;
-    my $limited = run({ stdin => $lines }, 'bash', '-c', 'ulimit -f 20; exec "$@" > "$0"', "$scratch/out", $script, @batch);
+    my $limited = run({ stdin => $lines }, 'bash', '-c', 'ulimit -f 20; "$@" > "$0"', "$scratch/out", $script, @batch);
     resumes('a limit of the length of files', $lines, 'write fault', slurp("$scratch/out"), $limited->{err}, @batch);
-    my $mount = 'mkdir -p "$0"; mount -t tmpfs -o size=64k none "$0" && { "$@" > "$0/out"; status=$?; cat "$0/out"; exit $status; }';
+    my $mount = 'mount -t tmpfs -o size=64k none "$0" || exit 9; "$@" > "$0/out"; status=$?; cat "$0/out"; exit $status';
     my @own = ('unshare', $> == 0 ? () : '--map-root-user', qw(--mount sh -c), $mount, "$scratch/full");
     if (needs('unshare, or a mount of its own,' => 'util-linux', run(@own, 'true')->{status} == 0)) {
         my $full = run({ stdin => $lines }, @own, $script, @batch);
-        is($full->{status}, 3, 'a full disk: status');
         resumes('a full disk', $lines, 'write fault', $full->{out}, $full->{err}, @batch);
     }
-    # A pipe that takes nothing for a while, and is not waited for.
     my $slowly = 'perl -MFcntl -e "fcntl STDOUT, F_SETFL, O_NONBLOCK; exec @ARGV" "$@" | (sleep 1; cat)';
     my ($many, @slowly) = ({ stdin => $lines x 5 }, 'sh', '-c', $slowly, '-', $script);
     is(run($many, @slowly, @batch)->{out}, run($many, $program, @batch)->{out}, 'an output that does not block');
@@ -210,26 +192,26 @@ subtest 'devices' => sub {
 subtest 'limits' => sub {
     my $lines = batch_lines();
     my $alone = run({ stdin => $lines }, $program, @batch);
-    for my $limit ('-n 3', '-n 4', '-n 5', '-n 6', '-n 8', '-n 10', '-n 12', '-n 16', '-n 32', '-v 6000', '-v 12000', '-v 20000', '-v 40000', '-u 0') {
-        my @how = ($limit eq '-u 0' && $> == 0 ? qw(setpriv --reuid 65534 --clear-groups) : (), 'bash', '-c', "ulimit $limit; exec \"\$@\"", '-');
-        my $run = run({ stdin => $lines, timeout => 60 }, @how, $script, qw(--jobs 3), @batch);
+    for my $limit ((map { "-n $_" } 3 .. 16, 32), '-v 6000', '-v 12000', '-v 20000', '-v 40000', '-u 0') {
+        my @other = $limit eq '-u 0' && $> == 0 ? qw(setpriv --reuid 65534 --clear-groups) : ();
+        my @limited = (@other, 'bash', '-c', "ulimit $limit; exec \"\$@\"", '-', $script, qw(--jobs 3), @batch);
+        my $run = run({ stdin => $lines, timeout => 60 }, @limited);
         my $is_whole = $run->{status} == 1 && $run->{out} eq $alone->{out} && $run->{err} eq $alone->{err};
-        ok($is_whole || $run->{status} >= 2 && $run->{out} eq substr($alone->{out}, 0, length $run->{out}) && $run->{err} ne '', "ulimit $limit: all is answered, or it says so")
-            or diag("$run->{status} $run->{err}");
+        my $says_so = $run->{status} > 1 && !$run->{timed_out} && $run->{err} ne '' && 0 == index $alone->{out}, $run->{out};
+        ok($is_whole || $says_so, "ulimit $limit: all is answered, or it says so") or diag("$run->{status} $run->{err}");
         ok($is_whole, "ulimit $limit is enough") if $limit =~ /-n (?:16|32)/;
     }
-    my $scrypt = run({ stdin => $thirty }, 'bash', '-c', 'ulimit -v 50000; exec "$@"', '-', $script, qw(--jobs 2 --batch -m scrypt));
-    is("$scrypt->{status} $scrypt->{err}", "3 mkpasswd-parallel: out of memory; answered up to line 0; --resume-from 1 takes the rest\n", 'no memory for a hash');
+    my @small = ('bash', '-c', 'ulimit -v 50000; exec "$@"', '-', $script);
+    my $scrypt = run({ stdin => $thirty }, @small, qw(--jobs 2 --batch -m scrypt));
+    is_run($scrypt, 3, '', "mkpasswd-parallel: out of memory; $none\n", 'no memory for a hash');
 };
 
-# What the process around it hands over changes nothing.
 subtest 'environment' => sub {
     my %how = (stdin => batch_lines());
-    mkdir "$scratch/lib";
     spew("$scratch/lib/POSIX.pm", 'die "not this one"');
     for (
-        [PERL_UNICODE => 'SDA'], [PERL_UNICODE => ''], [PERL5OPT => '-CS'], [PERL5OPT => '-Mopen=:std,:utf8'], [PERLIO => ':crlf'], [PERL5LIB => "$scratch/lib"],
-        [LC_ALL => 'C.UTF-8'], [LC_NUMERIC => 'de_DE.UTF-8'], [TMPDIR => '/nowhere'], [PARALLEL => '--jobs 0'], [BASH_ENV => '/nowhere'],
+        [PERL_UNICODE => 'SDA'], [PERL_UNICODE => ''], [PERL5OPT => '-CS'], [PERL5OPT => '-Mopen=:std,:utf8'],
+        [PERLIO => ':crlf'], [PERL5LIB => "$scratch/lib"], [LC_ALL => 'C.UTF-8'], [LC_NUMERIC => 'de_DE.UTF-8'],
     ) {
         my ($name, $value) = @$_;
         same("$name=$value", { %how, env => { LC_ALL => undef, PERL_BADLANG => 0, $name => $value } }, [], @batch);
@@ -246,16 +228,17 @@ subtest 'environment' => sub {
     same('bash as sh', { %how, env => { PATH => "$scratch/bin:$ENV{PATH}" } }, [], @batch);
 };
 
-# While the first line takes long, others wait for it, but no more than so many.
 subtest 'memory and time' => sub {
-    my $child = begin("first:x\n" . ":\n" x 1_000_000, $script, qw(--jobs 2 --batch -m sha512crypt -R 3000000 -S ab --budget 300000000));
+    my $child = begin("first:x\n" . ":\n" x 1_000_000, $script, qw(--jobs 2 --batch -m sha512crypt -R 3000000 -S ab));
     my $most = 0;
-    while (!waitpid $child, POSIX::WNOHANG) { ($most) = (eval { slurp("/proc/$child/status") } // '') =~ /^VmHWM:\s+(\d+)/m ? $1 : $most; sleep 0.02 }
+    while (!waitpid $child, POSIX::WNOHANG) {
+        $most = $1 if (eval { slurp("/proc/$child/status") } // '') =~ /^VmHWM:\s+(\d+)/m;
+        sleep 0.02;
+    }
     is(slurp("$scratch/err") =~ tr/\n// + answers(), 1_000_001, 'a million lines behind one that takes long');
-    cmp_ok($most, '<', 80_000, 'kB of memory') && cmp_ok($most, '>', 0, 'it was measured');
+    ok($most && $most < 80_000, 'at most 80 MB of memory') or diag($most);
     my $drops = '(echo a:x; sleep 3; echo b:x) | "$0" "$@" | while read -r line; do date +%s; done';
-    my $begun = int time;
-    my ($first, $second) = split ' ', run('sh', '-c', $drops, $script, @batch)->{out};
+    my ($begun, $first, $second) = (int time, split ' ', run('sh', '-c', $drops, $script, @batch)->{out});
     cmp_ok($first - $begun, '<=', 2, 'the first answer comes at once');
     cmp_ok($second - $first, '>=', 2, 'and waits for no more lines');
 };
@@ -265,11 +248,12 @@ subtest 'progress' => sub {
     like($run->{err}, qr{^\d+ lines, [\d.]+ a second, \d+ %, 0:00:\d\d left\n}m, 'a file: part and time left');
     like($run->{err}, qr{\n300 lines, [\d.]+ a second, 100 %, 0:00:00 left\n\z}, 'a file: all at the end');
     is(join('', $run->{err} =~ /^(mkpasswd: .*\n)/mg), $slow_alone->{err}, 'refusals have lines of their own');
-    like(run('sh', '-c', '(echo a:x; sleep 2) | "$@"', '-', $script, '--progress', @batch)->{err}, qr{^1 lines, [\d.]+ a second\n}m, 'a pipe: no end is known');
+    my $piped = run('sh', '-c', '(echo a:x; sleep 2) | "$@"', '-', $script, '--progress', @batch);
+    like($piped->{err}, qr{^1 lines, [\d.]+ a second\n}m, 'a pipe: no end is known');
     needs(script => 'bsdutils') or return;
     spew("$scratch/input", $slow_lines);
     my $typed = run('script', '-qec', "$script --jobs 1 @slow < $scratch/input > $scratch/out", '/dev/null')->{out};
-    like($typed, qr{\d+ lines, [\d.]+ a second, \d+ %, \d:\d\d:\d\d left\r\e\[Kmkpasswd: line \d+: no}, 'a terminal: it is wiped before a refusal');
+    like($typed, qr{\d a second, \d+ %, \d:\d\d:\d\d left\r\e\[Kmkpasswd: line}, 'a terminal: it is wiped before a refusal');
     is(slurp("$scratch/out"), $slow_alone->{out}, 'a terminal: answers beside it');
 };
 
@@ -279,21 +263,22 @@ subtest 'machines' => sub {
     my ($sshd) = grep { -x } map { "$_/sshd" } '/usr/sbin', split /:/, $ENV{PATH};
     needs(sshd => 'openssh-server', $sshd) or return;
     needs('ip, or a network of its own,' => 'iproute2', !run(qw(unshare --net --mount ip link set lo up))->{status}) or return;
-    run('sh', '-c', 'mkdir -p /run/sshd "$0/ssh"; for key in host user; do ssh-keygen -q -t ed25519 -N "" -f "$0/ssh/$key"; done', $scratch);
-    my $config = "-o IdentityFile=$scratch/ssh/user -o UserKnownHostsFile=/dev/null -o StrictHostKeyChecking=no -o LogLevel=ERROR";
+    mkdir $_ for '/run/sshd', "$scratch/ssh";
+    run(qw(ssh-keygen -q -t ed25519 -N), '', '-f', "$scratch/ssh/$_") for qw(host user);
     my ($ssh) = grep { -x } map { "$_/ssh" } split /:/, $ENV{PATH};
-    spew("$scratch/bin/ssh", "#!/bin/sh\nexec $ssh $config \"\$@\"\n");
+    my @client = ("IdentityFile=$scratch/ssh/user", qw(UserKnownHostsFile=/dev/null StrictHostKeyChecking=no LogLevel=ERROR));
+    spew("$scratch/bin/ssh", "#!/bin/sh\nexec $ssh @{[map { qq(-o $_) } @client]} \"\$@\"\n");
     chmod 0755, "$scratch/bin/ssh";
-    my $server = "$sshd -f /dev/null -o HostKey=$scratch/ssh/host -o AuthorizedKeysFile=$scratch/ssh/user.pub -o StrictModes=no -o PidFile=none"
-        . " -o SetEnv=PATH=$scratch/bin:/usr/bin:/bin -o PermitRootLogin=yes";
+    my @keys = ("HostKey=$scratch/ssh/host", "AuthorizedKeysFile=$scratch/ssh/user.pub", "SetEnv=PATH=$scratch/bin:/bin");
+    my $server = join ' -o ', "$sshd -f /dev/null", @keys, qw(StrictModes=no PidFile=none PermitRootLogin=yes);
     my $network = 'mkdir -p /run/netns; mount -t tmpfs none /run/netns; ip link set lo up; for n in 1 2; do ip netns add m$n;'
         . ' ip link add v$n type veth peer name w$n netns m$n; ip addr add 10.0.$n.1/24 dev v$n; ip link set v$n up;'
         . " ip -n m\$n addr add 10.0.\$n.2/24 dev w\$n; ip -n m\$n link set w\$n up; ip netns exec m\$n $server; done";
     my $on_both = sub {
         my ($command, @words) = @_;
-        my $way = "PATH=$scratch/bin:$ENV{PATH}";
+        my %how = (stdin => $slow_lines, dir => $scratch, env => { HOME => $scratch, PATH => "$scratch/bin:$ENV{PATH}" });
         my @own = qw(unshare --net --mount --pid --fork --kill-child sh -c);
-        return run({ stdin => $slow_lines, dir => $scratch, env => { HOME => $scratch } }, 'env', $way, @own, "{ $network; } > /dev/null 2>&1; $command", '-', @words);
+        return run(\%how, @own, "{ $network; } > /dev/null 2>&1; $command", '-', @words);
     };
     my @hosts = qw(--on 10.0.1.2/2 --on=10.0.2.2);
     is_run($on_both->('"$@"', $script, qw(--jobs 0), @hosts, @slow), @$slow_alone{qw(status out err)}, 'two machines');
@@ -308,7 +293,8 @@ subtest 'machines' => sub {
     spew("$scratch/hosts", "10.0.1.2\n10.0.2.2\n");
     spew("$scratch/passwords", my $lines = batch_lines() . "\n");
     $on_both->("set -e\n" . $recipe =~ s/-m \S+ -R \d+/-m md5crypt -S xxxxxxxx/r);
-    is_deeply([map { slurp("$scratch/$_") } qw(hashes refused)], [@{ run({ stdin => $lines }, $program, @batch) }{qw(out err)}], 'the recipe for a fleet');
+    my $alone = run({ stdin => $lines }, $program, @batch);
+    is_deeply([map { slurp("$scratch/$_") } qw(hashes refused)], [@$alone{qw(out err)}], 'the recipe for a fleet');
 };
 
 done_testing;
