@@ -93,7 +93,7 @@ subtest 'one run over the whole input' => sub {
     same('a check', { stdin => $check }, [qw(--jobs 3)], qw(--check --budget 500000));
     same('a check with new hashes', { stdin => $check }, [], qw(--check --rehash -m sha256 -R 1000 -S ab --work --budget 300000));
     same('a wrong password', { stdin => "ann:\$1\$xxxxxxxx\$UYCIxa628.9qXjpQCjM4a.:x\n" }, [], qw(--check --work));
-    same(@$_, [], @batch) for ['no input', { stdin => '' }], ['CRLF', { stdin => "a:x\r\n:\r\n" }], ['no end', { stdin => 'a:x' }];
+    same(@$_, [], @batch) for ['no input', {}], ['CRLF', { stdin => "a:x\r\n:\r\n" }], ['no end', { stdin => 'a:x' }];
     same('more lines than wait at once', { stdin => "first:x\n" . ":\n" x 150_000 }, [], qw(--batch -R 400000 -S ab));
     my @joined = map { run({ stdin => batch_lines() }, 'sh', '-c', 'exec "$@" 2>&1', '-', $_, @batch)->{out} } $program, $script;
     is($joined[1], $joined[0], 'answers and refusals in one stream');
