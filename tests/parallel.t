@@ -289,10 +289,9 @@ subtest 'machines' => sub {
     my $all = $on_both->('(sleep 3; ip link set v1 down) & exec "$@"', $script, qw(--jobs 0), @hosts[0, 1], @dear);
     like($all->{err}, qr/^mkpasswd-parallel: 10\.0\.1\.2: status 255; answered up to line \d+; /m, 'the only machine is lost');
     needs(parallel => 'parallel') or return;
-    my ($recipe) = grep { /--sshloginfile/ } Texts::blocks_of(slurp("$root/docs/RECIPES.md"), 'sh');
     spew("$scratch/hosts", "10.0.1.2\n10.0.2.2\n");
     spew("$scratch/passwords", my $lines = batch_lines() . "\n");
-    $on_both->("set -e\n" . $recipe =~ s/-m \S+ -R \d+/-m md5crypt -S xxxxxxxx/r);
+    $on_both->(Texts::marked('a fleet', 'sh') =~ s/-m \S+ -R \d+/-m md5crypt -S xxxxxxxx/r);
     my $alone = run({ stdin => $lines }, $program, @batch);
     is_deeply([map { slurp("$scratch/$_") } qw(hashes refused)], [@$alone{qw(out err)}], 'the recipe for a fleet');
 };
