@@ -2,8 +2,8 @@
 # shellcheck shell=bash
 #
 # bash-completion finds it as share/bash-completion/completions/mkpasswd and mkpasswd-parallel; without that package
-# ~/.bashrc has to source it. A password, a salt, a number or a machine is never completed, so file names are offered for
-# --program, and behind "<" and ">", alone.
+# ~/.bashrc has to source it. A password, a salt, a number or a machine is never completed, so file names are offered
+# behind "<" and ">" alone.
 
 _mkpasswd() {
     # The program also takes md5, sha-256 and sha-512. They are other names of these, so a list has no need of them.
@@ -14,7 +14,7 @@ _mkpasswd() {
     COMPREPLY=()
     # mkpasswd-parallel has options of its own, and takes lines alone.
     if [[ $1 == *-parallel ]]; then
-        options+=(--jobs --sshlogin --block-lines --resume-from --progress --program)
+        options+=(--jobs --on --resume-from --progress)
         modes=(--batch --check --rehash --budget)
     fi
 
@@ -46,11 +46,9 @@ _mkpasswd() {
     case $option in
         -m | --method) offered=("${methods[@]}") ;;
         -S | --salt | -R | --rounds | --budget) ;;
-        --jobs | --sshlogin | --block-lines | --resume-from) ;;
-        --program) compopt -o default ;;
+        --jobs | --on | --resume-from) ;;
         *)
             case $cur in
-                --program=*) mapfile -t COMPREPLY < <(compgen -f -P --program= -- "${cur#*=}") ;;
                 --method=*) glued=--method= ;;
                 -m?*) glued=-m ;;
                 -*) offered=("${options[@]}" "${modes[@]}") ;;

@@ -1,8 +1,8 @@
 # Completes the words of mkpasswd and mkpasswd-parallel in fish, which finds it as mkpasswd.fish and mkpasswd-parallel.fish
 # in fish/vendor_completions.d in the folders of XDG_DATA_DIRS, or in /usr/share where that isn't set.
 #
-# A password, a salt, a number or a machine is never completed, and there are no file names but for --program: -f, and -x
-# where a word follows.
+# A password, a salt, a number or a machine is never completed, and there are no file names: -f, and -x where a word
+# follows.
 
 # The program also takes md5, sha-256 and sha-512. They are other names of these, so a list has no need of them.
 set -l methods md5crypt sha256crypt sha512crypt scrypt help
@@ -27,9 +27,7 @@ complete $each -s h -l help -d 'Print help'
 complete $each -s V -l version -d 'Print version'
 
 # mkpasswd-parallel has options of its own, and takes lines alone.
-complete -c mkpasswd-parallel -l jobs -x -d 'How many processes run at once on each machine'
-complete -c mkpasswd-parallel -l sshlogin -x -d 'Run on this machine'
-complete -c mkpasswd-parallel -l block-lines -x -d 'How many lines a process gets'
+complete -c mkpasswd-parallel -l jobs -x -d 'How many processes run here'
+complete -c mkpasswd-parallel -l on -x -d 'Run on this machine too'
 complete -c mkpasswd-parallel -l resume-from -x -d 'Begin with this line of the input'
 complete -c mkpasswd-parallel -l progress -d 'Show how many lines are done'
-complete -c mkpasswd-parallel -l program -r -F -d 'The mkpasswd to run'

@@ -52,14 +52,13 @@ $lines{mkpasswd} = [
 $lines{'mkpasswd-parallel'} = [
     ['-m ', [@methods]], ['--check -m sha', [qw(sha256crypt sha512crypt)]], ['-mm', ['-mmd5crypt']],
     ['--method=sc', ['--method=scrypt']], ['-', [@parallel]], ['--', [@long_parallel]], ['--j', ['--jobs']], ['--st', []],
-    ['--b', [qw(--batch --block-lines --budget)]], ['--r', [qw(--resume-from --rounds --rehash)]],
-    ['--prog', [qw(--progress --program)]], ['--sshlogin east --ss', ['--sshlogin']], ['--jobs 2 --che', ['--check']],
+    ['--b', [qw(--batch --budget)]], ['--r', [qw(--resume-from --rounds --rehash)]],
+    ['--prog', ['--progress']], ['--on east --o', ['--on']], ['--jobs 2 --che', ['--check']],
     ['--batch --', but_of(\@long_parallel, qw(--batch --check --rehash))],
     ['--check --', but_of(\@long_parallel, qw(--batch --check))], ['--rehash --ch', ['--check']],
-    (map { [$_, []] } '', 'lo', '--jobs ', '--jobs=', '--sshlogin lo', '--block-lines ', '--resume-from lo', '--budget ', '-S lo',
+    (map { [$_, []] } '', 'lo', '--jobs ', '--jobs=', '--on lo', '--resume-from lo', '--budget ', '-S lo',
         '--salt=', '-R ', '--batch lo', '--progress ', '-- ', '-- lo', '-- --b', '--batch -- -'),
-    ['--program lo', ['logins']], ['--program=lo', ['--program=logins']], ['--check < lo', ['logins']],
-    ['--batch < logins > sha', ['sha256sums']], ['< logins --ch', ['--check']],
+    ['--check < lo', ['logins']], ['--batch < logins > sha', ['sha256sums']], ['< logins --ch', ['--check']],
 ];
 my @commands = sort keys %lines;
 mkdir "$scratch/$_" for qw(bin home folder share share/bash-completion share/bash-completion/completions fish);

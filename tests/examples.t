@@ -44,7 +44,6 @@ sub difference {
 # Tests one example; the words are those of the examples up to here, among which its passwords are.
 sub try_example {
     my ($command, $shown, $folder, $words) = @_;
-    $command !~ /\bmkpasswd-parallel\b/ || needs(parallel => 'parallel') or return;
     push @$words, grep { /^[A-Za-z :]{2,}\z/ } split(/['":]|\\n|\n/, $command), split /[\s:'"|<>;]+|\\n/, $command;
     my $output = sub { run({ %in, dir => $folder }, 'bash', '-c', "exec 2>&1\n$command")->{out} };
     my $got = $output->();
