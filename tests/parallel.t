@@ -9,6 +9,7 @@ use Suite;
 use Texts ();
 use Time::HiRes qw(sleep time);
 
+$SIG{$_} = 'DEFAULT' for qw(HUP INT TERM);    # which nohup and the like have ignored
 chmod 0755, $scratch or die;
 mkdir "$scratch/$_" for qw(bin played locked full lib);
 run('cp', program(), "$root/bin/mkpasswd-parallel", "$scratch/bin");
