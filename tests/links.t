@@ -27,9 +27,8 @@ for my $document (glob "$root/*.md $root/docs/*.md") {
     is(join(' ', grep { !leads_somewhere($document, $_) } @links), '', 'links of ' . substr $document, 1 + length $root);
 }
 
-# A call for strings has the page of the call for bytes.
 for my $manual (glob "$root/man/*.[1-8]") {
     my @pages = map { s/ /./r } slurp($manual) =~ s/\\-/-/gr =~ /^\.Xr ((?:lib)?mkpasswd\S* \d)/mg;
-    is(join(' ', grep { !-e "$root/man/$_" && !-e "$root/man/" . s/_str\b//r } @pages), '', 'pages that ' . substr($manual, 1 + length $root) . ' names');
+    is(join(' ', grep { !-e "$root/man/$_" } @pages), '', 'pages that ' . substr($manual, 1 + length $root) . ' names');
 }
 done_testing;
