@@ -1,8 +1,8 @@
 package Model;
 
-# The rules of docs/FORMATS.md, read a second time and not out of the code: settings and their refusals, the work and
-# the cost of a hash, hashes, lines and their answers. Hashes are those of perl's crypt, which is libxcrypt; where that
-# doesn't take a password they are made here, but for scrypt, where they are not known.
+# The rules of docs/FORMATS.md and of the standards that it names, read a second time and not out of the code: settings and
+# their refusals, the work and the cost of a hash, hashes, lines and their answers. Hashes are those of perl's crypt, which is
+# libxcrypt; where that doesn't take a password they are made here, but for scrypt, where they are not known.
 #
 # What comes up is counted in %seen, so that a test can want each rule to have been met.
 
