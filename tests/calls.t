@@ -466,11 +466,14 @@ sub are_logins {
     my @rows = ([0, '', "printf password | $it", $fixed, 'no line feed'], [0, '', "(printf pass; sleep 0.2; echo word) | $it", $fixed, 'in pieces'],
         [0, '', "echo | $it", $empty, 'an empty line'], [2, 'login: ', "$it < /dev/null", $empty, 'nothing to read'],
         [2, 'login: ', "$it <&-", $empty, 'a closed input'], [2, 'login: ', "$it 0> in", $empty, "an input that can't be read"],
-        [2, 'over budget', "echo password | $it", '$6$rounds=999999999$ab$x', 'over budget'],
-        [2, 'bad character', "echo password | $it", "!$fixed", 'a locked account'],
-        [2, 'unknown scheme', "echo password | $it", 'abc', 'no scheme'], [2, 'bad character', "echo password | $it", "$fixed\xff", 'not UTF-8'],
-        [2, 'password too long', "printf 'a%.0s' {1..1025} | $it", $fixed, 'a long password'],
-        [2, 'password too long', "ulimit -v 1000000; $it < /dev/zero", $fixed, 'an endless line'], [2, 'usage: ', "echo password | $it"]);
+        [2, 'usage: ', "echo password | $it"]);
+    my @refused = (['over budget', "echo password | $it", '$6$rounds=999999999$ab$x', 'over budget'],
+        ['bad character', "echo password | $it", "!$fixed", 'a locked account'], ['unknown scheme', "echo password | $it", 'abc', 'no scheme'],
+        ['bad character', "echo password | $it", "$fixed\xff", 'not UTF-8'],
+        ['password too long', "printf 'a%.0s' {1..1025} | $it", $fixed, 'a long password'],
+        ['password too long', "ulimit -v 1000000; $it < /dev/zero", $fixed, 'an endless line']);
+    # Python's login tells no reason.
+    push @rows, map { my ($reason, @rest) = @$_; $name eq 'python' ? [1, '', @rest] : [2, $reason, @rest] } @refused;
     for (@known[0, 1, 4]) {
         push @rows, [0, '', "printf '%s\\nmore\\n' '$_->[0]' | $it", $_->[1], 'right'], [1, '', "printf '%s \\nmore\\n' '$_->[0]' | $it", $_->[1], 'wrong'];
     }
@@ -478,7 +481,8 @@ sub are_logins {
     push @rows, [2, 'libmkpasswd.so.2', "echo password | LD_LIBRARY_PATH=broken $it", $fixed, 'a broken library'] if $name eq 'python';
     for (@rows) {
         my ($status, $err, $script, $stored, $what) = @$_;
-        my $run = run({ env => { LD_LIBRARY_PATH => $libs }, dir => $scratch }, 'bash', '-c', $script, @command, $stored // ());
+        my %env = (LD_LIBRARY_PATH => $libs, PYTHONPATH => "$root/python/src");
+        my $run = run({ env => \%env, dir => $scratch }, 'bash', '-c', $script, @command, $stored // ());
         my $is_told = $err eq '' ? $run->{err} eq '' : index($run->{err}, $err) >= 0;
         is_deeply([@$run{qw(status out)}, $is_told], [$status, '', 1 == 1], "$name: " . ($what // 'no stored hash')) or diag($run->{err});
     }
@@ -502,32 +506,32 @@ subtest 'examples' => sub {
         is_run(run($login, $fixed, 'password'), 0, "in\n", '', "$name: the right password");
         is_run(run($login, $_, 'password'), 0, '', '', "$name: $_") for "!$fixed", $empty, '$6$rounds=999999999$ab$x';
     }
-    my ($include, $login) = marked('service in C', 'c') =~ /\A((?:#include [^\n]*\n)+)(.*)\z/s;
-    my ($nobody) = ($login // '') =~ /^int login/m ? $login =~ s/mkpasswd_verify_str\(/checks(/ && '$6$rounds=656000$nobody.has.this.$' . '.' x 86 : '';
-    spew("$scratch/service.c", "#include <stdio.h>\n$include" . <<'END' . "$login\n" . <<'END');
-static int32_t checks(const char *password, const char *stored, uint64_t budget, struct mkpasswd_report *report)
+    my ($include, $login) = marked('service in C', 'c') =~ /\A(#include [^\n]*\n)(.*)\z/s;
+    spew("$scratch/service.c", ($include // '') . <<'END' . ($login // '') =~ s/mkpasswd_login_str\(/told(/r . <<'END');
+#include <stdio.h>
+static bool told(const char *password, const char *field, uint32_t method, uint32_t cost, uint64_t budget, struct mkpasswd_report *report)
 {
-    puts(stored);
-    return mkpasswd_verify_str(password, stored, budget, report);
+    struct mkpasswd_report own;
+    bool is_in = mkpasswd_login_str(password, field, method, cost, budget, report = report ? report : &own);
+    printf("%llu\n", (unsigned long long)report->work.digests);
+    return is_in;
 }
 int login(const char *password, const char *field);
 END
 int main(int argc, char **argv) { return !login(strcmp(argv[1], "null") ? argv[1] : NULL, argc > 2 ? argv[2] : NULL); }
 END
     if (my $program = build('service', $cc, '-std=c99', @strict, "$scratch/service.c", @static)) {
-        is_run(run($program, 'password', $fixed), 0, "$fixed\n", '', 'service in C: the right password');
-        is_run(run($program, 'passw0rd', $fixed), 1, "$fixed\n", '', 'service in C: a wrong password');
-        is_run(run($program, 'password', @$_), 1, "$nobody\n", '', "service in C: '@$_' costs a hash")
-            for [], [''], ["!$fixed"], ['*'], ['$y$x'], ['$6$rounds=999999999$ab$x'];
-        is_run(run($program, 'null', @$_), 1, ($_->[0] // $nobody) . "\n", '', "service in C: a null password, '@$_'") for [], [$fixed];
-        is_run(run($program, 'a' x 83, @$_), 1, "$nobody\n", '', "service in C: a long password, '@$_'") for [], [$nobody];
+        my $current = crypt 'password', '$6$rounds=656000$ab';
+        my $all = run($program, 'password', $current);
+        ok($all->{status} == 0 && $all->{out} > 656_000, 'service in C: the right password');
+        is_run(run($program, 'passw0rd', @$_), 1, $all->{out}, '', "service in C: '@$_'")
+            for [$current], [], [''], ["!$fixed"], ['*'], ['$y$x'], ['$6$rounds=999999999$ab$x'];
+        is_run(run($program, @$_), 1, "0\n", '', "service in C: '@$_'") for map { ['null', @$_], ['a' x 1025, @$_] } [], [$current];
     }
     needs(python3 => 'python3') or return;
     mkdir "$scratch/broken";
     spew("$scratch/broken/libmkpasswd.so.2", '');
     are_logins('python', 'python3', '-B', "$root/examples/login.py");
-    my %numbers = slurp("$root/examples/login.py") =~ /^([A-Z_]+) = (\S+)$/mg;
-    is_deeply(\%numbers, { map { $_ => $defined{$_} } qw(BUDGET TEXT_SIZE PASSWORD_LIMIT DIFFERS) }, "login.py has the header's numbers");
 };
 
 subtest 'manuals' => sub {

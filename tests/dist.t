@@ -121,7 +121,7 @@ subtest 'the program with only the C library' => sub {
 };
 
 subtest 'libraries' => sub {
-    my %env = (PKG_CONFIG_PATH => "$tree/lib/pkgconfig", LD_LIBRARY_PATH => "$tree/lib");
+    my %env = (PKG_CONFIG_PATH => "$tree/lib/pkgconfig", LD_LIBRARY_PATH => "$tree/lib", PYTHONPATH => "$root/python/src");
     my $login = sub {
         my ($what, @command) = @_;
         is(run({ stdin => "password\n", env => \%env }, @command, $known)->{status}, 0, "$what: the right password");

@@ -20,8 +20,8 @@ SHA512 = "$6$saltstring$svn8UoSVapNtMuq1ukKS4tPQd8iKwSMHWjl/O817G3uBnIFNjnQJuesI
 # It would take a second or two, which a test can wait for if the budget is not heeded.
 COSTLY = "$6$rounds=2500000$saltstring$" + "x" * 86
 
-# The Python of docs/PYTHON.md, by the heading of its recipe.
-_SECTIONS = (ROOT / "docs/PYTHON.md").read_text().split("\n### ")[1:]
+# The Python of docs/PYTHON.md, by the heading that it is under.
+_SECTIONS = re.split("\n##+ ", (ROOT / "docs/PYTHON.md").read_text())[1:]
 BLOCKS = {section.split("\n")[0]: re.findall("```python\n(.*?)```", section, re.S) for section in _SECTIONS}
 
 _crypt = ctypes.CDLL("libcrypt.so.1").crypt

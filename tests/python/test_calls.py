@@ -7,7 +7,7 @@ import traceback
 
 import mkpasswd
 import pytest
-from mkpasswd import Reason, Refused, TooCostly, cost, crypt, hash, needs_rehash, verify, verify_and_update, work
+from mkpasswd import Reason, Refused, TooCostly, cost, crypt, hash, login, needs_rehash, verify, verify_and_update, work
 from support import COSTLY, MD5, SHA512, libxcrypt
 
 REFUSED = {
@@ -41,6 +41,90 @@ def with_password(word):
 
 def with_field(field):
     return (verify, "x", field), (verify_and_update, "x", field), (needs_rehash, field), (cost, field, 8), (work, field, 8)
+
+
+# The setting of a stored hash, the method and rounds of the service, and how a new hash begins if the stored one is outdated.
+LOGINS = [
+    ("$1$salt", ("md5crypt",), None),
+    ("$1$salt", ("sha256crypt", 1000), "$5$rounds=1000$"),
+    ("$5$salt", ("scrypt", 6), "$7$BU"),
+    ("$6$rounds=3000$salt", ("sha512crypt", 3000), None),
+    ("$6$rounds=3000$salt", ("sha512crypt", 2000), None),
+    ("$6$rounds=3000$salt", ("sha512crypt", 4000), "$6$rounds=4000$"),
+    ("$6$rounds=3000$salt", (), "$6$rounds=656000$"),
+    ("$7$BU..../....salt", ("scrypt", None), "$7$CU"),
+]
+
+
+@pytest.mark.parametrize("setting, made, front", LOGINS)
+def test_a_login_lets_in_whom_libxcrypt_would(setting, made, front):
+    stored = libxcrypt("pässword", setting)
+    for field in stored, stored.encode():
+        matches, new = verdict = login("pässword", field, *made)
+        assert matches is True and verdict
+        assert new is None if front is None else new.startswith(front) and new == libxcrypt("pässword", new)
+    for word in "password", "pässword ", "", "!", stored:
+        assert login(word, stored, *made) == (False, None)
+
+
+def test_a_login_raises_nothing_for_what_is_typed_or_stored():
+    for field in [None, *LOCKED, *OTHERS, *REFUSED, COSTLY, "x" * 10**6]:
+        for stored in field, field and field.encode("utf-8", "surrogatepass"):
+            assert login("password", stored, rounds=1000) == (False, None), field
+    for word in "", "x\0", b"\0", "\ud800", b"\xff", "x" * 1025, "\u00e9" * 513, "x" * 10**6, "x" * 1024, MD5, "!":
+        for field in None, "", "!", MD5, SHA512:
+            assert login(word, field, rounds=1000) == (False, None), (word, field)
+    assert login("password", MD5, budget=0) == (False, None)
+
+
+def test_a_login_does_the_same_work_for_every_name(monkeypatch):
+    """A wrong password for a hash of the service's own kind, and a field that can't be checked."""
+    works, call = [], mkpasswd.lib.mkpasswd_login
+
+    def counted(*arguments):
+        done = call(*arguments)
+        works.append(arguments[-1].work)
+        return done
+
+    monkeypatch.setattr(mkpasswd.lib, "mkpasswd_login", counted)
+    for method, rounds in ("md5crypt", None), ("sha256crypt", 2000), ("sha512crypt", 2000), ("scrypt", 6):
+        works.clear()
+        for field in hash("password", method, rounds=rounds), None, "", "!" + SHA512, "$y$j9T$salt$x", "$5$rounds=0$a$x", COSTLY:
+            assert not login("passw0rd", field, method, rounds)
+        assert len({(work.digests, work.mixes, work.table) for work in works}) == 1 and works[0].digests > 0
+        assert len({work.bytes for work in works[1:]}) == 1
+    # A password that no hash can have is refused before that, and one of 83 bytes costs too much.
+    works.clear()
+    for word in "x\0", "\ud800", "x" * 1025, "x" * 83:
+        for field in "$6$rounds=656000$saltsaltsaltsalt$" + "x" * 86, None, "!":
+            assert not login(word, field)
+    assert all(work.digests == 0 for work in works)
+
+
+def test_a_login_charges_each_of_its_hashes():
+    """So a service can move to a method which costs more than half of its budget."""
+    stored = libxcrypt("password", "$6$rounds=900000$salt")
+    assert login("password", stored, "scrypt", 7).new.startswith("$7$CU")
+
+
+def test_a_login_goes_on_without_a_new_hash(monkeypatch):
+    """If that costs too much, or the system has no random bytes."""
+    assert login("x" * 83, libxcrypt("x" * 83, "$1$salt")) == (True, None)
+    reason = Reason.NO_RANDOM_WORDS.value
+    monkeypatch.setattr(mkpasswd.lib, "mkpasswd_new", lambda *arguments: setattr(arguments[-1], "reason", reason))
+    assert login("password", MD5) == (True, None)
+
+
+def test_a_login_tells_its_programmer():
+    for error, *arguments in (
+        *((TypeError, word, MD5) for word in (None, 5, bytearray(b"x"))),
+        *((TypeError, "x", field) for field in (5, True, bytearray(b"x"), [MD5])),
+        *((TypeError, "x", None, *made) for made in ((None,), (6,), ("md5crypt", "5000"), ("md5crypt", True))),
+        *((ValueError, "x", None, "sha512crypt", rounds) for rounds in (-1, 12, 999, 10**9)),
+        *((Refused, "x", field, *made) for field in (None, MD5) for made in (("bcrypt",), ("scrypt",), ("scrypt", 12))),
+    ):
+        assert type(error_of(login, *arguments)) is error, arguments
+    assert type(error_of(login, "x", MD5, budget=-1)) is ValueError and type(error_of(login, "x", MD5, budget=None)) is TypeError
 
 
 def test_str_is_its_utf8():

@@ -4,105 +4,80 @@ import json
 import os
 import re
 import secrets
+import sqlite3
 
 import mkpasswd
 import pytest
 from support import BLOCKS, COSTLY, MD5, SHA512, libxcrypt, missing, needs, recipe, run
 
 
+@pytest.fixture
+def database():
+    """Users with a right hash, none, a locked one, one that costs too much, and NULL."""
+    users = sqlite3.connect(":memory:")
+    users.execute("CREATE TABLE users (name TEXT PRIMARY KEY, hash TEXT)")
+    users.executemany("INSERT INTO users VALUES (?, ?)", {"ann": MD5, "joe": "", "bob": "!" + MD5, "eve": COSTLY, "kim": None}.items())
+    return users
+
+
+def fields_of(users):
+    return dict(users.execute("SELECT name, hash FROM users"))
+
+
+def test_a_login_with_a_database(database):
+    names = recipe("A whole login")
+    login, before = names["login"], fields_of(database)
+    for name in [*before, "nobody", None]:
+        for password in "passw0rd", "", "x\0", "\ud800", "x" * 1025, MD5, "!":
+            assert login(database, name, password) is False
+    assert fields_of(database) == before
+    assert [name for name in [*before, "nobody"] if login(database, name, "password")] == ["ann"]
+    new = fields_of(database)
+    assert new.pop("ann").startswith("$6$rounds=656000$") and new == {name: before[name] for name in new}
+    assert login(database, "ann", "password") is True
+    names["register"](database, "zoe", "pässword")
+    stored = fields_of(database)["zoe"]
+    assert stored.startswith("$6$rounds=656000$") and stored == libxcrypt("pässword", stored)
+    assert login(database, "zoe", "pässword") is True and fields_of(database)["zoe"] == stored
+
+
+def test_a_login_stores_nothing_over_what_changed_meanwhile(database, monkeypatch):
+    """Over a lock, a new password, a demand for one, and a deletion."""
+    login, new = recipe("A whole login")["login"], mkpasswd.lib.mkpasswd_new
+
+    def meanwhile(*arguments):
+        database.execute("UPDATE users SET hash = ? WHERE name = 'ann'", (change,))
+        return new(*arguments)
+
+    monkeypatch.setattr(mkpasswd.lib, "mkpasswd_new", meanwhile)
+    for change in "!" + MD5, SHA512, "", None:
+        database.execute("UPDATE users SET hash = ? WHERE name = 'ann'", (MD5,))
+        assert login(database, "ann", "password") is True and fields_of(database)["ann"] == change
+
+
 def test_recipe_of_asyncio():
     if not hasattr(asyncio, "to_thread"):
         pytest.skip("asyncio.to_thread came with Python 3.9")
-    login = recipe("Threads and asyncio")["login"]
-    assert asyncio.run(login("password", MD5)) is True and asyncio.run(login("passw0rd", MD5)) is False
+    login = recipe("asyncio")["login"]
+    assert asyncio.run(login("password", MD5)) and not asyncio.run(login("passw0rd", MD5))
 
 
-HIDES = "A login that hides which names exist"
-KNOWN = "$6$rounds=656000$nobodyhasthissal$"
-# Fields that no password matches: unknown, NULL, empty, locked, of another scheme, without a valid setting, too costly, and of
-# another type.
-UNUSABLE = [None, "", "!", "*", "!" + MD5, "$y$j9T$x$x", "x", MD5 + "\n", "$6$rounds=0$a$x", "$6$rounds=999999999$ab$x", 5, b"!"]
-# Passwords that no hash can have, and one that costs too much with 656000 rounds.
-ODD = [None, "x\0", "\ud800", "x" * 1025, "\u00e9" * 513, 5, ["x"], "x" * 83]
-
-
-@pytest.fixture
-def hashed(monkeypatch):
-    """The greatest cost of each check that hashed something."""
-    verify, costs = mkpasswd.lib.mkpasswd_verify, []
-
-    def counted(*words):
-        done = verify(*words)
-        costs.extend([words[-1].cost] if words[-1].work.bytes else [])
-        return done
-
-    monkeypatch.setattr(mkpasswd.lib, "mkpasswd_verify", counted)
-    return costs
-
-
-def test_a_login_costs_the_same_for_each_field_that_no_password_matches(hashed):
-    login = recipe(HIDES)["login"]
-    fields = {str(number): field for number, field in enumerate(UNUSABLE)}
-    fields["known"] = libxcrypt("password", KNOWN)
-    assert login("known", "passw0rd", fields) is False
-    wanted = hashed.copy()
-    assert wanted == [mkpasswd.cost(KNOWN, len("passw0rd"))]
-    before = dict(fields)
-    for name in [*(name for name in fields if name != "known"), "nobody", None]:
-        hashed.clear()
-        assert login(name, "password", fields) is False and hashed == wanted, fields.get(name)
-    assert login("known", "password", fields) is True and fields == before
-
-
-def test_a_login_with_an_odd_password_is_the_same_for_each_name(hashed):
-    login, fields = recipe(HIDES)["login"], {"known": KNOWN + "x" * 86, "locked": "!" + MD5, "null": None, "costly": COSTLY}
-    hashed.clear()
-    for password in ODD:
-        for name in [*fields, "nobody", None]:
-            assert login(name, password, dict(fields)) is False and not hashed, (name, password)
-
-
-def test_a_login_replaces_old_hashes():
-    login, fields = recipe(HIDES)["login"], {"ann": MD5}
-    assert login("ann", "passw0rd", fields) is False and fields == {"ann": MD5}
-    assert login("ann", "password", fields) is True and fields["ann"].startswith("$6$rounds=656000$")
-    # Those whose new hash costs too much get in, and keep the old one.
-    for password, stored in ("password", libxcrypt("password", "$7$CU..../....salt")), ("x" * 83, mkpasswd.hash("x" * 83)):
-        fields["eve"] = stored
-        assert login("eve", password, fields) is True and login("eve", password + "x", fields) is False and fields["eve"] == stored
-
-
-def test_a_login_stores_nothing_over_what_changed_meanwhile(monkeypatch):
-    """Over a lock, a deletion, a new password, and a demand for one."""
-    login, fields, new = recipe(HIDES)["login"], {}, mkpasswd.lib.mkpasswd_new
-
-    def meanwhile(*words):
-        fields.clear()
-        fields.update(change)
-        return new(*words)
-
-    monkeypatch.setattr(mkpasswd.lib, "mkpasswd_new", meanwhile)
-    for change in {"ann": "!" + MD5}, {}, {"ann": SHA512}, {"ann": None}, {"ann": ""}:
-        fields["ann"] = MD5
-        assert login("ann", "password", fields) is True and fields == change
-
-
-def test_recipe_of_flask():
-    flask, fields = needs("flask", "python3-flask"), {"ann": MD5, "bob": "!" + MD5, "eve": COSTLY, "joe": ""}
+def test_recipe_of_flask(database):
+    flask = needs("flask", "python3-flask")
     app = flask.Flask("test")
-    recipe("Flask", app=app, flask=flask, fields=fields, login=recipe(HIDES)["login"])
+    recipe("Flask", app=app, flask=flask, database=database, login=recipe("A whole login")["login"])
 
     def post(**form):
         return app.test_client().post("/login", data=form).status_code
 
-    assert post(name="ann", password="password") == 200 and fields["ann"].startswith("$6$rounds=656000$")
-    for name in [*fields, "nobody"]:
+    assert post(name="ann", password="password") == 200
+    for name in "ann", "bob", "eve", "nobody":
         assert [post(name=name, password=word) for word in ("passw0rd", "", "x\0", "x" * 1025)] == [403] * 4
-    assert post() == post(name="ann") == post(password="password") == post(name="bob", password="password") == 403
+    assert post(name="bob", password="password") == 403 and post() == post(name="ann") == post(password="password") == 400
 
 
 def test_recipe_of_crypt():
-    matches = recipe("In place of the standard library's crypt")["matches"]
+    matches = recipe("The standard library's crypt")["matches"]
     assert matches("password", MD5) and not matches("passw0rd", MD5)
     for field in "", "!", "*0", "*1", "!" + MD5, "$2b$05$x", "x":
         assert not matches("password", field)

@@ -53,12 +53,14 @@ for call, *words in (mkpasswd.hash, "x", "scrypt"), (mkpasswd.verify, "x", setti
         print(call(*words))
     except MemoryError as error:
         print(error)
-print(mkpasswd.verify("password", "%s"))
+for field in setting, None, "%s":
+    print(*mkpasswd.login("password", field, "scrypt", 7))
 """
 
 
 def test_memory_is_refused():
-    assert run_python(WITHOUT_MEMORY % MD5) == "out of memory\n" * 3 + "True\n"
+    """A login goes on: whoever has a hash that needs none gets in, and keeps it."""
+    assert run_python(WITHOUT_MEMORY % MD5) == "out of memory\n" * 3 + "False None\n" * 2 + "True None\n"
 
 
 def test_memory_does_not_grow():

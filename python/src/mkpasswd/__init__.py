@@ -1,14 +1,14 @@
 """Password hashes in the schemes of crypt(5): md5crypt, sha256crypt, sha512crypt and scrypt.
 
 >>> import mkpasswd
->>> stored = mkpasswd.hash("correct horse")
->>> mkpasswd.verify("correct horse", stored)
+>>> stored = mkpasswd.hash("correct horse", rounds=656000)
+>>> bool(mkpasswd.login("correct horse", stored))
 True
->>> mkpasswd.verify("wrong horse", stored)
+>>> bool(mkpasswd.login("wrong horse", stored))
 False
 
 The C library of mkpasswd, whose calls are proved, does the hashing. It knows the cost of a hash before it makes one, so
-a stored hash that would take minutes is refused at once. What a call may cost by default, DEFAULT_BUDGET, is 150,000,000:
+a stored hash that would take minutes is refused at once. What a hash may cost by default, DEFAULT_BUDGET, is 150,000,000:
 on one core of 2.5 GHz one second of sha512crypt, two of sha256crypt, or 0.2 of scrypt.
 
 A password or a stored hash is bytes, or a str, which is encoded as UTF-8. A new hash is always a str. A password that has
@@ -38,6 +38,7 @@ __all__ = [
     "cost",
     "crypt",
     "hash",
+    "login",
     "methods",
     "mksalt",
     "needs_rehash",
@@ -48,9 +49,9 @@ __all__ = [
 
 Text = Union[str, bytes]
 
-#: What a call may cost unless it is told otherwise, as cost() counts it: the bytes that are digested, and for scrypt
-#: those that are mixed. It admits what hash() makes without `rounds`, and SHA-crypt with up to 75,000 rounds for any
-#: password and up to 1,000,000 for passwords of up to 40 bytes.
+#: What a call may cost unless it is told otherwise, and each of the two hashes of login(), as cost() counts it: the bytes
+#: that are digested, and for scrypt those that are mixed. It admits what hash() makes without `rounds`, and SHA-crypt with
+#: up to 75,000 rounds for any password and up to 1,000,000 for passwords of up to 40 bytes.
 DEFAULT_BUDGET = 150_000_000
 
 # The library takes this as no limit: every cost is below 2^42.
@@ -99,7 +100,7 @@ class TooCostly(Refused):
 
 
 class Verdict(NamedTuple):
-    """What verify_and_update() returns. It is true exactly if the password matches."""
+    """What login() and verify_and_update() return. It is true exactly if the password matches."""
 
     matches: bool  #: whether the password matches
     new: Optional[str]  #: a new hash, to be stored in place of the old one, or None
@@ -136,6 +137,53 @@ def hash(
     does not take; OSError if the system has no random bytes; MemoryError.
     """
     return _new(_password(password), _method(method, rounds), _limit(budget))
+
+
+def login(
+    password: Text,
+    field: Optional[Text],
+    method: str = "sha512crypt",
+    rounds: Optional[int] = 656_000,
+    *,
+    budget: float = DEFAULT_BUDGET,
+) -> Verdict:
+    """Check the password of a login, at the same cost for every name.
+
+    `field` is what is stored for the name, and None for a name that does not exist. `method` and `rounds` are those that
+    the service gives hash(); scrypt takes 6 to 11. The result is a tuple (matches, new) that is true exactly if the
+    password matches. If needs_rehash() is then true of the field, `new` is a new hash to store in its place.
+
+    >>> login("password", "$1$xxxxxxxx$UYCIxa628.9qXjpQCjM4a.", "md5crypt")
+    Verdict(matches=True, new=None)
+    >>> login("password", "$1$xxxxxxxx$UYCIxa628.9qXjpQCjM4a.").new[:17]
+    '$6$rounds=656000$'
+    >>> bool(login("password", None))
+    False
+
+    Nothing that a user can type or a database can hold raises an exception: a password that no hash can have, a locked or
+    malformed field, another scheme, a hash that costs more than the budget, and too little memory for scrypt are all false.
+    A field that can't be checked costs what a new hash costs, so the time does not tell which names exist, as long as all
+    hashes have this method and these rounds. A password that no hash can have is refused at once, for every name.
+
+    The check and the new hash may cost as much as the budget each. If the new hash costs more, or the system has no memory
+    or no random bytes for it, `new` is None and the old hash stays.
+
+    Raises Refused for an unknown method or rounds that scrypt does not take, ValueError for other rounds of SHA-crypt, and
+    TypeError.
+    """
+    made, limit = _method(method, rounds), _limit(budget)
+    stored = b"" if field is None else _bytes(field, "field")
+    try:
+        word = _password(password)
+    except ValueError:
+        return Verdict(False, None)
+    reason = _login(word, stored, made, limit)
+    if reason is not Reason.OUTDATED:
+        return Verdict(reason is Reason.FITS, None)
+    try:
+        return Verdict(True, _new(word, made, limit))
+    except (TooCostly, MemoryError, OSError):
+        return Verdict(True, None)
 
 
 def verify(password: Text, stored: Text, *, budget: float = DEFAULT_BUDGET) -> bool:
@@ -340,7 +388,7 @@ def _method(method: str, rounds: Optional[int]) -> Tuple[int, int]:
         raise TypeError("method must be str, not %s" % type(method).__name__)
     method = str.__str__(method)
     number = 0 if rounds is None else _int(rounds, "rounds")
-    # The library would clamp these, so that `rounds=12` would make a weak hash.
+    # Some calls of the library clamp these, so that `rounds=12` would make a weak hash.
     if method in ("sha256crypt", "sha512crypt") and number != 0 and not 1000 <= number <= 999_999_999:
         raise ValueError("rounds must be 1000 to 999999999, or 0 for 5000")
     if not 0 <= number < 2**32:
@@ -376,6 +424,16 @@ def _new(word: bytes, made: Tuple[int, int], limit: int) -> str:
     if lib.mkpasswd_new(word, len(word), *made, limit, out, len(out), report) != 1:
         raise _failure(report, limit)
     return out.value.decode("ascii")
+
+
+def _login(word: bytes, field: bytes, made: Tuple[int, int], limit: int) -> Optional[Reason]:
+    """FITS or OUTDATED for a match, and None otherwise."""
+    report = Report()
+    if lib.mkpasswd_login(word, len(word), field, len(field), *made, limit, report) == 1:
+        return Reason(report.reason)
+    if report.reason in (Reason.UNKNOWN_METHOD.value, Reason.COST.value):
+        raise _failure(report)
+    return None
 
 
 def _matches(word: bytes, field: bytes, limit: int) -> bool:

@@ -79,6 +79,7 @@ def _load() -> ctypes.CDLL:
         budget = [ctypes.c_uint64]
         report = [ctypes.POINTER(Report)]
         for call, arguments in (
+            ("login", text + text + made + budget + report),
             ("verify", text + text + budget + report),
             ("new", text + made + budget + text + report),
             ("needs_rehash", text + made + report),
