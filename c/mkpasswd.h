@@ -132,7 +132,8 @@ struct mkpasswd_report {
     uint64_t cost;             /* the greatest cost of a hash with this setting, for a password of this length: the bytes it
                                   digests and mixes. It is below 2^42. If password and setting (or method and cost) are
                                   valid it is reported even if the call returns 0; otherwise, and by
-                                  mkpasswd_needs_rehash() and mkpasswd_setting(), it is 0. */
+                                  mkpasswd_needs_rehash() and mkpasswd_setting(), it is 0. Of mkpasswd_login() it is that
+                                  of the stored hash. */
     struct mkpasswd_work work; /* what the call did, all 0 if it neither hashed nor allocated; of mkpasswd_bound() the bound */
     uint64_t reserved;         /* 0 */
 };
@@ -145,18 +146,21 @@ typedef char mkpasswd_report_has_work_at_16[offsetof(struct mkpasswd_report, wor
 MKPASSWD_EXPORT MKPASSWD_CHECKED MKPASSWD_NONNULL int32_t mkpasswd_verify(const uint8_t *password, size_t password_len,
     const uint8_t *stored, size_t stored_len, uint64_t budget, struct mkpasswd_report *report);
 
-/* Checks the password of a login. Returns 1 exactly if mkpasswd_verify() with this budget does. The reason is then
- * MKPASSWD_FITS, or MKPASSWD_OUTDATED if mkpasswd_needs_rehash() with this method and cost returns 1 too: then store what
- * mkpasswd_new() makes of the password. `method` and `cost` are those that the service gives mkpasswd_new(). `field` is what
- * is stored for the name, and empty for an unknown name.
+/* Checks the password of a login. If method and cost are valid, it returns 1 exactly if mkpasswd_verify() with this budget
+ * does. The reason is then MKPASSWD_FITS, or MKPASSWD_OUTDATED if mkpasswd_needs_rehash() with this method and cost returns 1
+ * too: then store what mkpasswd_new() makes of the password, if the field is still the one that was checked. `method` and
+ * `cost` are those that the service gives mkpasswd_new(). `field` is what is stored for the name, and empty for an unknown
+ * name. With password and field exchanged, whoever types a hash of a locked field, such as `!`, gets in.
  *
- * A name without a usable hash costs what a new hash costs, so that the time does not tell which names exist. If the field is
- * empty, locked, malformed, of another scheme or above the budget, the call hashes the password with this method and cost and
- * a fixed salt, drops the hash, and returns 0 with the reason of mkpasswd_verify(); `work` is exactly the work of that hash.
- * If that hash can cost more than the budget, or scrypt gets no memory for it, it is not made.
+ * A name without a valid setting does the work of a new hash, so that the work does not tell which names exist. If the field
+ * is empty, locked, of another scheme or without a valid setting, or can cost more than the budget, the call hashes the
+ * password with this method and cost and a fixed salt, drops the hash, and returns 0 with the reason of mkpasswd_verify();
+ * `work` is exactly the work of that hash. If that hash can cost more than the budget, or scrypt gets no memory for it, it is
+ * not made.
  *
- * A refused password, method or cost is refused at once, whatever the field is. A wrong password for an outdated hash costs
- * what that hash costs, so its time tells such a name until its owner has logged in. */
+ * A refused password, method or cost is refused at once, whatever the field is. Any other wrong password costs what the
+ * stored hash costs, even one that was cut. So hashes with another cost, or with a shorter salt than mkpasswd_new() makes,
+ * take another time; only outdated ones are ever replaced. */
 MKPASSWD_EXPORT MKPASSWD_CHECKED MKPASSWD_NONNULL int32_t mkpasswd_login(const uint8_t *password, size_t password_len,
     const uint8_t *field, size_t field_len, uint32_t method, uint32_t cost, uint64_t budget, struct mkpasswd_report *report);
 
@@ -171,8 +175,8 @@ MKPASSWD_EXPORT MKPASSWD_CHECKED MKPASSWD_NONNULL MKPASSWD_WRITES(6, 7) int32_t 
     size_t password_len, uint32_t method, uint32_t cost, uint64_t budget, uint8_t *out, size_t out_len,
     struct mkpasswd_report *report);
 
-/* Returns 1 exactly if the stored hash has a valid setting and mkpasswd_new() with this method and cost would replace it:
- * the method is another one, or it is the same with more rounds, or for scrypt with a greater N * r * p. */
+/* Returns 1 exactly if the stored hash has a valid setting and one with this method and cost would replace it: the method is
+ * another one, or it is the same with more rounds, which are clamped here, or for scrypt with a greater N * r * p. */
 MKPASSWD_EXPORT MKPASSWD_CHECKED MKPASSWD_NONNULL int32_t mkpasswd_needs_rehash(const uint8_t *stored, size_t stored_len,
     uint32_t method, uint32_t cost, struct mkpasswd_report *report);
 

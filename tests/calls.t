@@ -430,13 +430,21 @@ subtest 'warnings' => sub {
     }
 };
 
+# No clause keeps a compiler from dropping a hash that nobody reads.
+subtest 'the time of logins' => sub {
+    my $bench = build('bench-login', $cc, '-std=c99', @strict, "$root/tools/bench-login.c", @static) or return;
+    my %times = run($bench, 1000, 50)->{out} =~ /^(\S.*?) +([\d.]+) ms$/mg;
+    cmp_ok($times{$_}, '>', 0.5 * $times{'wrong password'}, $_) for 'unknown name', 'empty', 'locked', 'yescrypt', 'above the budget';
+};
+
 subtest 'what is installed' => sub {
     is(@declared, 9, 'the header declares nine calls');
     if (needs(objdump => 'binutils')) {
         my ($symbols, $parts, $names) = map { run(@$_)->{out} } ['objdump', '-T', "$libs/libmkpasswd.so"],
             ['objdump', '-p', "$libs/libmkpasswd.so"], ['nm', '-g', '--defined-only', "$libs/libmkpasswd.a"];
-        my @exported = grep { !/ \*UND\*\t| MKPASSWD_2$/ } $symbols =~ /^([0-9a-f]{16} .*)$/mg;
-        is_deeply([sort map { s/.*\s(?=MKPASSWD_2 )//r } @exported], [map { "MKPASSWD_2  $_" } @declared], 'the shared library has just these');
+        my %exported = map { / \*UND\*\t/ ? () : / (MKPASSWD_[\d.]+) +(mkpasswd_\w+)$/ ? ($2 => $1) : () } $symbols =~ /^([0-9a-f]{16} .*)$/mg;
+        my %versions = map { ($_ => $_ eq 'mkpasswd_login' ? 'MKPASSWD_2.1' : 'MKPASSWD_2') } @declared;
+        is_deeply(\%exported, \%versions, 'the shared library has just these, each in its version');
         is_deeply([sort $names =~ /^\S+ \w (\S+)$/mg], \@declared, 'the static library has just these');
         is_deeply([$parts =~ /(?:SONAME|NEEDED) +(\S+)/g], ['libc.so.6', 'libmkpasswd.so.2'], 'the soname, and the C library alone is needed');
     }
@@ -452,8 +460,8 @@ subtest 'what is installed' => sub {
         is($told, "-I$include -L$libs -lmkpasswd", 'pkg-config');
         mkdir "$scratch/commands";
         symlink "$root/examples", "$scratch/commands/examples";
-        my $commands = 'cc() { command "$CC" "$@"; }' . "\n" . marked('build of login.c', 'sh') . 'test -x login';
-        is_run(run({ dir => "$scratch/commands", env => \%env }, 'bash', '-euc', $commands), 0, '', '', 'the commands of README.md');
+        my $commands = 'cc() { command "$CC" "$@"; }' . "\n" . 'cc -o login examples/login.c $(pkg-config --cflags --libs mkpasswd)';
+        is_run(run({ dir => "$scratch/commands", env => \%env }, 'bash', '-euc', $commands), 0, '', '', 'a program by pkg-config');
     }
 };
 
@@ -494,17 +502,19 @@ subtest 'examples' => sub {
         my $login = build("login-$name", $cc, '-std=c99', @strict, "$root/examples/login.c", @rest);
         are_logins($name, $login) if $login;
     }
-    for (['login in C', 'c', "$cc -std=c99", 'const char *'], ['login in C++', 'cpp', ($ENV{CXX} || 'c++') . ' -std=c++98', 'std::string']) {
-        my ($name, $language, $compiler, $string) = @$_;
-        my ($compiles) = split ' ', $compiler;
-        needs($compiles => 'g++', run('sh', '-c', "command -v $compiles")->{status} == 0) or next;
-        my ($include, $check) = marked($name, $language) =~ /\A(#include <.*>\n)\n(.*)/s;
-        spew("$scratch/login.$language", ($include // '') . "#include <stdio.h>\n" . ($language eq 'cpp' ? "#include <string>\n" : '')
-            . "static void let_in(void) { puts(\"in\"); }\nint main(int argc, char **argv)\n{\n    $string stored = argv[argc - 2];\n"
-            . "    $string password = argv[argc - 1];\n" . ($check // '') . "return 0;\n}\n");
-        my $login = build($name, (split ' ', $compiler), @strict, "$scratch/login.$language", @static) or next;
-        is_run(run($login, $fixed, 'password'), 0, "in\n", '', "$name: the right password");
-        is_run(run($login, $_, 'password'), 0, '', '', "$name: $_") for "!$fixed", $empty, '$6$rounds=999999999$ab$x';
+    my $current = crypt 'password', '$6$rounds=656000$ab';
+    my ($first, $rest) = marked('login in C', 'c') =~ /\A(#include [^\n]*\n)(.*)\z/s;
+    spew("$scratch/readme.c", ($first // '') . <<'END' . ($rest // '') . <<'END');
+#include <stdio.h>
+static void renew(const char *password) { printf("a new hash of %s\n", password); }
+bool login(const char *password, const char *field);
+END
+int main(int argc, char **argv) { return !login(argv[1], argc > 2 ? argv[2] : NULL); }
+END
+    if (my $program = build('readme', $cc, '-std=c99', @strict, "$scratch/readme.c", @static)) {
+        is_run(run($program, 'password', $current), 0, '', '', 'login in C: a match');
+        is_run(run($program, 'password', $fixed), 0, "a new hash of password\n", '', 'login in C: a match that is outdated');
+        is_run(run($program, 'password', @$_), 1, '', '', "login in C: '@$_'") for [], ["!$fixed"], [$empty], ['$6$rounds=999999999$ab$x'];
     }
     my ($include, $login) = marked('service in C', 'c') =~ /\A(#include [^\n]*\n)(.*)\z/s;
     spew("$scratch/service.c", ($include // '') . <<'END' . ($login // '') =~ s/mkpasswd_login_str\(/told(/r . <<'END');
@@ -521,7 +531,6 @@ END
 int main(int argc, char **argv) { return !login(strcmp(argv[1], "null") ? argv[1] : NULL, argc > 2 ? argv[2] : NULL); }
 END
     if (my $program = build('service', $cc, '-std=c99', @strict, "$scratch/service.c", @static)) {
-        my $current = crypt 'password', '$6$rounds=656000$ab';
         my $all = run($program, 'password', $current);
         ok($all->{status} == 0 && $all->{out} > 656_000, 'service in C: the right password');
         is_run(run($program, 'passw0rd', @$_), 1, $all->{out}, '', "service in C: '@$_'")

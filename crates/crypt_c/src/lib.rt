@@ -5,7 +5,8 @@
 //! After a 0 `out` holds a token, which matches no password, cut to the capacity of `out`.
 //!
 //! The report has the first refusal that applies, in this order: password, setting, method, cost, budget, capacity,
-//! random numbers, memory. The calls share no state and start no threads, so many threads may call at once.
+//! random numbers, memory. For a login method and cost come before the field. The calls share no state and start no
+//! threads, so many threads may call at once.
 #![tactic(auto)]
 
 ghost use Rattle.std.specs.Prelude.{◌≡◌, ◌≢◌, ◌⊎◌, ◌↔◌, ◌<◌, ◌≤◌, pos, ℕ, List, [], ◌∷◌, length, take, codes};
@@ -67,20 +68,20 @@ pub extern "C" fn mkpasswd_verify(
     )
 }
 
-/// Returns 1 exactly if [`mkpasswd_verify`] does, and the reason tells whether [`mkpasswd_needs_rehash`] would return 1.
+/// Returns 1 exactly if the method takes the cost and [`mkpasswd_verify`] returns 1. The reason tells whether
+/// [`mkpasswd_needs_rehash`] would return 1.
 ///
-/// If the field has no hash that can be checked within the budget, the call hashes the password with a new setting of the
-/// method and the cost, and returns 0. So it costs what a new hash costs, whether the name is known or not. A name that
-/// is not known has an empty field.
+/// If the field has no setting, or one above the budget, the call hashes the password with a new setting of the method
+/// and the cost, and returns 0. So such a name does the work of a new hash. A name that is not known has an empty field.
 ///
 /// # Errors
 ///
 /// - `Password`: the password is invalid. The field makes no difference.
 /// - `UnknownMethod`, `Cost`: no method has the number, or a new hash cannot have the cost.
 /// - `Setting`, `OverBudget`: the field has no valid hash, or one that can cost more than the budget. The work is that of
-///   the new hash, or none if that can cost more than the budget.
+///   the new hash, or none if that can cost more than the budget or scrypt could not allocate for it.
 /// - `Differs`: the password does not match.
-/// - `OutOfMemory`: scrypt could not allocate.
+/// - `OutOfMemory`: scrypt could not allocate for the stored hash.
 #[unsafe(no_mangle)]
 pub extern "C" fn mkpasswd_login(
     alloc: Global,
