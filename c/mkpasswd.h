@@ -150,7 +150,7 @@ MKPASSWD_EXPORT MKPASSWD_CHECKED MKPASSWD_NONNULL int32_t mkpasswd_verify(const 
  * does. The reason is then MKPASSWD_FITS, or MKPASSWD_OUTDATED if mkpasswd_needs_rehash() with this method and cost returns 1
  * too: then store what mkpasswd_new() makes of the password, if the field is still the one that was checked. `method` and
  * `cost` are those that the service gives mkpasswd_new(). `field` is what is stored for the name, and empty for an unknown
- * name. With password and field exchanged, whoever types a hash of a locked field, such as `!`, gets in.
+ * name. With password and field exchanged, whoever types a hash of the field gets in: of `!`, of a stored hash, or of nothing.
  *
  * A name without a valid setting does the work of a new hash, so that the work does not tell which names exist. If the field
  * is empty, locked, of another scheme or without a valid setting, or can cost more than the budget, the call hashes the
