@@ -252,10 +252,10 @@ subtest 'progress' => sub {
     my $piped = run('sh', '-c', '(echo a:x; sleep 2) | "$@"', '-', $script, '--progress', @batch);
     like($piped->{err}, qr{^1 lines, [\d.]+ a second\n}m, 'a pipe: no end is known');
     needs(script => 'bsdutils') or return;
-    spew("$scratch/input", $slow_lines);
+    spew("$scratch/input", $slow_lines x 4);    # for some seconds
     my $typed = run('script', '-qec', "$script --jobs 1 @slow < $scratch/input > $scratch/out", '/dev/null')->{out};
     like($typed, qr{\d a second, \d+ %, \d:\d\d:\d\d left\r\e\[Kmkpasswd: line}, 'a terminal: it is wiped before a refusal');
-    is(slurp("$scratch/out"), $slow_alone->{out}, 'a terminal: answers beside it');
+    is(slurp("$scratch/out"), $slow_alone->{out} x 4, 'a terminal: answers beside it');
 };
 
 # Two machines: an sshd in a network namespace each. One is lost, silently, and the others answer its lines. The recipe for
@@ -284,17 +284,17 @@ subtest 'machines' => sub {
     my @hosts = qw(--on 10.0.1.2/2 --on=10.0.2.2);
     is_run($on_both->('"$@"', $script, qw(--jobs 0), @hosts, @slow), @$slow_alone{qw(status out err)}, 'two machines');
     my ($begun, @dear) = (time, map { s/^8000$/50000/r } @slow);
-    my $lost = $on_both->('(sleep 3; ip link set v1 down) & exec "$@"', $script, '--jobs', 1, @hosts, @dear);
+    my $loss = 'rm -f out; (until test -s out; do sleep 0.1; done; ip link set v1 down) & exec "$@" > out';
+    my $lost = $on_both->($loss, $script, '--jobs', 1, @hosts, @dear);
     cmp_ok(time - $begun, '>', 9, 'one of two machines is lost: it was lost before the end');
-    is_run($lost, @{ run({ stdin => $slow_lines }, $program, @dear) }{qw(status out err)}, 'one of two machines is lost');
-    my $all = $on_both->('(sleep 3; ip link set v1 down) & exec "$@"', $script, qw(--jobs 0), @hosts[0, 1], @dear);
+    is_run({ %$lost, out => slurp("$scratch/out") }, @{ run({ stdin => $slow_lines }, $program, @dear) }{qw(status out err)}, 'it is lost');
+    my $all = $on_both->($loss, $script, qw(--jobs 0), @hosts[0, 1], @dear);
     like($all->{err}, qr/^mkpasswd-parallel: 10\.0\.1\.2: status 255; answered up to line \d+; /m, 'the only machine is lost');
     needs(parallel => 'parallel') or return;
     spew("$scratch/hosts", "10.0.1.2\n10.0.2.2\n");
     spew("$scratch/passwords", my $lines = batch_lines() . "\n");
     $on_both->(Texts::marked('a fleet', 'sh') =~ s/-m \S+ -R \d+/-m md5crypt -S xxxxxxxx/r);
-    my $alone = run({ stdin => $lines }, $program, @batch);
-    is_deeply([map { slurp("$scratch/$_") } qw(hashes refused)], [@$alone{qw(out err)}], 'the recipe for a fleet');
+    is_deeply([map { slurp("$scratch/$_") } qw(hashes refused)], [@{ run({ stdin => $lines }, $program, @batch) }{qw(out err)}], 'a fleet');
 };
 
 done_testing;
