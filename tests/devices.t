@@ -18,7 +18,7 @@ use Suite;
 my $library = preload('faults');
 my %told = (memory => 'out of memory', read => 'read fault', write => 'write fault', random => 'start fault');
 
-# Runs the program with a fault. Beside what it did there are its calls: kind, detail, and whether it failed.
+# Runs the program with a fault. Beside what it did there are its calls: kind, bytes, file, and whether it failed.
 sub with_fault {
     my ($fault, $input, @words) = @_;
     spew("$scratch/log", '');
@@ -66,7 +66,7 @@ for (
         for my $kind (sort keys %told) {
             for my $number (1 .. $calls{$kind} // 0) {
                 my $run = with_fault("$kind $number", $input, @$words);
-                my ($failed) = grep { $_->[2] } @{ $run->{calls} };
+                my ($failed) = grep { $_->[3] } @{ $run->{calls} };
                 # Random words are missed only where something is hashed.
                 if ($kind eq 'random' && $mode =~ /methods|version|help|refusal/) {
                     is_run($run, $status, $right->{out}, $err, "$kind $number fails, and is not missed");
@@ -122,5 +122,20 @@ subtest 'what lines ask for' => sub {
         my ($name, $more, $status, $input, @words) = @$_;
         is_deeply([sizes($status, $input, @words)], [sizes(0, '', @words), @$more], $name);
     }
+};
+
+# Each answer and each message is one write of its own, once its line has been read; and each read asks for 512 bytes, until
+# there are no more.
+subtest 'the calls of a whole run' => sub {
+    my ($input, $calls, $read) = ('', '', 0);
+    for my $number (1 .. 3000) {
+        my $is_right = $number % 7;
+        $input .= $is_right ? "ann$number:password\n" : ":x\n";
+        for (; $read < length $input; $read += 512) { $calls .= "read 512 0\n" }
+        $calls .= $is_right ? 'write ' . length("ann$number:$md5\n") . " 1\n" : 'write ' . length("mkpasswd: line $number: no name\n") . " 2\n";
+    }
+    my $run = with_fault(undef, $input, '--batch', @md5);
+    my @of_devices = map { "@$_\n" } grep { $_->[0] =~ /read|write/ } @{ $run->{calls} };
+    is(join('', @of_devices), "${calls}read 512 0\n", 'reads and writes');
 };
 done_testing;

@@ -230,7 +230,7 @@ subtest 'environment' => sub {
 };
 
 subtest 'memory and time' => sub {
-    my $child = begin("first:x\n" . ":\n" x 1_000_000, $script, qw(--jobs 2 --batch -m sha512crypt -R 3000000 -S ab));
+    my $child = begin("first:x\n" . ":\n" x 1_000_000, $script, qw(--jobs 2 --batch -m sha512crypt -R 6000000 -S ab));
     my $most = 0;
     while (!waitpid $child, POSIX::WNOHANG) {
         $most = $1 if (eval { slurp("/proc/$child/status") } // '') =~ /^VmHWM:\s+(\d+)/m;

@@ -14,7 +14,7 @@ from support import COSTLY, MD5, ended, run_python
 
 def test_other_threads_run_while_a_hash_is_made():
     """With the interpreter's lock kept, this thread would get next to no processor time."""
-    stored, spent = mkpasswd.hash("password", rounds=300_000), []
+    stored, spent = mkpasswd.hash("password", rounds=1_000_000), []
 
     def verify():
         began = time.thread_time()
