@@ -359,7 +359,7 @@ subtest 'compilers' => sub {
     my @builds;
     for my $compiler (grep { needs($_ => s/clang\K\+\+//r) } qw(gcc clang g++ clang++)) {
         my ($language, $oldest, @standards) = $compiler =~ /\+/ ? qw(c++ c++98 c++11 c++17 c++20) : qw(c c99 c11 c17 c2x);
-        my @compile = ($compiler, @strict, '-Wno-long-long', "-I$include", '-x', $language, "$root/tests/c/calls.c");
+        my @compile = ($compiler, @strict, '-Wno-long-long', "-DBUDGET=$budget", "-I$include", '-x', $language, "$root/tests/c/calls.c");
         is_run(run(@compile, "-std=$_", '-fsyntax-only'), 0, '', '', "$compiler compiles it as $_") for @standards;
         push @builds, map { my ($kind, @rest) = @$_; ["$compiler $oldest, $kind", @compile, "-std=$oldest", '-x', 'none', @rest] } @kinds;
     }

@@ -43,7 +43,8 @@ my %hash = map { $_ => crypt 'secret', $setting{$_} } keys %setting;
 my @hostile = (
     '$5$rounds=999999999$abcdefgh', '$6$rounds=999999999$abcdefgh', '$6$rounds=999999999$abcdefgh$' . 'x' x 86, '$7$GU..../....abcdefgh',
     '$7$LU..../....abcdefgh', '$7$K/..../....abc$def$ghi', '$7$KU..../....' . 'a' x 200, '$y$jLT$abcdefghijklmnopqrstu.',
-    '$y$jjj$abcdefghijklmnopqrstu.', '$y$j9T/W$abcdefghijklmnopqrstu.', '$y$.LT$abcdefghijklmnopqrstu.', '$y$/LT$abcdefghijklmnopqrstu.',
+    '$y$jBj$abcdefghijklmnopqrstu.', '$y$jjj$abcdefghijklmnopqrstu.', '$y$j9T/W$abcdefghijklmnopqrstu.', '$y$.LT$abcdefghijklmnopqrstu.',
+    '$y$/LT$abcdefghijklmnopqrstu.',
     '$y$j9k.$abcdefghijklmnopqrstu.', (map { "\$2$_\$31\$abcdefghijklmnopqrstuu" } qw(a b x y)), '$2b$13$abcdefghijklmnopqrstuu',
     '$gy$jLT$abcdefghijklmnopqrstu.', '$gy$j9T$abcdefghijklmnopqrstu.', '$md5,rounds=4294963199$abcdefgh', '$md5$abcdefgh',
     '$sha1$4294967295$abcdefgh', '$sha1$40000$abcdefgh', '_zzzzabcd', '_J9..abcd', '$9$abc', '$argon2id$v=19$m=2097152,t=100,p=1$YWI$YWI',

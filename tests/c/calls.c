@@ -28,6 +28,10 @@
 #include <mkpasswd.h>
 #pragma GCC visibility pop
 
+#ifdef BUDGET /* what it is in C, since C++ has a text of its own for it */
+typedef char has_the_budget[MKPASSWD_BUDGET == BUDGET ? 1 : -1];
+#endif
+
 #define PAGE 4096
 #define PATTERN 0xa5
 #define THREADS 8
