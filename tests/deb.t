@@ -86,7 +86,8 @@ subtest 'content' => sub {
     my %documents = (mkpasswd => [qw(FORMATS GUIDE MUTANTS README SECURITY SPECIFICATION SPEED)], 'libmkpasswd-dev' => ['SECURITY'],
         'python3-mkpasswd' => [qw(PYTHON SECURITY)]);
     for my $package (sort keys %documents) {
-        ok(-s "$scratch/content/$package/usr/share/doc/$package/$_.md.gz", "$package has $_") for @{ $documents{$package} };
+        my $folder = "$scratch/content/$package/usr/share/doc/$package";
+        ok(-s "$folder/$_.md" || -s "$folder/$_.md.gz", "$package has $_") for @{ $documents{$package} };
     }
     my $libraries = 'libmkpasswd2/usr/lib/x86_64-linux-gnu';
     for (['mkpasswd', 'mkpasswd/usr/bin/mkpasswd'], ['libmkpasswd.so.2', "$libraries/libmkpasswd.so.2"],
