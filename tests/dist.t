@@ -41,7 +41,7 @@ subtest 'install' => sub {
     my $installed = "$scratch/installed";
     my %with = (env => { DESTDIR => $installed, PREFIX => '/usr', LIBDIR => '/usr/lib/x86_64-linux-gnu' });
     is_run(run(\%with, 'sh', '-c', 'umask 077 && exec "$0"', "$root/tools/install"), 0, '', '', 'it installs');
-    is(run('find', "$installed/usr", '-type', 'd', '!', '-perm', '755')->{out}, '', 'everybody may enter the folders');
+    is(run('find', "$installed/usr", qw{( -type d -o -path */bin/* ) ! -perm 755 -o -type f ! -perm -644})->{out}, '', 'everybody may use it');
     my @packed = map { 'usr/' . s{^lib/}{lib/x86_64-linux-gnu/}r } grep { !/README$|SUMS$/ } files_in($tree);
     is_deeply([files_in($installed)], [sort @packed], 'the files of the archive, under the prefix and the folder for libraries');
     my $pc = slurp("$installed/usr/lib/x86_64-linux-gnu/pkgconfig/mkpasswd.pc");

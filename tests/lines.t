@@ -37,7 +37,7 @@ subtest 'a pipe that stays open' => sub {
     local $SIG{ALRM} = sub { die "late\n" };
     my $hash = crypt 'password', '$1$xxxxxxxx';
     my $scrypt = crypt 'password', '$7$2/..../....ab';    # also gets its memory after two million digests
-    my $locked = '!' . 'x' x 900;    # so that all lines together are twice the memory
+    my ($name, $locked) = ('n' x 58, '!' . 'x' x 900);    # so that all lines together are twice the memory, and more than a MiB is answered
     my ($child, $writer);
     my $is_done = eval {
         alarm 30;
@@ -45,14 +45,14 @@ subtest 'a pipe that stays open' => sub {
         $writer = fork // die "can't fork: $!\n";
         if (!$writer) {
             close $from;
-            print $to "user$_:", $_ % 10 ? $locked : $_ % 1000 ? $hash : $scrypt, ":password\n" for 1 .. $many;
+            print $to "$name$_:", $_ % 10 ? $locked : $_ % 1000 ? $hash : $scrypt, ":password\n" for 1 .. $many;
             close $to;
             POSIX::_exit(0);
         }
         for my $number (1 .. $many) {
             my $answer = <$from> // 'none';
             alarm 300 if $number == 1;
-            next if $answer eq "user$number:" . ($number % 10 ? 'locked' : 'ok') . "\n";
+            next if $answer eq "$name$number:" . ($number % 10 ? 'locked' : 'ok') . "\n";
             die "line $number: $answer\n";
         }
         my ($memory) = slurp("/proc/$child/status") =~ /^VmHWM:\s+(\d+) kB/m;

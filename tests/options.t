@@ -40,6 +40,11 @@ subtest 'options' => sub {
         has_all($place, [options_of($of)], flags_in($text =~ /^\.It (Fl .*)/mg));
         has_all("$place: synopsis", [map { $_->[0] } rows_of($of)], flags_in(section_of($text, 'SYNOPSIS')));
     }
+    for (['batch', qw(--batch --budget --work -R -S -m)], ['check', qw(--budget --check --rehash --work -R -S -m)]) {
+        my ($mode, @with) = @$_;
+        my ($form) = grep { /^\.Fl -$mode$/m } split /^\.Nm$/m, section_of($manual, 'SYNOPSIS');
+        has_all("synopsis of --$mode", \@with, flags_in($form));
+    }
     my @of_both = map { options_of($_) } $help, $own_help;
     my ($bash, $zsh, $fish) = map { slurp("$root/completions/$_") } qw(mkpasswd.bash _mkpasswd mkpasswd.fish);
     has_all('bash', \@of_both, map { /$option/g } $bash =~ /\w\+?=\((-[^()]*)\)/g);

@@ -57,7 +57,7 @@ sub begin {
     unlink map { "$scratch/$_" } qw(out err);
     my $child = fork // die;
     return $child if $child;
-    setpgrp;
+    @SIG{qw(HUP INT)} = ('DEFAULT') x 2 if setpgrp;    # nohup and a shell's & ignore them
     open STDIN, '<', "$scratch/input" or die;
     open STDOUT, '>', "$scratch/out" or die;
     open STDERR, '>', "$scratch/err" or die;
