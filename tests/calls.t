@@ -506,14 +506,15 @@ subtest 'examples' => sub {
     my ($first, $rest) = marked('login in C', 'c') =~ /\A(#include [^\n]*\n)(.*)\z/s;
     spew("$scratch/readme.c", ($first // '') . <<'END' . ($rest // '') . <<'END');
 #include <stdio.h>
-static void renew(const char *password) { printf("a new hash of %s\n", password); }
+static void replace(const char *field, const char *hash) { printf("%s %s\n", field, hash); }
 bool login(const char *password, const char *field);
 END
 int main(int argc, char **argv) { return !login(argv[1], argc > 2 ? argv[2] : NULL); }
 END
     if (my $program = build('readme', $cc, '-std=c99', @strict, "$scratch/readme.c", @static)) {
         is_run(run($program, 'password', $current), 0, '', '', 'login in C: a match');
-        is_run(run($program, 'password', $fixed), 0, "a new hash of password\n", '', 'login in C: a match that is outdated');
+        my ($old, $new) = run($program, 'password', $fixed)->{out} =~ /\A(\S+) (\$6\$rounds=656000\$\S+)\n\z/;
+        is_deeply([$old, $new], [$fixed, crypt 'password', $new // ''], 'login in C: a match that is outdated');
         is_run(run($program, 'password', @$_), 1, '', '', "login in C: '@$_'") for [], ["!$fixed"], [$empty], ['$6$rounds=999999999$ab$x'];
     }
     my ($include, $login) = marked('service in C', 'c') =~ /\A(#include [^\n]*\n)(.*)\z/s;

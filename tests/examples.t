@@ -95,7 +95,7 @@ subtest 'a password that is typed' => sub {
 # What a table says that a hash costs is the least budget that admits it.
 subtest 'costs' => sub {
     my @costs = map { slurp($_) =~ /^\|.*?`(-m [^`]*)`[^|]*\| (\d+) \|/mg } documents();
-    cmp_ok(scalar @costs, '>=', 10, 'README.md has some');
+    ok(@costs, 'README.md has some');
     while (my ($words, $cost) = splice @costs, 0, 2) {
         my @batch = (program(), '--batch', split(' ', $words), '--budget');
         is_run(run({ stdin => "x:password\n" }, @batch, $cost - 1), 1, '', "mkpasswd: line 1: over budget\n", "$words: below $cost");
@@ -123,9 +123,9 @@ subtest 'Python' => sub {
         my %env = (PYTHONPATH => "$root/python/src", LD_LIBRARY_PATH => $root);
         return run({ env => \%env, stdin => join '', @_ }, 'python3', '-B', '-');
     };
-    my $names = "import sys\ndef let_in(): print('in')\nstored = '%s'\npassword = '%s'\n";
+    my $names = "def let_in(): print('in')\ndef replace(old, new): print(old, new[:17])\nstored = '%s'\npassword = '%s'\n";
     my $login = marked('login in Python', 'python');
-    for (['password', "in\n"], ['passw0rd', ''], ['', '']) {
+    for (['password', "$known \$6\$rounds=656000\$\nin\n"], ['passw0rd', ''], ['', '']) {
         my ($password, $out) = @$_;
         is_run($python->(sprintf($names, $known, $password), $login), 0, $out, '', "login in Python: '$password'");
     }
