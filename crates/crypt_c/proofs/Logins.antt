@@ -49,10 +49,10 @@ compared password field number price budget scheme kept report is makes spells l
     let test : nat_lt budget (cost kept (length password)) ≡ false = grind arith in
     inl (is, inl (scheme, makes, inl (kept, spells, rw test compares)))
 
-pub outdated_fits : (kept other : SettingValue) (scheme also : Scheme) (fits : Reason)
-    → fits ≡ (if is_replaced_by kept.scheme scheme then Outdated else Fits) → kept ≡ other → scheme ≡ also
-    → IsTrue (is_replaced_by other.scheme also) → fits ≡ Outdated
-outdated_fits kept other scheme also fits e same made is =
+pub outdated_fits : (kept other : SettingValue) (scheme also : Scheme) (reason : Reason)
+    → reason ≡ (if is_replaced_by kept.scheme scheme then Outdated else Fits) → kept ≡ other → scheme ≡ also
+    → IsTrue (is_replaced_by other.scheme also) → reason ≡ Outdated
+outdated_fits kept other scheme also reason e same made is =
     let replaced : is_replaced_by other.scheme also ≡ true = is in
     let told = rw (same, made) at e in
     rw replaced at told
@@ -112,13 +112,13 @@ agrees password field number price budget scheme report makes (inl (is, inl (oth
 
 -- ---- Its work
 
-checked_within : (above : Bool) (password field : List ℕ) (budget : ℕ) (scheme : Scheme) (kept : SettingValue) (fits : Reason) (report : Report)
+checked_within : (above : Bool) (password field : List ℕ) (budget : ℕ) (scheme : Scheme) (kept : SettingValue) (reason : Reason) (report : Report)
     → nat_lt budget (cost kept (length password)) ≡ above
-    → MatchBool above (Declines password scheme budget (refused OverBudget (cost kept (length password))) report) (Compares password kept field fits report)
+    → MatchBool above (Declines password scheme budget (refused OverBudget (cost kept (length password))) report) (Compares password kept field reason report)
     → (setting : SettingValue) × IsHashWork password setting budget report.work
-checked_within true password field budget scheme kept fits report e declines = (decoy scheme, declines.1)
-checked_within false password field budget scheme kept fits report e (inl told) = (kept, rw e (inl (ap (λ (r : Report). r.work) told)))
-checked_within false password field budget scheme kept fits report e (inr (done, failed, told)) =
+checked_within true password field budget scheme kept reason report e declines = (decoy scheme, declines.1)
+checked_within false password field budget scheme kept reason report e (inl told) = (kept, rw e (inl (ap (λ (r : Report). r.work) told)))
+checked_within false password field budget scheme kept reason report e (inr (done, failed, told)) =
     let same : report.work ≡ done = ap (λ (r : Report). r.work) told in
     (kept, rw e (inr (subst (λ (w : Work). IsAfterRefusedGrowth no_work kept.scheme w) (sym same) failed)))
 

@@ -115,7 +115,7 @@ pub fn hash(
     ensures refused { OnErr result (IsAfterRefusedGrowth meter.old setting.now.scheme meter.new) }
 {
     let digest = digest_of(alloc, password, setting, meter)?;
-    let packed = pack(setting.method(), digest.as_slice());
+    let packed = pack(setting.scheme().method(), digest.as_slice());
     let mut text = setting.text();
     text.push(b'$');
     text.try_extend_from_slice(packed.as_slice()).unwrap();
@@ -128,7 +128,7 @@ pub fn hash_len(setting: &Setting) -> usize
     ensures short { result ≤ hash_limit }
     ensures limit { HASH_LIMIT ≡ hash_limit }
 {
-    setting.text().len() + 1 + setting.method().row().packed_len
+    setting.text().len() + 1 + setting.scheme().method().row().packed_len
 }
 
 // Returns the digest of the password with the setting's scheme and salt.

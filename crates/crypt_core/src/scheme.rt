@@ -3,7 +3,7 @@
 
 ghost use Rattle.std.specs.Prelude.{◌≡◌, ◌+◌, ◌≤◌, ◌↔◌, IsOk, IfOk, IfErr, true, false};
 ghost use Rattle.kdf_core.specs.Params.{IsAccepted};
-ghost use Rattle.crypt_core.specs.MadeSettings.{TakesCost, made_rounds, made_scheme};
+ghost use Rattle.crypt_core.specs.MadeSettings.{TakesCost, made_scheme};
 ghost use Rattle.crypt_core.specs.Replacements.{is_replaced_by};
 ghost use Rattle.crypt_core.specs.Rounds.{IsRounds, default_rounds, clamped};
 ghost use Rattle.crypt_core.specs.Schemes.{IsScheme, method_of};
@@ -82,17 +82,6 @@ impl Rounds {
         }
     }
 
-    // Returns the rounds for a cost. Cost 0 is the default, without a field.
-    fn made(cost: u32) -> Rounds
-        ensures value { result ≡ made_rounds cost }
-        ensures in_range { IsRounds result }
-    {
-        if cost == 0 {
-            return Rounds::unwritten();
-        }
-        Rounds::written(u64::from(cost))
-    }
-
     /// Returns the number of rounds.
     pub fn count(&self) -> u32
         ensures count { result ≡ self.now.count }
@@ -146,10 +135,15 @@ impl Scheme {
         ensures accepted { IsOk result ↔ TakesCost method cost }
         ensures refused { IfErr result (λ fault. fault ≡ MakeFault.Cost) }
     {
+        let rounds = if cost == 0 {
+            Rounds::unwritten()
+        } else {
+            Rounds::written(u64::from(cost))
+        };
         match (method, cost) {
             (Method::Md5crypt, _) => Ok(Scheme::Md5crypt),
-            (Method::Sha256crypt, _) => Ok(Scheme::Shacrypt(Sha::Sha256, Rounds::made(cost))),
-            (Method::Sha512crypt, _) => Ok(Scheme::Shacrypt(Sha::Sha512, Rounds::made(cost))),
+            (Method::Sha256crypt, _) => Ok(Scheme::Shacrypt(Sha::Sha256, rounds)),
+            (Method::Sha512crypt, _) => Ok(Scheme::Shacrypt(Sha::Sha512, rounds)),
             (Method::Scrypt, 0) => Ok(Scheme::Scrypt(params_of(DEFAULT_COST))),
             (Method::Scrypt, MIN_COST..=MAX_COST) => Ok(Scheme::Scrypt(params_of(cost))),
             (Method::Scrypt, _) => Err(MakeFault::Cost),

@@ -1,6 +1,6 @@
 -- From what the steps of `plan` find to what the words mean.
 use mir.Val.{bool_byte}
-use Rattle.std.proofs.Common.{◌≡◌, ◌∙◌, ℕ, ◌+◌, Bool, true, false, cond, List, [], ◌∷◌, map, Option, Some, None, Ok, Err, refl, sym, ap, subst, inl, inr, is_some, arith}
+use Rattle.std.proofs.Common.{◌≡◌, ◌∙◌, ℕ, ◌+◌, Bool, true, false, cond, List, [], ◌∷◌, map, Option, Some, None, Ok, Err, codes, ◌⊎◌, refl, sym, ap, subst, inl, inr, is_some, arith}
 use Rattle.std.specs.Prelude.{count_by}
 use Rattle.std.proofs.lemmas.Bool.{cases_Bool}
 use Rattle.std.specs.Borrow.{Bor}
@@ -12,14 +12,13 @@ use Rattle.crypt_core.specs.declared.method.Method.{Method}
 use Rattle.crypt_core.specs.declared.setting.fault.MakeFault.{MakeFault}
 use Rattle.run_core.specs.Makers.{bytes_of}
 use Rattle.run_core.specs.declared.job.Job.{Job}
-use Rattle.mkpasswd.specs.Options.{BreaksUsage, IsJob, IsPlan, Means, cost_of, given_salt, mode_count, type_of}
-use Rattle.mkpasswd.specs.Private.Options.{AsksFor, Keeps, Names}
+use Rattle.mkpasswd.specs.Options.{BreaksUsage, IsJob, IsPlan, Means, cost_of, given_salt, is_set, mode_count, type_of}
+use Rattle.mkpasswd.specs.Private.Options.{Keeps, Names}
 use Rattle.mkpasswd.specs.declared.fault.UsageFault.{UsageFault}
 use Rattle.mkpasswd.specs.declared.fault.UsageFault.TheVariants.{Parse, Method as UnknownMethod, TwoSalts, TwoModes, Make, OutOfMemory}
 use Rattle.mkpasswd.specs.declared.job.Plan.{Plan}
 use Rattle.mkpasswd.specs.declared.job.Plan.TheVariants.{Methods, One, Batch, Check}
 use Rattle.mkpasswd.specs.declared.options.Arguments.{Arguments}
-use Rattle.mkpasswd.specs.declared.options.Mode.TheVariants.{Input}
 
 -- ---- the rules of the words, in their order
 
@@ -42,6 +41,9 @@ module _ (rows : List Row) where
   unbroken method names few_salts few_modes takes (Make fault) breaks =
       unbroken_make method fault names.named (takes fault) breaks
   unbroken method names few_salts few_modes takes OutOfMemory breaks = breaks
+
+  pub means_two_modes : (method : Method) → Names rows method → ¬ BreaksUsage rows TwoSalts → BreaksUsage rows TwoModes → Means rows (Err TwoModes)
+  means_two_modes method names few_salts two = (names.not_help, inr (known method names.named, inr (few_salts, inl (refl, two))))
 
   -- ---- what the code keeps
 
@@ -109,7 +111,7 @@ module _ (rows : List Row) where
     mode_count_is password stdin batch check password_is stdin_is batch_is check_is =
         omega (arith, counted, as_number (is_some given.password), as_number given.stdin, as_number given.batch, as_number given.check)
 
-    pub asks_for_input : given.password ≡ None → given.batch ≡ false → given.check ≡ false → AsksFor rows Input
+    pub asks_for_input : given.password ≡ None → given.batch ≡ false → given.check ≡ false → (is_set (codes "stdin") rows ≡ true) ⊎ (mode_count rows ≡ 0)
     asks_for_input none no_batch no_check = elim (cases_Bool given.stdin) [
       | inl is ↦ inl (sym keeps.stdin ∙ is)
       | inr not ↦ inr (sym counted ∙ rw (none, not, no_batch, no_check) refl)

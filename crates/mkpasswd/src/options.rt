@@ -1,12 +1,12 @@
 //! The arguments after the program's name: the command with which `clap` parses them, and the plan that they ask for.
 //! The refusals have one order. Only `OutOfMemory` has no place in it: it occurs at the allocation that failed.
-ghost use Rattle.std.specs.Prelude.{◌≡◌, ◌≢◌, List, [], None, Some, codes, false, fold, map, string_bytes};
+ghost use Rattle.std.specs.Prelude.{◌≡◌, ◌≢◌, List, [], None, codes, false, map, string_bytes};
 ghost use Rattle.std.specs.Prelude.{IfErr, IfOk, MatchOption};
-ghost use Rattle.clap.specs.Words.{Row, app_of, fault_of, kind_of, matches_of, rule_of, with_rule};
+ghost use Rattle.clap.specs.Words.{Row, app_of, fault_of, kind_of, matches_of, rule_of};
 ghost use Rattle.crypt_core.specs.Methods.{method_named};
 ghost use Rattle.run_core.specs.Makers.{bytes_of};
 ghost use Rattle.mkpasswd.specs.Options.{BreaksUsage, Plans, Refuses, command, flag_rule, given_salt, type_of, value_rule};
-ghost use Rattle.mkpasswd.specs.Private.Options.{AsksFor, Keeps, Names, hash_rules, line_rules};
+ghost use Rattle.mkpasswd.specs.Private.Options.{Keeps, Names};
 
 use crate::fault::UsageFault;
 use crate::job::{Job, Maker, PasswordFrom, Plan};
@@ -14,13 +14,41 @@ use clap::error::ErrorKind;
 use clap::{Arg, ArgAction, Command, value_parser};
 use crypt_core::method::Method;
 use crypt_core::version::VERSION;
-use run_core::line::Kind;
 use std::alloc::{AllocError, Global};
 
 // The TYPE of arguments without `-m`.
 const DEFAULT_TYPE: &str = "sha512crypt";
 
-// The last line of help.
+// The words of help: its first line, those of each argument, and its last line.
+const ABOUT: &str =
+    "Prints the crypt(5) hash of a password, and hashes or checks the lines of a file";
+
+const METHOD_HELP: &str =
+    "The method: md5crypt, sha256crypt, sha512crypt (the\ndefault) or scrypt; help lists them";
+
+const SALT_HELP: &str =
+    "The salt: up to 8 (md5crypt), 16 or 86 (scrypt)\nletters, digits, '.' and '/'; else a new one";
+
+const ROUNDS_HELP: &str =
+    "The cost: rounds of sha256crypt and sha512crypt,\n6 to 11 for scrypt, 0 for the method's own";
+
+const STDIN_HELP: &str = "The password is the first line of standard input";
+
+const BATCH_HELP: &str = "Hash the password of each line of standard input:\nname:password";
+
+const CHECK_HELP: &str = "Check the password of each line of standard input:\nname:field:password";
+
+const REHASH_HELP: &str =
+    "With --check, a new hash for each password that fits a\nhash of another method or a lower cost";
+
+const WORK_HELP: &str = "Show what the hash cost: digests, bytes, mixings,\nbytes of table";
+
+const BUDGET_HELP: &str = "What a line may cost, by --batch and --check: bytes\ndigested and mixed";
+
+const PASSWORD_HELP: &str = "The password, of at most 1,024 bytes; without it, as by --stdin";
+
+const SALT_WORD_HELP: &str = "The salt, in place of --salt";
+
 const AFTER_HELP: &str = "A password that begins with '-' is handed in by --stdin.";
 
 // The values of the options and arguments.
@@ -37,14 +65,6 @@ struct Arguments<'a> {
     work: bool,
     budget: Option<u64>,
     password: Option<&'a str>,
-}
-
-// The mode of a plan: hashing the password of an argument or of the input, or hashing or checking lines.
-#[derive(Clone, Copy)]
-enum Mode<'a> {
-    Word(&'a str),
-    Input,
-    Lines(Kind),
 }
 
 /// Returns the plan that the arguments after the program's name ask for.
@@ -67,11 +87,18 @@ pub fn plan(alloc: Global, words: &[String]) -> Result<Plan, UsageFault>
     ensures { Plans (map string_bytes words.now) result }
 {
     let given = read_words(alloc, words)?;
-    let Some(method) = one_method(&given)? else {
+    let name = given.method.unwrap_or(DEFAULT_TYPE);
+    if name == "help" {
         return Ok(Plan::Methods);
+    }
+    let Some(method) = Method::named(name.as_bytes()) else {
+        return Err(UsageFault::Method);
     };
     let salt = one_salt(&given)?;
-    let mode = one_mode(&given)?;
+    let flags = u32::from(given.stdin) + u32::from(given.batch) + u32::from(given.check);
+    if u32::from(given.password.is_some()) + flags > 1 {
+        return Err(UsageFault::TwoModes);
+    }
     let maker = Maker::new(method, given.cost, salt)?;
     let job = Job {
         maker,
@@ -79,14 +106,14 @@ pub fn plan(alloc: Global, words: &[String]) -> Result<Plan, UsageFault>
         work: given.work,
         budget: given.budget,
     };
-    Ok(match mode {
-        Mode::Word(password) => {
+    Ok(match given.password {
+        Some(password) => {
             let bytes = Vec::from_slice(alloc, password.as_bytes())?;
             Plan::One(job, PasswordFrom::Word(bytes))
         }
-        Mode::Input => Plan::One(job, PasswordFrom::Input),
-        Mode::Lines(Kind::Batch) => Plan::Batch(job),
-        Mode::Lines(Kind::Check) => Plan::Check(job),
+        None if given.batch => Plan::Batch(job),
+        None if given.check => Plan::Check(job),
+        None => Plan::One(job, PasswordFrom::Input),
     })
 }
 
@@ -114,23 +141,6 @@ fn read_words<'a>(alloc: Global, words: &'a [String]) -> Result<Arguments<'a>, c
     })
 }
 
-// Returns the method that TYPE names, or `None` if TYPE asks for the list of the methods.
-fn one_method(given: &Arguments<'_>) -> Result<Option<Method>, UsageFault>
-    ensures known { (rows : List Row) → Keeps rows given.now
-        → IfOk result (λ method. MatchOption method (type_of rows ≡ codes "help") (Names rows)) }
-    ensures unknown { (rows : List Row) → Keeps rows given.now
-        → IfErr result (λ fault. (fault ≡ UsageFault.Method) × (type_of rows ≢ codes "help") × BreaksUsage rows UsageFault.Method) }
-{
-    let name = given.method.unwrap_or(DEFAULT_TYPE);
-    if name == "help" {
-        return Ok(None);
-    }
-    match Method::named(name.as_bytes()) {
-        Some(method) => Ok(Some(method)),
-        None => Err(UsageFault::Method),
-    }
-}
-
 // Returns the salt, which may be given in at most one of the two ways.
 fn one_salt<'a>(given: &Arguments<'a>) -> Result<Option<&'a [u8]>, UsageFault>
     ensures once { (rows : List Row) → Keeps rows given.now
@@ -145,92 +155,47 @@ fn one_salt<'a>(given: &Arguments<'a>) -> Result<Option<&'a [u8]>, UsageFault>
     }
 }
 
-// Returns the mode, which is the input if none is given.
-fn one_mode<'a>(given: &Arguments<'a>) -> Result<Mode<'a>, UsageFault>
-    ensures one { (rows : List Row) → Keeps rows given.now
-        → IfOk result (λ mode. (¬ BreaksUsage rows UsageFault.TwoModes) × AsksFor rows mode) }
-    ensures more { (rows : List Row) → Keeps rows given.now
-        → IfErr result (λ fault. (fault ≡ UsageFault.TwoModes) × BreaksUsage rows UsageFault.TwoModes) }
-{
-    let flags = u32::from(given.stdin) + u32::from(given.batch) + u32::from(given.check);
-    if u32::from(given.password.is_some()) + flags > 1 {
-        return Err(UsageFault::TwoModes);
-    }
-    Ok(match given.password {
-        Some(password) => Mode::Word(password),
-        None if given.batch => Mode::Lines(Kind::Batch),
-        None if given.check => Mode::Lines(Kind::Check),
-        None => Mode::Input,
-    })
-}
-
 // Returns the command with which the arguments are parsed, with its help.
 fn command<'a>(alloc: Global) -> Result<Command<'a>, AllocError>
     ensures { IfOk result (λ made. app_of made ≡ command) }
 {
-    let password = word(alloc, "password", "PASSWORD").help(
-        "The password, of at most 1,024 bytes; without it, as by --stdin",
-    );
-    let salt_word = word(alloc, "salt-word", "SALT").help("The salt, in place of --salt");
-    let bare = Command::new(alloc, "mkpasswd")
+    Command::new(alloc, "mkpasswd")
         .version(VERSION)
-        .about("Prints the crypt(5) hash of a password, and hashes or checks the lines of a file")
+        .about(ABOUT)
         .after_help(AFTER_HELP)
-        .no_binary_name(true);
-    with_line_options(alloc, with_hash_options(alloc, bare)?)?
-        .arg(password)?
-        .arg(salt_word)
-}
-
-// Adds the options for the method, the salt, the cost and the source of the password.
-fn with_hash_options<'a>(alloc: Global, command: Command<'a>) -> Result<Command<'a>, AllocError>
-    ensures { IfOk result (λ made. app_of made ≡ fold with_rule (app_of command.entry) hash_rules) }
-{
-    let method = word(alloc, "method", "TYPE").long("method").short('m').help(
-        "The method: md5crypt, sha256crypt, sha512crypt (the\ndefault) or scrypt; help lists them",
-    );
-    let salt = word(alloc, "salt", "SALT").long("salt").short('S').help(
-        "The salt: up to 8 (md5crypt), 16 or 86 (scrypt)\nletters, digits, '.' and '/'; else a new one",
-    );
-    let rounds = word(alloc, "rounds", "NUMBER")
-        .long("rounds")
-        .short('R')
-        .value_parser(value_parser!(u32))
-        .help(
-            "The cost: rounds of sha256crypt and sha512crypt,\n6 to 11 for scrypt, 0 for the method's own",
-        );
-    let stdin = flag(alloc, "stdin")
-        .short('s')
-        .help("The password is the first line of standard input");
-    command.arg(method)?.arg(salt)?.arg(rounds)?.arg(stdin)
-}
-
-// Adds the options for lines and for what is printed.
-fn with_line_options<'a>(alloc: Global, command: Command<'a>) -> Result<Command<'a>, AllocError>
-    ensures { IfOk result (λ made. app_of made ≡ fold with_rule (app_of command.entry) line_rules) }
-{
-    let batch = flag(alloc, "batch").help(
-        "Hash the password of each line of standard input:\nname:password",
-    );
-    let check = flag(alloc, "check").help(
-        "Check the password of each line of standard input:\nname:field:password",
-    );
-    let rehash = flag(alloc, "rehash").help(
-        "With --check, a new hash for each password that fits a\nhash of another method or a lower cost",
-    );
-    let work = flag(alloc, "work").help(
-        "Show what the hash cost: digests, bytes, mixings,\nbytes of table",
-    );
-    let budget = word(alloc, "budget", "NUMBER")
-        .long("budget")
-        .value_parser(value_parser!(u64))
-        .help("What a line may cost, by --batch and --check: bytes\ndigested and mixed");
-    command
-        .arg(batch)?
-        .arg(check)?
-        .arg(rehash)?
-        .arg(work)?
-        .arg(budget)
+        .no_binary_name(true)
+        .arg(
+            word(alloc, "method", "TYPE")
+                .long("method")
+                .short('m')
+                .help(METHOD_HELP),
+        )?
+        .arg(
+            word(alloc, "salt", "SALT")
+                .long("salt")
+                .short('S')
+                .help(SALT_HELP),
+        )?
+        .arg(
+            word(alloc, "rounds", "NUMBER")
+                .long("rounds")
+                .short('R')
+                .value_parser(value_parser!(u32))
+                .help(ROUNDS_HELP),
+        )?
+        .arg(flag(alloc, "stdin").short('s').help(STDIN_HELP))?
+        .arg(flag(alloc, "batch").help(BATCH_HELP))?
+        .arg(flag(alloc, "check").help(CHECK_HELP))?
+        .arg(flag(alloc, "rehash").help(REHASH_HELP))?
+        .arg(flag(alloc, "work").help(WORK_HELP))?
+        .arg(
+            word(alloc, "budget", "NUMBER")
+                .long("budget")
+                .value_parser(value_parser!(u64))
+                .help(BUDGET_HELP),
+        )?
+        .arg(word(alloc, "password", "PASSWORD").help(PASSWORD_HELP))?
+        .arg(word(alloc, "salt-word", "SALT").help(SALT_WORD_HELP))
 }
 
 // Returns a flag whose long name is its id.

@@ -1,6 +1,6 @@
 //! Outcomes of passwords and lines, and the output line of each. An outcome is a value; its line is rendered once,
 //! after all work is done.
-ghost use Rattle.std.specs.Prelude.{◌≡◌, ◌+◌, ◌*◌, ◌<◌, ◌≤◌, ◌++◌, ◌↔◌, [], IsTrue, length, IfOk, OnOk, OnErr};
+ghost use Rattle.std.specs.Prelude.{◌≡◌, ℕ, List, ◌+◌, ◌*◌, ◌<◌, ◌≤◌, ◌++◌, ◌↔◌, [], IsTrue, length, IfOk, OnOk, OnErr};
 ghost use Rattle.arrayvec.specs.ArrayVec.{array_vec_len};
 ghost use Rattle.crypt_core.specs.Crypt.{IsAfterRefusedGrowth};
 ghost use Rattle.crypt_core.specs.Passwords.{password_limit};
@@ -14,10 +14,12 @@ ghost use Rattle.run_core.specs.Lines.{name_limit};
 ghost use Rattle.run_core.specs.Makers.{bytes_of, next_setting, stream_after};
 ghost use Rattle.run_core.specs.Private.Answers.{Decides, IsRaisedBelow, Settles, count_text, field_cost, front_by, wanted_text, work_text};
 ghost use Rattle.run_core.specs.Private.Headroom.{HasCountsForLine, answer_limit, count_limit, front_limit, line_work_limit};
+ghost use Rattle.run_core.specs.Private.Lines.{Represents};
 ghost use Rattle.run_core.specs.Texts.{as_line};
 
 use crate::job::Job;
 use crate::line::{Kind, Line, LineFault, NAME_LIMIT, parse_line};
+use crate::reader::buffer::LineBuffer;
 use arrayvec::ArrayVec;
 use crypt_core::hash::{HASH_LIMIT, HashFault, Hashed, hash};
 use crypt_core::password::Password;
@@ -74,16 +76,20 @@ pub(crate) fn answer_line<'a, R: Rng>(
     alloc: Global,
     kind: Kind,
     job: &Job,
-    bytes: &'a [u8],
+    line: &'a LineBuffer,
     rng: &mut R,
     meter: &mut Meter,
 ) -> Result<Result<Answered<'a>, LineFault>, HashFault>
     requires { HasCountsForLine meter.old }
-    ensures decides { Decides kind job.now bytes.now (R.stream rng.old) meter.old meter.new (R.stream rng.new) result }
+    ensures decides { (text : List ℕ) → Represents line.now text
+        → Decides kind job.now text (R.stream rng.old) meter.old meter.new (R.stream rng.new) result }
     ensures short { IfOk result (λ answer. IfOk answer (λ answered. length answered.name.now ≤ name_limit)) }
     ensures small { IsRaisedBelow line_work_limit meter.old meter.new }
 {
-    let line = match parse_line(kind, bytes) {
+    let LineBuffer::Bytes(bytes) = line else {
+        return Ok(Err(LineFault::LineTooLong));
+    };
+    let line = match parse_line(kind, bytes.as_slice()) {
         Ok(line) => line,
         Err(fault) => return Ok(Err(fault)),
     };
@@ -120,9 +126,8 @@ fn cost_of(job: &Job, line: &Line<'_>) -> u64
         None => job.maker.cost(password_len),
         Some(StoredField::Empty | StoredField::Locked) => 0,
         Some(StoredField::Hash(stored)) => {
-            let setting = stored.setting();
-            let old = cost(setting, password_len);
-            if job.renews(&setting.scheme()) {
+            let old = cost(stored.setting(), password_len);
+            if job.renews(stored) {
                 old + job.maker.cost(password_len)
             } else {
                 old
@@ -157,7 +162,7 @@ fn outcome_of<R: Rng>(
     if !stored.fits(alloc, password, meter)? {
         return Ok(Outcome::Misfit);
     }
-    if !job.renews(&stored.setting().scheme()) {
+    if !job.renews(stored) {
         return Ok(Outcome::Match);
     }
     Ok(Outcome::Rehashed(make_hash(alloc, job, password, rng, meter)?))

@@ -1,14 +1,14 @@
 //! The job of a run, and the maker of its settings: a scheme, with a salt that is given once or made from random
 //! numbers for each hash.
-ghost use Rattle.std.specs.Prelude.{◌≡◌, ◌↔◌, ◌&&◌, ℕ, ◌^◌, ◌<◌, ◌≤◌, List, Err, IsOk, IfOk, IfErr, is_some, length, not};
+ghost use Rattle.std.specs.Prelude.{◌≡◌, ◌↔◌, ℕ, ◌^◌, ◌<◌, ◌≤◌, List, Err, IsOk, IfOk, IfErr, is_some, length, not};
 ghost use Rattle.std.specs.Option.{option_map_or};
 ghost use Rattle.crypt_core.specs.declared.setting.fault.MakeFault.{MakeFault as Fault};
 ghost use Rattle.crypt_core.specs.MadeSettings.{BreaksMake, IsMakeRefused, made_scheme};
 ghost use Rattle.crypt_core.specs.MethodLimits.{made_salt_length, salt_limit};
 ghost use Rattle.crypt_core.specs.Passwords.{password_limit};
-ghost use Rattle.crypt_core.specs.Replacements.{is_replaced_by};
 ghost use Rattle.crypt_core.specs.Schemes.{method_of};
 ghost use Rattle.crypt_core.specs.Work.{cost};
+ghost use Rattle.run_core.specs.JobOptions.{is_outdated};
 ghost use Rattle.run_core.specs.Makers.{bytes_of, made_cost_by, next_setting, setting_by, stream_after};
 
 use arrayvec::ArrayVec;
@@ -16,6 +16,7 @@ use crypt_core::made_salt::{draw, made_salt_length};
 use crypt_core::method::{Method, SCRYPT_SALT_LIMIT};
 use crypt_core::scheme::Scheme;
 use crypt_core::setting::{MakeFault, Setting};
+use crypt_core::stored::StoredHash;
 use rand_core::Rng;
 use std::marker::Model;
 
@@ -35,13 +36,17 @@ pub struct Job {
 }
 
 impl Job {
-    /// Returns whether a hash with this scheme is renewed.
+    /// Returns whether a stored hash is renewed once a password matches it.
     ///
-    /// The job asks for rehashes, and its own scheme replaces this one.
-    pub(crate) fn renews(&self, scheme: &Scheme) -> bool
-        ensures { result ≡ (self.now.rehash && is_replaced_by scheme.now self.now.maker.scheme) }
+    /// The job asks for rehashes, and its scheme replaces that of the stored hash.
+    pub(crate) fn renews(&self, stored: &StoredHash<'_>) -> bool
+        ensures { result ≡ is_outdated self.now stored.now.setting }
     {
-        self.rehash && scheme.is_replaced_by(&self.maker.scheme())
+        self.rehash
+            && stored
+                .setting()
+                .scheme()
+                .is_replaced_by(&self.maker.scheme())
     }
 }
 

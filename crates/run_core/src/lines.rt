@@ -13,7 +13,7 @@ ghost use Rattle.run_core.specs.Private.Headroom.{HasRoomFor, answer_limit};
 ghost use Rattle.run_core.specs.Runs.{IsWithinTurns, run_state};
 ghost use Rattle.run_core.specs.declared.line.Kind.TheVariants.{Batch, Check};
 
-use crate::answer::{Answered, Outcome, render, render_refusal};
+use crate::answer::{Answered, Outcome, answer_line, render, render_refusal};
 use crate::device::{Input, Output};
 use crate::fault::RunFault;
 use crate::job::Job;
@@ -185,28 +185,31 @@ fn answer_lines<I: Read, O: Write, E: Write, R: Rng>(
     let mut reader = LineReader::new();
     let mut tally = Tally::new();
     'lines: while reader.next_line(input, &mut left)? {
-        let answer = reader.line().answer(alloc, kind, job, rng, meter)?;
-        write_answer(job, tally.lines + 1, &answer, out, faults, &mut left)?;
-        count_line(&mut tally, &answer);
+        let answer = answer_line(alloc, kind, job, &reader.buffer, rng, meter)?;
+        count_and_write(job, &answer, out, faults, &mut tally, &mut left)?;
     }
     finish_both(out, faults)?;
     Ok(tally)
 }
 
-// Writes the answer to line `number` to `out`, or to `faults` if the line is refused.
-fn write_answer<O: Write, E: Write>(
+// Adds a line with this answer to the tally, and writes the answer to `out`, or to `faults` if the line is refused.
+fn count_and_write<O: Write, E: Write>(
     job: &Job,
-    number: u64,
     answer: &Result<Answered<'_>, LineFault>,
     out: &mut Output<O>,
     faults: &mut Output<E>,
+    tally: &mut Tally,
     left: &mut u64,
 ) -> Result<(), RunFault>
+    requires lines { tally.old.lines ≤ turns_limit }
+    requires refused { tally.old.refused ≤ tally.old.lines }
+    requires misfits { tally.old.misfits ≤ tally.old.lines }
     requires out_room { HasRoomFor answer_limit left.old out.old }
     requires faults_room { HasRoomFor answer_limit left.old faults.old }
     requires flushes { faults.old.flushes ≤ 2 ^ 62 }
     requires short { IfOk answer.now (λ answered. length answered.name.now ≤ name_limit) }
-    ensures sends { (next : Answer) → Renders job.now number answer.now next
+    ensures tally { tally.new ≡ counted tally.old (outcome_of answer.now) }
+    ensures sends { (next : Answer) → Renders job.now (tally.old.lines + 1) answer.now next
         → Sends left.new next out.old faults.old out.new faults.new result }
     ensures calls { out.new.calls + faults.new.calls + left.new ≡ out.old.calls + faults.old.calls + left.old }
     ensures fewer { OnOk result (left.new < left.old) }
@@ -217,30 +220,17 @@ fn write_answer<O: Write, E: Write>(
     ensures faults_room { OnOk result (HasRoomFor answer_limit left.new faults.new) }
     ensures fault_room { HasRoomWithinRun faults.new }
 {
-    match answer {
-        Ok(answered) => {
-            let text = render(job, Some(answered.name), &answered.outcome, &answered.work);
-            send(out, text.as_slice(), left)
-        }
-        Err(fault) => send(faults, render_refusal(number, fault).as_slice(), left),
-    }
-}
-
-// Adds a line with this answer to the tally.
-fn count_line(tally: &mut Tally, answer: &Result<Answered<'_>, LineFault>)
-    requires lines { tally.old.lines < turns_limit }
-    requires refused { tally.old.refused ≤ tally.old.lines }
-    requires misfits { tally.old.misfits ≤ tally.old.lines }
-    ensures { tally.new ≡ counted tally.old (outcome_of answer.now) }
-{
     tally.lines += 1;
     match answer {
         Ok(answered) => {
-            if let Outcome::Misfit = answered.outcome {
-                tally.misfits += 1;
-            }
+            tally.misfits += u64::from(matches!(answered.outcome, Outcome::Misfit));
+            let text = render(job, Some(answered.name), &answered.outcome, &answered.work);
+            send(out, text.as_slice(), left)
         }
-        Err(_) => tally.refused += 1,
+        Err(fault) => {
+            tally.refused += 1;
+            send(faults, render_refusal(tally.lines, fault).as_slice(), left)
+        }
     }
 }
 

@@ -11,6 +11,7 @@ pub(crate) mod buffer;
 use crate::device::Input;
 use crate::fault::RunFault;
 use crate::transfer::{fetch_piece, line_feed_at};
+use arrayvec::ArrayVec;
 use buffer::LineBuffer;
 use std::io::Read;
 use std::marker::Model;
@@ -39,16 +40,6 @@ impl Model for Piece {
 }
 
 impl Piece {
-    fn new() -> Piece
-        ensures { result ≡ [] }
-    {
-        Piece {
-            bytes: [0; PIECE_SIZE],
-            start: 0,
-            end: 0,
-        }
-    }
-
     // Moves the bytes before the first line feed, or all without one, into the buffer, and drops the line feed. Returns
     // whether there was one.
     fn take_line(&mut self, buffer: &mut LineBuffer) -> bool
@@ -93,7 +84,7 @@ impl Piece {
 pub(crate) struct LineReader {
     piece: Piece,
     /// The line that was given last.
-    buffer: LineBuffer,
+    pub(crate) buffer: LineBuffer,
     /// Whether a read has found the end of the input.
     at_end: bool,
 }
@@ -105,17 +96,14 @@ impl LineReader {
         ensures no_end { result.at_end ≡ false }
     {
         LineReader {
-            piece: Piece::new(),
-            buffer: LineBuffer::new(),
+            piece: Piece {
+                bytes: [0; PIECE_SIZE],
+                start: 0,
+                end: 0,
+            },
+            buffer: LineBuffer::Bytes(ArrayVec::new()),
             at_end: false,
         }
-    }
-
-    /// The line that was given last.
-    pub(crate) fn line(&self) -> &LineBuffer
-        ensures { result.now ≡ self.now.buffer }
-    {
-        &self.buffer
     }
 
     /// Reads to the end of the next line. Returns whether there is one; it is then in the buffer.
@@ -134,7 +122,7 @@ impl LineReader {
         if self.at_end {
             return Ok(false);
         }
-        self.buffer = LineBuffer::new();
+        self.buffer = LineBuffer::Bytes(ArrayVec::new());
         'fetches: while !self.piece.take_line(&mut self.buffer) {
             if !self.piece.fetch(input, left)? {
                 self.at_end = true;

@@ -1,15 +1,12 @@
--- The command's rules in two parts, as the code adds them, and what the code keeps of the rows that `clap` finds.
-use Rattle.std.specs.Prelude.{◌≡◌, ◌≢◌, ◌⊎◌, pos, true, List, [], ◌∷◌, Some, None, codes}
+-- Two of the command's rules, and what the code keeps of the rows that `clap` finds.
+use Rattle.std.specs.Prelude.{◌≡◌, ◌≢◌, pos, List, Some, None, codes}
 use Rattle.clap.specs.Words.{Row, Rule, first_of}
 use Rattle.clap.specs.declared.builder.value_parser.ValueParser.TheVariants.{Signed, Unsigned}
 use Rattle.crypt_core.specs.Methods.{method_named}
 use Rattle.crypt_core.specs.declared.method.Method.{Method}
 use Rattle.run_core.specs.Makers.{bytes_of}
-use Rattle.run_core.specs.declared.line.Kind.TheVariants as kinds
-use Rattle.mkpasswd.specs.Options.{cost_of, flag_rule, is_set, mode_count, number_in, option_rule, type_of}
+use Rattle.mkpasswd.specs.Options.{cost_of, is_set, number_in, option_rule, type_of}
 use Rattle.mkpasswd.specs.declared.options.Arguments.{Arguments}
-use Rattle.mkpasswd.specs.declared.options.Mode.{Mode}
-use Rattle.mkpasswd.specs.declared.options.Mode.TheVariants.{Word, Input, Lines}
 
 -- ---- rules of the command
 
@@ -20,18 +17,6 @@ rounds_rule = record (option_rule (codes "rounds") (Some 82)) { parser = Some (S
 -- `--budget` takes a 64-bit number.
 abbrev pub budget_rule : Rule
 budget_rule = record (option_rule (codes "budget") None) { parser = Some (Unsigned 0 18446744073709551615) }
-
--- These options are for the method, the salt, the cost and the source of the password.
-abbrev pub hash_rules : List Rule
-hash_rules =
-    option_rule (codes "method") (Some 109) ∷ option_rule (codes "salt") (Some 83) ∷ rounds_rule
-    ∷ flag_rule (codes "stdin") (Some 115) ∷ []
-
--- These options are for lines and for what is printed.
-abbrev pub line_rules : List Rule
-line_rules =
-    flag_rule (codes "batch") None ∷ flag_rule (codes "check") None ∷ flag_rule (codes "rehash") None
-    ∷ flag_rule (codes "work") None ∷ budget_rule ∷ []
 
 -- ---- the values that are kept
 
@@ -53,10 +38,3 @@ pub record Keeps (rows : List Row) (given : Arguments) : Type 0 where
 pub record Names (rows : List Row) (method : Method) : Type 0 where
   pub not_help : type_of rows ≢ codes "help"
   pub named : method_named (type_of rows) ≡ Some method
-
--- The arguments ask for this mode. Without a mode they ask for the input.
-abbrev pub AsksFor : List Row → Mode → Type 0
-AsksFor rows (Word password) = first_of (codes "password") rows ≡ Some password.now
-AsksFor rows Input = (is_set (codes "stdin") rows ≡ true) ⊎ (mode_count rows ≡ 0)
-AsksFor rows (Lines kinds.Batch) = is_set (codes "batch") rows ≡ true
-AsksFor rows (Lines kinds.Check) = is_set (codes "check") rows ≡ true

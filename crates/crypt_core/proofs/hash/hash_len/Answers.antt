@@ -3,4 +3,4 @@ use Rattle.crypt_core.proofs.hash.hash_len.Goals as goal
 
 pub returns-clause-each : goal.returns-clause-each
 returns-clause-each c password =
-    rw (c.row.ensures.packed, c.method.ensures, c.len.ensures.value, c.text.ensures.canonical) (length-crypt password c.args.setting.now)
+    rw (c.row.ensures.packed, c.method.ensures.method, c.scheme.ensures, c.len.ensures.value, c.text.ensures.canonical) (length-crypt password c.args.setting.now)

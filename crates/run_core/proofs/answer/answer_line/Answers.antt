@@ -1,4 +1,4 @@
-use Rattle.std.proofs.Common.{◌≡◌, List, length, arith, true≢false, inl, inr, sym, refl, ap, ◌∙◌}
+use Rattle.std.proofs.Common.{◌≡◌, ℕ, List, length, subst, arith, true≢false, inl, inr, sym, refl, ap, ◌∙◌}
 use Rattle.std.proofs.lemmas.Result.{err_from_is_err_and}
 use Rattle.prims_core.specs.Work.{no_work}
 use Rattle.prims_core.specs.declared.meter.Work.{Work}
@@ -9,21 +9,36 @@ use Rattle.run_core.specs.LineAnswers.{answer_of, refusal}
 use Rattle.run_core.specs.Private.Answers.{field_cost}
 use Rattle.run_core.specs.Private.Headroom.{line_work_limit}
 use Rattle.run_core.specs.declared.answer.Outcome.{Outcome}
-use Rattle.run_core.specs.declared.line.LineFault.TheVariants.{OverBudget}
+use Rattle.run_core.specs.Private.Lines.{Represents}
+use Rattle.run_core.specs.declared.line.LineFault.TheVariants.{LineTooLong, OverBudget}
+use Rattle.run_core.specs.declared.reader.buffer.LineBuffer.{LineBuffer}
+use Rattle.run_core.specs.declared.reader.buffer.LineBuffer.TheVariants.{Bytes}
+use Rattle.arrayvec.specs.declared.array_vec.ArrayVec.{ArrayVec}
 use Rattle.run_core.proofs.Counting.{after_hashings, small_rise}
 use Rattle.run_core.proofs.Deciding.{costly, decided}
+use Rattle.run_core.proofs.LineRules.{too_long-refused}
 use Rattle.run_core.proofs.answer.answer_line.Goals as goal
 
+-- the bytes in the buffer are those of the line
+bytes_are : (buffer : LineBuffer) (bytes : ArrayVec ℕ 2048 (Unit {0})) (text slice : List ℕ) → buffer ≡ Bytes bytes → Represents buffer text → slice ≡ bytes.items → slice ≡ text
+bytes_are buffer bytes text slice is stands same = same ∙ subst (λ (b : LineBuffer). Represents b text) is stands
+
+pub returns-in_default-clause-decides : goal.returns-in_default-clause-decides
+returns-in_default-clause-decides g c text stands number =
+    let long = subst (λ (buffer : LineBuffer). Represents buffer text) c.in_default.is stands in
+    (refusal number LineTooLong, inl (LineTooLong, too_long-refused c.args.kind text long, refl), refl, refl, refl)
+
 pub returns-in-Err-clause-decides : goal.returns-in-Err-clause-decides
-returns-in-Err-clause-decides g c number =
-    let answer = refusal number c.in-Err.fault in
-    (answer, inl (c.in-Err.fault, c.in-Err.ensures.refused, refl), refl, refl, refl)
+returns-in-Err-clause-decides g c text stands number =
+    let is = bytes_are c.args.line.now c.in-Bytes.bytes text c.as_slice.result.now c.in-Bytes.is stands c.as_slice.ensures.value in
+    rw (← is) (refusal number c.in-Err.fault, inl (c.in-Err.fault, c.in-Err.ensures.refused, refl), refl, refl, refl)
 
 pub returns-then-is_over_budget-clause-decides : goal.returns-then-is_over_budget-clause-decides
-returns-then-is_over_budget-clause-decides g c number =
+returns-then-is_over_budget-clause-decides g c text stands number =
     let above = c.is_over_budget.ensures.0 c.if-is_over_budget.true in
-    let is_costly = costly c.args.kind c.args.job.now c.args.bytes.now _ _ _ c.in-Ok.ensures.read above in
-    (refusal number OverBudget, inr (inl (is_costly, refl)), refl, refl, refl)
+    let is = bytes_are c.args.line.now c.in-Bytes.bytes text c.as_slice.result.now c.in-Bytes.is stands c.as_slice.ensures.value in
+    let is_costly = costly c.args.kind c.args.job.now c.as_slice.result.now _ _ _ c.in-Ok.ensures.read above in
+    rw (← is) (refusal number OverBudget, inr (inl (is_costly, refl)), refl, refl, refl)
 
 pub work_since-requires : goal.work_since-requires
 work_since-requires g c = record {
@@ -32,15 +47,16 @@ work_since-requires g c = record {
 }
 
 pub returns-in_err-outcome-clause-decides : goal.returns-in_err-outcome-clause-decides
-returns-in_err-outcome-clause-decides g c =
+returns-in_err-outcome-clause-decides g c text stands =
     let stream = g.R.Rng.stream c.args.rng.now in
     let p = err_from_is_err_and c.from_residual.result c.from_residual.ensures.1 in
     let settles = c.in_err-outcome.ensures.settles in
     let within : ¬ IsAbove c.args.job.now.budget (field_cost c.args.job.now c.in-Ok.line.field (length c.in-Ok.line.password)) =
     λ above. true≢false (sym (c.is_over_budget.ensures.1 above) ∙ c.if-is_over_budget.false) in
-    rw p.1 (λ number. (
+    let is = bytes_are c.args.line.now c.in-Bytes.bytes text c.as_slice.result.now c.in-Bytes.is stands c.as_slice.ensures.value in
+    rw (p.1, ← is) (λ number. (
       answer_of c.args.job.now c.in-Ok.line.name.now settles.0 settles.1,
-      decided c.args.kind c.args.job.now number c.args.bytes.now stream _ _ _ settles.1 settles.0 c.in-Ok.ensures.read within settles.2,
+      decided c.args.kind c.args.job.now number c.as_slice.result.now stream _ _ _ settles.1 settles.0 c.in-Ok.ensures.read within settles.2,
       settles.3,
     ))
 
@@ -51,14 +67,16 @@ told_work before after reading told hashings made read raised =
     sym (raised (after_work no_work hashings) (made ∙ (after_hashings before hashings ∙ ap (λ (w : Work). raised_by w (after_work no_work hashings)) (sym read))))
 
 pub returns-clause-decides : goal.returns-clause-decides
-returns-clause-decides g c number =
+returns-clause-decides g c text stands number =
     let job = c.args.job.now in
     let stream = g.R.Rng.stream c.args.rng.now in
     let settles = c.in_ok-outcome.ensures.settles in
     let within : ¬ IsAbove job.budget (field_cost job c.in-Ok.line.field (length c.in-Ok.line.password)) =
-    λ above. true≢false (sym (c.is_over_budget.ensures.1 above) ∙ c.if-is_over_budget.false) in (
+    λ above. true≢false (sym (c.is_over_budget.ensures.1 above) ∙ c.if-is_over_budget.false) in
+    let is = bytes_are c.args.line.now c.in-Bytes.bytes text c.as_slice.result.now c.in-Bytes.is stands c.as_slice.ensures.value in
+    rw (← is) (
       answer_of job c.in-Ok.line.name.now settles.0 settles.1,
-      decided c.args.kind job number c.args.bytes.now stream _ _ _ settles.1 settles.0 c.in-Ok.ensures.read within settles.2.0,
+      decided c.args.kind job number c.as_slice.result.now stream _ _ _ settles.1 settles.0 c.in-Ok.ensures.read within settles.2.0,
       (
         ap (λ (o : Outcome). answer_of job c.in-Ok.line.name.now o settles.1) (sym settles.2.1),
         told_work c.args.meter.now c.outcome_of.new.meter c.reading-before.result c.work_since.result settles.1 settles.3.0 c.reading-before.ensures c.work_since.ensures.raised,

@@ -1,11 +1,8 @@
-use Rattle.std.proofs.Common.{◌≡◌, ℕ, List, [], ◌∷◌, Some, true, false, true≢false, ◌&&◌, refl, sym, ap, subst, ◌∙◌}
+use Rattle.std.proofs.Common.{◌≡◌, ℕ, List, [], ◌∷◌, Some, true, false, true≢false, refl, sym, ap, subst, ◌∙◌}
 use Rattle.std.proofs.lemmas.Result.{err_from_is_err_and}
 use Rattle.prims_core.specs.declared.meter.Work.{Work}
 use Rattle.crypt_core.specs.Crypt.{IsAfterRefusedGrowth, crypt}
-use Rattle.crypt_core.specs.Replacements.{is_replaced_by}
-use Rattle.crypt_core.specs.Settings.{SettingValue}
 use Rattle.crypt_core.specs.Work.{raised_by, work}
-use Rattle.crypt_core.specs.declared.scheme.Scheme.{Scheme}
 use Rattle.crypt_core.specs.declared.stored.StoredField.{StoredField}
 use Rattle.crypt_core.specs.declared.stored.StoredField.TheVariants.{Hash}
 use Rattle.run_core.specs.Answers.{hashing, new_hash, new_hashing}
@@ -82,9 +79,7 @@ returns-then-not-renews-clause-settles g c =
     let field_is : c.args.line.now.field ≡ Some (Hash stored) = c.in-Some.is ∙ ap (λ (f : StoredField). Some f) c.in-Hash.is in
     let stream = g.R.Rng.stream c.args.rng.now in
     let same : crypt password stored.setting ≡ stored.text = c.in_ok-fits.ensures.verdict.0 c.if-not-branch.false in
-    let scheme_is : c.scheme.result ≡ stored.setting.scheme = c.scheme.ensures ∙ ap (λ (s : SettingValue). s.scheme) c.setting.ensures.value in
-    let recent : is_outdated job stored.setting ≡ false =
-    ap (λ (s : Scheme). job.rehash && is_replaced_by s job.maker.scheme) (sym scheme_is) ∙ sym c.renews.ensures ∙ c.if-not-renews.true in
+    let recent : is_outdated job stored.setting ≡ false = sym c.renews.ensures ∙ c.if-not-renews.true in
     rw field_is (
       Match,
       hashing password stored.setting stream ∷ [],
@@ -101,9 +96,7 @@ returns-in_err-make_hash-2-clause-settles g c =
     let stream = g.R.Rng.stream c.args.rng.now in
     let p = err_from_is_err_and c.from_residual-in_err-make_hash-2.result c.from_residual-in_err-make_hash-2.ensures.1 in
     let same : crypt password stored.setting ≡ stored.text = c.in_ok-fits.ensures.verdict.0 c.if-not-branch.false in
-    let scheme_is : c.scheme.result ≡ stored.setting.scheme = c.scheme.ensures ∙ ap (λ (s : SettingValue). s.scheme) c.setting.ensures.value in
-    let outdated : is_outdated job stored.setting ≡ true =
-    ap (λ (s : Scheme). job.rehash && is_replaced_by s job.maker.scheme) (sym scheme_is) ∙ sym c.renews.ensures ∙ c.if-not-renews.false in
+    let outdated : is_outdated job stored.setting ≡ true = sym c.renews.ensures ∙ c.if-not-renews.false in
     let refused = subst (λ (counts : Work). IsAfterRefusedGrowth counts (next_setting job.maker stream).scheme c.make_hash-2.new.meter) c.in_ok-fits.ensures.count c.in_err-make_hash-2.ensures.refused in
     rw (p.1, field_is) (
       Rehashed (new_hash job password stream),
@@ -120,9 +113,7 @@ returns-clause-settles g c =
     let field_is : c.args.line.now.field ≡ Some (Hash stored) = c.in-Some.is ∙ ap (λ (f : StoredField). Some f) c.in-Hash.is in
     let stream = g.R.Rng.stream c.args.rng.now in
     let same : crypt password stored.setting ≡ stored.text = c.in_ok-fits.ensures.verdict.0 c.if-not-branch.false in
-    let scheme_is : c.scheme.result ≡ stored.setting.scheme = c.scheme.ensures ∙ ap (λ (s : SettingValue). s.scheme) c.setting.ensures.value in
-    let outdated : is_outdated job stored.setting ≡ true =
-    ap (λ (s : Scheme). job.rehash && is_replaced_by s job.maker.scheme) (sym scheme_is) ∙ sym c.renews.ensures ∙ c.if-not-renews.false in
+    let outdated : is_outdated job stored.setting ≡ true = sym c.renews.ensures ∙ c.if-not-renews.false in
     let count = subst (λ (counts : Work). c.make_hash-2.new.meter ≡ raised_by counts (work password (next_setting job.maker stream))) c.in_ok-fits.ensures.count c.in_ok-make_hash-2.ensures.count in
     rw field_is (
       Rehashed (new_hash job password stream),

@@ -27,8 +27,8 @@ returns-in_err-next_line-clause-within_turns g c =
 
 -- ---- a line is answered
 
-pub answer-requires : goal.answer-requires
-answer-requires g c =
+pub answer_line-requires : goal.answer_line-requires
+answer_line-requires g c =
     let room = c.lines.invariant.room in
     let lines = room.turns in
     let counts = room.counts in
@@ -45,57 +45,57 @@ returns-in_err-answer-clause-ends g c =
     let is = c.lines.invariant in
     let p = err_from_is_err_and c.from_residual-in_err-answer.result c.from_residual-in_err-answer.ensures.1 in
     let line = given-line c.next_line.new.left c.args.input.now c.next_line.new.input c.next_line.new.self is.lines c.in_ok-next_line.field-0 c.if-branch.true (c.in_ok-next_line.ensures.gives c.args.input.now is.lines is.given) in
-    let got = c.in_err-answer.ensures.decides line.0 (rw c.line.ensures line.1) (c.lines.tally.lines + 1) in
+    let got = c.in_err-answer.ensures.decides line.0 line.1 (c.lines.tally.lines + 1) in
     rw (p.1, p.2) (ends-unanswered is c.next_line.new.input c.next_line.new.left c.next_line.ensures.turns c.next_line.new.self line.0 line.2 got.0 got.1
-    (g.R.Rng.stream c.answer.new.rng) c.answer.new.meter got.2).0
+    (g.R.Rng.stream c.answer_line.new.rng) c.answer_line.new.meter got.2).0
 
 pub returns-in_err-answer-clause-within_turns : goal.returns-in_err-answer-clause-within_turns
 returns-in_err-answer-clause-within_turns g c =
     let is = c.lines.invariant in
     let line = given-line c.next_line.new.left c.args.input.now c.next_line.new.input c.next_line.new.self is.lines c.in_ok-next_line.field-0 c.if-branch.true (c.in_ok-next_line.ensures.gives c.args.input.now is.lines is.given) in
-    let got = c.in_err-answer.ensures.decides line.0 (rw c.line.ensures line.1) (c.lines.tally.lines + 1) in
+    let got = c.in_err-answer.ensures.decides line.0 line.1 (c.lines.tally.lines + 1) in
     (ends-unanswered is c.next_line.new.input c.next_line.new.left c.next_line.ensures.turns c.next_line.new.self line.0 line.2 got.0 got.1
-    (g.R.Rng.stream c.answer.new.rng) c.answer.new.meter got.2).1
+    (g.R.Rng.stream c.answer_line.new.rng) c.answer_line.new.meter got.2).1
 
-pub write_answer-requires-clause-out_room : goal.write_answer-requires-clause-out_room
-write_answer-requires-clause-out_room g c = room-less _ _ _ _ c.next_line.ensures.fewer c.lines.invariant.room.out
+pub count_and_write-requires-clause-out_room : goal.count_and_write-requires-clause-out_room
+count_and_write-requires-clause-out_room g c = room-less _ _ _ _ c.next_line.ensures.fewer c.lines.invariant.room.out
 
-pub write_answer-requires-clause-faults_room : goal.write_answer-requires-clause-faults_room
-write_answer-requires-clause-faults_room g c = room-less _ _ _ _ c.next_line.ensures.fewer c.lines.invariant.room.faults
+pub count_and_write-requires-clause-faults_room : goal.count_and_write-requires-clause-faults_room
+count_and_write-requires-clause-faults_room g c = room-less _ _ _ _ c.next_line.ensures.fewer c.lines.invariant.room.faults
 
-pub returns-in_err-write_answer-clause-ends : goal.returns-in_err-write_answer-clause-ends
-returns-in_err-write_answer-clause-ends g c =
+pub returns-in_err-count_and_write-clause-ends : goal.returns-in_err-count_and_write-clause-ends
+returns-in_err-count_and_write-clause-ends g c =
     let is = c.lines.invariant in
-    let p = err_from_is_err_and c.from_residual-in_err-write_answer.result c.from_residual-in_err-write_answer.ensures.1 in
+    let p = err_from_is_err_and c.from_residual-in_err-count_and_write.result c.from_residual-in_err-count_and_write.ensures.1 in
     let line = given-line c.next_line.new.left c.args.input.now c.next_line.new.input c.next_line.new.self is.lines c.in_ok-next_line.field-0 c.if-branch.true (c.in_ok-next_line.ensures.gives c.args.input.now is.lines is.given) in
-    let got = c.in_ok-answer.ensures.decides line.0 (rw c.line.ensures line.1) (c.lines.tally.lines + 1) in
-    let wrote = c.in_err-write_answer.ensures in
+    let got = c.in_ok-answer.ensures.decides line.0 line.1 (c.lines.tally.lines + 1) in
+    let wrote = c.in_err-count_and_write.ensures in
     rw (p.1, p.2) (ends-unsent is c.next_line.new.input c.next_line.new.left c.next_line.ensures.turns c.next_line.new.self line.0 line.2 got.0 got.1
-    c.write_answer.new.out c.write_answer.new.faults (g.R.Rng.stream c.answer.new.rng) c.answer.new.meter c.write_answer.new.left (Unit {0})
-    c.in_err-write_answer.field-0.0 got.4 got.3 (wrote.sends got.0 got.2) wrote.out_moves wrote.faults_moves wrote.failures wrote.calls).0
+    c.count_and_write.new.out c.count_and_write.new.faults (g.R.Rng.stream c.answer_line.new.rng) c.answer_line.new.meter c.count_and_write.new.left (Unit {0})
+    c.in_err-count_and_write.field-0.0 got.4 got.3 (wrote.sends got.0 got.2) wrote.out_moves wrote.faults_moves wrote.failures wrote.calls).0
 
-pub returns-in_err-write_answer-clause-within_turns : goal.returns-in_err-write_answer-clause-within_turns
-returns-in_err-write_answer-clause-within_turns g c =
+pub returns-in_err-count_and_write-clause-within_turns : goal.returns-in_err-count_and_write-clause-within_turns
+returns-in_err-count_and_write-clause-within_turns g c =
     let is = c.lines.invariant in
     let line = given-line c.next_line.new.left c.args.input.now c.next_line.new.input c.next_line.new.self is.lines c.in_ok-next_line.field-0 c.if-branch.true (c.in_ok-next_line.ensures.gives c.args.input.now is.lines is.given) in
-    let got = c.in_ok-answer.ensures.decides line.0 (rw c.line.ensures line.1) (c.lines.tally.lines + 1) in
-    let wrote = c.in_err-write_answer.ensures in
+    let got = c.in_ok-answer.ensures.decides line.0 line.1 (c.lines.tally.lines + 1) in
+    let wrote = c.in_err-count_and_write.ensures in
     (ends-unsent is c.next_line.new.input c.next_line.new.left c.next_line.ensures.turns c.next_line.new.self line.0 line.2 got.0 got.1
-    c.write_answer.new.out c.write_answer.new.faults (g.R.Rng.stream c.answer.new.rng) c.answer.new.meter c.write_answer.new.left (Unit {0})
-    c.in_err-write_answer.field-0.0 got.4 got.3 (wrote.sends got.0 got.2) wrote.out_moves wrote.faults_moves wrote.failures wrote.calls).1
+    c.count_and_write.new.out c.count_and_write.new.faults (g.R.Rng.stream c.answer_line.new.rng) c.answer_line.new.meter c.count_and_write.new.left (Unit {0})
+    c.in_err-count_and_write.field-0.0 got.4 got.3 (wrote.sends got.0 got.2) wrote.out_moves wrote.faults_moves wrote.failures wrote.calls).1
 
 pub lines-preserved : goal.lines-preserved
 lines-preserved g c =
     let is = c.lines.invariant in
     let next = c.in_ok-next_line.ensures in
     let line = given-line c.next_line.new.left c.args.input.now c.next_line.new.input c.next_line.new.self is.lines c.in_ok-next_line.field-0 c.if-branch.true (next.gives c.args.input.now is.lines is.given) in
-    let got = c.in_ok-answer.ensures.decides line.0 (rw c.line.ensures line.1) (c.lines.tally.lines + 1) in
-    let wrote = c.in_ok-write_answer.ensures in
+    let got = c.in_ok-answer.ensures.decides line.0 line.1 (c.lines.tally.lines + 1) in
+    let wrote = c.in_ok-count_and_write.ensures in
     let outcome = renders-outcome c.args.job.now (c.lines.tally.lines + 1) c.in_ok-answer.answer got.0 got.2 in
     running-answered is c.next_line.new.input c.next_line.new.left next.turns c.next_line.new.self line.0 line.2 got.0 got.1
-    c.write_answer.new.out c.write_answer.new.faults (g.R.Rng.stream c.answer.new.rng) c.answer.new.meter c.write_answer.new.left c.count_line.new.tally
-    c.in_ok-write_answer.field-0 got.4 got.3 (wrote.sends got.0 got.2) wrote.out_moves wrote.faults_moves wrote.calls wrote.fewer next.fewer
-    (rw outcome c.count_line.ensures) next.room wrote.out_room wrote.faults_room c.answer.ensures.small
+    c.count_and_write.new.out c.count_and_write.new.faults (g.R.Rng.stream c.answer_line.new.rng) c.answer_line.new.meter c.count_and_write.new.left c.count_and_write.new.tally
+    c.in_ok-count_and_write.field-0 got.4 got.3 (wrote.sends got.0 got.2) wrote.out_moves wrote.faults_moves wrote.calls wrote.fewer next.fewer
+    (rw outcome c.count_and_write.ensures.tally) next.room wrote.out_room wrote.faults_room c.answer_line.ensures.small
 
 -- ---- all lines were answered
 

@@ -36,7 +36,7 @@ fn holds_a_line_over_pieces(rt: HostRuntime) -> Result<(), Fail> {
         ("too many twice", [&long, &long, b"a"], None),
     ];
     for (what, pieces, want) in rows {
-        let mut buffer = LineBuffer::new();
+        let mut buffer = LineBuffer::Bytes(ArrayVec::new());
         for piece in pieces {
             buffer.append(piece);
         }
