@@ -1,0 +1,4 @@
+use Rattle.crypt_web.proofs.web_verify.Goals as goal
+
+pub returns-clause-verifies : goal.returns-clause-verifies
+returns-clause-verifies c = rw c.tell.ensures.told c.verify.ensures.verifies

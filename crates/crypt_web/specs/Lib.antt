@@ -1,0 +1,3 @@
+pub mod WebCalls
+pub mod WebReasons
+pub mod WebReports

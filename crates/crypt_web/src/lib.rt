@@ -1,0 +1,133 @@
+//! mkpasswd for a web page: hashing and checking with md5crypt, sha256crypt and sha512crypt, without a heap.
+//!
+//! A web page calls the WebAssembly module built from this crate. A list of bytes is a pointer and a number of bytes. Pointers
+//! are valid, the report is aligned, and neither `out` nor the report overlaps another argument. Nothing is wiped.
+//!
+//! Each call returns 1 if it did what its name says, and 0 otherwise. It writes the whole report, which has the reason: above
+//! 0 in the first case, else the number of the first refusal that applies, in the order password, setting, method, cost,
+//! budget, capacity, memory. These numbers, the report's other fields and what is left in `out` are those of the calls for C.
+//! scrypt needs memory, so its hashes are refused with `OutOfMemory`.
+#![tactic(auto)]
+
+ghost use Rattle.std.specs.Prelude.{◌≡◌, ◌≢◌, ◌≤◌, pos, List, [], ◌∷◌, take};
+ghost use Rattle.crypt_core.specs.Settings.{SettingValue, Spells};
+ghost use Rattle.crypt_web.specs.WebCalls.{Bounds, Hashes, Opens, PutsSetting, Verifies};
+ghost use Rattle.crypt_web.specs.WebReports.{Answers, put, token};
+
+mod calls;
+mod report;
+
+use calls::{put_hash, put_setting, tell_cost, verify};
+use prims_core::meter::Meter;
+use report::{WebReport, tell};
+
+/// Checks a password against a stored hash. Returns 1 exactly if it matches and its hash costs at most the budget.
+///
+/// The call hashes nothing above the budget. The report has the cost once the password and the stored hash are known to be
+/// valid, and the work of the hash.
+///
+/// For example, `password` and `$1$xxxxxxxx$UYCIxa628.9qXjpQCjM4a.` with a budget of 1000000 give 1.
+///
+/// # Errors
+///
+/// - `Password`, `Setting`: the password or the stored hash is invalid.
+/// - `OverBudget`: the hash can cost more than the budget.
+/// - `OutOfMemory`: the method is scrypt.
+/// - `Differs`: the password does not match.
+#[unsafe(no_mangle)]
+pub extern "C" fn web_verify(
+    password: &[u8],
+    stored: &[u8],
+    budget: u64,
+    report: &mut WebReport,
+) -> i32
+    ensures answers { Answers result report.new }
+    ensures lets_in { result ≡ pos 1 → Opens password.now stored.now budget }
+    ensures opens { Opens password.now stored.now budget → result ≡ pos 1 }
+    ensures within { report.new.work.bytes ≤ budget }
+    ensures verifies { Verifies password.now stored.now budget report.new }
+{
+    tell(report, verify(password, stored, budget, &mut Meter::new()))
+}
+
+/// Hashes a password with a setting, and writes the hash and a byte 0 to `out`. [`web_verify`] accepts it for the password
+/// within the budget.
+///
+/// After a refusal `out` has the token `*0`, or `*1` if the setting begins with `*0`, cut to the capacity of `out`.
+///
+/// # Errors
+///
+/// - `Password`, `Setting`: the password or the setting is invalid.
+/// - `OverBudget`: the hash can cost more than the budget.
+/// - `TooFewBytes`: the hash and the byte 0 do not fit into `out`.
+/// - `OutOfMemory`: the method is scrypt.
+#[unsafe(no_mangle)]
+pub extern "C" fn web_hash(
+    password: &[u8],
+    setting: &[u8],
+    budget: u64,
+    out: &mut [u8],
+    report: &mut WebReport,
+) -> i32
+    ensures answers { Answers result report.new }
+    ensures hashes { Hashes password.now setting.now budget out.old report.new out.new }
+    ensures then_opens { result ≡ pos 1 → Opens password.now (take report.new.length out.new) budget }
+    ensures allowed { result ≡ pos 1 → report.new.cost ≤ budget }
+    ensures within { report.new.work.bytes ≤ budget }
+    ensures locked { result ≡ pos 0 → out.new ≡ put (token setting.now) out.old }
+    ensures apart { (token setting.now ≢ setting.now) × ((kept : SettingValue) → ¬ Spells (token setting.now) kept) }
+{
+    tell(
+        report,
+        put_hash(password, setting, budget, out, &mut Meter::new()),
+    )
+}
+
+/// Makes a setting with a method, a cost and three random numbers, and writes it and a byte 0 to `out`.
+///
+/// The method is 1 for md5crypt, 5 for sha256crypt, 6 for sha512crypt or 7 for scrypt, as in their hashes. The cost is that
+/// of `mkpasswd -R`: 0 is the method's default, and other rounds are clamped to 1000 to 999999999. After a refusal `out` has
+/// the token `*0`, cut to the capacity of `out`.
+///
+/// # Errors
+///
+/// - `UnknownMethod`, `Cost`: no method has the number, or the method does not accept the cost.
+/// - `TooFewBytes`: the setting and the byte 0 do not fit into `out`.
+#[unsafe(no_mangle)]
+pub extern "C" fn web_setting(
+    method: u32,
+    cost: u32,
+    first: u64,
+    second: u64,
+    third: u64,
+    out: &mut [u8],
+    report: &mut WebReport,
+) -> i32
+    ensures answers { Answers result report.new }
+    ensures puts { PutsSetting method cost (first ∷ second ∷ third ∷ []) out.old report.new out.new }
+    ensures locked { result ≡ pos 0 → out.new ≡ put (token []) out.old }
+{
+    tell(
+        report,
+        put_setting(method, cost, [first, second, third], out),
+    )
+}
+
+/// Reports the greatest cost and the greatest work of a hash with this setting, for any password of this length.
+///
+/// It hashes nothing.
+///
+/// # Errors
+///
+/// - `Password`: the length exceeds that of any password.
+/// - `Setting`: the setting is invalid.
+#[unsafe(no_mangle)]
+pub extern "C" fn web_cost(setting: &[u8], password_len: usize, report: &mut WebReport) -> i32
+    ensures answers { Answers result report.new }
+    ensures bounds { Bounds password_len setting.now report.new }
+{
+    tell(report, tell_cost(password_len, setting))
+}
+
+#[cfg(test)]
+mod tests;

@@ -1,0 +1,46 @@
+// What a visitor does, as the body of a function that a WebDriver runs in the page: hashes are made and checked, others are
+// refused, one is stopped, and the page tries to send something. tests/web.t fills in the rows and the server.
+const element = (id) => document.getElementById(id);
+const status = (form) => element(form).querySelector('[role=status]');
+const until = async (test) => { while (!test()) await new Promise((next) => setTimeout(next, 20)); };
+
+function start(form, values) {
+    for (const [id, value] of Object.entries(values)) element(id).value = value;
+    status(form).textContent = '';
+    element(form).requestSubmit();
+}
+
+async function ended(form, values) {
+    start(form, values);
+    await until(() => /^(?!Hashing)./.test(status(form).textContent));
+    return status(form).textContent;
+}
+
+// How far the widest part of the page reaches beyond this width.
+function beyond(width) {
+    document.documentElement.style.width = `${width}px`;
+    return Math.max(...[...document.querySelectorAll('main *')].map((part) => part.getBoundingClientRect().right)) - width;
+}
+
+async function visit() {
+    const told = { made: [], refused: [] };
+    const password = 'K\u00e4se \u{1f40e}';
+    for (const method of [6, 5, 1]) {
+        await ended('make', { password, method, rounds: 1234 });
+        const stored = element('hash').textContent;
+        const right = await ended('check', { stored, guess: password });
+        told.made.push([stored, right, await ended('check', { guess: 'K\u00e4se' })]);
+    }
+    told.beyond = [375, 1280].filter((width) => beyond(width) > 0);
+    for (const [stored, guess] of @ROWS@) told.refused.push(await ended('check', { stored, guess }));
+    start('make', { method: 6, rounds: 999999999 });
+    const stop = element('make').querySelector('[data-stop]');
+    await until(() => !stop.hidden);
+    stop.click();
+    told.stopped = status('make').textContent;
+    new Image().src = '@SERVER@/image';
+    told.sent = await fetch('@SERVER@/fetched', { mode: 'no-cors' }).then(() => 'sent', () => 'refused');
+    return told;
+}
+
+return visit().catch(String).then(JSON.stringify);
