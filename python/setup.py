@@ -30,8 +30,9 @@ class Wheel(bdist_wheel):
     def get_tag(self):
         if not os.path.exists(LIBRARY):
             return super().get_tag()
-        needed = re.findall(r"GLIBC_(\d+)\.(\d+)", output_of("objdump", "-p", LIBRARY))
-        return "py3", "none", "manylinux_%d_%d_x86_64" % max((int(major), int(minor)) for major, minor in needed)
+        needed = re.findall(r"GLIBC_(\d+)\.(\d+)", output_of("readelf", "--version-info", LIBRARY))
+        machine = "aarch64" if "AArch64" in output_of("readelf", "--file-header", LIBRARY) else "x86_64"
+        return "py3", "none", "manylinux_%d_%d_%s" % (*max((int(major), int(minor)) for major, minor in needed), machine)
 
 
 with open(MANUAL, encoding="utf-8") as file:
