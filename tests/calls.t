@@ -34,7 +34,7 @@ my $driver = build('driver', $cc, '-std=c99', @strict, @wrapped, "$root/tests/c/
 # The lines that a driver prints for rows.
 sub printed {
     my ($path, @rows) = @_;
-    my $run = run({ timeout => 600, stdin => join('', map { "$_\n" } @rows) }, $path);
+    my $run = run({ timeout => 600, stdin => join('', map { "$_\n" } @rows) }, ref $path ? @$path : $path);
     return (split(/\n/, $run->{out}), $run->{status} || $run->{err} ne '' ? "status $run->{status}: $run->{err}" : ());
 }
 
@@ -339,7 +339,7 @@ subtest 'costs' => sub {
 # ---- compilers, linkers and what is installed
 
 # Each build with the oldest standard makes the calls of a careless login, and some others, in eight threads: with memory and
-# random words, with each allocation refused in turn, and without words.
+# random words, with each allocation refused in turn, and without words. So do one with musl and one for ARM, under qemu.
 subtest 'compilers' => sub {
     my @calls = grep { $_->[0] eq 'verify_str' || $_->[2] eq $fixed } careless();
     my $cheap = '$7$2/..../....ab';
@@ -363,10 +363,18 @@ subtest 'compilers' => sub {
         is_run(run(@compile, "-std=$_", '-fsyntax-only'), 0, '', '', "$compiler compiles it as $_") for @standards;
         push @builds, map { my ($kind, @rest) = @$_; ["$compiler $oldest, $kind", @compile, "-std=$oldest", '-x', 'none', @rest] } @kinds;
     }
+    my ($for_arm, @without) = ("$root/build/aarch64/libmkpasswd.a", '-static', '-D__THROW=', '-D__NTH(call)=call');
+    for (['musl-gcc', 'musl-tools', "$libs/libmkpasswd.a"], ['aarch64-linux-gnu-gcc', 'gcc-aarch64-linux-gnu', $for_arm]) {
+        my ($compiler, $package, $library) = @$_;
+        my $is_there = -e $library && ($library ne $for_arm || needs('qemu-aarch64-static' => 'qemu-user-static'));
+        needs($compiler => $package) && $is_there or next;
+        push @builds, ["$compiler c99, static", $compiler, @strict, '-std=c99', @without, "-I$include", @wrapped, "$root/tests/c/calls.c", $library];
+    }
     my @results = in_processes(4, sub {
         my ($name, @compile) = @{ $_[0] };
         my $run = run({ timeout => 300 }, @compile, '-o', "$scratch/$name");
-        return $run->{err} . join '', $run->{status} ? () : map { "$_\n" } printed("$scratch/$name", $rows =~ /.+/g);
+        my @runs = ($name =~ /aarch64/ ? 'qemu-aarch64-static' : (), "$scratch/$name");
+        return $run->{err} . join '', $run->{status} ? () : map { "$_\n" } printed(\@runs, $rows =~ /.+/g);
     }, @builds);
     is($results[$_] && $results[$_][0], $wanted, $builds[$_][0]) for 0 .. $#builds;
 };

@@ -1,7 +1,6 @@
 #!/usr/bin/env perl
 # Tries the completions in bash, zsh and fish, as somebody meets them who presses Tab: what is offered at the end of a line.
-# The options are those of tests/lib/help, which options.t compares with mkpasswd, and those of mkpasswd-parallel's help; the
-# methods are those of mkpasswd's list.
+# The options are those of the commands' help, the methods those of mkpasswd's list.
 #
 # bash is tried with its function, over the words that readline would make: alone, with "=" taken out of COMP_WORDBREAKS,
 # and with the package bash-completion, which has to find the file by its name. fish prints what it would offer. zsh runs
@@ -15,7 +14,7 @@ use Texts;
 
 # The options in the help of a command.
 sub options_in { return map { /(?<!\S)--?[A-Za-z][\w-]*/g } $_[0] =~ /^ +(-.*?)(?:  |$)/mg }
-my @options = options_in(slurp("$root/tests/lib/help"));
+my @options = options_in(run(program(), '--help')->{out});
 my @long = grep { /^--/ } @options;
 my @methods = (grep({ !/:/ } split /\n/, run(program(), '-m', 'help')->{out}), 'help');
 

@@ -12,13 +12,14 @@ my @packages = qw(libmkpasswd-crypt libmkpasswd-dev libmkpasswd2 mkpasswd mkpass
 # All but ours that the trials need. The lists of the mirror stay in the roots, since it is asked for whois again.
 my @tried = qw(autopkgtest bash-completion dpkg-dev gcc libc6-dev lintian man-db parallel pkgconf python3 sse4.2-support whois);
 my @suites = qw(bookworm trixie);
-my $newer = 'hwcaps/x86-64-v3/libmkpasswd.so.2';
+my $newer = 'build/x86-64-v3/libmkpasswd.so.2';
 
 program();
 sub needs_all {
     my $is_wanted = grep { ($ENV{$_} // '') eq '1' } qw(DEB STRICT);
     needs('DEB=1' => 'none: these tests take ten minutes and 3 GB, so they are run with DEB=1 or STRICT=1', $is_wanted) or return 0;
-    needs('the C library' => 'none: run make lib hwcaps', -e "$root/libmkpasswd.so.2" && -e "$root/$newer") or return 0;
+    needs('the C library' => 'none: run make deb', -e "$root/libmkpasswd.so.2" && -e "$root/$newer") or return 0;
+    needs('build/site' => 'mandoc, pandoc', -d "$root/build/site") or return 0;
     needs('the superuser' => 'none: run it as root', $> == 0) or return 0;
     needs(mmdebstrap => 'mmdebstrap') && needs('dpkg-checkbuilddeps' => 'dpkg-dev') or return 0;
     for (@suites) {
@@ -89,6 +90,8 @@ subtest 'content' => sub {
         my $folder = "$scratch/content/$package/usr/share/doc/$package";
         ok(-s "$folder/$_.md" || -s "$folder/$_.md.gz", "$package has $_") for @{ $documents{$package} };
     }
+    my $pages = "$scratch/content/mkpasswd/usr/share/doc/mkpasswd/html";
+    ok(-s "$pages/$_", "mkpasswd has $_") for qw(index.html site.css costs.svg);
     my $libraries = 'libmkpasswd2/usr/lib/x86_64-linux-gnu';
     for (['mkpasswd', 'mkpasswd/usr/bin/mkpasswd'], ['libmkpasswd.so.2', "$libraries/libmkpasswd.so.2"],
         [$newer, "$libraries/glibc-hwcaps/x86-64-v3/libmkpasswd.so.2"]) {

@@ -31,6 +31,8 @@ my $md5 = '$1$xxxxxxxx$UYCIxa628.9qXjpQCjM4a.';
 my @md5 = qw(-m md5crypt -S xxxxxxxx);
 my ($old, $new) = map { crypt 'password', $_ } '$7$2/..../....xxxxxxxx', '$7$BU..../....ab';
 my $of_alphabet = '[./0-9A-Za-z]';
+# Lines whose tables have 16 and 64 MiB.
+my ($small, $large) = map { 'ann:' . crypt('password', $_) . ":password\n" } '$7$C6..../....xxxxxxxx', '$7$CU..../....ab';
 
 # The modes: a name, the input, the words, status, output (or a pattern of it) and fault output, and how many
 # calls for memory come after the first answer. The texts are openssl-passwd(1)'s and libxcrypt's.
@@ -50,6 +52,7 @@ for (
         "mkpasswd: line 3: no name\n", 3],
     ['--rehash from scrypt', "bob:$old:password\n", [qw(--check --rehash), @md5], 0, "bob:ok:$md5\n", ''],
     ['--rehash between costs of scrypt', "ann::\nbob:$old:password\n", [qw(--check --rehash -m scrypt -R 6 -S ab)], 0, "ann:none\nbob:ok:$new\n", '', 6],
+    ['--check with a table that is kept', $small x 2 . $large, ['--check'], 0, "ann:ok\n" x 3, '', 5],
     ['--rehash to scrypt', "bob:$md5:password\n", [qw(--check --rehash -m scrypt -R 6 -S ab)], 0, "bob:ok:$new\n", ''],
 ) {
     my ($mode, $input, $words, $status, $out, $err, $after) = @$_;
@@ -100,20 +103,20 @@ sub sizes {
     return map { $_->[0] eq 'memory' ? $_->[1] : () } @{ $run->{calls} };
 }
 
-# With N = 2^14 and p = 1 scrypt asks for a table of 128 N r bytes, the parts of 128 r p, and the halves of 256 r. Nothing else
-# about a line asks for memory. The hashes are libxcrypt's and openssl-passwd(1)'s.
+# With N = 2^14 and p = 1 scrypt asks for a table of 128 N r bytes, or takes a kept one, the parts of 128 r p, and the
+# halves of 256 r. Nothing else about a line asks for memory. The hashes are libxcrypt's and openssl-passwd(1)'s.
 subtest 'what lines ask for' => sub {
     my @of_32 = (67108864, 4096, 8192);
     my @of_8 = (16777216, 1024, 2048);
-    my $scrypt = 'ann:$7$C6..../....xxxxxxxx$Jm9CFcgwqAAI/L5yi2q0wHK8iUY5wk8knbfNZHDcUL.';
     my $refused = "ann\n:x\n" . 'n' x 65 . ":x\nann:" . 'p' x 1025 . "\nann:a\0b\n" . 'l' x 2049 . "\n";
     for (
         ['a check by md5crypt', [], 0, "ann:$md5:password\n", '--check'],
         ['a check by sha256crypt', [], 0, "ann:\$5\$xxxxxxxx\$hP8Y3v5H039Gm6oEwYeXGQOqaUqXVrVPKrFK.zAzZPA:password\n", '--check'],
-        ['a check by scrypt', \@of_8, 0, "$scrypt:password\n", '--check'],
-        ['a new hash by scrypt', [@of_8, @of_32], 0, "$scrypt:password\n", qw(--check --rehash -m scrypt)],
-        ['a wrong password, without a new hash', \@of_8, 1, "$scrypt:Password\n", qw(--check --rehash -m scrypt)],
-        ['a check over budget', [], 1, "$scrypt:password\n", qw(--check --budget 1000)],
+        ['a check by scrypt', \@of_8, 0, $small, '--check'],
+        ['more checks by scrypt', [@of_8, @of_8[1, 2], @of_32, @of_8], 0, "$small$small$large$small", '--check'],
+        ['a new hash by scrypt', [@of_8, @of_32], 0, $small, qw(--check --rehash -m scrypt)],
+        ['a wrong password, without a new hash', \@of_8, 1, $small =~ s/word$/wort/r, qw(--check --rehash -m scrypt)],
+        ['a check over budget', [], 1, $small, qw(--check --budget 1000)],
         (map { ["a line hashed by $_", [], 0, "ann:password\n", '--batch', '-m', $_] } qw(md5crypt sha256crypt sha512crypt)),
         ['a line hashed by scrypt', \@of_32, 0, "ann:password\n", qw(--batch -m scrypt)],
         ['a line over budget', [], 1, "ann:password\n", qw(--batch -m scrypt --budget 1000)],
@@ -121,6 +124,18 @@ subtest 'what lines ask for' => sub {
     ) {
         my ($name, $more, $status, $input, @words) = @$_;
         is_deeply([sizes($status, $input, @words)], [sizes(0, '', @words), @$more], $name);
+    }
+};
+
+# In few addresses each program does what it can, and says what it lacks. Two tables don't fit into the most addresses here.
+subtest 'few addresses' => sub {
+    for my $program (program(), "$root/build/x86-64/mkpasswd") {
+        my %end;
+        for my $limit ((map { 500 * $_ } 6 .. 12, 37 .. 48, 100, 130), 80_000) {
+            my $run = run({ stdin => $small . $large }, 'sh', '-c', 'ulimit -v "$0" && exec "$@"', $limit, $program, '--check');
+            $end{"$run->{status} $run->{out}$run->{err}"} = 1;
+        }
+        like(join('', sort keys %end), qr/\A0 (ann:ok\n){2}3 ann:ok\n(mkpasswd: out of memory\n)3 \2\z/, $program);
     }
 };
 

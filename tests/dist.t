@@ -1,7 +1,7 @@
 #!/usr/bin/env perl
 # Installs, uninstalls and packs what make has built, and tries the archive as somebody meets it who unpacks it: the same bytes
-# twice, right sums, a README that is true, a program that runs with only the C library, and libraries that C programs and
-# Python find where they were unpacked.
+# twice, right sums, a README that is true, a program that needs nothing but the kernel, and libraries that C programs and
+# Python find where they were unpacked; and the image for containers, which holds the same program.
 use strict;
 use warnings;
 use Cwd qw(abs_path);
@@ -11,15 +11,17 @@ use Suite;
 
 my $known = '$1$xxxxxxxx$UYCIxa628.9qXjpQCjM4a.';
 my $version = run("$root/tools/version")->{out} =~ s/\n//r;
-my $cpu = -e "$root/build/cpu" && slurp("$root/build/cpu") =~ /(\S+)/ ? $1 : 'x86-64-v2';
+my $cpu = -e "$root/build/cpu" && slurp("$root/build/cpu") =~ /(\S+)/ ? $1 : 'x86-64';
 my $name = "mkpasswd-$version-x86_64-linux";
 my ($archive, $second) = map { "$scratch/$_/$name.tar.gz" } qw(first second);
 my ($tree, $alone) = ("$scratch/tree", "$scratch/alone");
 my ($documents, $cc) = ("$tree/share/doc/mkpasswd", $ENV{CC} || 'cc');
 my @libraries = map { "$tree/lib/$_" } 'libmkpasswd.so.2', 'glibc-hwcaps/x86-64-v3/libmkpasswd.so.2';
 program();
--e "$root/$_" or BAIL_OUT("$_ is not built: run make $_")
-    for qw(libmkpasswd.so.2 hwcaps/x86-64-v3/libmkpasswd.so.2 build/SPECIFICATION.md build/MUTANTS.md);
+-e "$root/build/$_" or BAIL_OUT("build/$_ is not built: run make dist")
+    for "$cpu/mkpasswd", "$cpu/libmkpasswd.so.2", qw(x86-64-v3/libmkpasswd.so.2 mkpasswd.html SPECIFICATION.md MUTANTS.md);
+
+needs('build/site' => 'mandoc, pandoc', -d "$root/build/site") or do { done_testing; exit };
 
 # The files below a folder.
 sub files_in {
@@ -65,6 +67,7 @@ subtest 'archive' => sub {
     is_run(run({ dir => $tree }, qw(sha256sum --quiet -c), $sums), 0, '', '', 'the sums are right');
     my @summed = slurp("$tree/$sums") =~ /^[0-9a-f]{64}  (.*)$/mg;
     is_deeply([sort @summed], [grep { $_ ne $sums && !-l "$tree/$_" } files_in($tree)], 'a sum of each file');
+    ok(-s "$documents/html/$_", "it has $_") for qw(index.html site.css mkpasswd.1.html specification-scrypt.html);
     is(run('grep', '-rlF', '--', "$root/", $tree)->{out}, '', 'no file names the folder that it was built in');
     for (glob "$tree/share/man/man*/*") {
         my $manual = slurp($_) =~ /\A\.so (\S+)\n\z/ ? "$tree/share/man/$1" : $_;
@@ -82,43 +85,62 @@ subtest 'README' => sub {
     my $command = ($unpacks // 'false') =~ s{/usr/local}{$scratch/local}r;
     is_run(run({ dir => "$scratch/first" }, 'sh', '-c', $command), 0, '', '', 'README.md: it unpacks');
     is_run(run("$scratch/local/bin/mkpasswd", '--version'), 0, "mkpasswd $version\n", '', 'README.md: it is installed');
-    # A name without a folder is in that of the name before; a folder stands for all that is in it.
-    my ($list) = $readme =~ /^What is here\n\n(.*?)\n\n/ms;
-    my $folder;
-    my @said = map { m{^(.*/)} ? ($folder = $1) && $_ : "$folder$_" } map { split / and others|, / } $list =~ /^  (\S.*?)(?:  |$)/mg;
-    is_deeply([grep { !-e "$tree/$_" } @said], [], 'what it lists is there');
-    my @unsaid = grep { my $file = $_; !grep { $file =~ m{^\Q$_\E(?:/|$)} } @said } files_in($tree);
-    is_deeply([grep { !m{^share/man/man3/|^lib/libmkpasswd\.so$} } @unsaid], [], 'it lists what is there');
     needs(objdump => 'binutils') or return;
-    for (['The program', 'bin/mkpasswd'], ['libmkpasswd.so.2', 'lib/libmkpasswd.so.2'],
-        ['libmkpasswd-crypt.so', 'lib/mkpasswd/libmkpasswd-crypt.so']) {
+    unlike(run(qw(objdump -p), "$tree/bin/mkpasswd")->{out}, qr/NEEDED|INTERP/, 'the program needs no library');
+    for (['libmkpasswd.so.2', 'lib/libmkpasswd.so.2'], ['libmkpasswd-crypt.so', 'lib/mkpasswd/libmkpasswd-crypt.so']) {
         my ($what, $file) = @$_;
         my $wanted = 'objdump -p "$0" | grep -o "GLIBC_[0-9.]*" | sort -Vu | tail -n 1';
         my ($glibc) = run('sh', '-c', $wanted, "$tree/$file")->{out} =~ /_(\S+)/;
         like($readme, qr/^  \Q$what\E: +glibc \Q$glibc\E or later/m, "glibc that $file needs");
+        my @rows = $what =~ /crypt/ ? () : ('C libraries', '\.whl`');
+        like(slurp("$root/README.md"), qr/^\|.*$_.*\bglibc \Q$glibc\E \|$/m, "README.md: glibc that it needs: $_") for @rows;
     }
     my ($needed) = $readme =~ /^  libmkpasswd\.a: +a C library with (.*?)$(?!\n {9})/ms;
     my $symbols = run(qw(nm --undefined-only --format=just-symbols), "$tree/lib/libmkpasswd.a")->{out};
     my %undefined = map { $_ => 1 } $symbols =~ /^([a-z]\w*)$/mg;
     is_deeply([sort split /,\s+|\s+and\s+/, $needed // ''], [sort keys %undefined], 'functions that libmkpasswd.a needs');
-    # The loader hides what the program looks for, as an older processor would lack it. x86-64 is the oldest.
-    my ($processor) = $readme =~ /^  A processor: +(x86-64\S*) or better$/m;
-    my $older = run({ env => { GLIBC_TUNABLES => 'glibc.cpu.hwcaps=-SSE4_2,-AVX2,-AVX512F' } }, "$tree/bin/mkpasswd", '--version');
-    my $told = ($processor // '') eq 'x86-64' ? qr/\A0 / : qr/\A127 this machine lacks a feature of \Q$processor\E,/;
-    like("$older->{status} $older->{out}$older->{err}", $told, 'processor that the program needs');
 };
 
-subtest 'the program with only the C library' => sub {
+subtest 'the program of make' => sub {
+    my $own = "$root/build/" . (slurp("$root/build/cpu") =~ /(\S+)/ ? $1 : 'x86-64-v2');
+    my ($linked, $left) = map { slurp("$root/$_/program.o") } qw(build/x86-64-v2 crates/program/out);
+    ok($linked eq $left, 'its object, but for CPU, is the one that the gate left');
+    my @sizes = map { +{ reverse run(qw(nm -S), $_)->{out} =~ /^\S+ (\S+) \S (.*::.*)$/mg } } program(), "$own/program.o";
+    my @others = grep { $sizes[0]{$_} ne ($sizes[1]{$_} // '') } keys %{ $sizes[0] };
+    ok(%{ $sizes[0] } && !@others, 'it has the functions of its object') or diag("@others");
+};
+
+subtest 'the program elsewhere' => sub {
     my @enter = grep { run(@$_, '/', 'true')->{status} == 0 } ['chroot'], [qw(unshare --user --map-root-user chroot)];
     needs('a chroot that is permitted' => 'none: run it as root', @enter > 0) or return;
-    my @loaded = run('ldd', "$tree/bin/mkpasswd")->{out} =~ m{(/\S+)}g;
-    is_deeply([grep { !m{/(?:libc\.so\.6|ld-linux-x86-64\.so\.2)\z} } @loaded], [], 'it loads only the C library');
-    run('install', '-D', $_, "$alone$_") for @loaded;
     run('install', '-D', "$tree/bin/mkpasswd", "$alone/bin/mkpasswd");
-    my @program = (@{ $enter[0] }, $alone, '/bin/mkpasswd');
-    is_run(run(@program, qw(-m md5crypt -S xxxxxxxx password)), 0, "$known\n", '', 'a hash');
-    is_run(run(@program, '--version'), 0, "mkpasswd $version\n", '', 'the version');
-    like(run({ stdin => "password\n" }, @program, '-s')->{out}, qr{^\$6\$[./0-9A-Za-z]{16}\$[./0-9A-Za-z]{86}$}, 'a new salt');
+    passes_there('in an empty folder', "@{ $enter[0] } $alone /bin/mkpasswd", qw(program passwords lines));
+    my $is_wanted = grep { ($ENV{$_} // '') eq '1' } qw(DEB STRICT);
+    needs('DEB=1' => 'none: this takes a mirror', $is_wanted) && needs(mmdebstrap => 'mmdebstrap') or return;
+    my $made = run({ timeout => 1800 }, qw(mmdebstrap --variant=minbase bullseye), "$scratch/old", Suite::mirror() // ());
+    needs('a root of Debian 11', 'none: mmdebstrap says: ' . ($made->{err} =~ /(.*)\n*\z/)[0], !$made->{status}) or return;
+    run('install', '-D', "$tree/bin/mkpasswd", "$scratch/old/usr/local/bin/mkpasswd");
+    passes_there('in Debian 11', "@{ $enter[0] } $scratch/old /usr/local/bin/mkpasswd", qw(program passwords lines));
+};
+
+subtest 'image' => sub {
+    my ($image, $again) = map { "$scratch/$_.tar" } qw(image again);
+    run("$root/tools/image", "$tree/bin/mkpasswd", 'mkpasswd:test', $_) for $image, $again;
+    is(slurp($image), slurp($again), 'a second one has the same bytes');
+    for my $form (needs(skopeo => 'skopeo') ? qw(oci docker) : ()) {
+        my $told = run(qw(skopeo inspect --format), '{{.Os}} {{.Architecture}}', "$form-archive:$image");
+        is_run($told, 0, "linux amd64\n", '', "an image in the form of $form");
+    }
+    needs(podman => 'podman') or return;
+    my @podman = ('podman', '--root', "$scratch/podman", '--runroot', "$scratch/run", qw(--storage-driver vfs));
+    is(run(@podman, 'load', '-i', $image)->{status}, 0, 'podman loads it');
+    my $folder = run(@podman, qw(image mount localhost/mkpasswd:test))->{out} =~ s/\n//r;
+    ok(-x "$folder/bin/mkpasswd" && slurp("$folder/bin/mkpasswd") eq slurp("$tree/bin/mkpasswd"), 'it has the program');
+    my $ran = run(@podman, qw(run --rm --network none --ulimit host localhost/mkpasswd:test -m md5crypt -S xxxxxxxx password));
+  SKIP: {
+        skip "podman runs nothing here: $ran->{err}", 1 if $ran->{err} =~ /^Error: .*OCI (?:permission denied|runtime error)/m;
+        is_run($ran, 0, "$known\n", '', 'podman runs it');
+    }
 };
 
 subtest 'libraries' => sub {

@@ -1,54 +1,30 @@
 #!/usr/bin/env perl
-# Tests libmkpasswd-crypt.so, the guard in front of crypt(3): programs and services get the same answers with it and without,
-# but for what docs/DECISIONS.md lists; a setting of any scheme that costs too much is refused at once; and what its
-# configuration, its log and its refusals are. tests/c/guard.c makes the calls.
+# Tests libmkpasswd-crypt.so, the guard in front of crypt(3): programs get the same answers with it and without, but for what
+# docs/DECISIONS.md lists; a setting of any scheme that costs too much is refused at once; and what its configuration, its
+# log and its refusals are. tests/c/guard.c makes the calls. Services with it are in services.t.
 use strict;
 use warnings;
 use FindBin qw($Bin);
 use lib "$Bin/lib";
 use Errno qw(EINVAL ENOMEM ERANGE);
 use Guard;
-use HTTP::Tiny;
 use IO::Socket::UNIX;
 use List::Util qw(max min);
-use MIME::Base64 qw(encode_base64);
 use Model ();
 use POSIX qw(strftime);
 use Services;
 use Suite;
 
-my $missing = enter_namespaces();
-sub needs_namespaces { return needs($missing => 'none: run it as root where unshare may make namespaces', $missing eq '') }
-
+my $is_inside = enter_namespaces();
 $ENV{PATH} .= ':/usr/sbin:/sbin';
-if ($missing eq '') {
+if ($is_inside) {
     own_folder('/etc');
-    own_folder($_, 1) for grep { -d } qw(/run /var/log /var/lib/nginx);
     own_devices();
 }
 build_guard();
 my ($budget) = slurp("$root/c/mkpasswd.h") =~ /define MKPASSWD_BUDGET \(\(uint64_t\)(\d+)\)/;
 my $seed = $ENV{SEED} || time ^ $$;
 my @numerals = ('.', '/', 0 .. 9, 'A' .. 'Z', 'a' .. 'z');
-
-# Hashes of "secret", by libxcrypt.
-my %setting = (
-    md5crypt => '$1$abcdefgh', sha256crypt => '$5$rounds=1000$abcdefgh', sha512crypt => '$6$abcdefghijklmnop', scrypt => '$7$66..../....abcdefgh',
-    yescrypt => '$y$j9T$abcdefghijklmnopqrstu.', bcrypt => '$2b$05$abcdefghijklmnopqrstuu', descrypt => 'ab', nt => '$3$',
-);
-my %hash = map { $_ => crypt 'secret', $setting{$_} } keys %setting;
-
-# A setting of each scheme that has a cost which takes long, and of each form that isn't read. There is none of md5crypt,
-# descrypt, bigcrypt and NT.
-my @hostile = (
-    '$5$rounds=999999999$abcdefgh', '$6$rounds=999999999$abcdefgh', '$6$rounds=999999999$abcdefgh$' . 'x' x 86, '$7$GU..../....abcdefgh',
-    '$7$LU..../....abcdefgh', '$7$K/..../....abc$def$ghi', '$7$KU..../....' . 'a' x 200, '$y$jLT$abcdefghijklmnopqrstu.',
-    '$y$jBj$abcdefghijklmnopqrstu.', '$y$jjj$abcdefghijklmnopqrstu.', '$y$j9T/W$abcdefghijklmnopqrstu.', '$y$.LT$abcdefghijklmnopqrstu.',
-    '$y$/LT$abcdefghijklmnopqrstu.',
-    '$y$j9k.$abcdefghijklmnopqrstu.', (map { "\$2$_\$31\$abcdefghijklmnopqrstuu" } qw(a b x y)), '$2b$13$abcdefghijklmnopqrstuu',
-    '$gy$jLT$abcdefghijklmnopqrstu.', '$gy$j9T$abcdefghijklmnopqrstu.', '$md5,rounds=4294963199$abcdefgh', '$md5$abcdefgh',
-    '$sha1$4294967295$abcdefgh', '$sha1$40000$abcdefgh', '_zzzzabcd', '_J9..abcd', '$9$abc', '$argon2id$v=19$m=2097152,t=100,p=1$YWI$YWI',
-);
 
 # What has no setting that costs: locked, empty and malformed fields, which libxcrypt refuses too.
 my @no_settings = ('', '!', '*', '!!', '*0', '*1', 'x', '!' . $hash{sha512crypt}, '*' . $hash{yescrypt}, '$', '$1', '$6', '$6$a:b', "\$6\$ab\n",
@@ -335,103 +311,6 @@ subtest 'Python' => sub {
     is($with, $without, 'Python: right, wrong and locked');
     is(scalar(grep { /^\$|^ab/ } split /\n/, $with), 2 * keys %hash, 'Python: hashes');
     is(run({ env => env_of(1), stdin => $hostile }, @python)->{out} =~ s/^(?:\*0|none)\n//gmr, '', 'Python: hostile settings');
-};
-
-# ---- services
-
-# The users of a service: their fields, and what each gets for the right and for a wrong password.
-my %field = ((map { $_ => $hash{$_} } qw(md5crypt sha256crypt sha512crypt scrypt yescrypt bcrypt descrypt)), locked => "!$hash{sha512crypt}", star => '*');
-my @users = sort keys %field;
-my @wanted = map { /^(?:locked|star)$/ ? "$_: no, no" : "$_: yes, no" } @users;
-my %hostile = map { ("h$_" => $hostile[$_]) } 0 .. $#hostile;
-my @hostile_users = sort keys %hostile;
-
-# Tests what a service says without the guard and with it. The code gets the guard's environment, and returns the port and
-# the command of the service; the other asks it: yes, no or what else happened.
-sub is_guarded {
-    my ($prepare, $ask) = @_;
-    for my $is_guarded (0, 1) {
-        my $env = env_of($is_guarded);
-        my @env = map { "$_=" . ($env->{$_} // '') } sort keys %$env;
-        my ($port, @command) = $prepare->(@env);
-        my $all = sub { return map { $_->[0] } in_processes(4, sub { $ask->(@{ $_[0] }) }, @_) };
-        while_serving($port, ['env', @env, @command], sub {
-            my @said = $all->(map { ([$_, 'secret'], [$_, 'wrong']) } @users);
-            is_deeply([map { "$_: " . join ', ', splice @said, 0, 2 } @users], \@wanted, $is_guarded ? 'the same with the guard' : 'without the guard');
-            is_deeply([$all->(map { [$_, 'secret'] } @hostile_users)], [('no') x @hostile], 'hostile fields are refused') if $is_guarded;
-        });
-    }
-}
-
-# Within seconds, where a hostile field would take minutes.
-sub verdict {
-    my ($yes, $no, @command) = @_;
-    my $run = run({ timeout => 20 }, @command);
-    return $run->{status} == $yes ? 'yes' : $run->{status} == $no ? 'no' : "status $run->{status}: $run->{err}";
-}
-
-# Lines of all users.
-sub lines_of { my ($line) = @_; return join '', map { $line =~ s/NAME/$_/gr =~ s/FIELD/$field{$_} \/\/ $hostile{$_}/er } @users, @hostile_users }
-
-subtest 'nginx' => sub {
-    needs_namespaces() && needs(nginx => 'nginx') or return;
-    mkdir $_ for '/run/www', '/var/log/nginx';
-    spew('/run/www/index.html', "in\n");
-    spew('/run/users', lines_of("NAME:FIELD\n"));
-    spew("$scratch/nginx.conf", "daemon off; user root; worker_processes 1; pid /run/nginx.pid; error_log stderr;\nevents {}\nhttp { access_log off;\n"
-            . "server { listen 127.0.0.1:8080; root /run/www; auth_basic x; auth_basic_user_file /run/users; } }\n");
-    my $log = open_log();
-    is_guarded(sub { (8080, 'nginx', '-c', "$scratch/nginx.conf") }, sub {
-        my $header = { Authorization => 'Basic ' . encode_base64(join(':', @_), '') };
-        my $status = HTTP::Tiny->new(timeout => 20)->get('http://127.0.0.1:8080/', { headers => $header })->{status};
-        return $status == 200 ? 'yes' : $status =~ /^(?:401|403|500)$/ ? 'no' : $status;
-    });
-    like((logged())[0], qr/^nginx\[\d+\]: mkpasswd guard: refused /, 'a line in the log, with the name at the start');
-    close $log;
-};
-
-# It gives its processes only what its configuration says.
-subtest 'Dovecot' => sub {
-    needs_namespaces() && needs('Dovecot 2.3' => 'dovecot-core, in Debian 12', run('dovecot', '--version')->{out} =~ /^2\.3\./) or return;
-    spew('/run/users', lines_of("NAME:FIELD\n"));
-    is_guarded(sub {
-        spew("$scratch/dovecot.conf", "import_environment = \$import_environment @_\nlog_path = /dev/stderr\nprotocols =\nssl = no\n"
-                . "auth_failure_delay = 0\nservice anvil {\n  unix_listener anvil-auth-penalty {\n    mode = 0\n  }\n}\n"
-                . "service auth {\n  inet_listener {\n    address = 127.0.0.1\n    port = 8081\n  }\n}\n"
-                . "passdb {\n  driver = passwd-file\n  args = scheme=CRYPT username_format=%u /run/users\n}\n"
-                . "userdb {\n  driver = static\n  args = uid=65534 gid=65534 home=/tmp\n}\n");
-        return (8081, 'dovecot', '-F', '-c', "$scratch/dovecot.conf");
-    }, sub { verdict(0, 77, 'doveadm', '-c', "$scratch/dovecot.conf", 'auth', 'test', @_) });
-};
-
-subtest 'slapd' => sub {
-    needs_namespaces() && needs(slapd => 'slapd') && needs(ldapwhoami => 'ldap-utils') or return;
-    mkdir '/run/db';
-    spew("$scratch/slapd.conf", "include /etc/ldap/schema/core.schema\nmodulepath /usr/lib/ldap\nmoduleload back_ldif\n"
-            . "pidfile /run/slapd.pid\ndatabase ldif\nsuffix \"o=test\"\ndirectory /run/db\n");
-    spew("$scratch/data", "dn: o=test\nobjectClass: organization\no: test\n"
-            . lines_of("\ndn: cn=NAME,o=test\nobjectClass: person\ncn: NAME\nsn: NAME\nuserPassword: {CRYPT}FIELD\n"));
-    is(run('slapadd', '-f', "$scratch/slapd.conf", '-l', "$scratch/data")->{status}, 0, 'entries');
-    is_guarded(sub { (8082, 'slapd', '-d', 0, '-h', 'ldap://127.0.0.1:8082', '-f', "$scratch/slapd.conf") },
-        sub { verdict(0, 49, 'ldapwhoami', '-x', '-H', 'ldap://127.0.0.1:8082', '-D', "cn=$_[0],o=test", '-w', $_[1]) });
-};
-
-# It closes all descriptors from 3 on when it starts, and asks pam_unix.
-subtest 'sshd' => sub {
-    needs_namespaces() && needs(sshd => 'openssh-server') && needs(ssh => 'openssh-client') or return;
-    mkdir '/run/sshd';
-    spew('/etc/passwd', "root:x:0:0::/:/bin/sh\nsshd:x:100:65534::/run/sshd:/bin/false\n" . lines_of("NAME:x:1000:1000::/:/bin/sh\n"));
-    spew('/etc/shadow', "root:*:19000::::::\n" . lines_of("NAME:FIELD:19000:0:99999:7:::\n"));
-    spew('/etc/pam.d/sshd', "auth required pam_unix.so nodelay\naccount required pam_unix.so\nsession required pam_permit.so\n");
-    spew("$scratch/sshd_config", "Port 8083\nListenAddress 127.0.0.1\nHostKey $scratch/key\nPidFile none\nUsePAM yes\nMaxStartups 99\n");
-    spew("$scratch/askpass", "#!/bin/sh\necho \"\$PASSWORD\"\n");
-    chmod 0755, "$scratch/askpass";
-    run(qw(ssh-keygen -q -t ed25519 -N), '', '-f', "$scratch/key");
-    my @options = map { ('-o', $_) } qw(NumberOfPasswordPrompts=1 PreferredAuthentications=password StrictHostKeyChecking=no UserKnownHostsFile=/dev/null);
-    is_guarded(sub { (8083, '/usr/sbin/sshd', '-De', '-f', "$scratch/sshd_config") }, sub {
-        my @askpass = ('env', "PASSWORD=$_[1]", "SSH_ASKPASS=$scratch/askpass", 'SSH_ASKPASS_REQUIRE=force');
-        return verdict(0, 255, @askpass, 'ssh', '-qp', 8083, @options, "$_[0]\@127.0.0.1", 'true');
-    });
 };
 
 done_testing;

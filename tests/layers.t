@@ -23,7 +23,7 @@ my %dependencies = (
     crypt_core => 'arrayvec kdf_core prims_core rand_core thiserror',
     run_core => 'arrayvec crypt_core itoa prims_core rand_core thiserror',
     mkpasswd => 'arrayvec clap crypt_core itoa prims_core rand_core run_core thiserror', program => 'mkpasswd prims_core rand',
-    crypt_c => 'crypt_core prims_core', service => 'crypt_core',
+    crypt_c => 'crypt_core prims_core', crypt_web => 'arrayvec crypt_core prims_core', service => 'crypt_core',
 );
 
 # The implementations of Counted, by file: the digest's crate and its type there. What is called there, as often as here: the
@@ -60,13 +60,13 @@ my %allocates = (
     "$prims/scratch.rt" => 'in in',
 );
 
-# The type of a password, the calls for C, and the meter. Besides tests a meter is made by the program, and by each of the
-# calls for C that hash: such a call is one step, to which it hands a new meter, and that step's clause says that its report
-# has all that the meter counted.
+# The type of a password, the calls for C and for a web page with how their names begin, and the meter. Besides tests a meter
+# is made by the program, and by each of these calls that hashes: such a call is one step, to which it hands a new meter, and
+# that step's clause says that its report has all that the meter counted.
 my $password = 'crates/crypt_core/src/password.rt';
-my $exports = 'crates/crypt_c/src/lib.rt';
+my %exports = ('crates/crypt_c/src/lib.rt' => 'mkpasswd', 'crates/crypt_web/src/lib.rt' => 'web');
 my $hashing_call = qr/^\{\s*tell\(\s*report,\s*\w+\([^;{}()]*&mut \KMeter::new\(\)(?=,?\s*\),?\s*\)\s*\}$)/m;
-my %makes_meter = ('crates/program/src/main.rt' => qr/\bMeter::new\(\)/, $exports => $hashing_call);
+my %makes_meter = ('crates/program/src/main.rt' => qr/\bMeter::new\(\)/, map { $_ => $hashing_call } keys %exports);
 
 # Reading.
 
@@ -229,7 +229,7 @@ my @rules = (
         );
     }],
     # Elsewhere a meter is a parameter or a field behind a reference, its type is brought in by its own name, and only the
-    # program and the calls for C make one.
+    # program and the calls for C and the page make one.
     ['a meter is more than lent', sub {
         my ($path, undef, $product) = @_;
         return () if $path eq $meter;
@@ -282,7 +282,7 @@ my @rules = (
             places($product, qr/\bimpl\b[^{};]*$shows[^{};]*\bfor\s+(?:\w+\s*::\s*)*Password\b/),
             $path ne $password ? ()
                 : places($product, qr/#\s*\[\s*derive\b[^\]]*$shows/, qr/#\[derive\([^\]]*\)\]\s*(?:#\[[^\]]*\]\s*)*pub enum PasswordFault /),
-            places($product, qr/#\s*\[\s*derive\b[^\]]*$shows[^\]]*\]\s*(?:#\s*\[[^\]]*\]\s*)*(?:pub(?:\(\w+\))?\s+)?(?:struct|enum)\s+(?:PasswordFrom|Arguments|Mode|RoundStrings)\b/),
+            places($product, qr/#\s*\[\s*derive\b[^\]]*$shows[^\]]*\]\s*(?:#\s*\[[^\]]*\]\s*)*(?:pub(?:\(\w+\))?\s+)?(?:struct|enum)\s+(?:PasswordFrom|Arguments|RoundStrings)\b/),
         );
     }],
     # No macro of the tree's own, no file under another name, nothing unsafe but the names of the calls for C, and no text that
@@ -292,7 +292,7 @@ my @rules = (
         return (
             places($code, qr/\bmacro_rules\b|\binclude\s*!|#!?\s*\[[^\]]*\b(?:path|cfg_attr)\b|"|\/\*/),
             places($product, qr/\b(?:unsafe|extern)\b/,
-                $path eq $exports ? qr/#\[unsafe\(no_mangle\)\]\s*pub extern\s+fn mkpasswd_\w+\(/ : ()),
+                map { qr/#\[unsafe\(no_mangle\)\]\s*pub extern\s+fn ${_}_\w+\(/ } grep { defined } $exports{$path}),
         );
     }],
 );

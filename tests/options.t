@@ -1,6 +1,6 @@
 #!/usr/bin/env perl
-# Help, the manuals and the completions have the options, methods and refusals of the program. The help that is written down
-# is what clap makes, whole; completion.t takes it from there, so an option that the program alone has is missed here.
+# Help fits a terminal, and the manuals have the options, methods and refusals of the program. The completions have them in
+# completion.t.
 use strict;
 use warnings;
 use FindBin qw($Bin);
@@ -32,9 +32,8 @@ sub has_all {
 }
 
 subtest 'options' => sub {
-    my $written = slurp("$root/tests/lib/help");
-    has_all('help', [options_of($help)], options_of($written));
-    is($written, $help, 'help, whole');
+    my @odd = grep { length > 80 || /^ +-\S+(?: <\w+>)?$/ } split /\n/, $help . $own_help;
+    is("@odd", '', 'help: wide lines, options without words');
     for (['manual of mkpasswd', $manual, $help], ['manual of mkpasswd-parallel', $own_manual, $own_help]) {
         my ($place, $text, $of) = @$_;
         has_all($place, [options_of($of)], flags_in($text =~ /^\.It (Fl .*)/mg));
@@ -45,11 +44,6 @@ subtest 'options' => sub {
         my ($form) = grep { /^\.Fl -$mode$/m } split /^\.Nm$/m, section_of($manual, 'SYNOPSIS');
         has_all("synopsis of --$mode", \@with, flags_in($form));
     }
-    my @of_both = map { options_of($_) } $help, $own_help;
-    my ($bash, $zsh, $fish) = map { slurp("$root/completions/$_") } qw(mkpasswd.bash _mkpasswd mkpasswd.fish);
-    has_all('bash', \@of_both, map { /$option/g } $bash =~ /\w\+?=\((-[^()]*)\)/g);
-    has_all('zsh', \@of_both, $zsh =~ s/\[[^]\n]*\]/[/gr =~ /($option)(?=[+=]?[,}[])/g);
-    has_all('fish', \@of_both, map { (/ -s (\w)/ ? "-$1" : ()), / -l ([\w-]+)/ ? "--$1" : () } map { s/ -d .*//r } $fish =~ /^complete .*/mg);
 };
 
 my @methods = (['md5crypt', 'md5', 1], ['sha256crypt', 'sha-256', 5], ['sha512crypt', 'sha-512', 6], ['scrypt', '', 7]);

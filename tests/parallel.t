@@ -50,18 +50,12 @@ sub check_lines {
     return join '', map { "user$_:$kinds[$_]\n" } 0 .. 499;
 }
 
-# Begins a run in a process group of its own, with files for its input, its output and its standard error.
-sub begin {
+# Begins a run with files for its input, its output and its standard error.
+sub begin_with {
     my ($input, @command) = @_;
     spew("$scratch/input", $input);
     unlink map { "$scratch/$_" } qw(out err);
-    my $child = fork // die;
-    return $child if $child;
-    @SIG{qw(HUP INT)} = ('DEFAULT') x 2 if setpgrp;    # nohup and a shell's & ignore them
-    open STDIN, '<', "$scratch/input" or die;
-    open STDOUT, '>', "$scratch/out" or die;
-    open STDERR, '>', "$scratch/err" or die;
-    exec @command or POSIX::_exit(127);
+    return begin({ from => "$scratch/input", to => "$scratch/out", err => "$scratch/err" }, @command);
 }
 
 sub wait_for { my ($is_so) = @_; for (1 .. 1200) { return 1 if $is_so->(); sleep 0.05 } return 0 }
@@ -123,7 +117,7 @@ subtest 'arguments' => sub {
 subtest 'interrupted and resumed' => sub {
     for my $round (1 .. 20) {
         my ($signal, $status) = @{ (['INT', 130], ['TERM', 143], ['HUP', 129])[$round % 3] };
-        my $child = begin($slow_lines, $script, '--jobs', 1 + $round % 4, @slow);
+        my $child = begin_with($slow_lines, $script, '--jobs', 1 + $round % 4, @slow);
         my $from = 1 + int rand 200;
         wait_for(sub { answers() >= $from });
         kill $signal, $round % 2 ? -$child : $child;
@@ -133,11 +127,11 @@ subtest 'interrupted and resumed' => sub {
 };
 
 subtest 'killed' => sub {
-    my $child = begin($slow_lines, $script, qw(--jobs 2), @slow);
+    my $child = begin_with($slow_lines, $script, qw(--jobs 2), @slow);
     for my $count (20, 100) { wait_for(sub { answers() >= $count }); kill KILL => (below($child))[0] }
     my %whole = (status => ended($child), map { $_ => slurp("$scratch/$_") } qw(out err));
     is_run(\%whole, @$slow_alone{qw(status out err)}, 'workers: others answer their lines');
-    $child = begin($slow_lines, $script, qw(--jobs 2), @slow);
+    $child = begin_with($slow_lines, $script, qw(--jobs 2), @slow);
     wait_for(sub { answers() >= 50 });
     my @workers = below($child);
     kill KILL => $child;
@@ -230,7 +224,7 @@ subtest 'environment' => sub {
 };
 
 subtest 'memory and time' => sub {
-    my $child = begin("first:x\n" . ":\n" x 1_000_000, $script, qw(--jobs 2 --batch -m sha512crypt -R 6000000 -S ab));
+    my $child = begin_with("first:x\n" . ":\n" x 1_000_000, $script, qw(--jobs 2 --batch -m sha512crypt -R 6000000 -S ab));
     my $most = 0;
     while (!waitpid $child, POSIX::WNOHANG) {
         $most = $1 if (eval { slurp("/proc/$child/status") } // '') =~ /^VmHWM:\s+(\d+)/m;
@@ -258,8 +252,8 @@ subtest 'progress' => sub {
     is(slurp("$scratch/out"), $slow_alone->{out} x 4, 'a terminal: answers beside it');
 };
 
-# Two machines: an sshd in a network namespace each. One is lost, silently, and the others answer its lines. The recipe for
-# fleets on both.
+# Two machines: an sshd in a network namespace each. One is lost, silently, after it has answered, and the others answer its
+# lines. The recipe for fleets on both.
 subtest 'machines' => sub {
     my ($sshd) = grep { -x } map { "$_/sshd" } '/usr/sbin', split /:/, $ENV{PATH};
     needs(sshd => 'openssh-server', $sshd) or return;
@@ -284,7 +278,7 @@ subtest 'machines' => sub {
     my @hosts = qw(--on 10.0.1.2/2 --on=10.0.2.2);
     is_run($on_both->('"$@"', $script, qw(--jobs 0), @hosts, @slow), @$slow_alone{qw(status out err)}, 'two machines');
     my ($begun, @dear) = (time, map { s/^8000$/50000/r } @slow);
-    my $loss = 'rm -f out; (until test -s out; do sleep 0.1; done; ip link set v1 down) & exec "$@" > out';
+    my $loss = 'echo > out; (until test $(wc -l < out) -gt 9; do sleep 0.1; done; ip link set v1 down) & exec "$@" > out';
     my $lost = $on_both->($loss, $script, '--jobs', 1, @hosts, @dear);
     cmp_ok(time - $begun, '>', 9, 'one of two machines is lost: it was lost before the end');
     is_run({ %$lost, out => slurp("$scratch/out") }, @{ run({ stdin => $slow_lines }, $program, @dear) }{qw(status out err)}, 'it is lost');

@@ -23,29 +23,22 @@ sub must {
     die $run->{err} . $run->{out} if $run->{status};
 }
 
-# Copies the tree, of build/ only the files, and the sources of the crates only if they are patched.
-sub copy_tree {
-    my ($copy, $is_whole) = @_;
-    must({ dir => $root }, 'sh', '-c', 'mkdir -p "$0/build" && cp -a build/*.* build/cpu "$0/build" || exit
-        for file in * .ci; do case $file in build | crates) ;; *) cp -a "$file" "$0" || exit ;; esac done', $copy);
-    return symlink "$root/crates", "$copy/crates" if !$is_whole;
-    return must({ dir => $root }, 'sh', '-c', 'find crates -name out -prune -o -type f -exec cp --parents -t "$0" {} +', $copy);
-}
-
-# Plants a fault in a copy. The libraries are built anew if their C is patched, but of the crates as they were built before.
+# Plants a fault in a copy of the tree, which has of build/ only what is tested, and whose crates are the tree's own. Program and
+# libraries are built anew if their C is patched, but of the crates as they were built before.
 sub plant {
     my ($copy, $fault, $text) = @_;
-    copy_tree($copy, $text =~ m{^\+\+\+ b/crates/}m);
+    die "a patch of the tree's own crates\n" if $text =~ m{^\+\+\+ b/crates/}m;
+    must({ dir => $root }, 'sh', '-c', 'mkdir -p "$0/build" && cp -a build/*.md build/*.html build/cpu build/x86-64* "$0/build" || exit
+        [ ! -d build/site ] || cp -a build/site "$0/build" || exit
+        for file in * .ci; do case $file in build | crates) ;; *) cp -a "$file" "$0" || exit ;; esac done
+        ln -s "$PWD/crates" "$0"', $copy);
     if ($fault !~ /\.patch$/) {
         rename "$copy/mkpasswd", "$copy/mkpasswd.real" or die "mkpasswd: $!\n";
         return must('install', $fault, "$copy/mkpasswd");
     }
     must({ dir => $copy, env => { GIT_CEILING_DIRECTORIES => $scratch } }, qw(git apply -C1), $fault);
     return if $text !~ m{^\+\+\+ b/c/(?!guard)}m;
-    my $rt = $ENV{RT} || 'rt';
-    spew("$copy/rt", qq(#!/bin/sh\n[ "\$1" != doc ] || exec $rt doc\n));
-    chmod 0755, "$copy/rt";
-    return must({ dir => $copy, env => { MAKEFLAGS => undef } }, 'make', '-s', 'lib', "RT=$copy/rt");
+    return must({ dir => $copy, env => { MAKEFLAGS => undef } }, qw(make -s mkpasswd lib));
 }
 
 # Plants a fault, and returns "" if its tests see it; or else what went otherwise, or which tool is missing.

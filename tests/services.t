@@ -1,6 +1,7 @@
 #!/usr/bin/env perl
-# Services of Debian take the hashes of each method that they take, and refuse every other password; and installers and
-# tools take the lines that the documents have for them.
+# Services of Debian take the hashes of each method, and refuse every other password, without the guard in front of crypt(3)
+# and with it, which has them refuse hostile fields at once; and installers and tools take the lines that the documents have
+# for them. None of the services knows a hash but through libxcrypt.
 #
 # The marked blocks of the documents are run as they stand, with the paths that they name: the test runs in namespaces, where
 # /etc and other folders are copies of its own (Services.pm). What a recipe leaves out, such as the port of a service, is here.
@@ -8,36 +9,34 @@ use strict;
 use warnings;
 use FindBin qw($Bin);
 use lib "$Bin/lib";
+use Guard;
 use HTTP::Tiny;
 use List::Util qw(min);
 use MIME::Base64 qw(encode_base64);
 use Model;
 use Net::FTP;
 use Services;
-use Socket qw(AF_UNIX MSG_DONTWAIT SOCK_DGRAM pack_sockaddr_un);
 use Suite;
 use Texts;
 
-my $missing = enter_namespaces();
-if ($missing ne '') {
-    needs($missing => 'none: run it as root where unshare may make namespaces', 0);
-    done_testing;
-    exit;
-}
+enter_namespaces();
+needs_namespaces() or do { done_testing; exit };
 $ENV{PATH} .= ':/usr/sbin:/sbin';
 my $modules = '/usr/lib/x86_64-linux-gnu/security';
 own_folder($_) for grep { -d } '/etc', $modules, '/var/cache/debconf';
 own_folder($_, 1) for grep { -d } qw(/run /var/log /var/lib/dovecot /var/lib/ldap /var/lib/nginx);
 own_devices();
 
-# What each service takes, in Debian 12. None of them knows a hash but through libxcrypt.
-my %takes = map { $_ => [qw(md5crypt sha256crypt sha512crypt scrypt)] }
-    qw(nginx Apache htpasswd Dovecot OpenLDAP pam_unix vsftpd pam_mkpasswd);
+build_guard();
 
-# A user for each method, with a low cost, and ann, whose hash a recipe makes.
+# A user for each method, with a low cost, and ann, whose hash a recipe makes. Then other fields, by names: hashes of methods
+# that libxcrypt alone has, and what nobody gets in with.
 my %user = (md5crypt => 'one', sha256crypt => 'five', sha512crypt => 'six', scrypt => 'seven', 'the recipe' => 'ann');
 my %cost = (md5crypt => 0, sha256crypt => 1000, sha512crypt => 1000, scrypt => 6);
 my %password = map { $_ => "pass word:$_" } values %user;
+my %other = map { $_ => $hash{$_} } qw(yescrypt bcrypt descrypt);
+my %closed = (locked => "!$hash{sha512crypt}", star => '*', map { ("h$_" => $hostile[$_]) } 0 .. $#hostile);
+my @names = sort values %user, keys %other, keys %closed;
 
 my %in = (dir => "$scratch/recipes", env => { PATH => "$root:$ENV{PATH}", BASH_ENV => undef, HOME => $scratch });
 mkdir $_ for $in{dir}, '/run/www';
@@ -53,6 +52,7 @@ sub lines_of {
 }
 my $of_methods = join '', map { lines_of($_) } sort keys %cost;
 my ($field) = $of_methods =~ /^six:(.*)/m;
+my $of_others = join '', map { "$_:" . ($other{$_} // $closed{$_}) . "\n" } sort keys %other, keys %closed;
 
 # Runs marked commands in the folder of the recipes.
 sub run_recipe {
@@ -65,15 +65,15 @@ sub run_recipe {
 sub prepare {
     my ($name) = @_;
     run_recipe('hashes for services');
-    spew("$in{dir}/hashes", slurp("$in{dir}/hashes") . $of_methods);
+    spew("$in{dir}/hashes", slurp("$in{dir}/hashes") . $of_methods . $of_others);
     return run_recipe($name);
 }
 
-# Tests that a service takes for each method the right password alone. The code says yes, no, or what else happened.
+# Tests that a service takes for each method the right password alone, and what the rows say. The code says yes, no, or what
+# else happened.
 sub are_taken {
-    my ($service, $login) = @_;
-    my @rows;
-    for my $method ('the recipe', @{ $takes{$service} }) {
+    my ($service, $login, @rows) = @_;
+    for my $method ('the recipe', sort keys %cost) {
         my $name = $user{$method};
         push @rows, [$name, $password{$name}, 'yes', $method], [$name, $password{$name} =~ s/.\z/?/r, 'no', "$method: another password"];
     }
@@ -83,14 +83,28 @@ sub are_taken {
     is($verdicts[$_] && $verdicts[$_][0], $rows[$_][2], "$service: $rows[$_][3]") for 0 .. $#rows;
 }
 
+# The same of a service that is started without the guard and then with it, by a command that may depend on the environment.
+# With the guard hostile fields are refused within seconds, where they would take minutes.
+sub are_guarded {
+    my ($service, $port, $command, $login) = @_;
+    for my $is_guarded (0, 1) {
+        my $env = env_of($is_guarded);
+        my @rows = map { ([$_, 'secret', 'yes', $_], [$_, 'Secret', 'no', "$_: another password"]) } sort keys %other;
+        push @rows, map { [$_, 'secret', 'no', $closed{$_}] } grep { $is_guarded || !/^h/ } sort keys %closed;
+        my $code = sub { are_taken($is_guarded ? "$service with the guard" : $service, $login, @rows) };
+        while_serving($port, [$command->(map { "$_=" . ($env->{$_} // '') } sort keys %$env)], $code, $env);
+    }
+}
+
 sub verdict { my ($got, $yes, $no) = @_; return $got eq $yes ? 'yes' : $got eq $no ? 'no' : $got }
 
 # A login over HTTP, over FTP, and by PAM.
 sub http {
     my ($port, $name, $password) = @_;
     my $authorization = 'Basic ' . encode_base64("$name:$password", '');
-    my $got = HTTP::Tiny->new->get("http://127.0.0.1:$port/", { headers => { Authorization => $authorization } });
-    return verdict($got->{status} . ($got->{success} ? " $got->{content}" : ''), "200 in\n", '401');
+    my $client = HTTP::Tiny->new(timeout => 20, default_headers => { Authorization => $authorization });
+    my $got = $client->get("http://127.0.0.1:$port/");
+    return verdict($got->{status} . ($got->{success} ? " $got->{content}" : ''), "200 in\n", '401') =~ s/^(?:403|500)\z/no/r;
 }
 
 sub ftp {
@@ -128,9 +142,10 @@ http {
     }
 }
 END
-    while_serving(8080, ['nginx', '-c', "$scratch/nginx.conf"], sub {
-        are_taken('nginx', sub { http(8080, @_) });
-    });
+    my $log = open_log();
+    are_guarded('nginx', 8080, sub { ('nginx', '-c', "$scratch/nginx.conf") }, sub { http(8080, @_) });
+    like((logged())[0], qr/^nginx\[\d+\]: mkpasswd guard: refused /, 'a line in the log, with the name at the start');
+    close $log;
 };
 
 subtest 'Apache' => sub {
@@ -171,11 +186,12 @@ subtest 'htpasswd' => sub {
     });
 };
 
+# It gives its processes only what its configuration says.
 subtest 'Dovecot' => sub {
     needs('Dovecot 2.3' => 'dovecot-core, in Debian 12', run('dovecot', '--version')->{out} =~ /^2\.3\./) or return;
     prepare('Dovecot');
     spew('/etc/dovecot/local.conf', marked('Dovecot', 'dovecot'));
-    spew('/etc/dovecot/dovecot.conf', <<'END');
+    my $configuration = <<'END';
 protocols =
 log_path = /dev/stderr
 auth_failure_delay = 0
@@ -192,12 +208,10 @@ service anvil {
 }
 !include_try local.conf
 END
-    while_serving(8082, ['dovecot', '-F'], sub {
-        are_taken('Dovecot', sub {
-            my $run = run('doveadm', 'auth', 'test', @_);
-            return verdict($run->{status}, 0, 77);
-        });
-    });
+    are_guarded('Dovecot', 8082, sub {
+        spew('/etc/dovecot/dovecot.conf', "import_environment = \$import_environment @_\n$configuration");
+        return qw(dovecot -F);
+    }, sub { verdict(run({ timeout => 20 }, qw(doveadm auth test), @_)->{status}, 0, 77) });
 };
 
 subtest 'OpenLDAP' => sub {
@@ -217,28 +231,27 @@ rootdn cn=admin,$suffix
 rootpw secret
 access to attrs=userPassword by anonymous auth
 END
-    my @users = sort values %user;
     my $entries = "dn: $suffix\nobjectClass: dcObject\nobjectClass: organization\no: Example\n\n"
         . "dn: ou=people,$suffix\nobjectClass: organizationalUnit\n\n";
-    $entries .= "dn: uid=$_,ou=people,$suffix\nobjectClass: inetOrgPerson\ncn: $_\nsn: $_\n\n" for @users;
-    while_serving(8083, ['slapd', '-d', '0', '-h', 'ldap://127.0.0.1:8083 ldapi:///', '-f', "$scratch/slapd.conf"], sub {
+    $entries .= "dn: uid=$_,ou=people,$suffix\nobjectClass: inetOrgPerson\ncn: $_\nsn: $_\n\n" for @names;
+    my @command = ('slapd', '-d', '0', '-h', 'ldap://127.0.0.1:8083 ldapi:///', '-f', "$scratch/slapd.conf");
+    while_serving(8083, \@command, sub {
         spew("$in{dir}/admin", 'secret');
         my @admin = ('-x', '-H', 'ldapi:///', '-D', "cn=admin,$suffix", '-y', "$in{dir}/admin");
         is(run({ stdin => $entries }, 'ldapadd', @admin)->{status}, 0, 'OpenLDAP: entries of the users');
         prepare('OpenLDAP');
-        are_taken('OpenLDAP', sub {
-            my ($name, $password) = @_;
-            spew("$scratch/typed.$$", $password);
-            my $run = run('ldapwhoami', '-x', '-H', 'ldap://127.0.0.1:8083', '-D', "uid=$name,ou=people,$suffix", '-y', "$scratch/typed.$$");
-            return verdict($run->{status}, 0, 49);
-        });
+    });
+    are_guarded('OpenLDAP', 8083, sub { @command }, sub {
+        my ($name, $password) = @_;
+        spew("$scratch/typed.$$", $password);
+        my @user = ('-D', "uid=$name,ou=people,$suffix", '-y', "$scratch/typed.$$");
+        return verdict(run({ timeout => 20 }, 'ldapwhoami', '-x', '-H', 'ldap://127.0.0.1:8083', @user)->{status}, 0, 49);
     });
 };
 
 # Gives the users accounts with locked passwords.
 my ($passwd, $shadow) = map { slurp("/etc/$_") } qw(passwd shadow);
 sub add_accounts {
-    my @names = sort values %user;
     spew('/etc/passwd', join '', $passwd, map { "$_:x:4242:4242::/:/bin/sh\n" } @names);
     spew('/etc/shadow', join '', $shadow, map { "$_:!:19000:0:99999:7:::\n" } @names);
     spew('/etc/pam.d/pam_unix', "auth required pam_unix.so nodelay\naccount required pam_unix.so\n");
@@ -249,6 +262,28 @@ subtest 'pam_unix' => sub {
     add_accounts();
     prepare('pam_unix');
     are_taken('pam_unix', sub { pam('pam_unix', @_) });
+};
+
+# It closes all descriptors from 3 on when it starts, and asks pam_unix.
+subtest 'sshd' => sub {
+    needs(sshd => 'openssh-server') && needs(ssh => 'openssh-client') && needs(chpasswd => 'passwd') or return;
+    add_accounts();
+    prepare('pam_unix');
+    mkdir '/run/sshd';
+    spew('/etc/pam.d/sshd', slurp('/etc/pam.d/pam_unix') . "session required pam_permit.so\n");
+    my @settings = ('ListenAddress 127.0.0.1', "HostKey $scratch/key", 'PidFile none', 'UsePAM yes', 'MaxStartups 99');
+    spew("$scratch/sshd_config", join "\n", 'Port 8085', @settings, '');
+    spew("$scratch/askpass", "#!/bin/sh\necho \"\$PASSWORD\"\n");
+    chmod 0755, "$scratch/askpass";
+    run(qw(ssh-keygen -q -t ed25519 -N), '', '-f', "$scratch/key");
+    my @options = map { ('-o', $_) } qw(NumberOfPasswordPrompts=1 PreferredAuthentications=password StrictHostKeyChecking=no),
+        'UserKnownHostsFile=/dev/null';
+    are_guarded('sshd', 8085, sub { ('/usr/sbin/sshd', '-De', '-f', "$scratch/sshd_config") }, sub {
+        my ($name, $password) = @_;
+        my %env = (PASSWORD => $password, SSH_ASKPASS => "$scratch/askpass", SSH_ASKPASS_REQUIRE => 'force');
+        my $run = run({ timeout => 20, env => \%env }, qw(ssh -qp 8085), @options, "$name\@127.0.0.1", 'true');
+        return verdict($run->{status}, 0, 255);
+    });
 };
 
 subtest 'vsftpd' => sub {
@@ -299,14 +334,8 @@ subtest 'pam_mkpasswd' => sub {
     are_taken('pam_mkpasswd', sub { pam('example', @_) });
 
     # What the system's log gets, instead of its daemon.
-    socket my $log, AF_UNIX, SOCK_DGRAM, 0 or die "socket: $!";
-    bind $log, pack_sockaddr_un('/dev/log') or die "/dev/log: $!";
-    my $login = sub {
-        my $verdict = pam('example', @_);
-        my ($line, @lines);
-        push @lines, $line =~ s/^.*?pam_mkpasswd\(example:\w+\): //sr while defined recv $log, $line, 8192, MSG_DONTWAIT;
-        return join ': ', $verdict, @lines;
-    };
+    open_log();
+    my $login = sub { join ': ', pam('example', @_), map { s/^.*?pam_mkpasswd\(example:\w+\): //sr } logged() };
     my ($right, $number) = ($password{six}, 1 + (slurp($file) =~ tr/\n//));
     spew($file, slurp($file) . "no colon\n" . join "\n", map { "$_->[0]:$_->[1]" } @pam_rows);
     # With this budget a name that is unknown or locked takes no time.

@@ -1,6 +1,6 @@
 #!/bin/bash
 # An option has no documents and no completions.
-# Sees: options.t: help
+# Sees: options.t: manual of mkpasswd
 # Only: ^options
 "$REAL" "$@" | sed 's/^      --work .*/&\n      --quiet            Print nothing/'
 exit "${PIPESTATUS[0]}"

@@ -1,6 +1,6 @@
 package Guard;
 
-# What tests/guard.t takes: the guard, built of c/guard.c; rows of calls with it and without, by tests/c/guard.c; its
+# What guard.t and services.t take: the guard, built of c/guard.c; rows of calls with it and without, by tests/c/guard.c; its
 # configuration; and the system log, a socket of the test's own in a /dev of its own.
 
 use strict;
@@ -10,10 +10,30 @@ use IO::Socket::UNIX;
 use Socket qw(MSG_DONTWAIT);
 use Suite;
 
-our @EXPORT = qw($guard $driver build_guard built row answers env_of configured open_log logged);
+our @EXPORT = qw($guard $driver %setting %hash @hostile build_guard built row answers env_of configured open_log logged);
 
 our ($guard, $driver) = map { "$scratch/guard/$_" } 'libmkpasswd-crypt.so', 'driver';
 my $log;
+
+# Hashes of "secret", by libxcrypt.
+our %setting = (
+    md5crypt => '$1$abcdefgh', sha256crypt => '$5$rounds=1000$abcdefgh', sha512crypt => '$6$abcdefghijklmnop',
+    scrypt => '$7$66..../....abcdefgh', yescrypt => '$y$j9T$abcdefghijklmnopqrstu.', bcrypt => '$2b$05$abcdefghijklmnopqrstuu',
+    descrypt => 'ab', nt => '$3$',
+);
+our %hash = map { $_ => crypt 'secret', $setting{$_} } keys %setting;
+
+# A setting of each scheme that has a cost which takes long, and of each form that isn't read. There is none of md5crypt,
+# descrypt, bigcrypt and NT.
+our @hostile = (
+    '$5$rounds=999999999$abcdefgh', '$6$rounds=999999999$abcdefgh', '$6$rounds=999999999$abcdefgh$' . 'x' x 86,
+    '$7$GU..../....abcdefgh', '$7$LU..../....abcdefgh', '$7$K/..../....abc$def$ghi', '$7$KU..../....' . 'a' x 200,
+    (map { "\$y\$$_\$abcdefghijklmnopqrstu." } qw(jLT jBj jjj j9T/W .LT /LT j9k.)),
+    (map { "\$2$_\$31\$abcdefghijklmnopqrstuu" } qw(a b x y)), '$2b$13$abcdefghijklmnopqrstuu',
+    '$gy$jLT$abcdefghijklmnopqrstu.', '$gy$j9T$abcdefghijklmnopqrstu.', '$md5,rounds=4294963199$abcdefgh', '$md5$abcdefgh',
+    '$sha1$4294967295$abcdefgh', '$sha1$40000$abcdefgh', '_zzzzabcd', '_J9..abcd', '$9$abc',
+    '$argon2id$v=19$m=2097152,t=100,p=1$YWI$YWI',
+);
 
 # Builds something without a word of the compiler. The command takes the path as its last argument.
 sub built {
@@ -66,7 +86,9 @@ sub configured {
 
 sub open_log {
     unlink '/dev/log';
-    return $log = IO::Socket::UNIX->new(Type => SOCK_DGRAM, Local => '/dev/log') || die "/dev/log: $!";
+    $log = IO::Socket::UNIX->new(Type => SOCK_DGRAM, Local => '/dev/log') || die "/dev/log: $!";
+    chmod 0666, '/dev/log';
+    return $log;
 }
 
 # The lines of the system log since the last time, without priority and time, and what else it got.

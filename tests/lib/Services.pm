@@ -13,11 +13,14 @@ use POSIX qw(WNOHANG);
 use Suite;
 use Time::HiRes qw(sleep);
 
-our @EXPORT = qw(enter_namespaces own_folder own_devices while_serving);
+our @EXPORT = qw(enter_namespaces needs_namespaces own_folder own_devices while_serving);
 
 my @unshare = qw(unshare --mount --net --pid --fork --kill-child --mount-proc);
 
-# Runs the test again in the namespaces; there it returns ''. Where there are none, it returns why.
+# Runs the test again in the namespaces; there it returns 1. Where there are none, it returns 0.
+my $lacks = '';
+sub needs_namespaces { return needs($lacks => 'none: run it as root where unshare may make namespaces', $lacks eq '') }
+
 sub enter_namespaces {
     my $here = readlink '/proc/self/ns/mnt' // '';
     my $outside = delete $ENV{SERVICES_OUTSIDE};
@@ -27,10 +30,10 @@ sub enter_namespaces {
         socket my $socket, AF_INET, SOCK_DGRAM, 0 or die "socket: $!";
         my $request = pack 'a16 s x22', 'lo', 1;
         ioctl $socket, 0x8914, $request or die "the loopback: $!";    # SIOCSIFFLAGS with IFF_UP
-        return '';
+        return 1;
     }
-    return 'the superuser' if $> != 0;
-    return 'namespaces' if run(@unshare, 'true')->{status};
+    $lacks = $> != 0 ? 'the superuser' : run(@unshare, 'true')->{status} ? 'namespaces' : '';
+    return 0 if $lacks ne '';
     local $ENV{SERVICES_OUTSIDE} = $here;
     remove_tree($scratch);
     exec @unshare, $^X, $0 or die "unshare: $!";
@@ -71,19 +74,12 @@ sub must {
     $run->{status} and die "@_: status $run->{status}: $run->{err}";
 }
 
-# Starts a service that stays in the foreground, runs the code once its port takes connections, and ends the service by
-# its number. Fails a test where it doesn't serve.
+# Starts a service that stays in the foreground, also with an environment as `begin` takes it, runs the code once its port takes
+# connections, and ends the service by its number. Fails a test where it doesn't serve.
 sub while_serving {
-    my ($port, $command, $code) = @_;
+    my ($port, $command, $code, $env) = @_;
     my ($log, $until) = ("$scratch/service.log", time + 20);
-    my $pid = fork // die "can't fork: $!";
-    if (!$pid) {
-        setpgrp;
-        open STDIN, '<', '/dev/null' or die;
-        open STDOUT, '>', $log or die;
-        open STDERR, '>&', \*STDOUT or die;
-        exec { $command->[0] } @$command or do { print STDERR "$command->[0]: $!\n"; POSIX::_exit(127) };
-    }
+    my $pid = begin({ from => '/dev/null', to => $log, env => $env }, @$command);
     my ($is_ended, $is_serving) = (0, 0);
     while (time < $until && !$is_serving && !$is_ended) {
         $is_ended = waitpid $pid, WNOHANG;

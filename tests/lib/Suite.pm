@@ -16,7 +16,7 @@ use POSIX ();
 use Storable qw(retrieve store);
 use Test::More;
 
-our @EXPORT = (qw($root $scratch program run in_processes slurp spew needs is_run preload), @Test::More::EXPORT);
+our @EXPORT = (qw($root $scratch program passes_there begin run in_processes slurp spew needs is_run preload), @Test::More::EXPORT);
 
 # The top of the tree.
 our $root = abs_path(dirname(__FILE__) . '/../..');
@@ -39,33 +39,54 @@ if (defined(my $only = $ENV{T_ONLY})) {
     };
 }
 
-# The built program. Without one there is nothing to test.
+# The built program, or one like it, PROGRAM. Without one there is nothing to test.
 sub program {
-    my $path = "$root/mkpasswd";
+    my $path = $ENV{PROGRAM} // "$root/mkpasswd";
     -x $path or BAIL_OUT("$path is not built: run make");
     return $path;
 }
 
-# Runs a command; its first argument may be a hash with `stdin` (the bytes that it reads; none by default) or `from` (a
-# path that it reads instead), `to` (a path for its output), `dir`, `env` (names and values, undef to unset) and `timeout`
-# (seconds, 300 by default). Returns a hash: `status`, the exit status or 128 + the signal; `out` and `err`; `timed_out`.
+# Tests that the program which this command runs passes these tests.
+sub passes_there {
+    my ($where, $command, @tests) = @_;
+    my $program = "$scratch/$where";
+    spew($program, qq(#!/bin/sh\nexec $command "\$@"\n));
+    chmod 0755, $program;
+    my %with = (env => { PROGRAM => $program, T_ONLY => undef }, timeout => 3000);
+    my @runs = in_processes(2, sub { run(\%with, $^X, "$root/tests/$_[0].t") }, @tests);
+    for (0 .. $#tests) {
+        my ($run) = @{ $runs[$_] // [{}] };
+        is($run->{status}, 0, "$tests[$_].t $where") or diag($run->{out} // 'it ended early', $run->{err} // '');
+    }
+}
+
+# Starts a command in a process group of its own, and returns its number. A hash has paths for its input, `from`, its output,
+# `to`, and its standard error, `err` (that of the output by default), and may have `dir` and `env` (names and values, undef to
+# unset).
+sub begin {
+    my ($with, @command) = @_;
+    my $pid = fork // die "can't fork: $!";
+    return $pid if $pid;
+    setpgrp;
+    my $env = $with->{env} // {};
+    for (keys %$env) {
+        if (defined $env->{$_}) { $ENV{$_} = $env->{$_} } else { delete $ENV{$_} }
+    }
+    chdir $with->{dir} or die "$with->{dir}: $!" if $with->{dir};
+    open STDIN, '<', $with->{from} or die;
+    open STDOUT, '>', $with->{to} or die;
+    open STDERR, $with->{err} ? '>' : '>&', $with->{err} // \*STDOUT or die;
+    exec { $command[0] } @command or do { print STDERR "$command[0]: $!\n"; POSIX::_exit(127) };
+}
+
+# Runs a command; its first argument may be such a hash, without `err`, with `stdin` (the bytes that it reads; none by default)
+# and `timeout` (seconds, 300 by default). Returns a hash: `status`, the exit status or 128 + the signal; `out` and `err`;
+# `timed_out`.
 sub run {
     my %with = ref $_[0] ? %{ +shift } : ();
-    my @command = @_;
     my ($in, $out, $err) = map { "$scratch/run.$$.$_" } qw(in out err);
     spew($in, $with{stdin} // '');
-    my $pid = fork // die "can't fork: $!";
-    if (!$pid) {
-        setpgrp;
-        for (keys %{ $with{env} // {} }) {
-            if (defined $with{env}{$_}) { $ENV{$_} = $with{env}{$_} } else { delete $ENV{$_} }
-        }
-        chdir $with{dir} or die "$with{dir}: $!" if $with{dir};
-        open STDIN, '<', $with{from} // $in or die;
-        open STDOUT, '>', $with{to} // $out or die;
-        open STDERR, '>', $err or die;
-        exec { $command[0] } @command or do { print STDERR "$command[0]: $!\n"; POSIX::_exit(127) };
-    }
+    my $pid = begin({ from => $in, to => $out, %with, err => $err }, @_);
     my $timed_out = 0;
     local $SIG{ALRM} = sub { $timed_out = 1; kill KILL => -$pid };
     alarm($with{timeout} // 300);
