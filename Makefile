@@ -1,44 +1,71 @@
 # make             builds ./mkpasswd, the proved program; make run also hashes a first password
-# make lib         builds the C libraries; make hwcaps the shared one for x86-64-v3 too; make guard the one in front of crypt(3)
+# make static      builds build/x86-64/mkpasswd, which needs nothing of the system but the kernel
+# make lib         builds the C libraries; make guard the one in front of crypt(3)
+# make web         builds build/mkpasswd.html, a page that makes and checks hashes in a browser
 # make install     installs all of it below PREFIX (default /usr/local); make uninstall removes it
 # make test        tests what is built: T=tests/lines.t one file; with STRICT=1 a tool that is missing is a failure
 # make check       every check there is: layers, gate, tests, planted faults; with ANEW=1 the gate proves everything anew
 # make bench       measures against libxcrypt, with the options in BENCH
 # make soak        answers LINES random lines of each kind, by SEED; make fuzz makes random calls, for FUZZ_SECONDS each
-# make specification, make mutants    write build/SPECIFICATION.md and build/MUTANTS.md
-# make dist        packs an archive; make wheel a Python wheel; make deb Debian packages
+# make specification, make mutants    write build/SPECIFICATION.md and build/MUTANTS.md; make site all documents as web pages
+# make dist        packs an archive; make image one for containers; make wheel a Python wheel; make deb Debian packages
 #
-# CPU=x86-64-v3 builds for such processors; the default is x86-64-v2. Say it to each make, also to make install.
+# CPU=x86-64-v3 builds for such processors. The default is x86-64-v2, and x86-64 for make static, dist, image and wheel. Say it
+# to each make, also to make install. TARGET=aarch64 is for ARM: make builds its archive and wheel, make image the image.
 PREFIX ?= /usr/local
 LIBDIR ?= $(PREFIX)/lib
 RT ?= rt
 CPU =
+TARGET =
 
 SOURCES := $(shell find crates -path '*/out' -prune -o \( -name '*.rt' -o -name '*.antt' \) -print) crates.txt
 VERSION := $(shell tools/version)
-# For x86-64-v4 there is only the toolchain's own compiler, whose code is slower than the portable one.
-FOR_CPU := $(if $(CPU),--cpu $(CPU)) $(if $(filter x86-64-v4,$(CPU)),--backend rattle)
-ARCHIVE ?= mkpasswd-$(VERSION)-$(if $(filter x86-64,$(CPU)),x86_64_v1,$(subst -,_,$(or $(CPU),x86-64)))-linux.tar.gz
+# Where the build for CPU is, and whom the archive, the wheel and the image are for.
+OWN = build/$(or $(CPU),x86-64-v2)
+FOR = $(or $(TARGET),$(CPU),x86-64)
+ARCHIVE ?= mkpasswd-$(VERSION)-$(subst -,_,$(FOR))-linux.tar.gz
 PAGES = build/SPECIFICATION.md build/MUTANTS.md
-BUILT = mkpasswd lib hwcaps guard $(PAGES)
+# The web pages are made where Debian's pandoc and mandoc are there; archives and packages always have them.
+SITE := $(shell tools/site --check 2> /dev/null && echo build/site/index.html)
+BUILT = mkpasswd lib guard build/x86-64-v3/libmkpasswd.so.2 build/mkpasswd.html $(PAGES) $(SITE)
+PACKED = $(addprefix build/$(FOR)/,mkpasswd libmkpasswd.a libmkpasswd.so.2) build/mkpasswd.html $(PAGES) \
+	$(if $(TARGET),,build/$(FOR)/libmkpasswd-crypt.so build/x86-64-v3/libmkpasswd.so.2)
+ARM = $(addprefix build/aarch64/,mkpasswd libmkpasswd.a libmkpasswd.so.2)
+TRIED = $(BUILT) $(PACKED) $(if $(shell which aarch64-linux-gnu-gcc),$(ARM))
 # The scripts take these from the environment, whatever characters they have.
 export DESTDIR PREFIX LIBDIR ARCHIVE RT
 
-T = $(filter-out tests/planted.t,$(wildcard tests/*.t))
+SLOW = tests/deb.t tests/arm.t tests/python.t tests/parallel.t tests/guard.t
+T = $(SLOW) $(filter-out tests/planted.t $(SLOW),$(wildcard tests/*.t))
 PROVE = PERL5LIB=tests/lib prove --harness Tally -j4
-FIRST = tests/layers.t tests/specification.t
 
-.PHONY: all run lib hwcaps guard fuzz test check layers specification mutants gate bench soak install uninstall dist wheel deb \
-	clean FORCE
-.DELETE_ON_ERROR:
+.PHONY: all run static lib guard web fuzz test check layers specification mutants site gate bench soak install uninstall dist \
+	image wheel deb clean FORCE
+.DELETE_ON_ERROR .SECONDARY:
 # rt takes all cores for itself.
 .NOTPARALLEL:
 
-all: mkpasswd
+all: $(if $(TARGET),dist wheel,mkpasswd)
 
-mkpasswd: $(SOURCES) build/cpu
-	cd crates/program && $(RT) run $(FOR_CPU) -- -m md5crypt -S xxxxxxxx password
-	cp crates/program/out/program $@
+# The proved object of the program for a processor, and that of the calls for C.
+build/%/program.o: $(SOURCES) tools/for-cpu
+	tools/for-cpu $* $(@F)
+
+build/%/libcrypt_c.a: $(SOURCES) tools/for-cpu
+	tools/for-cpu $* $(@F)
+
+# The compiler and the binutils for the processor of a file, and what else a program calls: C of the toolchain, or ours.
+TOOLS = $(if $(filter build/aarch64/%,$@),aarch64-linux-gnu-)
+COMPILE = $(if $(TOOLS),$(TOOLS)gcc,$(CC)) -std=c99 -Wall -Wextra -O2
+RUNTIME = $(if $(TOOLS),c/runtime.c,$$(dirname $$($(RT) doc))/c/libos_c.a)
+LINKED = -Wl,-z,relro -Wl,-z,now $(LDFLAGS) -o $@
+
+# The program that takes the system's C library, and the one that brings its own.
+mkpasswd: $(OWN)/program.o c/heap.c build/cpu
+	$(COMPILE) -DKEEPS=1 -fPIE -pie -Wl,--gc-sections $(LINKED) $< c/heap.c $(RUNTIME)
+
+build/%/mkpasswd: build/%/program.o c/heap.c c/runtime.c
+	$(COMPILE) -DKEEPS=1 -fPIE -static-pie -s -Wl,--gc-sections $(LINKED) $< c/heap.c $(RUNTIME)
 
 # The processor of the last build. Another one makes this file new, and so all that is built from it.
 build/cpu: FORCE
@@ -48,54 +75,44 @@ build/cpu: FORCE
 run: mkpasswd
 	@./mkpasswd -m md5crypt -S xxxxxxxx password
 
+static: build/$(FOR)/mkpasswd
+
 lib: libmkpasswd.a libmkpasswd.so.2
 
-# One object in a folder, of the proved calls there, the few lines of C that draw a salt, and the toolchain's for memory. It
-# offers what the version script does.
-define object
-	cd $(1) && ar x libcrypt_c.a crypt_c.o && ar x $$(dirname $$($(RT) doc))/c/liblibc_c.a heap.pic.o
-	ld -r -o $(1)/mkpasswd.o $(1)/crypt_c.o build/new.o $(1)/heap.pic.o
-	sed -n 's/^ *\(mkpasswd_[a-z_]*\);$$/\1/p' c/libmkpasswd.map > $(1)/calls
-	objcopy --keep-global-symbols=$(1)/calls $(1)/mkpasswd.o
-endef
+libmkpasswd.a libmkpasswd.so.2 libmkpasswd-crypt.so: %: $(OWN)/% build/cpu
+	cp $< $@
 
-# The shared library of an object.
-define shared
-	$(CC) -shared -Wl,-soname,$(@F) -Wl,--version-script=c/libmkpasswd.map -Wl,--no-undefined-version \
-		-Wl,-z,relro -Wl,-z,now -Wl,-z,defs $(LDFLAGS) -o $@ $(1)
-endef
+# One object of the proved calls, and the few lines of C that draw a salt and allocate. It offers what the version script does.
+build/%/mkpasswd.o: build/%/libcrypt_c.a c/new.c c/heap.c c/mkpasswd.h c/libmkpasswd.map
+	cd $(@D) && $(TOOLS)ar x libcrypt_c.a crypt_c.o
+	$(COMPILE) -DKEEPS=0 -fPIC -Ic -r -nostdlib -o $@ $(@D)/crypt_c.o c/new.c c/heap.c
+	sed -n 's/^ *\(mkpasswd_[a-z_]*\);$$/\1/p' c/libmkpasswd.map > $(@D)/calls
+	$(TOOLS)objcopy --keep-global-symbols=$(@D)/calls $@
 
-build/mkpasswd.o: $(SOURCES) build/cpu build/new.o c/libmkpasswd.map
-	cd crates/crypt_c && $(RT) lib $(FOR_CPU)
-	cp crates/crypt_c/out/libcrypt_c.a build/libcrypt_c.a
-	$(call object,build)
-
-build/new.o: c/new.c c/mkpasswd.h build/cpu
-	$(CC) -std=c99 -Wall -Wextra -O2 -fPIC -Ic -c -o $@ c/new.c
-
-libmkpasswd.a: build/mkpasswd.o
+build/%/libmkpasswd.a: build/%/mkpasswd.o
 	rm -f $@
-	ar rcsD $@ build/mkpasswd.o
+	$(TOOLS)ar rcsD $@ $<
 
-libmkpasswd.so.2: build/mkpasswd.o c/libmkpasswd.map
-	$(call shared,build/mkpasswd.o)
-
-# The shared library and the program for other processors, beside the build for CPU.
-hwcaps: hwcaps/x86-64-v3/libmkpasswd.so.2
-
-hwcaps/%/libmkpasswd.so.2: $(SOURCES) build/new.o c/libmkpasswd.map tools/for-cpu
-	@mkdir -p $(@D)
-	tools/for-cpu $* library build/$*
-	$(call object,build/$*)
-	$(call shared,build/$*/mkpasswd.o)
-
-build/%/mkpasswd: $(SOURCES) tools/for-cpu
-	tools/for-cpu $* program $(@D)
+build/%/libmkpasswd.so.2: build/%/mkpasswd.o c/libmkpasswd.map
+	$(COMPILE) -shared -Wl,-soname,$(@F) -Wl,--version-script=c/libmkpasswd.map -Wl,--no-undefined-version -Wl,-z,defs \
+		$(LINKED) $<
 
 guard: libmkpasswd-crypt.so
 
-libmkpasswd-crypt.so: c/guard.c c/libmkpasswd-crypt.map c/mkpasswd.h libmkpasswd.a tools/guard
-	tools/guard $@
+build/%/libmkpasswd-crypt.so: build/%/libmkpasswd.a c/guard.c c/libmkpasswd-crypt.map c/mkpasswd.h tools/guard
+	LIBRARY=$(abspath $<) tools/guard $@
+
+# The calls for a page, as a module of WebAssembly, and the page around it.
+web: build/mkpasswd.html
+
+build/wasm64/libcrypt_web.a: $(SOURCES) tools/for-cpu
+	tools/for-cpu wasm64 $(@F)
+
+build/mkpasswd.wasm: build/wasm64/libcrypt_web.a
+	kit=$$(dirname $$($(RT) doc)) && $$kit/bin/rattle-link --target wasm64-unknown-unknown --toolchain $$kit/toolchain -o $@ $<
+
+build/mkpasswd.html: build/mkpasswd.wasm tools/web $(wildcard web/*)
+	tools/web $< $@
 
 # Each target keeps what it found in build/fuzz, from where the next run begins.
 FUZZERS := $(patsubst tests/c/fuzz_%.c,build/fuzz/%,$(wildcard tests/c/fuzz_*.c))
@@ -111,15 +128,15 @@ fuzz: $(FUZZERS)
 			-artifact_prefix=$$fuzzer. $$fuzzer.corpus || exit 1; \
 	done
 
-test: $(BUILT)
+test: $(TRIED)
 	$(PROVE) $(T)
 
 # The layers, the specification and the gate come first, since they need nothing built.
-check: layers gate $(BUILT)
-	$(PROVE) tests/planted.t $(filter-out $(FIRST),$(T))
+check: layers gate $(TRIED)
+	$(PROVE) tests/planted.t $(filter-out tests/layers.t,$(T))
 
-layers:
-	$(PROVE) $(FIRST)
+layers: specification
+	$(PROVE) tests/layers.t
 
 specification: build/SPECIFICATION.md
 
@@ -133,12 +150,18 @@ build/MUTANTS.md: tools/mutants $(wildcard crates/*/must-fail/*.edit) $(SOURCES)
 	@mkdir -p build
 	tools/mutants > $@
 
-# The gate leaves the program that it proved, so there is none to prove again but for other processors.
-gate: build/cpu
-	tools/gate $(if $(ANEW),--anew)
-	$(if $(CPU),,cp crates/program/out/program mkpasswd)
+site: build/site/index.html
 
-bench: mkpasswd
+build/site/index.html: tools/site $(wildcard *.md docs/* man/* examples/* c/*.h) build/mkpasswd.html $(PAGES) tools/version
+	rm -rf build/site && mkdir -p build/site
+	tools/site build/site
+
+# The gate leaves the object that it proved, so there is none to prove again but for other processors.
+gate:
+	tools/gate $(if $(ANEW),--anew)
+	install -D -m 644 -t build/x86-64-v2 crates/program/out/program.o
+
+bench: mkpasswd guard
 	tools/bench $(BENCH) ./mkpasswd
 
 soak: mkpasswd
@@ -150,14 +173,17 @@ install: $(BUILT)
 uninstall:
 	tools/install --remove
 
-dist: $(BUILT)
-	tools/pack $(or $(CPU),x86-64-v2)
+dist:
+	tools/site --check
+	$(MAKE) $(PACKED) build/site/index.html
+	tools/pack $(FOR)
 
-# Of x86-64 processors a wheel's name tells nothing, so it is for all of them. The next make builds anew for its own CPU.
-wheel:
+wheel: build/$(FOR)/libmkpasswd.so.2
 	tools/wheel --check
-	$(MAKE) lib CPU=x86-64
-	tools/wheel libmkpasswd.so.2 .
+	tools/wheel $< .
+
+image: build/$(FOR)/mkpasswd
+	tools/image $< mkpasswd:$(VERSION) mkpasswd-$(VERSION)-$(subst -,_,$(FOR))-image.tar
 
 # The packages depend on sse4.2-support, which refuses processors that the default build is not for.
 deb:
@@ -166,4 +192,5 @@ deb:
 	tools/deb .
 
 clean:
-	rm -rf mkpasswd libmkpasswd.a libmkpasswd.so.2 libmkpasswd-crypt.so hwcaps build crates/*/out mkpasswd-*-linux.tar.gz mkpasswd-*.whl *.deb
+	rm -rf mkpasswd libmkpasswd.a libmkpasswd.so.2 libmkpasswd-crypt.so build crates/*/out mkpasswd-*-linux.tar.gz \
+		mkpasswd-*-image.tar mkpasswd-*.whl *.deb
