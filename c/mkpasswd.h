@@ -68,7 +68,7 @@ extern "C" {
 #endif
 
 /* The version: 10000 * major + 100 * minor + patch. */
-#define MKPASSWD_VERSION 10100
+#define MKPASSWD_VERSION 10200
 
 /* The size of a buffer for any hash, setting or message, with its byte 0. */
 #define MKPASSWD_TEXT_SIZE 145

@@ -97,7 +97,7 @@ for my $name (sort keys %browsers) {
             my @fits = map { map { /^The password (matches|does not match)\b/ } @$_[1, 2] } @{ $told->{made} };
             is_deeply(\@fits, [('matches', 'does not match') x 3], 'their passwords match, and others do not');
             is_deeply([map { /^([^:.]+)/ } @{ $told->{refused} }], \@words, 'the refusals of the program');
-            is_deeply([@$told{qw(beyond stopped sent)}], [[], 'Stopped.', 'refused'], 'not too wide; stopped; nothing sent');
+            is_deeply([@$told{qw(beyond stopped sent)}], [[], 'Stopped.', ['refused', 'refused']], 'not too wide; stopped; nothing sent');
         }
         is(scalar keys %salts, 6, 'each salt is another');
         my @asked = slurp("$scratch/server") =~ /"(.*? HTTP)/g;

@@ -39,7 +39,9 @@ async function visit() {
     stop.click();
     told.stopped = status('make').textContent;
     new Image().src = '@SERVER@/image';
-    told.sent = await fetch('@SERVER@/fetched', { mode: 'no-cors' }).then(() => 'sent', () => 'refused');
+    const send = () => fetch('@SERVER@/fetched', { mode: 'no-cors' }).then(() => 'sent', () => 'refused');
+    const worker = new Worker(URL.createObjectURL(new Blob([`(${send})().then(postMessage)`])));
+    told.sent = [await send(), await new Promise((next) => { worker.onmessage = ({ data }) => next(data); })];
     return told;
 }
 

@@ -390,7 +390,7 @@ fn refuses_without_a_generator(rt: HostRuntime) -> Result<(), Fail> {
 fn serves_without_a_generator(rt: HostRuntime) -> Result<(), Fail> {
     let alloc = rt.alloc();
     let rows: [(&[&str], u8, (&str, &str)); 3] = [
-        (&["-V"], 0, ("mkpasswd 1.1.0\n", "")),
+        (&["-V"], 0, ("mkpasswd 1.2.0\n", "")),
         (&["-mhelp"], 0, (LIST, "")),
         (&["-msha1"], 2, ("", "mkpasswd: unknown method\n")),
     ];

@@ -130,7 +130,7 @@ fn tells_a_failed_write(rt: HostRuntime) -> Result<(), Fail> {
             version,
             (NO_FLUSH, WHOLE),
             3,
-            ("mkpasswd 1.1.0\n", WRITE_FAULT),
+            ("mkpasswd 1.2.0\n", WRITE_FAULT),
         ),
         (&["--help"], (NOTHING, WHOLE), 3, not_written),
         (list, (NOTHING, WHOLE), 3, not_written),
