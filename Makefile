@@ -31,7 +31,7 @@ BUILT = mkpasswd lib guard build/x86-64-v3/libmkpasswd.so.2 build/mkpasswd.html 
 PACKED = $(addprefix build/$(FOR)/,mkpasswd libmkpasswd.a libmkpasswd.so.2) build/mkpasswd.html $(PAGES) \
 	$(if $(TARGET),,build/$(FOR)/libmkpasswd-crypt.so build/x86-64-v3/libmkpasswd.so.2)
 ARM = $(addprefix build/aarch64/,mkpasswd libmkpasswd.a libmkpasswd.so.2)
-TRIED = $(BUILT) $(PACKED) $(if $(shell which aarch64-linux-gnu-gcc),$(ARM))
+TRIED = $(BUILT) $(PACKED) $(if $(findstring /,$(shell aarch64-linux-gnu-gcc -print-file-name=libc.a 2> /dev/null)),$(ARM))
 # The scripts take these from the environment, whatever characters they have.
 export DESTDIR PREFIX LIBDIR ARCHIVE RT
 
