@@ -156,9 +156,12 @@ build/site/index.html: tools/site $(wildcard *.md docs/* man/* examples/* c/*.h)
 	rm -rf build/site && mkdir -p build/site
 	tools/site build/site
 
-# The gate leaves the object that it proved, so there is none to prove again but for other processors.
+# The gate leaves the object that it proved, so there is none to prove again but for other processors. One that proved nothing
+# anew leaves none.
 gate:
+	rm -f crates/program/out/program.o
 	tools/gate $(if $(ANEW),--anew)
+	[ -e crates/program/out/program.o ] || tools/for-cpu x86-64-v2 program.o
 	install -D -m 644 -t build/x86-64-v2 crates/program/out/program.o
 
 bench: mkpasswd guard

@@ -80,7 +80,7 @@ subtest 'README' => sub {
     like($readme, qr/\Amkpasswd \Q$version\E for Linux on x86-64\n/, 'version');
     unlike($readme, qr/\@/, 'no place is left to be filled');
     like($readme, qr/tar xzf \Q$name.tar.gz\E /, 'it unpacks this archive');
-    my ($unpacks) = slurp("$root/README.md") =~ m{(tar -?xzf mkpasswd-\S*-linux\.tar\.gz [^`&\n]*/usr/local\b[^`&\n]*)};
+    my ($unpacks) = slurp("$root/README.md") =~ m{(tar -?xzf mkpasswd-[^`\n]*-linux\.tar\.gz [^`&\n]*/usr/local\b[^`&\n]*)};
     mkdir "$scratch/local";
     my $command = ($unpacks // 'false') =~ s{/usr/local}{$scratch/local}r;
     is_run(run({ dir => "$scratch/first" }, 'sh', '-c', $command), 0, '', '', 'README.md: it unpacks');

@@ -162,6 +162,9 @@ subtest 'administration' => sub {
     spew("$folder/passwords", "ann:password\nbob:" . 'x' x 83 . "\n");
     is_run($recipe->('new passwords'), 1, '', "mkpasswd: line 2: over budget\n", 'a new password that a login would refuse');
     is(join('', slurp("$system/etc/shadow") =~ /:!:/g), ':!:' x 3, 'such a password changes no account');
+    my ($longer, $longest) = map { 'x' x $_ } 512, 511;
+    spew("$folder/passwords", "ann:\nbob:$longer\neve:$longest\nzoe::\xff\n");
+    is_run($recipe->('odd passwords'), 0, "1:ann:\n2:bob:$longer\n", '', 'passwords that are empty, or too long for libxcrypt');
     spew("$folder/passwords", "ann:password\nbob:pass:word\n");
     is_run($recipe->('new passwords'), 0, '', '', 'new passwords for many users');
     ok($is_made->($line_of->('ann'), 'password', $changed), 'the password of ann is new');

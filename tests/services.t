@@ -14,7 +14,6 @@ use HTTP::Tiny;
 use List::Util qw(min);
 use MIME::Base64 qw(encode_base64);
 use Model;
-use Net::FTP;
 use Services;
 use Suite;
 use Texts;
@@ -98,22 +97,13 @@ sub are_guarded {
 
 sub verdict { my ($got, $yes, $no) = @_; return $got eq $yes ? 'yes' : $got eq $no ? 'no' : $got }
 
-# A login over HTTP, over FTP, and by PAM.
+# A login over HTTP and by PAM.
 sub http {
     my ($port, $name, $password) = @_;
     my $authorization = 'Basic ' . encode_base64("$name:$password", '');
     my $client = HTTP::Tiny->new(timeout => 20, default_headers => { Authorization => $authorization });
     my $got = $client->get("http://127.0.0.1:$port/");
     return verdict($got->{status} . ($got->{success} ? " $got->{content}" : ''), "200 in\n", '401') =~ s/^(?:403|500)\z/no/r;
-}
-
-sub ftp {
-    my ($port, $name, $password) = @_;
-    my $ftp = Net::FTP->new('127.0.0.1', Port => $port, Timeout => 20) or return "no FTP: $@";
-    $ftp->login($name, $password);
-    my $code = $ftp->code;
-    $ftp->quit;
-    return verdict($code, '230', '530');
 }
 
 sub pam {
@@ -178,7 +168,6 @@ subtest 'htpasswd' => sub {
     needs(htpasswd => 'apache2-utils') or return;
     mkdir '/etc/apache2';
     prepare('Apache');
-    run_recipe('htpasswd');
     are_taken('htpasswd', sub {
         my ($name, $password) = @_;
         my $run = run({ stdin => "$password\n" }, 'htpasswd', '-vi', '/etc/apache2/passwords', $name);
@@ -283,27 +272,6 @@ subtest 'sshd' => sub {
         my %env = (PASSWORD => $password, SSH_ASKPASS => "$scratch/askpass", SSH_ASKPASS_REQUIRE => 'force');
         my $run = run({ timeout => 20, env => \%env }, qw(ssh -qp 8085), @options, "$name\@127.0.0.1", 'true');
         return verdict($run->{status}, 0, 255);
-    });
-};
-
-subtest 'vsftpd' => sub {
-    needs(vsftpd => 'vsftpd') && needs('pam_pwdfile.so' => 'libpam-pwdfile', -e "$modules/pam_pwdfile.so") or return;
-    prepare('vsftpd');
-    spew('/etc/pam.d/vsftpd', marked('vsftpd', 'pam'));
-    my $block = marked('vsftpd', 'ini');
-    run(qw(install -d /run/vsftpd/empty));
-    spew('/etc/vsftpd.conf', <<"END");
-listen=YES
-listen_address=127.0.0.1
-listen_port=8084
-background=NO
-anonymous_enable=NO
-delay_failed_login=0
-secure_chroot_dir=/run/vsftpd/empty
-$block
-END
-    while_serving(8084, ['vsftpd', '/etc/vsftpd.conf'], sub {
-        are_taken('vsftpd', sub { ftp(8084, @_) });
     });
 };
 

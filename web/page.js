@@ -8,10 +8,10 @@ const WORDS = {
     '-2': 'password has a zero byte',
     '-3': 'setting too long: a stored hash has at most 384 bytes',
     '-4': 'bad character: no stored hash has it; ! and * lock an account',
-    '-5': 'unknown scheme: it begins with none of $1$, $5$ and $6$',
+    '-5': 'unknown scheme: it begins with none of $1$, $5$ and $6$; yescrypt, $y$, cannot be checked here',
     '-6': 'bad rounds: no valid number follows rounds=',
     '-7': 'bad cost', '-8': 'scrypt range', '-9': 'above ceiling', '-10': 'bad salt',
-    '-11': 'out of memory: scrypt, $7$, needs more than this page has',
+    '-11': 'out of memory: scrypt, $7$, needs more than this page has; mkpasswd --check checks it',
     '-16': 'over budget: nothing was hashed',
 };
 
@@ -21,10 +21,8 @@ const source = URL.createObjectURL(new Blob([element('worker').textContent], { t
 const rates = {};
 let running;
 
-function shown(milliseconds) {
-    if (milliseconds < 1000) return `${Math.max(1, Math.round(milliseconds))} ms`;
-    return milliseconds < 120000 ? `${(milliseconds / 1000).toPrecision(2)} s` : `${Math.round(milliseconds / 60000)} minutes`;
-}
+const shown = (milliseconds) => (milliseconds < 1000 ? `${Math.max(1, Math.round(milliseconds))} ms`
+    : milliseconds < 120000 ? `${(milliseconds / 1000).toPrecision(2)} s` : `${Math.round(milliseconds / 60000)} minutes`);
 
 // How long a hash of this cost takes here, if hashes with the method were measured.
 const expected = (method, cost) => rates[method] && cost * rates[method].time / rates[method].cost;
@@ -40,15 +38,13 @@ function tellEstimate() {
 
 // Shows what becomes of a form's job.
 function say(form, text, kind = '') {
-    const status = form.querySelector('[role=status]');
-    [status.textContent, status.className] = [text, kind];
+    Object.assign(form.querySelector('[role=status]'), { textContent: text, className: kind });
 }
 
 // Starts a job in a worker of its own.
 function work(job, given, tell) {
     const worker = new Worker(source);
-    worker.onmessage = ({ data }) => tell(data);
-    worker.onerror = ({ message }) => tell({ isLast: true, failure: message });
+    [worker.onmessage, worker.onerror] = [({ data }) => tell(data), ({ message }) => tell({ isLast: true, failure: message })];
     worker.postMessage({ module, job, ...given });
     return worker;
 }
@@ -71,8 +67,8 @@ function end(text, kind) {
     running = undefined;
 }
 
-// The bytes of a field. Half a character has none.
-const valueOf = (id) => element(id).value;
+// The bytes of a field, of a stored hash without the blanks around it. Half a character has none.
+const valueOf = (id) => (id === 'stored' ? element(id).value.trim() : element(id).value);
 const bytesOf = (id) => (/\p{Surrogate}/u.test(valueOf(id)) ? null : new TextEncoder().encode(valueOf(id)));
 
 // What the fields of a form give to its job.
@@ -87,17 +83,15 @@ const given = {
 // Runs a form's job and shows what it reports.
 function start(form) {
     const [values, isNew] = [given[form.id](), form.id === 'make'];
-    if (isNew) element('made').hidden = true;
     if (Object.values(values).includes(null)) say(form, 'bad character: half of one has no bytes', 'refused');
     else running = { form, worker: work(form.id, values, ({ reason, cost, time, out, isLast, failure }) => {
         if (!isLast) return cost && showProgress(form, { method: values.method, cost });
         const [isHashed, rate] = [reason > 0 || reason === DIFFERS, rates[values.method]];
-        if (isHashed && rate && time > rate.time) rate.time = time * rate.cost / cost;
-        tellEstimate();
         const takes = rate && (isHashed ? `, ${shown(time)}` : `, which takes about ${shown(expected(values.method, cost))}`);
         const price = cost ? ` Cost: ${cost} bytes${takes ?? ''}.` : '';
         if (isNew) for (const place of document.querySelectorAll('.hash')) place.textContent = new TextDecoder().decode(out);
         if (isNew) element('made').hidden = reason !== DONE;
+        for (const place of document.querySelectorAll('#made [role=status]')) place.textContent = '';
         return end(failure ?? `${WORDS[reason]}.${price}`, reason > 0 ? 'good' : 'refused');
     }) };
 }
@@ -114,7 +108,7 @@ const clicks = {
     },
     copy(button, id) {
         getSelection().selectAllChildren(element(id));
-        say(element('make'), document.execCommand('copy') ? 'Copied.' : 'Selected: copy it with Ctrl+C.', 'good');
+        button.nextElementSibling.textContent = document.execCommand('copy') ? 'Copied.' : 'Selected: copy it with Ctrl+C.';
     },
 };
 
@@ -127,11 +121,16 @@ for (const form of document.forms) {
         event.preventDefault();
         if (!running) start(form);
     });
+    form.addEventListener('input', () => {    // what was told is no longer of what stands in the fields
+        tellEstimate();
+        if (running?.form === form) end('Stopped.');
+        else say(form, '');
+        element('made').hidden ||= form.id === 'make';
+    });
 }
 for (const method of isSupported ? [6, 5, 1] : []) {
     work('measure', { method }, (data) => { rates[method] = data; tellEstimate(); });
 }
-for (const id of ['method', 'rounds']) element(id).addEventListener('input', tellEstimate);
 document.addEventListener('click', ({ target }) => {
     const button = target.closest('button');
     for (const [name, value] of Object.entries(button?.dataset ?? {})) clicks[name](button, value);
