@@ -7,10 +7,10 @@
  * Each call returns 1 for yes or success: the password matches, the stored hash is outdated, the cost is reported, or `out`
  * has what was asked for. A 0 covers everything else: a wrong password, a locked account, an empty or malformed field,
  * another scheme, a hash that costs too much, no memory. The report says which (`reason`). Every call that has a report
- * writes all of it, whatever it held before. If several refusals apply, the first one in this order is reported: password,
- * setting, method, cost, budget, room in `out`, random words, memory; by mkpasswd_login() password, method, cost, field,
- * budget, memory. Test the result, and not the reason alone: it is never
- * 0, so `if (report.reason)` lets everybody in.
+ * writes all of it, also over the reason of an earlier call. If several refusals apply, the first one in this order is
+ * reported: password, setting, method, cost, budget, room in `out`, random words, memory; by mkpasswd_login() password,
+ * method, cost, field, budget, memory. Test the result, and not the reason alone: it is never 0, so `if (report.reason)` lets
+ * everybody in.
  *
  * After a 0, mkpasswd_new(), mkpasswd_hash() and mkpasswd_setting() leave the string "*0" in `out` ("*1" if the given
  * setting begins with "*0"), cut to the room there is. No password matches it, so with 3 bytes of room or more a caller who
@@ -50,21 +50,27 @@ extern "C" {
 
 /* gcc and clang warn about an ignored result. clang, and gcc with -Wall, also warn about a null that they see, and about a
  * comparison of a _str call's result that always or never holds. gcc warns about an `out` that it sees to have less room than
- * the call is told. */
+ * the call is told. Input isn't declared nonnull: a compiler could then drop a caller's own test for null behind a call. */
 #if defined __GNUC__ || defined __clang__
 #define MKPASSWD_EXPORT __attribute__((visibility("default"), nothrow))
 #define MKPASSWD_CHECKED __attribute__((warn_unused_result))
-#define MKPASSWD_NONNULL __attribute__((nonnull))
-#if defined __GNUC__ && __GNUC__ >= 10
+#define MKPASSWD_NONNULL(place) __attribute__((nonnull(place)))
+#if defined __clang__
+#define MKPASSWD_READS(bytes, place, len) __attribute__((diagnose_if(!bytes, "null where nonnull is wanted", "warning")))
+#define MKPASSWD_WRITES(out, len)
+#elif __GNUC__ >= 10
+#define MKPASSWD_READS(bytes, place, len) __attribute__((access(read_only, place, len)))
 #define MKPASSWD_WRITES(out, len) __attribute__((access(write_only, out, len)))
 #else
+#define MKPASSWD_READS(bytes, place, len)
 #define MKPASSWD_WRITES(out, len)
 #endif
 #else
+#define MKPASSWD_READS(bytes, place, len)
 #define MKPASSWD_WRITES(out, len)
 #define MKPASSWD_EXPORT
 #define MKPASSWD_CHECKED
-#define MKPASSWD_NONNULL
+#define MKPASSWD_NONNULL(place)
 #endif
 
 /* The version: 10000 * major + 100 * minor + patch. */
@@ -76,11 +82,12 @@ extern "C" {
 /* The longest password, in bytes. */
 #define MKPASSWD_PASSWORD_LIMIT 1024
 
-/* A budget for a login. It admits what mkpasswd_new() makes at cost 0 with any method, for any password, and SHA-crypt
- * with up to 75,000 rounds for any password, sha512crypt with 656,000 rounds for passwords of up to 82 bytes, SHA-crypt
- * with 1,000,000 rounds for passwords of up to 40 bytes. On one core of 2.5 GHz a hash of this cost takes some 2 seconds
- * with sha256crypt, 1 with sha512crypt, 0.2 with scrypt. scrypt, which alone needs memory, takes at most half as many bytes
- * as the budget for each call at the same time, and 64 MiB at its own cost. */
+/* A budget for a login. It admits what mkpasswd_new() makes at cost 0 with any method, for any password, and SHA-crypt with
+ * up to 75,000 rounds for any password, sha512crypt with 656,000 rounds for passwords of up to 82 bytes, SHA-crypt with
+ * 1,000,000 rounds for passwords of up to 40 bytes. On one core of 2.5 GHz a hash of this cost takes some 2 seconds with
+ * sha256crypt, 1 with sha512crypt, 0.14 with scrypt. A budget of -1 is the greatest, and protects from nothing. scrypt, which
+ * alone needs memory, takes at most half as many bytes as the budget for each call at the same time, and 64 MiB at its own
+ * cost. */
 #ifdef __cplusplus
 #define MKPASSWD_BUDGET static_cast<uint64_t>(150000000)
 #else
@@ -143,8 +150,9 @@ typedef char mkpasswd_report_has_work_at_16[offsetof(struct mkpasswd_report, wor
 
 /* Returns 1 exactly if the password matches the stored hash and that hash costs at most `budget`; with scrypt it may run
  * out of memory and return 0 instead. A budget of 0 lets nobody in. Above the budget nothing is hashed. */
-MKPASSWD_EXPORT MKPASSWD_CHECKED MKPASSWD_NONNULL int32_t mkpasswd_verify(const uint8_t *password, size_t password_len,
-    const uint8_t *stored, size_t stored_len, uint64_t budget, struct mkpasswd_report *report);
+MKPASSWD_EXPORT MKPASSWD_CHECKED MKPASSWD_NONNULL(6) int32_t mkpasswd_verify(const uint8_t *password, size_t password_len,
+    const uint8_t *stored, size_t stored_len, uint64_t budget, struct mkpasswd_report *report)
+    MKPASSWD_READS(password, 1, 2) MKPASSWD_READS(stored, 3, 4);
 
 /* Checks the password of a login. If method and cost are valid, it returns 1 exactly if mkpasswd_verify() with this budget
  * does. The reason is then MKPASSWD_FITS, or MKPASSWD_OUTDATED if mkpasswd_needs_rehash() with this method and cost returns 1
@@ -161,8 +169,9 @@ MKPASSWD_EXPORT MKPASSWD_CHECKED MKPASSWD_NONNULL int32_t mkpasswd_verify(const 
  * A refused password, method or cost is refused at once, whatever the field is. Any other wrong password costs what the
  * stored hash costs, even one that was cut. So hashes with another cost, or with a shorter salt than mkpasswd_new() makes,
  * take another time; only outdated ones are ever replaced. */
-MKPASSWD_EXPORT MKPASSWD_CHECKED MKPASSWD_NONNULL int32_t mkpasswd_login(const uint8_t *password, size_t password_len,
-    const uint8_t *field, size_t field_len, uint32_t method, uint32_t cost, uint64_t budget, struct mkpasswd_report *report);
+MKPASSWD_EXPORT MKPASSWD_CHECKED MKPASSWD_NONNULL(8) int32_t mkpasswd_login(const uint8_t *password, size_t password_len,
+    const uint8_t *field, size_t field_len, uint32_t method, uint32_t cost, uint64_t budget, struct mkpasswd_report *report)
+    MKPASSWD_READS(password, 1, 2) MKPASSWD_READS(field, 3, 4);
 
 /* Hashes a new password, with a salt from getentropy(3), and puts the hash and a byte 0 into `out`; MKPASSWD_TEXT_SIZE
  * bytes are enough. `cost` is as in `mkpasswd -R`: the rounds of SHA-crypt; 6 to 11 for scrypt, for N = 2^(cost+7), r = 32
@@ -171,36 +180,37 @@ MKPASSWD_EXPORT MKPASSWD_CHECKED MKPASSWD_NONNULL int32_t mkpasswd_login(const u
  * Rounds other than 0 and 1000 to 999999999 are refused, here and by mkpasswd_login(). The formats clamp them, and so do the
  * command and all other calls; but a service whose cost is 12, as bcrypt's may be, should hear of it before it stores a hash
  * that is cheap to guess. */
-MKPASSWD_EXPORT MKPASSWD_CHECKED MKPASSWD_NONNULL MKPASSWD_WRITES(6, 7) int32_t mkpasswd_new(const uint8_t *password,
-    size_t password_len, uint32_t method, uint32_t cost, uint64_t budget, uint8_t *out, size_t out_len,
-    struct mkpasswd_report *report);
+MKPASSWD_EXPORT MKPASSWD_CHECKED MKPASSWD_NONNULL(6) MKPASSWD_NONNULL(8) MKPASSWD_WRITES(6, 7)
+int32_t mkpasswd_new(const uint8_t *password, size_t password_len, uint32_t method, uint32_t cost, uint64_t budget,
+    uint8_t *out, size_t out_len, struct mkpasswd_report *report) MKPASSWD_READS(password, 1, 2);
 
 /* Returns 1 exactly if the stored hash has a valid setting and one with this method and cost would replace it: the method is
  * another one, or it is the same with more rounds, which are clamped here, or for scrypt with a greater N * r * p. */
-MKPASSWD_EXPORT MKPASSWD_CHECKED MKPASSWD_NONNULL int32_t mkpasswd_needs_rehash(const uint8_t *stored, size_t stored_len,
-    uint32_t method, uint32_t cost, struct mkpasswd_report *report);
+MKPASSWD_EXPORT MKPASSWD_CHECKED MKPASSWD_NONNULL(5) int32_t mkpasswd_needs_rehash(const uint8_t *stored, size_t stored_len,
+    uint32_t method, uint32_t cost, struct mkpasswd_report *report) MKPASSWD_READS(stored, 1, 2);
 
 /* Reports the greatest cost and work of a hash with the setting in a stored hash, for any password of the given length.
  * It hashes nothing; `work` is the bound of each count. */
-MKPASSWD_EXPORT MKPASSWD_CHECKED MKPASSWD_NONNULL int32_t mkpasswd_bound(const uint8_t *stored, size_t stored_len,
-    size_t password_len, struct mkpasswd_report *report);
+MKPASSWD_EXPORT MKPASSWD_CHECKED MKPASSWD_NONNULL(4) int32_t mkpasswd_bound(const uint8_t *stored, size_t stored_len,
+    size_t password_len, struct mkpasswd_report *report) MKPASSWD_READS(stored, 1, 2);
 
 /* Hashes a password with the setting in a text, which may be a stored hash, as crypt(3) does. It is for a crypt(3) and for
  * tests: a login is mkpasswd_verify(), and a new password mkpasswd_new(). */
-MKPASSWD_EXPORT MKPASSWD_CHECKED MKPASSWD_NONNULL MKPASSWD_WRITES(6, 7) int32_t mkpasswd_hash(const uint8_t *password,
-    size_t password_len, const uint8_t *setting, size_t setting_len, uint64_t budget, uint8_t *out, size_t out_len,
-    struct mkpasswd_report *report);
+MKPASSWD_EXPORT MKPASSWD_CHECKED MKPASSWD_NONNULL(6) MKPASSWD_NONNULL(8) MKPASSWD_WRITES(6, 7)
+int32_t mkpasswd_hash(const uint8_t *password, size_t password_len, const uint8_t *setting, size_t setting_len,
+    uint64_t budget, uint8_t *out, size_t out_len, struct mkpasswd_report *report)
+    MKPASSWD_READS(password, 1, 2) MKPASSWD_READS(setting, 3, 4);
 
 /* Puts a setting into `out` whose salt is made of three random words of the caller; method and cost are those of
  * mkpasswd_new(), but rounds are clamped. It is for tests and for systems with a random source of their own. */
-MKPASSWD_EXPORT MKPASSWD_CHECKED MKPASSWD_NONNULL MKPASSWD_WRITES(6, 7) int32_t mkpasswd_setting(uint32_t method,
-    uint32_t cost, uint64_t first, uint64_t second, uint64_t third, uint8_t *out, size_t out_len,
-    struct mkpasswd_report *report);
+MKPASSWD_EXPORT MKPASSWD_CHECKED MKPASSWD_NONNULL(6) MKPASSWD_NONNULL(8) MKPASSWD_WRITES(6, 7)
+int32_t mkpasswd_setting(uint32_t method, uint32_t cost, uint64_t first, uint64_t second, uint64_t third, uint8_t *out,
+    size_t out_len, struct mkpasswd_report *report);
 
 /* Puts the message for a reason and a byte 0 into `out`, and returns 1. For any other number it puts "unknown reason" and
  * returns 0. If the room is too small, it puts as much as there is room for, with the byte 0, and returns 0. So whatever
  * it returns, `out` holds a string, unless it has no room at all. */
-MKPASSWD_EXPORT MKPASSWD_NONNULL MKPASSWD_WRITES(2, 3) int32_t mkpasswd_words(int32_t reason, uint8_t *out,
+MKPASSWD_EXPORT MKPASSWD_NONNULL(2) MKPASSWD_WRITES(2, 3) int32_t mkpasswd_words(int32_t reason, uint8_t *out,
     size_t out_len);
 
 /* MKPASSWD_VERSION of the library that is linked. */
@@ -295,6 +305,7 @@ MKPASSWD_WRITES(2, 3) static inline bool mkpasswd_words_str(int32_t reason, char
 #undef MKPASSWD_EXPORT
 #undef MKPASSWD_CHECKED
 #undef MKPASSWD_NONNULL
+#undef MKPASSWD_READS
 #undef MKPASSWD_WRITES
 
 #ifdef __cplusplus

@@ -16,7 +16,7 @@ my $install = run({ dir => $root, env => { DESTDIR => $installed, PREFIX => '/us
 BAIL_OUT("nothing is installed: $install->{err}") if $install->{status};
 my $header = slurp("$include/mkpasswd.h");
 my %defined = $header =~ /^#define MKPASSWD_(\w+) \(*(?:uint64_t\))?(-?\d+)\)?/mg;
-my @declared = sort $header =~ /^MKPASSWD_EXPORT.*?int32_t (mkpasswd_\w+)\(/mg;
+my @declared = sort $header =~ /^MKPASSWD_EXPORT[^;]*?int32_t (mkpasswd_\w+)\(/mg;
 my ($cc, $most, $budget) = ($ENV{CC} || 'cc', 18446744073709551615, $defined{BUDGET});
 my @static = ("-I$include", "$libs/libmkpasswd.a");
 my @shared = ("-I$include", "-L$libs", "-Wl,-rpath,$libs", '-lmkpasswd');
@@ -425,6 +425,17 @@ subtest 'warnings' => sub {
     my @constant = map { ["if (mkpasswd_verify_str(\"\", \"\", 1, &report) $_) return 1;", qr/comparison of constant/] }
         '< 0', '== MKPASSWD_DONE', '>= 0', '!= MKPASSWD_DIFFERS';
     my @right = map { ["if (mkpasswd_$_) return 1;", ''] } @strings, 'words_str(-1, NULL, 0)', 'verify_str("", "", MKPASSWD_BUDGET, &report)';
+    # A caller's own test behind a call. Without arguments the first is null.
+    spew("$scratch/null.c", <<'END');
+#include <mkpasswd.h>
+int main(int count, char **argument)
+{
+    struct mkpasswd_report report;
+    const uint8_t *field = (const uint8_t *)argument[1];
+    int is_in = mkpasswd_login(field, 0, field, 0, 6, 1000, 0, &report);
+    return count == 1 && !field ? 0 : 1 + is_in;
+}
+END
     for my $compiler (qw(gcc clang g++ clang++)) {
         needs($compiler => $compiler =~ s/clang\K\+\+//r) or next;
         my @wanted = (@rows, ($compiler =~ /^g/ ? map { ["if (mkpasswd_$_) return 1;", qr/writing 145 bytes into a region of size 64/] } @long : ()), @right, @constant);
@@ -435,6 +446,8 @@ subtest 'warnings' => sub {
         }
         is(join('', told($compiler, map { $_->[0] } @right)), '', "$compiler: strings may be null");
         is(run("$scratch/told")->{status}, 0, "$compiler: and then no call does anything");
+        my @optimized = (qw(-O2 -x), $compiler =~ /\+/ ? 'c++' : 'c', "$scratch/null.c", '-x', 'none', @static, '-o', "$scratch/null");
+        is_run(run($compiler, @optimized), 0, '', '', "$compiler: a test for null builds") and is(run("$scratch/null")->{status}, 0, "$compiler keeps it");
     }
 };
 

@@ -224,7 +224,7 @@ subtest 'environment' => sub {
 };
 
 subtest 'memory and time' => sub {
-    my $child = begin_with("first:x\n" . ":\n" x 1_000_000, $script, qw(--jobs 2 --batch -m sha512crypt -R 6000000 -S ab));
+    my $child = begin_with("first:x\n" . ":\n" x 1_000_000, $script, qw(--jobs 2 --batch -m sha512crypt -R 20000000 -S ab));
     my $most = 0;
     while (!waitpid $child, POSIX::WNOHANG) {
         $most = $1 if (eval { slurp("/proc/$child/status") } // '') =~ /^VmHWM:\s+(\d+)/m;
@@ -281,6 +281,7 @@ subtest 'machines' => sub {
     my $loss = 'echo > out; (until test $(wc -l < out) -gt 9; do sleep 0.1; done; ip link set v1 down) & exec "$@" > out';
     my $lost = $on_both->($loss, $script, '--jobs', 1, @hosts, @dear);
     cmp_ok(time - $begun, '>', 9, 'one of two machines is lost: it was lost before the end');
+    is($lost->{err} =~ s/^mkpasswd-parallel: 10\.0\.1\.2: status 255; others answer its lines\n//mg, 2, 'it says so of each process');
     is_run({ %$lost, out => slurp("$scratch/out") }, @{ run({ stdin => $slow_lines }, $program, @dear) }{qw(status out err)}, 'it is lost');
     my $all = $on_both->($loss, $script, qw(--jobs 0), @hosts[0, 1], @dear);
     like($all->{err}, qr/^mkpasswd-parallel: 10\.0\.1\.2: status 255; answered up to line \d+; /m, 'the only machine is lost');

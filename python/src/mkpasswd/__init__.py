@@ -9,7 +9,7 @@ False
 
 The C library of mkpasswd, whose calls are proved, does the hashing. It knows the cost of a hash before it makes one, so
 a stored hash that would take minutes is refused at once. What a hash may cost by default, DEFAULT_BUDGET, is 150,000,000:
-on one core of 2.5 GHz one second of sha512crypt, two of sha256crypt, or 0.2 of scrypt.
+on one core of 2.5 GHz one second of sha512crypt, two of sha256crypt, or 0.14 of scrypt.
 
 A password or a stored hash is bytes, or a str, which is encoded as UTF-8. A new hash is always a str. A password that has
 a zero byte or a lone surrogate, or more than 1,024 bytes, raises ValueError. No exception has the password in it.
@@ -198,7 +198,7 @@ def verify(password: Text, stored: Text, *, budget: float = DEFAULT_BUDGET) -> b
     False
 
     Raises TooCostly, before anything is hashed, if the stored hash costs more than the budget, which by default is one
-    second of sha512crypt on one core of 2.5 GHz, two of sha256crypt or 0.2 of scrypt; Refused if it is not one of these
+    second of sha512crypt on one core of 2.5 GHz, two of sha256crypt or 0.14 of scrypt; Refused if it is not one of these
     methods or has no valid setting; MemoryError. math.inf is a budget without a limit.
 
     >>> verify("password", "$6$rounds=999999999$salt$x")
