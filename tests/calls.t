@@ -525,39 +525,28 @@ subtest 'examples' => sub {
     }
     my $current = crypt 'password', '$6$rounds=656000$ab';
     my ($first, $rest) = marked('login in C', 'c') =~ /\A(#include [^\n]*\n)(.*)\z/s;
-    spew("$scratch/readme.c", ($first // '') . <<'END' . ($rest // '') . <<'END');
+    spew("$scratch/readme.c", ($first // '') . <<'END' . ($rest // '') =~ s/mkpasswd_login_str\(/told(/r . <<'END');
 #include <stdio.h>
 static void replace(const char *field, const char *hash) { printf("%s %s\n", field, hash); }
-bool login(const char *password, const char *field);
-END
-int main(int argc, char **argv) { return !login(argv[1], argc > 2 ? argv[2] : NULL); }
-END
-    if (my $program = build('readme', $cc, '-std=c99', @strict, "$scratch/readme.c", @static)) {
-        is_run(run($program, 'password', $current), 0, '', '', 'login in C: a match');
-        my ($old, $new) = run($program, 'password', $fixed)->{out} =~ /\A(\S+) (\$6\$rounds=656000\$\S+)\n\z/;
-        is_deeply([$old, $new], [$fixed, crypt 'password', $new // ''], 'login in C: a match that is outdated');
-        is_run(run($program, 'password', @$_), 1, '', '', "login in C: '@$_'") for [], ["!$fixed"], [$empty], ['$6$rounds=999999999$ab$x'];
-    }
-    my ($include, $login) = marked('service in C', 'c') =~ /\A(#include [^\n]*\n)(.*)\z/s;
-    spew("$scratch/service.c", ($include // '') . <<'END' . ($login // '') =~ s/mkpasswd_login_str\(/told(/r . <<'END');
-#include <stdio.h>
 static bool told(const char *password, const char *field, uint32_t method, uint32_t cost, uint64_t budget, struct mkpasswd_report *report)
 {
-    struct mkpasswd_report own;
-    bool is_in = mkpasswd_login_str(password, field, method, cost, budget, report = report ? report : &own);
-    printf("%llu\n", (unsigned long long)report->work.digests);
+    bool is_in = mkpasswd_login_str(password, field, method, cost, budget, report);
+    fprintf(stderr, "%llu\n", (unsigned long long)report->work.digests);
     return is_in;
 }
-int login(const char *password, const char *field);
+bool login(const char *password, const char *field);
 END
 int main(int argc, char **argv) { return !login(strcmp(argv[1], "null") ? argv[1] : NULL, argc > 2 ? argv[2] : NULL); }
 END
-    if (my $program = build('service', $cc, '-std=c99', @strict, "$scratch/service.c", @static)) {
+    if (my $program = build('readme', $cc, '-std=c99', @strict, "$scratch/readme.c", @static)) {
         my $all = run($program, 'password', $current);
-        ok($all->{status} == 0 && $all->{out} > 656_000, 'service in C: the right password');
-        is_run(run($program, 'passw0rd', @$_), 1, $all->{out}, '', "service in C: '@$_'")
+        ok($all->{status} == 0 && $all->{out} eq '' && $all->{err} > 656_000, 'login in C: a match');
+        my ($old, $new) = run($program, 'password', $fixed)->{out} =~ /\A(\S+) (\$6\$rounds=656000\$\S+)\n\z/;
+        is_deeply([$old, $new], [$fixed, crypt 'password', $new // ''], 'login in C: a match that is outdated');
+        is(run($program, 'password', $empty)->{status}, 1, 'login in C: the hash of another password');
+        is_run(run($program, 'passw0rd', @$_), 1, '', $all->{err}, "login in C: '@$_'")
             for [$current], [], [''], ["!$fixed"], ['*'], ['$y$x'], ['$6$rounds=999999999$ab$x'];
-        is_run(run($program, @$_), 1, "0\n", '', "service in C: '@$_'") for map { ['null', @$_], ['a' x 1025, @$_] } [], [$current];
+        is_run(run($program, @$_), 1, '', "0\n", "login in C: '@$_'") for map { ['null', @$_], ['a' x 1025, @$_] } [], [$current];
     }
     needs(python3 => 'python3') or return;
     mkdir "$scratch/broken";

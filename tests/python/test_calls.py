@@ -304,7 +304,7 @@ def test_budgets():
             raised = error_of(call, "password", MD5, budget=budget)
             for error in raised, copy.copy(raised), pickle.loads(pickle.dumps(raised)):
                 assert (type(error), error.reason, error.cost, error.budget) == (TooCostly, Reason.OVER_BUDGET, most, budget)
-                assert str(error) == "over budget: cost %d, budget %d" % (most, budget)
+                assert str(error) == "over budget: more than %d" % budget
     assert error_of(verify, "password", COSTLY).budget == mkpasswd.DEFAULT_BUDGET == 150_000_000
     assert type(error_of(hash, "x" * 1000, rounds=1_000_000)) is TooCostly
 

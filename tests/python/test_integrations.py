@@ -1,10 +1,12 @@
 """The recipes of docs/PYTHON.md do what they say, and Ansible and Flask take the package."""
 import asyncio
+import contextlib
 import json
 import os
 import re
 import secrets
 import sqlite3
+from concurrent.futures import ThreadPoolExecutor
 
 import mkpasswd
 import pytest
@@ -62,13 +64,16 @@ def test_recipe_of_asyncio():
     assert asyncio.run(login("password", MD5)) and not asyncio.run(login("passw0rd", MD5))
 
 
-def test_recipe_of_flask(database):
+def test_recipe_of_flask(database, tmp_path, monkeypatch):
     flask = needs("flask", "python3-flask")
     app = flask.Flask("test")
-    recipe("Flask", app=app, flask=flask, database=database, login=recipe("A whole login")["login"])
+    monkeypatch.chdir(tmp_path)
+    database.backup(sqlite3.connect("users.db"))
+    recipe("Flask", app=app, flask=flask, contextlib=contextlib, sqlite3=sqlite3, login=recipe("A whole login")["login"])
+    in_thread = ThreadPoolExecutor(1).submit
 
     def post(**form):
-        return app.test_client().post("/login", data=form).status_code
+        return in_thread(app.test_client().post, "/login", data=form).result().status_code
 
     assert post(name="ann", password="password") == 200
     for name in "ann", "bob", "eve", "nobody":

@@ -87,7 +87,7 @@ class Refused(ValueError):
 
 
 class TooCostly(Refused):
-    """What was asked for can cost `cost`, and the budget is `budget`. Nothing was hashed."""
+    """What was asked for can cost `cost`, and the budget is `budget`. Nothing was hashed. str() leaves the cost out."""
 
     def __init__(self, cost: int, budget: int) -> None:
         super().__init__(Reason.OVER_BUDGET)
@@ -96,7 +96,8 @@ class TooCostly(Refused):
         self.budget = budget
 
     def __str__(self) -> str:
-        return "%s: cost %d, budget %d" % (self.reason.words, self.cost, self.budget)
+        # Not the cost, which depends on the length of the password: frameworks log this.
+        return "%s: more than %d" % (self.reason.words, self.budget)
 
 
 class Verdict(NamedTuple):
@@ -160,10 +161,11 @@ def login(
     >>> bool(login("password", None))
     False
 
-    Nothing that a user can type or a database can hold raises an exception: a password that no hash can have, a locked or
+    Nothing that a user can type or a database can hold as str or bytes raises an exception: a password that no hash can have, a locked or
     malformed field, another scheme, a hash that costs more than the budget, and too little memory for scrypt are all false.
     A field that can't be checked costs what a new hash costs, so the time does not tell which names exist, as long as all
-    hashes have this method and these rounds. A password that no hash can have is refused at once, for every name.
+    hashes have this method, these rounds and a salt as long as hash() makes. A password that no hash can have is refused at
+    once, for every name.
 
     The check and the new hash may cost as much as the budget each. If the new hash costs more, or the system has no memory
     or no random bytes for it, `new` is None and the old hash stays.
@@ -204,7 +206,7 @@ def verify(password: Text, stored: Text, *, budget: float = DEFAULT_BUDGET) -> b
     >>> verify("password", "$6$rounds=999999999$salt$x")
     Traceback (most recent call last):
         ...
-    mkpasswd.TooCostly: over budget: cost 81523810716, budget 150000000
+    mkpasswd.TooCostly: over budget: more than 150000000
     """
     word, field, limit = _password(password), _bytes(stored, "stored"), _limit(budget)
     return not _is_locked(field) and _matches(word, field, limit)
