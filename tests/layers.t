@@ -23,7 +23,8 @@ my %dependencies = (
     crypt_core => 'arrayvec kdf_core prims_core rand_core thiserror',
     run_core => 'arrayvec crypt_core itoa prims_core rand_core thiserror',
     mkpasswd => 'arrayvec clap crypt_core itoa prims_core rand_core run_core thiserror', program => 'mkpasswd prims_core rand',
-    crypt_c => 'crypt_core prims_core', crypt_web => 'arrayvec crypt_core prims_core', service => 'crypt_core',
+    call_core => 'crypt_core prims_core', crypt_c => 'call_core crypt_core prims_core',
+    crypt_web => 'arrayvec call_core crypt_core prims_core', service => 'crypt_core',
 );
 
 # The implementations of Counted, by file: the digest's crate and its type there. What is called there, as often as here: the

@@ -1,5 +1,3 @@
 pub mod Logins
 pub mod NewHashes
-pub mod Putting
-pub mod ReasonNumbers
 pub mod Verdicts

@@ -1,5 +1,5 @@
 -- What the report of a login says of its password and the stored hash.
-use Rattle.std.proofs.Common.{◌≡◌, ◌<◌, ◌≤◌, ◌⊎◌, ℕ, Bool, Err, Some, List, length, nat_lt, if◌then◌else◌, false, true, ap, inl, inr, refl, sym, subst, arith}
+use Rattle.std.proofs.Common.{◌≡◌, ◌<◌, ◌≤◌, ◌⊎◌, ℕ, Bool, Some, List, length, nat_lt, if◌then◌else◌, false, true, ap, inl, inr, refl, sym, subst, arith}
 use Rattle.std.specs.Prelude.{IsTrue, MatchBool}
 use Rattle.std.specs.Str.{bytes_eq}
 use Rattle.prims_core.specs.Work.{no_work}
@@ -14,24 +14,17 @@ use Rattle.crypt_core.specs.declared.method.Method.{Method}
 use Rattle.crypt_core.specs.declared.password.PasswordFault.{PasswordFault}
 use Rattle.crypt_core.specs.declared.password.PasswordFault.TheVariants.{TooLong, HasNul}
 use Rattle.crypt_core.specs.declared.scheme.Scheme.{Scheme}
-use Rattle.crypt_c.specs.Calls.{Agrees, Compares, Declines, IsHashWork, IsSchemeMade, IsUncheckable, LogsIn, TakesNewCost, Verifies, decoy}
-use Rattle.crypt_c.specs.Private.Steps.{IsSchemeReading}
-use Rattle.crypt_c.specs.Reports.{LacksMemory, refused, reported}
-use Rattle.crypt_c.specs.declared.reason.Reason.{Reason}
-use Rattle.crypt_c.specs.declared.reason.Reason.TheVariants.{Fits, Outdated, Refused}
-use Rattle.crypt_c.specs.declared.reason.Refusal.{Refusal}
-use Rattle.crypt_c.specs.declared.reason.Refusal.TheVariants.{Differs, OverBudget, Password, Setting}
-use Rattle.crypt_c.specs.declared.report.Report.{Report}
-use Rattle.crypt_c.proofs.Verdicts.{made_once}
+use Rattle.call_core.specs.Arguments.{IsSchemeMade, TakesNewCost}
+use Rattle.call_core.specs.CommonCalls.{Compares, Verifies}
+use Rattle.call_core.specs.Reports.{LacksMemory, refused, reported}
+use Rattle.call_core.specs.declared.reason.Reason.{Reason}
+use Rattle.call_core.specs.declared.reason.Reason.TheVariants.{Fits, Outdated, Refused}
+use Rattle.call_core.specs.declared.reason.Refusal.TheVariants.{Differs, OverBudget, Password, Setting}
+use Rattle.call_core.specs.declared.report.Report.{Report}
+use Rattle.call_core.proofs.Verdicts.{made_once}
+use Rattle.crypt_c.specs.Calls.{Agrees, Declines, IsHashWork, IsUncheckable, LogsIn, decoy}
 
 -- ---- The report, by the branches of a login
-
-pub refused_scheme : (password field : List ℕ) (number price budget : ℕ) (refusal : Refusal) (report : Report)
-    → IsPassword password → IsSchemeReading TakesNewCost number price (Err refusal) → report ≡ refused refusal 0
-    → LogsIn password field number price budget report
-refused_scheme password field number price budget refusal report is (inl (kind, none)) e = inl (is, inr (inl (none, rw kind at e)))
-refused_scheme password field number price budget refusal report is (inr (kind, (method, named, never))) e =
-    inl (is, inr (inr (method, named, never, rw kind at e)))
 
 pub over : (password field : List ℕ) (number price budget : ℕ) (scheme : Scheme) (kept : SettingValue) (report : Report)
     → IsPassword password → IsSchemeMade TakesNewCost number price scheme → Spells field kept → budget < cost kept (length password)

@@ -1,4 +1,2 @@
 pub mod Calls
 pub mod Private
-pub mod Reasons
-pub mod Reports

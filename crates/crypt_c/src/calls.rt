@@ -3,24 +3,27 @@
 //! A step that can hash takes a new meter, and its report has all that this meter counted. So it hashes nothing that it
 //! does not report: nothing above the budget, without capacity for the hash, or after a refusal. tests/layers.t checks
 //! that it makes no other meter.
-ghost use Rattle.std.specs.Prelude.{◌≡◌, ◌⊎◌, ◌<◌, ◌≤◌, ◌<ℤ◌, pos, List, [], Result, length, take, IfOk, IfErr, IsTrue, MatchBool, MatchResult, OnErr, OnOk};
+ghost use Rattle.std.specs.Prelude.{◌≡◌, ◌⊎◌, ◌<◌, ◌≤◌, ◌<ℤ◌, pos, [], Result, length, take, IfOk, IfErr, OnErr, OnOk};
 ghost use Rattle.prims_core.specs.Work.{no_work};
 ghost use Rattle.crypt_core.specs.Crypt.{IsAfterRefusedGrowth, crypt};
 ghost use Rattle.crypt_core.specs.Settings.{Spells};
 ghost use Rattle.crypt_core.specs.Work.{cost, work};
 ghost use Rattle.crypt_core.specs.declared.scheme.Scheme.{Scheme as Made};
-ghost use Rattle.crypt_c.specs.Calls.{Bounds, Compares, Hashes, HashesAnew, IsHashWork, IsOutdated, IsSchemeMade, LogsIn, Opens, PutsSetting, Rehashes, TakesNewCost, Verifies, admission};
-ghost use Rattle.crypt_c.specs.Private.Steps.{IsPut, IsTold, MakesHash, MakesHashAnew, MakesHashOf};
-ghost use Rattle.crypt_c.specs.Reasons.{reason_row};
-ghost use Rattle.crypt_c.specs.Reports.{either, put, refused, token};
+ghost use Rattle.call_core.specs.Arguments.{IsSchemeMade, TakesNewCost};
+ghost use Rattle.call_core.specs.CommonCalls.{Bounds, Compares, Hashes, Opens, PutsSetting, Verifies, admission};
+ghost use Rattle.call_core.specs.Private.Steps.{IsPut, IsTold, MakesHash, MakesHashOf};
+ghost use Rattle.call_core.specs.Reasons.{reason_row};
+ghost use Rattle.call_core.specs.Reports.{either, put, refused, token};
+ghost use Rattle.crypt_c.specs.Calls.{HashesAnew, IsHashWork, IsOutdated, LogsIn, Rehashes};
+ghost use Rattle.crypt_c.specs.Private.Steps.{MakesHashAnew};
 
-use crate::reading::{new_scheme_of, scheme_of};
-use crate::reason::{Reason, Refusal};
-use crate::report::{Report, leave, token};
-use crypt_core::hash::{HashFault, Hashed, hash, hash_len};
-use crypt_core::password::{PASSWORD_LIMIT, Password, PasswordFault};
+use call_core::reading::{new_scheme_of, scheme_of};
+use call_core::reason::{Reason, Refusal};
+use call_core::report::{NO_WORK, Report, leave, token};
+use call_core::steps::{admit, cost_within};
+use crypt_core::hash::{HashFault, Hashed, hash};
+use crypt_core::password::Password;
 use crypt_core::setting::Setting;
-use crypt_core::work::{bound, cost};
 use prims_core::meter::{Meter, Work};
 use std::alloc::Global;
 
@@ -291,30 +294,6 @@ fn hash_within(
     }
 }
 
-// Returns the cost, if the budget and then the capacity allow the hash, or else the report of the refusal.
-fn admit(password: &Password, setting: &Setting, budget: u64, room: usize) -> Result<u64, Report>
-    ensures { result ≡ admission budget room password.now setting.now }
-{
-    let most = cost_within(password, setting, budget)?;
-    if hash_len(setting) >= room {
-        return Err(Report::refused(Refusal::TooFewBytes, most));
-    }
-    Ok(most)
-}
-
-// Returns the cost, if the budget allows the hash, or else the report of the refusal.
-fn cost_within(password: &Password, setting: &Setting, budget: u64) -> Result<u64, Report>
-    ensures within { IfOk result (λ most. (most ≡ cost setting.now (length password.now)) × (most ≤ budget)) }
-    ensures above { IfErr result (λ report. (budget < cost setting.now (length password.now))
-        × (report ≡ refused Refusal.OverBudget (cost setting.now (length password.now)))) }
-{
-    let most = cost(setting, password.bytes().len());
-    if most > budget {
-        return Err(Report::refused(Refusal::OverBudget, most));
-    }
-    Ok(most)
-}
-
 // Hashes, and returns the hash and its work, which is all that the meter has counted.
 fn counted_hash(
     alloc: Global,
@@ -335,19 +314,6 @@ fn counted_hash(
     (hashed, work)
 }
 
-/// Returns the report of the greatest cost and work of a hash with the setting in the text.
-pub(crate) fn tell_bound(password_len: usize, text: &[u8]) -> Result<Report, Report>
-    ensures bounds { Bounds password_len text.now (either result) }
-    ensures reserved { (either result).reserved ≡ 0 }
-{
-    if password_len > PASSWORD_LIMIT {
-        return Err(Report::from(PasswordFault::TooLong));
-    }
-    let setting = Setting::read(text)?;
-    let most = cost(&setting, password_len);
-    Ok(Report::new(Reason::Done, 0, most, bound(&setting, password_len)))
-}
-
 /// Returns the report on whether a hash with the method and the cost would replace the stored one.
 pub(crate) fn tell_rehash(stored: &[u8], method: u32, cost: u32) -> Result<Report, Report>
     ensures rehashes { Rehashes stored.now method cost (either result) }
@@ -358,31 +324,8 @@ pub(crate) fn tell_rehash(stored: &[u8], method: u32, cost: u32) -> Result<Repor
     let setting = Setting::read(stored)?;
     let scheme = scheme_of(method, cost)?;
     if setting.scheme().is_replaced_by(&scheme) {
-        Ok(Report::without_work(Reason::Outdated, 0))
+        Ok(Report::new(Reason::Outdated, 0, 0, NO_WORK))
     } else {
         Err(Report::refused(Refusal::Current, 0))
     }
-}
-
-/// Writes the setting that three random numbers make to `out`, or after a refusal the token, and returns the report.
-pub(crate) fn put_setting(
-    method: u32,
-    cost: u32,
-    words: [u64; 3],
-    out: &mut [u8],
-) -> Result<Report, Report>
-    ensures puts { PutsSetting method cost words out.old (either result) out.new }
-    ensures locked { ¬ (pos 0 <ℤ (either result).reason) → out.new ≡ put (token []) out.old }
-    ensures reserved { (either result).reserved ≡ 0 }
-{
-    let scheme = match scheme_of(method, cost) {
-        Ok(scheme) => scheme,
-        Err(refusal) => return Err(leave(Report::from(refusal), out, token(b""))),
-    };
-    let text = Setting::salted(scheme, words).text();
-    if text.len() >= out.len() {
-        return Err(leave(Report::refused(Refusal::TooFewBytes, 0), out, token(b"")));
-    }
-    let report = Report::without_work(Reason::Done, text.len() as u32);
-    Ok(leave(report, out, text.as_slice()))
 }

@@ -9,30 +9,30 @@
 //! threads, so many threads may call at once.
 #![tactic(auto)]
 
-ghost use Rattle.std.specs.Prelude.{◌≡◌, ◌≢◌, ◌⊎◌, ◌↔◌, ◌<◌, ◌≤◌, pos, ℕ, List, [], ◌∷◌, length, take, codes};
+ghost use Rattle.std.specs.Prelude.{◌≡◌, ◌≢◌, ◌⊎◌, ◌↔◌, ◌<◌, ◌≤◌, pos, [], ◌∷◌, length, take, codes};
 ghost use Rattle.prims_core.specs.Work.{no_work};
 ghost use Rattle.crypt_core.specs.Passwords.{IsPassword, IsPasswordRefused};
 ghost use Rattle.crypt_core.specs.Settings.{SettingValue, Spells};
 ghost use Rattle.crypt_core.specs.declared.password.PasswordFault.{PasswordFault};
 ghost use Rattle.crypt_core.specs.declared.scheme.Scheme.{Scheme};
-ghost use Rattle.crypt_c.specs.Calls.{Agrees, Bounds, Hashes, HashesAnew, IsHashWork, IsOutdated, IsSchemeMade, IsUncheckable, LogsIn, Opens, PutsSetting, Rehashes, TakesNewCost, Verifies, decoy};
-ghost use Rattle.crypt_c.specs.Reasons.{reason_row};
-ghost use Rattle.crypt_c.specs.Reports.{Answers, put, refused, token};
-ghost use Rattle.crypt_c.specs.declared.reason.Reason.{Reason as Why};
-ghost use Rattle.crypt_c.specs.declared.reason.Reason.TheVariants.{Outdated, Refused};
-ghost use Rattle.crypt_c.specs.declared.reason.Refusal.TheVariants.{Current, OutOfMemory, Password};
-ghost use Rattle.crypt_c.specs.declared.report.Report.{Report as Told};
+ghost use Rattle.call_core.specs.Arguments.{IsSchemeMade, TakesNewCost};
+ghost use Rattle.call_core.specs.CommonCalls.{Bounds, Hashes, Opens, PutsSetting, Verifies};
+ghost use Rattle.call_core.specs.Reasons.{reason_row};
+ghost use Rattle.call_core.specs.Reports.{Answers, put, refused, token};
+ghost use Rattle.call_core.specs.declared.reason.Reason.{Reason as Why};
+ghost use Rattle.call_core.specs.declared.reason.Reason.TheVariants.{Outdated, Refused};
+ghost use Rattle.call_core.specs.declared.reason.Refusal.TheVariants.{Current, OutOfMemory, Password};
+ghost use Rattle.call_core.specs.declared.report.Report.{Report as Told};
+ghost use Rattle.crypt_c.specs.Calls.{Agrees, HashesAnew, IsHashWork, IsOutdated, IsUncheckable, LogsIn, Rehashes, decoy};
 
 mod calls;
-mod reading;
-mod reason;
-mod report;
 
-use calls::{log_in, put_hash, put_new_hash, put_setting, tell_bound, tell_rehash, verify};
+use call_core::reason::Reason;
+use call_core::report::{Report, put, tell};
+use call_core::steps::{put_setting, tell_bound};
+use calls::{log_in, put_hash, put_new_hash, tell_rehash, verify};
 use crypt_core::version::VERSION_NUMBER;
 use prims_core::meter::Meter;
-use reason::Reason;
-use report::{Report, put, tell};
 use std::alloc::Global;
 
 /// Returns 1 if the password matches the stored hash and its hash costs at most the budget.

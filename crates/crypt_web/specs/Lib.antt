@@ -1,3 +1,2 @@
+pub mod Private
 pub mod WebCalls
-pub mod WebReasons
-pub mod WebReports

@@ -9,17 +9,19 @@
 //! scrypt needs memory, so its hashes are refused with `OutOfMemory`.
 #![tactic(auto)]
 
-ghost use Rattle.std.specs.Prelude.{◌≡◌, ◌≢◌, ◌≤◌, pos, List, [], ◌∷◌, take};
+ghost use Rattle.std.specs.Prelude.{◌≡◌, ◌≢◌, ◌≤◌, pos, [], ◌∷◌, take};
+ghost use Rattle.prims_core.specs.Work.{no_work};
 ghost use Rattle.crypt_core.specs.Settings.{SettingValue, Spells};
-ghost use Rattle.crypt_web.specs.WebCalls.{Bounds, Hashes, Opens, PutsSetting, Verifies};
-ghost use Rattle.crypt_web.specs.WebReports.{Answers, put, token};
+ghost use Rattle.call_core.specs.CommonCalls.{Bounds, Hashes, Opens, PutsSetting, Verifies};
+ghost use Rattle.call_core.specs.Reports.{Answers, put, token};
+ghost use Rattle.crypt_web.specs.WebCalls.{NeedsNoMemory};
 
 mod calls;
-mod report;
 
-use calls::{put_hash, put_setting, tell_cost, verify};
+use call_core::report::{Report, tell};
+use call_core::steps::{put_setting, tell_bound};
+use calls::{put_hash, verify};
 use prims_core::meter::Meter;
-use report::{WebReport, tell};
 
 /// Checks a password against a stored hash. Returns 1 exactly if it matches and its hash costs at most the budget.
 ///
@@ -39,13 +41,14 @@ pub extern "C" fn web_verify(
     password: &[u8],
     stored: &[u8],
     budget: u64,
-    report: &mut WebReport,
+    report: &mut Report,
 ) -> i32
     ensures answers { Answers result report.new }
-    ensures lets_in { result ≡ pos 1 → Opens password.now stored.now budget }
-    ensures opens { Opens password.now stored.now budget → result ≡ pos 1 }
-    ensures within { report.new.work.bytes ≤ budget }
+    ensures lets_in { result ≡ pos 1 → Opens password.now stored.now budget × NeedsNoMemory stored.now }
+    ensures opens { Opens password.now stored.now budget → NeedsNoMemory stored.now → result ≡ pos 1 }
     ensures verifies { Verifies password.now stored.now budget report.new }
+    ensures scrypt { ¬ NeedsNoMemory stored.now → report.new.work ≡ no_work }
+    ensures bytes { report.new.work.bytes ≤ budget }
 {
     tell(report, verify(password, stored, budget, &mut Meter::new()))
 }
@@ -67,13 +70,15 @@ pub extern "C" fn web_hash(
     setting: &[u8],
     budget: u64,
     out: &mut [u8],
-    report: &mut WebReport,
+    report: &mut Report,
 ) -> i32
     ensures answers { Answers result report.new }
     ensures hashes { Hashes password.now setting.now budget out.old report.new out.new }
-    ensures then_opens { result ≡ pos 1 → Opens password.now (take report.new.length out.new) budget }
-    ensures allowed { result ≡ pos 1 → report.new.cost ≤ budget }
-    ensures within { report.new.work.bytes ≤ budget }
+    ensures then_opens { result ≡ pos 1
+        → Opens password.now (take report.new.length out.new) budget × NeedsNoMemory (take report.new.length out.new) }
+    ensures within { result ≡ pos 1 → report.new.cost ≤ budget }
+    ensures scrypt { ¬ NeedsNoMemory setting.now → report.new.work ≡ no_work }
+    ensures bytes { report.new.work.bytes ≤ budget }
     ensures locked { result ≡ pos 0 → out.new ≡ put (token setting.now) out.old }
     ensures apart { (token setting.now ≢ setting.now) × ((kept : SettingValue) → ¬ Spells (token setting.now) kept) }
 {
@@ -101,7 +106,7 @@ pub extern "C" fn web_setting(
     second: u64,
     third: u64,
     out: &mut [u8],
-    report: &mut WebReport,
+    report: &mut Report,
 ) -> i32
     ensures answers { Answers result report.new }
     ensures puts { PutsSetting method cost (first ∷ second ∷ third ∷ []) out.old report.new out.new }
@@ -122,11 +127,11 @@ pub extern "C" fn web_setting(
 /// - `Password`: the length exceeds that of any password.
 /// - `Setting`: the setting is invalid.
 #[unsafe(no_mangle)]
-pub extern "C" fn web_cost(setting: &[u8], password_len: usize, report: &mut WebReport) -> i32
+pub extern "C" fn web_cost(setting: &[u8], password_len: usize, report: &mut Report) -> i32
     ensures answers { Answers result report.new }
     ensures bounds { Bounds password_len setting.now report.new }
 {
-    tell(report, tell_cost(password_len, setting))
+    tell(report, tell_bound(password_len, setting))
 }
 
 #[cfg(test)]

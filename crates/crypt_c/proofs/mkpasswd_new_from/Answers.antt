@@ -1,5 +1,5 @@
 use Rattle.std.proofs.Common.{◌<ℤ◌, pos, rules}
-use Rattle.crypt_c.specs.Reports.{either}
+use Rattle.call_core.specs.Reports.{either}
 use Rattle.crypt_c.proofs.mkpasswd_new_from.Goals as goal
 
 pub returns-clause-hashes : goal.returns-clause-hashes

@@ -1,6 +1,6 @@
 use Rattle.std.proofs.Common.{◌≡◌, rules}
-use Rattle.crypt_c.specs.Reasons.{reason_row}
-use Rattle.crypt_c.proofs.ReasonNumbers.{reason_once}
+use Rattle.call_core.specs.Reasons.{reason_row}
+use Rattle.call_core.proofs.ReasonNumbers.{reason_once}
 use Rattle.crypt_c.proofs.mkpasswd_words.Goals as goal
 
 pub returns-then-words-out-clause-known : goal.returns-then-words-out-clause-known

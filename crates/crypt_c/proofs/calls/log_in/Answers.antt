@@ -1,19 +1,22 @@
-use Rattle.std.proofs.Common.{◌≡◌, ◌≤◌, if◌then◌else◌, true, false, inl, inr, rules, ap, ◌∙◌}
+use Rattle.std.proofs.Common.{◌≡◌, if◌then◌else◌, true, false, inl, inr, rules, ap, ◌∙◌}
 use Rattle.crypt_core.specs.MadeSettings.{TakesCost}
 use Rattle.crypt_core.specs.Replacements.{is_replaced_by}
-use Rattle.crypt_c.specs.Calls.{TakesNewCost}
-use Rattle.crypt_c.specs.Reasons.{reason_row}
-use Rattle.crypt_c.specs.declared.reason.Reason.{Reason}
-use Rattle.crypt_c.specs.declared.reason.Reason.TheVariants.{Fits, Outdated}
-use Rattle.crypt_c.proofs.Logins.{compared, outdated_fits, over, refused_scheme}
-use Rattle.crypt_c.proofs.Verdicts.{made_once, never_above}
+use Rattle.call_core.specs.Arguments.{Refuses, TakesNewCost}
+use Rattle.call_core.specs.Reasons.{reason_row}
+use Rattle.call_core.specs.declared.reason.Reason.{Reason}
+use Rattle.call_core.specs.declared.reason.Reason.TheVariants.{Fits, Outdated}
+use Rattle.call_core.proofs.Verdicts.{made_once, never_above, scheme_refused}
+use Rattle.crypt_c.proofs.Logins.{compared, outdated_fits, over}
 use Rattle.crypt_c.proofs.calls.log_in.Goals as goal
 use Rattle.crypt_c.proofs.calls.log_in.Goals.{then-is_replaced_by, else-is_replaced_by}
 
 pub returns-in_err-scheme-clause-logs_in : goal.returns-in_err-scheme-clause-logs_in
 returns-in_err-scheme-clause-logs_in c =
-    refused_scheme c.args.password.now c.args.field.now c.args.method c.args.cost c.args.budget c.in_err-scheme.field-0.0 _
-    c.in_ok-password.ensures.ok.1 c.in_err-scheme.ensures (search rules)
+    inl (
+      c.in_ok-password.ensures.ok.1,
+      scheme_refused TakesNewCost c.args.method c.args.cost c.in_err-scheme.field-0.0 (Refuses _) _
+          c.in_err-scheme.ensures (search rules),
+    )
 
 pub returns-in-Err-clause-logs_in : goal.returns-in-Err-clause-logs_in
 returns-in-Err-clause-logs_in c =
@@ -33,7 +36,6 @@ returns-in-Err-clause-opens c = λ scheme made opens. absurd (cc (c.in-Err.ensur
 pub returns-after-is_replaced_by-clause-logs_in : goal.returns-after-is_replaced_by-clause-logs_in
 returns-after-is_replaced_by-clause-logs_in c =
     let within = rw c.in_ok-password.ensures.ok.0 at c.in-Ok-cost_within.ensures.within in
-    let low : c.in-Ok-cost_within.most ≤ c.args.budget = within.1 in
     let fits : c.if-is_replaced_by.fits ≡ (if is_replaced_by (c.in-Ok.setting).scheme c.in_ok-scheme.scheme then Outdated else Fits) =
     elim c.if-is_replaced_by.branch [
       | then-is_replaced_by w ↦
@@ -42,7 +44,7 @@ returns-after-is_replaced_by-clause-logs_in c =
           let e : is_replaced_by (c.in-Ok.setting).scheme c.in_ok-scheme.scheme ≡ false = cc in rw e w.fits-is
     ] in
     compared c.args.password.now c.args.field.now c.args.method c.args.cost c.args.budget c.in_ok-scheme.scheme c.in-Ok.setting _
-    c.in_ok-password.ensures.ok.1 c.in_ok-scheme.ensures c.in-Ok.ensures.spelled (rw within.0 at low)
+    c.in_ok-password.ensures.ok.1 c.in_ok-scheme.ensures c.in-Ok.ensures.spelled within.1
     (rw (c.in_ok-password.ensures.ok.0, fits) at c.compare.ensures.compares)
 
 pub returns-after-is_replaced_by-clause-opens : goal.returns-after-is_replaced_by-clause-opens

@@ -1,4 +1,4 @@
-use Rattle.crypt_c.proofs.NewHashes.{puts_hash}
+use Rattle.call_core.proofs.Hashes.{puts_hash}
 use Rattle.crypt_c.proofs.calls.put_hash.Goals as goal
 
 pub returns-clause-hashes : goal.returns-clause-hashes

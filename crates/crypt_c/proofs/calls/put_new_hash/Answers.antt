@@ -1,8 +1,10 @@
 use Rattle.std.proofs.Common.{ℕ, List}
-use Rattle.crypt_c.specs.Calls.{Opens, Rehashes}
-use Rattle.crypt_c.specs.Reports.{refused}
-use Rattle.crypt_c.specs.declared.reason.Refusal.TheVariants.{Current}
-use Rattle.crypt_c.proofs.NewHashes.{put_whole, puts_new_hash}
+use Rattle.call_core.specs.CommonCalls.{Opens}
+use Rattle.call_core.specs.Reports.{refused}
+use Rattle.call_core.specs.declared.reason.Refusal.TheVariants.{Current}
+use Rattle.call_core.proofs.Hashes.{put_whole}
+use Rattle.crypt_c.specs.Calls.{Rehashes}
+use Rattle.crypt_c.proofs.NewHashes.{puts_new_hash}
 use Rattle.crypt_c.proofs.calls.put_new_hash.Goals as goal
 
 pub returns-clause-hashes : goal.returns-clause-hashes

@@ -1,7 +1,9 @@
-use Rattle.std.proofs.Common.{◌≡◌, false, rules}
+use Rattle.std.proofs.Common.{◌≡◌, false, inl, rules}
 use Rattle.crypt_core.specs.MadeSettings.{TakesCost}
 use Rattle.crypt_core.specs.Replacements.{is_replaced_by}
-use Rattle.crypt_c.proofs.Verdicts.{made_once, not_replaced, rehash_refused}
+use Rattle.call_core.specs.Arguments.{Refuses}
+use Rattle.call_core.proofs.Verdicts.{made_once, scheme_refused}
+use Rattle.crypt_c.proofs.Verdicts.{not_replaced}
 use Rattle.crypt_c.proofs.calls.tell_rehash.Goals as goal
 
 pub returns-in_err-setting-clause-replaced : goal.returns-in_err-setting-clause-replaced
@@ -9,8 +11,12 @@ returns-in_err-setting-clause-replaced c = λ is. absurd (cc (c.in_err-setting.e
 
 pub returns-in_err-scheme-clause-rehashes : goal.returns-in_err-scheme-clause-rehashes
 returns-in_err-scheme-clause-rehashes c =
-    rehash_refused c.args.stored.now c.args.method c.args.cost c.in_ok-setting.setting c.in_err-scheme.field-0.0 _
-    c.in_ok-setting.ensures.spelled c.in_err-scheme.ensures (search rules)
+    inl (
+      c.in_ok-setting.setting,
+      c.in_ok-setting.ensures.spelled,
+      scheme_refused TakesCost c.args.method c.args.cost
+          c.in_err-scheme.field-0.0 (Refuses _) _ c.in_err-scheme.ensures (search rules),
+    )
 
 pub returns-else-is_replaced_by-clause-replaced : goal.returns-else-is_replaced_by-clause-replaced
 returns-else-is_replaced_by-clause-replaced c = λ is.

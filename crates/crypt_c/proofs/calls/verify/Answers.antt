@@ -1,6 +1,6 @@
-use Rattle.crypt_c.proofs.Verdicts.{compared, never_above, over}
+use Rattle.std.proofs.Common.{rules, ◌≡◌}
+use Rattle.call_core.proofs.Verdicts.{compared, never_above, over}
 use Rattle.crypt_c.proofs.calls.verify.Goals as goal
-use Rattle.std.proofs.Common.{rules, ◌≡◌, ◌≤◌}
 
 pub returns-in_err-setting-clause-opens : goal.returns-in_err-setting-clause-opens
 returns-in_err-setting-clause-opens c = λ opens. absurd (cc (c.in_err-setting.ensures.each_setting opens.1.0 opens.1.1))
@@ -20,9 +20,8 @@ returns-in_err-most-clause-opens c = λ opens.
 pub returns-clause-verifies : goal.returns-clause-verifies
 returns-clause-verifies c =
     let within = rw c.in_ok-password.ensures.ok.0 at c.in_ok-most.ensures.within in
-    let low : c.in_ok-most.most ≤ c.args.budget = within.1 in
     compared c.args.password.now c.args.stored.now c.args.budget c.in_ok-setting.setting _ c.in_ok-password.ensures.ok.1
-    c.in_ok-setting.ensures.spelled (rw within.0 at low) (rw c.in_ok-password.ensures.ok.0 at c.compare.ensures.compares)
+    c.in_ok-setting.ensures.spelled within.1 (rw c.in_ok-password.ensures.ok.0 at c.compare.ensures.compares)
 
 pub returns-clause-opens : goal.returns-clause-opens
 returns-clause-opens c = λ opens.

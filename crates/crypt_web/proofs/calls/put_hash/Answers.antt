@@ -1,10 +1,17 @@
-use Rattle.std.proofs.Common.{◌≡◌, take}
-use Rattle.crypt_web.proofs.Putting.{take_put}
+use Rattle.std.proofs.Common.{ℕ, List}
+use Rattle.call_core.specs.CommonCalls.{Opens}
+use Rattle.call_core.proofs.Hashes.{put_whole, puts_hash}
+use Rattle.crypt_web.specs.Private.{in_bytes}
+use Rattle.crypt_web.specs.WebCalls.{NeedsNoMemory}
 use Rattle.crypt_web.proofs.calls.put_hash.Goals as goal
 
-pub returns-in-Ok-clause-then_opens : goal.returns-in-Ok-clause-then_opens
-returns-in-Ok-clause-then_opens c = λ done.
-    let room = c.in-Ok.ensures.room in
-    let whole : take c.in-Ok.report.length c.put.new.out ≡ c.in-Ok.hashed.items =
-    rw (room.0, c.put.ensures, c.as_slice.ensures.value) (take_put c.in-Ok.hashed.items c.args.out.now room.1) in
-    rw whole c.in-Ok.ensures.opens.0
+pub returns-clause-hashes : goal.returns-clause-hashes
+returns-clause-hashes c =
+    puts_hash c.args.password.now c.args.text.now c.args.budget c.args.out.now (in_bytes c.hash_of-hashed.result) _ c.put_hashed.new.out
+    c.hash_of-hashed.ensures.makes (rw c.token.ensures at c.put_hashed.ensures.puts)
+
+pub returns-clause-then_opens : goal.returns-clause-then_opens
+returns-clause-then_opens c =
+    put_whole (λ (text : List ℕ). Opens c.args.password.now text c.args.budget × NeedsNoMemory text) c.args.budget c.token.result.now c.args.out.now _
+    (in_bytes c.hash_of-hashed.result) _ c.put_hashed.new.out c.hash_of-hashed.ensures.told c.put_hashed.ensures.puts
+    c.hash_of-hashed.ensures.opens

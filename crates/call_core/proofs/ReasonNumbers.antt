@@ -2,11 +2,11 @@
 use Rattle.std.proofs.Common.{◌≡◌, ◌==◌, ◌+◌, ◌∙◌, if◌then◌else◌, ℕ, ℤ, pos, negsuc, refl, sym, ap}
 use Rattle.crypt_core.specs.declared.password.PasswordFault.TheVariants.{TooLong, HasNul}
 use Rattle.crypt_core.specs.declared.setting.fault.SettingFault.TheVariants as setting
-use Rattle.crypt_c.specs.Reasons.{reason_row}
-use Rattle.crypt_c.specs.declared.reason.Reason.{Reason}
-use Rattle.crypt_c.specs.declared.reason.Reason.TheVariants.{Fits, Outdated, Done, Refused}
-use Rattle.crypt_c.specs.declared.reason.Refusal.{Refusal}
-use Rattle.crypt_c.specs.declared.reason.Refusal.TheVariants.{Password, Setting, OutOfMemory, TooFewBytes, UnknownMethod, Cost, OverBudget, Differs, Current, NoRandomWords}
+use Rattle.call_core.specs.Reasons.{reason_row}
+use Rattle.call_core.specs.declared.reason.Reason.{Reason}
+use Rattle.call_core.specs.declared.reason.Reason.TheVariants.{Fits, Outdated, Done, Refused}
+use Rattle.call_core.specs.declared.reason.Refusal.{Refusal}
+use Rattle.call_core.specs.declared.reason.Refusal.TheVariants.{Password, Setting, OutOfMemory, TooFewBytes, UnknownMethod, Cost, OverBudget, Differs, Current, NoRandomWords}
 
 abbrev refusal_of : ℕ → Refusal
 refusal_of number =

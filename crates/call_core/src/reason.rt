@@ -1,7 +1,7 @@
 //! The reasons for what a call returned, with their numbers and messages.
 ghost use Rattle.std.specs.Prelude.{◌≡◌, ◌≢◌, IfSome, IfNone};
-ghost use Rattle.crypt_c.specs.declared.reason.Reason.{Reason as Why};
-ghost use Rattle.crypt_c.specs.Reasons.{reason_row};
+ghost use Rattle.call_core.specs.declared.reason.Reason.{Reason as Why};
+ghost use Rattle.call_core.specs.Reasons.{reason_row};
 
 use crypt_core::hash::HashFault;
 use crypt_core::password::PasswordFault;
@@ -9,7 +9,7 @@ use crypt_core::setting::{MakeFault, SettingFault};
 
 /// The reason why a call refused.
 #[derive(Clone, Copy, Debug, PartialEq, Eq)]
-pub(crate) enum Refusal {
+pub enum Refusal {
     /// The password is invalid.
     Password(PasswordFault),
     /// The setting is invalid.
@@ -36,7 +36,7 @@ pub(crate) enum Refusal {
 ///
 /// Each has a number of its own: above 0 if the call returned 1, and below 0 if it returned 0.
 #[derive(Clone, Copy, Debug, PartialEq, Eq)]
-pub(crate) enum Reason {
+pub enum Reason {
     /// The password matches the stored hash.
     Fits,
     /// A new hash would replace the stored one.
@@ -49,7 +49,7 @@ pub(crate) enum Reason {
 
 impl Reason {
     /// Returns the number of the reason.
-    pub(crate) fn number(self) -> i32
+    pub fn number(self) -> i32
         ensures { result ≡ (reason_row self).0 }
     {
         match self {
@@ -78,7 +78,7 @@ impl Reason {
     }
 
     /// Returns the reason with the number, or `None` if no reason has it.
-    pub(crate) fn numbered(number: i32) -> Option<Reason>
+    pub fn numbered(number: i32) -> Option<Reason>
         ensures known { IfSome result (λ reason. (reason_row reason).0 ≡ number) }
         ensures unknown { IfNone result ((reason : Why) → number ≢ (reason_row reason).0) }
     {
@@ -110,7 +110,7 @@ impl Reason {
     }
 
     /// Returns the message for the reason.
-    pub(crate) fn words(self) -> &'static str
+    pub fn words(self) -> &'static str
         ensures { result.now ≡ (reason_row self).1 }
     {
         match self {

@@ -1,9 +1,8 @@
 //! The scheme of a method's number and a cost, or the first refusal.
-ghost use Rattle.std.specs.Prelude.{◌≡◌, ◌↔◌, IsTrue, None, Some};
+ghost use Rattle.std.specs.Prelude.{IsTrue, Some};
 ghost use Rattle.crypt_core.specs.MadeSettings.{TakesCost};
-ghost use Rattle.crypt_core.specs.Methods.{method_numbered};
-ghost use Rattle.crypt_c.specs.Calls.{TakesNewCost};
-ghost use Rattle.crypt_c.specs.Private.Steps.{IsSchemeReading};
+ghost use Rattle.call_core.specs.Arguments.{TakesNewCost};
+ghost use Rattle.call_core.specs.Arguments.{IsSchemeReading};
 
 use crate::reason::Refusal;
 use crypt_core::method::Method;
@@ -15,7 +14,7 @@ use crypt_core::scheme::{MAX_ROUNDS, MIN_ROUNDS, Scheme};
 ///
 /// - `UnknownMethod`: no method has the number.
 /// - `Cost`: the method does not take the cost.
-pub(crate) fn scheme_of(number: u32, cost: u32) -> Result<Scheme, Refusal>
+pub fn scheme_of(number: u32, cost: u32) -> Result<Scheme, Refusal>
     ensures { IsSchemeReading TakesCost number cost result }
 {
     let Some(method) = Method::numbered(number) else {
@@ -33,7 +32,7 @@ pub(crate) fn scheme_of(number: u32, cost: u32) -> Result<Scheme, Refusal>
 ///
 /// - `UnknownMethod`: no method has the number.
 /// - `Cost`: the method does not take the cost, or would clamp it.
-pub(crate) fn new_scheme_of(number: u32, cost: u32) -> Result<Scheme, Refusal>
+pub fn new_scheme_of(number: u32, cost: u32) -> Result<Scheme, Refusal>
     ensures { IsSchemeReading TakesNewCost number cost result }
 {
     let Some(method) = Method::numbered(number) else {

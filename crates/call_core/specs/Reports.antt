@@ -5,12 +5,12 @@ use Rattle.prims_core.specs.Work.{no_work}
 use Rattle.prims_core.specs.declared.meter.Work.{Work}
 use Rattle.crypt_core.specs.Crypt.{IsAfterRefusedGrowth}
 use Rattle.crypt_core.specs.Settings.{SettingValue}
-use Rattle.crypt_c.specs.Reasons.{reason_row}
-use Rattle.crypt_c.specs.declared.reason.Reason.{Reason}
-use Rattle.crypt_c.specs.declared.reason.Reason.TheVariants.{Refused}
-use Rattle.crypt_c.specs.declared.reason.Refusal.{Refusal}
-use Rattle.crypt_c.specs.declared.reason.Refusal.TheVariants.{OutOfMemory}
-use Rattle.crypt_c.specs.declared.report.Report.{Report}
+use Rattle.call_core.specs.Reasons.{reason_row}
+use Rattle.call_core.specs.declared.reason.Reason.{Reason}
+use Rattle.call_core.specs.declared.reason.Reason.TheVariants.{Refused}
+use Rattle.call_core.specs.declared.reason.Refusal.{Refusal}
+use Rattle.call_core.specs.declared.reason.Refusal.TheVariants.{OutOfMemory}
+use Rattle.call_core.specs.declared.report.Report.{Report}
 
 -- The report of a reason: `len` bytes were written, a hash costs at most `most`, and `counts` is the work.
 abbrev pub reported : Reason → ℕ → ℕ → Work → Report

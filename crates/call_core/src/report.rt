@@ -1,15 +1,15 @@
 //! The report of a call, and the string that it leaves in the caller's bytes.
 ghost use Rattle.std.specs.Prelude.{◌≡◌, ◌↔◌, ◌⊎◌, ◌<ℤ◌, pos};
-ghost use Rattle.prims_core.specs.Work.{no_work};
-ghost use Rattle.crypt_c.specs.Reports.{Leaves, either, put, refused, reported, token};
+ghost use Rattle.call_core.specs.Reports.{Leaves, either, put, refused, reported, token};
 
 use crate::reason::{Reason, Refusal};
 use crypt_core::password::PasswordFault;
 use crypt_core::setting::SettingFault;
 use prims_core::meter::Work;
+use std::mem::size_of;
 
-// The work of a call that hashed nothing.
-const NO_WORK: Work = Work {
+/// The work of a call that hashed nothing.
+pub const NO_WORK: Work = Work {
     digests: 0,
     bytes: 0,
     mixes: 0,
@@ -33,9 +33,12 @@ pub struct Report {
     pub reserved: u64,
 }
 
+// C and the page read the fields at fixed places.
+const _: () = prove!(size_of::<Report>() == 64);
+
 impl Report {
     /// Returns a report with these parts.
-    pub(crate) fn new(reason: Reason, length: u32, cost: u64, work: Work) -> Report
+    pub fn new(reason: Reason, length: u32, cost: u64, work: Work) -> Report
         ensures { result ≡ reported reason length cost work }
     {
         Report {
@@ -48,22 +51,15 @@ impl Report {
     }
 
     /// Returns the report of a refusal before any hashing.
-    pub(crate) fn refused(refusal: Refusal, cost: u64) -> Report
+    pub fn refused(refusal: Refusal, cost: u64) -> Report
         ensures { result ≡ refused refusal cost }
     {
         Report::new(Reason::Refused(refusal), 0, cost, NO_WORK)
     }
-
-    /// Returns the report of a call that hashed nothing and did what its name says.
-    pub(crate) fn without_work(reason: Reason, length: u32) -> Report
-        ensures { result ≡ reported reason length 0 no_work }
-    {
-        Report::new(reason, length, 0, NO_WORK)
-    }
 }
 
 impl From<PasswordFault> for Report {
-    ghost use Rattle.crypt_c.specs.declared.reason.Refusal.TheVariants.{Password};
+    ghost use Rattle.call_core.specs.declared.reason.Refusal.TheVariants.{Password};
 
     ghost from_gives = { λ fault report. report ≡ refused (Password fault) 0 };
 
@@ -73,7 +69,7 @@ impl From<PasswordFault> for Report {
 }
 
 impl From<SettingFault> for Report {
-    ghost use Rattle.crypt_c.specs.declared.reason.Refusal.TheVariants.{Setting};
+    ghost use Rattle.call_core.specs.declared.reason.Refusal.TheVariants.{Setting};
 
     ghost from_gives = { λ fault report. report ≡ refused (Setting fault) 0 };
 
@@ -91,7 +87,7 @@ impl From<Refusal> for Report {
 }
 
 /// Writes the report of a call and returns its result: 1 if the reason is above 0, else 0.
-pub(crate) fn tell(report: &mut Report, told: Result<Report, Report>) -> i32
+pub fn tell(report: &mut Report, told: Result<Report, Report>) -> i32
     ensures told { report.new ≡ either told }
     ensures one_or_zero { (result ≡ pos 1) ⊎ (result ≡ pos 0) }
     ensures positive { result ≡ pos 1 ↔ pos 0 <ℤ (either told).reason }
@@ -103,7 +99,7 @@ pub(crate) fn tell(report: &mut Report, told: Result<Report, Report>) -> i32
 }
 
 /// Returns the string that a refusal leaves in place of a hash with the setting (crypt(3)).
-pub(crate) fn token(setting: &[u8]) -> &'static [u8]
+pub fn token(setting: &[u8]) -> &'static [u8]
     ensures { result.now ≡ token setting.now }
 {
     if setting.starts_with(b"*0") {
@@ -114,7 +110,7 @@ pub(crate) fn token(setting: &[u8]) -> &'static [u8]
 }
 
 /// Writes a string and a byte 0 to `out`, cut to the capacity of `out`.
-pub(crate) fn put(out: &mut [u8], text: &[u8])
+pub fn put(out: &mut [u8], text: &[u8])
     ensures { out.new ≡ put text.now out.old }
 {
     if out.is_empty() {
@@ -126,7 +122,7 @@ pub(crate) fn put(out: &mut [u8], text: &[u8])
 }
 
 /// Writes a string to `out` as [`put`] does, and returns the report.
-pub(crate) fn leave(report: Report, out: &mut [u8], text: &[u8]) -> Report
+pub fn leave(report: Report, out: &mut [u8], text: &[u8]) -> Report
     ensures { Leaves report text.now out.old result out.new }
 {
     put(out, text);

@@ -4,9 +4,9 @@ use Rattle.crypt_core.specs.PasswordFaults.{password_fault_text}
 use Rattle.crypt_core.specs.SettingFaults.{setting_fault_text}
 use Rattle.crypt_core.specs.declared.password.PasswordFault.TheVariants as password
 use Rattle.crypt_core.specs.declared.setting.fault.SettingFault.TheVariants as setting
-use Rattle.crypt_c.specs.declared.reason.Reason.{Reason}
-use Rattle.crypt_c.specs.declared.reason.Reason.TheVariants.{Fits, Outdated, Done, Refused}
-use Rattle.crypt_c.specs.declared.reason.Refusal.TheVariants.{Password, Setting, OutOfMemory, TooFewBytes, UnknownMethod, Cost, OverBudget, Differs, Current, NoRandomWords}
+use Rattle.call_core.specs.declared.reason.Reason.{Reason}
+use Rattle.call_core.specs.declared.reason.Reason.TheVariants.{Fits, Outdated, Done, Refused}
+use Rattle.call_core.specs.declared.reason.Refusal.TheVariants.{Password, Setting, OutOfMemory, TooFewBytes, UnknownMethod, Cost, OverBudget, Differs, Current, NoRandomWords}
 
 -- The number and the message of each reason. The number is above 0 if the call did what its name says, and below 0 if
 -- it refused; -15 is retired.

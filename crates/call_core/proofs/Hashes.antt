@@ -1,0 +1,62 @@
+-- Hashes that are made, and put into the caller's bytes.
+use Rattle.std.proofs.Common.{◌≡◌, ◌⊎◌, ◌<◌, ◌<ℤ◌, ℕ, pos, List, [], ◌∷◌, length, take, Result, Ok, Err, inl, inr, refl, subst, sym, arith}
+use Rattle.std.proofs.Math.Seq.{take-append_seam}
+use Rattle.std.proofs.lemmas.List.{take_all}
+use Rattle.std.specs.Prelude.{IfOk, MatchResult}
+use Rattle.prims_core.specs.declared.meter.Work.{Work}
+use Rattle.crypt_core.specs.Crypt.{crypt}
+use Rattle.crypt_core.specs.Settings.{SettingValue}
+use Rattle.crypt_core.specs.Work.{work}
+use Rattle.call_core.specs.CommonCalls.{Hashes, PutsHash, admission}
+use Rattle.call_core.specs.Private.Steps.{IsPut, IsTold, MakesHash, MakesHashOf}
+use Rattle.call_core.specs.Reports.{LacksMemory, Leaves, put, reported, token}
+use Rattle.call_core.specs.declared.reason.Reason.TheVariants.{Done}
+use Rattle.call_core.specs.declared.report.Report.{Report}
+
+puts_at : (password text : List ℕ) (kept : SettingValue) (lock old : List ℕ) (made : Result (List ℕ × Report) Report) (report : Report) (new : List ℕ)
+    (admitted : Result ℕ Report)
+    → MatchResult admitted
+    (λ most. (made ≡ Ok (text, reported Done (length text) most (work password kept)))
+    ⊎ ((told : Report) × (made ≡ Err told) × LacksMemory kept most told))
+    (λ refusal. made ≡ Err refusal)
+    → IsPut made lock old report new
+    → MatchResult admitted
+    (λ most. Leaves (reported Done (length text) most (work password kept)) text old report new
+    ⊎ (LacksMemory kept most report × Leaves report lock old report new))
+    (λ refusal. Leaves refusal lock old report new)
+puts_at password text kept lock old made report new (Ok most) (inl e) put = inl (rw e at put)
+puts_at password text kept lock old made report new (Ok most) (inr (told, e, lacks)) put =
+    let left = rw e at put in
+    inr (rw left.0 lacks, (refl, left.1))
+puts_at password text kept lock old made report new (Err refusal) e put = rw e at put
+
+pub puts : (password : List ℕ) (kept : SettingValue) (budget : ℕ) (lock old : List ℕ) (made : Result (List ℕ × Report) Report) (report : Report) (new : List ℕ)
+    → MakesHash password kept budget (length old) made → IsPut made lock old report new → PutsHash password kept budget lock old report new
+puts password kept budget lock old made report new makes put =
+    puts_at password (crypt password kept) kept lock old made report new (admission budget (length old) password kept) makes put
+
+pub puts_hash : (password text : List ℕ) (budget : ℕ) (old : List ℕ) (made : Result (List ℕ × Report) Report) (report : Report) (new : List ℕ)
+    → MakesHashOf password text budget (length old) made → IsPut made (token text) old report new → Hashes password text budget old report new
+puts_hash password text budget old made report new (inr (fault, is, e)) put = inr (fault, is, rw e at put)
+puts_hash password text budget old made report new (inl (is, inr (fault, broken, e))) put = inl (is, inr (fault, broken, rw e at put))
+puts_hash password text budget old made report new (inl (is, inl (kept, spells, makes))) put =
+    inl (is, inl (kept, spells, puts password kept budget (token text) old made report new makes put))
+
+-- a text for which there is room is put whole
+take_put : (text old : List ℕ) → length text < length old → take (length text) (put text old) ≡ text
+take_put text [] room = absurd (omega arith)
+take_put text (b ∷ rest) room =
+    let whole : take (length rest) text ≡ text = take_all (length rest) text (omega arith) in
+    rw whole (take-append_seam text _)
+
+-- what holds of the hash that was made holds of the bytes that the report counts in `out`
+pub put_whole : (Holds : List ℕ → Type 0) (budget : ℕ) (lock old : List ℕ) (done : Work) (made : Result (List ℕ × Report) Report) (report : Report)
+    (new : List ℕ) → IsTold budget (length old) done made → IsPut made lock old report new → IfOk made (λ both. Holds both.0)
+    → pos 0 <ℤ report.reason → Holds (take report.length new)
+put_whole Holds budget lock old done (Ok (text, told)) report new says is_put holds positive =
+    let same : report ≡ told = is_put.0 in
+    let e : take report.length new ≡ text = rw (same, is_put.1, says.1) (take_put text old says.2) in
+    subst Holds (sym e) holds
+put_whole Holds budget lock old done (Err told) report new says is_put holds positive =
+    let same : report ≡ told = is_put.0 in
+    absurd (says.0 (rw same at positive))

@@ -1,0 +1,65 @@
+-- The arguments of a call: what holds of a valid one, and what of the first refusal of another.
+--
+-- A password is the list of its bytes, `kept` is the setting that a text spells, and `price` is the cost that makes a
+-- scheme.
+use Rattle.std.specs.Prelude.{◌≡◌, ◌⊎◌, ◌<◌, ◌≤◌, ℕ, List, Some, None, Result, Ok, Err}
+use Rattle.crypt_core.specs.MadeSettings.{TakesCost, made_scheme}
+use Rattle.crypt_core.specs.Methods.{method_numbered}
+use Rattle.crypt_core.specs.Passwords.{IsPassword, IsPasswordRefused, password_limit}
+use Rattle.crypt_core.specs.Refusals.{IsRefused}
+use Rattle.crypt_core.specs.Rounds.{clamped}
+use Rattle.crypt_core.specs.Settings.{SettingValue, Spells}
+use Rattle.crypt_core.specs.declared.method.Method.{Method}
+use Rattle.crypt_core.specs.declared.method.Method.TheVariants as methods
+use Rattle.crypt_core.specs.declared.password.PasswordFault.{PasswordFault}
+use Rattle.crypt_core.specs.declared.password.PasswordFault.TheVariants.{TooLong}
+use Rattle.crypt_core.specs.declared.scheme.Scheme.{Scheme}
+use Rattle.crypt_core.specs.declared.setting.fault.SettingFault.{SettingFault}
+use Rattle.call_core.specs.Reports.{refused}
+use Rattle.call_core.specs.declared.reason.Refusal.{Refusal}
+use Rattle.call_core.specs.declared.reason.Refusal.TheVariants.{Password, Setting, UnknownMethod, Cost}
+use Rattle.call_core.specs.declared.report.Report.{Report}
+
+-- The bytes are a password, and `Then` holds; or they break a rule first, and `Refuses` holds of it.
+abbrev pub OnPassword : List ℕ → (Refusal → Type 0) → Type 0 → Type 0
+OnPassword bytes Refuses Then =
+    (IsPassword bytes × Then) ⊎ ((fault : PasswordFault) × IsPasswordRefused bytes fault × Refuses (Password fault))
+
+-- A password can have this length, and `Then` holds; or none can, and `Refuses` holds of that refusal.
+abbrev pub OnLength : ℕ → (Refusal → Type 0) → Type 0 → Type 0
+OnLength len Refuses Then = ((len ≤ password_limit) × Then) ⊎ ((password_limit < len) × Refuses (Password TooLong))
+
+-- The text spells a setting, of which `Then` holds; or it breaks a rule first, and `Refuses` holds of it.
+abbrev pub OnSetting : List ℕ → (Refusal → Type 0) → (SettingValue → Type 0) → Type 0
+OnSetting text Refuses Then =
+    ((kept : SettingValue) × Spells text kept × Then kept) ⊎ ((fault : SettingFault) × IsRefused text fault × Refuses (Setting fault))
+
+-- The costs of new hashes: those that a method takes without clamping them.
+abbrev pub TakesNewCost : Method → ℕ → Type 0
+TakesNewCost methods.Sha256crypt price = (price ≡ 0) ⊎ (clamped price ≡ price)
+TakesNewCost methods.Sha512crypt price = (price ≡ 0) ⊎ (clamped price ≡ price)
+TakesNewCost method price = TakesCost method price
+
+-- The scheme that the method with this number has at a cost that it takes.
+abbrev pub IsSchemeMade : (Method → ℕ → Type 0) → ℕ → ℕ → Scheme → Type 0
+IsSchemeMade Takes number price scheme =
+    (method : Method) × (method_numbered number ≡ Some method) × Takes method price × (scheme ≡ made_scheme method price)
+
+-- A method's number and a cost make a scheme, of which `Then` holds; or `Refuses` holds of the refusal: no method has the
+-- number, or its method does not take the cost.
+abbrev pub OnScheme : (Method → ℕ → Type 0) → ℕ → ℕ → (Refusal → Type 0) → (Scheme → Type 0) → Type 0
+OnScheme Takes number price Refuses Then =
+    ((scheme : Scheme) × IsSchemeMade Takes number price scheme × Then scheme)
+    ⊎ (((method_numbered number ≡ None) × Refuses UnknownMethod)
+    ⊎ ((method : Method) × (method_numbered number ≡ Some method) × (¬ Takes method price) × Refuses Cost))
+
+-- The scheme that a method's number and a cost make, or the refusal.
+abbrev pub IsSchemeReading : (Method → ℕ → Type 0) → ℕ → ℕ → Result Scheme Refusal → Type 0
+IsSchemeReading Takes number price (Ok scheme) = IsSchemeMade Takes number price scheme
+IsSchemeReading Takes number price (Err refusal) =
+    ((refusal ≡ UnknownMethod) × (method_numbered number ≡ None))
+    ⊎ ((refusal ≡ Cost) × ((method : Method) × (method_numbered number ≡ Some method) × (¬ Takes method price)))
+
+-- The report of a refusal that precedes the cost of a hash.
+abbrev pub Refuses : Report → Refusal → Type 0
+Refuses report refusal = report ≡ refused refusal 0
