@@ -10,8 +10,7 @@ use Rattle.clap.specs.Words.{Row, Rule, Text, fault_of, first_of, is_simple, is_
 use Rattle.clap.specs.declared.error.kind.ErrorKind.TheVariants as kind
 use Rattle.clap.proofs.OnLiterals.{clap_on_literals}
 use Rattle.clap.proofs.WalkLemmas.{both}
-use Rattle.mkpasswd.specs.Options.{command, cost_of, given_salt, is_set, mode_count, number_in, type_of}
-use Rattle.mkpasswd.specs.Private.Options.{budget_rule, rounds_rule}
+use Rattle.mkpasswd.specs.Options.{command, cost_of, given_salt, is_set, mode_count, number_in, option_rule, type_of}
 use Rattle.mkpasswd.proofs.PassedValues.{IsOnlyRule, all_free}
 
 -- ---- a simple command, without exclusions
@@ -61,6 +60,13 @@ lone-only zero id (rule ∷ rules) all zero z lt same = refl
 lone-only zero id (rule ∷ rules) all (suc j) z lt same = absurd (none_has id rules all j z (omega arith) same)
 lone-only (suc k) id (rule ∷ rules) all zero z lt same = absurd (true≢false (sym same ∙ not-true (bytes_eq rule.id id) (both _ _ all).0))
 lone-only (suc k) id (rule ∷ rules) all (suc j) z lt same = ap suc (lone-only k id rules (both _ _ all).1 j z (omega arith) same)
+
+-- `--rounds` takes a 32-bit number, and `--budget` one of 64 bits.
+abbrev pub rounds_rule : Rule
+rounds_rule = record (option_rule (codes "rounds") (Some 82)) { parser = Some (Signed (pos 0) (pos 4294967295)) }
+
+abbrev pub budget_rule : Rule
+budget_rule = record (option_rule (codes "budget") None) { parser = Some (Unsigned 0 18446744073709551615) }
 
 pub is_rounds : IsOnlyRule command.top.rules 2 rounds_rule (Signed (pos 0) (pos 4294967295))
 unfolding command

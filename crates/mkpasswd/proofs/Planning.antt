@@ -1,6 +1,6 @@
 -- From what the steps of `plan` find to what the words mean.
 use mir.Val.{bool_byte}
-use Rattle.std.proofs.Common.{◌≡◌, ◌∙◌, ℕ, ◌+◌, Bool, true, false, cond, List, [], ◌∷◌, map, Option, Some, None, Ok, Err, codes, ◌⊎◌, refl, sym, ap, subst, inl, inr, is_some, arith}
+use Rattle.std.proofs.Common.{◌≡◌, ◌≢◌, ◌∙◌, ℕ, ◌+◌, Bool, true, false, cond, List, [], ◌∷◌, map, Option, Some, None, Ok, Err, codes, ◌⊎◌, refl, sym, ap, subst, inl, inr, is_some, arith}
 use Rattle.std.specs.Prelude.{count_by}
 use Rattle.std.proofs.lemmas.Bool.{cases_Bool}
 use Rattle.std.specs.Borrow.{Bor}
@@ -13,7 +13,7 @@ use Rattle.crypt_core.specs.declared.setting.fault.MakeFault.{MakeFault}
 use Rattle.run_core.specs.Makers.{bytes_of}
 use Rattle.run_core.specs.declared.job.Job.{Job}
 use Rattle.mkpasswd.specs.Options.{BreaksUsage, IsJob, IsPlan, Means, cost_of, given_salt, is_set, mode_count, type_of}
-use Rattle.mkpasswd.specs.Private.Options.{Keeps, Names}
+use Rattle.mkpasswd.specs.Private.Options.{Keeps}
 use Rattle.mkpasswd.specs.declared.fault.UsageFault.{UsageFault}
 use Rattle.mkpasswd.specs.declared.fault.UsageFault.TheVariants.{Parse, Method as UnknownMethod, TwoSalts, TwoModes, Make, OutOfMemory}
 use Rattle.mkpasswd.specs.declared.job.Plan.{Plan}
@@ -21,6 +21,11 @@ use Rattle.mkpasswd.specs.declared.job.Plan.TheVariants.{Methods, One, Batch, Ch
 use Rattle.mkpasswd.specs.declared.options.Arguments.{Arguments}
 
 -- ---- the rules of the words, in their order
+
+-- TYPE names this method, and does not ask for the list of the methods.
+pub record Names (rows : List Row) (method : Method) : Type 0 where
+  pub not_help : type_of rows ≢ codes "help"
+  pub named : method_named (type_of rows) ≡ Some method
 
 module _ (rows : List Row) where
   known : (method : Method) → method_named (type_of rows) ≡ Some method → ¬ BreaksUsage rows UnknownMethod

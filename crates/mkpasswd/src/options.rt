@@ -1,12 +1,10 @@
 //! The arguments after the program's name: the command with which `clap` parses them, and the plan that they ask for.
 //! The refusals have one order. Only `OutOfMemory` has no place in it: it occurs at the allocation that failed.
-ghost use Rattle.std.specs.Prelude.{◌≡◌, ◌≢◌, List, [], None, codes, false, map, string_bytes};
-ghost use Rattle.std.specs.Prelude.{IfErr, IfOk, MatchOption};
+ghost use Rattle.std.specs.Prelude.{◌≡◌, ◌≢◌, List, [], None, false, map, string_bytes, IfErr, IfOk};
 ghost use Rattle.clap.specs.Words.{Row, app_of, fault_of, kind_of, matches_of, rule_of};
-ghost use Rattle.crypt_core.specs.Methods.{method_named};
 ghost use Rattle.run_core.specs.Makers.{bytes_of};
-ghost use Rattle.mkpasswd.specs.Options.{BreaksUsage, Plans, Refuses, command, flag_rule, given_salt, type_of, value_rule};
-ghost use Rattle.mkpasswd.specs.Private.Options.{Keeps, Names};
+ghost use Rattle.mkpasswd.specs.Options.{BreaksUsage, Plans, Refuses, command, flag_rule, given_salt, value_rule};
+ghost use Rattle.mkpasswd.specs.Private.Options.{Keeps};
 
 use crate::fault::UsageFault;
 use crate::job::{Job, Maker, PasswordFrom, Plan};

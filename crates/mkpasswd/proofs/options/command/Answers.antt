@@ -6,7 +6,7 @@ use Rattle.clap.specs.Simple.{App, app_of, app_of_fields, new_app, on_top, with_
 use Rattle.clap.specs.Walk.{Rule, Text, rule_of}
 use Rattle.clap.specs.declared.builder.value_parser.ValueParser.{ValueParser}
 use Rattle.mkpasswd.specs.Options.{command, flag_rule, option_rule, value_rule}
-use Rattle.mkpasswd.specs.Private.Options.{budget_rule, rounds_rule}
+use Rattle.mkpasswd.proofs.CommandFacts.{budget_rule, rounds_rule}
 use Rattle.mkpasswd.proofs.options.command.Goals as goal
 
 abbrev versioned : App → App

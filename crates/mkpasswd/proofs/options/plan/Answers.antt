@@ -1,4 +1,4 @@
-use Rattle.std.proofs.Common.{◌≡◌, ◌≢◌, ◌∙◌, ℕ, arith, codes, Err, List, Option, None, Some, ap, map, refl, string_bytes, subst, sym, true≢false, unwrap_or}
+use Rattle.std.proofs.Common.{◌≡◌, ◌≢◌, ◌∙◌, ℕ, arith, bytes_eq, codes, Err, List, Option, None, Some, ap, map, refl, string_bytes, subst, sym, false, true≢false, unwrap_or}
 use Rattle.std.specs.Borrow.{Bor}
 use Rattle.std.proofs.lemmas.Slice.Eq.{bytes_eq-Decides}
 use Rattle.std.proofs.lemmas.Result.{err_from_is_err_and}
@@ -8,13 +8,13 @@ use Rattle.clap.specs.declared.error.kind.ErrorKind.TheVariants as kind
 use Rattle.crypt_core.specs.Methods.{method_named}
 use Rattle.crypt_core.specs.declared.method.Method as methods
 use Rattle.mkpasswd.specs.Options.{BreaksUsage, Plans, Refuses, command, type_of}
-use Rattle.mkpasswd.specs.Private.Options.{Keeps, Names}
+use Rattle.mkpasswd.specs.Private.Options.{Keeps}
 use Rattle.mkpasswd.specs.declared.options.Arguments.{Arguments}
 use Rattle.run_core.specs.Makers.{bytes_of}
 use mir.Val.{bool_byte}
 use Rattle.mkpasswd.specs.declared.fault.UsageFault.{UsageFault}
 use Rattle.mkpasswd.specs.declared.fault.UsageFault.TheVariants.{Parse, Method, TwoSalts, TwoModes, Make, OutOfMemory}
-use Rattle.mkpasswd.proofs.Planning.{asks_for_input, is_job, means_make, means_plan, means_two_modes, mode_count_is}
+use Rattle.mkpasswd.proofs.Planning.{Names, asks_for_input, is_job, means_make, means_plan, means_two_modes, mode_count_is}
 use Rattle.mkpasswd.proofs.options.plan.Goals as goal
 use Rattle.mkpasswd.proofs.options.plan.Goals.{in-Some-password+in_ok-bytes-in-Some-password, in-None, in-None-2, in-None-3}
 
@@ -42,19 +42,18 @@ word_or None other = refl
 word_or (Some word) other = refl
 
 names_by : (rows : List Row) (given : Arguments) → Keeps rows given → (name other bytes : Bor (List ℕ)) (method : methods.Method)
-    → name ≡ unwrap_or given.method other → other.now ≡ codes "sha512crypt" → (name.now ≢ codes "help") → bytes.now ≡ name.now
+    → name ≡ unwrap_or given.method other → other.now ≡ codes "sha512crypt" → false ≡ bytes_eq name.now (codes "help") → bytes.now ≡ name.now
     → Some method ≡ method_named bytes.now → Names rows method
-names_by rows given keeps name other bytes method is other_is not_help bytes_are named =
+names_by rows given keeps name other bytes method is other_is no_help bytes_are named =
     let type_is : name.now ≡ type_of rows = ap (λ (word : Bor (List ℕ)). word.now) is ∙ word_or given.method other
     ∙ ap (unwrap_or (bytes_of given.method)) other_is ∙ ap (λ (word : Option Text). unwrap_or word (codes "sha512crypt")) keeps.method in
-    record { not_help = λ asks. not_help (type_is ∙ asks); named = ap method_named (sym (bytes_are ∙ type_is)) ∙ sym named }
+    record { not_help = λ asks. true≢false (sym ((bytes_eq-Decides _ (codes "help")).1 (type_is ∙ asks)) ∙ sym no_help); named = ap method_named (sym (bytes_are ∙ type_is)) ∙ sym named }
 
 pub returns-then-from-flags-gt1 : goal.returns-then-from-flags-gt1
 returns-then-from-flags-gt1 c =
     let keeps = c.in_ok-given.ensures.ok in
     let rows = matches_of command (map string_bytes c.args.words.now) in
-    let names = names_by rows c.in_ok-given.given keeps c.unwrap_or-name.result _ c.as_bytes.result c.in-Some.method c.unwrap_or-name.ensures refl
-    (λ asks. true≢false (sym ((bytes_eq-Decides c.unwrap_or-name.result.now (codes "help")).1 asks) ∙ sym c.if-eq.ensures)) c.as_bytes.ensures.value c.in-Some.ensures in
+    let names = names_by rows _ keeps _ _ c.as_bytes.result _ c.unwrap_or-name.ensures refl c.if-eq.ensures c.as_bytes.ensures.value c.in-Some.ensures in
     let salts = c.in_ok-salt.ensures.once rows keeps in
     let count = mode_count_is rows c.in_ok-given.given keeps _ _ _ _ (c.from-4.ensures ∙ ap bool_byte c.is_some.ensures) c.from.ensures c.from-2.ensures c.from-3.ensures in
     (c.in_ok-given.ensures.taken, means_two_modes rows c.in-Some.method names salts.0 (omega (arith, count)))
@@ -64,8 +63,7 @@ returns-in_err-maker c =
     let p = err_from_is_err_and c.from_residual-in_err-maker.result c.from_residual-in_err-maker.ensures.1 in
     let keeps = c.in_ok-given.ensures.ok in
     let rows = matches_of command (map string_bytes c.args.words.now) in
-    let names = names_by rows c.in_ok-given.given keeps c.unwrap_or-name.result _ c.as_bytes.result c.in-Some.method c.unwrap_or-name.ensures refl
-    (λ asks. true≢false (sym ((bytes_eq-Decides c.unwrap_or-name.result.now (codes "help")).1 asks) ∙ sym c.if-eq.ensures)) c.as_bytes.ensures.value c.in-Some.ensures in
+    let names = names_by rows _ keeps _ _ c.as_bytes.result _ c.unwrap_or-name.ensures refl c.if-eq.ensures c.as_bytes.ensures.value c.in-Some.ensures in
     let salts = c.in_ok-salt.ensures.once rows keeps in
     let count = mode_count_is rows c.in_ok-given.given keeps _ _ _ _ (c.from-4.ensures ∙ ap bool_byte c.is_some.ensures) c.from.ensures c.from-2.ensures c.from-3.ensures in
     rw (p.1, p.2) (
@@ -77,8 +75,7 @@ pub returns : goal.returns
 returns c =
     let keeps = c.in_ok-given.ensures.ok in
     let rows = matches_of command (map string_bytes c.args.words.now) in
-    let names = names_by rows c.in_ok-given.given keeps c.unwrap_or-name.result _ c.as_bytes.result c.in-Some.method c.unwrap_or-name.ensures refl
-    (λ asks. true≢false (sym ((bytes_eq-Decides c.unwrap_or-name.result.now (codes "help")).1 asks) ∙ sym c.if-eq.ensures)) c.as_bytes.ensures.value c.in-Some.ensures in
+    let names = names_by rows _ keeps _ _ c.as_bytes.result _ c.unwrap_or-name.ensures refl c.if-eq.ensures c.as_bytes.ensures.value c.in-Some.ensures in
     let salts = c.in_ok-salt.ensures.once rows keeps in
     let count = mode_count_is rows c.in_ok-given.given keeps _ _ _ _ (c.from-4.ensures ∙ ap bool_byte c.is_some.ensures) c.from.ensures c.from-2.ensures c.from-3.ensures in
     let few_modes : ¬ BreaksUsage rows TwoModes = λ two. absurd (omega (arith, count)) in

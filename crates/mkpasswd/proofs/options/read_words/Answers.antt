@@ -21,8 +21,8 @@ use Rattle.clap.specs.declared.parser.matches.ArgMatches.{ArgMatches}
 use Rattle.clap.proofs.CallerReads.{signed_reads}
 use Rattle.clap.proofs.WalkLemmas.{first_value-rows, one_text-rows}
 use Rattle.mkpasswd.specs.Options.{Refuses, command}
-use Rattle.mkpasswd.specs.Private.Options.{budget_rule, rounds_rule}
 use Rattle.mkpasswd.proofs.CommandFacts as facts
+use Rattle.mkpasswd.proofs.CommandFacts.{budget_rule, rounds_rule}
 use Rattle.mkpasswd.proofs.PassedValues.{IsOnlyRule, Passed, all_free, passed}
 use Rattle.mkpasswd.proofs.options.read_words.Goals as goal
 
