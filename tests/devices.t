@@ -129,7 +129,8 @@ subtest 'what lines ask for' => sub {
 
 # In few addresses each program does what it can, and says what it lacks. Two tables don't fit into the most addresses here.
 subtest 'few addresses' => sub {
-    for my $program (program(), "$root/build/x86-64/mkpasswd") {
+    my $static = "$root/build/x86-64/mkpasswd";
+    for my $program (program(), needs($static => 'none: run make static', -x $static || 0) ? $static : ()) {
         my %end;
         for my $limit ((map { 500 * $_ } 6 .. 12, 37 .. 48, 100, 130), 80_000) {
             my $run = run({ stdin => $small . $large }, 'sh', '-c', 'ulimit -v "$0" && exec "$@"', $limit, $program, '--check');

@@ -22,7 +22,7 @@ my %dependencies = (
     prims_core => 'arrayvec byteorder md5 sha2', kdf_core => 'prims_core thiserror',
     crypt_core => 'arrayvec kdf_core prims_core rand_core thiserror',
     run_core => 'arrayvec crypt_core itoa prims_core rand_core thiserror',
-    mkpasswd => 'arrayvec clap crypt_core itoa prims_core rand_core run_core thiserror', program => 'mkpasswd prims_core rand',
+    mkpasswd => 'arrayvec clap crypt_core prims_core rand_core run_core thiserror', program => 'mkpasswd prims_core rand',
     call_core => 'crypt_core prims_core', crypt_c => 'call_core crypt_core prims_core',
     crypt_web => 'arrayvec call_core crypt_core prims_core', service => 'crypt_core',
 );

@@ -2,5 +2,5 @@
 # An option has no documents and no completions.
 # Sees: options.t: manual of mkpasswd
 # Only: ^options
-"$REAL" "$@" | sed 's/^      --work .*/&\n      --quiet            Print nothing/'
+"$REAL" "$@" | sed 's/^      --work .*/&\n      --nonesuch         Print nothing/'
 exit "${PIPESTATUS[0]}"

@@ -68,7 +68,9 @@ def test_recipe_of_flask(database, tmp_path, monkeypatch):
     flask = needs("flask", "python3-flask")
     app = flask.Flask("test")
     monkeypatch.chdir(tmp_path)
-    database.backup(sqlite3.connect("users.db"))
+    database.commit()
+    with contextlib.closing(sqlite3.connect("users.db")) as users:
+        database.backup(users)
     recipe("Flask", app=app, flask=flask, contextlib=contextlib, sqlite3=sqlite3, login=recipe("A whole login")["login"])
     in_thread = ThreadPoolExecutor(1).submit
 
