@@ -56,6 +56,8 @@ extern "C" {
 #define MKPASSWD_CHECKED __attribute__((warn_unused_result))
 #define MKPASSWD_NONNULL(place) __attribute__((nonnull(place)))
 #if defined __clang__
+#pragma clang diagnostic push
+#pragma clang diagnostic ignored "-Wgcc-compat" /* of -pedantic: gcc has no diagnose_if */
 #define MKPASSWD_READS(bytes, place, len) __attribute__((diagnose_if(!bytes, "null where nonnull is wanted", "warning")))
 #define MKPASSWD_WRITES(out, len)
 #elif __GNUC__ >= 10
@@ -305,6 +307,9 @@ MKPASSWD_WRITES(2, 3) static inline bool mkpasswd_words_str(int32_t reason, char
 #undef MKPASSWD_EXPORT
 #undef MKPASSWD_CHECKED
 #undef MKPASSWD_NONNULL
+#if defined __clang__
+#pragma clang diagnostic pop
+#endif
 #undef MKPASSWD_READS
 #undef MKPASSWD_WRITES
 
