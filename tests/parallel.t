@@ -252,9 +252,14 @@ subtest 'progress' => sub {
     is(slurp("$scratch/out"), $slow_alone->{out} x 4, 'a terminal: answers beside it');
 };
 
-# Two machines: an sshd in a network namespace each. One is lost, silently, after it has answered, and the others answer its
-# lines. The recipe for fleets on both.
+# Two machines: an sshd in a network namespace each. One is lost after it has answered. The recipe for fleets on both.
 subtest 'machines' => sub {
+    spew("$scratch/lib/mkpasswd", "#!/bin/sh\necho mkpasswd 1.0.0\n");
+    spew("$scratch/lib/ssh", "#!/bin/sh\nfor words; do :; done\nPATH=$scratch/lib:\$PATH exec sh -c \"\$words\"\n");
+    chmod 0755, map { "$scratch/lib/$_" } qw(mkpasswd ssh);
+    my ($own, %other) = (run($program, '-V')->{out} =~ s/\n//r, stdin => $thirty, env => { PATH => "$scratch/lib:$ENV{PATH}" });
+    my $told = "mkpasswd-parallel: there: $own is wanted, not mkpasswd 1.0.0; $none\n";
+    is_run(run(\%other, $script, qw(--jobs 0 --on there), @batch), 3, '', $told, 'a machine with another version is refused');
     my ($sshd) = grep { -x } map { "$_/sshd" } '/usr/sbin', split /:/, $ENV{PATH};
     needs(sshd => 'openssh-server', $sshd) or return;
     needs('ip, or a network of its own,' => 'iproute2', !run(qw(unshare --net --mount ip link set lo up))->{status}) or return;

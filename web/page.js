@@ -3,11 +3,11 @@ const [DONE, DIFFERS] = [3, -17];
 const WORDS = {
     1: 'The password matches',
     [DONE]: 'Made',
-    [DIFFERS]: 'The password does not match',
+    [DIFFERS]: 'The password does not match, or the hash is incomplete',
     '-1': 'password too long: it has more than 1024 bytes',
     '-2': 'password has a zero byte',
     '-3': 'setting too long: a stored hash has at most 384 bytes',
-    '-4': 'bad character: no stored hash has it; ! and * lock an account',
+    '-4': 'bad character: take what stands between the first two colons; ! and * lock an account',
     '-5': 'unknown scheme: it begins with none of $1$, $5$ and $6$; yescrypt, $y$, cannot be checked here',
     '-6': 'bad rounds: no valid number follows rounds=',
     '-7': 'bad cost', '-8': 'scrypt range', '-9': 'above ceiling', '-10': 'bad salt',
@@ -128,9 +128,10 @@ for (const form of document.forms) {
         element('made').hidden ||= form.id === 'make';
     });
 }
-for (const method of isSupported ? [6, 5, 1] : []) {
-    work('measure', { method }, (data) => { rates[method] = data; tellEstimate(); });
+function measure([method, ...others]) {
+    if (method) work('measure', { method }, (data) => { rates[method] = data; tellEstimate(); measure(others); });
 }
+if (isSupported) measure([6, 5, 1]);
 document.addEventListener('click', ({ target }) => {
     const button = target.closest('button');
     for (const [name, value] of Object.entries(button?.dataset ?? {})) clicks[name](button, value);

@@ -128,7 +128,7 @@ def hash(
 
     `method` is "sha512crypt", "sha256crypt", "scrypt" or "md5crypt". `rounds` is the number of rounds of SHA-crypt, 1000
     to 999999999; for scrypt it is 6 to 11, for N = 2^(rounds + 7), r = 32 and p = 1. None and 0 stand for the method's
-    own, 5000 or 7. md5crypt ignores it.
+    own, 7 or 5000, which is too few today: give 656000. md5crypt ignores it.
 
     >>> hash("password", rounds=20000).startswith("$6$rounds=20000$")
     True
@@ -169,6 +169,8 @@ def login(
 
     The check and the new hash may cost as much as the budget each. If the new hash costs more, or the system has no memory
     or no random bytes for it, `new` is None and the old hash stays.
+
+    It does not say why it is false; the exceptions of verify() do.
 
     Raises Refused for an unknown method or rounds that scrypt does not take, ValueError for other rounds of SHA-crypt, and
     TypeError.

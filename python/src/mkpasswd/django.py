@@ -1,9 +1,12 @@
 """A password hasher for Django.
 
-    PASSWORD_HASHERS = ["mkpasswd.django.MkpasswdPasswordHasher", ..]
+    class SitePasswordHasher(MkpasswdPasswordHasher):
+        rounds = 656000
+        budget = 1300000000
 
-Django reads the algorithm in front of the first "$", so a hash is stored as "mkpasswd$6$..". Put "mkpasswd" in front of
-hashes of these methods that come from elsewhere. Another method, number of rounds or budget is set in a subclass.
+PASSWORD_HASHERS has the name of such a class: the one here makes hashes of 5000 rounds. Django reads the algorithm in front
+of the first "$", so a hash is stored as "mkpasswd$6$..". Put "mkpasswd" in front of hashes of these methods that come from
+elsewhere.
 """
 import os
 import re
