@@ -86,7 +86,7 @@ subtest 'one run over the whole input' => sub {
     my $worked = same('--work and --budget', { stdin => batch_lines() }, ['--jobs=2'], @batch, qw(--work --budget 100000));
     my $check = check_lines($worked->{out});
     same('a check', { stdin => $check }, [qw(--jobs 3)], qw(--check --budget 500000));
-    same('a check with new hashes', { stdin => $check }, [], qw(--check --rehash -m sha256 -R 1000 -S ab --work --budget 300000));
+    same('a check with new hashes', { stdin => $check }, [], qw(--check --rehash -m sha256crypt -R 1000 -S ab --work --budget 300000));
     same('a wrong password', { stdin => "ann:\$1\$xxxxxxxx\$UYCIxa628.9qXjpQCjM4a.:x\n" }, [], qw(--check --work));
     same(@$_, [], @batch) for ['no input', {}], ['CRLF', { stdin => "a:x\r\n:\r\n" }], ['no end', { stdin => 'a:x' }];
     same('more lines than wait at once', { stdin => "first:x\n" . ":\n" x 150_000 }, [], qw(--batch -R 400000 -S ab));
