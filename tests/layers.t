@@ -56,7 +56,7 @@ my %loops = ($salsa => 0, $mix => 3);
 my %allocates = (
     'crates/program/src/main.rt' => 'collect',
     'crates/mkpasswd/src/command.rt' => 'in',
-    'crates/mkpasswd/src/options.rt' => 'Command::new Arg::new Arg::new Vec::from_slice',
+    'crates/mkpasswd/src/options.rt' => 'Command::new Arg::new Arg::new Vec::from_slice in',
     "$prims/table.rt" => 'in',
     "$prims/scratch.rt" => 'in in',
 );

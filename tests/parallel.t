@@ -152,13 +152,14 @@ subtest 'workers that fail' => sub {
     ) {
         my ($name, $why, $does) = @$_;
         my $answers = 'while read -r line; do case $line in three:*) ' . $does . ' ;; *) echo "${line%%:*}:\$1\$x" ;; esac; done';
-        spew("$scratch/played/mkpasswd", "#!/bin/sh\n$answers\n");
-        chmod 0755, "$scratch/played/mkpasswd";
+        chmod 0755, spew("$scratch/played/mkpasswd", "#!/bin/sh\n$answers\n");
         my $run = run({ stdin => $lines, timeout => 60 }, $played, qw(--jobs 1), @batch);
-        my $rest = 'answered up to line 2; --resume-from 3 takes the rest';
-        like("$run->{status} $run->{err}", qr/^3 mkpasswd-parallel: $why; $rest\n\z/, "$name: it is told");
+        my $told = qr/^3 mkpasswd-parallel: $why; answered up to line 2; --resume-from 3 takes the rest\n\z/;
+        like("$run->{status} $run->{err}", $told, "$name: it is told");
         is($run->{out}, "one:\$1\$x\ntwo:\$1\$x\n", "$name: the lines before are answered");
     }
+    spew("$scratch/played/mkpasswd", "\x7fELF(\n");
+    is(run({ stdin => $lines }, $played, @batch)->{status}, 3, 'a mkpasswd that no machine runs');
 };
 
 my $none = 'answered up to line 0; --resume-from 1 takes the rest';
@@ -267,8 +268,7 @@ subtest 'machines' => sub {
     run(qw(ssh-keygen -q -t ed25519 -N), '', '-f', "$scratch/ssh/$_") for qw(host user);
     my ($ssh) = grep { -x } map { "$_/ssh" } split /:/, $ENV{PATH};
     my @client = ("IdentityFile=$scratch/ssh/user", qw(UserKnownHostsFile=/dev/null StrictHostKeyChecking=no LogLevel=ERROR));
-    spew("$scratch/bin/ssh", "#!/bin/sh\nexec $ssh @{[map { qq(-o $_) } @client]} \"\$@\"\n");
-    chmod 0755, "$scratch/bin/ssh";
+    chmod 0755, spew("$scratch/bin/ssh", "#!/bin/sh\nexec $ssh @{[map { qq(-o $_) } @client]} \"\$@\"\n");
     my @keys = ("HostKey=$scratch/ssh/host", "AuthorizedKeysFile=$scratch/ssh/user.pub", "SetEnv=PATH=$scratch/bin:/bin");
     my $server = join ' -o ', "$sshd -f /dev/null", @keys, qw(StrictModes=no PidFile=none PermitRootLogin=yes);
     my $network = 'mkdir -p /run/netns; mount -t tmpfs none /run/netns; ip link set lo up; for n in 1 2; do ip netns add m$n;'

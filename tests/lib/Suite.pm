@@ -137,6 +137,7 @@ sub spew {
     open my $file, '>:raw', $path or die "$path: $!";
     print $file $bytes or die "$path: $!";
     close $file or die "$path: $!";
+    return $path;
 }
 
 # Whether a tool is there. Where it is missing, a skipped test says so with Debian's package, or with STRICT=1 a failed

@@ -21,7 +21,7 @@ reported reason len most counts =
 abbrev pub refused : Refusal → ℕ → Report
 refused refusal most = reported (Refused refusal) 0 most no_work
 
--- The report of a step, whether it went through or was refused.
+-- The report of a step, whether it ended early or not. Either can be that of a refusal.
 abbrev pub either : Result Report Report → Report
 either (Ok report) = report
 either (Err report) = report

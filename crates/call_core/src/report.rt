@@ -87,6 +87,8 @@ impl From<Refusal> for Report {
 }
 
 /// Writes the report of a call and returns its result: 1 if the reason is above 0, else 0.
+///
+/// `Err` only means that the call ended early: the report in `Ok` can be that of a refusal too.
 pub fn tell(report: &mut Report, told: Result<Report, Report>) -> i32
     ensures told { report.new ≡ either told }
     ensures one_or_zero { (result ≡ pos 1) ⊎ (result ≡ pos 0) }

@@ -1,5 +1,5 @@
 -- What the report of a login says of its password and the stored hash.
-use Rattle.std.proofs.Common.{◌≡◌, ◌<◌, ◌≤◌, ◌⊎◌, ℕ, Bool, Some, List, length, nat_lt, if◌then◌else◌, false, true, ap, inl, inr, refl, sym, subst, arith}
+use Rattle.std.proofs.Common.{◌≡◌, ◌<◌, ◌≤◌, ◌⊎◌, ℕ, Bool, Some, List, Err, length, nat_lt, if◌then◌else◌, false, true, ap, inl, inr, refl, sym, subst, arith}
 use Rattle.std.specs.Prelude.{IsTrue, MatchBool}
 use Rattle.std.specs.Str.{bytes_eq}
 use Rattle.prims_core.specs.Work.{no_work}
@@ -14,11 +14,12 @@ use Rattle.crypt_core.specs.declared.method.Method.{Method}
 use Rattle.crypt_core.specs.declared.password.PasswordFault.{PasswordFault}
 use Rattle.crypt_core.specs.declared.password.PasswordFault.TheVariants.{TooLong, HasNul}
 use Rattle.crypt_core.specs.declared.scheme.Scheme.{Scheme}
-use Rattle.call_core.specs.Arguments.{IsSchemeMade, TakesNewCost}
+use Rattle.call_core.specs.Arguments.{IsSchemeMade, IsSchemeReading, TakesNewCost}
 use Rattle.call_core.specs.CommonCalls.{Compares, Verifies}
 use Rattle.call_core.specs.Reports.{LacksMemory, refused, reported}
 use Rattle.call_core.specs.declared.reason.Reason.{Reason}
 use Rattle.call_core.specs.declared.reason.Reason.TheVariants.{Fits, Outdated, Refused}
+use Rattle.call_core.specs.declared.reason.Refusal.{Refusal}
 use Rattle.call_core.specs.declared.reason.Refusal.TheVariants.{Differs, OverBudget, Password, Setting}
 use Rattle.call_core.specs.declared.report.Report.{Report}
 use Rattle.call_core.proofs.Verdicts.{made_once}
@@ -108,22 +109,28 @@ agrees password field number price budget scheme report makes (inl (is, inl (oth
 checked_within : (above : Bool) (password field : List ℕ) (budget : ℕ) (scheme : Scheme) (kept : SettingValue) (reason : Reason) (report : Report)
     → nat_lt budget (cost kept (length password)) ≡ above
     → MatchBool above (Declines password scheme budget (refused OverBudget (cost kept (length password))) report) (Compares password kept field reason report)
-    → (setting : SettingValue) × IsHashWork password setting budget report.work
-checked_within true password field budget scheme kept reason report e declines = (decoy scheme, declines.1)
-checked_within false password field budget scheme kept reason report e (inl told) = (kept, rw e (inl (ap (λ (r : Report). r.work) told)))
+    → IsHashWork password (decoy scheme) budget report.work ⊎ IsHashWork password kept budget report.work
+checked_within true password field budget scheme kept reason report e declines = inl declines.1
+checked_within false password field budget scheme kept reason report e (inl told) = inr (rw e (inl (ap (λ (r : Report). r.work) told)))
 checked_within false password field budget scheme kept reason report e (inr (done, failed, told)) =
     let same : report.work ≡ done = ap (λ (r : Report). r.work) told in
-    (kept, rw e (inr (subst (λ (w : Work). IsAfterRefusedGrowth no_work kept.scheme w) (sym same) failed)))
+    inr (rw e (inr (subst (λ (w : Work). IsAfterRefusedGrowth no_work kept.scheme w) (sym same) failed)))
 
 pub within : (password field : List ℕ) (number price budget : ℕ) (report : Report) → LogsIn password field number price budget report
-    → (report.work ≡ no_work) ⊎ ((kept : SettingValue) × IsHashWork password kept budget report.work)
+    → (report.work ≡ no_work) ⊎ ((kept : SettingValue)
+    × (Spells field kept ⊎ ((scheme : Scheme) × IsSchemeMade TakesNewCost number price scheme × (kept ≡ decoy scheme)))
+    × IsHashWork password kept budget report.work)
 within password field number price budget report (inr (fault, is, e)) = inl (ap (λ (r : Report). r.work) e)
 within password field number price budget report (inl (is, inr (inl (none, e)))) = inl (ap (λ (r : Report). r.work) e)
 within password field number price budget report (inl (is, inr (inr (method, named, never, e)))) = inl (ap (λ (r : Report). r.work) e)
-within password field number price budget report (inl (is, inl (scheme, makes, inr (fault, broken, declines)))) = inr (decoy scheme, declines.1)
+within password field number price budget report (inl (is, inl (scheme, makes, inr (fault, broken, declines)))) =
+    inr (decoy scheme, inr (scheme, makes, refl), declines.1)
 within password field number price budget report (inl (is, inl (scheme, makes, inl (kept, spells, checked)))) =
-    inr (checked_within (nat_lt budget (cost kept (length password))) password field budget scheme kept
-    (if is_replaced_by kept.scheme scheme then Outdated else Fits) report refl checked)
+    elim (checked_within (nat_lt budget (cost kept (length password))) password field budget scheme kept
+    (if is_replaced_by kept.scheme scheme then Outdated else Fits) report refl checked) [
+      | inl new ↦ inr (decoy scheme, inr (scheme, makes, refl), new)
+      | inr old ↦ inr (kept, inl spells, old)
+    ]
 
 -- a stored hash that can't be checked costs what a new hash costs
 pub pretends : (password field : List ℕ) (number price budget : ℕ) (scheme : Scheme) (report : Report)
@@ -152,3 +159,19 @@ alike password field number price budget TooLong report broken (inr (TooLong, al
 alike password field number price budget HasNul report broken (inr (HasNul, also, e)) = e
 alike password field number price budget TooLong report broken (inr (HasNul, also, e)) = absurd (omega (arith, also.0, broken))
 alike password field number price budget HasNul report broken (inr (TooLong, also, e)) = absurd (omega (arith, broken.0, also))
+
+-- a method and a cost that no new hash has are refused alike for every field
+pub alike_cost : (password field : List ℕ) (number price budget : ℕ) (refusal : Refusal) (report : Report) → IsPassword password
+    → IsSchemeReading TakesNewCost number price (Err refusal) → LogsIn password field number price budget report → report ≡ refused refusal 0
+alike_cost password field number price budget refusal report is reading (inr (TooLong, broken, e)) = absurd (omega (arith, is.0, broken))
+alike_cost password field number price budget refusal report is reading (inr (HasNul, broken, e)) = absurd (is.1 broken.1)
+alike_cost password field number price budget refusal report is (inl (kind, none)) (inl (also, inr (inl (nobody, e)))) = rw kind e
+alike_cost password field number price budget refusal report is (inr (kind, rest)) (inl (also, inr (inr (method, named, never, e)))) = rw kind e
+alike_cost password field number price budget refusal report is (inl (kind, none)) (inl (also, inr (inr (method, named, never, e)))) =
+    absurd (cc (none, named))
+alike_cost password field number price budget refusal report is (inr (kind, (method, named, never))) (inl (also, inr (inl (none, e)))) =
+    absurd (cc (none, named))
+alike_cost password field number price budget refusal report is (inl (kind, none)) (inl (also, inl (scheme, makes, rest))) =
+    absurd (cc (none, makes.1))
+alike_cost password field number price budget refusal report is (inr (kind, (method, named, never))) (inl (also, inl (scheme, makes, rest))) =
+    never_refused number price scheme _ makes method named never

@@ -3,14 +3,14 @@
 //! A step that can hash takes a new meter, and its report has all that this meter counted. So it hashes nothing that it
 //! does not report: nothing above the budget, without capacity for the hash, or after a refusal. tests/layers.t checks
 //! that it makes no other meter.
-ghost use Rattle.std.specs.Prelude.{◌≡◌, ◌⊎◌, ◌<◌, ◌≤◌, ◌<ℤ◌, pos, [], Result, length, take, IfOk, IfErr, OnErr, OnOk};
+ghost use Rattle.std.specs.Prelude.{◌≡◌, ◌⊎◌, ◌<◌, ◌≤◌, ◌<ℤ◌, pos, [], Result, length, take, IfOk, OnErr, OnOk};
 ghost use Rattle.prims_core.specs.Work.{no_work};
 ghost use Rattle.crypt_core.specs.Crypt.{IsAfterRefusedGrowth, crypt};
 ghost use Rattle.crypt_core.specs.Settings.{Spells};
 ghost use Rattle.crypt_core.specs.Work.{cost, work};
 ghost use Rattle.crypt_core.specs.declared.scheme.Scheme.{Scheme as Made};
 ghost use Rattle.call_core.specs.Arguments.{IsSchemeMade, TakesNewCost};
-ghost use Rattle.call_core.specs.CommonCalls.{Bounds, Compares, Hashes, Opens, PutsSetting, Verifies, admission};
+ghost use Rattle.call_core.specs.CommonCalls.{Compares, Hashes, Opens, Verifies};
 ghost use Rattle.call_core.specs.Private.Steps.{IsPut, IsTold, MakesHash, MakesHashOf};
 ghost use Rattle.call_core.specs.Reasons.{reason_row};
 ghost use Rattle.call_core.specs.Reports.{either, put, refused, token};
@@ -102,11 +102,11 @@ pub(crate) fn log_in(
     }
 }
 
-// Makes and drops a hash with the setting `new`, if the budget allows it, and returns the refusal with its work.
+// Makes and drops a hash with the setting `decoy`, if the budget allows it, and returns the refusal with its work.
 fn decline(
     alloc: Global,
     password: &Password,
-    new: &Setting,
+    decoy: &Setting,
     budget: u64,
     refused: Report,
     meter: &mut Meter,
@@ -114,13 +114,13 @@ fn decline(
     requires new { meter.old ≡ no_work }
     requires idle { refused.work ≡ no_work }
     ensures declines { (result ≡ record refused { work = result.work })
-        × IsHashWork password.now new.now budget result.work }
+        × IsHashWork password.now decoy.now budget result.work }
     ensures counted { meter.new ≡ result.work }
 {
-    if cost_within(password, new, budget).is_err() {
+    if cost_within(password, decoy, budget).is_err() {
         return refused;
     }
-    let (_, work) = counted_hash(alloc, password, new, meter);
+    let (_, work) = counted_hash(alloc, password, decoy, meter);
     Report { work, ..refused }
 }
 
@@ -138,7 +138,8 @@ fn compare(
     requires most { most ≡ cost setting.now (length password.now) }
     requires fits { (fits ≡ Reason.Fits) ⊎ (fits ≡ Reason.Outdated) }
     ensures compares { Compares password.now setting.now stored.now fits result }
-    ensures same { pos 0 <ℤ result.reason → (crypt password.now setting.now ≡ stored.now) × (result.reason ≡ (reason_row fits).0) }
+    ensures same { pos 0 <ℤ result.reason
+        → (crypt password.now setting.now ≡ stored.now) × (result.reason ≡ (reason_row fits).0) }
     ensures opens { crypt password.now setting.now ≡ stored.now
         → (pos 0 <ℤ result.reason) ⊎ (result.reason ≡ (reason_row (Reason.Refused Refusal.OutOfMemory)).0) }
     ensures counted { meter.new ≡ result.work }
@@ -165,6 +166,7 @@ pub(crate) fn put_hash(
     requires new { meter.old ≡ no_work }
     ensures hashes { Hashes password.now text.now budget out.old (either result) out.new }
     ensures locked { ¬ (pos 0 <ℤ (either result).reason) → out.new ≡ put (token text.now) out.old }
+    ensures opens { pos 0 <ℤ (either result).reason → Opens password.now (take (either result).length out.new) budget }
     ensures within { pos 0 <ℤ (either result).reason → (either result).cost ≤ budget }
     ensures counted { meter.new ≡ (either result).work }
     ensures reserved { (either result).reserved ≡ 0 }
@@ -234,6 +236,7 @@ fn hash_of(
     requires new { meter.old ≡ no_work }
     ensures makes { MakesHashOf password.now text.now budget room result }
     ensures told { IsTold budget room meter.new result }
+    ensures opens { IfOk result (λ made. Opens password.now made.0 budget) }
 {
     let password = Password::new(password)?;
     let setting = Setting::read(text)?;

@@ -1,26 +1,28 @@
 //! mkpasswd for C: the calls of `c/mkpasswd.h`, which says how to use each of them.
 //!
-//! A list of bytes is a pointer and a number of bytes. A call that can fail returns 1 if it did what its name says,
-//! else 0. It always writes the whole report, which has the reason. So a caller who compares nothing denies access.
-//! After a 0 `out` holds a token, which matches no password, cut to the capacity of `out`.
+//! A list of bytes is a pointer and a number of bytes. All calls but [`mkpasswd_words`] and [`mkpasswd_version`] have a
+//! report. Such a call returns 1 if it did what its name says, else 0. It always writes the whole report, which has the
+//! reason. So a caller who compares nothing denies access. After a 0 `out` holds a token, which matches no password, cut
+//! to the capacity of `out`.
 //!
 //! The report has the first refusal that applies, in this order: password, setting, method, cost, budget, capacity,
 //! random numbers, memory. For a login method and cost come before the field. The calls share no state and start no
 //! threads, so many threads may call at once.
 #![tactic(auto)]
 
-ghost use Rattle.std.specs.Prelude.{◌≡◌, ◌≢◌, ◌⊎◌, ◌↔◌, ◌<◌, ◌≤◌, pos, [], ◌∷◌, length, take, codes};
+ghost use Rattle.std.specs.Prelude.{◌≡◌, ◌≢◌, ◌⊎◌, ◌↔◌, ◌<◌, ◌≤◌, pos, [], ◌∷◌, Err, length, take, codes};
 ghost use Rattle.prims_core.specs.Work.{no_work};
 ghost use Rattle.crypt_core.specs.Passwords.{IsPassword, IsPasswordRefused};
 ghost use Rattle.crypt_core.specs.Settings.{SettingValue, Spells};
 ghost use Rattle.crypt_core.specs.declared.password.PasswordFault.{PasswordFault};
 ghost use Rattle.crypt_core.specs.declared.scheme.Scheme.{Scheme};
-ghost use Rattle.call_core.specs.Arguments.{IsSchemeMade, TakesNewCost};
+ghost use Rattle.call_core.specs.Arguments.{IsSchemeMade, IsSchemeReading, TakesNewCost};
 ghost use Rattle.call_core.specs.CommonCalls.{Bounds, Hashes, Opens, PutsSetting, Verifies};
 ghost use Rattle.call_core.specs.Reasons.{reason_row};
 ghost use Rattle.call_core.specs.Reports.{Answers, put, refused, token};
 ghost use Rattle.call_core.specs.declared.reason.Reason.{Reason as Why};
 ghost use Rattle.call_core.specs.declared.reason.Reason.TheVariants.{Outdated, Refused};
+ghost use Rattle.call_core.specs.declared.reason.Refusal.{Refusal};
 ghost use Rattle.call_core.specs.declared.reason.Refusal.TheVariants.{Current, OutOfMemory, Password};
 ghost use Rattle.call_core.specs.declared.report.Report.{Report as Told};
 ghost use Rattle.crypt_c.specs.Calls.{Agrees, HashesAnew, IsHashWork, IsOutdated, IsUncheckable, LogsIn, Rehashes, decoy};
@@ -68,8 +70,8 @@ pub extern "C" fn mkpasswd_verify(
     )
 }
 
-/// Returns 1 exactly if the method takes the cost and [`mkpasswd_verify`] returns 1. The reason tells whether
-/// [`mkpasswd_needs_rehash`] would return 1.
+/// Returns 1 exactly if a new hash can have the method and the cost, and [`mkpasswd_verify`] returns 1. The reason tells
+/// whether [`mkpasswd_needs_rehash`] would return 1.
 ///
 /// If the field has no setting, or one above the budget, the call hashes the password with a new setting of the method
 /// and the cost, and returns 0. So such a name does the work of a new hash. A name that is not known has an empty field.
@@ -77,9 +79,11 @@ pub extern "C" fn mkpasswd_verify(
 /// # Errors
 ///
 /// - `Password`: the password is invalid. The field makes no difference.
-/// - `UnknownMethod`, `Cost`: no method has the number, or a new hash cannot have the cost.
+/// - `UnknownMethod`, `Cost`: no method has the number, or a new hash cannot have the cost. Here too the field makes no
+///   difference.
 /// - `Setting`, `OverBudget`: the field has no valid hash, or one that can cost more than the budget. The work is that of
-///   the new hash, or none if that can cost more than the budget or scrypt could not allocate for it.
+///   the new hash: none if that can cost more than the budget, and if scrypt could not allocate for it, that of the
+///   allocations before.
 /// - `Differs`: the password does not match.
 /// - `OutOfMemory`: scrypt could not allocate for the stored hash.
 #[unsafe(no_mangle)]
@@ -102,8 +106,11 @@ pub extern "C" fn mkpasswd_login(
     ensures decoy { (scheme : Scheme) → IsSchemeMade TakesNewCost method cost scheme → IsPassword password.now
         → IsUncheckable password.now field.now budget → IsHashWork password.now (decoy scheme) budget report.new.work }
     ensures alike { (fault : PasswordFault) → IsPasswordRefused password.now fault → report.new ≡ refused (Password fault) 0 }
-    ensures within { (report.new.work ≡ no_work)
-        ⊎ ((kept : SettingValue) × IsHashWork password.now kept budget report.new.work) }
+    ensures alike_cost { (refusal : Refusal) → IsPassword password.now → IsSchemeReading TakesNewCost method cost (Err refusal)
+        → report.new ≡ refused refusal 0 }
+    ensures within { (report.new.work ≡ no_work) ⊎ ((kept : SettingValue)
+        × (Spells field.now kept ⊎ ((scheme : Scheme) × IsSchemeMade TakesNewCost method cost scheme × (kept ≡ decoy scheme)))
+        × IsHashWork password.now kept budget report.new.work) }
     ensures logs_in { LogsIn password.now field.now method cost budget report.new }
 {
     tell(
@@ -208,7 +215,8 @@ pub extern "C" fn mkpasswd_bound(stored: &[u8], password_len: usize, report: &mu
     tell(report, tell_bound(password_len, stored))
 }
 
-/// Hashes a password with a setting, and writes the hash and a byte 0 to `out`.
+/// Hashes a password with a setting, and writes the hash and a byte 0 to `out`. [`mkpasswd_verify`] accepts it for the
+/// password within the budget.
 ///
 /// The token after a 0 is `*0`, or `*1` if the setting begins with `*0`.
 ///
@@ -229,6 +237,7 @@ pub extern "C" fn mkpasswd_hash(
 ) -> i32
     ensures answers { Answers result report.new }
     ensures hashes { Hashes password.now setting.now budget out.old report.new out.new }
+    ensures then_opens { result ≡ pos 1 → Opens password.now (take report.new.length out.new) budget }
     ensures within { result ≡ pos 1 → report.new.cost ≤ budget }
     ensures locked { result ≡ pos 0 → out.new ≡ put (token setting.now) out.old }
     ensures apart { (token setting.now ≢ setting.now) × ((kept : SettingValue) → ¬ Spells (token setting.now) kept) }

@@ -70,6 +70,7 @@ pub(crate) fn put_hash(
     ensures then_opens { pos 0 <ℤ (either result).reason
         → Opens password.now (take (either result).length out.new) budget × NeedsNoMemory (take (either result).length out.new) }
     ensures locked { ¬ (pos 0 <ℤ (either result).reason) → out.new ≡ put (token text.now) out.old }
+    ensures free { pos 0 <ℤ (either result).reason → NeedsNoMemory text.now }
     ensures within { pos 0 <ℤ (either result).reason → (either result).cost ≤ budget }
     ensures scrypt { ¬ NeedsNoMemory text.now → (either result).work ≡ no_work }
     ensures bytes { (either result).work.bytes ≤ budget }
@@ -106,6 +107,7 @@ fn hash_of(
     ensures makes { MakesHashOf password.now text.now budget room (in_bytes result) }
     ensures told { IsTold budget room meter.new (in_bytes result) }
     ensures opens { IfOk (in_bytes result) (λ made. Opens password.now made.0 budget × NeedsNoMemory made.0) }
+    ensures free { IfOk (in_bytes result) (λ made. NeedsNoMemory text.now) }
     ensures scrypt { ¬ NeedsNoMemory text.now → meter.new ≡ no_work }
     ensures bytes { meter.new.bytes ≤ budget }
 {

@@ -23,7 +23,8 @@ use call_core::steps::{put_setting, tell_bound};
 use calls::{put_hash, verify};
 use prims_core::meter::Meter;
 
-/// Checks a password against a stored hash. Returns 1 exactly if it matches and its hash costs at most the budget.
+/// Checks a password against a stored hash. Returns 1 exactly if it matches, its hash costs at most the budget, and its
+/// method is not scrypt.
 ///
 /// The call hashes nothing above the budget. The report has the cost once the password and the stored hash are known to be
 /// valid, and the work of the hash.
@@ -47,7 +48,7 @@ pub extern "C" fn web_verify(
     ensures lets_in { result ≡ pos 1 → Opens password.now stored.now budget × NeedsNoMemory stored.now }
     ensures opens { Opens password.now stored.now budget → NeedsNoMemory stored.now → result ≡ pos 1 }
     ensures verifies { Verifies password.now stored.now budget report.new }
-    ensures scrypt { ¬ NeedsNoMemory stored.now → report.new.work ≡ no_work }
+    ensures scrypt { ¬ NeedsNoMemory stored.now → (result ≡ pos 0) × (report.new.work ≡ no_work) }
     ensures bytes { report.new.work.bytes ≤ budget }
 {
     tell(report, verify(password, stored, budget, &mut Meter::new()))
@@ -77,7 +78,7 @@ pub extern "C" fn web_hash(
     ensures then_opens { result ≡ pos 1
         → Opens password.now (take report.new.length out.new) budget × NeedsNoMemory (take report.new.length out.new) }
     ensures within { result ≡ pos 1 → report.new.cost ≤ budget }
-    ensures scrypt { ¬ NeedsNoMemory setting.now → report.new.work ≡ no_work }
+    ensures scrypt { ¬ NeedsNoMemory setting.now → (result ≡ pos 0) × (report.new.work ≡ no_work) }
     ensures bytes { report.new.work.bytes ≤ budget }
     ensures locked { result ≡ pos 0 → out.new ≡ put (token setting.now) out.old }
     ensures apart { (token setting.now ≢ setting.now) × ((kept : SettingValue) → ¬ Spells (token setting.now) kept) }

@@ -35,17 +35,20 @@ option_rule id letter = record (value_rule id) { short = letter; long = Some id 
 abbrev pub flag_rule : Text → Option ℕ → Rule
 flag_rule id letter = record (new_rule id) { action = Some SetTrue; short = letter; long = Some id }
 
--- The command has a version, and its first argument is not the program's name. Its short options are `-m` (109), `-S`
--- (83), `-R` (82) and `-s` (115). The number of `-R` is at most 2^32 - 1, and that of `--budget` at most 2^64 - 1. Of
--- the arguments that are no options, the first is the password and the second the salt.
-unfoldable pub command : App
-command = fold with_rule (on_top (λ s. record s { no_binary_name = true; has_version = true }) (new_app (codes "mkpasswd")))
-    (option_rule (codes "method") (Some 109) ∷ option_rule (codes "salt") (Some 83)
+-- The short options are `-m` (109), `-S` (83), `-R` (82) and `-s` (115). The number of `-R` is at most 2^32 - 1, and that of
+-- `--budget` at most 2^64 - 1. Of the arguments that are no options, the first is the password and the second the salt.
+abbrev pub command_rules : List Rule
+command_rules =
+    option_rule (codes "method") (Some 109) ∷ option_rule (codes "salt") (Some 83)
     ∷ record (option_rule (codes "rounds") (Some 82)) { parser = Some (Signed (pos 0) (pos 4294967295)) }
     ∷ flag_rule (codes "stdin") (Some 115) ∷ flag_rule (codes "batch") None ∷ flag_rule (codes "check") None
     ∷ flag_rule (codes "rehash") None ∷ flag_rule (codes "work") None
     ∷ record (option_rule (codes "budget") None) { parser = Some (Unsigned 0 18446744073709551615) }
-    ∷ value_rule (codes "password") ∷ value_rule (codes "salt-word") ∷ [])
+    ∷ value_rule (codes "password") ∷ value_rule (codes "salt-word") ∷ []
+
+-- The command has a version, and its first argument is not the program's name.
+unfoldable pub command : App
+command = fold with_rule (on_top (λ s. record s { no_binary_name = true; has_version = true }) (new_app (codes "mkpasswd"))) command_rules
 
 -- ---- what `clap` finds in the arguments: a row for each one that is given
 

@@ -1,15 +1,15 @@
 //! The arguments after the program's name: the command with which `clap` parses them, and the plan that they ask for.
 //! The refusals have one order. Only `OutOfMemory` has no place in it: it occurs at the allocation that failed.
-ghost use Rattle.std.specs.Prelude.{◌≡◌, ◌≢◌, List, [], None, false, map, string_bytes, IfErr, IfOk};
-ghost use Rattle.clap.specs.Words.{Row, app_of, fault_of, kind_of, matches_of, rule_of};
+ghost use Rattle.std.specs.Prelude.{◌≡◌, ◌≢◌, List, [], None, map, string_bytes, IfErr, IfOk};
+ghost use Rattle.clap.specs.Words.{Row, app_of, fault_of, found_of, kind_of, matches_of, rows_of};
 ghost use Rattle.run_core.specs.Makers.{bytes_of};
-ghost use Rattle.mkpasswd.specs.Options.{BreaksUsage, Plans, Refuses, command, flag_rule, given_salt, value_rule};
-ghost use Rattle.mkpasswd.specs.Private.Options.{Keeps};
+ghost use Rattle.mkpasswd.specs.Options.{BreaksUsage, Plans, Refuses, command, flag_rule, given_salt, is_set, option_rule, value_rule};
+ghost use Rattle.mkpasswd.specs.Private.Options.{HasRule, Keeps};
 
 use crate::fault::UsageFault;
 use crate::job::{Job, Maker, PasswordFrom, Plan};
 use clap::error::ErrorKind;
-use clap::{Arg, ArgAction, Command, value_parser};
+use clap::{Arg, ArgAction, ArgMatches, Command, value_parser};
 use crypt_core::method::Method;
 use crypt_core::version::VERSION;
 use std::alloc::{AllocError, Global};
@@ -28,9 +28,10 @@ const SALT_HELP: &str =
     "The salt: up to 8 (md5crypt), 16 or 86 (scrypt)\nletters, digits, '.' and '/'; else a new one";
 
 const ROUNDS_HELP: &str =
-    "The cost: rounds of sha256crypt and sha512crypt,\n6 to 11 for scrypt, 0 for the method's own";
+    "The cost: rounds of sha256crypt and sha512crypt,\ntoday 656000; 6 to 11 for scrypt; 0: the method's own";
 
-const STDIN_HELP: &str = "The password is the first line of standard input";
+const STDIN_HELP: &str =
+    "The password is the first line of standard input,\nand empty without any input";
 
 const BATCH_HELP: &str = "Hash the password of each line of standard input:\nname:password";
 
@@ -123,20 +124,37 @@ fn read_words<'a>(alloc: Global, words: &'a [String]) -> Result<Arguments<'a>, c
         → Refuses (map string_bytes words.entry.now) error) }
 {
     let matches = command(alloc)?.try_get_matches_from(words)?;
-    // The contract of `get_flag` does not cover a value that is not a `bool`.
+    let method = matches.get_str("method");
+    let salt = matches.get_str("salt");
+    let cost = matches.get_one("rounds").unwrap_or(0);
+    let stdin = is_given(&matches, "stdin");
+    let batch = is_given(&matches, "batch");
+    let check = is_given(&matches, "check");
+    let rehash = is_given(&matches, "rehash");
+    let work = is_given(&matches, "work");
+    let budget = matches.get_one("budget");
+    let password = matches.get_str("password");
+    let salt_word = matches.get_str("salt-word");
     Ok(Arguments {
-        method: matches.get_str("method"),
-        salt: matches.get_str("salt"),
-        salt_word: matches.get_str("salt-word"),
-        cost: matches.get_one("rounds").unwrap_or(0),
-        stdin: matches.get_one("stdin").unwrap_or(false),
-        batch: matches.get_one("batch").unwrap_or(false),
-        check: matches.get_one("check").unwrap_or(false),
-        rehash: matches.get_one("rehash").unwrap_or(false),
-        work: matches.get_one("work").unwrap_or(false),
-        budget: matches.get_one("budget"),
-        password: matches.get_str("password"),
+        method,
+        salt,
+        salt_word,
+        cost,
+        stdin,
+        batch,
+        check,
+        rehash,
+        work,
+        budget,
+        password,
     })
+}
+
+// Returns whether the flag is given. The contract of `get_flag` does not cover a value that is not a `bool`.
+fn is_given(matches: &ArgMatches<'_>, id: &str) -> bool
+    ensures { result ≡ is_set id.now (rows_of (found_of matches.now)) }
+{
+    matches.get_one(id).unwrap_or(false)
 }
 
 // Returns the salt, which may be given in at most one of the two ways.
@@ -157,61 +175,55 @@ fn one_salt<'a>(given: &Arguments<'a>) -> Result<Option<&'a [u8]>, UsageFault>
 fn command<'a>(alloc: Global) -> Result<Command<'a>, AllocError>
     ensures { IfOk result (λ made. app_of made ≡ command) }
 {
+    let method = option(alloc, "method", "TYPE", METHOD_HELP).short('m');
+    let salt = option(alloc, "salt", "SALT", SALT_HELP).short('S');
+    let rounds = option(alloc, "rounds", "NUMBER", ROUNDS_HELP)
+        .short('R')
+        .value_parser(value_parser!(u32));
+    let stdin = flag(alloc, "stdin", STDIN_HELP).short('s');
+    let batch = flag(alloc, "batch", BATCH_HELP);
+    let check = flag(alloc, "check", CHECK_HELP);
+    let rehash = flag(alloc, "rehash", REHASH_HELP);
+    let work = flag(alloc, "work", WORK_HELP);
+    let budget = option(alloc, "budget", "NUMBER", BUDGET_HELP).value_parser(value_parser!(u64));
+    let password = operand(alloc, "password", "PASSWORD", PASSWORD_HELP);
+    let salt_word = operand(alloc, "salt-word", "SALT", SALT_WORD_HELP);
+    let arguments = vec![in alloc;
+        method, salt, rounds, stdin, batch, check, rehash, work, budget, password, salt_word,
+    ]?;
     Command::new(alloc, "mkpasswd")
         .version(VERSION)
         .about(ABOUT)
         .after_help(AFTER_HELP)
         .no_binary_name(true)
-        .arg(
-            word(alloc, "method", "TYPE")
-                .long("method")
-                .short('m')
-                .help(METHOD_HELP),
-        )?
-        .arg(
-            word(alloc, "salt", "SALT")
-                .long("salt")
-                .short('S')
-                .help(SALT_HELP),
-        )?
-        .arg(
-            word(alloc, "rounds", "NUMBER")
-                .long("rounds")
-                .short('R')
-                .value_parser(value_parser!(u32))
-                .help(ROUNDS_HELP),
-        )?
-        .arg(flag(alloc, "stdin").short('s').help(STDIN_HELP))?
-        .arg(flag(alloc, "batch").help(BATCH_HELP))?
-        .arg(flag(alloc, "check").help(CHECK_HELP))?
-        .arg(flag(alloc, "rehash").help(REHASH_HELP))?
-        .arg(flag(alloc, "work").help(WORK_HELP))?
-        .arg(
-            word(alloc, "budget", "NUMBER")
-                .long("budget")
-                .value_parser(value_parser!(u64))
-                .help(BUDGET_HELP),
-        )?
-        .arg(word(alloc, "password", "PASSWORD").help(PASSWORD_HELP))?
-        .arg(word(alloc, "salt-word", "SALT").help(SALT_WORD_HELP))
+        .args(arguments)
 }
 
-// Returns a flag whose long name is its id.
-fn flag<'a>(alloc: Global, id: &'a str) -> Arg<'a>
-    ensures rule { rule_of result ≡ flag_rule id.entry.now None }
-    ensures local { result.global ≡ false }
+// Returns a flag, whose long name is its id.
+fn flag<'a>(alloc: Global, id: &'a str, help: &'a str) -> Arg<'a>
+    ensures { HasRule result (flag_rule id.entry.now None) }
 {
-    Arg::new(alloc, id).long(id).action(ArgAction::SetTrue)
+    Arg::new(alloc, id)
+        .long(id)
+        .action(ArgAction::SetTrue)
+        .help(help)
 }
 
-// Returns an argument that takes one value. With a long name it is an option.
-fn word<'a>(alloc: Global, id: &'a str, value_name: &'a str) -> Arg<'a>
-    ensures rule { rule_of result ≡ value_rule id.entry.now }
-    ensures local { result.global ≡ false }
+// Returns an option with one value, whose long name is its id.
+fn option<'a>(alloc: Global, id: &'a str, value_name: &'a str, help: &'a str) -> Arg<'a>
+    ensures { HasRule result (option_rule id.entry.now None) }
+{
+    operand(alloc, id, value_name, help).long(id)
+}
+
+// Returns an argument that is one value.
+fn operand<'a>(alloc: Global, id: &'a str, value_name: &'a str, help: &'a str) -> Arg<'a>
+    ensures { HasRule result (value_rule id.entry.now) }
 {
     Arg::new(alloc, id)
         .value_name(value_name)
         .action(ArgAction::Set)
+        .help(help)
 }
 
 #[cfg(test)]

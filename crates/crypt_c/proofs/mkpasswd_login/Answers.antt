@@ -1,5 +1,5 @@
 use Rattle.std.proofs.Common.{inl, inr, rules}
-use Rattle.crypt_c.proofs.Logins.{agrees, alike, pretends, within}
+use Rattle.crypt_c.proofs.Logins.{agrees, alike, alike_cost, pretends, within}
 use Rattle.crypt_c.proofs.mkpasswd_login.Goals as goal
 
 pub returns-clause-opens : goal.returns-clause-opens
@@ -20,6 +20,11 @@ returns-clause-decoy c = λ scheme made is never.
 pub returns-clause-alike : goal.returns-clause-alike
 returns-clause-alike c = λ fault broken.
     rw c.tell.ensures.told (alike c.args.password.now c.args.field.now c.args.method c.args.cost c.args.budget fault _ broken c.log_in.ensures.logs_in)
+
+pub returns-clause-alike_cost : goal.returns-clause-alike_cost
+returns-clause-alike_cost c = λ refusal is reading.
+    rw c.tell.ensures.told (alike_cost c.args.password.now c.args.field.now c.args.method c.args.cost c.args.budget refusal _ is reading
+    c.log_in.ensures.logs_in)
 
 pub returns-clause-within : goal.returns-clause-within
 returns-clause-within c =

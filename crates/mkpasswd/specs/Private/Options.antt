@@ -1,9 +1,14 @@
--- What the code keeps of the rows that `clap` finds.
-use Rattle.std.specs.Prelude.{◌≡◌, List, codes}
-use Rattle.clap.specs.Words.{Row, first_of}
+-- The arguments that the code gives to `clap`, and what it keeps of the rows that `clap` finds.
+use Rattle.std.specs.Prelude.{◌≡◌, List, false, codes}
+use Rattle.clap.specs.Words.{Row, Rule, first_of, rule_of}
+use Rattle.clap.specs.declared.builder.arg.Arg.{Arg}
 use Rattle.run_core.specs.Makers.{bytes_of}
 use Rattle.mkpasswd.specs.Options.{cost_of, is_set, number_in}
 use Rattle.mkpasswd.specs.declared.options.Arguments.{Arguments}
+
+-- The argument has this rule. It is one of the command alone, and not of subcommands.
+abbrev pub HasRule : Arg → Rule → Type 0
+HasRule arg rule = (rule_of arg ≡ rule) × (arg.global ≡ false)
 
 -- The values that the code keeps are those of the rows.
 pub record Keeps (rows : List Row) (given : Arguments) : Type 0 where

@@ -15,3 +15,9 @@ returns-clause-then_opens c =
     put_whole (λ (text : List ℕ). Opens c.args.password.now text c.args.budget × NeedsNoMemory text) c.args.budget c.token.result.now c.args.out.now _
     (in_bytes c.hash_of-hashed.result) _ c.put_hashed.new.out c.hash_of-hashed.ensures.told c.put_hashed.ensures.puts
     c.hash_of-hashed.ensures.opens
+
+pub returns-clause-free : goal.returns-clause-free
+returns-clause-free c =
+    put_whole (λ (_ : List ℕ). NeedsNoMemory c.args.text.now) c.args.budget c.token.result.now c.args.out.now _
+    (in_bytes c.hash_of-hashed.result) _ c.put_hashed.new.out c.hash_of-hashed.ensures.told c.put_hashed.ensures.puts
+    c.hash_of-hashed.ensures.free

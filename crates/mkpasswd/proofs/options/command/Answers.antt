@@ -1,73 +1,73 @@
 -- The command is put together as its definition is: by its settings, and then by one argument after
 -- another.
-use Rattle.std.proofs.Common.{◌≡◌, ◌∙◌, ℕ, Option, None, Some, true, false, ap, ap₂, codes}
+use Rattle.std.proofs.Common.{◌≡◌, ◌∙◌, ℕ, List, [], ◌∷◌, Some, true, fold, ap, sym}
+use Rattle.std.specs.Prelude.{⊤}
 use Rattle.std.proofs.lemmas.Result.{IfOk-weaker}
-use Rattle.clap.specs.Simple.{App, app_of, app_of_fields, new_app, on_top, with_rule}
-use Rattle.clap.specs.Walk.{Rule, Text, rule_of}
+use Rattle.clap.specs.Simple.{App, app_of, app_of_fields, on_top, with_rule}
+use Rattle.clap.specs.Walk.{Rule}
+use Rattle.clap.specs.Words.{AddsArg, AddsInTurn}
+use Rattle.clap.specs.declared.builder.arg.Arg.{Arg}
+use Rattle.clap.specs.declared.builder.command.Command.{Command}
 use Rattle.clap.specs.declared.builder.value_parser.ValueParser.{ValueParser}
-use Rattle.mkpasswd.specs.Options.{command, flag_rule, option_rule, value_rule}
-use Rattle.mkpasswd.proofs.CommandFacts.{budget_rule, rounds_rule}
+use Rattle.mkpasswd.specs.Options.{command, command_rules}
+use Rattle.mkpasswd.specs.Private.Options.{HasRule}
 use Rattle.mkpasswd.proofs.options.command.Goals as goal
 
-abbrev versioned : App → App
-versioned = on_top (λ s. record s { has_version = true })
+-- ---- one argument
 
-abbrev unnamed : App → App
-unnamed = on_top (λ s. record s { no_binary_name = true })
+-- with a short name
+lettered : (arg new : Arg) (rule : Rule) (letter : ℕ) → new ≡ record arg { short = Some letter } → HasRule arg rule
+    → HasRule new (record rule { short = Some letter })
+lettered arg new rule letter is (has, local) = rw is (ap (λ (r : Rule). record r { short = Some letter }) has, local)
 
-abbrev with_short : ℕ → Rule → Rule
-with_short short rule = record rule { short = Some short }
+-- with a parser of its value
+parsed : (arg new : Arg) (rule : Rule) (parser : ValueParser) → new ≡ record arg { value_parser = new.value_parser }
+    → new.value_parser ≡ Some parser → HasRule arg rule → HasRule new (record rule { parser = Some parser })
+parsed arg new rule parser others is (has, local) =
+    rw others (rw is (ap (λ (r : Rule). record r { parser = Some parser }) has), local)
 
-abbrev with_long : Text → Rule → Rule
-with_long name rule = record rule { long = Some name }
+-- ---- all arguments
 
-abbrev with_parser_of : Rule → Option ValueParser → Rule
-with_parser_of rule parser = record rule { parser = parser }
+abbrev HaveRules : List Arg → List Rule → Type 0
+HaveRules [] [] = ⊤
+HaveRules (arg ∷ args) (rule ∷ rules) = HasRule arg rule × HaveRules args rules
+HaveRules args rules = ⊥
+
+with_args : (before after : Command) (args : List Arg) (rules : List Rule) → AddsInTurn AddsArg before args after → HaveRules args rules
+    → app_of after ≡ fold with_rule (app_of before) rules
+with_args before after [] [] same have = ap app_of (sym same)
+with_args before after (arg ∷ args) (rule ∷ rules) (mid, adds, others) (has, have) =
+    with_args mid after args rules others have
+    ∙ ap (λ (app : App). fold with_rule app rules) (adds.shape has.1 ∙ ap (with_rule (app_of before)) has.0)
+with_args before after [] (rule ∷ rules) adds have = absurd have
+with_args before after (arg ∷ args) [] adds have = absurd have
+
+-- pairs, one after another
+infixr 35 ◌&◌
+◌&◌ : {A B : Type 0} → A → B → A × B
+first & others = (first, others)
 
 pub returns : goal.returns
 unfolding command
 returns c =
-    let method_is : rule_of c.help.result ≡ option_rule (codes "method") (Some 109) = rw (c.help.ensures, c.short.ensures, c.long.ensures) (ap (λ (r : Rule). with_short 109 (with_long (codes "method") r)) c.word.ensures.rule) in
-    let method_local : c.help.result.global ≡ false = rw (c.help.ensures, c.short.ensures, c.long.ensures) c.word.ensures.local in
-    let salt_is : rule_of c.help-2.result ≡ option_rule (codes "salt") (Some 83) = rw (c.help-2.ensures, c.short-2.ensures, c.long-2.ensures) (ap (λ (r : Rule). with_short 83 (with_long (codes "salt") r)) c.word-2.ensures.rule) in
-    let salt_local : c.help-2.result.global ≡ false = rw (c.help-2.ensures, c.short-2.ensures, c.long-2.ensures) c.word-2.ensures.local in
-    let given = c.value_parser-2.ensures.given in
-    let parser_is = given.1 ∙ ap (λ (p : ValueParser). Some p) (given.2 ∙ c.value_parser.ensures) in
-    let short_is : rule_of c.short-3.result ≡ with_short 82 (with_long (codes "rounds") (value_rule (codes "rounds"))) =
-    rw (c.short-3.ensures, c.long-3.ensures) (ap (λ (r : Rule). with_short 82 (with_long (codes "rounds") r)) c.word-3.ensures.rule) in
-    let rounds_is : rule_of c.help-3.result ≡ rounds_rule = rw c.help-3.ensures (ap rule_of c.value_parser-2.ensures.others ∙ ap₂ with_parser_of short_is parser_is) in
-    let rounds_local : c.help-3.result.global ≡ false = rw (c.help-3.ensures, c.value_parser-2.ensures.others, c.short-3.ensures, c.long-3.ensures) c.word-3.ensures.local in
-    let stdin_is : rule_of c.help-4.result ≡ flag_rule (codes "stdin") (Some 115) = rw (c.help-4.ensures, c.short-4.ensures) (ap (with_short 115) c.flag.ensures.rule) in
-    let stdin_local : c.help-4.result.global ≡ false = rw (c.help-4.ensures, c.short-4.ensures) c.flag.ensures.local in
-    let batch_is : rule_of c.help-5.result ≡ flag_rule (codes "batch") None = rw c.help-5.ensures c.flag-2.ensures.rule in
-    let batch_local : c.help-5.result.global ≡ false = rw c.help-5.ensures c.flag-2.ensures.local in
-    let check_is : rule_of c.help-6.result ≡ flag_rule (codes "check") None = rw c.help-6.ensures c.flag-3.ensures.rule in
-    let check_local : c.help-6.result.global ≡ false = rw c.help-6.ensures c.flag-3.ensures.local in
-    let rehash_is : rule_of c.help-7.result ≡ flag_rule (codes "rehash") None = rw c.help-7.ensures c.flag-4.ensures.rule in
-    let rehash_local : c.help-7.result.global ≡ false = rw c.help-7.ensures c.flag-4.ensures.local in
-    let work_is : rule_of c.help-8.result ≡ flag_rule (codes "work") None = rw c.help-8.ensures c.flag-5.ensures.rule in
-    let work_local : c.help-8.result.global ≡ false = rw c.help-8.ensures c.flag-5.ensures.local in
-    let given_number = c.value_parser-4.ensures.given in
-    let number_is = given_number.1 ∙ ap (λ (p : ValueParser). Some p) (given_number.2 ∙ c.value_parser-3.ensures) in
-    let long_is : rule_of c.long-4.result ≡ with_long (codes "budget") (value_rule (codes "budget")) = rw c.long-4.ensures (ap (with_long (codes "budget")) c.word-4.ensures.rule) in
-    let budget_is : rule_of c.help-9.result ≡ budget_rule = rw c.help-9.ensures (ap rule_of c.value_parser-4.ensures.others ∙ ap₂ with_parser_of long_is number_is) in
-    let budget_local : c.help-9.result.global ≡ false = rw (c.help-9.ensures, c.value_parser-4.ensures.others, c.long-4.ensures) c.word-4.ensures.local in
-    let password_is : rule_of c.help-10.result ≡ value_rule (codes "password") = rw c.help-10.ensures c.word-5.ensures.rule in
-    let password_local : c.help-10.result.global ≡ false = rw c.help-10.ensures c.word-5.ensures.local in
-    let salt_word_is : rule_of c.help-11.result ≡ value_rule (codes "salt-word") = rw c.help-11.ensures c.word-6.ensures.rule in
-    let salt_word_local : c.help-11.result.global ≡ false = rw c.help-11.ensures c.word-6.ensures.local in
-    let version_is : app_of c.version.result ≡ versioned (new_app (codes "mkpasswd")) = ap app_of_fields c.version.ensures ∙ ap versioned c.new.ensures.app in
-    let about_is : app_of c.about.result ≡ app_of c.version.result = ap app_of_fields c.about.ensures in
-    let after_help_is : app_of c.after_help.result ≡ app_of c.about.result = ap app_of_fields c.after_help.ensures in
-    let bare_is : app_of c.no_binary_name.result ≡ unnamed (versioned (new_app (codes "mkpasswd"))) = ap app_of_fields c.no_binary_name.ensures ∙ ap unnamed (after_help_is ∙ about_is ∙ version_is) in
-    let one_is = c.in_ok-arg.ensures.shape method_local ∙ ap₂ with_rule bare_is method_is in
-    let two_is = c.in_ok-arg-2.ensures.shape salt_local ∙ ap₂ with_rule one_is salt_is in
-    let three_is = c.in_ok-arg-3.ensures.shape rounds_local ∙ ap₂ with_rule two_is rounds_is in
-    let four_is = c.in_ok-arg-4.ensures.shape stdin_local ∙ ap₂ with_rule three_is stdin_is in
-    let five_is = c.in_ok-arg-5.ensures.shape batch_local ∙ ap₂ with_rule four_is batch_is in
-    let six_is = c.in_ok-arg-6.ensures.shape check_local ∙ ap₂ with_rule five_is check_is in
-    let seven_is = c.in_ok-arg-7.ensures.shape rehash_local ∙ ap₂ with_rule six_is rehash_is in
-    let eight_is = c.in_ok-arg-8.ensures.shape work_local ∙ ap₂ with_rule seven_is work_is in
-    let nine_is = c.in_ok-arg-9.ensures.shape budget_local ∙ ap₂ with_rule eight_is budget_is in
-    let ten_is = c.in_ok-arg-10.ensures.shape password_local ∙ ap₂ with_rule nine_is password_is in
-    IfOk-weaker c.arg-11.result _ _ (λ made added. added.shape salt_word_local ∙ ap₂ with_rule ten_is salt_word_is) c.arg-11.ensures
+    let version_is = ap app_of_fields c.version.ensures ∙ ap (on_top (λ s. record s { has_version = true })) c.new.ensures.app in
+    let named_is = ap app_of_fields c.after_help.ensures ∙ ap app_of_fields c.about.ensures ∙ version_is in
+    let bare_is = ap app_of_fields c.no_binary_name.ensures ∙ ap (on_top (λ s. record s { no_binary_name = true })) named_is in
+    let number = λ (p : ValueParser). Some p in
+    let rounds = c.value_parser-rounds.ensures in
+    let budget = c.value_parser-budget.ensures in
+    let have : HaveRules c.in_ok-arguments.arguments.items command_rules = rw c.in_ok-arguments.ensures.items (
+    lettered _ _ _ _ c.short-method.ensures c.option.ensures
+    & lettered _ _ _ _ c.short-salt.ensures c.option-2.ensures
+    & parsed _ _ _ _ rounds.others (rounds.given.1 ∙ ap number (rounds.given.2 ∙ c.value_parser.ensures)) (lettered _ _ _ _ c.short.ensures c.option-3.ensures)
+    & lettered _ _ _ _ c.short-stdin.ensures c.flag.ensures
+    & c.flag-batch.ensures
+    & c.flag-check.ensures
+    & c.flag-rehash.ensures
+    & c.flag-work.ensures
+    & parsed _ _ _ _ budget.others (budget.given.1 ∙ ap number (budget.given.2 ∙ c.value_parser-2.ensures)) c.option-4.ensures
+    & c.operand-password.ensures
+    & c.operand-salt_word.ensures
+    & tt
+    ) in
+    IfOk-weaker c.args-2.result _ _ (λ made adds. with_args _ _ _ command_rules adds have ∙ ap (λ (app : App). fold with_rule app command_rules) bare_is) c.args-2.ensures

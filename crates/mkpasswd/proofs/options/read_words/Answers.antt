@@ -1,14 +1,11 @@
 -- `clap`'s clauses at the command: what it gives where it takes the words, and why it refuses them.
-use Rattle.std.proofs.Common.{◌≡◌, ◌≢◌, ◌∙◌, ℕ, Bool, List, [], Option, Some, None, Result, true, false, map, string_bytes, unwrap_or, ap, refl, subst, sym, arith, inl, inr, codes}
+use Rattle.std.proofs.Common.{◌≡◌, ◌≢◌, ◌∙◌, ℕ, List, [], Option, Some, None, Result, true, map, string_bytes, unwrap_or, ap, refl, subst, sym, arith, inl, inr, codes}
 use Rattle.std.specs.List.{list_all}
-use Rattle.std.specs.Option.{option_map, option_map_or}
+use Rattle.std.specs.Option.{option_map}
 use Rattle.std.specs.Prelude.{pos}
-use Rattle.std.specs.Str.{bytes_eq}
-use Rattle.std.specs.Str.Parse.{ExplainsUnsignedError, HasUnsignedDigitsIfOk, ParsesBool, ParsesUnsigned, digits_value, without_leading_plus}
+use Rattle.std.specs.Str.Parse.{ExplainsUnsignedError, HasUnsignedDigitsIfOk, ParsesUnsigned, digits_value, without_leading_plus}
 use Rattle.std.specs.declared.num.ParseIntError.{ParseIntError}
-use Rattle.std.proofs.lemmas.Bool.{cases_Bool}
 use Rattle.std.proofs.lemmas.Result.{err_from_is_err_and}
-use Rattle.std.proofs.lemmas.Slice.Eq.{bytes_eq-Decides}
 use Rattle.clap.specs.Kinds.{HasKind, IsAmong}
 use Rattle.clap.specs.Simple.{is_ready, is_ready_leaf}
 use Rattle.clap.specs.Words.{App, HasMatchesOf, IsParsedFrom, IsUnsignedIn, ReadsOne, Rule, Text, app_of, fault_of, first_of, found_of, is_simple_and_free, kind_of, matches_of, one_of, one_text, rows_of, takes}
@@ -20,7 +17,7 @@ use Rattle.clap.specs.declared.error.kind.ErrorKind.TheVariants as kind
 use Rattle.clap.specs.declared.parser.matches.ArgMatches.{ArgMatches}
 use Rattle.clap.proofs.CallerReads.{signed_reads}
 use Rattle.clap.proofs.WalkLemmas.{first_value-rows, one_text-rows}
-use Rattle.mkpasswd.specs.Options.{Refuses, command}
+use Rattle.mkpasswd.specs.Options.{Refuses, command, is_set}
 use Rattle.mkpasswd.proofs.CommandFacts as facts
 use Rattle.mkpasswd.proofs.CommandFacts.{budget_rule, rounds_rule}
 use Rattle.mkpasswd.proofs.PassedValues.{IsOnlyRule, Passed, all_free, passed}
@@ -91,24 +88,6 @@ budget_read (Some text) None none some takes =
     let accepted = subst (λ (t : Text). IsUnsignedIn 0 18446744073709551615 t) (sym value.2) value.3 in
     absurd ((some text refl).1.0 (accepted.0, accepted.1))
 
--- a flag is set by the text `true` alone
-abbrev is_true : Text → Bool
-is_true = bytes_eq (codes "true")
-
--- `parse` reads `true` of the text `true` alone
-flag_of_text : (E : Type 0) (text : Text) (read : Option Bool) → ReadsOne {E = E} ParsesBool text read → unwrap_or read false ≡ is_true text
-flag_of_text E text (Some true) is = subst (λ (t : Text). true ≡ is_true t) (sym is) refl
-flag_of_text E text (Some false) is = subst (λ (t : Text). false ≡ is_true t) (sym is) refl
-flag_of_text E text None (e, other) = elim (cases_Bool (is_true text)) [
-  | inl same ↦ absurd (other.0 (sym ((bytes_eq-Decides (codes "true") text).0 same)))
-  | inr differs ↦ sym differs
-]
-
-flag_of_value : (E : Type 0) (value : Option Text) (read : Option Bool) → (value ≡ None → read ≡ None) → ((text : Text) → value ≡ Some text → ReadsOne {E = E} ParsesBool text read)
-    → unwrap_or read false ≡ option_map_or is_true value false
-flag_of_value E None read none some = ap (λ (r : Option Bool). unwrap_or r false) (none refl)
-flag_of_value E (Some text) read none some = flag_of_text E text read (some text refl)
-
 pub returns-clause-taken : goal.returns-clause-taken
 returns-clause-taken c =
     subst (λ (a : App). fault_of a (map string_bytes c.args.words.now) ≡ []) c.in_ok-command.ensures
@@ -122,21 +101,22 @@ returns-clause-ok c =
     let words = map string_bytes c.args.words.now in
     let rows = rows_read _ words m is clauses.matches in
     let text_is = λ (id : Text). first_value-rows (found_of m) id ∙ ap (first_of id) rows in
-    let set_is = λ (id : Text). ap (λ (value : Option Text). option_map_or is_true value false) (one_text-rows (found_of m) id ∙ ap (one_of id) rows) in
-    let cost_is = c.unwrap_or.ensures ∙ number_read _ c.get_one.result c.get_one.ensures.none c.get_one.ensures.value (option_passed _ m 2 rounds_rule (Signed (pos 0) (pos 4294967295)) is clauses.parsed facts.is_rounds)
-    ∙ ap (λ (value : Option Text). unwrap_or (option_map number_of value) 0) (one_text-rows (found_of m) (codes "rounds") ∙ ap (one_of (codes "rounds")) rows) in
-    let budget_is = budget_read _ c.get_one-7.result c.get_one-7.ensures.none c.get_one-7.ensures.value (option_passed _ m 8 budget_rule (Unsigned 0 18446744073709551615) is clauses.parsed facts.is_budget)
-    ∙ ap (λ (value : Option Text). option_map number_of value) (one_text-rows (found_of m) (codes "budget") ∙ ap (one_of (codes "budget")) rows) in
+    let number_is = λ (id : Text). one_text-rows (found_of m) id ∙ ap (one_of id) rows in
+    let flag_is = λ (id : Text). ap (is_set id) rows in
+    let cost_is = c.unwrap_or-cost.ensures ∙ number_read _ c.get_one.result c.get_one.ensures.none c.get_one.ensures.value (option_passed _ m 2 rounds_rule (Signed (pos 0) (pos 4294967295)) is clauses.parsed facts.is_rounds)
+    ∙ ap (λ (value : Option Text). unwrap_or (option_map number_of value) 0) (number_is (codes "rounds")) in
+    let budget_is = budget_read _ c.get_one-budget.result c.get_one-budget.ensures.none c.get_one-budget.ensures.value (option_passed _ m 8 budget_rule (Unsigned 0 18446744073709551615) is clauses.parsed facts.is_budget)
+    ∙ ap (option_map number_of) (number_is (codes "budget")) in
     record {
-      method = c.get_str.ensures ∙ text_is (codes "method");
-      salt = c.get_str-2.ensures ∙ text_is (codes "salt");
-      salt_word = c.get_str-3.ensures ∙ text_is (codes "salt-word");
+      method = c.get_str-method.ensures ∙ text_is (codes "method");
+      salt = c.get_str-salt.ensures ∙ text_is (codes "salt");
+      salt_word = c.get_str-salt_word.ensures ∙ text_is (codes "salt-word");
       cost = cost_is;
-      stdin = c.unwrap_or-2.ensures ∙ flag_of_value _ _ c.get_one-2.result c.get_one-2.ensures.none c.get_one-2.ensures.value ∙ set_is (codes "stdin");
-      batch = c.unwrap_or-3.ensures ∙ flag_of_value _ _ c.get_one-3.result c.get_one-3.ensures.none c.get_one-3.ensures.value ∙ set_is (codes "batch");
-      check = c.unwrap_or-4.ensures ∙ flag_of_value _ _ c.get_one-4.result c.get_one-4.ensures.none c.get_one-4.ensures.value ∙ set_is (codes "check");
-      rehash = c.unwrap_or-5.ensures ∙ flag_of_value _ _ c.get_one-5.result c.get_one-5.ensures.none c.get_one-5.ensures.value ∙ set_is (codes "rehash");
-      work = c.unwrap_or-6.ensures ∙ flag_of_value _ _ c.get_one-6.result c.get_one-6.ensures.none c.get_one-6.ensures.value ∙ set_is (codes "work");
+      stdin = c.is_given-stdin.ensures ∙ flag_is (codes "stdin");
+      batch = c.is_given-batch.ensures ∙ flag_is (codes "batch");
+      check = c.is_given-check.ensures ∙ flag_is (codes "check");
+      rehash = c.is_given-rehash.ensures ∙ flag_is (codes "rehash");
+      work = c.is_given-work.ensures ∙ flag_is (codes "work");
       budget = budget_is;
-      password = c.get_str-4.ensures ∙ text_is (codes "password");
+      password = c.get_str-password.ensures ∙ text_is (codes "password");
     }
