@@ -37,7 +37,8 @@ export DESTDIR PREFIX LIBDIR ARCHIVE RT
 
 SLOW = tests/deb.t tests/arm.t tests/python.t tests/parallel.t tests/guard.t
 T = $(SLOW) $(filter-out tests/planted.t $(SLOW),$(wildcard tests/*.t))
-PROVE = PERL5LIB=tests/lib prove --harness Tally -j4
+# A test that takes more than an hour hangs.
+PROVE = PERL5LIB=tests/lib prove --harness Tally --exec 'timeout --foreground 3600 perl' -j4
 
 .PHONY: all run static lib guard web fuzz test check layers specification mutants site gate bench soak install uninstall dist \
 	image wheel deb clean FORCE

@@ -12,8 +12,11 @@ use Time::HiRes qw(sleep);
 
 my $page = "$root/build/mkpasswd.html";
 -e $page or BAIL_OUT("$page is not built: run make web");
+
+# What is left to end, latest first.
 my @closing;
-END { local $?; $_->() for reverse @closing }
+END { local $?; close_all() }
+sub close_all { (pop @closing)->() while @closing }
 
 # libxcrypt takes passwords of up to 511 bytes.
 subtest 'in node' => sub {
@@ -39,7 +42,7 @@ sub started {
         open $_, '>', $log or die for *STDOUT, *STDERR;
         exec @command or POSIX::_exit(127);
     }
-    push @closing, sub { kill TERM => $pid; waitpid $pid, 0 };
+    push @closing, sub { kill KILL => $pid; waitpid $pid, 0 };
     -e $log && slurp($log) =~ /\bport (\d\d+)/ and return $1 or sleep 0.1 for 1 .. 300;
     die "$command[0] doesn't start: " . slurp($log);
 }
@@ -49,7 +52,7 @@ sub started {
 my %timeouts = (script => 100_000);
 my %browsers = (
     chromium => ['chromium-driver', sub { -x '/usr/bin/chromedriver' }, sub {
-        my $to = 'http://127.0.0.1:' . started("$scratch/chromium", qw(chromedriver --port=0)) . '/session';
+        my $to = 'http://127.0.0.1:' . started("$scratch/chromedriver", qw(chromedriver --port=0)) . '/session';
         my $http = HTTP::Tiny->new(timeout => 120);
         my $ask = sub { decode_json($http->post("$to$_[0]", { content => encode_json($_[1]) })->{content})->{value} };
         my %options = (timeouts => \%timeouts, 'goog:chromeOptions' => { args => [qw(--headless=new --no-sandbox)] });
@@ -60,10 +63,30 @@ my %browsers = (
     'firefox-esr' => ['libfirefox-marionette-perl', sub { eval { require Firefox::Marionette } }, sub {
         my $timeouts = Firefox::Marionette::Timeouts->new(%timeouts, page_load => 100_000, implicit => 0);
         my $firefox = Firefox::Marionette->new(binary => '/usr/bin/firefox-esr', timeouts => $timeouts);
-        push @closing, sub { $firefox->quit };
         return sub { $firefox->go($_[0]); $firefox->script($_[1]) };
     }],
 );
+
+# Starts a browser and has the script told at each address, line by line, in a file that is empty once the browser has started.
+# All of it is in a process group of its own, which ends after five minutes: drivers wait for a browser that hangs.
+sub visit {
+    my ($told, $open, $script, @addresses) = @_;
+    my $pid = fork // die "can't fork: $!";
+    return waitpid $pid, 0 if $pid;
+    setpgrp;
+    local $SIG{ALRM} = sub { kill KILL => -$$ };
+    alarm 300;
+    @closing = ();
+    $ENV{TMPDIR} = $scratch;
+    eval {
+        my $visit = $open->();
+        spew($told, '');
+        spew($told, join "\n", map { $visit->($_, $script) } @addresses);
+        close_all();
+        1;
+    } or print STDERR $@;
+    kill KILL => -$$;
+}
 
 # Stored hashes and passwords that are refused, and what the program says of them.
 my @refused = (
@@ -80,13 +103,16 @@ for my $name (sort keys %browsers) {
         my ($package, $is_there, $open) = @{ $browsers{$name} };
         needs($name => $name) && needs("$name\'s driver" => $package, $is_there->()) or return;
         my @served = (qw(http.server 0 --bind 127.0.0.1 --directory), "$root/build");
-        my $server = 'http://127.0.0.1:' . started("$scratch/server", qw(python3 -u -m), @served);
-        my $visit = $open->();
+        my $server = 'http://127.0.0.1:' . started("$scratch/$name.server", qw(python3 -u -m), @served);
         my %salts;
         my %value = (SERVER => $server, ROWS => JSON::PP->new->ascii->encode(\@refused));
         my $script = slurp("$root/tests/web/page.js") =~ s/@(\w+)@/$value{$1}/gr;
-        for my $address ("$server/mkpasswd.html", "file://$page") {
-            my $told = decode_json($visit->($address, $script));
+        my @addresses = ("$server/mkpasswd.html", "file://$page");
+        visit("$scratch/$name", $open, $script, @addresses);
+        needs("$name, started," => $package, -e "$scratch/$name") or return;
+        my @told = split /\n/, slurp("$scratch/$name") or return fail("$name answers in five minutes");
+        for my $address (@addresses) {
+            my $told = decode_json(shift @told);
             ref $told or return fail("$address: $told");
             my @made = map { $_->[0] } @{ $told->{made} };
             my $password = "K\xc3\xa4se \xf0\x9f\x90\x8e";
@@ -100,7 +126,7 @@ for my $name (sort keys %browsers) {
             is_deeply([@$told{qw(beyond stopped sent)}], [[], 'Stopped.', ['refused', 'refused']], 'not too wide; stopped; nothing sent');
         }
         is(scalar keys %salts, 6, 'each salt is another');
-        my @asked = slurp("$scratch/server") =~ /"(.*? HTTP)/g;
+        my @asked = slurp("$scratch/$name.server") =~ /"(.*? HTTP)/g;
         is_deeply([grep { $_ ne 'GET /mkpasswd.html HTTP' } @asked], [], 'only the page is asked for');
     };
 }
