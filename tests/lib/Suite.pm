@@ -111,8 +111,8 @@ sub in_processes {
         my $child = fork // die "can't fork: $!";
         if (!$child) {
             @SIG{qw(INT TERM HUP)} = ('DEFAULT') x 3;
-            store [$work->($items[$number])], "$scratch/result.$number";
-            POSIX::_exit(0);
+            my $is_done = eval { store [$work->($items[$number])], "$scratch/result.$number" } or print STDERR $@;
+            POSIX::_exit(!$is_done);
         }
         $number{$child} = $number;
     }
