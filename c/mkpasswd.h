@@ -9,7 +9,7 @@
  * another scheme, a hash that costs too much, no memory. The report says which (`reason`). Every call that has a report
  * writes all of it, also over the reason of an earlier call. If several refusals apply, the first one in this order is
  * reported: password, setting, method, cost, budget, room in `out`, random words, memory; by mkpasswd_login() password,
- * method, cost, field, budget, memory. Test the result, and not the reason alone: it is never 0, so `if (report.reason)` lets
+ * method, cost, field, budget, memory. Test the result, not the reason: a reason is never 0, so `if (report.reason)` lets
  * everybody in.
  *
  * After a 0, mkpasswd_new(), mkpasswd_hash() and mkpasswd_setting() leave the string "*0" in `out` ("*1" if the given
@@ -86,7 +86,7 @@ extern "C" {
 
 /* A budget for a login. It admits what mkpasswd_new() makes at cost 0 with any method, for any password, and SHA-crypt with
  * up to 75,000 rounds for any password, sha512crypt with 656,000 rounds for passwords of up to 82 bytes, SHA-crypt with
- * 1,000,000 rounds for passwords of up to 40 bytes. On one core of 2.5 GHz a hash of this cost takes some 2 seconds with
+ * 1,000,000 rounds for passwords of up to 40 bytes. On one core of 2.5 GHz a hash of this cost takes 1.6 seconds with
  * sha256crypt, 1 with sha512crypt, 0.14 with scrypt. A budget of -1 is the greatest, and protects from nothing. scrypt, which
  * alone needs memory, takes at most half as many bytes as the budget for each call at the same time, and 64 MiB at its own
  * cost. */
@@ -162,7 +162,7 @@ MKPASSWD_EXPORT MKPASSWD_CHECKED MKPASSWD_NONNULL(6) int32_t mkpasswd_verify(con
  * `cost` are those that the service gives mkpasswd_new(). `field` is what is stored for the name, and empty for an unknown
  * name. With password and field exchanged, whoever types a hash of the field gets in: of `!`, of a stored hash, or of nothing.
  *
- * A name without a valid setting does the work of a new hash, so that the work does not tell which names exist. If the field
+ * A name without a valid setting does the work of a new hash, so that it is not faster. If the field
  * is empty, locked, of another scheme or without a valid setting, or can cost more than the budget, the call hashes the
  * password with this method and cost and a fixed salt, drops the hash, and returns 0 with the reason of mkpasswd_verify();
  * `work` is exactly the work of that hash. If that hash can cost more than the budget, or scrypt gets no memory for it, it is
@@ -197,7 +197,7 @@ MKPASSWD_EXPORT MKPASSWD_CHECKED MKPASSWD_NONNULL(4) int32_t mkpasswd_bound(cons
     size_t password_len, struct mkpasswd_report *report) MKPASSWD_READS(stored, 1, 2);
 
 /* Hashes a password with the setting in a text, which may be a stored hash, as crypt(3) does. It is for a crypt(3) and for
- * tests: a login is mkpasswd_verify(), and a new password mkpasswd_new(). */
+ * tests: a login is mkpasswd_login(), and a new password mkpasswd_new(). */
 MKPASSWD_EXPORT MKPASSWD_CHECKED MKPASSWD_NONNULL(6) MKPASSWD_NONNULL(8) MKPASSWD_WRITES(6, 7)
 int32_t mkpasswd_hash(const uint8_t *password, size_t password_len, const uint8_t *setting, size_t setting_len,
     uint64_t budget, uint8_t *out, size_t out_len, struct mkpasswd_report *report)

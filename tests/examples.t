@@ -168,12 +168,12 @@ subtest 'administration' => sub {
 
     my $costly = '$6$rounds=999999999$ab$x';
     my $old = crypt('password', '$5$rounds=1000$ab');
-    spew("$folder/shadow", "ann:$old$aged\nbob:!$aged\nzoe:$costly$aged\neve:$known$aged\nmax:!$costly$aged\nsam:\$7\$C6....../..ab\$x$aged\n");
+    spew("$folder/shadow", "ann:$old$aged\nbob:!$aged\nzoe:$costly$aged\neve:$known$aged\nmax:!$costly$aged\njoe:*$costly$aged\nsam:\$7\$C6....../..ab\$x$aged\n");
     spew("$folder/list", "eve:guess\neve:password\nbob:x\nzoe:x\nann:word\neve:password\n");
     is_run($recipe->('known passwords'), 0, "eve\n", "mkpasswd: line 5: over budget\n", 'who still has a password of a list');
     like(slurp("$folder/joined"), qr/\A(?:.*\n){4}zoe:.*:x$/m, 'the line that was refused is in a file');
 
-    is_run($recipe->('costly hashes'), 0, "zoe\nmax\nsam\n", '', 'stored hashes that could stall a login');
+    is_run($recipe->('costly hashes'), 0, "zoe\nmax\njoe\nsam\n", '', 'stored hashes that could stall a login');
     # Another mkpasswd in front of ours: that of whois, and one that fails.
     my $foreign = "mkpasswd: unrecognized option '--check'\nTry 'mkpasswd --help' for more information.\n";
     for (["cat >&2 << 'END'\n${foreign}END\nexit 1", $foreign], ["'$scratch/bin/mkpasswd' \"\$@\" || { echo 'mkpasswd: out of memory' >&2; exit 3; }", "mkpasswd: out of memory\n"]) {

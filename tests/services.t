@@ -379,7 +379,7 @@ subtest 'Ansible' => sub {
     needs('ansible-playbook' => 'ansible-core') or return;
     local $in{env} = { %{ $in{env} }, LC_ALL => 'C.UTF-8', ANSIBLE_GATHERING => 'explicit' };
     add_accounts();
-    spew("$in{dir}/hosts", "localhost ansible_connection=local ansible_python_interpreter=/usr/bin/python3\n");
+    spew("$in{dir}/inventory", "localhost ansible_connection=local ansible_python_interpreter=/usr/bin/python3\n");
     spew("$in{dir}/users.yml", marked('Ansible', 'yaml'));
     run_recipe('Ansible');
     is_hash(slurp("$in{dir}/hash") =~ s/\n\z//r, 'Ansible: the hash');

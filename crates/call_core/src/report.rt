@@ -27,7 +27,7 @@ pub struct Report {
     pub length: u32,
     /// The greatest cost of a hash with this setting and a password of this length, once both are known to be valid.
     pub cost: u64,
-    /// The work of the hash. In the report of a bound it is the greatest work.
+    /// All the work that was done. In the report of a bound it is the greatest work.
     pub work: Work,
     /// Always 0.
     pub reserved: u64,

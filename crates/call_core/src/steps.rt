@@ -1,4 +1,4 @@
-//! What calls do before they hash, and all that the calls do that hash nothing. Nothing here hashes or allocates.
+//! What calls do before they hash, and what most calls do that hash nothing. Nothing here hashes or allocates.
 ghost use Rattle.std.specs.Prelude.{◌≡◌, ◌<◌, ◌≤◌, ◌<ℤ◌, pos, [], length, IfOk, IfErr};
 ghost use Rattle.crypt_core.specs.Work.{cost};
 ghost use Rattle.call_core.specs.CommonCalls.{Bounds, PutsSetting, admission};

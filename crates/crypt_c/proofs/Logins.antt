@@ -23,7 +23,7 @@ use Rattle.call_core.specs.declared.reason.Refusal.{Refusal}
 use Rattle.call_core.specs.declared.reason.Refusal.TheVariants.{Differs, OverBudget, Password, Setting}
 use Rattle.call_core.specs.declared.report.Report.{Report}
 use Rattle.call_core.proofs.Verdicts.{made_once}
-use Rattle.crypt_c.specs.Calls.{Agrees, Declines, IsHashWork, IsUncheckable, LogsIn, decoy}
+use Rattle.crypt_c.specs.Calls.{Agrees, Declines, IsHashWork, IsLoginWork, IsUncheckable, LogsIn, decoy}
 
 -- ---- The report, by the branches of a login
 
@@ -106,27 +106,25 @@ agrees password field number price budget scheme report makes (inl (is, inl (oth
 
 -- ---- Its work
 
-checked_within : (above : Bool) (password field : List ℕ) (budget : ℕ) (scheme : Scheme) (kept : SettingValue) (reason : Reason) (report : Report)
+checked_work : (above : Bool) (password field : List ℕ) (budget : ℕ) (scheme : Scheme) (kept : SettingValue) (reason : Reason) (report : Report)
     → nat_lt budget (cost kept (length password)) ≡ above
     → MatchBool above (Declines password scheme budget (refused OverBudget (cost kept (length password))) report) (Compares password kept field reason report)
     → IsHashWork password (decoy scheme) budget report.work ⊎ IsHashWork password kept budget report.work
-checked_within true password field budget scheme kept reason report e declines = inl declines.1
-checked_within false password field budget scheme kept reason report e (inl told) = inr (rw e (inl (ap (λ (r : Report). r.work) told)))
-checked_within false password field budget scheme kept reason report e (inr (done, failed, told)) =
+checked_work true password field budget scheme kept reason report e declines = inl declines.1
+checked_work false password field budget scheme kept reason report e (inl told) = inr (rw e (inl (ap (λ (r : Report). r.work) told)))
+checked_work false password field budget scheme kept reason report e (inr (done, failed, told)) =
     let same : report.work ≡ done = ap (λ (r : Report). r.work) told in
     inr (rw e (inr (subst (λ (w : Work). IsAfterRefusedGrowth no_work kept.scheme w) (sym same) failed)))
 
-pub within : (password field : List ℕ) (number price budget : ℕ) (report : Report) → LogsIn password field number price budget report
-    → (report.work ≡ no_work) ⊎ ((kept : SettingValue)
-    × (Spells field kept ⊎ ((scheme : Scheme) × IsSchemeMade TakesNewCost number price scheme × (kept ≡ decoy scheme)))
-    × IsHashWork password kept budget report.work)
-within password field number price budget report (inr (fault, is, e)) = inl (ap (λ (r : Report). r.work) e)
-within password field number price budget report (inl (is, inr (inl (none, e)))) = inl (ap (λ (r : Report). r.work) e)
-within password field number price budget report (inl (is, inr (inr (method, named, never, e)))) = inl (ap (λ (r : Report). r.work) e)
-within password field number price budget report (inl (is, inl (scheme, makes, inr (fault, broken, declines)))) =
+pub one_hash : (password field : List ℕ) (number price budget : ℕ) (report : Report) → LogsIn password field number price budget report
+    → IsLoginWork password field number price budget report.work
+one_hash password field number price budget report (inr (fault, is, e)) = inl (ap (λ (r : Report). r.work) e)
+one_hash password field number price budget report (inl (is, inr (inl (none, e)))) = inl (ap (λ (r : Report). r.work) e)
+one_hash password field number price budget report (inl (is, inr (inr (method, named, never, e)))) = inl (ap (λ (r : Report). r.work) e)
+one_hash password field number price budget report (inl (is, inl (scheme, makes, inr (fault, broken, declines)))) =
     inr (decoy scheme, inr (scheme, makes, refl), declines.1)
-within password field number price budget report (inl (is, inl (scheme, makes, inl (kept, spells, checked)))) =
-    elim (checked_within (nat_lt budget (cost kept (length password))) password field budget scheme kept
+one_hash password field number price budget report (inl (is, inl (scheme, makes, inl (kept, spells, checked)))) =
+    elim (checked_work (nat_lt budget (cost kept (length password))) password field budget scheme kept
     (if is_replaced_by kept.scheme scheme then Outdated else Fits) report refl checked) [
       | inl new ↦ inr (decoy scheme, inr (scheme, makes, refl), new)
       | inr old ↦ inr (kept, inl spells, old)

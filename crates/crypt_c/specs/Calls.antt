@@ -24,7 +24,7 @@ use Rattle.call_core.specs.declared.report.Report.{Report}
 -- ---- A new hash
 
 -- The effect of mkpasswd_new_from: with three random numbers the hash with the setting that they make. Without them it
--- is the refusal that three other numbers would get, or else that they are missing.
+-- is the first refusal that precedes them, or else that they are missing.
 abbrev pub HashesAnew : List ℕ → ℕ → ℕ → ℕ → List ℕ → List ℕ → Report → List ℕ → Type 0
 HashesAnew password number price budget words old report new =
     let Locks = λ (refusal : Refusal). Leaves (refused refusal 0) (token []) old report new in
@@ -80,6 +80,13 @@ LogsIn password field number price budget report =
     MatchBool (nat_lt budget most)
     (Declines password scheme budget (refused OverBudget most) report)
     (Compares password kept field (if is_replaced_by kept.scheme scheme then Outdated else Fits) report))))
+
+-- The work of a login: none, or that of one hash, with the stored setting or with the decoy.
+abbrev pub IsLoginWork : List ℕ → List ℕ → ℕ → ℕ → ℕ → Work → Type 0
+IsLoginWork password field number price budget done =
+    (done ≡ no_work) ⊎ ((kept : SettingValue)
+    × (Spells field kept ⊎ ((scheme : Scheme) × IsSchemeMade TakesNewCost number price scheme × (kept ≡ decoy scheme)))
+    × IsHashWork password kept budget done)
 
 -- A stored hash that a login can't check: each setting that it spells, if any, costs more than the budget.
 abbrev pub IsUncheckable : List ℕ → List ℕ → ℕ → Type 0

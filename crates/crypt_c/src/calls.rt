@@ -1,8 +1,8 @@
 //! What the calls do: they read their arguments, hash, and return the report.
 //!
 //! A step that can hash takes a new meter, and its report has all that this meter counted. So it hashes nothing that it
-//! does not report: nothing above the budget, without capacity for the hash, or after a refusal. tests/layers.t checks
-//! that it makes no other meter.
+//! does not report: nothing above the budget, without capacity for the hash, or after a refusal, but for the decoy of a
+//! login. tests/layers.t checks that it makes no other meter.
 ghost use Rattle.std.specs.Prelude.{◌≡◌, ◌⊎◌, ◌<◌, ◌≤◌, ◌<ℤ◌, pos, [], Result, length, take, IfOk, OnErr, OnOk};
 ghost use Rattle.prims_core.specs.Work.{no_work};
 ghost use Rattle.crypt_core.specs.Crypt.{IsAfterRefusedGrowth, crypt};

@@ -11,7 +11,6 @@
 #![tactic(auto)]
 
 ghost use Rattle.std.specs.Prelude.{◌≡◌, ◌≢◌, ◌⊎◌, ◌↔◌, ◌<◌, ◌≤◌, pos, [], ◌∷◌, Err, length, take, codes};
-ghost use Rattle.prims_core.specs.Work.{no_work};
 ghost use Rattle.crypt_core.specs.Passwords.{IsPassword, IsPasswordRefused};
 ghost use Rattle.crypt_core.specs.Settings.{SettingValue, Spells};
 ghost use Rattle.crypt_core.specs.declared.password.PasswordFault.{PasswordFault};
@@ -25,7 +24,7 @@ ghost use Rattle.call_core.specs.declared.reason.Reason.TheVariants.{Outdated, R
 ghost use Rattle.call_core.specs.declared.reason.Refusal.{Refusal};
 ghost use Rattle.call_core.specs.declared.reason.Refusal.TheVariants.{Current, OutOfMemory, Password};
 ghost use Rattle.call_core.specs.declared.report.Report.{Report as Told};
-ghost use Rattle.crypt_c.specs.Calls.{Agrees, HashesAnew, IsHashWork, IsOutdated, IsUncheckable, LogsIn, Rehashes, decoy};
+ghost use Rattle.crypt_c.specs.Calls.{Agrees, HashesAnew, IsHashWork, IsLoginWork, IsOutdated, IsUncheckable, LogsIn, Rehashes, decoy};
 
 mod calls;
 
@@ -70,11 +69,11 @@ pub extern "C" fn mkpasswd_verify(
     )
 }
 
-/// Returns 1 exactly if a new hash can have the method and the cost, and [`mkpasswd_verify`] returns 1. The reason tells
-/// whether [`mkpasswd_needs_rehash`] would return 1.
+/// Returns 1 exactly if a new hash can have the method and the cost, and [`mkpasswd_verify`] returns 1. The reason then
+/// tells whether [`mkpasswd_needs_rehash`] would return 1.
 ///
-/// If the field has no setting, or one above the budget, the call hashes the password with a new setting of the method
-/// and the cost, and returns 0. So such a name does the work of a new hash. A name that is not known has an empty field.
+/// If the field has no setting, or one above the budget, the call hashes the password with the method, the cost and a
+/// fixed salt, and returns 0. So such a name does the work of a new hash. A name that is not known has an empty field.
 ///
 /// # Errors
 ///
@@ -108,9 +107,7 @@ pub extern "C" fn mkpasswd_login(
     ensures alike { (fault : PasswordFault) → IsPasswordRefused password.now fault → report.new ≡ refused (Password fault) 0 }
     ensures alike_cost { (refusal : Refusal) → IsPassword password.now → IsSchemeReading TakesNewCost method cost (Err refusal)
         → report.new ≡ refused refusal 0 }
-    ensures within { (report.new.work ≡ no_work) ⊎ ((kept : SettingValue)
-        × (Spells field.now kept ⊎ ((scheme : Scheme) × IsSchemeMade TakesNewCost method cost scheme × (kept ≡ decoy scheme)))
-        × IsHashWork password.now kept budget report.new.work) }
+    ensures one_hash { IsLoginWork password.now field.now method cost budget report.new.work }
     ensures logs_in { LogsIn password.now field.now method cost budget report.new }
 {
     tell(
@@ -130,11 +127,12 @@ pub extern "C" fn mkpasswd_login(
 /// Hashes a password with a new setting of the method and the cost, and writes the hash and a byte 0 to `out`.
 ///
 /// Three random numbers, `words`, make the salt. Without them the report has the first refusal that precedes them, or
-/// else that they are missing. So a caller draws them once nothing else can be refused, and calls again.
+/// else that they are missing. So a caller draws them once only memory can be refused, and calls again.
 ///
 /// The method is 1 for md5crypt, 5 for sha256crypt, 6 for sha512crypt or 7 for scrypt, as in their hashes. The cost is
 /// that of `mkpasswd -R`, and 0 is the method's default. [`mkpasswd_verify`] accepts the hash for its password within
-/// the budget. For the same method and cost [`mkpasswd_needs_rehash`] does not report it as outdated.
+/// the budget, unless scrypt lacks memory. For the same method and cost [`mkpasswd_needs_rehash`] does not report it as
+/// outdated.
 ///
 /// # Errors
 ///
@@ -216,7 +214,7 @@ pub extern "C" fn mkpasswd_bound(stored: &[u8], password_len: usize, report: &mu
 }
 
 /// Hashes a password with a setting, and writes the hash and a byte 0 to `out`. [`mkpasswd_verify`] accepts it for the
-/// password within the budget.
+/// password within the budget, unless scrypt lacks memory.
 ///
 /// The token after a 0 is `*0`, or `*1` if the setting begins with `*0`.
 ///

@@ -1,5 +1,5 @@
 use Rattle.std.proofs.Common.{inl, inr, rules}
-use Rattle.crypt_c.proofs.Logins.{agrees, alike, alike_cost, pretends, within}
+use Rattle.crypt_c.proofs.Logins.{agrees, alike, alike_cost, one_hash, pretends}
 use Rattle.crypt_c.proofs.mkpasswd_login.Goals as goal
 
 pub returns-clause-opens : goal.returns-clause-opens
@@ -26,9 +26,9 @@ returns-clause-alike_cost c = λ refusal is reading.
     rw c.tell.ensures.told (alike_cost c.args.password.now c.args.field.now c.args.method c.args.cost c.args.budget refusal _ is reading
     c.log_in.ensures.logs_in)
 
-pub returns-clause-within : goal.returns-clause-within
-returns-clause-within c =
-    rw c.tell.ensures.told (within c.args.password.now c.args.field.now c.args.method c.args.cost c.args.budget _ c.log_in.ensures.logs_in)
+pub returns-clause-one_hash : goal.returns-clause-one_hash
+returns-clause-one_hash c =
+    rw c.tell.ensures.told (one_hash c.args.password.now c.args.field.now c.args.method c.args.cost c.args.budget _ c.log_in.ensures.logs_in)
 
 pub returns-clause-logs_in : goal.returns-clause-logs_in
 returns-clause-logs_in c = rw c.tell.ensures.told c.log_in.ensures.logs_in
