@@ -19,6 +19,9 @@ for (
     is($gate->{status}, $wanted, "rt ci with status $status: $line");
     like($gate->{out}, qr/^\Q$line\E$/m, "it is printed: $line");
 }
+# With more help than a pipe holds.
+spew("$scratch/rt", "#!/bin/sh\n" . 'case $1 in --help) echo --anew; seq 99999 ;; *) echo "$@" ;; esac');
+is(run({ env => { RT => "$scratch/rt" } }, "$root/tools/gate", '--anew')->{out}, "ci --anew\n", 'all anew');
 is(run("$root/tools/gate", '--none')->{status}, 2, 'another argument is refused');
 
 done_testing;
