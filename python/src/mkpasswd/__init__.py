@@ -9,7 +9,7 @@ False
 
 The C library of mkpasswd, whose calls are proved, does the hashing. It knows the cost of a hash before it makes one, so
 a stored hash that would take minutes is refused at once. What a hash may cost by default, DEFAULT_BUDGET, is 150,000,000:
-on one core of 2.5 GHz one second of sha512crypt, two of sha256crypt, or 0.14 of scrypt.
+on one core of 2.5 GHz one second of sha512crypt, 1.6 of sha256crypt, or 0.14 of scrypt.
 
 A password or a stored hash is bytes, or a str, which is encoded as UTF-8. A new hash is always a str. A password that has
 a zero byte or a lone surrogate, or more than 1,024 bytes, raises ValueError. No exception has the password in it.
@@ -17,13 +17,14 @@ a zero byte or a lone surrogate, or more than 1,024 bytes, raises ValueError. No
 Any number of threads may call at once. Other threads run while a hash is made.
 """
 import ctypes
+import logging
 import math
 import operator
 import os
 import re
 from typing import Any, NamedTuple, Optional, Tuple, Union
 
-from ._library import PASSWORD_LIMIT, TEXT_SIZE, Reason, Report, lib
+from ._library import PASSWORD_LIMIT, TEXT_SIZE, Reason, Report, lib, words
 
 __all__ = [
     "DEFAULT_BUDGET",
@@ -67,6 +68,8 @@ _ARGUMENTS = {
 
 # What a text that is no setting of ours is refused for.
 _NO_SETTING = range(Reason.BAD_SALT.value, Reason.SETTING_TOO_LONG.value + 1)
+
+_LOG = logging.getLogger("mkpasswd")
 
 # UTF-8 of U+D800 to U+DFFF.
 _SURROGATE = re.compile(b"\xed[\xa0-\xbf]")
@@ -170,7 +173,7 @@ def login(
     The check and the new hash may cost as much as the budget each. If the new hash costs more, or the system has no memory
     or no random bytes for it, `new` is None and the old hash stays.
 
-    It does not say why it is false; the exceptions of verify() do.
+    At level DEBUG the logger "mkpasswd" says why it is false or has no new hash. Password and field are not in the message.
 
     Raises Refused for an unknown method or rounds that scrypt does not take, ValueError for other rounds of SHA-crypt, and
     TypeError.
@@ -179,14 +182,16 @@ def login(
     stored = b"" if field is None else _bytes(field, "field")
     try:
         word = _password(password)
-    except ValueError:
+    except ValueError as fault:
+        _LOG.debug("login refused: %s", fault)
         return Verdict(False, None)
     reason = _login(word, stored, made, limit)
     if reason is not Reason.OUTDATED:
         return Verdict(reason is Reason.FITS, None)
     try:
         return Verdict(True, _new(word, made, limit))
-    except (TooCostly, MemoryError, OSError):
+    except (TooCostly, MemoryError, OSError) as fault:
+        _LOG.debug("no new hash: %s", fault)
         return Verdict(True, None)
 
 
@@ -202,7 +207,7 @@ def verify(password: Text, stored: Text, *, budget: float = DEFAULT_BUDGET) -> b
     False
 
     Raises TooCostly, before anything is hashed, if the stored hash costs more than the budget, which by default is one
-    second of sha512crypt on one core of 2.5 GHz, two of sha256crypt or 0.14 of scrypt; Refused if it is not one of these
+    second of sha512crypt on one core of 2.5 GHz, 1.6 of sha256crypt or 0.14 of scrypt; Refused if it is not one of these
     methods or has no valid setting; MemoryError. math.inf is a budget without a limit.
 
     >>> verify("password", "$6$rounds=999999999$salt$x")
@@ -437,6 +442,7 @@ def _login(word: bytes, field: bytes, made: Tuple[int, int], limit: int) -> Opti
         return Reason(report.reason)
     if report.reason in (Reason.UNKNOWN_METHOD.value, Reason.COST.value):
         raise _failure(report)
+    _LOG.debug("login refused: %s", words(report.reason))
     return None
 
 
