@@ -184,9 +184,11 @@ for password in "y" * 257, "y" * 1025, "y\\0":
     for name in "ann", "nobody":
         assert not LoginForm(data={"username": name, "password": password}).is_valid()
 assert LoginForm(data={"username": "ann", "password": long}).is_valid()
-assert authenticate(username="ann", password="y" * 1025) is None
+for password in "y" * 1025, "y\\0", "\\ud800":
+    for name in "ann", "nobody":
+        assert authenticate(username=name, password=password) is None
 try:
-    authenticate(username="nobody", password="y" * 1025)
+    users.get(username="ann").set_password("y" * 1025)
 except ValueError as error:
     print(error)
 for field in %r:

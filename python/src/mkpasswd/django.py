@@ -13,11 +13,12 @@ import re
 from typing import Any, Dict, Optional, Tuple
 
 from django.contrib.auth.hashers import BasePasswordHasher, mask_hash
+from django.core.exceptions import PermissionDenied
 from django.utils.translation import gettext_noop as _
 
 from . import DEFAULT_BUDGET, _method, _setting, crypt, hash, needs_rehash, verify
 
-__all__ = ["MkpasswdPasswordHasher"]
+__all__ = ["InvalidPassword", "MkpasswdPasswordHasher"]
 
 _NAMES = {"1": "md5crypt", "5": "sha256crypt", "6": "sha512crypt", "7": "scrypt"}
 
@@ -26,6 +27,14 @@ _FORMS = (
     re.compile(r"\$([156])\$(?:rounds=([0-9]+)\$)?([^$]*)\$([^$]+)\Z"),
     re.compile(r"\$(7)\$.{11}()(.*)\$([^$]+)\Z"),
 )
+
+
+class InvalidPassword(PermissionDenied, ValueError):
+    """A password that no hash can have.
+
+    For an unknown name Django's authenticate() hashes what was typed. It takes this for a login that failed, so that unknown
+    names don't stand out.
+    """
 
 
 class MkpasswdPasswordHasher(BasePasswordHasher):
@@ -41,7 +50,12 @@ class MkpasswdPasswordHasher(BasePasswordHasher):
         if not salt or "$" in salt:
             raise ValueError("salt must be provided and must not have a $")
         setting = self._new_setting()[0] + salt
-        encoded = crypt(password, setting, budget=self.budget)
+        try:
+            encoded = crypt(password, setting, budget=self.budget)
+        except ValueError as fault:
+            if type(fault) is ValueError:
+                raise InvalidPassword(str(fault)) from None
+            raise
         # A long salt would be cut, and of a bad one there is no hash.
         if not encoded.startswith(setting + "$"):
             raise ValueError("bad salt")
