@@ -119,7 +119,7 @@ return {
         replaced($password, "#[derive(Drop)]\npub struct Password", "#[derive(Debug, Drop)]\npub struct Password"),
         replaced($password, 'pub struct Password', "#[derive(Debug)]\npub struct Password"),
         replaced("crates/$runs/src/job.rt", '#[derive(Drop)]'."\npub enum PasswordFrom", '#[derive(Debug, Drop)]'."\npub enum PasswordFrom"),
-        replaced('crates/mkpasswd/src/options.rt', "#[derive(Clone, Copy)]\nstruct Arguments", "#[derive(Clone, Copy, Debug)]\nstruct Arguments"),
+        replaced('crates/mkpasswd/src/options.rt', "#[derive(Drop)]\nstruct Arguments", "#[derive(Debug, Drop)]\nstruct Arguments"),
         ['a fourth implementation', "$counted/plain.rt" => 'pub fn plain() {}', "$counted.rt" => 'mod plain;'],
         (map { ["$_ made public", $meter => ["pub(crate) fn $_", "pub fn $_"]] }
             @counts),

@@ -25,27 +25,10 @@ reason_of (pos number) = if number == 1 then Fits else if number == 2 then Outda
 reason_of (negsuc number) = Refused (refusal_of (number + 1))
 
 of_number : (reason : Reason) → reason_of ((reason_row reason).0) ≡ reason
-of_number Fits = refl
-of_number Outdated = refl
-of_number Done = refl
 of_number (Refused (Password TooLong)) = refl
-of_number (Refused (Password HasNul)) = refl
 of_number (Refused (Setting setting.TooLong)) = refl
-of_number (Refused (Setting setting.BadCharacter)) = refl
-of_number (Refused (Setting setting.UnknownScheme)) = refl
-of_number (Refused (Setting setting.BadRounds)) = refl
-of_number (Refused (Setting setting.BadCost)) = refl
-of_number (Refused (Setting setting.ScryptRange)) = refl
-of_number (Refused (Setting setting.AboveCeiling)) = refl
-of_number (Refused (Setting setting.BadSalt)) = refl
 of_number (Refused OutOfMemory) = refl
-of_number (Refused TooFewBytes) = refl
-of_number (Refused UnknownMethod) = refl
-of_number (Refused Cost) = refl
-of_number (Refused OverBudget) = refl
-of_number (Refused Differs) = refl
-of_number (Refused Current) = refl
-of_number (Refused NoRandomWords) = refl
+of_number reason = refl
 
 pub reason_once : (a b : Reason) → (reason_row a).0 ≡ (reason_row b).0 → a ≡ b
 reason_once a b e = sym (of_number a) ∙ ap reason_of e ∙ of_number b

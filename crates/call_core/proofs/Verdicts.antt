@@ -23,10 +23,8 @@ scheme_refused Takes number price refusal Fails Then (inr (kind, (method, named,
     inr (inr (method, named, never, subst Fails kind fails))
 
 takes_cost : (method : Method) (price : ℕ) → TakesNewCost method price → TakesCost method price
-takes_cost methods.Md5crypt price takes = tt
-takes_cost methods.Sha256crypt price takes = tt
-takes_cost methods.Sha512crypt price takes = tt
 takes_cost methods.Scrypt price takes = takes
+takes_cost method price takes = tt
 
 pub new_made : (number price : ℕ) (scheme : Scheme) → IsSchemeMade TakesNewCost number price scheme → IsSchemeMade TakesCost number price scheme
 new_made number price scheme made = (made.0, made.1, takes_cost made.0 price made.2, made.3)

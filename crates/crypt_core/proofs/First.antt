@@ -9,7 +9,7 @@ use Rattle.crypt_core.specs.Rounds.{Rounds}
 use Rattle.crypt_core.specs.declared.scheme.Scheme.{Scheme}
 use Rattle.crypt_core.specs.declared.scheme.Scheme.TheVariants.{Md5crypt, Shacrypt, Scrypt}
 use Rattle.crypt_core.specs.declared.scheme.Sha.{Sha}
-use Rattle.crypt_core.specs.declared.scheme.Sha.TheVariants.{Sha256, Sha512}
+use Rattle.crypt_core.specs.declared.scheme.Sha.TheVariants.{Sha256}
 use Rattle.crypt_core.specs.declared.setting.fault.SettingFault.TheVariants.{TooLong, BadCharacter, UnknownScheme, BadRounds, BadCost, ScryptRange, AboveCeiling, BadSalt}
 use Rattle.crypt_core.specs.MethodLimits.{prefix}
 use Rattle.crypt_core.specs.Private.Parts.{HasNumerals, IsSettingText, KeepsField, LacksCharacters, LacksRounds, SpellsSalt}
@@ -43,10 +43,9 @@ after_numbers after rest n parts =
 
 -- what is kept of a field, with a cost in range
 kept_salt : (scheme : Scheme) (field salt : List ℕ) → IsScheme scheme → KeepsField (method_of scheme) field salt → KeepsSalt scheme field salt
-kept_salt Md5crypt field salt c k = k
-kept_salt (Shacrypt Sha256 r) field salt c k = k
-kept_salt (Shacrypt Sha512 r) field salt c k = k
 kept_salt (Scrypt n) field salt c k = (c, k.0, k.1)
+kept_salt (Shacrypt Sha256 r) field salt c k = k
+kept_salt scheme field salt c k = k
 
 -- all parts of a text that spells a setting
 pub spelled : (text : List ℕ) (scheme : Scheme) (after salt : List ℕ) → IsSettingText text → SpellsScheme text scheme after → IsScheme scheme → SpellsSalt (method_of scheme) after salt → Spells text (record { scheme = scheme; salt = salt })

@@ -78,9 +78,7 @@ accepted_at cost high =
 
 pub made_method : (m : Method) (cost : ℕ) → method_of (made_scheme m cost) ≡ m
 made_method methods.Md5crypt cost = refl
-made_method methods.Sha256crypt cost = refl
-made_method methods.Sha512crypt cost = refl
-made_method methods.Scrypt cost = refl
+made_method m cost = refl
 
 -- Refusals
 

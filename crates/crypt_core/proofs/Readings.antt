@@ -21,10 +21,7 @@ marks_differ methods.Md5crypt methods.Md5crypt e = refl
 marks_differ methods.Sha256crypt methods.Sha256crypt e = refl
 marks_differ methods.Sha512crypt methods.Sha512crypt e = refl
 marks_differ methods.Scrypt methods.Scrypt e = refl
-marks_differ methods.Md5crypt _ e = absurd (omega arith)
-marks_differ methods.Sha256crypt _ e = absurd (omega arith)
-marks_differ methods.Sha512crypt _ e = absurd (omega arith)
-marks_differ methods.Scrypt _ e = absurd (omega arith)
+marks_differ a b e = absurd (omega arith)
 
 -- a text has the prefix of one method at most
 pub prefix_unique : (a b : Method) (x y : List ℕ) → prefix a ++ x ≡ prefix b ++ y → (a ≡ b) × (x ≡ y)
@@ -36,8 +33,7 @@ prefix_unique a b x y e =
 sha_unique : (a b : Sha) → sha_method a ≡ sha_method b → a ≡ b
 sha_unique Sha256 Sha256 e = refl
 sha_unique Sha512 Sha512 e = refl
-sha_unique Sha256 Sha512 e = absurd (cc e)
-sha_unique Sha512 Sha256 e = absurd (cc e)
+sha_unique a b e = absurd (cc e)
 
 -- which is neither md5crypt nor scrypt
 pub sha_apart : (sha : Sha) → (sha_method sha ≢ methods.Md5crypt) × (sha_method sha ≢ methods.Scrypt)

@@ -1,5 +1,5 @@
 -- Of rules in an order: which one is the first that is broken.
-use Rattle.std.proofs.Common.{◌≡◌, inl, inr, List, [], ◌∷◌, sym, subst, ◌∙◌}
+use Rattle.std.proofs.Common.{◌≡◌, inl, inr, List, [], ◌∷◌, ◌++◌, map, ap, sym, subst, ◌∙◌}
 use Rattle.crypt_core.specs.Rules.{IsFirstBroken}
 
 -- its rule is broken
@@ -15,3 +15,12 @@ first_unique (f ∷ fs) breaks a b (inl here) (inl there) = here.0 ∙ sym there
 first_unique (f ∷ fs) breaks a b (inl here) (inr later) = absurd (later.0 here.1)
 first_unique (f ∷ fs) breaks a b (inr later) (inl here) = absurd (later.0 here.1)
 first_unique (f ∷ fs) breaks a b (inr later) (inr other) = first_unique fs breaks a b later.1 other.1
+
+-- rules of one kind among others: the first that is broken of them is the first of their refusals there
+pub first_mapped : {A F : Type 0} (make : A → F) (faults : List A) (others : List F) (breaks : F → Type 0) (own : A → Type 0)
+    → ((f : A) → own f → breaks (make f)) → ((f : A) → breaks (make f) → own f)
+    → (fault : A) → IsFirstBroken faults own fault → IsFirstBroken (map make faults ++ others) breaks (make fault)
+first_mapped make [] others breaks own to from fault first = absurd first
+first_mapped make (f ∷ fs) others breaks own to from fault (inl here) = inl (ap make here.0, to f here.1)
+first_mapped make (f ∷ fs) others breaks own to from fault (inr later) =
+    inr ((λ broken. later.0 (from f broken)), first_mapped make fs others breaks own to from fault later.1)

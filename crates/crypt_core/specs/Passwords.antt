@@ -1,5 +1,5 @@
 -- Which bytes are a password.
-use Rattle.std.specs.Prelude.{ℕ, ◌<◌, ◌≤◌, List, length, Contains}
+use Rattle.std.specs.Prelude.{ℕ, ◌<◌, ◌≤◌, List, [], ◌∷◌, length, Contains}
 use Rattle.crypt_core.specs.declared.password.PasswordFault.{PasswordFault}
 use Rattle.crypt_core.specs.declared.password.PasswordFault.TheVariants.{TooLong, HasNul}
 
@@ -10,6 +10,10 @@ password_limit = 1024
 -- IsPassword bytes: they are no more than the limit, and none of them is 0.
 abbrev pub IsPassword : List ℕ → Type 0
 IsPassword bytes = (length bytes ≤ password_limit) × ¬ Contains bytes 0
+
+-- The refusals in the order of their rules.
+abbrev pub password_faults : List PasswordFault
+password_faults = TooLong ∷ HasNul ∷ []
 
 -- IsPasswordRefused bytes fault: they are no password, and this is the first rule that they break.
 abbrev pub IsPasswordRefused : List ℕ → PasswordFault → Type 0

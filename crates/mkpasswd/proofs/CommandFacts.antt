@@ -1,6 +1,6 @@
 -- What the command is in the sense of `clap`, and what it makes of some words.
 use Rattle.std.proofs.Common.{◌≡◌, ◌<◌, ◌&&◌, ℕ, Bool, not, true, false, true≢false, zero, suc, sym, ap, ◌∙◌, refl, arith, List, [], ◌∷◌, length, codes, Some, None, inl, inr, slice_index}
-use Rattle.std.specs.Prelude.{pos}
+use Rattle.std.specs.Prelude.{pos, if◌then◌else◌}
 use Rattle.std.proofs.lemmas.Bool.{not-true}
 use Rattle.std.specs.Str.{bytes_eq}
 use Rattle.clap.specs.declared.builder.value_parser.ValueParser.TheVariants.{Signed, Unsigned}
@@ -68,24 +68,29 @@ rounds_rule = record (option_rule (codes "rounds") (Some 82)) { parser = Some (S
 abbrev pub budget_rule : Rule
 budget_rule = record (option_rule (codes "budget") None) { parser = Some (Unsigned 0 18446744073709551615) }
 
-pub is_rounds : IsOnlyRule command.top.rules 2 rounds_rule (Signed (pos 0) (pos 4294967295))
+-- the place of the first rule with this id
+abbrev pub place : Text → List Rule → ℕ
+place id [] = 0
+place id (rule ∷ rules) = if bytes_eq rule.id id then 0 else suc (place id rules)
+
+pub is_rounds : IsOnlyRule command.top.rules (place (codes "rounds") command.top.rules) rounds_rule (Signed (pos 0) (pos 4294967295))
 unfolding command
 is_rounds = record {
   within = omega arith;
   place = λ z. refl;
   parser = refl;
-  only = lone-only 2 (codes "rounds") command.top.rules refl;
+  only = lone-only (place (codes "rounds") command.top.rules) (codes "rounds") command.top.rules refl;
   named = differ _ _ (λ same. absurd (omega arith));
   own = λ auto. elim auto [ inl help ↦ differ _ _ (λ same. absurd (omega arith)) help | inr version ↦ differ _ _ (λ same. absurd (omega arith)) version ];
 }
 
-pub is_budget : IsOnlyRule command.top.rules 8 budget_rule (Unsigned 0 18446744073709551615)
+pub is_budget : IsOnlyRule command.top.rules (place (codes "budget") command.top.rules) budget_rule (Unsigned 0 18446744073709551615)
 unfolding command
 is_budget = record {
   within = omega arith;
   place = λ z. refl;
   parser = refl;
-  only = lone-only 8 (codes "budget") command.top.rules refl;
+  only = lone-only (place (codes "budget") command.top.rules) (codes "budget") command.top.rules refl;
   named = differ _ _ (λ same. absurd (omega arith));
   own = λ auto. elim auto [ inl help ↦ differ _ _ (λ same. absurd (omega arith)) help | inr version ↦ differ _ _ (λ same. absurd (omega arith)) version ];
 }

@@ -3,7 +3,6 @@ use Rattle.std.proofs.Common.{◌≡◌, ◌≢◌, ◌⊎◌, ℕ, List, [], le
 use Rattle.clap.specs.Words.{Text}
 use Rattle.clap.specs.declared.error.kind.ErrorKind.{ErrorKind}
 use Rattle.clap.specs.declared.error.kind.ErrorKind.TheVariants as kind
-use Rattle.crypt_core.specs.declared.setting.fault.MakeFault.{MakeFault}
 use Rattle.clap.specs.declared.error.Error.{Error}
 use Rattle.mkpasswd.specs.Commands.{Serves, Tells}
 use Rattle.mkpasswd.specs.FaultLines.{IsTold, fault_line}
@@ -19,7 +18,7 @@ use Rattle.mkpasswd.specs.declared.fault.Fault.{Fault}
 use Rattle.mkpasswd.specs.declared.fault.Fault.TheVariants.{Start, Usage, Run}
 use Rattle.run_core.specs.declared.fault.RunFault.{RunFault}
 use Rattle.mkpasswd.specs.declared.fault.UsageFault.{UsageFault}
-use Rattle.mkpasswd.specs.declared.fault.UsageFault.TheVariants.{Parse, Method as UnknownMethod, TwoSalts, TwoModes, Make, OutOfMemory as NoMemory}
+use Rattle.mkpasswd.specs.declared.fault.UsageFault.TheVariants.{Parse, OutOfMemory as NoMemory}
 use Rattle.run_core.proofs.Showing.{as_tally, shows-tally}
 use Rattle.mkpasswd.specs.declared.job.Plan.{Plan}
 use Rattle.run_core.specs.declared.tally.Tally.{Tally}
@@ -43,21 +42,7 @@ pub status_by_kind : (which : ErrorKind)
     ⊎ ((¬ ((which ≢ kind.DisplayHelp) × (which ≢ kind.DisplayVersion))) × (parse_status which ≡ 0))
 status_by_kind kind.DisplayHelp = inr ((λ others. others.0 refl), refl)
 status_by_kind kind.DisplayVersion = inr ((λ others. others.1 refl), refl)
-status_by_kind kind.InvalidValue = inl ((λ help. cc), (λ version. cc), refl)
-status_by_kind kind.UnknownArgument = inl ((λ help. cc), (λ version. cc), refl)
-status_by_kind kind.InvalidSubcommand = inl ((λ help. cc), (λ version. cc), refl)
-status_by_kind kind.NoEquals = inl ((λ help. cc), (λ version. cc), refl)
-status_by_kind kind.ValueValidation = inl ((λ help. cc), (λ version. cc), refl)
-status_by_kind kind.TooManyValues = inl ((λ help. cc), (λ version. cc), refl)
-status_by_kind kind.TooFewValues = inl ((λ help. cc), (λ version. cc), refl)
-status_by_kind kind.WrongNumberOfValues = inl ((λ help. cc), (λ version. cc), refl)
-status_by_kind kind.ArgumentConflict = inl ((λ help. cc), (λ version. cc), refl)
-status_by_kind kind.MissingRequiredArgument = inl ((λ help. cc), (λ version. cc), refl)
-status_by_kind kind.MissingSubcommand = inl ((λ help. cc), (λ version. cc), refl)
-status_by_kind kind.DisplayHelpOnMissingArgumentOrSubcommand = inl ((λ help. cc), (λ version. cc), refl)
-status_by_kind kind.Io = inl ((λ help. cc), (λ version. cc), refl)
-status_by_kind kind.Format = inl ((λ help. cc), (λ version. cc), refl)
-status_by_kind kind.OutOfMemory = inl ((λ help. cc), (λ version. cc), refl)
+status_by_kind which = inl ((λ help. cc), (λ version. cc), refl)
 
 -- `clap` says which errors are help or the version
 pub status_of_help : (which : ErrorKind) → ¬ ((which ≢ kind.DisplayHelp) × (which ≢ kind.DisplayVersion)) → parse_status which ≡ 0
@@ -74,17 +59,11 @@ status_of_mistake which other = elim (status_by_kind which) [
 
 module _ {O E : Type 0} where
   -- any other refusal of the words has a line of its own
-  pub refusal_shown : (fault : UsageFault) (turns : ℕ) (out : Device O) (faults : Device E) (new_out : Device O) (new_faults : Device E) (status : ℕ)
-      → (fault ≡ UnknownMethod) ⊎ ((fault ≡ TwoSalts) ⊎ ((fault ≡ TwoModes) ⊎ (((cause : MakeFault) × (fault ≡ Make cause)) ⊎ (fault ≡ NoMemory))))
-      → IsTold (Usage fault) faults new_faults → new_out ≡ out → status ≡ (fault_row (Usage fault)).0
-      → RefusalShown fault turns out faults new_out new_faults status
-  refusal_shown fault turns out faults new_out new_faults status (inl is) told same status_is = rw is (rw is at told, same, rw is at status_is)
-  refusal_shown fault turns out faults new_out new_faults status (inr (inl is)) told same status_is = rw is (rw is at told, same, rw is at status_is)
-  refusal_shown fault turns out faults new_out new_faults status (inr (inr (inl is))) told same status_is = rw is (rw is at told, same, rw is at status_is)
-  refusal_shown fault turns out faults new_out new_faults status (inr (inr (inr (inl (cause, is))))) told same status_is =
-      rw is (rw is at told, same, rw is at status_is)
-  refusal_shown fault turns out faults new_out new_faults status (inr (inr (inr (inr is)))) told same status_is =
-      rw is (rw is at told, same, rw is at status_is)
+  pub refusal_shown : (fault : UsageFault) (turns : ℕ) (out : Device O) (faults : Device E) (new_faults : Device E) (status : ℕ)
+      → ((error : Error) → fault ≢ Parse error) → IsTold (Usage fault) faults new_faults → status ≡ (fault_row (Usage fault)).0
+      → RefusalShown fault turns out faults out new_faults status
+  refusal_shown (Parse error) turns out faults new_faults status other told status_is = absurd (other error refl)
+  refusal_shown fault turns out faults new_faults status other told status_is = (told, refl, status_is)
 
 -- ---- the command
 
@@ -150,13 +129,5 @@ module _ {I O E : Type 0} where
       → Serves turns generates words old (with_outs old out faults) status
   serves_refusal turns generates words (Parse error) old out faults status planned shown =
       serves_error turns generates words error old out faults status planned shown
-  serves_refusal turns generates words UnknownMethod old out faults status planned (told, same, status_is) =
-      (Err UnknownMethod, planned, rw same (tells (Usage UnknownMethod) old faults status told status_is))
-  serves_refusal turns generates words TwoSalts old out faults status planned (told, same, status_is) =
-      (Err TwoSalts, planned, rw same (tells (Usage TwoSalts) old faults status told status_is))
-  serves_refusal turns generates words TwoModes old out faults status planned (told, same, status_is) =
-      (Err TwoModes, planned, rw same (tells (Usage TwoModes) old faults status told status_is))
-  serves_refusal turns generates words (Make fault) old out faults status planned (told, same, status_is) =
-      (Err (Make fault), planned, rw same (tells (Usage (Make fault)) old faults status told status_is))
-  serves_refusal turns generates words NoMemory old out faults status planned (told, same, status_is) =
-      (Err NoMemory, planned, rw same (tells (Usage NoMemory) old faults status told status_is))
+  serves_refusal turns generates words fault old out faults status planned (told, same, status_is) =
+      (Err fault, planned, rw same (tells (Usage fault) old faults status told status_is))

@@ -17,8 +17,8 @@ use Rattle.mkpasswd.specs.Options.{Plans}
 use Rattle.run_core.specs.Runs.{Finishes, RunState}
 use Rattle.run_core.specs.Tallies.{tally_status}
 use Rattle.run_core.specs.declared.fault.RunFault.{RunFault}
-use Rattle.run_core.specs.declared.fault.RunFault.TheVariants.{Read, Write, OutOfMemory, Turns, Password}
-use Rattle.mkpasswd.specs.declared.fault.UsageFault.TheVariants.{Parse, Method as UnknownMethod, TwoSalts, TwoModes, Make, OutOfMemory as NoMemory}
+use Rattle.run_core.specs.declared.fault.RunFault.TheVariants.{Read}
+use Rattle.mkpasswd.specs.declared.fault.UsageFault.TheVariants.{Parse}
 use Rattle.run_core.specs.declared.job.Job.{Job}
 use Rattle.run_core.specs.declared.job.PasswordFrom.TheVariants.{Word, Input}
 use Rattle.mkpasswd.specs.declared.job.Plan.{Plan}
@@ -31,10 +31,7 @@ use Rattle.run_core.specs.declared.tally.Tally.{Tally}
 
 fault_of_run : (fault : RunFault) → (run_row fault).0 ≡ 0 → ⊥
 fault_of_run Read is = absurd (omega (arith, is))
-fault_of_run Write is = absurd (omega (arith, is))
-fault_of_run OutOfMemory is = absurd (omega (arith, is))
-fault_of_run Turns is = absurd (omega (arith, is))
-fault_of_run (Password fault) is = absurd (omega (arith, is))
+fault_of_run fault is = absurd (omega (arith, is))
 
 consumes_nothing : (known : Option (List ℕ)) → Consumes known known []
 consumes_nothing None = tt
@@ -109,8 +106,4 @@ module _ {I O E : Type 0} where
       of_plan (wants_generator plan && not generates) turns plan words old new status well planned follows
   is_whole turns generates words old new status well (Err (Parse error), planned, follows) =
       of_error (parse_status (kind_of error)) turns words error old new status well planned refl follows
-  is_whole turns generates words old new status well (Err UnknownMethod, planned, (result, shows, same, is)) = absurd (omega (arith, is, well))
-  is_whole turns generates words old new status well (Err TwoSalts, planned, (result, shows, same, is)) = absurd (omega (arith, is, well))
-  is_whole turns generates words old new status well (Err TwoModes, planned, (result, shows, same, is)) = absurd (omega (arith, is, well))
-  is_whole turns generates words old new status well (Err (Make fault), planned, (result, shows, same, is)) = absurd (omega (arith, is, well))
-  is_whole turns generates words old new status well (Err NoMemory, planned, (result, shows, same, is)) = absurd (omega (arith, is, well))
+  is_whole turns generates words old new status well (Err fault, planned, (result, shows, same, is)) = absurd (omega (arith, is, well))

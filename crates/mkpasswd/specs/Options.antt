@@ -14,6 +14,7 @@ use Rattle.crypt_core.specs.MadeSettings.{BreaksMake, made_scheme, make_faults}
 use Rattle.crypt_core.specs.Methods.{method_named}
 use Rattle.crypt_core.specs.Rules.{IsFirstBroken}
 use Rattle.crypt_core.specs.declared.method.Method.{Method}
+use Rattle.run_core.specs.Makers.{Recipe}
 use Rattle.run_core.specs.declared.job.Job.{Job}
 use Rattle.run_core.specs.declared.job.PasswordFrom.TheVariants.{Word, Input}
 use Rattle.mkpasswd.specs.declared.fault.UsageFault.{UsageFault}
@@ -96,12 +97,15 @@ BreaksUsage rows (Make fault) =
     (method : Method) × (method_named (type_of rows) ≡ Some method) × BreaksMake method (cost_of rows) (given_salt rows) fault
 BreaksUsage rows fault = ⊥
 
--- The arguments ask for this job. It makes settings with the method, the cost and the salt. `--rehash` asks for
--- rehashes and `--work` for counts, and the budget is the number of `--budget`.
+-- The maker of settings has the method, the cost and the salt.
+abbrev pub IsMaker : List Row → Recipe → Type 0
+IsMaker rows maker = (method : Method) × (method_named (type_of rows) ≡ Some method)
+    × (maker ≡ record { scheme = made_scheme method (cost_of rows); salt = given_salt rows })
+
+-- The arguments ask for this job. `--rehash` asks for rehashes and `--work` for counts, and the budget is the number of
+-- `--budget`.
 pub record IsJob (rows : List Row) (job : Job) : Type 0 where
-  pub method : Method
-  pub named : method_named (type_of rows) ≡ Some method
-  pub maker : job.maker ≡ record { scheme = made_scheme method (cost_of rows); salt = given_salt rows }
+  pub maker : IsMaker rows job.maker
   pub rehash : job.rehash ≡ is_set (codes "rehash") rows
   pub work : job.work ≡ is_set (codes "work") rows
   pub budget : job.budget ≡ number_in (codes "budget") rows

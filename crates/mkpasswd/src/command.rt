@@ -139,11 +139,7 @@ fn show_refusal<O: Write, E: Write>(
 {
     match fault {
         UsageFault::Parse(error) => show_error(alloc, &error, out, faults, turns),
-        UsageFault::Method
-        | UsageFault::TwoSalts
-        | UsageFault::TwoModes
-        | UsageFault::Make(_)
-        | UsageFault::OutOfMemory => report_fault(&Fault::Usage(fault), faults),
+        fault => report_fault(&Fault::Usage(fault), faults),
     }
 }
 

@@ -41,11 +41,8 @@ impl UsageFault {
     {
         match self {
             UsageFault::Parse(error) => if error.use_stderr() { 2 } else { 0 },
-            UsageFault::Method
-            | UsageFault::TwoSalts
-            | UsageFault::TwoModes
-            | UsageFault::Make(_) => 2,
             UsageFault::OutOfMemory => 3,
+            _ => 2,
         }
     }
 

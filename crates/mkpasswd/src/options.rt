@@ -1,18 +1,21 @@
 //! The arguments after the program's name: the command with which `clap` parses them, and the plan that they ask for.
 //! The refusals have one order. Only `OutOfMemory` has no place in it: it occurs at the allocation that failed.
-ghost use Rattle.std.specs.Prelude.{◌≡◌, ◌≢◌, List, [], None, map, string_bytes, IfErr, IfOk};
-ghost use Rattle.clap.specs.Words.{Row, app_of, fault_of, found_of, kind_of, matches_of, rows_of};
+ghost use Rattle.std.specs.Prelude.{◌≡◌, ◌≢◌, List, [], None, Some, codes, map, string_bytes, IfErr, IfOk};
+ghost use Rattle.clap.specs.Words.{app_of, fault_of, first_of, kind_of, matches_of, rule_of};
 ghost use Rattle.run_core.specs.Makers.{bytes_of};
-ghost use Rattle.mkpasswd.specs.Options.{BreaksUsage, Plans, Refuses, command, flag_rule, given_salt, is_set, option_rule, value_rule};
-ghost use Rattle.mkpasswd.specs.Private.Options.{HasRule, Keeps};
+ghost use Rattle.crypt_core.specs.Methods.{method_named};
+ghost use Rattle.mkpasswd.specs.Options.{IsMaker, IsPlan, Plans, Refuses, command, cost_of, flag_rule, given_salt, is_set, number_in, option_rule, type_of, value_rule};
+ghost use Rattle.mkpasswd.specs.Private.Options.{Follows, HasRule};
 
 use crate::fault::UsageFault;
 use crate::job::{Job, Maker, PasswordFrom, Plan};
+use clap::builder::ValueParser;
 use clap::error::ErrorKind;
 use clap::{Arg, ArgAction, ArgMatches, Command, value_parser};
 use crypt_core::method::Method;
 use crypt_core::version::VERSION;
 use std::alloc::{AllocError, Global};
+use std::marker::Model;
 
 // The TYPE of arguments without `-m`.
 const DEFAULT_TYPE: &str = "sha512crypt";
@@ -50,20 +53,62 @@ const SALT_WORD_HELP: &str = "The salt, in place of --salt";
 
 const AFTER_HELP: &str = "A password that begins with '-' is handed in by --stdin.";
 
-// The values of the options and arguments.
-#[derive(Clone, Copy)]
+// What `clap` finds in the arguments. Clauses see its rows, one for each argument that is given.
+#[derive(Drop)]
 struct Arguments<'a> {
-    method: Option<&'a str>,
-    salt: Option<&'a str>,
-    salt_word: Option<&'a str>,
+    matches: ArgMatches<'a>,
     cost: u32,
-    stdin: bool,
-    batch: bool,
-    check: bool,
-    rehash: bool,
-    work: bool,
     budget: Option<u64>,
-    password: Option<&'a str>,
+}
+
+impl<'a> Model for Arguments<'a> {
+    ghost use Rattle.std.specs.Prelude.{◌≡◌, List, codes};
+    ghost use Rattle.clap.specs.Words.{Row, found_of, rows_of};
+    ghost use Rattle.mkpasswd.specs.Options.{cost_of, number_in};
+
+    ghost Value = { List Row };
+
+    ghost view = { λ a. rows_of (found_of a.matches) };
+
+    ghost invariant = { λ a. (a.cost ≡ cost_of (rows_of (found_of a.matches)))
+        × (a.budget ≡ number_in (codes "budget") (rows_of (found_of a.matches))) };
+}
+
+impl<'a> Arguments<'a> {
+    // Returns the value of an option or argument.
+    fn text(&self, id: &str) -> Option<&'a str>
+        ensures { bytes_of result ≡ first_of id.now self.now }
+    {
+        self.matches.get_str(id)
+    }
+
+    // Returns whether the flag is given. The contract of `get_flag` does not cover a value that is not a `bool`.
+    fn has(&self, id: &str) -> bool
+        ensures { result ≡ is_set id.now self.now }
+    {
+        self.matches.get_one(id).unwrap_or(false)
+    }
+
+    // Returns the cost.
+    fn cost(&self) -> u32
+        ensures { result ≡ cost_of self.now }
+    {
+        self.cost
+    }
+
+    // Returns the budget.
+    fn budget(&self) -> Option<u64>
+        ensures { result ≡ number_in (codes "budget") self.now }
+    {
+        self.budget
+    }
+
+    // Returns TYPE.
+    fn type_name(&self) -> &'a str
+        ensures { result.now ≡ type_of self.now }
+    {
+        self.text("method").unwrap_or(DEFAULT_TYPE)
+    }
 }
 
 /// Returns the plan that the arguments after the program's name ask for.
@@ -86,106 +131,103 @@ pub fn plan(alloc: Global, words: &[String]) -> Result<Plan, UsageFault>
     ensures { Plans (map string_bytes words.now) result }
 {
     let given = read_words(alloc, words)?;
-    let name = given.method.unwrap_or(DEFAULT_TYPE);
-    if name == "help" {
+    if given.type_name() == "help" {
         return Ok(Plan::Methods);
     }
-    let Some(method) = Method::named(name.as_bytes()) else {
-        return Err(UsageFault::Method);
-    };
+    let method = known_method(&given)?;
     let salt = one_salt(&given)?;
-    let flags = u32::from(given.stdin) + u32::from(given.batch) + u32::from(given.check);
-    if u32::from(given.password.is_some()) + flags > 1 {
-        return Err(UsageFault::TwoModes);
-    }
-    let maker = Maker::new(method, given.cost, salt)?;
-    let job = Job {
-        maker,
-        rehash: given.rehash,
-        work: given.work,
-        budget: given.budget,
-    };
-    Ok(match given.password {
-        Some(password) => {
-            let bytes = Vec::from_slice(alloc, password.as_bytes())?;
-            Plan::One(job, PasswordFrom::Word(bytes))
-        }
-        None if given.batch => Plan::Batch(job),
-        None if given.check => Plan::Check(job),
-        None => Plan::One(job, PasswordFrom::Input),
-    })
+    one_mode(&given)?;
+    let maker = Maker::new(method, given.cost(), salt)?;
+    Ok(planned(alloc, &given, maker)?)
 }
 
 // Parses the arguments with the command. The error is `clap`'s own. If an allocation failed, its kind is `OutOfMemory`.
 fn read_words<'a>(alloc: Global, words: &'a [String]) -> Result<Arguments<'a>, clap::Error>
-    ensures taken { IfOk result (λ given. fault_of command (map string_bytes words.entry.now) ≡ []) }
-    ensures ok { IfOk result (Keeps (matches_of command (map string_bytes words.entry.now))) }
+    ensures ok { IfOk result (λ given. (fault_of command (map string_bytes words.entry.now) ≡ [])
+        × (given ≡ matches_of command (map string_bytes words.entry.now))) }
     ensures err { IfErr result (λ error. kind_of error ≢ ErrorKind.OutOfMemory
         → Refuses (map string_bytes words.entry.now) error) }
 {
     let matches = command(alloc)?.try_get_matches_from(words)?;
-    let method = matches.get_str("method");
-    let salt = matches.get_str("salt");
     let cost = matches.get_one("rounds").unwrap_or(0);
-    let stdin = is_given(&matches, "stdin");
-    let batch = is_given(&matches, "batch");
-    let check = is_given(&matches, "check");
-    let rehash = is_given(&matches, "rehash");
-    let work = is_given(&matches, "work");
     let budget = matches.get_one("budget");
-    let password = matches.get_str("password");
-    let salt_word = matches.get_str("salt-word");
     Ok(Arguments {
-        method,
-        salt,
-        salt_word,
+        matches,
         cost,
-        stdin,
-        batch,
-        check,
-        rehash,
-        work,
         budget,
-        password,
     })
 }
 
-// Returns whether the flag is given. The contract of `get_flag` does not cover a value that is not a `bool`.
-fn is_given(matches: &ArgMatches<'_>, id: &str) -> bool
-    ensures { result ≡ is_set id.now (rows_of (found_of matches.now)) }
+// Returns the method that TYPE names.
+fn known_method(given: &Arguments<'_>) -> Result<Method, UsageFault>
+    ensures known { IfOk result (λ method. method_named (type_of given.now) ≡ Some method) }
+    ensures rule { Follows given.now UsageFault.Method result }
 {
-    matches.get_one(id).unwrap_or(false)
+    Method::named(given.type_name().as_bytes()).ok_or(UsageFault::Method)
 }
 
 // Returns the salt, which may be given in at most one of the two ways.
 fn one_salt<'a>(given: &Arguments<'a>) -> Result<Option<&'a [u8]>, UsageFault>
-    ensures once { (rows : List Row) → Keeps rows given.now
-        → IfOk result (λ salt. (¬ BreaksUsage rows UsageFault.TwoSalts) × (bytes_of salt ≡ given_salt rows)) }
-    ensures twice { (rows : List Row) → Keeps rows given.now
-        → IfErr result (λ fault. (fault ≡ UsageFault.TwoSalts) × BreaksUsage rows UsageFault.TwoSalts) }
+    ensures once { IfOk result (λ salt. bytes_of salt ≡ given_salt given.now) }
+    ensures rule { Follows given.now UsageFault.TwoSalts result }
 {
-    match (given.salt, given.salt_word) {
+    match (given.text("salt"), given.text("salt-word")) {
         (Some(_), Some(_)) => Err(UsageFault::TwoSalts),
         (Some(salt), None) | (None, Some(salt)) => Ok(Some(salt.as_bytes())),
         (None, None) => Ok(None),
     }
 }
 
+// Checks that at most one mode is given.
+fn one_mode(given: &Arguments<'_>) -> Result<(), UsageFault>
+    ensures rule { Follows given.now UsageFault.TwoModes result }
+{
+    let password = u32::from(given.text("password").is_some());
+    let stdin = u32::from(given.has("stdin"));
+    let batch = u32::from(given.has("batch"));
+    let check = u32::from(given.has("check"));
+    if password + stdin + batch + check > 1 {
+        return Err(UsageFault::TwoModes);
+    }
+    Ok(())
+}
+
+// Returns the plan of arguments that break no rule.
+fn planned(alloc: Global, given: &Arguments<'_>, maker: Maker) -> Result<Plan, AllocError>
+    ensures { IsMaker given.now maker → IfOk result (IsPlan given.now) }
+{
+    let job = Job {
+        maker,
+        rehash: given.has("rehash"),
+        work: given.has("work"),
+        budget: given.budget(),
+    };
+    if let Some(password) = given.text("password") {
+        let bytes = Vec::from_slice(alloc, password.as_bytes())?;
+        return Ok(Plan::One(job, PasswordFrom::Word(bytes)));
+    }
+    if given.has("batch") {
+        return Ok(Plan::Batch(job));
+    }
+    if given.has("check") {
+        return Ok(Plan::Check(job));
+    }
+    Ok(Plan::One(job, PasswordFrom::Input))
+}
+
 // Returns the command with which the arguments are parsed, with its help.
 fn command<'a>(alloc: Global) -> Result<Command<'a>, AllocError>
     ensures { IfOk result (λ made. app_of made ≡ command) }
 {
-    let method = option(alloc, "method", "TYPE", METHOD_HELP).short('m');
-    let salt = option(alloc, "salt", "SALT", SALT_HELP).short('S');
-    let rounds = option(alloc, "rounds", "NUMBER", ROUNDS_HELP)
-        .short('R')
-        .value_parser(value_parser!(u32));
-    let stdin = flag(alloc, "stdin", STDIN_HELP).short('s');
-    let batch = flag(alloc, "batch", BATCH_HELP);
-    let check = flag(alloc, "check", CHECK_HELP);
-    let rehash = flag(alloc, "rehash", REHASH_HELP);
-    let work = flag(alloc, "work", WORK_HELP);
-    let budget = option(alloc, "budget", "NUMBER", BUDGET_HELP).value_parser(value_parser!(u64));
+    let method = option(alloc, "method", Some('m'), "TYPE", METHOD_HELP);
+    let salt = option(alloc, "salt", Some('S'), "SALT", SALT_HELP);
+    let rounds = number(alloc, "rounds", Some('R'), value_parser!(u32), ROUNDS_HELP);
+    let stdin = flag(alloc, "stdin", Some('s'), STDIN_HELP);
+    let batch = flag(alloc, "batch", None, BATCH_HELP);
+    let check = flag(alloc, "check", None, CHECK_HELP);
+    let rehash = flag(alloc, "rehash", None, REHASH_HELP);
+    let work = flag(alloc, "work", None, WORK_HELP);
+    let budget = number(alloc, "budget", None, value_parser!(u64), BUDGET_HELP);
     let password = operand(alloc, "password", "PASSWORD", PASSWORD_HELP);
     let salt_word = operand(alloc, "salt-word", "SALT", SALT_WORD_HELP);
     let arguments = vec![in alloc;
@@ -200,20 +242,52 @@ fn command<'a>(alloc: Global) -> Result<Command<'a>, AllocError>
 }
 
 // Returns a flag, whose long name is its id.
-fn flag<'a>(alloc: Global, id: &'a str, help: &'a str) -> Arg<'a>
-    ensures { HasRule result (flag_rule id.entry.now None) }
+fn flag<'a>(alloc: Global, id: &'a str, letter: Option<char>, help: &'a str) -> Arg<'a>
+    ensures { HasRule result (flag_rule id.entry.now letter) }
 {
-    Arg::new(alloc, id)
+    let arg = Arg::new(alloc, id)
         .long(id)
         .action(ArgAction::SetTrue)
-        .help(help)
+        .help(help);
+    lettered(arg, letter)
 }
 
 // Returns an option with one value, whose long name is its id.
-fn option<'a>(alloc: Global, id: &'a str, value_name: &'a str, help: &'a str) -> Arg<'a>
-    ensures { HasRule result (option_rule id.entry.now None) }
+fn option<'a>(
+    alloc: Global,
+    id: &'a str,
+    letter: Option<char>,
+    value_name: &'a str,
+    help: &'a str,
+) -> Arg<'a>
+    ensures { HasRule result (option_rule id.entry.now letter) }
 {
-    operand(alloc, id, value_name, help).long(id)
+    lettered(operand(alloc, id, value_name, help).long(id), letter)
+}
+
+// Returns an option whose value is a number.
+fn number<'a>(
+    alloc: Global,
+    id: &'a str,
+    letter: Option<char>,
+    parser: ValueParser<'a>,
+    help: &'a str,
+) -> Arg<'a>
+    ensures { HasRule result (record (option_rule id.entry.now letter) { parser = Some parser.entry }) }
+{
+    option(alloc, id, letter, "NUMBER", help).value_parser(parser)
+}
+
+// Returns the argument with this short name, if there is one.
+fn lettered<'a>(arg: Arg<'a>, letter: Option<char>) -> Arg<'a>
+    requires { (rule_of arg).short ≡ None }
+    ensures rule { rule_of result ≡ record (rule_of arg.entry) { short = letter } }
+    ensures local { result.global ≡ arg.entry.global }
+{
+    match letter {
+        Some(letter) => arg.short(letter),
+        None => arg,
+    }
 }
 
 // Returns an argument that is one value.

@@ -12,7 +12,7 @@ use Rattle.crypt_core.specs.MethodLimits.{prefix}
 use Rattle.crypt_core.specs.Schemes.{method_of}
 use Rattle.crypt_core.specs.StoredFields.{IsStored, StoredHash}
 use Rattle.crypt_core.specs.declared.method.Method.{Method}
-use Rattle.crypt_core.specs.declared.method.Method.TheVariants.{Md5crypt, Sha256crypt, Sha512crypt, Scrypt}
+use Rattle.crypt_core.specs.declared.method.Method.TheVariants.{Md5crypt}
 use Rattle.crypt_core.specs.declared.stored.StoredField.{StoredField}
 use Rattle.crypt_core.specs.declared.stored.StoredField.TheVariants as fields
 use Rattle.run_core.specs.Answers.{Hashing, hashing, new_hash, new_hashing}
@@ -104,9 +104,7 @@ cheap_stored kind job line name password field stored taken spells once within c
 -- a text that spells a setting begins with a `$`
 first_of_prefix : (method : Method) (rest : List ℕ) → slice_index (prefix method ++ rest) 0 ≡ 36
 first_of_prefix Md5crypt rest = refl
-first_of_prefix Sha256crypt rest = refl
-first_of_prefix Sha512crypt rest = refl
-first_of_prefix Scrypt rest = refl
+first_of_prefix method rest = refl
 
 first_is_dollar : (field : List ℕ) (kept : SettingValue) → Spells field kept → slice_index field 0 ≡ 36
 first_is_dollar field kept spells =

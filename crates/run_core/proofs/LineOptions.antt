@@ -22,6 +22,7 @@ use Rattle.run_core.specs.declared.line.Kind.TheVariants.{Batch}
 use Rattle.run_core.specs.declared.line.LineFault.TheVariants.{OverBudget}
 use Rattle.run_core.specs.declared.tally.Tally.{Tally}
 use Rattle.run_core.proofs.Deciding.{unstored-cheap}
+use Rattle.run_core.proofs.LineRules.{sound_not_refused}
 
 -- ---- lines
 
@@ -33,11 +34,7 @@ free kind job line costly = costly.above
 comes-budgeted : (job : Job) (parts : Parts) (stream : Stream) (outcome : Outcome) (made : List Hashing)
     → ComesTo job parts stream outcome made ↔ ComesTo (without_budget job) parts stream outcome made
 comes-budgeted job parts stream (Hashed hash) made = ((λ comes. comes), λ comes. comes)
-comes-budgeted job parts stream NoHash made = ((λ comes. comes), λ comes. comes)
-comes-budgeted job parts stream Locked made = ((λ comes. comes), λ comes. comes)
-comes-budgeted job parts stream Match made = ((λ comes. comes), λ comes. comes)
-comes-budgeted job parts stream (Rehashed hash) made = ((λ comes. comes), λ comes. comes)
-comes-budgeted job parts stream Misfit made = ((λ comes. comes), λ comes. comes)
+comes-budgeted job parts stream outcome made = ((λ comes. comes), λ comes. comes)
 
 module _ (kind : Kind) (job : Job) (number : ℕ) (line : List ℕ) (stream : Stream) (answer : Answer) where
   -- so another answer stands
@@ -56,7 +53,7 @@ module _ (kind : Kind) (job : Job) (number : ℕ) (line : List ℕ) (stream : St
 
   -- what breaks no rule and costs too much is refused
   costly-refused : IsCostly kind job line → IsAnswer kind job number line stream answer → answer ≡ refusal number OverBudget
-  costly-refused costly (inl (fault, refused, is)) = absurd (costly.sound fault refused.breaks)
+  costly-refused costly (inl (fault, refused, is)) = absurd (sound_not_refused kind line fault costly.sound refused)
   costly-refused costly (inr (inl (other, is))) = is
   costly-refused costly (inr (inr (sound, cheap, parts, cut, outcome, comes, is))) = absurd (cheap costly)
 

@@ -8,7 +8,7 @@ use Rattle.run_core.specs.Devices.{Device, MovesBytes}
 use Rattle.run_core.specs.Input.{Reads}
 use Rattle.run_core.specs.LineRuns.{HasLines, lines_of, piece_size}
 use Rattle.run_core.specs.Private.Deliveries.{IsUnfailed}
-use Rattle.run_core.specs.Private.Headroom.{HasRoomFor}
+use Rattle.run_core.specs.Private.Headroom.{HasRoomFor, to_read}
 use Rattle.run_core.specs.Private.Lines.{Represents}
 use Rattle.run_core.specs.Private.Readers.{FetchesPiece, GivesNext, HasGiven, HasStopped, IsAt, TakesLine}
 use Rattle.run_core.specs.Texts.{HasNoLineFeed, line_feed}
@@ -189,6 +189,7 @@ module _ {I : Type 0} where
     pub room : HasRoomFor piece_size left now
     pub calls : now.calls + left ≡ old.calls + old_left
     pub fewer : left ≤ old_left
+    pub shorter : to_read left reader.piece ≤ to_read old_left old_reader.piece
 
   unfailed-fetched : (now new : Device I) (fetched : List ℕ) (left : ℕ) (found : Bool) → FetchesPiece left now new fetched (Ok found) → IsUnfailed now new
   unfailed-fetched now new fetched left true got = got.0

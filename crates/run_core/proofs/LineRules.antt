@@ -1,11 +1,12 @@
 -- Which rule is the first that a line breaks.
-use Rattle.std.proofs.Common.{◌≡◌, ℕ, ◌≤◌, ◌<◌, List, [], length, Contains, Option, Some, None, inl, inr, refl, sym, ap, subst, ◌∙◌, arith}
-use Rattle.std.proofs.lemmas.Bool.{cases_order}
-use Rattle.crypt_core.specs.Passwords.{IsPassword, IsPasswordRefused}
+use Rattle.std.proofs.Common.{◌≡◌, ℕ, ◌≤◌, ◌<◌, List, [], ◌∷◌, ◌++◌, length, map, Contains, Option, Some, None, inl, inr, refl, sym, ap, subst, ◌∙◌, arith}
+use Rattle.std.proofs.lemmas.List.{nil_from_length}
+use Rattle.crypt_core.specs.Passwords.{IsPassword, IsPasswordRefused, password_faults}
 use Rattle.std.specs.Prelude.{Ok, Err}
 use Rattle.crypt_core.specs.FieldReadings.{IsFieldReading}
 use Rattle.crypt_core.specs.Readings.{IsReadOneWay}
-use Rattle.crypt_core.specs.Refusals.{IsRefused}
+use Rattle.crypt_core.specs.Refusals.{FailsStage, IsRefused, setting_faults}
+use Rattle.crypt_core.specs.Rules.{IsFirstBroken}
 use Rattle.crypt_core.specs.StoredFields.{IsStored}
 use Rattle.crypt_core.specs.declared.stored.StoredField.{StoredField}
 use Rattle.crypt_core.specs.declared.stored.StoredField.TheVariants.{Empty, Locked, Hash}
@@ -13,12 +14,13 @@ use Rattle.crypt_core.specs.declared.password.PasswordFault.{PasswordFault}
 use Rattle.crypt_core.specs.declared.password.PasswordFault.TheVariants.{TooLong, HasNul}
 use Rattle.crypt_core.specs.declared.setting.fault.SettingFault.{SettingFault}
 use Rattle.run_core.specs.Texts.{colon}
-use Rattle.run_core.specs.Lines.{BreaksLine, HasName, HasParts, IsLineRefused, IsSound, Parts, line_limit, line_rule_number}
+use Rattle.run_core.specs.Lines.{BreaksLine, HasName, HasParts, IsLineRefused, IsSound, Parts, line_faults, line_limit, name_limit}
 use Rattle.run_core.specs.Private.Lines.{HasBehind, HasSoundParts, IsCutOrWhole, IsGoodName, IsNamed, IsTooLong, LacksParts}
 use Rattle.run_core.specs.declared.line.Kind.{Kind}
 use Rattle.run_core.specs.declared.line.Kind.TheVariants.{Batch, Check}
 use Rattle.run_core.specs.declared.line.LineFault.{LineFault}
 use Rattle.run_core.specs.declared.line.LineFault.TheVariants.{LineTooLong, NoName, NameTooLong, NoPassword, Password, Setting, OverBudget}
+use Rattle.crypt_core.proofs.Rules.{first_breaks, first_mapped, first_unique}
 use Rattle.run_core.proofs.Cuts.{cut_unique, cut_has_colon, name_unique, parts_unique}
 
 -- ---- names
@@ -31,14 +33,40 @@ name_of_parts : (kind : Kind) (line : List ℕ) (parts : Parts) → HasParts kin
 name_of_parts Batch line parts cut = inl (parts.password, cut.0)
 name_of_parts Check line parts cut = inl (cut.1, cut.2)
 
--- a line with a good name breaks none of the rules on lengths and names
-name_breaks_none : (kind : Kind) (line name : List ℕ) → length line ≤ line_limit → IsGoodName name → HasName line name
-    → (fault : LineFault) → line_rule_number fault < 4 → BreaksLine kind fault line → ⊥
-name_breaks_none kind line name short good has LineTooLong below breaks = omega (arith, short, breaks)
-name_breaks_none kind line name short good has NoName below breaks = good.some (name_unique line name [] has breaks)
-name_breaks_none kind line name short good has NameTooLong below breaks =
-    omega (arith, good.short, breaks.2, ap length (name_unique line name breaks.0 has breaks.1))
-name_breaks_none kind line name short good has fault below breaks = absurd (omega arith)
+module _ (kind : Kind) (line name : List ℕ) (short : length line ≤ line_limit) (good : IsGoodName name) (has : HasName line name) where
+  -- a line with a good name breaks none of the rules on lengths and names
+  kept_length : ¬ BreaksLine kind LineTooLong line
+  kept_length long = omega (arith, short, long)
+
+  some_name : ¬ BreaksLine kind NoName line
+  some_name none = good.some (name_unique line name [] has none)
+
+  kept_name : ¬ BreaksLine kind NameTooLong line
+  kept_name long = omega (arith, good.short, long.2, ap length (name_unique line name long.0 has long.1))
+
+  -- so it is refused by the first rule after them that it breaks
+  refused_after_name : (fault : LineFault)
+      → IsFirstBroken (NoPassword ∷ map Password password_faults ++ map Setting setting_faults) (λ broken. BreaksLine kind broken line) fault
+      → IsLineRefused kind line fault
+  unfolding IsLineRefused
+  refused_after_name fault later = inr (kept_length, inr (some_name, inr (kept_name, later)))
+
+-- a name that is none, or too long
+pub refused_for_no_name : (kind : Kind) (line name : List ℕ) (back : Option (List ℕ)) → length line ≤ line_limit → IsCutOrWhole line name back
+    → length name ≡ 0 → IsLineRefused kind line NoName
+unfolding IsLineRefused
+refused_for_no_name kind line name back short cut none =
+    inr ((λ long. omega (arith, short, long)), inl (refl, subst (HasName line) (nil_from_length name none) (name_of_cut line name back cut)))
+
+pub refused_for_long_name : (kind : Kind) (line name : List ℕ) (back : Option (List ℕ)) → length line ≤ line_limit → IsCutOrWhole line name back
+    → name_limit < length name → IsLineRefused kind line NameTooLong
+unfolding IsLineRefused
+refused_for_long_name kind line name back short cut long =
+    let has = name_of_cut line name back cut in
+    inr (
+      (λ over. omega (arith, short, over)),
+      inr ((λ none. omega (arith, long, ap length (name_unique line name [] has none))), inl (refl, (name, has, long))),
+    )
 
 -- ---- parts
 
@@ -57,15 +85,6 @@ has_no_parts Batch line name (Some back) first lacks parts cut = lacks
 has_no_parts Check line name (Some back) first lacks parts cut =
     lacks (subst (λ (bytes : List ℕ). Contains bytes colon) (sym (cut_unique first cut.2).1) (cut_has_colon cut.1 cut.0 parts.password cut.3))
 
--- a line with a good name and with parts breaks none of the first four rules
-parts_break_none : (kind : Kind) (line : List ℕ) (parts : Parts) → length line ≤ line_limit → IsGoodName parts.name → HasParts kind line parts
-    → (fault : LineFault) → line_rule_number fault < 5 → BreaksLine kind fault line → ⊥
-parts_break_none kind line parts short good cut NoPassword below breaks = breaks parts cut
-parts_break_none kind line parts short good cut (Password fault) below breaks = omega arith
-parts_break_none kind line parts short good cut (Setting fault) below breaks = omega arith
-parts_break_none kind line parts short good cut fault below breaks =
-    name_breaks_none kind line parts.name short good (name_of_parts kind line parts cut) fault (omega arith) breaks
-
 -- ---- the rules before that of the field
 
 -- a line that breaks none of them
@@ -75,18 +94,19 @@ pub record IsEntry (kind : Kind) (line : List ℕ) (parts : Parts) : Type 0 wher
   pub cut : HasParts kind line parts
   pub password : IsPassword parts.password
 
-abbrev IsBeforeField : LineFault → Type 0
-IsBeforeField fault = line_rule_number fault < 6
-
 abbrev IsFieldRefused : List ℕ → SettingFault → Type 0
 IsFieldRefused field fault = IsStored field × IsRefused field fault
 
 pub refused_without_parts : (kind : Kind) (line name : List ℕ) (back : Option (List ℕ)) → IsNamed line name back → LacksParts kind back
     → IsLineRefused kind line NoPassword
-refused_without_parts kind line name back named lacks = record {
-  breaks = has_no_parts kind line name back named.cut lacks;
-  first = name_breaks_none kind line name named.short named.good (name_of_cut line name back named.cut);
-}
+refused_without_parts kind line name back named lacks =
+    refused_after_name kind line name named.short named.good (name_of_cut line name back named.cut) NoPassword
+    (inl (refl, has_no_parts kind line name back named.cut lacks))
+
+-- a password gets one refusal at most, which is that of its first broken rule
+first_of_password : (bytes : List ℕ) (fault : PasswordFault) → IsPasswordRefused bytes fault → IsFirstBroken password_faults (IsPasswordRefused bytes) fault
+first_of_password bytes TooLong refused = inl (refl, refused)
+first_of_password bytes HasNul refused = inr ((λ long. omega (arith, long, refused.0)), inl (refl, refused))
 
 pub refused_password : (kind : Kind) (line name : List ℕ) (back field : Option (List ℕ)) (password : List ℕ) (fault : PasswordFault)
     → IsNamed line name back → HasBehind kind back field password → IsPasswordRefused password fault
@@ -94,7 +114,13 @@ pub refused_password : (kind : Kind) (line name : List ℕ) (back field : Option
 refused_password kind line name back field password fault named behind refused =
     let parts : Parts = record { name = name; field = field; password = password } in
     let cut = parts_from_behind kind line name back field password named.cut behind in
-    record { breaks = (parts, cut, refused); first = parts_break_none kind line parts named.short named.good cut }
+    refused_after_name kind line name named.short named.good (name_of_cut line name back named.cut) (Password fault) (inr (
+      (λ lacks. lacks parts cut),
+      first_mapped Password password_faults (map Setting setting_faults) (λ broken. BreaksLine kind broken line) (IsPasswordRefused password)
+          (λ own breaks. (parts, cut, breaks))
+          (λ own breaks. subst (λ (p : Parts). IsPasswordRefused p.password own) (parts_unique kind line breaks.0 parts breaks.1 cut) breaks.2)
+          fault (first_of_password password fault refused),
+    ))
 
 pub entry_from_behind : (kind : Kind) (line name : List ℕ) (back field : Option (List ℕ)) (password : List ℕ) → IsNamed line name back
     → HasBehind kind back field password → IsPassword password
@@ -110,42 +136,10 @@ not_refused : (bytes : List ℕ) (fault : PasswordFault) → IsPassword bytes �
 not_refused bytes TooLong is_password refused = omega (arith, is_password.0, refused)
 not_refused bytes HasNul is_password refused = is_password.1 refused.1
 
--- an entry breaks no rule but that of its field
-entry_breaks_none : (kind : Kind) (line : List ℕ) (parts : Parts) → IsEntry kind line parts
-    → (fault : LineFault) → IsBeforeField fault → BreaksLine kind fault line → ⊥
-entry_breaks_none kind line parts entry (Password fault) before breaks =
+keeps_password : (kind : Kind) (line : List ℕ) (parts : Parts) → IsEntry kind line parts → (fault : PasswordFault) → ¬ BreaksLine kind (Password fault) line
+keeps_password kind line parts entry fault breaks =
     let same = parts_unique kind line breaks.0 parts breaks.1 entry.cut in
     not_refused parts.password fault entry.password (subst (λ (p : Parts). IsPasswordRefused p.password fault) same breaks.2)
-entry_breaks_none kind line parts entry (Setting fault) before breaks = omega arith
-entry_breaks_none kind line parts entry fault before breaks =
-    parts_break_none kind line parts entry.short entry.good entry.cut fault (omega arith) breaks
-
-same_password_fault : (bytes : List ℕ) (a b : PasswordFault) → IsPasswordRefused bytes a → IsPasswordRefused bytes b → a ≡ b
-same_password_fault bytes TooLong TooLong one two = refl
-same_password_fault bytes TooLong HasNul one two = absurd (omega (arith, one, two.0))
-same_password_fault bytes HasNul TooLong one two = absurd (omega (arith, one.0, two))
-same_password_fault bytes HasNul HasNul one two = refl
-
-same_fault : (kind : Kind) (line : List ℕ) (a b : LineFault) → line_rule_number a ≡ line_rule_number b → IsBeforeField a
-    → BreaksLine kind a line → BreaksLine kind b line → a ≡ b
-same_fault kind line LineTooLong LineTooLong same before one two = refl
-same_fault kind line NoName NoName same before one two = refl
-same_fault kind line NameTooLong NameTooLong same before one two = refl
-same_fault kind line NoPassword NoPassword same before one two = refl
-same_fault kind line (Password e) (Password f) same before one two =
-    let parts = parts_unique kind line one.0 two.0 one.1 two.1 in
-    ap Password (same_password_fault two.0.password e f (subst (λ (p : Parts). IsPasswordRefused p.password e) parts one.2) two.2)
-same_fault kind line a b same before one two = absurd (omega arith)
-
--- a line gets one refusal at most before its field is looked at
-pub refusal_unique : (kind : Kind) (line : List ℕ) (a b : LineFault) → IsBeforeField a → IsLineRefused kind line a → IsLineRefused kind line b → a ≡ b
-refusal_unique kind line a b before one two = elim (cases_order (line_rule_number a) (line_rule_number b)) [
-  | inl same ↦ same_fault kind line a b same before one.breaks two.breaks
-  | inr other ↦ elim other [
-    | inl below ↦ absurd (two.first a below one.breaks)
-    | inr above ↦ absurd (one.first b above two.breaks)
-  ]
-]
 
 -- ---- the field
 
@@ -159,10 +153,21 @@ field_of_breaks kind line parts has fault breaks =
 -- an entry whose field is right breaks no rule
 sound_entry : (kind : Kind) (line : List ℕ) (parts : Parts) → IsEntry kind line parts
     → ((fault : SettingFault) (field : List ℕ) → parts.field ≡ Some field → IsFieldRefused field fault → ⊥) → IsSound kind line
-sound_entry kind line parts entry right (Setting fault) breaks =
-    let refused = field_of_breaks kind line parts entry.cut fault breaks in
-    right fault refused.0 refused.1 refused.2
-sound_entry kind line parts entry right fault breaks = entry_breaks_none kind line parts entry fault (omega arith) breaks
+sound_entry kind line parts entry right fault breaks = go fault breaks
+  where
+    has : HasName line parts.name
+    has = name_of_parts kind line parts entry.cut
+
+    go : (fault : LineFault) → ¬ BreaksLine kind fault line
+    go LineTooLong breaks = kept_length kind line parts.name entry.short entry.good has breaks
+    go NoName breaks = some_name kind line parts.name entry.short entry.good has breaks
+    go NameTooLong breaks = kept_name kind line parts.name entry.short entry.good has breaks
+    go NoPassword breaks = breaks parts entry.cut
+    go (Password fault) breaks = keeps_password kind line parts entry fault breaks
+    go (Setting fault) breaks =
+        let refused = field_of_breaks kind line parts entry.cut fault breaks in
+        right fault refused.0 refused.1 refused.2
+    go OverBudget breaks = breaks
 
 sound_without_field : (kind : Kind) (line : List ℕ) (parts : Parts) → IsEntry kind line parts → parts.field ≡ None → IsSound kind line
 sound_without_field kind line parts entry none = sound_entry kind line parts entry (λ fault field some refused. cc)
@@ -190,44 +195,42 @@ taken_with_field kind line parts field stored entry is one read =
 pub taken_without_field : (kind : Kind) (line : List ℕ) (parts : Parts) → IsEntry kind line parts → parts.field ≡ None → HasSoundParts kind line parts
 taken_without_field kind line parts entry none = record { sound = sound_without_field kind line parts entry none; cut = entry.cut }
 
+-- the first rule that its field breaks as a setting is the first that an entry breaks
 pub refused_field : (kind : Kind) (line : List ℕ) (parts : Parts) (field : List ℕ) (fault : SettingFault) → IsEntry kind line parts
     → parts.field ≡ Some field → IsFieldRefused field fault → IsLineRefused kind line (Setting fault)
-refused_field kind line parts field fault entry is refused = record {
-  breaks = (parts, field, entry.cut, is, refused.0, refused.1);
-  first = entry_breaks_none kind line parts entry;
-}
+unfolding IsRefused
+refused_field kind line parts field fault entry is (stored, refused) =
+    refused_after_name kind line parts.name entry.short entry.good (name_of_parts kind line parts entry.cut) (Setting fault) (inr (
+      (λ lacks. lacks parts entry.cut),
+      inr (keeps_password kind line parts entry TooLong, inr (keeps_password kind line parts entry HasNul, go setting_faults refused)),
+    ))
+  where
+    go : (faults : List SettingFault) → IsFirstBroken faults (FailsStage field) fault
+        → IsFirstBroken (map Setting faults) (λ broken. BreaksLine kind broken line) (Setting fault)
+    go [] broken = broken
+    go (first ∷ others) (inl (one, fails)) =
+        inl (ap Setting one, (parts, field, entry.cut, is, stored, subst (IsRefused field) one refused))
+    go (first ∷ others) (inr (passes, broken)) = inr (
+      (λ breaks.
+          let own = field_of_breaks kind line parts entry.cut first breaks in
+          let same : own.0 ≡ field = cc (own.1, is) in
+          passes (first_breaks setting_faults (FailsStage field) first (subst (λ (bytes : List ℕ). IsRefused bytes first) same own.2.1))),
+      go others broken,
+    )
 
--- an entry is refused for its field alone, and for one fault of this
-pub only_field_fault : (kind : Kind) (line : List ℕ) (parts : Parts) (field : List ℕ) (one : SettingFault) → IsEntry kind line parts → parts.field ≡ Some field
-    → IsReadOneWay field → IsRefused field one → (fault : LineFault) → IsLineRefused kind line fault → Setting one ≡ fault
-unfolding IsReadOneWay
-only_field_fault kind line parts field one entry is once refused_one (Setting inner) refused =
-    let found = field_of_breaks kind line parts entry.cut inner refused.breaks in
-    let same : found.0 ≡ field = cc (found.1, is) in
-    let both : Err one ≡ Err inner = once (Err one) (Err inner) refused_one (subst (λ (bytes : List ℕ). IsRefused bytes inner) same found.2.1) in
-    cc
-only_field_fault kind line parts field one entry is once refused_one fault refused =
-    absurd (entry_breaks_none kind line parts entry fault (omega arith) refused.breaks)
+-- a line gets one refusal at most
+pub refusal_unique : (kind : Kind) (line : List ℕ) (a b : LineFault) → IsLineRefused kind line a → IsLineRefused kind line b → a ≡ b
+unfolding IsLineRefused
+refusal_unique kind line = first_unique line_faults (λ broken. BreaksLine kind broken line)
 
 -- a line that breaks no rule gets no refusal
-pub taken_not_refused : (kind : Kind) (line : List ℕ) (parts : Parts) (fault : LineFault) → HasSoundParts kind line parts → IsLineRefused kind line fault → ⊥
-taken_not_refused kind line parts fault taken refused = taken.sound fault refused.breaks
+pub sound_not_refused : (kind : Kind) (line : List ℕ) (fault : LineFault) → IsSound kind line → IsLineRefused kind line fault → ⊥
+unfolding IsLineRefused
+sound_not_refused kind line fault sound refused = sound fault (first_breaks line_faults (λ broken. BreaksLine kind broken line) fault refused)
 
 -- ---- a line that is too long
 
--- there is no rule before the first
-some_rule : (fault : LineFault) → 0 < line_rule_number fault
-some_rule LineTooLong = omega arith
-some_rule NoName = omega arith
-some_rule NameTooLong = omega arith
-some_rule NoPassword = omega arith
-some_rule (Password fault) = omega arith
-some_rule (Setting fault) = omega arith
-some_rule OverBudget = omega arith
-
--- so it is refused, whatever its bytes are
+-- it is refused, whatever its bytes are
 pub too_long-refused : (kind : Kind) (line : List ℕ) → IsTooLong line → IsLineRefused kind line LineTooLong
-too_long-refused kind line long = record {
-  breaks = long;
-  first = λ earlier before. absurd (omega (arith, some_rule earlier, before));
-}
+unfolding IsLineRefused
+too_long-refused kind line long = inl (refl, long)

@@ -4,16 +4,14 @@ use Rattle.std.specs.Prelude.{◌↔◌, Option, Some, None}
 use Rattle.crypt_core.specs.MadeSettings.{BreaksMake, IsMakeRefused, TakesCost}
 use Rattle.crypt_core.specs.MethodLimits.{salt_limit}
 use Rattle.crypt_core.specs.declared.method.Method.{Method}
-use Rattle.crypt_core.specs.declared.method.Method.TheVariants.{Md5crypt, Sha256crypt, Sha512crypt, Scrypt}
+use Rattle.crypt_core.specs.declared.method.Method.TheVariants.{Scrypt}
 use Rattle.crypt_core.specs.declared.setting.fault.MakeFault.{MakeFault}
 use Rattle.crypt_core.specs.declared.setting.fault.MakeFault.TheVariants.{SaltLength, SaltCharacter, Cost}
 
 -- each method takes cost 0
 takes_zero : (m : Method) → TakesCost m 0
-takes_zero Md5crypt = tt
-takes_zero Sha256crypt = tt
-takes_zero Sha512crypt = tt
 takes_zero Scrypt = inl refl
+takes_zero m = tt
 
 -- so what breaks no rule with some cost breaks none with that
 pub with_zero : (m : Method) (cost : ℕ) (given : Option (List ℕ)) → ((f : MakeFault) → ¬ BreaksMake m cost given f) → (f : MakeFault) → ¬ BreaksMake m 0 given f

@@ -14,7 +14,7 @@ use Rattle.run_core.specs.Output.{Takes, TakesFront}
 use Rattle.run_core.specs.Private.Answers.{IsRaisedBelow, Renders, counted, outcome_of}
 use Rattle.run_core.specs.Private.Deliveries.{FinishesBoth, IsFinished, IsKept, IsUnfinished, Sends}
 use Rattle.run_core.specs.Private.Fetching.{StopsFetching}
-use Rattle.run_core.specs.Private.Headroom.{HasRoomFor, HasRoomForLines, answer_limit, line_work_limit}
+use Rattle.run_core.specs.Private.Headroom.{HasRoomFor, HasRoomForLines, answer_limit, line_work_limit, to_read}
 use Rattle.run_core.specs.Private.Lines.{Represents}
 use Rattle.run_core.specs.Private.Readers.{GivesNext, HasGiven, HasStopped, IsAt}
 use Rattle.run_core.specs.Runs.{IsAfter, IsWithinTurns, RunState, TakeInPart, calls_of, run_state}
@@ -161,7 +161,7 @@ module _ {I O E : Type 0} where
     pub calls : calls_of now + left ≡ calls_of start + turns
     pub out_moves : MovesBytes 0 start.out now.out
     pub faults_moves : MovesBytes 0 start.faults now.faults
-    pub room : HasRoomForLines left tally now
+    pub room : HasRoomForLines left reader.piece tally now
 
   pub running-start : (turns : ℕ) (kind : Kind) (job : Job) (start : RunState I O E) (reader : LineReader) (tally : Tally)
       → reader.piece ≡ [] → reader.at_end ≡ false → tally ≡ tally_of [] → turns ≤ turns_limit
@@ -180,8 +180,8 @@ module _ {I O E : Type 0} where
     calls = refl;
     out_moves = moves-none start.out;
     faults_moves = moves-none start.faults;
-    room = rw none (record {
-      turns = omega (arith, within);
+    room = rw (none, unread) (record {
+      lines = omega (arith, within);
       refused = omega arith;
       misfits = omega arith;
       input = record { failures = input.0; calls = omega (arith, input.1, within); bytes = omega (arith, input.2, within) };
@@ -379,16 +379,16 @@ module _ {I O E : Type 0} {turns : ℕ} {kind : Kind} {job : Job} {start old : R
       → stream ≡ stream_left old.stream answer.hashings → counts ≡ after_work old.counts answer.hashings
       → Sends new_left answer old.out old.faults out faults (Ok done)
       → MovesBytes 0 old.out out → MovesBytes 0 old.faults faults
-      → out.calls + faults.calls + new_left ≡ old.out.calls + old.faults.calls + mid → new_left < mid → mid ≤ left
+      → out.calls + faults.calls + new_left ≡ old.out.calls + old.faults.calls + mid → new_left ≤ mid → to_read mid next.piece < to_read left reader.piece
       → new_tally ≡ counted tally answer.outcome
       → HasRoomFor piece_size mid input → HasRoomFor answer_limit new_left out → HasRoomFor answer_limit new_left faults → IsRaisedBelow line_work_limit old.counts counts
       → IsRunning turns kind job start (run_state input out faults stream counts) next new_tally new_left
-  running-answered out faults stream counts new_left new_tally done stream_is counts_is (text, fault_text) out_moves faults_moves calls fewer read tallied in_room out_room faults_room small =
+  running-answered out faults stream counts new_left new_tally done stream_is counts_is (text, fault_text) out_moves faults_moves calls fewer shorter tallied in_room out_room faults_room small =
       let new = run_state input out faults stream counts in
       let takes = is.answered.takes in
       let room = is.room in
       let before = is.calls in
-      let lines_room = room.turns in
+      let lines_room = room.lines in
       let refused = room.refused in
       let misfits = room.misfits in
       let out_flushes = text.tried in
@@ -414,10 +414,10 @@ module _ {I O E : Type 0} {turns : ℕ} {kind : Kind} {job : Job} {start old : R
         out_moves = moves-trans 0 start.out old.out out is.out_moves out_moves;
         faults_moves = moves-trans 0 start.faults old.faults faults is.faults_moves faults_moves;
         room = rw tallied (record {
-          turns = omega (arith, lines_room, fewer, read);
+          lines = omega (arith, lines_room, fewer, shorter);
           refused = omega (arith, refused, at_most_one (is_refusal answer.outcome));
           misfits = omega (arith, misfits, at_most_one (is_misfit answer.outcome));
-          input = room-less piece_size mid new_left input (omega (arith, fewer)) in_room;
+          input = room-less piece_size mid new_left input fewer in_room;
           out = out_room;
           faults = faults_room;
           flushes = (omega (arith, out_flushes, flushes.0), omega (arith, faults_flushes, flushes.1));

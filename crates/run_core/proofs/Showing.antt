@@ -4,7 +4,6 @@ use Rattle.run_core.specs.Answers.{tally_of}
 use Rattle.run_core.specs.Devices.{Device}
 use Rattle.run_core.specs.Output.{Shows}
 use Rattle.run_core.specs.declared.fault.RunFault.{RunFault}
-use Rattle.run_core.specs.declared.fault.RunFault.TheVariants.{Read, Write, OutOfMemory, Turns, Password}
 use Rattle.run_core.specs.declared.tally.Tally.{Tally}
 
 -- the same outcome with a tally
@@ -15,8 +14,4 @@ as_tally (Err fault) = Err fault
 pub shows-tally : {A T : Type 0} (turns : ℕ) (old new : Device T) (text : List ℕ) (result : Result A RunFault)
     → Shows turns old new text result → Shows turns old new text (as_tally result)
 shows-tally turns old new text (Ok done) shows = shows
-shows-tally turns old new text (Err Read) shows = shows
-shows-tally turns old new text (Err Write) shows = shows
-shows-tally turns old new text (Err OutOfMemory) shows = shows
-shows-tally turns old new text (Err Turns) shows = shows
-shows-tally turns old new text (Err (Password fault)) shows = shows
+shows-tally turns old new text (Err fault) shows = shows

@@ -1,7 +1,8 @@
 -- Lines of an input: their parts, and the rules that a line can break.
-use Rattle.std.specs.Prelude.{◌≡◌, ℕ, ◌<◌, ◌⊎◌, List, [], ◌∷◌, ◌++◌, length, Contains, Option, Some, None}
-use Rattle.crypt_core.specs.Passwords.{IsPasswordRefused}
-use Rattle.crypt_core.specs.Refusals.{IsRefused}
+use Rattle.std.specs.Prelude.{◌≡◌, ℕ, ◌<◌, ◌⊎◌, List, [], ◌∷◌, ◌++◌, length, map, Contains, Option, Some, None}
+use Rattle.crypt_core.specs.Passwords.{IsPasswordRefused, password_faults}
+use Rattle.crypt_core.specs.Refusals.{IsRefused, setting_faults}
+use Rattle.crypt_core.specs.Rules.{IsFirstBroken}
 use Rattle.crypt_core.specs.StoredFields.{IsStored}
 use Rattle.run_core.specs.Texts.{colon}
 use Rattle.run_core.specs.declared.line.Kind.{Kind}
@@ -41,15 +42,9 @@ line_limit = 2048
 abbrev pub name_limit : ℕ
 name_limit = 64
 
--- line_rule_number fault is the position of its rule in their order.
-abbrev pub line_rule_number : LineFault → ℕ
-line_rule_number LineTooLong = 1
-line_rule_number NoName = 2
-line_rule_number NameTooLong = 3
-line_rule_number NoPassword = 4
-line_rule_number (Password fault) = 5
-line_rule_number (Setting fault) = 6
-line_rule_number OverBudget = 7
+-- The refusals in the order of their rules.
+abbrev pub line_faults : List LineFault
+line_faults = LineTooLong ∷ NoName ∷ NameTooLong ∷ NoPassword ∷ map Password password_faults ++ map Setting setting_faults
 
 -- BreaksLine kind fault line: the line breaks the rule of this refusal. The cost of a hash is no rule of the line
 -- alone.
@@ -63,10 +58,9 @@ BreaksLine kind (Setting fault) line =
     (parts : Parts) × (field : List ℕ) × HasParts kind line parts × (parts.field ≡ Some field) × IsStored field × IsRefused field fault
 BreaksLine kind OverBudget line = ⊥
 
--- IsLineRefused kind line fault: the line breaks this rule and no earlier one.
-pub record IsLineRefused (kind : Kind) (line : List ℕ) (fault : LineFault) : Type 0 where
-  pub breaks : BreaksLine kind fault line
-  pub first : (earlier : LineFault) → line_rule_number earlier < line_rule_number fault → ¬ BreaksLine kind earlier line
+-- IsLineRefused kind line fault: this is the refusal of the first rule that the line breaks.
+unfoldable pub IsLineRefused : Kind → List ℕ → LineFault → Type 0
+IsLineRefused kind line = IsFirstBroken line_faults (λ fault. BreaksLine kind fault line)
 
 -- IsSound kind line: the line breaks no rule.
 abbrev pub IsSound : Kind → List ℕ → Type 0

@@ -1,9 +1,9 @@
 //! Lines of an input, `name:password` to hash or `name:field:password` to check, and the first rule that a line breaks.
 ghost use Rattle.std.specs.Prelude.{◌≡◌, ◌<◌, ◌≤◌, length, Err, Some, IfSome, IfNone, MatchOption, IfOk, IfErr, Contains};
-ghost use Rattle.run_core.specs.Lines.{IsCut, IsLineRefused, IsSound, line_rule_number, name_limit};
+ghost use Rattle.run_core.specs.Lines.{IsCut, IsLineRefused, IsSound, name_limit};
 ghost use Rattle.run_core.specs.Texts.{colon};
 ghost use Rattle.run_core.specs.Makers.{bytes_of};
-ghost use Rattle.run_core.specs.Private.Lines.{HasBehind, IsLine, IsNamed, LacksParts};
+ghost use Rattle.run_core.specs.Private.Lines.{HasBehind, IsCutOrWhole, IsLine, IsNamed, LacksParts};
 ghost use Rattle.run_core.specs.declared.line.Kind.{Kind as LineKind};
 ghost use Rattle.run_core.specs.declared.line.LineFault.{LineFault as Refusal};
 
@@ -136,15 +136,11 @@ pub(crate) fn parse_line(kind: Kind, bytes: &[u8]) -> Result<Line<'_>, LineFault
 fn name_of(line: &[u8]) -> Result<(&[u8], Option<&[u8]>), LineFault>
     ensures named { IfOk result (λ x. IsNamed line.now x.0.now (bytes_of x.1)) }
     ensures refused { IfErr result (λ fault. (kind : LineKind) → IsLineRefused kind line.now fault) }
-    ensures before_field { IfErr result (λ fault. line_rule_number fault < 6) }
 {
     if line.len() > LINE_LIMIT {
         return Err(LineFault::LineTooLong);
     }
-    let (name, back) = match cut(line) {
-        Some((name, back)) => (name, Some(back)),
-        None => (line, None),
-    };
+    let (name, back) = cut_name(line);
     if name.is_empty() {
         return Err(LineFault::NoName);
     }
@@ -152,6 +148,16 @@ fn name_of(line: &[u8]) -> Result<(&[u8], Option<&[u8]>), LineFault>
         return Err(LineFault::NameTooLong);
     }
     Ok((name, back))
+}
+
+// Returns what precedes the first colon, or the whole line without one, and what follows the colon.
+fn cut_name(line: &[u8]) -> (&[u8], Option<&[u8]>)
+    ensures { IsCutOrWhole line.now result.0.now (bytes_of result.1) }
+{
+    match cut(line) {
+        Some((name, back)) => (name, Some(back)),
+        None => (line, None),
+    }
 }
 
 // Returns the field of a line to check, if it is one, and the password, from what follows the name's colon. It returns

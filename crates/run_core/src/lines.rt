@@ -9,7 +9,7 @@ ghost use Rattle.run_core.specs.LineRuns.{EndsLines};
 ghost use Rattle.run_core.specs.Lines.{name_limit};
 ghost use Rattle.run_core.specs.Private.Answers.{Renders, counted, outcome_of};
 ghost use Rattle.run_core.specs.Private.Deliveries.{Sends};
-ghost use Rattle.run_core.specs.Private.Headroom.{HasRoomFor, answer_limit};
+ghost use Rattle.run_core.specs.Private.Headroom.{HasRoomFor, answer_limit, lines_limit};
 ghost use Rattle.run_core.specs.Runs.{IsWithinTurns, run_state};
 ghost use Rattle.run_core.specs.declared.line.Kind.TheVariants.{Batch, Check};
 
@@ -201,7 +201,7 @@ fn count_and_write<O: Write, E: Write>(
     tally: &mut Tally,
     left: &mut u64,
 ) -> Result<(), RunFault>
-    requires lines { tally.old.lines ≤ turns_limit }
+    requires lines { tally.old.lines ≤ lines_limit }
     requires refused { tally.old.refused ≤ tally.old.lines }
     requires misfits { tally.old.misfits ≤ tally.old.lines }
     requires out_room { HasRoomFor answer_limit left.old out.old }
@@ -212,7 +212,7 @@ fn count_and_write<O: Write, E: Write>(
     ensures sends { (next : Answer) → Renders job.now (tally.old.lines + 1) answer.now next
         → Sends left.new next out.old faults.old out.new faults.new result }
     ensures calls { out.new.calls + faults.new.calls + left.new ≡ out.old.calls + faults.old.calls + left.old }
-    ensures fewer { OnOk result (left.new < left.old) }
+    ensures fewer { left.new ≤ left.old }
     ensures out_moves { MovesBytes 0 out.old out.new }
     ensures faults_moves { MovesBytes 0 faults.old faults.new }
     ensures failures { out.new.failures + faults.new.failures ≤ out.old.failures + faults.old.failures + 1 }

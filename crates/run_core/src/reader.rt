@@ -1,9 +1,9 @@
 //! A reader of lines, from which a run pulls one line after another. It knows nothing of answers.
-ghost use Rattle.std.specs.Prelude.{◌≡◌, ℕ, ◌+◌, ◌-◌, ◌<◌, ◌≤◌, [], List, false, length, OnOk};
+ghost use Rattle.std.specs.Prelude.{◌≡◌, ℕ, ◌+◌, ◌-◌, ◌<◌, ◌≤◌, [], List, false, length, IfOk, IsTrue, OnOk};
 ghost use Rattle.run_core.specs.Devices.{Device};
 ghost use Rattle.run_core.specs.Input.{Reads};
 ghost use Rattle.run_core.specs.LineRuns.{piece_size};
-ghost use Rattle.run_core.specs.Private.Headroom.{HasRoomFor};
+ghost use Rattle.run_core.specs.Private.Headroom.{HasRoomFor, to_read};
 ghost use Rattle.run_core.specs.Private.Readers.{FetchesPiece, GivesNext, HasGiven, TakesLine};
 
 pub(crate) mod buffer;
@@ -118,6 +118,8 @@ impl LineReader {
         ensures room { OnOk result (HasRoomFor piece_size left.new input.new) }
         ensures turns { input.new.calls + left.new ≡ input.old.calls + left.old }
         ensures fewer { left.new ≤ left.old }
+        ensures shorter { IfOk result (λ found. IsTrue found
+            → to_read left.new self.new.piece < to_read left.old self.old.piece) }
     {
         if self.at_end {
             return Ok(false);

@@ -1,5 +1,5 @@
 -- Limits of the counts of a run, within which nothing overflows.
-use Rattle.std.specs.Prelude.{ℕ, ◌^◌, ◌+◌, ◌*◌, ◌≤◌}
+use Rattle.std.specs.Prelude.{ℕ, ◌^◌, ◌+◌, ◌*◌, ◌≤◌, List, length}
 use Rattle.prims_core.specs.Work.{IsAtMost}
 use Rattle.prims_core.specs.declared.meter.Work.{Work}
 use Rattle.crypt_core.specs.TextLimits.{hash_limit}
@@ -41,10 +41,19 @@ pub record HasRoomFor {T : Type 0} (size left : ℕ) (device : Device T) : Type 
 abbrev pub HasCountsForLine : Work → Type 0
 HasCountsForLine counts = IsAtMost counts (2 ^ 110)
 
--- HasRoomForLines left tally now: with this number of I/O calls left, nothing overflows in the rest of a run over lines.
--- Each line takes at least one I/O call.
-pub record HasRoomForLines {I O E : Type 0} (left : ℕ) (tally : Tally) (now : RunState I O E) : Type 0 where
-  pub turns : tally.lines + left ≤ turns_limit
+-- to_read left piece is the most bytes that a run can still cut lines from, with this number of I/O calls left: what is
+-- unread of the last read, and those of later reads. It falls with each line, whether or not anything is written for it.
+abbrev pub to_read : ℕ → List ℕ → ℕ
+to_read left piece = piece_size * left + length piece
+
+-- lines_limit is the most lines of a run.
+abbrev pub lines_limit : ℕ
+lines_limit = piece_size * turns_limit
+
+-- HasRoomForLines left piece tally now: with this number of I/O calls left, and this unread, nothing overflows in the
+-- rest of a run over lines.
+pub record HasRoomForLines {I O E : Type 0} (left : ℕ) (piece : List ℕ) (tally : Tally) (now : RunState I O E) : Type 0 where
+  pub lines : tally.lines + to_read left piece ≤ lines_limit
   pub refused : tally.refused ≤ tally.lines
   pub misfits : tally.misfits ≤ tally.lines
   pub input : HasRoomFor piece_size left now.input

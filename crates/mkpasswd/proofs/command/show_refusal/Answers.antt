@@ -1,11 +1,10 @@
-use Rattle.std.proofs.Common.{refl}
 use Rattle.mkpasswd.proofs.Serving.{refusal_shown}
 use Rattle.mkpasswd.proofs.command.show_refusal.Goals as goal
 
 pub returns-in-Parse : goal.returns-in-Parse
 returns-in-Parse g c = rw c.in-Parse.is c.show_error.ensures
 
-pub returns-in-Method : goal.returns-in-Method
-returns-in-Method g c =
-    refusal_shown c.args.fault c.args.turns c.args.out.now c.args.faults.now c.args.out.now c.report_fault.new.faults c.report_fault.result
-    c.in-Method.is c.report_fault.ensures.told refl c.report_fault.ensures.status
+pub returns-in_default : goal.returns-in_default
+returns-in_default g c =
+    refusal_shown c.args.fault c.args.turns c.args.out.now c.args.faults.now c.report_fault.new.faults c.report_fault.result
+    c.in_default.not-Parse c.report_fault.ensures.told c.report_fault.ensures.status

@@ -1,6 +1,6 @@
 -- The command is put together as its definition is: by its settings, and then by one argument after
 -- another.
-use Rattle.std.proofs.Common.{◌≡◌, ◌∙◌, ℕ, List, [], ◌∷◌, Some, true, fold, ap, sym}
+use Rattle.std.proofs.Common.{◌≡◌, ◌∙◌, List, [], ◌∷◌, true, fold, ap, sym}
 use Rattle.std.specs.Prelude.{⊤}
 use Rattle.std.proofs.lemmas.Result.{IfOk-weaker}
 use Rattle.clap.specs.Simple.{App, app_of, app_of_fields, on_top, with_rule}
@@ -8,23 +8,9 @@ use Rattle.clap.specs.Walk.{Rule}
 use Rattle.clap.specs.Words.{AddsArg, AddsInTurn}
 use Rattle.clap.specs.declared.builder.arg.Arg.{Arg}
 use Rattle.clap.specs.declared.builder.command.Command.{Command}
-use Rattle.clap.specs.declared.builder.value_parser.ValueParser.{ValueParser}
 use Rattle.mkpasswd.specs.Options.{command, command_rules}
 use Rattle.mkpasswd.specs.Private.Options.{HasRule}
 use Rattle.mkpasswd.proofs.options.command.Goals as goal
-
--- ---- one argument
-
--- with a short name
-lettered : (arg new : Arg) (rule : Rule) (letter : ℕ) → new ≡ record arg { short = Some letter } → HasRule arg rule
-    → HasRule new (record rule { short = Some letter })
-lettered arg new rule letter is (has, local) = rw is (ap (λ (r : Rule). record r { short = Some letter }) has, local)
-
--- with a parser of its value
-parsed : (arg new : Arg) (rule : Rule) (parser : ValueParser) → new ≡ record arg { value_parser = new.value_parser }
-    → new.value_parser ≡ Some parser → HasRule arg rule → HasRule new (record rule { parser = Some parser })
-parsed arg new rule parser others is (has, local) =
-    rw others (rw is (ap (λ (r : Rule). record r { parser = Some parser }) has), local)
 
 -- ---- all arguments
 
@@ -53,19 +39,16 @@ returns c =
     let version_is = ap app_of_fields c.version.ensures ∙ ap (on_top (λ s. record s { has_version = true })) c.new.ensures.app in
     let named_is = ap app_of_fields c.after_help.ensures ∙ ap app_of_fields c.about.ensures ∙ version_is in
     let bare_is = ap app_of_fields c.no_binary_name.ensures ∙ ap (on_top (λ s. record s { no_binary_name = true })) named_is in
-    let number = λ (p : ValueParser). Some p in
-    let rounds = c.value_parser-rounds.ensures in
-    let budget = c.value_parser-budget.ensures in
     let have : HaveRules c.in_ok-arguments.arguments.items command_rules = rw c.in_ok-arguments.ensures.items (
-    lettered _ _ _ _ c.short-method.ensures c.option.ensures
-    & lettered _ _ _ _ c.short-salt.ensures c.option-2.ensures
-    & parsed _ _ _ _ rounds.others (rounds.given.1 ∙ ap number (rounds.given.2 ∙ c.value_parser.ensures)) (lettered _ _ _ _ c.short.ensures c.option-3.ensures)
-    & lettered _ _ _ _ c.short-stdin.ensures c.flag.ensures
+    c.option-method.ensures
+    & c.option-salt.ensures
+    & (rw c.value_parser.ensures at c.number-rounds.ensures)
+    & c.flag-stdin.ensures
     & c.flag-batch.ensures
     & c.flag-check.ensures
     & c.flag-rehash.ensures
     & c.flag-work.ensures
-    & parsed _ _ _ _ budget.others (budget.given.1 ∙ ap number (budget.given.2 ∙ c.value_parser-2.ensures)) c.option-4.ensures
+    & (rw c.value_parser-2.ensures at c.number-budget.ensures)
     & c.operand-password.ensures
     & c.operand-salt_word.ensures
     & tt

@@ -8,7 +8,7 @@ use Rattle.std.specs.declared.num.ParseIntError.{ParseIntError}
 use Rattle.std.proofs.lemmas.Result.{err_from_is_err_and}
 use Rattle.clap.specs.Kinds.{HasKind, IsAmong}
 use Rattle.clap.specs.Simple.{is_ready, is_ready_leaf}
-use Rattle.clap.specs.Words.{App, HasMatchesOf, IsParsedFrom, IsUnsignedIn, ReadsOne, Rule, Text, app_of, fault_of, first_of, found_of, is_simple_and_free, kind_of, matches_of, one_of, one_text, rows_of, takes}
+use Rattle.clap.specs.Words.{App, HasMatchesOf, IsParsedFrom, IsUnsignedIn, ReadsOne, Rule, Text, app_of, fault_of, found_of, is_simple_and_free, kind_of, matches_of, one_text, rows_of, takes}
 use Rattle.clap.specs.declared.builder.command.Command.{Command}
 use Rattle.clap.specs.declared.builder.value_parser.ValueParser.{ValueParser}
 use Rattle.clap.specs.declared.builder.value_parser.ValueParser.TheVariants.{Signed, Unsigned}
@@ -16,8 +16,8 @@ use Rattle.clap.specs.declared.error.Error.{Error}
 use Rattle.clap.specs.declared.error.kind.ErrorKind.TheVariants as kind
 use Rattle.clap.specs.declared.parser.matches.ArgMatches.{ArgMatches}
 use Rattle.clap.proofs.CallerReads.{signed_reads}
-use Rattle.clap.proofs.WalkLemmas.{first_value-rows, one_text-rows}
-use Rattle.mkpasswd.specs.Options.{Refuses, command, is_set}
+use Rattle.clap.proofs.WalkLemmas.{one_text-rows}
+use Rattle.mkpasswd.specs.Options.{Refuses, command}
 use Rattle.mkpasswd.proofs.CommandFacts as facts
 use Rattle.mkpasswd.proofs.CommandFacts.{budget_rule, rounds_rule}
 use Rattle.mkpasswd.proofs.PassedValues.{IsOnlyRule, Passed, all_free, passed}
@@ -88,35 +88,23 @@ budget_read (Some text) None none some takes =
     let accepted = subst (λ (t : Text). IsUnsignedIn 0 18446744073709551615 t) (sym value.2) value.3 in
     absurd ((some text refl).1.0 (accepted.0, accepted.1))
 
-pub returns-clause-taken : goal.returns-clause-taken
-returns-clause-taken c =
-    subst (λ (a : App). fault_of a (map string_bytes c.args.words.now) ≡ []) c.in_ok-command.ensures
-    (c.in_ok-matches.ensures.kinds (ap is_simple_and_free c.in_ok-command.ensures ∙ facts.simple_and_free))
+pub invariant_of-result : goal.invariant_of-result
+invariant_of-result c =
+    let is = c.in_ok-command.ensures in
+    let m = c.in_ok-matches.matches in
+    let parsed = c.in_ok-matches.ensures.parsed in
+    let number_is = λ (id : Text). one_text-rows (found_of m) id in (
+      c.unwrap_or-cost.ensures ∙ number_read _ c.get_one.result c.get_one.ensures.none c.get_one.ensures.value (option_passed _ m _ rounds_rule (Signed (pos 0) (pos 4294967295)) is parsed facts.is_rounds)
+          ∙ ap (λ (value : Option Text). unwrap_or (option_map number_of value) 0) (number_is (codes "rounds")),
+      budget_read _ c.get_one-budget.result c.get_one-budget.ensures.none c.get_one-budget.ensures.value (option_passed _ m _ budget_rule (Unsigned 0 18446744073709551615) is parsed facts.is_budget)
+          ∙ ap (option_map number_of) (number_is (codes "budget")),
+    )
 
 pub returns-clause-ok : goal.returns-clause-ok
 returns-clause-ok c =
     let is = c.in_ok-command.ensures in
-    let m = c.in_ok-matches.matches in
     let clauses = c.in_ok-matches.ensures in
-    let words = map string_bytes c.args.words.now in
-    let rows = rows_read _ words m is clauses.matches in
-    let text_is = λ (id : Text). first_value-rows (found_of m) id ∙ ap (first_of id) rows in
-    let number_is = λ (id : Text). one_text-rows (found_of m) id ∙ ap (one_of id) rows in
-    let flag_is = λ (id : Text). ap (is_set id) rows in
-    let cost_is = c.unwrap_or-cost.ensures ∙ number_read _ c.get_one.result c.get_one.ensures.none c.get_one.ensures.value (option_passed _ m 2 rounds_rule (Signed (pos 0) (pos 4294967295)) is clauses.parsed facts.is_rounds)
-    ∙ ap (λ (value : Option Text). unwrap_or (option_map number_of value) 0) (number_is (codes "rounds")) in
-    let budget_is = budget_read _ c.get_one-budget.result c.get_one-budget.ensures.none c.get_one-budget.ensures.value (option_passed _ m 8 budget_rule (Unsigned 0 18446744073709551615) is clauses.parsed facts.is_budget)
-    ∙ ap (option_map number_of) (number_is (codes "budget")) in
-    record {
-      method = c.get_str-method.ensures ∙ text_is (codes "method");
-      salt = c.get_str-salt.ensures ∙ text_is (codes "salt");
-      salt_word = c.get_str-salt_word.ensures ∙ text_is (codes "salt-word");
-      cost = cost_is;
-      stdin = c.is_given-stdin.ensures ∙ flag_is (codes "stdin");
-      batch = c.is_given-batch.ensures ∙ flag_is (codes "batch");
-      check = c.is_given-check.ensures ∙ flag_is (codes "check");
-      rehash = c.is_given-rehash.ensures ∙ flag_is (codes "rehash");
-      work = c.is_given-work.ensures ∙ flag_is (codes "work");
-      budget = budget_is;
-      password = c.get_str-password.ensures ∙ text_is (codes "password");
-    }
+    let words = map string_bytes c.args.words.now in (
+      subst (λ (a : App). fault_of a words ≡ []) is (clauses.kinds (ap is_simple_and_free is ∙ facts.simple_and_free)),
+      rows_read _ words c.in_ok-matches.matches is clauses.matches,
+    )

@@ -30,7 +30,7 @@ returns-in_err-next_line-clause-within_turns g c =
 pub answer_line-requires : goal.answer_line-requires
 answer_line-requires g c =
     let room = c.lines.invariant.room in
-    let lines = room.turns in
+    let lines = room.lines in
     let counts = room.counts in
     record {
       digests = (let count = counts.digests in omega (arith, count, lines));
@@ -94,7 +94,7 @@ lines-preserved g c =
     let outcome = renders-outcome c.args.job.now (c.lines.tally.lines + 1) c.in_ok-answer.answer got.0 got.2 in
     running-answered is c.next_line.new.input c.next_line.new.left next.turns c.next_line.new.self line.0 line.2 got.0 got.1
     c.count_and_write.new.out c.count_and_write.new.faults (g.R.Rng.stream c.answer_line.new.rng) c.answer_line.new.meter c.count_and_write.new.left c.count_and_write.new.tally
-    c.in_ok-count_and_write.field-0 got.4 got.3 (wrote.sends got.0 got.2) wrote.out_moves wrote.faults_moves wrote.calls wrote.fewer next.fewer
+    c.in_ok-count_and_write.field-0 got.4 got.3 (wrote.sends got.0 got.2) wrote.out_moves wrote.faults_moves wrote.calls wrote.fewer (next.shorter c.if-branch.true)
     (rw outcome c.count_and_write.ensures.tally) next.room wrote.out_room wrote.faults_room c.answer_line.ensures.small
 
 -- ---- all lines were answered

@@ -1,4 +1,5 @@
 use Rattle.run_core.specs.Runs.{run_state}
+use Rattle.run_core.specs.Private.Headroom.{to_read}
 use Rattle.run_core.proofs.Running.{IsRunning}
 use Rattle.run_core.proofs.lines.answer_lines.Given as goal
 
@@ -8,4 +9,4 @@ invariant-lines g l = IsRunning l.fn.turns l.fn.kind l.fn.job
     (run_state l.input l.out l.faults (g.R.Rng.stream l.rng) l.meter) l.reader l.tally l.left
 
 abbrev pub decreases-lines : goal.decreases-lines
-decreases-lines g l = l.left
+decreases-lines g l = to_read l.left l.reader.piece

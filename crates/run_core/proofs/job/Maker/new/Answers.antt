@@ -4,18 +4,12 @@ use Rattle.crypt_core.specs.MadeSettings.{BreaksMake, IsMakeRefused, made_scheme
 use Rattle.crypt_core.specs.Schemes.{method_of}
 use Rattle.crypt_core.specs.Settings.{SettingValue}
 use Rattle.crypt_core.specs.declared.method.Method.{Method}
-use Rattle.crypt_core.specs.declared.method.Method.TheVariants.{Md5crypt, Sha256crypt, Sha512crypt, Scrypt}
 use Rattle.crypt_core.specs.declared.scheme.Scheme.{Scheme}
 use Rattle.crypt_core.specs.declared.setting.fault.MakeFault.{MakeFault}
+use Rattle.crypt_core.proofs.Making.{made_method}
 use Rattle.run_core.specs.Makers.{bytes_of}
 use Rattle.run_core.proofs.Recipes.{only_cost, refused_for_cost, refused_made, with_zero}
 use Rattle.run_core.proofs.job.Maker.new.Goals as goal
-
-made_method : (method : Method) (cost : ℕ) → method_of (made_scheme method cost) ≡ method
-made_method Md5crypt cost = refl
-made_method Sha256crypt cost = refl
-made_method Sha512crypt cost = refl
-made_method Scrypt cost = refl
 
 pub invariant_of-result : goal.invariant_of-result
 invariant_of-result c =

@@ -29,6 +29,7 @@ fetches-preserved g c =
       room = room-fetched c.fetches.input c.fetch.new.input c.fetch.new.self c.fetches.left c.fetch.new.left c.in_ok-fetch.field-0 is.room got.reads got.fetches got.size got.some_left got.takes_turn got.turns;
       calls = (let calls = is.calls in omega (arith, calls, got.turns));
       fewer = (let fewer = is.fewer in omega (arith, fewer, got.takes_turn));
+      shorter = (let shorter = is.shorter in omega (arith, shorter, got.takes_turn, got.some_left, got.size));
     }
 
 pub returns-clause-gives : goal.returns-clause-gives

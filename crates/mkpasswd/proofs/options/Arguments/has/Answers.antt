@@ -7,7 +7,8 @@ use Rattle.std.proofs.lemmas.Bool.{cases_Bool}
 use Rattle.std.proofs.lemmas.Slice.Eq.{bytes_eq-Decides}
 use Rattle.clap.specs.Words.{ReadsOne, Text, found_of}
 use Rattle.clap.proofs.WalkLemmas.{one_text-rows}
-use Rattle.mkpasswd.proofs.options.is_given.Goals as goal
+use Rattle.mkpasswd.specs.Options.{is_set}
+use Rattle.mkpasswd.proofs.options.Arguments.has.Goals as goal
 
 abbrev is_true : Text → Bool
 is_true = bytes_eq (codes "true")
@@ -29,4 +30,5 @@ flag_of_value E (Some text) read none some = flag_of_text E text read (some text
 pub returns : goal.returns
 returns c =
     c.unwrap_or.ensures ∙ flag_of_value _ _ c.get_one.result c.get_one.ensures.none c.get_one.ensures.value
-    ∙ ap (λ (value : Option Text). option_map_or is_true value false) (one_text-rows (found_of c.args.matches.now) c.args.id.now)
+    ∙ ap (λ (value : Option Text). option_map_or is_true value false) (one_text-rows (found_of c.self.inside.matches) c.args.id.now)
+    ∙ ap (is_set c.args.id.now) c.self.view_is
