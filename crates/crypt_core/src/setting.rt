@@ -79,6 +79,16 @@ impl Setting {
         self.salt.as_slice()
     }
 
+    /// Returns the same setting once more. It allocates nothing.
+    pub fn duplicate(&self) -> Setting
+        ensures { result ≡ self.now }
+    {
+        Setting {
+            scheme: self.scheme,
+            salt: ArrayVec::try_from(self.salt.as_slice()).unwrap(),
+        }
+    }
+
     /// Returns whether a hash with this setting is out of date once new hashes are made with the setting `new`.
     ///
     /// [`Scheme::is_replaced_by`] decides that by their schemes. Salts make no difference.

@@ -1,7 +1,6 @@
 pub mod Counting
 pub mod Cuts
 pub mod Deciding
-pub mod Drawing
 pub mod Ending
 pub mod Finishing
 pub mod FirstLines
@@ -11,6 +10,7 @@ pub mod LineOptions
 pub mod LineReading
 pub mod LineRules
 pub mod LinesOf
+pub mod MadeCosts
 pub mod Moving
 pub mod Reading
 pub mod Recipes

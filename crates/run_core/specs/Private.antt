@@ -4,4 +4,5 @@ pub mod Deliveries
 pub mod Fetching
 pub mod Headroom
 pub mod Lines
+pub mod Makers
 pub mod Readers

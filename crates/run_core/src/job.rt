@@ -1,19 +1,16 @@
-//! The job of a run, and the maker of its settings: a scheme, with a salt that is given once or made from random
-//! numbers for each hash.
+//! The job of a run, and the maker of its settings, whose salt is given once or made from random numbers for each hash.
 ghost use Rattle.std.specs.Prelude.{◌≡◌, ◌↔◌, ℕ, ◌^◌, ◌<◌, ◌≤◌, List, Err, IsOk, IfOk, IfErr, is_some, length, not};
 ghost use Rattle.std.specs.Option.{option_map_or};
 ghost use Rattle.crypt_core.specs.declared.setting.fault.MakeFault.{MakeFault as Fault};
 ghost use Rattle.crypt_core.specs.MadeSettings.{BreaksMake, IsMakeRefused, made_scheme};
-ghost use Rattle.crypt_core.specs.MethodLimits.{made_salt_length, salt_limit};
 ghost use Rattle.crypt_core.specs.Passwords.{password_limit};
 ghost use Rattle.crypt_core.specs.Schemes.{method_of};
 ghost use Rattle.crypt_core.specs.Work.{cost};
 ghost use Rattle.run_core.specs.JobOptions.{is_outdated};
 ghost use Rattle.run_core.specs.Makers.{bytes_of, made_cost_by, next_setting, setting_by, stream_after};
 
-use arrayvec::ArrayVec;
 use crypt_core::made_salt::{draw, made_salt_length};
-use crypt_core::method::{Method, SCRYPT_SALT_LIMIT};
+use crypt_core::method::Method;
 use crypt_core::scheme::Scheme;
 use crypt_core::setting::{MakeFault, Setting};
 use crypt_core::stored::StoredHash;
@@ -59,25 +56,25 @@ pub enum PasswordFrom {
     Input,
 }
 
-/// A maker of settings: a scheme, and optionally a salt that the scheme's method accepts.
+/// A maker of settings: one setting for all hashes, or a scheme with a new salt for each hash.
 #[derive(Drop)]
 pub struct Maker {
-    scheme: Scheme,
-    salt: Option<ArrayVec<u8, SCRYPT_SALT_LIMIT>>,
+    source: Source,
+}
+
+#[derive(Drop)]
+enum Source {
+    Setting(Setting),
+    Scheme(Scheme),
 }
 
 impl Model for Maker {
-    ghost use Rattle.std.specs.Prelude.{option_map};
-    ghost use Rattle.crypt_core.specs.MadeSettings.{BreaksMake};
-    ghost use Rattle.crypt_core.specs.Schemes.{method_of};
-    ghost use Rattle.crypt_core.specs.declared.setting.fault.MakeFault.{MakeFault};
     ghost use Rattle.run_core.specs.Makers.{Recipe};
+    ghost use Rattle.run_core.specs.Private.Makers.{recipe_of};
 
     ghost Value = { Recipe };
 
-    ghost view = { λ a. record { scheme = a.scheme; salt = option_map (λ salt. salt.items) a.salt } };
-
-    ghost invariant = { λ a. (fault : MakeFault) → ¬ BreaksMake (method_of a.scheme) 0 (option_map (λ salt. salt.items) a.salt) fault };
+    ghost view = { λ a. recipe_of a.source };
 }
 
 impl Maker {
@@ -103,13 +100,14 @@ impl Maker {
         match salt {
             Some(salt) => match Setting::make(method, cost, salt) {
                 Ok(setting) => Ok(Maker {
-                    scheme: setting.scheme(),
-                    salt: Some(ArrayVec::try_from(salt).unwrap()),
+                    source: Source::Setting(setting),
                 }),
                 Err(fault) => Err(fault),
             },
             None => match Scheme::made(method, cost) {
-                Ok(scheme) => Ok(Maker { scheme, salt: None }),
+                Ok(scheme) => Ok(Maker {
+                    source: Source::Scheme(scheme),
+                }),
                 Err(fault) => Err(fault),
             },
         }
@@ -119,14 +117,17 @@ impl Maker {
     pub fn scheme(&self) -> Scheme
         ensures { result ≡ self.now.scheme }
     {
-        self.scheme
+        match &self.source {
+            Source::Setting(setting) => setting.scheme(),
+            Source::Scheme(scheme) => *scheme,
+        }
     }
 
     /// Returns whether each setting gets a new salt, for which random numbers are drawn.
     pub fn draws(&self) -> bool
         ensures { result ≡ not (is_some self.now.salt) }
     {
-        self.salt.is_none()
+        matches!(self.source, Source::Scheme(_))
     }
 
     /// Returns a setting with the given salt, or with a new one that `words` make.
@@ -135,9 +136,9 @@ impl Maker {
     pub fn setting(&self, words: [u64; 3]) -> Setting
         ensures { result ≡ setting_by self.now words }
     {
-        match &self.salt {
-            Some(salt) => Setting::with_salt(self.scheme, salt.as_slice()).unwrap(),
-            None => Setting::salted(self.scheme, words),
+        match &self.source {
+            Source::Setting(setting) => setting.duplicate(),
+            Source::Scheme(scheme) => Setting::salted(*scheme, words),
         }
     }
 
@@ -151,18 +152,11 @@ impl Maker {
         ensures each { (words : List ℕ) → cost (setting_by self.now words) password_len ≡ result }
         ensures below { result < 2 ^ 42 }
     {
-        self.scheme.cost(password_len, self.salt_len())
-    }
-
-    // Returns the number of bytes of each setting's salt.
-    fn salt_len(&self) -> usize
-        ensures number { result ≡ option_map_or length self.now.salt (made_salt_length (method_of self.now.scheme)) }
-        ensures short { result ≤ salt_limit (method_of self.now.scheme) }
-    {
-        match &self.salt {
-            Some(salt) => salt.len(),
-            None => made_salt_length(self.scheme.method()),
-        }
+        let (scheme, salt_len) = match &self.source {
+            Source::Setting(setting) => (setting.scheme(), setting.salt().len()),
+            Source::Scheme(scheme) => (*scheme, made_salt_length(scheme.method())),
+        };
+        scheme.cost(password_len, salt_len)
     }
 
     /// Returns the setting of the next hash. It draws three random numbers if it makes the salt, and otherwise none.
@@ -170,8 +164,10 @@ impl Maker {
         ensures setting { result ≡ next_setting self.now (R.stream rng.old) }
         ensures stream { R.stream rng.new ≡ stream_after self.now (R.stream rng.old) }
     {
-        let words = if self.draws() { draw(rng) } else { [0; 3] };
-        self.setting(words)
+        match &self.source {
+            Source::Setting(setting) => setting.duplicate(),
+            Source::Scheme(scheme) => Setting::salted(*scheme, draw(rng)),
+        }
     }
 }
 

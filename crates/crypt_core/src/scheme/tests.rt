@@ -36,10 +36,9 @@ fn made_of_methods_and_costs(rt: HostRuntime) {
         (Method::Scrypt, 11, b"$7$GU..../....ab"),
     ];
     for (method, cost, text) in rows {
-        let scheme = made(&rt, method, cost);
-        let setting = Setting::with_salt(scheme, b"ab").expect(&rt, "a setting");
+        let setting = Setting::make(method, cost, b"ab").expect(&rt, "a setting");
         assert_eq!(rt;
-            (scheme.method(), setting.text().as_slice()),
+            (setting.method(), setting.duplicate().text().as_slice()),
             (method, text),
             "cost {cost}"
         );

@@ -46,24 +46,6 @@ impl Setting {
         }
     }
 
-    /// Returns the setting of a scheme with a given salt.
-    ///
-    /// The salt has characters of crypt's alphabet, at least one and at most as many as the method keeps.
-    ///
-    /// # Errors
-    ///
-    /// - `SaltLength`, `SaltCharacter`: those of [`Setting::make`].
-    pub fn with_salt(scheme: Scheme, salt: &[u8]) -> Result<Setting, MakeFault>
-        ensures made { IfOk result (λ setting. setting ≡ record { scheme = scheme; salt = salt.now }) }
-        ensures accepted { IsOk result ↔ ((fault : Fault) → ¬ BreaksMake (method_of scheme) 0 (Some salt.now) fault) }
-        ensures refused { IfErr result (λ fault. (cost : ℕ) → IsMakeRefused (method_of scheme) cost (Some salt.now) fault) }
-    {
-        match given_salt(scheme.method(), salt) {
-            Ok(salt) => Ok(Setting { scheme, salt }),
-            Err(fault) => Err(fault),
-        }
-    }
-
     /// Returns the setting of a scheme with a new salt, which three random numbers make.
     ///
     /// The salt has [`made_salt_length`] characters.

@@ -278,65 +278,6 @@ fn not_made(rt: HostRuntime) {
     }
 }
 
-// Returns scrypt with N = 16, r = 1 and p = 1.
-fn small_scrypt(rt: &impl Abort) -> Scheme {
-    Scheme::Scrypt(Params::new(4, 1, 1).expect(rt, "parameters"))
-}
-
-#[test]
-fn with_salts(rt: HostRuntime) {
-    let sha512crypt = Scheme::Shacrypt(Sha::Sha512, Rounds::written(5000));
-    let rows = [
-        (Scheme::Md5crypt, b"ab".as_slice(), b"$1$ab".as_slice()),
-        (Scheme::Md5crypt, b"xxxxxxxx", b"$1$xxxxxxxx"),
-        (
-            Scheme::Shacrypt(Sha::Sha256, Rounds::unwritten()),
-            b"z",
-            b"$5$z",
-        ),
-        (
-            sha512crypt,
-            b"saltstringsaltst",
-            b"$6$rounds=5000$saltstringsaltst",
-        ),
-        (small_scrypt(&rt), b"./09AZaz", b"$7$2/..../...../09AZaz"),
-    ];
-    for (scheme, salt, text) in rows {
-        let setting = Setting::with_salt(scheme, salt).expect(&rt, "a setting");
-        let written = setting.text();
-        assert_eq!(rt; (setting.salt(), written.as_slice()), (salt, text));
-    }
-}
-
-#[test]
-fn without_a_salt_that_the_method_takes(rt: HostRuntime) {
-    let rows = [
-        (Scheme::Md5crypt, b"".as_slice(), MakeFault::SaltLength),
-        (Scheme::Md5crypt, b"123456789", MakeFault::SaltLength),
-        (
-            Scheme::Shacrypt(Sha::Sha256, Rounds::unwritten()),
-            &[b'a'; 17],
-            MakeFault::SaltLength,
-        ),
-        (small_scrypt(&rt), &[b'-'; 87], MakeFault::SaltLength),
-        (small_scrypt(&rt), b"", MakeFault::SaltLength),
-        (Scheme::Md5crypt, b"a-b", MakeFault::SaltCharacter),
-        (
-            Scheme::Shacrypt(Sha::Sha256, Rounds::unwritten()),
-            b"a$",
-            MakeFault::SaltCharacter,
-        ),
-        (small_scrypt(&rt), b"-", MakeFault::SaltCharacter),
-    ];
-    for (scheme, salt, fault) in rows {
-        assert_eq!(rt;
-            made_in_words(Setting::with_salt(scheme, salt)),
-            Err(fault.text()),
-            "salt {salt:?}"
-        );
-    }
-}
-
 // Three numbers give up to ten characters each, six bits for one, the lowest bits first.
 #[test]
 fn salted_with_words(rt: HostRuntime) {

@@ -1,4 +1,4 @@
-use Rattle.std.proofs.Common.{◌≡◌, ℕ, List, Option, Some, None, Err, ap, refl, subst, arith}
+use Rattle.std.proofs.Common.{◌≡◌, ℕ, List, Option, Some, None, Err, ap, refl, subst}
 use Rattle.run_core.specs.Lines.{Parts}
 use Rattle.run_core.specs.Makers.{bytes_of}
 use Rattle.run_core.specs.declared.line.LineFault.TheVariants.{NoPassword, Password, Setting}

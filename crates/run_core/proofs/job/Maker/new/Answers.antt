@@ -1,24 +1,11 @@
-use Rattle.std.proofs.Common.{◌≡◌, ℕ, List, ap, refl, subst, sym, ◌∙◌, rules}
+use Rattle.std.proofs.Common.{◌≡◌, ℕ, List, ap, refl, subst, sym, ◌∙◌}
 use Rattle.std.specs.Prelude.{◌↔◌, Err, None, Option, Some}
-use Rattle.crypt_core.specs.MadeSettings.{BreaksMake, IsMakeRefused, made_scheme}
-use Rattle.crypt_core.specs.Schemes.{method_of}
-use Rattle.crypt_core.specs.Settings.{SettingValue}
+use Rattle.crypt_core.specs.MadeSettings.{BreaksMake, IsMakeRefused}
 use Rattle.crypt_core.specs.declared.method.Method.{Method}
-use Rattle.crypt_core.specs.declared.scheme.Scheme.{Scheme}
 use Rattle.crypt_core.specs.declared.setting.fault.MakeFault.{MakeFault}
-use Rattle.crypt_core.proofs.Making.{made_method}
 use Rattle.run_core.specs.Makers.{bytes_of}
-use Rattle.run_core.proofs.Recipes.{only_cost, refused_for_cost, refused_made, with_zero}
+use Rattle.run_core.proofs.Recipes.{only_cost, refused_for_cost, refused_made}
 use Rattle.run_core.proofs.job.Maker.new.Goals as goal
-
-pub invariant_of-result : goal.invariant_of-result
-invariant_of-result c =
-    let taken = with_zero c.args.method c.args.cost (Some c.in-Some.salt.now) (c.in-Ok.ensures.accepted.0 refl) in
-    let scheme_is : c.scheme.result ≡ made_scheme c.args.method c.args.cost = c.scheme.ensures ∙ ap (λ (s : SettingValue). s.scheme) c.in-Ok.ensures.made in
-    let method_is : method_of c.scheme.result ≡ c.args.method = ap (λ (s : Scheme). method_of s) scheme_is ∙ made_method c.args.method c.args.cost in
-    let copied : c.unwrap.result.items ≡ c.in-Some.salt.now = search rules in
-    subst (λ (m : Method). (fault : MakeFault) → ¬ BreaksMake m 0 (Some c.unwrap.result.items) fault) (sym method_is)
-    (subst (λ (xs : List ℕ). (fault : MakeFault) → ¬ BreaksMake c.args.method 0 (Some xs) fault) (sym copied) taken)
 
 -- what is said of a salt that was given, is of the argument
 moved : (P : Type 0) (method : Method) (cost : ℕ) (given other : Option (List ℕ)) → given ≡ other
