@@ -1,5 +1,6 @@
 pub mod CommandFacts
 pub mod GivenWords
+pub mod Numbers
 pub mod PassedValues
 pub mod Planning
 pub mod Prints

@@ -1,10 +1,11 @@
 -- Where a command has no rule of one argument on another, a value that is read of an argument has
 -- passed that argument's parser.
-use Rattle.std.proofs.Common.{◌≡◌, ◌∙◌, ◌<◌, ◌⊎◌, ℕ, Bool, true, Option, Some, None, zero, suc, sym, ap, refl, subst, arith, List, [], ◌∷◌, map, length, codes, inl, inr}
+use Rattle.std.proofs.Common.{◌≡◌, ◌∙◌, ◌<◌, ◌⊎◌, ◌&&◌, ℕ, Bool, not, true, false, true≢false, Option, Some, None, zero, suc, sym, ap, refl, subst, arith, List, [], ◌∷◌, map, length, codes, inl, inr}
 use Rattle.std.specs.Borrow.{Bor}
 use Rattle.std.specs.List.{All, list_all, slice_index_or}
 use Rattle.std.specs.Option.{option_map}
-use Rattle.std.specs.Prelude.{slice_get}
+use Rattle.std.specs.Prelude.{slice_get, if◌then◌else◌}
+use Rattle.std.proofs.lemmas.Bool.{not-true}
 use Rattle.std.specs.Str.{bytes_eq}
 use Rattle.std.proofs.lemmas.List.{get_or-map, length-map}
 use Rattle.std.proofs.lemmas.List.Elements.{All-get_or}
@@ -24,6 +25,7 @@ use Rattle.clap.specs.declared.parser.matches.MatchedArg.{MatchedArg}
 use Rattle.clap.proofs.CallerLemmas.{entry_by_id, same_rules_by_id}
 use Rattle.clap.proofs.SimpleLemmas.{is_false, is_nil, ready_simple, simple_groups}
 use Rattle.clap.proofs.WalkLemmas.{both}
+use Rattle.mkpasswd.specs.Private.Options.{HasPassed, parser_by_id}
 
 -- ---- a command whose arguments have no rule on one another
 
@@ -57,10 +59,6 @@ record IsOnly (c : Command) (k : ℕ) (id : Text) (q : ValueParser) : Type 0 whe
   named : id ≡ [] → ⊥
   own : (id ≡ codes "help") ⊎ (id ≡ codes "version") → ⊥
 
--- what is known of a text that was read
-abbrev pub Passed : ValueParser → Text → Type 0
-Passed q text = (value : Text) × (ignore_case : Bool) × (text ≡ read_as (reading_of q) value) × Accepts ignore_case q value
-
 -- each argument with the id that the built command has takes what the parser takes
 same_parser : (c : Command) (m : ArgMatches) (p : IsParsedFrom c m) (k : ℕ) (id : Text) (q : ValueParser) → IsOnly c k id q
     → (j : ℕ) (x : Arg) → j < length (args_of p.built) → slice_index_or (args_of p.built) j x ≡ x → bytes_eq x.id.now id ≡ true
@@ -82,7 +80,7 @@ first_passed P how (v ∷ vs) text all is =
 
 value_passed : (c : Command) (m : ArgMatches) (p : IsParsedFrom c m) (k : ℕ) (id : Text) (q : ValueParser) → IsOnly c k id q → groups_of p.built ≡ []
     → (e : Entry) → e.0.now ≡ id → EntryPasses p.built e
-    → (text : Text) → option_map (λ s. read_as e.1.reading s.now) (slice_get e.1.vals.items 0) ≡ Some text → Passed q text
+    → (text : Text) → option_map (λ s. read_as e.1.reading s.now) (slice_get e.1.vals.items 0) ≡ Some text → HasPassed q text
 value_passed c m p k id q is no_groups e key pass text read =
     let own_parser : (j : ℕ) (x : Arg) → j < length (args_of p.built) → slice_index_or (args_of p.built) j x ≡ x → bytes_eq x.id.now e.0.now ≡ true → parser_of x ≡ q =
     λ j x low at same. same_parser c m p k id q is j x low at (subst (λ (t : Text). bytes_eq x.id.now t ≡ true) key same) in
@@ -129,13 +127,82 @@ is_only c k r q rule =
       own = rule.own;
     }
 
+-- ---- the rule with an id, where no two have the same
+
+-- no rule has this id
+abbrev lacks : Text → List Rule → Bool
+lacks id = list_all (λ rule. not (bytes_eq rule.id id))
+
+-- no two rules have the same id, and none has that of help or the version
+abbrev pub have_own_ids : List Rule → Bool
+have_own_ids [] = true
+have_own_ids (rule ∷ rules) =
+    lacks rule.id rules && (not (bytes_eq rule.id []) && (not (bytes_eq rule.id (codes "help")) && (not (bytes_eq rule.id (codes "version")) && have_own_ids rules)))
+
+not_same : {a b : Text} → not (bytes_eq a b) ≡ true → a ≡ b → ⊥
+not_same {a} {b} differ same = true≢false (sym ((bytes_eq-Decides a b).1 same) ∙ not-true (bytes_eq a b) differ)
+
+lacks_each : (id : Text) (rules : List Rule) → lacks id rules ≡ true
+    → (j : ℕ) (z : Rule) → j < length rules → bytes_eq (slice_index_or rules j z).id id ≡ true → ⊥
+lacks_each id [] all j z lt same = absurd (omega arith)
+lacks_each id (rule ∷ rules) all zero z lt same = true≢false (sym same ∙ not-true (bytes_eq rule.id id) (both _ _ all).0)
+lacks_each id (rule ∷ rules) all (suc j) z lt same = lacks_each id rules (both _ _ all).1 j z (omega arith) same
+
+-- one of these rules alone has this id, and it has this parser
+abbrev HaveOne : List Rule → Text → ValueParser → Type 0
+HaveOne rules id q = (k : ℕ) × (r : Rule) × (r.id ≡ id) × IsOnlyRule rules k r q
+
+-- so the parser of an id is that of one rule
+pub only_rule : (rules : List Rule) → have_own_ids rules ≡ true → (id : Text) (q : ValueParser) → parser_by_id id rules ≡ Some q → HaveOne rules id q
+only_rule [] own id q is = absurd cc
+only_rule (rule ∷ rules) own id q is = go (bytes_eq rule.id id) refl (λ others. only_rule rules others id q) is
+  where
+    alone : lacks rule.id rules ≡ true
+    alone = (both (lacks rule.id rules) _ own).0
+
+    differs_from : (not (bytes_eq rule.id []) ≡ true) × ((not (bytes_eq rule.id (codes "help")) ≡ true) × ((not (bytes_eq rule.id (codes "version")) ≡ true) × (have_own_ids rules ≡ true)))
+    differs_from =
+        let named = both (not (bytes_eq rule.id [])) _ (both (lacks rule.id rules) _ own).1 in
+        let no_help = both (not (bytes_eq rule.id (codes "help"))) _ named.1 in
+        (named.0, (no_help.0, both (not (bytes_eq rule.id (codes "version"))) (have_own_ids rules) no_help.1))
+
+    later : (k : ℕ) (r : Rule) → r.id ≡ id → bytes_eq rule.id id ≡ false → IsOnlyRule rules k r q → IsOnlyRule (rule ∷ rules) (suc k) r q
+    later k r of_id differs found = record {
+      within = (let within = found.within in omega (arith, within));
+      place = found.place;
+      parser = found.parser;
+      only = λ j z lt same. go j z lt same;
+      named = found.named;
+      own = found.own;
+    } where
+      go : (j : ℕ) (z : Rule) → j < length (rule ∷ rules) → bytes_eq (slice_index_or (rule ∷ rules) j z).id r.id ≡ true → j ≡ suc k
+      go zero z lt same = absurd (true≢false (sym same ∙ ap (bytes_eq rule.id) of_id ∙ differs))
+      go (suc j) z lt same = ap suc (found.only j z (omega (arith, lt)) same)
+
+    go : (same : Bool) → bytes_eq rule.id id ≡ same → (have_own_ids rules ≡ true → parser_by_id id rules ≡ Some q → HaveOne rules id q)
+        → (if same then rule.parser else parser_by_id id rules) ≡ Some q → HaveOne (rule ∷ rules) id q
+    go true same behind parser = (0, rule, (bytes_eq-Decides rule.id id).0 same, record {
+      within = omega arith;
+      place = λ z. refl;
+      parser = parser;
+      only = λ j z lt other. first j z lt other;
+      named = not_same differs_from.0;
+      own = λ auto. elim auto [ inl help ↦ not_same differs_from.1.0 help | inr version ↦ not_same differs_from.1.1.0 version ];
+    }) where
+      first : (j : ℕ) (z : Rule) → j < length (rule ∷ rules) → bytes_eq (slice_index_or (rule ∷ rules) j z).id rule.id ≡ true → j ≡ 0
+      first zero z lt other = refl
+      first (suc j) z lt other = absurd (lacks_each rule.id rules alone j z (omega (arith, lt)) other)
+    go false differs behind parser =
+        let found = behind differs_from.1.1.1 parser in
+        (suc found.0, found.1, found.2, later found.0 found.1 found.2 differs found.3)
+
 -- the text that is read of an argument is a value that passed its parser
 pub passed : (c : Command) (m : ArgMatches) (k : ℕ) (r : Rule) (q : ValueParser) → IsParsedFrom c m
     → is_ready (shape_of c) ≡ true → HasReadyLeaves c → all_free (shape_of c).rules ≡ true → IsOnlyRule (shape_of c).rules k r q
-    → (text : Text) → one_text (found_of m) r.id ≡ Some text → Passed q text
+    → (text : Text) → one_text (found_of m) r.id ≡ Some text → HasPassed q text
 passed c m k r q p ready leaves free rule text read = go (matched_of (found_of m) r.id) refl read
   where
-    go : (o : Option MatchedArg) → matched_of (found_of m) r.id ≡ o → one_text (found_of m) r.id ≡ Some text → Passed q text
+    go : (o : Option MatchedArg) → matched_of (found_of m) r.id ≡ o → one_text (found_of m) r.id ≡ Some text → HasPassed q text
     go None e is =
         let bad : None ≡ Some text = rw e at is in
         cc

@@ -1,11 +1,11 @@
 //! The arguments after the program's name: the command with which `clap` parses them, and the plan that they ask for.
 //! The refusals have one order. Only `OutOfMemory` has no place in it: it occurs at the allocation that failed.
-ghost use Rattle.std.specs.Prelude.{◌≡◌, ◌≢◌, List, [], None, Some, codes, map, string_bytes, IfErr, IfOk};
+ghost use Rattle.std.specs.Prelude.{◌^◌, ◌≡◌, ◌≢◌, List, [], None, Some, codes, map, string_bytes, IfErr, IfOk};
 ghost use Rattle.clap.specs.Words.{app_of, fault_of, first_of, kind_of, matches_of, rule_of};
 ghost use Rattle.run_core.specs.Makers.{bytes_of};
 ghost use Rattle.crypt_core.specs.Methods.{method_named};
 ghost use Rattle.mkpasswd.specs.Options.{IsMaker, IsPlan, Plans, Refuses, command, cost_of, flag_rule, given_salt, is_set, number_in, option_rule, type_of, value_rule};
-ghost use Rattle.mkpasswd.specs.Private.Options.{Follows, HasRule};
+ghost use Rattle.mkpasswd.specs.Private.Options.{Follows, HasRule, IsNumber};
 
 use crate::fault::UsageFault;
 use crate::job::{Job, Maker, PasswordFrom, Plan};
@@ -57,21 +57,18 @@ const AFTER_HELP: &str = "A password that begins with '-' is handed in by --stdi
 #[derive(Drop)]
 struct Arguments<'a> {
     matches: ArgMatches<'a>,
-    cost: u32,
-    budget: Option<u64>,
 }
 
 impl<'a> Model for Arguments<'a> {
-    ghost use Rattle.std.specs.Prelude.{◌≡◌, List, codes};
+    ghost use Rattle.std.specs.Prelude.{List};
     ghost use Rattle.clap.specs.Words.{Row, found_of, rows_of};
-    ghost use Rattle.mkpasswd.specs.Options.{cost_of, number_in};
+    ghost use Rattle.mkpasswd.specs.Private.Options.{HavePassed};
 
     ghost Value = { List Row };
 
     ghost view = { λ a. rows_of (found_of a.matches) };
 
-    ghost invariant = { λ a. (a.cost ≡ cost_of (rows_of (found_of a.matches)))
-        × (a.budget ≡ number_in (codes "budget") (rows_of (found_of a.matches))) };
+    ghost invariant = { λ a. HavePassed a.matches };
 }
 
 impl<'a> Arguments<'a> {
@@ -89,18 +86,20 @@ impl<'a> Arguments<'a> {
         self.matches.get_one(id).unwrap_or(false)
     }
 
-    // Returns the cost.
-    fn cost(&self) -> u32
-        ensures { result ≡ cost_of self.now }
+    // Returns the number of an option that takes only numbers below 2^32.
+    fn number32(&self, id: &str) -> Option<u32>
+        requires { IsNumber (2 ^ 32) id.now }
+        ensures { result ≡ number_in id.now self.now }
     {
-        self.cost
+        self.matches.get_one(id)
     }
 
-    // Returns the budget.
-    fn budget(&self) -> Option<u64>
-        ensures { result ≡ number_in (codes "budget") self.now }
+    // Returns the number of an option that takes only numbers below 2^64.
+    fn number64(&self, id: &str) -> Option<u64>
+        requires { IsNumber (2 ^ 64) id.now }
+        ensures { result ≡ number_in id.now self.now }
     {
-        self.budget
+        self.matches.get_one(id)
     }
 
     // Returns TYPE.
@@ -137,7 +136,8 @@ pub fn plan(alloc: Global, words: &[String]) -> Result<Plan, UsageFault>
     let method = known_method(&given)?;
     let salt = one_salt(&given)?;
     one_mode(&given)?;
-    let maker = Maker::new(method, given.cost(), salt)?;
+    let cost = given.number32("rounds").unwrap_or(0);
+    let maker = Maker::new(method, cost, salt)?;
     Ok(planned(alloc, &given, maker)?)
 }
 
@@ -149,13 +149,7 @@ fn read_words<'a>(alloc: Global, words: &'a [String]) -> Result<Arguments<'a>, c
         → Refuses (map string_bytes words.entry.now) error) }
 {
     let matches = command(alloc)?.try_get_matches_from(words)?;
-    let cost = matches.get_one("rounds").unwrap_or(0);
-    let budget = matches.get_one("budget");
-    Ok(Arguments {
-        matches,
-        cost,
-        budget,
-    })
+    Ok(Arguments { matches })
 }
 
 // Returns the method that TYPE names.
@@ -200,7 +194,7 @@ fn planned(alloc: Global, given: &Arguments<'_>, maker: Maker) -> Result<Plan, A
         maker,
         rehash: given.has("rehash"),
         work: given.has("work"),
-        budget: given.budget(),
+        budget: given.number64("budget"),
     };
     if let Some(password) = given.text("password") {
         let bytes = Vec::from_slice(alloc, password.as_bytes())?;
