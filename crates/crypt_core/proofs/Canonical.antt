@@ -20,7 +20,7 @@ use Rattle.crypt_core.specs.MethodLimits.{packed_len, prefix, salt_limit, scrypt
 use Rattle.crypt_core.specs.Schemes.{IsScheme, method_of, sha_method}
 use Rattle.crypt_core.specs.Settings.{SettingValue, IsSettingByte, dollar, IsField, BeginsWith, rounds_word, rounds_field, IsRoundsNumber, scrypt_part, SpellsRounds, SpellsCost, IsScryptSalt, KeepsSalt, Spells, cost_part, canonical_text, setting_limit}
 use Rattle.crypt_core.specs.Rounds.{IsRounds, clamped}
-use Rattle.crypt_core.specs.RoundsLimits.{max_rounds, min_rounds}
+use Rattle.crypt_core.specs.Rounds.{max_rounds, min_rounds}
 use Rattle.crypt_core.proofs.EachMethod.{each_method, length-prefix, sha_salt_limit}
 use Rattle.crypt_core.proofs.Fields.{IsEndOfField, ended_by}
 use Rattle.crypt_core.proofs.Numerals.{all_scrypt_part, length-scrypt_part}

@@ -6,8 +6,8 @@ use Rattle.std.proofs.lemmas.List.{length-append}
 use Rattle.prims_core.specs.Digests.{length-md5, md5}
 use Rattle.prims_core.specs.Meter.{HaveCountAndSum}
 use Rattle.crypt_core.specs.Cycle.{cycle, digit_bytes, digit_pieces}
-use Rattle.crypt_core.specs.Md5crypt.{md5crypt_digest, md5crypt_opening}
-use Rattle.crypt_core.specs.Messages.{AreMd5cryptMessages, md5crypt_message, md5crypt_messages, md5crypt_rounds, opening_message}
+use Rattle.crypt_core.specs.Md5crypt.{md5crypt_digest, md5crypt_opening, opening_message}
+use Rattle.crypt_core.specs.Messages.{AreMd5cryptMessages, md5crypt_message, md5crypt_messages, md5crypt_rounds}
 use Rattle.crypt_core.specs.MethodLimits.{prefix}
 use Rattle.crypt_core.specs.RoundMessage.{alternate_message, digest_after, round_message}
 use Rattle.crypt_core.specs.WorkBytes.{md5crypt_bytes}

@@ -5,7 +5,7 @@ use Rattle.std.specs.Str.Parse.{digits_value}
 use Rattle.std.proofs.lemmas.List.{append_cancel_left}
 use Rattle.std.proofs.lemmas.List.Elements.{All-cons, All-weaker}
 use Rattle.crypt_core.specs.Rounds.{Rounds, clamped}
-use Rattle.crypt_core.specs.RoundsLimits.{max_rounds}
+use Rattle.crypt_core.specs.Rounds.{max_rounds}
 use Rattle.crypt_core.specs.Settings.{dollar, IsField, rounds_word, rounds_field, IsRoundsNumber, SpellsRounds}
 use Rattle.crypt_core.proofs.Fields.{ended_by, field_unique}
 

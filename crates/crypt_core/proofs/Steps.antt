@@ -15,7 +15,7 @@ use Rattle.prims_core.specs.Alphabet.{alphabet, character_of, numerals}
 use Rattle.kdf_core.specs.Params.{cost_of}
 use Rattle.crypt_core.specs.Private.Parts.{HasField, HasNumerals, LacksCharacters, LacksNumber}
 use Rattle.crypt_core.specs.Settings.{dollar, IsRoundsNumber, scrypt_part}
-use Rattle.crypt_core.specs.RoundsLimits.{max_rounds}
+use Rattle.crypt_core.specs.Rounds.{max_rounds}
 use Rattle.crypt_core.specs.TextLimits.{scrypt_part_len}
 use Rattle.crypt_core.proofs.Fields.{IsEndOfField, end_of, ended_by, field_unique}
 use Rattle.crypt_core.proofs.Rounds.{digits_are_field}

@@ -19,7 +19,6 @@ pub mod Refusals
 pub mod Replacements
 pub mod RoundMessage
 pub mod Rounds
-pub mod RoundsLimits
 pub mod Rules
 pub mod Schemes
 pub mod SettingFaults

@@ -6,12 +6,17 @@ use Rattle.crypt_core.specs.Methods.{method_row}
 use Rattle.crypt_core.specs.RoundMessage.{alternate_message, digest_after}
 use Rattle.crypt_core.specs.declared.method.Method.TheVariants as methods
 
--- md5crypt_opening password salt: the digest before the rounds. In the binary digits of the password's length, a 1
--- stands for a zero byte, and a 0 for the password's first byte.
-abbrev pub md5crypt_opening : List ℕ → List ℕ → List ℕ
-md5crypt_opening password salt = md5 (password ++ (method_row methods.Md5crypt).prefix ++ salt
+-- opening_message password salt: the message of the digest before the rounds. In the binary digits of the password's
+-- length, a 1 stands for a zero byte, and a 0 for the password's first byte.
+abbrev pub opening_message : List ℕ → List ℕ → List ℕ
+opening_message password salt =
+    password ++ (method_row methods.Md5crypt).prefix ++ salt
     ++ cycle (md5 (alternate_message password salt)) (length password)
-    ++ digit_pieces (0 ∷ []) (take 1 password) (length password))
+    ++ digit_pieces (0 ∷ []) (take 1 password) (length password)
+
+-- md5crypt_opening password salt: the digest before the rounds.
+abbrev pub md5crypt_opening : List ℕ → List ℕ → List ℕ
+md5crypt_opening password salt = md5 (opening_message password salt)
 
 -- md5crypt_digest password salt: the digest after 1000 rounds.
 unfoldable pub md5crypt_digest : List ℕ → List ℕ → List ℕ

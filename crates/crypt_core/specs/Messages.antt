@@ -1,22 +1,13 @@
 -- The messages that md5crypt and SHA-crypt digest, numbered from 0: 1,002 in md5crypt, and rounds + 4 in SHA-crypt.
-use Rattle.std.specs.Prelude.{◌≡◌, ℕ, zero, suc, ◌+◌, List, [], ◌∷◌, ◌++◌, length, take, map}
-use Rattle.std.specs.List.{range_with_len, repeat}
+use Rattle.std.specs.Prelude.{◌≡◌, ℕ, zero, suc, ◌+◌, List, length, map}
+use Rattle.std.specs.List.{range_with_len}
 use Rattle.prims_core.specs.Digests.{md5}
-use Rattle.crypt_core.specs.Cycle.{cycle, digit_pieces}
-use Rattle.crypt_core.specs.Md5crypt.{md5crypt_digest, md5crypt_opening}
-use Rattle.crypt_core.specs.MethodLimits.{prefix}
+use Rattle.crypt_core.specs.Cycle.{cycle}
+use Rattle.crypt_core.specs.Md5crypt.{md5crypt_digest, md5crypt_opening, opening_message}
 use Rattle.crypt_core.specs.RoundMessage.{alternate_message, digest_after, round_message}
-use Rattle.crypt_core.specs.ShaCrypt.{password_string, salt_string, sha_opening, sha_opening_byte, shacrypt_digest}
-use Rattle.crypt_core.specs.declared.method.Method.TheVariants as methods
+use Rattle.crypt_core.specs.ShaCrypt.{password_repeated, password_string, salt_repeated, salt_string, sha_opening, sha_opening_message, shacrypt_digest}
 
 -- ---- md5crypt
-
--- opening_message password salt: the second message, whose digest is `md5crypt_opening`.
-abbrev pub opening_message : List ℕ → List ℕ → List ℕ
-opening_message password salt =
-    password ++ prefix methods.Md5crypt ++ salt
-    ++ cycle (md5 (alternate_message password salt)) (length password)
-    ++ digit_pieces (0 ∷ []) (take 1 password) (length password)
 
 -- md5crypt_message password salt k: message k. The message of round i has the number i + 2.
 unfoldable pub md5crypt_message : List ℕ → List ℕ → ℕ → List ℕ
@@ -41,21 +32,6 @@ AreMd5cryptMessages password salt =
     × (md5crypt_digest password salt ≡ md5 (md5crypt_message password salt (md5crypt_rounds + 1)))
 
 -- ---- SHA-crypt with the digest function h
-
--- sha_opening_message h password salt: the second message, whose digest is `sha_opening`.
-abbrev pub sha_opening_message : (List ℕ → List ℕ) → List ℕ → List ℕ → List ℕ
-sha_opening_message h password salt =
-    password ++ salt
-    ++ cycle (h (alternate_message password salt)) (length password)
-    ++ digit_pieces (h (alternate_message password salt)) password (length password)
-
--- password_repeated password: the third message, for `password_string`.
-abbrev pub password_repeated : List ℕ → List ℕ
-password_repeated password = repeat (length password) password
-
--- salt_repeated h password salt: the fourth message, for `salt_string`.
-abbrev pub salt_repeated : (List ℕ → List ℕ) → List ℕ → List ℕ → List ℕ
-salt_repeated h password salt = repeat (16 + sha_opening_byte h password salt) salt
 
 -- sha_digest_before h password salt i: the digest before round i.
 abbrev pub sha_digest_before : (List ℕ → List ℕ) → List ℕ → List ℕ → ℕ → List ℕ

@@ -6,19 +6,19 @@ use Rattle.crypt_core.specs.Methods.{method_row}
 
 -- The most bytes of salt that md5crypt keeps.
 abbrev pub md5crypt_salt_limit : ℕ
-md5crypt_salt_limit = 8
+md5crypt_salt_limit = (method_row Md5crypt).salt_limit
 
 -- The most bytes of salt that SHA-crypt keeps, with either digest.
 abbrev pub shacrypt_salt_limit : ℕ
-shacrypt_salt_limit = 16
+shacrypt_salt_limit = (method_row Sha512crypt).salt_limit
 
 -- The most bytes of salt that scrypt keeps. No method keeps more.
 abbrev pub scrypt_salt_limit : ℕ
-scrypt_salt_limit = 86
+scrypt_salt_limit = (method_row Scrypt).salt_limit
 
 -- The most characters of a made salt: those of scrypt.
 abbrev pub made_salt_limit : ℕ
-made_salt_limit = 22
+made_salt_limit = (method_row Scrypt).made_salt_length
 
 -- prefix method: the characters with which each setting of the method begins.
 abbrev pub prefix : Method → List ℕ

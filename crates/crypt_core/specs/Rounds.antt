@@ -10,9 +10,17 @@ pub record Rounds : Type 0 where
 abbrev pub default_rounds : ℕ
 default_rounds = 5000
 
--- clamped n: the number of rounds from 1000 to 999999999 that is nearest to n.
+-- The fewest rounds.
+abbrev pub min_rounds : ℕ
+min_rounds = 1000
+
+-- The most rounds.
+abbrev pub max_rounds : ℕ
+max_rounds = 999999999
+
+-- clamped n: the number of rounds in this range that is nearest to n.
 abbrev pub clamped : ℕ → ℕ
-clamped n = max 1000 (min n 999999999)
+clamped n = max min_rounds (min n max_rounds)
 
 -- IsRounds rounds: a setting can have these rounds. Their number is in range, and without a field it is the default.
 abbrev pub IsRounds : Rounds → Type 0

@@ -13,26 +13,38 @@ abbrev pub digest_function : Sha → List ℕ → List ℕ
 digest_function Sha256 = sha256
 digest_function Sha512 = sha512
 
--- sha_opening h password salt: the digest A (steps 1 to 12). In the binary digits of the password's length, a 1 stands
--- for the digest B, and a 0 for the password.
-abbrev pub sha_opening : (List ℕ → List ℕ) → List ℕ → List ℕ → List ℕ
-sha_opening h password salt =
+-- sha_opening_message h password salt: the message of the digest A (steps 1 to 11). In the binary digits of the
+-- password's length, a 1 stands for the digest B, and a 0 for the password.
+abbrev pub sha_opening_message : (List ℕ → List ℕ) → List ℕ → List ℕ → List ℕ
+sha_opening_message h password salt =
     let b = h (alternate_message password salt) in
-    h (password ++ salt ++ cycle b (length password) ++ digit_pieces b password (length password))
+    password ++ salt ++ cycle b (length password) ++ digit_pieces b password (length password)
+
+-- sha_opening h password salt: the digest A (step 12).
+abbrev pub sha_opening : (List ℕ → List ℕ) → List ℕ → List ℕ → List ℕ
+sha_opening h password salt = h (sha_opening_message h password salt)
 
 -- sha_opening_byte h password salt: the first byte of the digest A.
 abbrev pub sha_opening_byte : (List ℕ → List ℕ) → List ℕ → List ℕ → ℕ
 sha_opening_byte h password salt = slice_index (sha_opening h password salt) 0
 
--- password_string h password: the string P, which stands for the password in the rounds (steps 13 to 16). It has the
--- length of the password and repeats the digest DP, whose message is the password once for each of its bytes.
-abbrev pub password_string : (List ℕ → List ℕ) → List ℕ → List ℕ
-password_string h password = cycle (h (repeat (length password) password)) (length password)
+-- password_repeated password: the message of the digest DP, the password once for each of its bytes (steps 13 to 15).
+abbrev pub password_repeated : List ℕ → List ℕ
+password_repeated password = repeat (length password) password
 
--- salt_string h password salt: the string S, which stands for the salt in the rounds (steps 17 to 20). It has the
--- length of the salt and repeats the digest DS, whose message is the salt 16 + A[0] times.
+-- password_string h password: the string P, which stands for the password in the rounds (step 16). It has the length of
+-- the password and repeats the digest DP.
+abbrev pub password_string : (List ℕ → List ℕ) → List ℕ → List ℕ
+password_string h password = cycle (h (password_repeated password)) (length password)
+
+-- salt_repeated h password salt: the message of the digest DS, the salt 16 + A[0] times (steps 17 to 19).
+abbrev pub salt_repeated : (List ℕ → List ℕ) → List ℕ → List ℕ → List ℕ
+salt_repeated h password salt = repeat (16 + sha_opening_byte h password salt) salt
+
+-- salt_string h password salt: the string S, which stands for the salt in the rounds (step 20). It has the length of the
+-- salt and repeats the digest DS.
 abbrev pub salt_string : (List ℕ → List ℕ) → List ℕ → List ℕ → List ℕ
-salt_string h password salt = cycle (h (repeat (16 + sha_opening_byte h password salt) salt)) (length salt)
+salt_string h password salt = cycle (h (salt_repeated h password salt)) (length salt)
 
 -- shacrypt_digest h password salt rounds: the digest after the last round (step 21).
 unfoldable pub shacrypt_digest : (List ℕ → List ℕ) → List ℕ → List ℕ → ℕ → List ℕ

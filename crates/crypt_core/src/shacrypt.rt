@@ -5,12 +5,12 @@ ghost use Rattle.std.specs.Prelude.{◌≡◌, ℕ, ◌+◌, ◌*◌, ◌^◌, �
 ghost use Rattle.std.specs.List.{repeat};
 ghost use Rattle.prims_core.specs.Meter.{with_work, HaveCountAndSum, HasDigestRoom};
 ghost use Rattle.crypt_core.specs.Cycle.{cycle};
-ghost use Rattle.crypt_core.specs.Messages.{AreShacryptMessages, sha_digest_before, sha_opening_message, shacrypt_message, shacrypt_messages};
+ghost use Rattle.crypt_core.specs.Messages.{AreShacryptMessages, sha_digest_before, shacrypt_message, shacrypt_messages};
 ghost use Rattle.crypt_core.specs.MethodLimits.{shacrypt_salt_limit};
 ghost use Rattle.crypt_core.specs.Passwords.{password_limit};
 ghost use Rattle.crypt_core.specs.RoundMessage.{alternate_message};
-ghost use Rattle.crypt_core.specs.RoundsLimits.{max_rounds, min_rounds};
-ghost use Rattle.crypt_core.specs.ShaCrypt.{sha_opening, sha_opening_byte, shacrypt_digest};
+ghost use Rattle.crypt_core.specs.Rounds.{max_rounds, min_rounds};
+ghost use Rattle.crypt_core.specs.ShaCrypt.{sha_opening, sha_opening_byte, sha_opening_message, shacrypt_digest};
 ghost use Rattle.crypt_core.specs.Private.Counting.{with_digest};
 ghost use Rattle.crypt_core.specs.Work.{work_limit};
 ghost use Rattle.crypt_core.specs.WorkBytes.{shacrypt_bytes};

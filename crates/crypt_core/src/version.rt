@@ -1,5 +1,5 @@
-//! The version of the program, the libraries and the archive: this is its only place. `tools/version` reads it
-//! here for the archive, the manual and pkg-config.
+//! The version of the program, the libraries and the archive. `tools/version` reads it here; `c/mkpasswd.h`, the packages
+//! and a few tests repeat it.
 
 /// The version, as text.
 pub const VERSION: &str = "1.2.0";

@@ -4,7 +4,7 @@ ghost use Rattle.std.specs.Prelude.{◌≡◌, ℕ, ◌+◌, ◌*◌, ◌^◌, �
 ghost use Rattle.crypt_core.specs.Cycle.{by_digit, digit_bytes};
 ghost use Rattle.crypt_core.specs.MethodLimits.{md5crypt_salt_limit, salt_limit, scrypt_salt_limit, shacrypt_salt_limit};
 ghost use Rattle.crypt_core.specs.Passwords.{password_limit, IsPassword};
-ghost use Rattle.crypt_core.specs.RoundsLimits.{max_rounds};
+ghost use Rattle.crypt_core.specs.Rounds.{max_rounds};
 ghost use Rattle.crypt_core.specs.Schemes.{method_of};
 ghost use Rattle.crypt_core.specs.ShaCrypt.{sha_opening_byte};
 ghost use Rattle.crypt_core.specs.Work.{cost, cost_by, digests_alone, md5crypt_work, rounds_bytes, shacrypt_work, work, work_bound, work_by, work_limit, IsBelow, IsWithin};

@@ -9,7 +9,7 @@ use Rattle.clap.specs.Simple.{built}
 use Rattle.clap.specs.Walk.{Row, Walk, Waiting, finished, idle, nothing_held, option, used, walk_from, walked}
 use Rattle.clap.specs.Words.{Shape, Text, fault_of, first_of, matches_of}
 use Rattle.clap.proofs.OnLiterals.{clap_on_literals}
-use Rattle.mkpasswd.specs.Corollaries.{IsNoOption, hash_words}
+use Rattle.mkpasswd.specs.Corollaries.{IsNoOption, hash_arguments}
 use Rattle.mkpasswd.specs.Options.{command, cost_of, given_salt, is_set, mode_count, option_rule, type_of}
 
 -- ---- a word that is no option
@@ -119,7 +119,7 @@ word_5 name salt password p = record {
 }
 
 all_words : (name salt password : Text) → IsNoOption name → IsNoOption salt → IsNoOption password
-    → GoesOn start (hash_words name salt password) (behind_password name salt password)
+    → GoesOn start (hash_arguments name salt password) (behind_password name salt password)
 all_words name salt password n s p =
     first word_1 (first (word_2 name (no_option-plain name n)) (first (word_3 name)
     (first (word_4 name salt (no_option-plain salt s))
@@ -128,7 +128,7 @@ all_words name salt password n s p =
 -- ---- what the command makes of them
 
 pub given_fault : (name salt password : Text) → IsNoOption name → IsNoOption salt → IsNoOption password
-    → fault_of command (hash_words name salt password) ≡ []
+    → fault_of command (hash_arguments name salt password) ≡ []
 unfolding shape command defaults_fault
 given_fault name salt password n s p =
     let on = all_words name salt password n s p in
@@ -154,12 +154,12 @@ unfolding shape command
 finds name salt password = record { type = refl; salt_is = refl; cost = refl; word = refl; stdin = refl; batch = refl; check = refl; work = refl; modes = refl }
 
 given_rows : (name salt password : Text) → IsNoOption name → IsNoOption salt → IsNoOption password
-    → matches_of command (hash_words name salt password) ≡ rows_behind name salt password
+    → matches_of command (hash_arguments name salt password) ≡ rows_behind name salt password
 unfolding shape command
 given_rows name salt password n s p =
     ap (λ (w : Walk). finished shape.rules w.held) (goes-fold _ _ _ (all_words name salt password n s p))
 
-pub is_given : (name salt password : Text) (words : List Text) → words ≡ hash_words name salt password
+pub is_given : (name salt password : Text) (words : List Text) → words ≡ hash_arguments name salt password
     → IsNoOption name → IsNoOption salt → IsNoOption password → IsGiven name salt password (matches_of command words)
 is_given name salt password words are n s p =
     rw (are, given_rows name salt password n s p) (finds name salt password)

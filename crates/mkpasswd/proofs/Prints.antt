@@ -9,13 +9,13 @@ use Rattle.crypt_core.specs.Methods.{method_named}
 use Rattle.crypt_core.specs.Settings.{BeginsWith}
 use Rattle.crypt_core.specs.declared.method.Method.{Method}
 use Rattle.run_core.specs.Answers.{password_answer}
-use Rattle.mkpasswd.specs.Corollaries.{IsNoOption, IsWhole, PrintsHash, hash_words}
+use Rattle.mkpasswd.specs.Corollaries.{IsNoOption, IsWhole, PrintsHash, hash_arguments}
 use Rattle.mkpasswd.specs.Options.{IsJob, command}
 use Rattle.run_core.specs.Runs.{RunState}
 use Rattle.run_core.specs.Texts.{as_line}
 use Rattle.run_core.specs.declared.job.Job.{Job}
 use Rattle.run_core.specs.declared.job.PasswordFrom.TheVariants.{Word, Input}
-use Rattle.mkpasswd.specs.declared.job.Plan.TheVariants.{Methods, One, Batch, Check}
+use Rattle.mkpasswd.specs.declared.plan.Plan.TheVariants.{Methods, One, Batch, Check}
 use Rattle.mkpasswd.proofs.GivenWords.{IsGiven, given_fault, is_given}
 
 -- ---- a name is no option
@@ -41,7 +41,7 @@ module _ (name salt password : Text) (method : Method) (named : method_named nam
   name_is : IsNoOption name
   name_is = inr (no_hyphen name method named)
 
-  finds : (words : List Text) → words ≡ hash_words name salt password → IsGiven name salt password (matches_of command words)
+  finds : (words : List Text) → words ≡ hash_arguments name salt password → IsGiven name salt password (matches_of command words)
   finds words are = is_given name salt password words are name_is salt_is password_is
 
   same_method : (own : Method) → method_named name ≡ Some own → own ≡ method
@@ -56,7 +56,7 @@ module _ (name salt password : Text) (method : Method) (named : method_named nam
   not_set : {set : Bool} → set ≡ false → set ≡ true → ⊥
   not_set off on = true≢false (sym on ∙ off)
 
-  pub prints_hash : {I O E : Type 0} (words : List Text) (old new : RunState I O E) → words ≡ hash_words name salt password
+  pub prints_hash : {I O E : Type 0} (words : List Text) (old new : RunState I O E) → words ≡ hash_arguments name salt password
       → IsWhole words old new → PrintsHash method salt password old new
   prints_hash words old new are (inr (error, refuses, by, text, gives)) =
       absurd (rw (are, given_fault name salt password name_is salt_is password_is) at refuses.called_for)

@@ -20,7 +20,7 @@ use Rattle.run_core.specs.declared.fault.RunFault.{RunFault}
 use Rattle.mkpasswd.specs.declared.fault.UsageFault.{UsageFault}
 use Rattle.mkpasswd.specs.declared.fault.UsageFault.TheVariants.{Parse, OutOfMemory as NoMemory}
 use Rattle.run_core.proofs.Showing.{as_tally, shows-tally}
-use Rattle.mkpasswd.specs.declared.job.Plan.{Plan}
+use Rattle.mkpasswd.specs.declared.plan.Plan.{Plan}
 use Rattle.run_core.specs.declared.tally.Tally.{Tally}
 
 -- ---- a text that was shown

@@ -21,8 +21,8 @@ use Rattle.run_core.specs.declared.fault.RunFault.TheVariants.{Read}
 use Rattle.mkpasswd.specs.declared.fault.UsageFault.TheVariants.{Parse}
 use Rattle.run_core.specs.declared.job.Job.{Job}
 use Rattle.run_core.specs.declared.job.PasswordFrom.TheVariants.{Word, Input}
-use Rattle.mkpasswd.specs.declared.job.Plan.{Plan}
-use Rattle.mkpasswd.specs.declared.job.Plan.TheVariants.{Methods, One, Batch, Check}
+use Rattle.mkpasswd.specs.declared.plan.Plan.{Plan}
+use Rattle.mkpasswd.specs.declared.plan.Plan.TheVariants.{Methods, One, Batch, Check}
 use Rattle.run_core.specs.declared.line.Kind.{Kind}
 use Rattle.run_core.specs.declared.line.Kind.TheVariants as kinds
 use Rattle.run_core.specs.declared.tally.Tally.{Tally}

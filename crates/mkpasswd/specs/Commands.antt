@@ -18,8 +18,8 @@ use Rattle.mkpasswd.specs.declared.fault.Fault.TheVariants.{Start, Usage, Run}
 use Rattle.run_core.specs.declared.fault.RunFault.{RunFault}
 use Rattle.mkpasswd.specs.declared.fault.UsageFault.{UsageFault}
 use Rattle.mkpasswd.specs.declared.fault.UsageFault.TheVariants.{Parse}
-use Rattle.mkpasswd.specs.declared.job.Plan.{Plan}
-use Rattle.mkpasswd.specs.declared.job.Plan.TheVariants.{Methods, One, Batch, Check}
+use Rattle.mkpasswd.specs.declared.plan.Plan.{Plan}
+use Rattle.mkpasswd.specs.declared.plan.Plan.TheVariants.{Methods, One, Batch, Check}
 use Rattle.run_core.specs.declared.line.Kind.TheVariants as kinds
 use Rattle.run_core.specs.declared.tally.Tally.{Tally}
 

@@ -22,8 +22,8 @@ use Rattle.run_core.specs.Texts.{as_line}
 use Rattle.mkpasswd.specs.declared.fault.UsageFault.TheVariants.{Parse}
 use Rattle.run_core.specs.declared.job.Job.{Job}
 use Rattle.run_core.specs.declared.job.PasswordFrom.TheVariants.{Word, Input}
-use Rattle.mkpasswd.specs.declared.job.Plan.{Plan}
-use Rattle.mkpasswd.specs.declared.job.Plan.TheVariants.{Methods, One, Batch, Check}
+use Rattle.mkpasswd.specs.declared.plan.Plan.{Plan}
+use Rattle.mkpasswd.specs.declared.plan.Plan.TheVariants.{Methods, One, Batch, Check}
 use Rattle.run_core.specs.declared.line.Kind.{Kind}
 use Rattle.run_core.specs.declared.line.Kind.TheVariants as kinds
 
@@ -74,8 +74,8 @@ module _ {I O E : Type 0} where
 -- ---- one hash
 
 -- The arguments are `-m TYPE -S SALT PASSWORD`.
-abbrev pub hash_words : Text → Text → Text → List Text
-hash_words method salt password = codes "-m" ∷ method ∷ codes "-S" ∷ salt ∷ password ∷ []
+abbrev pub hash_arguments : Text → Text → Text → List Text
+hash_arguments method salt password = codes "-m" ∷ method ∷ codes "-S" ∷ salt ∷ password ∷ []
 
 -- The command takes the argument as a value. It does not begin with a hyphen, or is a single hyphen.
 abbrev pub IsNoOption : Text → Type 0

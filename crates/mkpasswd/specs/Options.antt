@@ -19,8 +19,8 @@ use Rattle.run_core.specs.declared.job.Job.{Job}
 use Rattle.run_core.specs.declared.job.PasswordFrom.TheVariants.{Word, Input}
 use Rattle.mkpasswd.specs.declared.fault.UsageFault.{UsageFault}
 use Rattle.mkpasswd.specs.declared.fault.UsageFault.TheVariants.{Parse, Method as UnknownMethod, TwoSalts, TwoModes, Make, OutOfMemory}
-use Rattle.mkpasswd.specs.declared.job.Plan.{Plan}
-use Rattle.mkpasswd.specs.declared.job.Plan.TheVariants.{Methods, One, Batch, Check}
+use Rattle.mkpasswd.specs.declared.plan.Plan.{Plan}
+use Rattle.mkpasswd.specs.declared.plan.Plan.TheVariants.{Methods, One, Batch, Check}
 
 -- ---- the command, as `clap` parses it
 

@@ -3,7 +3,7 @@ ghost use Rattle.std.specs.Prelude.{◌≡◌, ℕ, ◌^◌, ◌<◌, ◌≤◌,
 ghost use Rattle.crypt_core.specs.Methods.{method_named};
 ghost use Rattle.crypt_core.specs.declared.method.Method.{Method};
 ghost use Rattle.mkpasswd.specs.Commands.{Serves, stream_in};
-ghost use Rattle.mkpasswd.specs.Corollaries.{IsNoOption, IsWhole, PrintsHash, hash_words};
+ghost use Rattle.mkpasswd.specs.Corollaries.{IsNoOption, IsWhole, PrintsHash, hash_arguments};
 ghost use Rattle.mkpasswd.specs.FaultLines.{IsTold, fault_line};
 ghost use Rattle.mkpasswd.specs.Private.Commands.{ErrorShown, RefusalShown, RunsOrLacks};
 ghost use Rattle.run_core.specs.Devices.{HasRoomBeforeRun, HasRoomWithinRun, turns_limit};
@@ -12,7 +12,7 @@ ghost use Rattle.prims_core.specs.Work.{IsAtMost};
 ghost use Rattle.run_core.specs.Runs.{run_state};
 
 use crate::fault::{Fault, UsageFault};
-use crate::job::Plan;
+use crate::plan::Plan;
 use crate::options::plan;
 use arrayvec::ArrayVec;
 use prims_core::meter::Meter;
@@ -72,7 +72,7 @@ pub fn run_command<I: Read, O: Write, E: Write, R: Rng>(
         (run_state input.old out.old faults.old (stream_in R.stream generator.old) meter.old)
         (run_state input.new out.new faults.new (stream_in R.stream generator.new) meter.new) }
     ensures prints { (name salt password : List ℕ) → (method : Method) → method_named name ≡ Some method
-        → IsNoOption salt → IsNoOption password → map string_bytes words.now ≡ hash_words name salt password → result ≡ 0
+        → IsNoOption salt → IsNoOption password → map string_bytes words.now ≡ hash_arguments name salt password → result ≡ 0
         → PrintsHash method salt password
         (run_state input.old out.old faults.old (stream_in R.stream generator.old) meter.old)
         (run_state input.new out.new faults.new (stream_in R.stream generator.new) meter.new) }

@@ -8,7 +8,7 @@ ghost use Rattle.mkpasswd.specs.Options.{IsMaker, IsPlan, Plans, Refuses, comman
 ghost use Rattle.mkpasswd.specs.Private.Options.{Follows, HasRule, IsNumber};
 
 use crate::fault::UsageFault;
-use crate::job::{Job, Maker, PasswordFrom, Plan};
+use crate::plan::{Job, Maker, PasswordFrom, Plan};
 use clap::builder::ValueParser;
 use clap::error::ErrorKind;
 use clap::{Arg, ArgAction, ArgMatches, Command, value_parser};
@@ -129,7 +129,7 @@ impl<'a> Arguments<'a> {
 pub fn plan(alloc: Global, words: &[String]) -> Result<Plan, UsageFault>
     ensures { Plans (map string_bytes words.now) result }
 {
-    let given = read_words(alloc, words)?;
+    let given = parse(alloc, words)?;
     if given.type_name() == "help" {
         return Ok(Plan::Methods);
     }
@@ -142,7 +142,7 @@ pub fn plan(alloc: Global, words: &[String]) -> Result<Plan, UsageFault>
 }
 
 // Parses the arguments with the command. The error is `clap`'s own. If an allocation failed, its kind is `OutOfMemory`.
-fn read_words<'a>(alloc: Global, words: &'a [String]) -> Result<Arguments<'a>, clap::Error>
+fn parse<'a>(alloc: Global, words: &'a [String]) -> Result<Arguments<'a>, clap::Error>
     ensures ok { IfOk result (λ given. (fault_of command (map string_bytes words.entry.now) ≡ [])
         × (given ≡ matches_of command (map string_bytes words.entry.now))) }
     ensures err { IfErr result (λ error. kind_of error ≢ ErrorKind.OutOfMemory

@@ -99,12 +99,13 @@ rendered Misfit = codes "no"
 rendered NoHash = codes "none"
 rendered Locked = codes "locked"
 
--- counts_text wanted made is a colon and a decimal number for each of four counts of the work of these hashes. It is
--- empty if `wanted` is false.
+-- work_text work is `:digests:bytes:mixes:table` with the counts of this work.
+abbrev pub work_text : Work → List ℕ
+work_text work = flat_map (λ count. colon ∷ decimal count) (work.digests ∷ work.bytes ∷ work.mixes ∷ work.table ∷ [])
+
+-- counts_text wanted made is that of the work of these hashes if `wanted` is true, else empty.
 abbrev pub counts_text : Bool → List Hashing → List ℕ
-counts_text wanted made =
-    let work = after_work no_work made in
-    if wanted then flat_map (λ count. colon ∷ decimal count) (work.digests ∷ work.bytes ∷ work.mixes ∷ work.table ∷ []) else []
+counts_text wanted made = if wanted then work_text (after_work no_work made) else []
 
 -- ---- the hash of a password
 

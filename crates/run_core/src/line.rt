@@ -43,7 +43,7 @@ pub enum LineFault {
     Password(PasswordFault),
     /// The field to check is not empty, does not begin with `!` or `*`, and spells no setting.
     Setting(SettingFault),
-    /// The line can cost more than the budget, which is no rule of the line alone.
+    /// The line can cost more than the budget of the run.
     OverBudget,
 }
 

@@ -13,7 +13,7 @@ ghost use Rattle.crypt_core.specs.Readings.{IsReadOneWay};
 ghost use Rattle.crypt_core.specs.Refusals.{IsRefused};
 ghost use Rattle.crypt_core.specs.Schemes.{sha_method};
 ghost use Rattle.crypt_core.specs.Settings.{SettingValue, IsSettingByte, IsRoundsNumber, IsScryptSalt, SpellsScheme, Spells};
-ghost use Rattle.crypt_core.specs.RoundsLimits.{max_rounds};
+ghost use Rattle.crypt_core.specs.Rounds.{max_rounds};
 ghost use Rattle.crypt_core.specs.TextLimits.{scrypt_part_len};
 
 use super::fault::SettingFault;

@@ -15,7 +15,7 @@ use Rattle.mkpasswd.specs.declared.fault.Fault.{Fault}
 use Rattle.mkpasswd.specs.declared.fault.Fault.TheVariants.{Start, Usage, Run}
 use Rattle.mkpasswd.specs.declared.fault.UsageFault.{UsageFault}
 use Rattle.mkpasswd.specs.declared.fault.UsageFault.TheVariants.{Parse, OutOfMemory}
-use Rattle.mkpasswd.specs.declared.job.Plan.{Plan}
+use Rattle.mkpasswd.specs.declared.plan.Plan.{Plan}
 
 -- The plan needs a generator, and there is none.
 abbrev pub lacks_generator : Bool → Plan → Bool

@@ -3,7 +3,7 @@ ghost use Rattle.crypt_core.specs.Crypt.{crypt};
 ghost use Rattle.crypt_core.specs.MadeSettings.{made_scheme};
 ghost use Rattle.crypt_core.specs.Methods.{method_named};
 ghost use Rattle.crypt_core.specs.declared.method.Method.{Method};
-ghost use Rattle.mkpasswd.specs.Corollaries.{IsNoOption, hash_words};
+ghost use Rattle.mkpasswd.specs.Corollaries.{IsNoOption, hash_arguments};
 ghost use Rattle.prims_core.specs.Work.{IsAtMost};
 ghost use Rattle.run_core.specs.Texts.{as_line};
 
@@ -40,7 +40,7 @@ fn run_on<'a, R: Rng>(
 ) -> Ran<'a>
     requires { (given.turns ≤ 2 ^ 40) × IsAtMost meter.old (2 ^ 100) }
     ensures { (name salt password : List ℕ) → (method : Method) → method_named name ≡ Some method
-        → IsNoOption salt → IsNoOption password → map string_bytes words.now ≡ hash_words name salt password → result.0 ≡ 0
+        → IsNoOption salt → IsNoOption password → map string_bytes words.now ≡ hash_arguments name salt password → result.0 ≡ 0
         → result.1.taken.items ≡ given.entry.writer.taken.items ++ as_line (crypt password (record { scheme = made_scheme method 0; salt = salt })) }
 {
     let mut input = Input::new(given.reader);

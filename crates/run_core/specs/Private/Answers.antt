@@ -1,5 +1,5 @@
 -- The results of the steps that decide an answer.
-use Rattle.std.specs.Prelude.{◌≡◌, ◌≢◌, Bool, ℕ, ◌+◌, ◌<◌, true, false, List, [], ◌∷◌, ◌++◌, decimal, flat_map, if◌then◌else◌, Option, Some, None, Result, Ok, Err}
+use Rattle.std.specs.Prelude.{◌≡◌, ◌≢◌, Bool, ℕ, ◌+◌, ◌<◌, true, false, List, [], ◌∷◌, ◌++◌, decimal, if◌then◌else◌, Option, Some, None, Result, Ok, Err}
 use Rattle.rand_core.specs.Stream.{Stream}
 use Rattle.prims_core.specs.Work.{no_work}
 use Rattle.prims_core.specs.declared.meter.Work.{Work}
@@ -8,7 +8,7 @@ use Rattle.crypt_core.specs.declared.hash.HashFault.{HashFault}
 use Rattle.crypt_core.specs.StoredFields.{StoredHash}
 use Rattle.crypt_core.specs.declared.stored.StoredField.{StoredField}
 use Rattle.crypt_core.specs.declared.stored.StoredField.TheVariants as fields
-use Rattle.run_core.specs.Answers.{Answer, Hashing, IsRefusedAmong, after_work, hashing, is_misfit, is_refusal, new_hash, new_hashing, stream_left}
+use Rattle.run_core.specs.Answers.{Answer, Hashing, IsRefusedAmong, after_work, hashing, is_misfit, is_refusal, new_hash, new_hashing, stream_left, work_text}
 use Rattle.run_core.specs.DeviceCalls.{as_count}
 use Rattle.run_core.specs.LineAnswers.{IsAnswer, answer_of, refusal}
 use Rattle.run_core.specs.Makers.{made_cost_by}
@@ -105,11 +105,7 @@ front_by (Some name) = name ++ colon ∷ []
 abbrev pub count_text : ℕ → List ℕ
 count_text count = colon ∷ decimal count
 
--- work_text work is `:digests:bytes:mixes:table` with the counts of this work.
-abbrev pub work_text : Work → List ℕ
-work_text work = flat_map (λ count. colon ∷ decimal count) (work.digests ∷ work.bytes ∷ work.mixes ∷ work.table ∷ [])
-
--- wanted_text wanted work is the same if `wanted` is true, else empty.
+-- wanted_text wanted work is the text of this work if `wanted` is true, else empty.
 abbrev pub wanted_text : Bool → Work → List ℕ
 wanted_text wanted work = if wanted then work_text work else []
 

@@ -1,7 +1,7 @@
 use Rattle.std.proofs.Common.{◌≡◌, ◌+◌, ◌*◌, length, arith, refl, sym, ◌∙◌, ap}
 use Rattle.prims_core.specs.Digests.{length-md5, md5}
-use Rattle.crypt_core.specs.Md5crypt.{md5crypt_digest, md5crypt_opening}
-use Rattle.crypt_core.specs.Messages.{md5crypt_message, md5crypt_messages, md5crypt_rounds, opening_message}
+use Rattle.crypt_core.specs.Md5crypt.{md5crypt_digest, md5crypt_opening, opening_message}
+use Rattle.crypt_core.specs.Messages.{md5crypt_message, md5crypt_messages, md5crypt_rounds}
 use Rattle.crypt_core.specs.RoundMessage.{round_message, alternate_message}
 use Rattle.crypt_core.specs.Private.Counting.{with_digest}
 use Rattle.crypt_core.specs.Private.RoundStrings.{Strings}

@@ -4,8 +4,8 @@ use Rattle.std.proofs.Common.{◌≡◌, ℕ, List, ◌+◌, ◌≤◌, length, 
 use Rattle.std.specs.List.{refill, repeat}
 use Rattle.std.proofs.lemmas.List.{take_at}
 use Rattle.crypt_core.specs.RoundMessage.{alternate_message}
-use Rattle.crypt_core.specs.Messages.{password_repeated, salt_repeated, sha_opening_message, shacrypt_message, shacrypt_messages}
-use Rattle.crypt_core.specs.ShaCrypt.{password_string, salt_string, sha_opening, shacrypt_digest}
+use Rattle.crypt_core.specs.Messages.{shacrypt_message, shacrypt_messages}
+use Rattle.crypt_core.specs.ShaCrypt.{password_repeated, password_string, salt_repeated, salt_string, sha_opening, sha_opening_message, shacrypt_digest}
 use Rattle.crypt_core.specs.Private.Counting.{with_digest}
 use Rattle.crypt_core.specs.Private.RoundStrings.{Strings}
 use Rattle.crypt_core.proofs.CycleLemmas.{length-cycle, length-repeat}

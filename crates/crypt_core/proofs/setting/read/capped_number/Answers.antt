@@ -1,4 +1,4 @@
-use Rattle.crypt_core.specs.RoundsLimits.{max_rounds}
+use Rattle.crypt_core.specs.Rounds.{max_rounds}
 use Rattle.std.proofs.Common.{ℕ, ◌+◌, ◌*◌, get_or, refl, ap, ◌∙◌}
 use Rattle.std.specs.Prelude.{min}
 use Rattle.crypt_core.proofs.Steps.{capped_more}

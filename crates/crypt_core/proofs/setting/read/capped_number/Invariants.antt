@@ -1,5 +1,5 @@
 -- the number so far is that of the digits so far, or the most rounds if they say more
-use Rattle.crypt_core.specs.RoundsLimits.{max_rounds}
+use Rattle.crypt_core.specs.Rounds.{max_rounds}
 use Rattle.std.proofs.Common.{◌≡◌, take}
 use Rattle.std.specs.Prelude.{min}
 use Rattle.std.specs.Str.Parse.{digits_value}

@@ -13,7 +13,7 @@ use Rattle.mkpasswd.specs.Options.{Refuses, command}
 use Rattle.mkpasswd.proofs.CommandFacts as facts
 use Rattle.mkpasswd.specs.Private.Options.{HavePassed}
 use Rattle.mkpasswd.proofs.PassedValues.{IsOnlyRule, all_free, only_rule, passed}
-use Rattle.mkpasswd.proofs.options.read_words.Goals as goal
+use Rattle.mkpasswd.proofs.options.parse.Goals as goal
 
 -- ---- refusals
 
