@@ -174,6 +174,3 @@ impl Maker {
         self.setting(words)
     }
 }
-
-#[cfg(test)]
-mod tests;
