@@ -136,6 +136,7 @@ subtest 'budgets' => sub {
     fault(1, 'line 1: over budget', \$small, qw(--check --budget 5043));
     answer('s:ok', \$small, qw(--check --budget 5044));
     answer('b:locked', \"b:!:x\n", qw(--check --budget 0));
+    answer('ann:ok', \"ann:$md5:password", qw(--check --budget 36239));
     # The most rounds, and scrypt at its ceiling.
     fault(1, 'line 1: over budget', \"h:$_->[0]\$:$_->[1]", '--check', '--budget', $_->[2]) for
         ['$6$rounds=999999999$saltstringsaltst', 'password', 89523813983], ['$5$rounds=999999999$saltstringsaltst', 'password', 57523813983],

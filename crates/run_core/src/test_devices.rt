@@ -25,9 +25,14 @@ pub enum Call {
     Failed,
 }
 
-// Returns whether the call after these is the one that fails, counted from 1, or 0 for none.
-fn fails_next(calls: &[Call], fails_at: usize) -> bool {
-    calls.len().saturating_add(1) == fails_at
+// Records a call, or an error in its place if it is the one that fails, counted from 1.
+fn record(calls: &mut Vec<Call>, fails_at: usize, call: Call) -> io::Result<()> {
+    if calls.len().saturating_add(1) == fails_at {
+        calls.push(Call::Failed)?;
+        return Err(io::Error::from(FAILURE));
+    }
+    calls.push(call)?;
+    Ok(())
 }
 
 /// A writer that takes at most a given number of bytes a call, and may fail at one call.
@@ -71,23 +76,18 @@ impl Write for MemoryWriter {
     ghost contents = { λ writer. Some writer.taken.items };
 
     fn write(&mut self, buf: &[u8]) -> io::Result<usize> {
-        if fails_next(self.calls.as_slice(), self.fails_at) {
-            self.calls.push(Call::Failed)?;
-            return Err(io::Error::from(FAILURE));
-        }
         let count = buf.len().min(self.most);
-        self.calls.push(Call::Moved(buf.len(), count))?;
+        record(
+            &mut self.calls,
+            self.fails_at,
+            Call::Moved(buf.len(), count),
+        )?;
         self.taken.extend_from_slice(&buf[..count])?;
         Ok(count)
     }
 
     fn flush(&mut self) -> io::Result<()> {
-        if fails_next(self.calls.as_slice(), self.fails_at) {
-            self.calls.push(Call::Failed)?;
-            return Err(io::Error::from(FAILURE));
-        }
-        self.calls.push(Call::Flushed)?;
-        Ok(())
+        record(&mut self.calls, self.fails_at, Call::Flushed)
     }
 }
 
@@ -156,16 +156,13 @@ impl Read for MemoryReader<'_> {
     ghost remaining = { λ reader. reader };
 
     fn read(&mut self, buf: &mut [u8]) -> io::Result<usize> {
-        if fails_next(self.calls.as_slice(), self.fails_at) {
-            self.calls.push(Call::Failed)?;
-            return Err(io::Error::from(FAILURE));
-        }
         if self.is_repeated && self.left.is_empty() {
             self.left = self.bytes;
         }
-        let count = buf.len().min(self.most);
-        self.calls
-            .push(Call::Moved(buf.len(), count.min(self.left.len())))?;
+        let room = buf.len();
+        let count = room.min(self.most);
+        let given = count.min(self.left.len());
+        record(&mut self.calls, self.fails_at, Call::Moved(room, given))?;
         self.left.read(&mut buf[..count])
     }
 }

@@ -13,7 +13,7 @@ mod pieces;
 use crate::device::{Input, Output};
 use crate::fault::RunFault;
 use crate::job::{Job, Maker, PasswordFrom};
-use crate::line::LINE_LIMIT;
+use crate::line::{Kind, LINE_LIMIT, inspect};
 use crate::lines::{run_batch, run_check};
 use crate::methods::run_methods;
 use crate::one::run_one;
@@ -86,8 +86,6 @@ const ANN: &str = "ann:$1$xxxxxxxx$UYCIxa628.9qXjpQCjM4a.\n";
 
 const HASHES: &str =
     "ann:$1$xxxxxxxx$UYCIxa628.9qXjpQCjM4a.\nbob:$1$xxxxxxxx$UYCIxa628.9qXjpQCjM4a.\n";
-
-const STORED: &str = "ann:$1$xxxxxxxx$UYCIxa628.9qXjpQCjM4a.:password\n";
 
 const NO_NAME: &str = "mkpasswd: line 2: no name\n";
 
@@ -313,7 +311,7 @@ fn draws_and_counts(rt: HostRuntime) -> Result<(), Fail> {
     };
     let over = "mkpasswd: line 1: over budget\n";
     // The run, its input and outcome, both outputs, the next random number, and the digests: without any, all counts are 0.
-    let rows: [(Asked<'_>, &str, Outcome, &str, &str, u64, u128); 9] = [
+    let rows: [(Asked<'_>, &str, Outcome, &str, &str, u64, u128); 8] = [
         (
             salting(BATCH),
             "ann:password\n:x\nbob:password\n",
@@ -343,17 +341,8 @@ fn draws_and_counts(rt: HostRuntime) -> Result<(), Fail> {
             0,
         ),
         (
-            within(salting(BATCH), 36239),
-            "ann:password",
-            Ok((1, 0, 0)),
-            "ann:$1$/0......$2QlZKnFqVuhWmzlYGl.px0\n",
-            "",
-            130,
-            1002,
-        ),
-        (
             within(CHECK, 36238),
-            STORED,
+            "ann:$1$xxxxxxxx$UYCIxa628.9qXjpQCjM4a.:password",
             Ok((1, 1, 0)),
             "",
             over,
@@ -400,4 +389,23 @@ fn draws_and_counts(rt: HostRuntime) -> Result<(), Fail> {
         );
     }
     Ok(())
+}
+
+// By the rules by which the runs refuse lines.
+#[test]
+fn inspects_lines(rt: HostRuntime) {
+    let rows: [(Kind, &[u8], Option<&str>); 8] = [
+        (Kind::Batch, b"ann:a:b", None),
+        (Kind::Batch, b"ann", Some("no password field")),
+        (Kind::Batch, &[b'a'; 2049], Some("line too long")),
+        (Kind::Check, b"a:!a b:x", None),
+        (Kind::Check, &[b'a'; 65], Some("name too long")),
+        (Kind::Check, b"a:!:\0", Some("password has a zero byte")),
+        (Kind::Check, b"a:$5$rounds=0$a b:x", Some("bad character")),
+        (Kind::Check, b"a:$7$J6..../....a_b:x", Some("above ceiling")),
+    ];
+    for (kind, line, text) in rows {
+        let fault = inspect(kind, line);
+        assert_eq!(rt; fault.map(|fault| fault.text()), text, "{line:?}");
+    }
 }

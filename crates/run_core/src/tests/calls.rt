@@ -148,19 +148,7 @@ fn calls_in_order_over_lines(rt: HostRuntime) -> Result<(), Fail> {
         out: "b:locked\nc:none\nd:no\n",
         faults: "mkpasswd: line 4: no password field\n",
     };
-    let rows = [
-        ("a batch", batch),
-        ("a check", check),
-        (
-            "an output that takes nothing",
-            Listed {
-                by: (ALL, 0),
-                steps: &[read(512, 59), write(9, 0)],
-                outcome: Err("write fault"),
-                ..check
-            },
-        ),
-    ];
+    let rows = [("a batch", batch), ("a check", check)];
     for (what, listed) in rows {
         want_steps(&rt, rt.alloc(), what, listed)?;
     }

@@ -84,7 +84,7 @@ fn stops_with_its_turns(rt: HostRuntime) -> Result<(), Fail> {
     let line = "ann:password\n";
     // The input, whether it is repeated for ever, the most bytes of a read and a write, the turns, the outcome, and a
     // text with the number of times that the output has it.
-    let rows: [(Asked<'_>, &str, bool, [usize; 2], u64, Outcome, &str, usize); 14] = [
+    let rows: [(Asked<'_>, &str, bool, [usize; 2], u64, Outcome, &str, usize); 15] = [
         (BATCH, "", false, [ALL, ALL], 0, TURNS, "", 0),
         (BATCH, "", false, [ALL, ALL], 1, Ok((0, 0, 0)), "", 0),
         (BATCH, line, false, [ALL, ALL], 1, TURNS, "", 0),
@@ -96,6 +96,7 @@ fn stops_with_its_turns(rt: HostRuntime) -> Result<(), Fail> {
         (BY_INPUT, "a", true, [1, ALL], 1024, TURNS, "", 0),
         (BY_INPUT, "a", true, [1, ALL], 1025, TOO_LONG, "", 0),
         (BY_WORD, "", false, [ALL, 1], 10, TURNS, "$1$xxxxxxx", 1),
+        (BY_WORD, "", false, [ALL, 0], 10, Err("write fault"), "", 0),
         (methods, "", false, [ALL, ALL], 0, TURNS, "", 0),
         (methods, "", false, [ALL, 25], 2, TURNS, begun, 1),
         (methods, "", false, [ALL, 25], 3, Ok((0, 0, 0)), list, 1),
