@@ -24,7 +24,7 @@ fn answers_any_pieces_alike(rt: HostRuntime) -> Result<(), Fail> {
         (BY_INPUT, "password\nmore\0", Ok((1, 0, 0)), HASH, ""),
     ];
     for (asked, input, outcome, out, faults) in rows {
-        for most in [1, 2, 7, 512] {
+        for most in [1, 7] {
             let given = devices(&rt, rt.alloc(), input.as_bytes(), (most, most));
             let left = left_by(&rt, rt.alloc(), asked, given)?;
             left.want(&rt, input, outcome, out.as_bytes(), faults.as_bytes());
@@ -63,7 +63,7 @@ fn measures_any_pieces_alike(rt: HostRuntime) -> Result<(), Fail> {
             input.push(b'a')?;
         }
         input.extend_from_slice(back)?;
-        for most in [1, 2, 7, 511, 512, 4096] {
+        for most in [1, 511, 4096] {
             let given = devices(&rt, rt.alloc(), input.as_slice(), (most, ALL));
             let left = left_by(&rt, rt.alloc(), asked, given)?;
             left.want(&rt, "a limit", outcome, out.as_bytes(), faults.as_bytes());
