@@ -293,6 +293,3 @@ fn operand<'a>(alloc: Global, id: &'a str, value_name: &'a str, help: &'a str) -
         .action(ArgAction::Set)
         .help(help)
 }
-
-#[cfg(test)]
-pub(crate) mod tests;

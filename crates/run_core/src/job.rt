@@ -170,6 +170,3 @@ impl Maker {
         }
     }
 }
-
-#[cfg(test)]
-mod tests;

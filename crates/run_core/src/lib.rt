@@ -15,5 +15,5 @@ pub mod tally;
 #[cfg(test)]
 mod test_devices;
 #[cfg(test)]
-mod test_given;
+mod tests;
 pub mod transfer;

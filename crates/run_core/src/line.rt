@@ -182,6 +182,3 @@ fn cut(text: &[u8]) -> Option<(&[u8], &[u8])>
     let end = text.iter().position(|byte| *byte == b':')?;
     Some((&text[..end], &text[end + 1..]))
 }
-
-#[cfg(test)]
-pub(crate) mod tests;

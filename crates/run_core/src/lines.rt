@@ -233,6 +233,3 @@ fn count_and_write<O: Write, E: Write>(
         }
     }
 }
-
-#[cfg(test)]
-mod tests;

@@ -105,6 +105,3 @@ fn obtain<I: Read>(
         PasswordFrom::Input => read_password(input, left),
     }
 }
-
-#[cfg(test)]
-mod tests;

@@ -1,11 +1,8 @@
-//! Devices over memory, and a generator of known numbers, for tests. A device exposes its contents to contracts and
-//! records its calls. It fails with a kind of error that the test chooses, so that the test can tell it from any other.
+//! Devices over memory, and a generator of known numbers, for tests. A device exposes its contents to contracts, records
+//! its calls, and can fail at one of them.
 ghost use Rattle.std.specs.Prelude.{◌≡◌, ◌<◌, Some, None, drop, slice_index};
 ghost use Rattle.rand_core.specs.Steps.{stream_of, steps_u64_low};
 
-pub mod calls;
-
-use calls::Call;
 use rand_core::Rng;
 use rand_core::utils::{NextWord, fill_bytes_via_u64};
 use std::alloc::Global;
@@ -13,62 +10,54 @@ use std::io;
 use std::io::{ErrorKind, Read, Write};
 use std::marker::Model;
 
-/// Returns the kind of the error, if there is one.
-pub fn fault_of<T: Drop>(answer: io::Result<T>) -> Option<ErrorKind> {
-    match answer {
-        Ok(_) => None,
-        Err(error) => Some(error.kind()),
-    }
+/// The error of a call that the test makes fail, which nothing may try again.
+pub const FAILURE: ErrorKind = ErrorKind::Interrupted;
+
+/// More bytes than any call moves.
+pub const ALL: usize = usize::MAX;
+
+/// A call of a device.
+#[derive(Clone, Copy, Debug, PartialEq, Eq)]
+pub enum Call {
+    /// A read or a write: the bytes that it was for, and those that it moved.
+    Moved(usize, usize),
+    Flushed,
+    Failed,
 }
 
-/// The call at which a device fails, counted from 1, and the kind of its error.
-type Fault = Option<(u64, ErrorKind)>;
-
-// Returns the kind of the error if the call after these is the one that fails.
-fn fault_behind(calls: &[Call], fault: Fault) -> Option<ErrorKind> {
-    match fault {
-        Some((call, kind)) if call == (calls.len() as u64).saturating_add(1) => Some(kind),
-        _ => None,
+// Records a call, or an error in its place if it is the one that fails, counted from 1.
+fn record(calls: &mut Vec<Call>, fails_at: usize, call: Call) -> io::Result<()> {
+    if calls.len().saturating_add(1) == fails_at {
+        calls.push(Call::Failed)?;
+        return Err(io::Error::from(FAILURE));
     }
+    calls.push(call)?;
+    Ok(())
 }
 
-/// A writer that takes at most a given number of bytes a call, and may fail at one call or at its flush.
+/// A writer that takes at most a given number of bytes a call, and may fail at one call.
 #[derive(Drop)]
 pub struct MemoryWriter {
     taken: Vec<u8>,
     calls: Vec<Call>,
     most: usize,
-    fault: Fault,
-    flush_fault: Option<ErrorKind>,
+    fails_at: usize,
 }
 
 impl MemoryWriter {
-    /// Returns a writer that takes every byte.
-    pub fn new(alloc: Global) -> MemoryWriter {
+    /// Returns a writer that takes at most `most` bytes a call.
+    pub fn new(alloc: Global, most: usize) -> MemoryWriter {
         MemoryWriter {
             taken: Vec::new(alloc),
             calls: Vec::new(alloc),
-            most: usize::MAX,
-            fault: None,
-            flush_fault: None,
+            most,
+            fails_at: 0,
         }
     }
 
-    /// Limits each call to `most` bytes.
-    pub fn by(mut self, most: usize) -> MemoryWriter {
-        self.most = most;
-        self
-    }
-
-    /// Makes this call, counted from 1, fail with an error of this kind.
-    pub fn failing_at(mut self, call: u64, kind: ErrorKind) -> MemoryWriter {
-        self.fault = Some((call, kind));
-        self
-    }
-
-    /// Makes each flush fail with an error of this kind.
-    pub fn failing_flush(mut self, kind: ErrorKind) -> MemoryWriter {
-        self.flush_fault = Some(kind);
+    /// Makes this call fail, counted from 1, or none if it is 0.
+    pub fn failing_at(mut self, call: usize) -> MemoryWriter {
+        self.fails_at = call;
         self
     }
 
@@ -88,29 +77,23 @@ impl Write for MemoryWriter {
 
     fn write(&mut self, buf: &[u8]) -> io::Result<usize> {
         let count = buf.len().min(self.most);
-        if let Some(kind) = fault_behind(self.calls.as_slice(), self.fault) {
-            self.calls.push(Call::Write(buf.len(), Err(kind)))?;
-            return Err(io::Error::from(kind));
-        }
-        self.calls.push(Call::Write(buf.len(), Ok(count)))?;
+        record(
+            &mut self.calls,
+            self.fails_at,
+            Call::Moved(buf.len(), count),
+        )?;
         self.taken.extend_from_slice(&buf[..count])?;
         Ok(count)
     }
 
     fn flush(&mut self) -> io::Result<()> {
-        let fault = fault_behind(self.calls.as_slice(), self.fault).or(self.flush_fault);
-        if let Some(kind) = fault {
-            self.calls.push(Call::Flush(Err(kind)))?;
-            return Err(io::Error::from(kind));
-        }
-        self.calls.push(Call::Flush(Ok(())))?;
-        Ok(())
+        record(&mut self.calls, self.fails_at, Call::Flushed)
     }
 }
 
-/// A reader of given bytes, which returns at most a given number of them a call.
+/// A reader of given bytes, which returns at most a given number of them a call, and may fail at one call.
 ///
-/// It may fail at one call. Contracts see the bytes that it has left, or `None` if it repeats them for ever.
+/// Contracts see the bytes that it has left, or `None` if it repeats them for ever.
 #[derive(Drop)]
 pub struct MemoryReader<'a> {
     bytes: &'a [u8],
@@ -118,7 +101,7 @@ pub struct MemoryReader<'a> {
     calls: Vec<Call>,
     is_repeated: bool,
     most: usize,
-    fault: Fault,
+    fails_at: usize,
 }
 
 impl<'a> Model for MemoryReader<'a> {
@@ -132,8 +115,9 @@ impl<'a> Model for MemoryReader<'a> {
 }
 
 impl<'a> MemoryReader<'a> {
-    /// Returns a reader of these bytes, each of which it returns once.
-    pub fn new(alloc: Global, bytes: &'a [u8]) -> MemoryReader<'a>
+    /// Returns a reader of these bytes, which gives at most `most` a call; with 0 it would be at its end.
+    pub fn new(alloc: Global, bytes: &'a [u8], most: usize) -> MemoryReader<'a>
+        requires { 0 < most }
         ensures { result ≡ Some bytes.now }
     {
         MemoryReader {
@@ -141,8 +125,8 @@ impl<'a> MemoryReader<'a> {
             left: bytes,
             calls: Vec::new(alloc),
             is_repeated: false,
-            most: usize::MAX,
-            fault: None,
+            most,
+            fails_at: 0,
         }
     }
 
@@ -154,20 +138,11 @@ impl<'a> MemoryReader<'a> {
         self
     }
 
-    /// Limits each call to `most` bytes; with 0 the reader is at its end.
-    pub fn by(mut self, most: usize) -> MemoryReader<'a>
-        requires { 0 < most }
+    /// Makes this call fail, counted from 1, or none if it is 0.
+    pub fn failing_at(mut self, call: usize) -> MemoryReader<'a>
         ensures { result ≡ self.entry }
     {
-        self.most = most;
-        self
-    }
-
-    /// Makes this call, counted from 1, fail with an error of this kind.
-    pub fn failing_at(mut self, call: u64, kind: ErrorKind) -> MemoryReader<'a>
-        ensures { result ≡ self.entry }
-    {
-        self.fault = Some((call, kind));
+        self.fails_at = call;
         self
     }
 
@@ -181,16 +156,13 @@ impl Read for MemoryReader<'_> {
     ghost remaining = { λ reader. reader };
 
     fn read(&mut self, buf: &mut [u8]) -> io::Result<usize> {
-        if let Some(kind) = fault_behind(self.calls.as_slice(), self.fault) {
-            self.calls.push(Call::Read(buf.len(), Err(kind)))?;
-            return Err(io::Error::from(kind));
-        }
         if self.is_repeated && self.left.is_empty() {
             self.left = self.bytes;
         }
-        let count = buf.len().min(self.most);
+        let room = buf.len();
+        let count = room.min(self.most);
         let given = count.min(self.left.len());
-        self.calls.push(Call::Read(buf.len(), Ok(given)))?;
+        record(&mut self.calls, self.fails_at, Call::Moved(room, given))?;
         self.left.read(&mut buf[..count])
     }
 }
@@ -215,13 +187,6 @@ impl<'a> ListedWords<'a> {
         ensures { result ≡ words.now }
     {
         ListedWords { left: words }
-    }
-
-    /// Returns the next number without drawing it.
-    pub fn peek(&self) -> u64
-        ensures { result ≡ slice_index self.now 0 }
-    {
-        self.left.first().copied().unwrap_or(0)
     }
 }
 
@@ -252,19 +217,5 @@ impl Rng for ListedWords<'_> {
 
     fn fill_bytes(&mut self, dst: &mut [u8]) {
         fill_bytes_via_u64(self, dst)
-    }
-}
-
-mod tests {
-    use super::*;
-
-    #[test]
-    fn begins_again(rt: HostRuntime) {
-        let mut reader = MemoryReader::new(rt.alloc(), b"abc").by(2).repeated();
-        let mut buffer = [b'.'; 3];
-        for (count, gave) in [(2, *b"ab."), (1, *b"cb."), (2, *b"ab.")] {
-            let given = reader.read(&mut buffer).ok();
-            assert_eq!(rt; (given, buffer), (Some(count), gave));
-        }
     }
 }

@@ -133,6 +133,3 @@ pub(crate) fn finish_both<O: Write, E: Write>(
     };
     Ok(())
 }
-
-#[cfg(test)]
-mod tests;

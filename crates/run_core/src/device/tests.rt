@@ -1,103 +1,65 @@
-ghost use Rattle.std.specs.Prelude.{◌≡◌, IfOk, IfSome, take};
-
 use super::*;
-use crate::test_devices::calls::Call;
-use crate::test_devices::{MemoryReader, MemoryWriter, fault_of};
+use crate::test_devices::{Call, FAILURE, MemoryReader, MemoryWriter};
 use std::io::ErrorKind;
-use std::test::Fail;
 
-// Reads once from a reader that exposes its contents. That their first bytes are in the buffer follows from the clauses
-// of `fetch` alone.
-fn fetch_once(reader: MemoryReader<'_>, buffer: &mut [u8]) -> io::Result<usize>
-    ensures { IfOk result (λ n. IfSome reader.entry (λ bytes. take n buffer.new ≡ take n bytes)) }
-{
-    Input::new(reader).fetch(buffer)
+// Returns the number of bytes that a call moved, or the kind of its error.
+fn told(answer: io::Result<usize>) -> Result<usize, ErrorKind> {
+    answer.map_err(|error| error.kind())
 }
 
+// Each call of the wrapper is one call of the device, with the whole buffer, and returns what that returned.
 #[test]
-fn hands_on_the_whole_buffer(rt: HostRuntime) {
-    let mut buffer = [b'.'; 3];
-    let answer = fetch_once(MemoryReader::new(rt.alloc(), b"abcd"), &mut buffer);
-    assert_eq!(rt; answer.ok(), Some(3));
-    assert_eq!(rt; buffer, *b"abc");
-}
-
-#[test]
-fn asks_for_nothing_too(rt: HostRuntime) {
-    let mut input = Input::new(MemoryReader::new(rt.alloc(), b"abcd"));
-    let answer = input.fetch(&mut []).ok();
-    assert_eq!(rt; (answer, input.failures()), (Some(0), 0));
-    assert_eq!(rt;
-        input.into_inner().calls(),
-        [Call::Read(0, Ok(0))].as_slice()
-    );
-}
-
-#[test]
-fn counts_what_an_input_saw(rt: HostRuntime) {
-    let reader = MemoryReader::new(rt.alloc(), b"abcd")
-        .by(3)
-        .failing_at(2, ErrorKind::PermissionDenied);
+fn hands_on_each_read(rt: HostRuntime) {
+    let reader = MemoryReader::new(rt.alloc(), b"abcd", 3).failing_at(2);
     let mut input = Input::new(reader);
     let mut buffer = [b'.'; 4];
-    let first = input.fetch(&mut buffer).ok();
-    let failed = fault_of(input.fetch(&mut buffer));
-    let rest = input.fetch(&mut buffer).ok();
-    let end = input.fetch(&mut buffer).ok();
+    let first = told(input.fetch(&mut buffer));
+    let failed = told(input.fetch(&mut buffer));
+    let rest = told(input.fetch(&mut buffer));
+    let end = told(input.fetch(&mut buffer));
     assert_eq!(rt;
         (first, failed, rest, end),
-        (Some(3), Some(ErrorKind::PermissionDenied), Some(1), Some(0)),
-        "the failed call's own error"
+        (Ok(3), Err(FAILURE), Ok(1), Ok(0))
     );
     assert_eq!(rt; (buffer, input.failures()), (*b"dbc.", 1));
     assert_eq!(rt;
         input.into_inner().calls(),
         [
-            Call::Read(4, Ok(3)),
-            Call::Read(4, Err(ErrorKind::PermissionDenied)),
-            Call::Read(4, Ok(1)),
-            Call::Read(4, Ok(0))
+            Call::Moved(4, 3),
+            Call::Failed,
+            Call::Moved(4, 1),
+            Call::Moved(4, 0)
         ]
-        .as_slice(),
-        "a call each"
+        .as_slice()
     );
 }
 
 #[test]
-fn counts_what_an_output_saw(rt: HostRuntime) -> Result<(), Fail> {
-    let mut writer = MemoryWriter::new(rt.alloc())
-        .by(2)
-        .failing_at(2, ErrorKind::PermissionDenied)
-        .failing_flush(ErrorKind::BrokenPipe);
-    let mut out = Output::new(&mut writer);
-    let first = out.give(b"abc").ok();
-    let failed = fault_of(out.give(b"c"));
-    let empty = out.give(b"").ok();
-    let unflushed = fault_of(out.flush());
-    let failures = out.failures();
-    drop(out);
-    assert_eq!(rt;
-        (first, failed, empty, unflushed, failures),
-        (
-            Some(2),
-            Some(ErrorKind::PermissionDenied),
-            Some(0),
-            Some(ErrorKind::BrokenPipe),
-            2
-        ),
-        "the failed calls' own errors, and no failure of an empty piece"
-    );
+fn hands_on_each_write(rt: HostRuntime) {
+    let mut out = Output::new(MemoryWriter::new(rt.alloc(), 2).failing_at(2));
+    let first = told(out.give(b"abc"));
+    let failed = told(out.give(b"c"));
+    let empty = told(out.give(b""));
+    assert_eq!(rt; (first, failed, empty), (Ok(2), Err(FAILURE), Ok(0)));
+    assert_eq!(rt; out.failures(), 1);
+    let writer = out.into_inner();
     assert_eq!(rt; writer.taken(), b"ab".as_slice());
     assert_eq!(rt;
         writer.calls(),
-        [
-            Call::Write(3, Ok(2)),
-            Call::Write(1, Err(ErrorKind::PermissionDenied)),
-            Call::Write(0, Ok(0)),
-            Call::Flush(Err(ErrorKind::BrokenPipe))
-        ]
-        .as_slice(),
-        "a call each"
+        [Call::Moved(3, 2), Call::Failed, Call::Moved(0, 0)].as_slice()
     );
-    Ok(())
+}
+
+// A piece of which no byte is taken is a failure, unless it is empty; to read nothing is none.
+#[test]
+fn counts_failures(rt: HostRuntime) {
+    let mut input = Input::new(MemoryReader::new(rt.alloc(), b"abcd", 3));
+    let nothing = told(input.fetch(&mut []));
+    assert_eq!(rt; (nothing, input.failures()), (Ok(0), 0));
+    let mut full = Output::new(MemoryWriter::new(rt.alloc(), 0));
+    let taken = told(full.give(b"a"));
+    assert_eq!(rt; (taken, full.failures()), (Ok(0), 1));
+    let mut out = Output::new(MemoryWriter::new(rt.alloc(), 2).failing_at(1));
+    let kind = out.flush().map_err(|error| error.kind());
+    assert_eq!(rt; (kind, out.failures()), (Err(FAILURE), 1));
 }

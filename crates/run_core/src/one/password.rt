@@ -88,6 +88,3 @@ fn fetch_after<I: Read>(
 {
     fetch_piece(input, &mut buffer[filled..], left)
 }
-
-#[cfg(test)]
-mod tests;

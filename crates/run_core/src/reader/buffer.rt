@@ -34,6 +34,3 @@ impl LineBuffer {
         }
     }
 }
-
-#[cfg(test)]
-mod tests;
