@@ -4,7 +4,7 @@
 # make web         builds build/mkpasswd.html, a page that makes and checks hashes in a browser
 # make install     installs all of it below PREFIX (default /usr/local); make uninstall removes it
 # make test        tests what is built: T=tests/lines.t one file; with STRICT=1 a tool that is missing is a failure
-# make check       every check there is: layers, gate, tests, planted faults; with ANEW=1 the gate proves everything anew
+# make check       every check there is: layers, gate, tests; with ANEW=1 the gate proves everything anew
 # make bench       measures against libxcrypt, with the options in BENCH
 # make soak        answers LINES random lines of each kind, by SEED; make fuzz makes random calls, for FUZZ_SECONDS each
 # make specification, make mutants    write build/SPECIFICATION.md and build/MUTANTS.md; make site all documents as web pages
@@ -36,7 +36,7 @@ TRIED = $(BUILT) $(PACKED) $(if $(findstring /,$(shell aarch64-linux-gnu-gcc -pr
 export DESTDIR PREFIX LIBDIR ARCHIVE RT
 
 SLOW = tests/deb.t tests/arm.t tests/python.t tests/parallel.t tests/guard.t
-T = $(SLOW) $(filter-out tests/planted.t $(SLOW),$(wildcard tests/*.t))
+T = $(SLOW) $(filter-out $(SLOW),$(wildcard tests/*.t))
 # A test that takes more than an hour hangs.
 PROVE = PERL5LIB=tests/lib prove --harness Tally --exec 'timeout --foreground 3600 perl' -j4
 
@@ -134,7 +134,7 @@ test: $(TRIED)
 
 # The layers, the specification and the gate come first, since they need nothing built.
 check: layers gate $(TRIED)
-	$(PROVE) tests/planted.t $(filter-out tests/layers.t,$(T))
+	$(PROVE) $(filter-out tests/layers.t,$(T))
 
 layers: specification
 	$(PROVE) tests/layers.t
