@@ -34,10 +34,8 @@ TRIED = $(BUILT) $(PACKED) $(if $(findstring /,$(shell aarch64-linux-gnu-gcc -pr
 # The scripts take these from the environment, whatever characters they have.
 export DESTDIR PREFIX LIBDIR ARCHIVE RT
 
-SLOW = tests/deb.t tests/arm.t tests/python.t tests/parallel.t tests/guard.t
+SLOW = tests/deb.t tests/arm.t tests/python tests/parallel.t tests/guard.t
 T = $(SLOW) $(filter-out $(SLOW),$(wildcard tests/*.t))
-# A test that takes more than an hour hangs.
-PROVE = PERL5LIB=tests/lib prove --harness Tally --exec 'timeout --foreground 3600 perl' -j4
 
 .PHONY: all run static lib guard web fuzz test check layers specification site gate bench soak install uninstall dist \
 	image wheel deb clean FORCE
@@ -129,14 +127,14 @@ fuzz: $(FUZZERS)
 	done
 
 test: $(TRIED)
-	$(PROVE) $(T)
+	tools/test $(T)
 
 # The layers, the specification and the gate come first, since they need nothing built.
 check: layers gate $(TRIED)
-	$(PROVE) $(filter-out tests/layers.t,$(T))
+	tools/test $(T)
 
 layers: specification
-	$(PROVE) tests/layers.t
+	tools/test tests/layers.t
 
 specification: build/SPECIFICATION.md
 
