@@ -67,7 +67,7 @@ subtest 'archive' => sub {
     is_run(run({ dir => $tree }, qw(sha256sum --quiet -c), $sums), 0, '', '', 'the sums are right');
     my @summed = slurp("$tree/$sums") =~ /^[0-9a-f]{64}  (.*)$/mg;
     is_deeply([sort @summed], [grep { $_ ne $sums && !-l "$tree/$_" } files_in($tree)], 'a sum of each file');
-    ok(-s "$documents/html/$_", "it has $_") for qw(index.html site.css mkpasswd.1.html specification-scrypt.html);
+    ok(-s "$documents/html/$_", "it has $_") for qw(index.html site.css mkpasswd.1.html specification.html);
     is(run('grep', '-rlF', '--', "$root/", $tree)->{out}, '', 'no file names the folder that it was built in');
     for (glob "$tree/share/man/man*/*") {
         my $manual = slurp($_) =~ /\A\.so (\S+)\n\z/ ? "$tree/share/man/$1" : $_;
