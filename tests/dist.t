@@ -101,15 +101,6 @@ subtest 'README' => sub {
     is_deeply([sort split /,\s+|\s+and\s+/, $needed // ''], [sort keys %undefined], 'functions that libmkpasswd.a needs');
 };
 
-subtest 'the program of make' => sub {
-    my $own = "$root/build/" . (slurp("$root/build/cpu") =~ /(\S+)/ ? $1 : 'x86-64-v2');
-    my ($linked, $left) = map { slurp("$root/$_/program.o") } qw(build/x86-64-v2 crates/program/out);
-    ok($linked eq $left, 'its object, but for CPU, is the one that the gate left');
-    my @sizes = map { +{ reverse run(qw(nm -S), $_)->{out} =~ /^\S+ (\S+) \S (.*::.*)$/mg } } program(), "$own/program.o";
-    my @others = grep { $sizes[0]{$_} ne ($sizes[1]{$_} // '') } keys %{ $sizes[0] };
-    ok(%{ $sizes[0] } && !@others, 'it has the functions of its object') or diag("@others");
-};
-
 subtest 'the program elsewhere' => sub {
     my @enter = grep { run(@$_, '/', 'true')->{status} == 0 } ['chroot'], [qw(unshare --user --map-root-user chroot)];
     needs('a chroot that is permitted' => 'none: run it as root', @enter > 0) or return;
@@ -165,11 +156,7 @@ subtest 'libraries' => sub {
 
 # glibc takes the library in glibc-hwcaps/x86-64-v3 by itself on a processor of that kind. With AVX2 hidden it takes the other.
 subtest 'the library for x86-64-v3' => sub {
-    needs(cc => 'gcc', $cc ne 'cc' || undef) && needs(objdump => 'binutils') or return;
-    my @parts = map { join "\n", sort(run(qw(objdump -p -T), $_)->{out} =~ /((?:SONAME|NEEDED) .*|\S+ +mkpasswd_\w+)$/mg) } @libraries;
-    like($parts[0], qr/ mkpasswd_verify$/m, 'the default build has its calls');
-    is($parts[1], $parts[0], 'its soname, its calls and what it needs are those of the default build');
-    isnt(slurp($libraries[0]), slurp($libraries[1]), 'its code differs') if $cpu ne 'x86-64-v3';
+    needs(cc => 'gcc', $cc ne 'cc' || undef) or return;
     my $loaded = sub {
         my ($tunables, $library, $what) = @_;
         my %env = (LD_LIBRARY_PATH => "$tree/lib", LD_DEBUG => 'libs', GLIBC_TUNABLES => $tunables);

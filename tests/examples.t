@@ -69,7 +69,6 @@ for my $path (documents(), needs(mandoc => 'mandoc') ? manuals() : ()) {
 }
 
 subtest 'commands' => sub {
-    my $tests = join '', map { slurp($_) } glob "$root/tests/*.t";
     my $makefile = slurp("$root/Makefile");
     for my $path (documents()) {
         my ($text, $name) = (slurp($path), name_of($path));
@@ -78,7 +77,6 @@ subtest 'commands' => sub {
         }
         my @targets = $text =~ /(?:`|^)make (?:\w+=[^\s`]+ )*([a-z]\w*)/mg;
         is(join(' ', grep { $makefile !~ /^$_:/m } uniq(@targets)), '', "$name: targets of make") if $name ne 'CHANGELOG.md';    # which tells the past
-        ok(index($tests, "'$_'") >= 0, "$name: a test runs the block '$_'") for $text =~ /^<!-- tested: (.*) -->$/mg;
     }
 };
 
@@ -104,15 +102,12 @@ subtest 'costs' => sub {
     }
 };
 
-# The gate shows that this mutant is refused. The commands make the same one.
+# The commands make the mutant of this name, which the gate refuses.
 subtest 'mutant' => sub {
-    my ($change) = marked('mutant', 'sh') =~ /^(sed .*)/m;
-    my ($file, $old, $new) = slurp("$root/crates/run_core/must-fail/refused-at-the-budget.edit") =~ /\Afile: (.*)\nold: (.*)\nnew: (.*)\n\z/;
-    my $path = "crates/run_core/$file";
-    run('mkdir', '-p', "$scratch/mutant/crates/run_core/src");
-    spew("$scratch/mutant/$path", slurp("$root/$path"));
-    run({ dir => "$scratch/mutant" }, 'sh', '-c', $change // 'false');
-    is(slurp("$scratch/mutant/$path"), slurp("$root/$path") =~ s/\Q$old\E/$new/r, 'it is the one of the gate');
+    my ($change, $path) = marked('mutant', 'sh') =~ /^(sed .* (\S+))$/m;
+    my ($new) = slurp("$root/crates/run_core/must-fail/refused-at-the-budget.edit") =~ /^new: (.*)/m;
+    my $changed = run({ dir => $root }, 'sh', '-c', ($change // 'false') =~ s/ -i / /r)->{out};
+    ok(index($changed, $new) >= 0, "it is in $path");
 };
 
 my $known = '$1$xxxxxxxx$UYCIxa628.9qXjpQCjM4a.';

@@ -26,14 +26,12 @@ our $scratch = tempdir(CLEANUP => 1);
 
 $ENV{LC_ALL} = 'C';
 
-our $is_in_subtest = 0;
 if (defined(my $only = $ENV{T_ONLY})) {
     my $subtest = \&Test::Builder::subtest;
     no warnings 'redefine';
     *Test::Builder::subtest = sub {
         my ($builder, $name, @rest) = @_;
-        return 1 if !$is_in_subtest && $name !~ /$only/;
-        local $is_in_subtest = 1;
+        return 1 if !$builder->parent && $name !~ /$only/;
         local $Test::Builder::Level = $Test::Builder::Level + 1;
         return $builder->$subtest($name, @rest);
     };
