@@ -106,12 +106,6 @@ subtest 'the program elsewhere' => sub {
     needs('a chroot that is permitted' => 'none: run it as root', @enter > 0) or return;
     run('install', '-D', "$tree/bin/mkpasswd", "$alone/bin/mkpasswd");
     passes_there('in an empty folder', "@{ $enter[0] } $alone /bin/mkpasswd", qw(program passwords lines));
-    my $is_wanted = grep { ($ENV{$_} // '') eq '1' } qw(DEB STRICT);
-    needs('DEB=1' => 'none: this takes a mirror', $is_wanted) && needs(mmdebstrap => 'mmdebstrap') or return;
-    my $made = run({ timeout => 1800 }, qw(mmdebstrap --variant=minbase bullseye), "$scratch/old", Suite::mirror() // ());
-    needs('a root of Debian 11', 'none: mmdebstrap says: ' . ($made->{err} =~ /(.*)\n*\z/)[0], !$made->{status}) or return;
-    run('install', '-D', "$tree/bin/mkpasswd", "$scratch/old/usr/local/bin/mkpasswd");
-    passes_there('in Debian 11', "@{ $enter[0] } $scratch/old /usr/local/bin/mkpasswd", qw(program passwords lines));
 };
 
 subtest 'image' => sub {
