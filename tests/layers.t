@@ -8,12 +8,13 @@ use FindBin qw($Bin);
 use lib "$Bin/lib";
 use Suite;
 
-needs(git => 'git') or do { done_testing; exit };
+my $list = slurp("$root/crates.txt") =~ s/#.*//gr;
+my @sources = map { "$_/src" } $list =~ /^(\w+)/mg;
 
-# The lines that git finds below crates/, in files that it doesn't know yet too.
+# The lines that grep finds below crates/.
 sub search {
-    my $run = run({ dir => "$root/crates" }, qw(git grep --untracked -E), @_);
-    die "git grep: $run->{err}" if $run->{status} > 1;
+    my $run = run({ dir => "$root/crates" }, qw(grep -rE --include=*.rt), @_);
+    die "grep: $run->{err}" if $run->{status} > 1;
     return split /\n/, $run->{out};
 }
 
@@ -22,28 +23,27 @@ sub stands_only_in {
     my ($rule, $pattern, @places) = @_;
     my $allowed = join '|', map { quotemeta } @places;
     my (@wrong, %in_tests);
-    for (search('-n', '-e', $pattern, '-e', 'mod tests \{', '--', '*/src/*.rt')) {
+    for (search('-n', '-e', $pattern, '-e', 'mod tests \{', @sources)) {
         my ($path, undef, $line) = split /:/, $_, 3;
         $in_tests{$path} = 1 if $path =~ m{/tests/|/tests\.rt$|/test_} || $line =~ /mod tests \{/;
         next if $in_tests{$path} || @places && $path =~ /^(?:$allowed)/;
         push @wrong, $_ if $line =~ s{//.*}{}r =~ /$pattern/;
     }
-    is(join("\n", @wrong), '', $rule);
-    return;
+    return is(join("\n", @wrong), '', $rule);
 }
 
 # Digests.
 my $crates = '(md5|sha1|sha2)';
 my $counted = 'prims_core/src/counted/counted_';
-my @of_others = grep { !/^prims_core:/ } search('-h', "^[^#]*:.*\\b$crates\\b", '--', '../crates.txt');
+my @of_others = grep { /:.*\b$crates\b/ && !/^prims_core:/ } split /\n/, $list;
 is("@of_others", '', 'only prims_core depends on digests');
 stands_only_in('only the implementations of Counted name a digest', "\\b${crates}::|\\buse $crates\\b|\\b(Digest|Md5)\\b", $counted);
-my @offered = grep { /\bpub\b(?! struct Counted)/ } map { s{//.*}{}r } search('-h', '\bpub\b', '--', "$counted*");
+my @offered = grep { /\bpub\b(?! struct Counted)/ } map { s{//.*}{}r } search('-h', '\bpub\b', glob "$root/crates/$counted*");
 is("@offered", '', 'they offer nothing but their types');
 stands_only_in('only what counts mixes blocks', '\bsalsa\b', map { "prims_core/src/$_.rt" } qw(lib salsa mix));
 
 # Meters. Each call for C or for a page that hashes makes its own.
-my @calls = search('-l', 'extern "C" fn', '--', 'crypt_c/src', 'crypt_web/src');
+my @calls = search('-l', 'extern "C" fn', 'crypt_c/src', 'crypt_web/src');
 stands_only_in('only the program and the calls make a meter', '\bMeter::new\b', 'program/src/main.rt', @calls);
 
 # Memory. What has no allocator can't allocate; so a line is read, priced and refused without.
@@ -59,7 +59,7 @@ stands_only_in('memory is allocated only for these', '\bin (\w+\.)?alloc\b|::\w+
 for (['Debug|Display', qw(Password PasswordFrom Arguments RoundStrings)], ['Clone|Copy|Default', 'Meter']) {
     my ($trait, @types) = @$_;
     my $type = join '|', @types;
-    my @lines = search('-h', '-B2', "(struct|enum) ($type)\\b", '--', '*/src/*.rt');
+    my @lines = search('-h', '-B2', "(struct|enum) ($type)\\b", @sources);
     is(join("\n", grep { /derive.*\b(?:$trait)\b/ } @lines), '', "$type: no $trait is derived");
     stands_only_in("$type: no $trait is implemented", "\\bimpl\\b.*\\b($trait) for ($type)\\b");
 }
