@@ -8,7 +8,7 @@ use Exporter qw(import);
 use List::Util qw(first);
 use Suite;
 
-our @EXPORT = qw(documents manuals shown_manual section_of blocks_of marked name_of examples_of);
+our @EXPORT = qw(documents manuals shown_manual section_of marked name_of examples_of);
 
 sub documents { return glob "$root/*.md $root/docs/*.md" }
 sub manuals { return glob "$root/man/*.[1-8]" }
@@ -27,9 +27,6 @@ sub section_of {
     return $text =~ /^\.Sh \Q$title\E\n(.*?)(?=^\.Sh |\z)/ms ? $1 : '';
 }
 
-# The blocks of a document in a language.
-sub blocks_of { return $_[0] =~ /^```$_[1]\n(.*?)^```$/msg }
-
 # The block in a language that has `<!-- tested: NAME -->` above it, in whatever document it is. A test fails if there is none.
 sub marked {
     my ($name, $language) = @_;
@@ -41,7 +38,7 @@ sub marked {
 # The examples of a document, or of a manual as it is shown: commands after "$ ", which go on after "> ", and what they print.
 sub examples_of {
     my ($path) = @_;
-    my @blocks = $path =~ /\.md$/ ? blocks_of(slurp($path), 'console') : shown_manual($path) =~ /^(\$ .*?\n)(?=\n|\z)/msg;
+    my @blocks = $path =~ /\.md$/ ? slurp($path) =~ /^```console\n(.*?)^```$/msg : shown_manual($path) =~ /^(\$ .*?\n)(?=\n|\z)/msg;
     my @examples;
     for (map { /^\$ (.*?\n)(?=\$ |\z)/msg } @blocks) {
         my ($first, $more, $printed) = /^([^\n]*\n)((?:> [^\n]*\n)*)(.*)\z/s;
