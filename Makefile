@@ -4,11 +4,12 @@
 # make web         builds build/mkpasswd.html, a page that makes and checks hashes in a browser
 # make install     installs all of it below PREFIX (default /usr/local); make uninstall removes it
 # make test        tests what is built: T=tests/lines.t one file; with STRICT=1 a tool that is missing is a failure
-# make check       every check there is: layers, gate, tests, planted faults; with ANEW=1 the gate proves everything anew
+# make check       every check there is: layers, gate, tests; with ANEW=1 the gate proves everything anew
 # make bench       measures against libxcrypt, with the options in BENCH
 # make soak        answers LINES random lines of each kind, by SEED; make fuzz makes random calls, for FUZZ_SECONDS each
-# make specification, make mutants    write build/SPECIFICATION.md and build/MUTANTS.md; make site all documents as web pages
+# make specification    writes build/SPECIFICATION.md; make site all documents as web pages
 # make dist        packs an archive; make image one for containers; make wheel a Python wheel; make deb Debian packages
+# All that rt writes while it proves is in build/log.
 #
 # CPU=x86-64-v3 builds for such processors. The default is x86-64-v2, and x86-64 for make static, dist, image and wheel. Say it
 # to each make, also to make install. TARGET=aarch64 is for ARM: make builds its archive and wheel, make image the image.
@@ -24,24 +25,20 @@ VERSION := $(shell tools/version)
 OWN = build/$(or $(CPU),x86-64-v2)
 FOR = $(or $(TARGET),$(CPU),x86-64)
 ARCHIVE ?= mkpasswd-$(VERSION)-$(subst -,_,$(FOR))-linux.tar.gz
-PAGES = build/SPECIFICATION.md build/MUTANTS.md
 # The web pages are made where Debian's pandoc and mandoc are there; archives and packages always have them.
 SITE := $(shell tools/site --check 2> /dev/null && echo build/site/index.html)
-COMPLETIONS = build/completions/mkpasswd.bash
-BUILT = mkpasswd $(COMPLETIONS) lib guard build/x86-64-v3/libmkpasswd.so.2 build/mkpasswd.html $(PAGES) $(SITE)
-PACKED = $(addprefix build/$(FOR)/,mkpasswd libmkpasswd.a libmkpasswd.so.2) build/mkpasswd.html $(PAGES) \
+BUILT = mkpasswd lib guard build/x86-64-v3/libmkpasswd.so.2 build/mkpasswd.html build/SPECIFICATION.md $(SITE)
+PACKED = $(addprefix build/$(FOR)/,mkpasswd libmkpasswd.a libmkpasswd.so.2) build/mkpasswd.html build/SPECIFICATION.md \
 	$(if $(TARGET),,build/$(FOR)/libmkpasswd-crypt.so build/x86-64-v3/libmkpasswd.so.2)
 ARM = $(addprefix build/aarch64/,mkpasswd libmkpasswd.a libmkpasswd.so.2)
 TRIED = $(BUILT) $(PACKED) $(if $(findstring /,$(shell aarch64-linux-gnu-gcc -print-file-name=libc.a 2> /dev/null)),$(ARM))
 # The scripts take these from the environment, whatever characters they have.
 export DESTDIR PREFIX LIBDIR ARCHIVE RT
 
-SLOW = tests/deb.t tests/arm.t tests/python.t tests/parallel.t tests/guard.t
-T = $(SLOW) $(filter-out tests/planted.t $(SLOW),$(wildcard tests/*.t))
-# A test that takes more than an hour hangs.
-PROVE = PERL5LIB=tests/lib prove --harness Tally --exec 'timeout --foreground 3600 perl' -j4
+SLOW = tests/deb.t tests/arm.t tests/python tests/parallel.t tests/guard.t
+T = $(SLOW) $(filter-out $(SLOW),$(wildcard tests/*.t))
 
-.PHONY: all run static lib guard web fuzz test check layers specification mutants site gate bench soak install uninstall dist \
+.PHONY: all run static lib guard web fuzz test check layers specification site gate bench soak install uninstall dist \
 	image wheel deb clean FORCE
 .DELETE_ON_ERROR .SECONDARY:
 # rt takes all cores for itself.
@@ -73,10 +70,6 @@ build/%/mkpasswd: build/%/program.o c/heap.c c/runtime.c
 build/cpu: FORCE
 	@mkdir -p build
 	@echo '$(CPU)' | cmp -s - $@ || echo '$(CPU)' > $@
-
-build/completions/mkpasswd.bash: mkpasswd bin/mkpasswd-parallel tools/completions $(wildcard completions/*)
-	@mkdir -p $(@D)
-	tools/completions ./mkpasswd bin/mkpasswd-parallel $(@D)
 
 run: mkpasswd
 	@./mkpasswd -m md5crypt -S xxxxxxxx password
@@ -135,30 +128,24 @@ fuzz: $(FUZZERS)
 	done
 
 test: $(TRIED)
-	$(PROVE) $(T)
+	tools/test $(T)
 
 # The layers, the specification and the gate come first, since they need nothing built.
 check: layers gate $(TRIED)
-	$(PROVE) tests/planted.t $(filter-out tests/layers.t,$(T))
+	tools/test $(T)
 
 layers: specification
-	$(PROVE) tests/layers.t
+	tools/test tests/layers.t
 
 specification: build/SPECIFICATION.md
-
-mutants: build/MUTANTS.md
 
 build/SPECIFICATION.md: tools/specification tools/specification.md $(SOURCES)
 	@mkdir -p build
 	tools/specification > $@
 
-build/MUTANTS.md: tools/mutants $(wildcard crates/*/must-fail/*.edit) $(SOURCES)
-	@mkdir -p build
-	tools/mutants > $@
-
 site: build/site/index.html
 
-build/site/index.html: tools/site $(wildcard *.md docs/* man/* examples/* c/*.h) build/mkpasswd.html $(PAGES) tools/version
+build/site/index.html: tools/site $(wildcard *.md docs/* man/* examples/* c/*.h) build/mkpasswd.html build/SPECIFICATION.md tools/version
 	rm -rf build/site && mkdir -p build/site
 	tools/site build/site
 

@@ -66,8 +66,8 @@ symlink program(), "$scratch/bin/mkpasswd";
 symlink "$root/bin/mkpasswd-parallel", "$scratch/bin/mkpasswd-parallel";
 for my $command (@commands) {
     spew("$scratch/lines of $command", join '', map { "$command $_->[0]\n" } @{ $lines{$command} });
-    symlink "$root/build/completions/mkpasswd.bash", "$scratch/share/bash-completion/completions/$command";
-    symlink "$root/build/completions/mkpasswd.fish", "$scratch/fish/$command.fish";
+    symlink "$root/completions/mkpasswd.bash", "$scratch/share/bash-completion/completions/$command";
+    symlink "$root/completions/mkpasswd.fish", "$scratch/fish/$command.fish";
 }
 
 # What a shell runs. It prints the number of a line and a word offered there, for each such word, and "end" at last.
@@ -171,7 +171,7 @@ sub try_command {
     my @lines = @{ $lines{$command} };
     my %env = (
         (map { $_ => undef } qw(BASH_ENV ENV FPATH ZDOTDIR XDG_CONFIG_HOME XDG_DATA_HOME XDG_CACHE_HOME BASH_COMPLETION_USER_DIR)),
-        HOME => "$scratch/home", TERM => 'dumb', PATH => "$scratch/bin:$ENV{PATH}", folder => "$root/build/completions", fish => "$scratch/fish",
+        HOME => "$scratch/home", TERM => 'dumb', PATH => "$scratch/bin:$ENV{PATH}", folder => "$root/completions", fish => "$scratch/fish",
         command => $command, input => "$scratch/lines of $command", XDG_DATA_DIRS => "$scratch/share:/usr/local/share:/usr/share", %$variables,
     );
     my $run = run({ dir => "$scratch/folder", env => \%env }, @command);

@@ -54,9 +54,9 @@ sub try_example {
     return is(difference($shown, $got, @$words), '', $name);
 }
 
-for my $path (documents(), manuals()) {
+for my $path (documents(), needs(mandoc => 'mandoc') ? manuals() : ()) {
     my $text = slurp($path);
-    my ($name, @examples) = (name_of($path), examples_of($text));
+    my ($name, @examples) = (name_of($path), examples_of($path));
     @examples || $text =~ /^\$ /m or next;
     subtest $name => sub {
         my ($folder) = ("$scratch/" . $name =~ tr{/}{ }r);
@@ -69,7 +69,6 @@ for my $path (documents(), manuals()) {
 }
 
 subtest 'commands' => sub {
-    my $tests = join '', map { slurp($_) } glob "$root/tests/*.t";
     my $makefile = slurp("$root/Makefile");
     for my $path (documents()) {
         my ($text, $name) = (slurp($path), name_of($path));
@@ -78,17 +77,15 @@ subtest 'commands' => sub {
         }
         my @targets = $text =~ /(?:`|^)make (?:\w+=[^\s`]+ )*([a-z]\w*)/mg;
         is(join(' ', grep { $makefile !~ /^$_:/m } uniq(@targets)), '', "$name: targets of make") if $name ne 'CHANGELOG.md';    # which tells the past
-        ok(index($tests, "'$_'") >= 0, "$name: a test runs the block '$_'") for $text =~ /^<!-- tested: (.*) -->$/mg;
     }
 };
 
 subtest 'a password that is typed' => sub {
-    my @typed = map { my $path = $_; map { [name_of($path), $_] } slurp($path) =~ /(?:`|^\.Dl )(IFS= .*? mkpasswd\b[^`\n]*)/mg } documents(), manuals();
+    my @typed = map { /(IFS= .*? mkpasswd\b[^`\n]*)/g } slurp("$root/README.md"), shown_manual("$root/man/mkpasswd.1");
     isnt(scalar @typed, 0, 'it is shown how');
     for (@typed) {
-        my ($name, $command) = @$_;
-        my $typed = run({ %in, stdin => " pass\\word \n" }, 'bash', '-c', $name =~ /^man/ ? Texts::shown($command) : $command);
-        ok($typed->{out} =~ /^($hash)\n\z/ && is_hash_of($1, ' pass\word '), $name) or diag(%$typed);
+        my $typed = run({ %in, stdin => " pass\\word \n" }, 'bash', '-c', $_);
+        ok($typed->{out} =~ /^($hash)\n\z/ && is_hash_of($1, ' pass\word '), $_) or diag(%$typed);
     }
 };
 
@@ -105,15 +102,12 @@ subtest 'costs' => sub {
     }
 };
 
-# The gate shows that this mutant is refused. The commands make the same one.
+# The commands make the mutant of this name, which the gate refuses.
 subtest 'mutant' => sub {
-    my ($change) = marked('mutant', 'sh') =~ /^(sed .*)/m;
-    my ($file, $old, $new) = slurp("$root/crates/run_core/must-fail/refused-at-the-budget.edit") =~ /\Afile: (.*)\nold: (.*)\nnew: (.*)\n\z/;
-    my $path = "crates/run_core/$file";
-    run('mkdir', '-p', "$scratch/mutant/crates/run_core/src");
-    spew("$scratch/mutant/$path", slurp("$root/$path"));
-    run({ dir => "$scratch/mutant" }, 'sh', '-c', $change // 'false');
-    is(slurp("$scratch/mutant/$path"), slurp("$root/$path") =~ s/\Q$old\E/$new/r, 'it is the one of the gate');
+    my ($change, $path) = marked('mutant', 'sh') =~ /^(sed .* (\S+))$/m;
+    my ($new) = slurp("$root/crates/run_core/must-fail/refused-at-the-budget.edit") =~ /^new: (.*)/m;
+    my $changed = run({ dir => $root }, 'sh', '-c', ($change // 'false') =~ s/ -i / /r)->{out};
+    ok(index($changed, $new) >= 0, "it is in $path");
 };
 
 my $known = '$1$xxxxxxxx$UYCIxa628.9qXjpQCjM4a.';

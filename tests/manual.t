@@ -1,24 +1,40 @@
 #!/usr/bin/env perl
-# mandoc and groff find nothing to say about a manual, and show its examples as they are typed.
+# mandoc and groff find nothing to say about a manual. As mandoc shows it, that of a program has the options of its help, and
+# that of mkpasswd the methods and the refusals, in the order in which they are made.
 use strict;
 use warnings;
 use FindBin qw($Bin);
 use lib "$Bin/lib";
+use Model;
 use Suite;
 use Texts;
 
-for (['mandoc', 'mandoc', [qw(-T lint -W warning)], [qw(-T utf8)]], ['groff', 'groff-base', [qw(-mandoc -ww -Tutf8)]]) {
-    my ($name, $package, @ways) = @$_;
-    subtest $name => sub {
-        needs($name => $package) or return;
-        for my $path (manuals()) {
-            my @runs = map { run($name, @$_, $path) } @ways;
-            is(join('', (map { $_->{err} } @runs), @runs > 1 ? $runs[0]{out} : ()), '', 'nothing to say about ' . name_of($path));
-            my %lines = map { s/\e\[[0-9;]*m|.\x08//gr =~ s/^\s+|\s+$//gr => 1 } split /\n/, $runs[-1]{out};
-            my @lost = grep { !$lines{ s/^\s+|\s+$//gr } } map { split /\n/ } blocks_of(slurp($path), 'console');
-            is("@lost", '', 'examples of ' . name_of($path) . ' as they are typed');
-        }
-    };
+for (['mandoc', 'mandoc', qw(-T lint -W warning)], ['groff', 'groff-base', qw(-mandoc -ww -z)]) {
+    my ($tool, $package, @words) = @$_;
+    needs($tool => $package) or next;
+    is_run(run($tool, @words, $_), 0, '', '', "$tool: " . name_of($_)) for manuals();
+}
+needs(mandoc => 'mandoc') or do { done_testing; exit };
+
+# The options with which lines of a help or of a shown manual begin.
+sub options_in { return { map { $_ => 1 } grep { defined } $_[0] =~ /^ *(?:(-\w), )?(--[a-z][\w-]*)/mg } }
+
+for (['mkpasswd', program()], ['mkpasswd-parallel', "$root/bin/mkpasswd-parallel"]) {
+    my ($name, $command) = @$_;
+    is_deeply(options_in(shown_manual("$root/man/$name.1")), options_in(run($command, '--help')->{out}), "manual: options of $name");
+}
+
+my $manual = shown_manual("$root/man/mkpasswd.1");
+for (['md5crypt', 'md5', 1], ['sha256crypt', 'sha-256', 5], ['sha512crypt', 'sha-512', 6], ['scrypt', '', 7]) {
+    my ($name, $short, $kind) = @$_;
+    ok($manual =~ /^$name +$short +\$$kind\$ +1 to $most_salt{$kind} +$made_salt{$kind} characters$/m, "manual: $name");
+}
+my @of_runs = ('unknown method', 'two salts', 'two modes', 'salt length', 'salt character', 'cost', 'password too long',
+    'password has a zero byte', 'read fault', 'write fault', 'out of memory', 'too many turns', 'start fault');
+for (['Refused lines', @line_refusals], ['EXIT STATUS', map { "[23] +$_" } @of_runs]) {
+    my ($section, @texts) = @$_;
+    my $rows = join '.*', map { "^$_  " } @texts;
+    ok($manual =~ /^$section\n.*$rows/ms, "manual: $section, in their order");
 }
 
 done_testing;

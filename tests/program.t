@@ -61,6 +61,11 @@ subtest 'words' => sub {
     refused("'--check' cannot be used multiple times", ('--check') x 200);
     my $methods = "Available methods:\nmd5crypt\nsha256crypt\nsha512crypt\nscrypt";
     answer($methods, @$_) for [qw(--method help -S ab x cd)], [{ from => '/' }, qw(-m help -R 12 -s --work x)];
+    for my $type (sort keys %kinds) {
+        my ($kind, @words) = ($kinds{$type}, '-m', $type, qw(-R 6 -S), 'a' x $most_salt{ $kinds{$type} });
+        like(run(program(), @words, 'x')->{out}, qr/^\$$kind\$(?:rounds=1000\$)?\S*a{$most_salt{$kind}}\$/, "$type takes the longest salt");
+        fault(2, 'salt length', @words[0 .. 4], "$words[5]a", 'x');
+    }
 };
 
 subtest 'refusals of the words' => sub {

@@ -1,5 +1,5 @@
 #!/usr/bin/env perl
-# The web pages: links lead somewhere, each definition says what uses it, and nothing scrolls sideways but in a box of its own.
+# The web pages: links lead somewhere, and nothing scrolls sideways but in a box of its own.
 use strict;
 use warnings;
 use FindBin qw($Bin);
@@ -13,25 +13,26 @@ run({ dir => '/', env => { LC_ALL => 'C.UTF-8', TZ => 'Asia/Kathmandu' } }, "$ro
 is_run(run('diff', '-r', "$scratch/site", "$scratch/again"), 0, '', '', 'the same bytes in another locale and time zone');
 
 # All but the page that hashes, which has a script.
-my %page = map { m{([^/]*)$} => slurp($_) } grep { !m{/mkpasswd\.html$} } glob "$scratch/site/*.html";
-my %places = map { my $page = $_; map { $_ => 1 } $page, map { "$page#$_" } $page{$page} =~ / id="([^"]+)"/g } keys %page;
-my (%uses, %users);
-for my $page (sort keys %page) {
-    my @links = map { s/^(?=#)/$page/r } grep { !/^https?:/ } $page{$page} =~ /(?:href="|src="|(?=<script))([^"]*)/g;
-    is(join(' ', grep { !$places{$_} && !-f "$scratch/site/$_" } @links), '', "$page: dead links, scripts");
-    for (split /(?=<h[23] id=)/, $page =~ /^specification/ ? $page{$page} : '') {
-        my ($name, $code, $after) = /^<h\d id="([^"]+)".*?<pre><code>(.*?)<\/pre>(.*)/s or next;
-        $uses{"$page#$name $1"} = 1 while $code =~ /<a href="([^"]+)"/g;
-        $users{"$1 $page#$name"} = 1 while $after =~ /<a href="([^"]+#[^"]+)"/g;
+my @pages = grep { !m{/mkpasswd\.html$} } glob "$scratch/site/*.html";
+
+# The attributes in a page that an XPath names.
+sub values_of { return run('xmllint', '--xpath', @_)->{out} =~ /="([^"]*)"/g }
+
+if (needs(xmllint => 'libxml2-utils')) {
+    is_run(run('xmllint', '--noout', @pages), 0, '', '', 'the pages are well-formed');
+    my (%is_place, @links);
+    for my $page (@pages) {
+        my ($name) = $page =~ m{([^/]*)$};
+        $is_place{$_} = 1 for $name, map { "$name#$_" } values_of('//@id', $page);
+        push @links, map { [$name, /^#/ ? "$name$_" : $_] } values_of('//@href | //@src', $page);
     }
+    my @dead = grep { $_->[1] !~ /^https?:/ && !$is_place{ $_->[1] } && !-f "$scratch/site/$_->[1]" } @links;
+    ok(@links > 100 && !@dead, 'no dead links') or diag(map { "@$_\n" } @dead);
 }
-is_deeply(\%users, keys %uses > 1000 ? \%uses : 'links', 'names in clauses and definitions are links in both directions');
-my $parsed = run('xmllint', '--noout', map { "$scratch/site/$_" } sort keys %page);
-is_run($parsed, 0, '', '', 'the pages are well-formed') if needs(xmllint => 'libxml2-utils');
 
 if (needs(chromium => 'chromium')) {
     my $wide = 'Array.from(frames, it => it.document.documentElement).filter(it => it.scrollWidth > it.clientWidth)';
-    my @frames = map { my $page = $_; map { qq{<iframe width="$_" src="site/$page"></iframe>} } 375, 1280 } sort keys %page;
+    my @frames = map { my $page = $_; map { qq{<iframe width="$_" src="file://$page"></iframe>} } 375, 1280 } @pages;
     spew("$scratch/frames.html", "<body onload='document.title = $wide.map(it => it.baseURI) + \".\"'>@frames");
     my @flags = qw(--headless --no-sandbox --disable-gpu --hide-scrollbars --allow-file-access-from-files --dump-dom);
     my $shown = run({ timeout => 120 }, 'chromium', @flags, "--user-data-dir=$scratch/user", "file://$scratch/frames.html");

@@ -16,11 +16,7 @@ use Exporter qw(import);
 use List::Util qw(max min shuffle);
 use Model;
 
-our @EXPORT = qw(@limits chunks runs);
-
-# What has to come up among many hostile lines, beside refusals and verdicts.
-our @limits = ('line of 2048', 'line of 2049', 'name of 64', 'name of 65', 'password of 1024', 'password of 1025', 'field of 384',
-    'field of 385', 'salt of 86', 'salt of 87', 'product at the ceiling', 'cost at the budget', 'cost behind the budget');
+our @EXPORT = qw(chunks runs);
 
 my %chunk_lines = (hash => [100], hostile => [(40) x 20, 800]);    # by turns
 my $dear = 500_000;    # a hostile line that costs more is not hashed
@@ -269,7 +265,6 @@ sub hash_chunk {
         my $hash = hash_of($setting, $password);
         defined $hash ? [bytes_without(between(1, 64), ":\n"), $hash, $password] : ();
     } 1 .. $count;
-    saw('hash lines') for @checks;
     my $input = join '', map { join(':', @$_) . "\n" } map { varied(@$_) } shuffle @checks;
     chop $input if chance(0.5);
     return (($job ? [$job, join '', map { "$_->[0]:$_->[2]\n" } @checks] : ()), [job(undef, '--check', @work), $input]);
@@ -321,16 +316,12 @@ sub budget {
 
 sub hostile_chunk {
     my (undef, $count) = @_;
-    saw('hostile lines') for 1 .. $count;
     my @flags = chance(0.35) ? '--batch' : ('--check', chance(0.45) ? '--rehash' : ());
     my $made = $flags[0] eq '--batch' || @flags > 1 ? hostile_words() : undef;
     my $job = job($made, @flags, chance(0.4) ? '--work' : ());
     my @hashes = $job->{is_check} ? good_hashes() : ();
     my @lines = map { hostile_line($job, \@hashes) =~ tr/\n/\r/r } 1 .. $count;
-    {
-        local %Model::seen;    # of what is only looked at here nothing is counted
-        $job->{budget} = budget(map { judged($job, $_)->{cost} // () } @lines);
-    }
+    $job->{budget} = budget(map { judged($job, $_)->{cost} // () } @lines);
     push @{ $job->{words} }, '--budget', $job->{budget};
     my $input = join '', map { "$_\n" } @lines;
     chop $input if $lines[-1] ne '' && chance(0.3);

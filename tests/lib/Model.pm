@@ -3,8 +3,6 @@ package Model;
 # The rules of docs/FORMATS.md and of the standards that it names, read a second time and not out of the code: settings and
 # their refusals, the work and the cost of a hash, hashes, lines and their answers. Hashes are those of perl's crypt, which is
 # libxcrypt; where that doesn't take a password they are made here, but for scrypt, where they are not known.
-#
-# What comes up is counted in %seen, so that a test can want each rule to have been met.
 
 use strict;
 use warnings;
@@ -13,8 +11,8 @@ use Digest::SHA qw(sha256 sha512);
 use Exporter qw(import);
 use List::Util qw(max min sum0);
 
-our @EXPORT = qw(%limits %kinds %most_salt %made_salt %packed_length @characters @setting_refusals @line_refusals @verdicts %seen
-    saw forget shown numeral scrypt_cost setting read_setting made_setting is_replaced counts cost hash_of made_by_hand
+our @EXPORT = qw(%limits %kinds %most_salt %made_salt %packed_length @characters @setting_refusals @line_refusals
+    forget shown numeral scrypt_cost setting read_setting made_setting is_replaced counts cost hash_of made_by_hand
     job judged differences);
 
 our %limits = (
@@ -29,16 +27,12 @@ our @setting_refusals = ('setting too long', 'bad character', 'unknown scheme', 
     'above ceiling', 'bad salt');
 our @line_refusals = ('line too long', 'no name', 'name too long', 'no password field', 'password too long',
     'password has a zero byte', @setting_refusals, 'over budget');
-our @verdicts = ('a hash', 'ok', 'no', 'none', 'locked', 'a new hash');
-our %seen;
 
 my $of_alphabet = '[./0-9A-Za-z]';
 my %value;
 @value{@characters} = 0 .. 63;
 my %digest = (1 => \&md5, 5 => \&sha256, 6 => \&sha512);
 my %digest_length = (1 => 16, 5 => 32, 6 => 64);
-
-sub saw { $seen{ $_[0] }++ }
 
 # A text of any bytes, to be printed.
 sub shown {
@@ -80,9 +74,7 @@ sub read_setting {
         ($log, $r, $p) = map { number($_) } $log, $r, $p;
         return 'scrypt range' if !$log || !$r || !$p || $log >= 16 * $r;
         my $product = 2 ** $log * $r * $p;
-        saw('product at the ceiling') if $product == $limits{ceiling};
         return 'above ceiling' if $product > $limits{ceiling};
-        saw('salt of ' . length $salt) if length $salt == 86 || length $salt == 87;
         return 'bad salt' if length $salt > 86 || $salt =~ /[^.\/0-9A-Za-z]/;
         return setting(7, $salt, log => $log, r => $r, p => $p);
     }
@@ -206,8 +198,8 @@ sub made_by_hand {
 }
 
 # The same, libxcrypt's wherever it takes the two; nothing where it takes no scrypt. Hashes are kept until forgotten.
-my (%kept, %is_by_hand);
-sub forget { %kept = %is_by_hand = () }
+my %kept;
+sub forget { %kept = () }
 
 sub hash_of {
     my ($setting, $password) = @_;
@@ -218,9 +210,7 @@ sub hash_of {
         $known = sha256($password) if !defined $known && $setting->{kind} == 7;
         undef $known if defined $known && $known =~ /\0/;
         my $text = defined $known ? crypt($known, $front) // '' : '';
-        my $is_known = index($text, "$front\$") == 0;
-        $is_by_hand{"$front\0$password"} = !$is_known && $setting->{kind} != 7;
-        $is_known ? $text : $setting->{kind} != 7 ? made_by_hand($setting, $password) : undef;
+        index($text, "$front\$") == 0 ? $text : $setting->{kind} != 7 ? made_by_hand($setting, $password) : undef;
     };
 }
 
@@ -243,17 +233,14 @@ sub job {
 # What a line has to get: a refusal, or what its answer is made of. Nothing is hashed yet.
 sub judged {
     my ($job, $line) = @_;
-    saw('line of ' . length $line) if length $line == 2048 || length $line == 2049;
     return { refusal => 'line too long' } if length $line > $limits{line};
     my @fields = split /:/, $line, $job->{is_check} ? 3 : 2;
     my $name = $fields[0] // '';
     return { refusal => 'no name' } if $name eq '';
-    saw('name of ' . length $name) if length $name == 64 || length $name == 65;
     return { refusal => 'name too long' } if length $name > $limits{name};
     return { refusal => 'no password field' } if @fields < ($job->{is_check} ? 3 : 2);
     my $password = $fields[-1];
     my $length = length $password;
-    saw("password of $length") if $length == 1024 || $length == 1025;
     return { refusal => 'password too long' } if $length > $limits{password};
     return { refusal => 'password has a zero byte' } if $password =~ /\0/;
     my %judged = (name => $name, password => $password);
@@ -262,18 +249,13 @@ sub judged {
         my $field = $fields[1];
         return { %judged, verdict => 'none', cost => 0 } if $field eq '';
         return { %judged, verdict => 'locked', cost => 0 } if $field =~ /\A[!*]/;
-        saw('field of ' . length $field) if length $field == 384 || length $field == 385;
         my $setting = read_setting($field);
         return { refusal => $setting } unless ref $setting;
         $judged{is_replaced} = $job->{is_rehash} && is_replaced($setting, $job->{setting});
         $judged{cost} = cost($setting, $length) + ($judged{is_replaced} ? cost($job->{setting}, $length) : 0);
         @judged{qw(field setting)} = ($field, $setting);
     }
-    if (defined $job->{budget}) {
-        saw('cost at the budget') if $judged{cost} == $job->{budget};
-        saw('cost behind the budget') if $judged{cost} == $job->{budget} + 1;
-        return { refusal => 'over budget' } if $judged{cost} > $job->{budget};
-    }
+    return { refusal => 'over budget' } if defined $job->{budget} && $judged{cost} > $job->{budget};
     return \%judged;
 }
 
@@ -284,7 +266,6 @@ sub is_fit {
     my $front = "$setting->{front}\$";
     return 0 if index($field, $front) != 0 || length $field != length($front) + $packed_length{ $setting->{kind} };
     my $hash = hash_of($setting, $judged->{password});
-    saw('made here') if $is_by_hand{"$setting->{front}\0$judged->{password}"};
     return defined $hash ? $hash eq $field || 0 : undef;
 }
 
@@ -295,9 +276,7 @@ sub answer {
     my $text = "$judged->{name}:";
     my @work = (0, 0, 0, 0);
     if ($judged->{setting}) {
-        my $is_fit = is_fit($judged);
-        saw('either') unless defined $is_fit;
-        $verdict = $is_fit // index($got, "${text}ok") == 0 ? 'ok' : 'no';
+        $verdict = is_fit($judged) // index($got, "${text}ok") == 0 ? 'ok' : 'no';
         @work = work_of($judged->{setting}, $password) if $job->{is_work};
     }
     my $is_new = !$verdict || $verdict eq 'ok' && $judged->{is_replaced};
@@ -306,12 +285,9 @@ sub answer {
         my $setting = $job->{setting};
         $setting = drawn($setting, substr($got, min(length $got, length $text)), $salts) unless defined $job->{salt};
         $text .= hash_of($setting, $password) // '(no hash is known)';
-        saw('made here') if $is_by_hand{"$setting->{front}\0$password"};
         my @more = work_of($setting, $password);
         $work[$_] += $more[$_] for 0 .. 3;
     }
-    saw($verdict // 'a hash');
-    saw('a new hash') if $verdict && $is_new;
     return ($text . ($job->{is_work} ? join '', map { ":$_" } @work : '') . "\n", ($verdict // '') eq 'no');
 }
 
@@ -339,7 +315,6 @@ sub differences {
         my $refusal = $judged->{refusal};
         my $stream = defined $refusal ? 'fault output' : 'output';
         my $got = shift @{ defined $refusal ? \@faults : \@answers } // '';
-        saw($refusal) if defined $refusal;
         my ($wanted, $is_no) = defined $refusal ? ("mkpasswd: line $number: $refusal\n", 1) : answer($job, $judged, $got, \%salts);
         $status = 1 if $is_no;
         next if $got eq $wanted || $is_told{$stream}++;

@@ -14,7 +14,7 @@ use File::Basename qw(dirname);
 use File::Temp qw(tempdir);
 use POSIX ();
 use Storable qw(retrieve store);
-use Test::More;
+use Test::More import => ['!done_testing'];
 
 our @EXPORT = (qw($root $scratch program passes_there begin run in_processes slurp spew needs is_run preload), @Test::More::EXPORT);
 
@@ -26,14 +26,12 @@ our $scratch = tempdir(CLEANUP => 1);
 
 $ENV{LC_ALL} = 'C';
 
-our $is_in_subtest = 0;
 if (defined(my $only = $ENV{T_ONLY})) {
     my $subtest = \&Test::Builder::subtest;
     no warnings 'redefine';
     *Test::Builder::subtest = sub {
         my ($builder, $name, @rest) = @_;
-        return 1 if !$is_in_subtest && $name !~ /$only/;
-        local $is_in_subtest = 1;
+        return 1 if !$builder->parent && $name !~ /$only/;
         local $Test::Builder::Level = $Test::Builder::Level + 1;
         return $builder->$subtest($name, @rest);
     };
@@ -142,14 +140,23 @@ sub spew {
 
 # Whether a tool is there. Where it is missing, a skipped test says so with Debian's package, or with STRICT=1 a failed
 # one. In a subtest: `needs(zsh => 'zsh') or return;`.
+my %missing_in_subtests;
 sub needs {
     my ($tool, $package, $is_there) = @_;
     return 1 if $is_there // grep { -x "$_/$tool" } split /:/, $ENV{PATH};
-    if (($ENV{STRICT} // 0) eq '1') { fail("$tool is there (Debian package $package)") }
+    my $missing = "$tool is missing (Debian package $package)";
+    if (($ENV{STRICT} // 0) eq '1') { fail($missing) }
     else {
-      SKIP: { skip "$tool is missing (Debian package $package)", 1 }
+        $missing_in_subtests{$missing} = 1 if Test::More->builder->parent;
+      SKIP: { skip $missing, 1 }
     }
     return 0;
+}
+
+# Ends a file of tests. What is missing in its subtests is skipped here too, since a harness sees no test of a subtest.
+sub done_testing {
+  SKIP: { skip $_, 1 for sort keys %missing_in_subtests }
+    Test::More::done_testing();
 }
 
 # Debian's mirror: MIRROR, or the first that apt has here.

@@ -1,6 +1,6 @@
 package Texts;
 
-# Reads documents and manuals: their chapters, blocks of code and examples.
+# Reads documents and manuals: their blocks of code and examples.
 
 use strict;
 use warnings;
@@ -8,7 +8,7 @@ use Exporter qw(import);
 use List::Util qw(first);
 use Suite;
 
-our @EXPORT = qw(documents manuals section_of blocks_of marked name_of examples_of);
+our @EXPORT = qw(documents manuals shown_manual section_of marked name_of examples_of);
 
 sub documents { return glob "$root/*.md $root/docs/*.md" }
 sub manuals { return glob "$root/man/*.[1-8]" }
@@ -16,27 +16,15 @@ sub manuals { return glob "$root/man/*.[1-8]" }
 # A path below the top of the tree.
 sub name_of { return substr $_[0], 1 + length $root }
 
-# The source of a manual as a reader sees it.
-my %shown = ('-' => '-', 'e' => "\\", '&' => '', '(aq' => "'", '(dq' => '"', '(ha' => '^', '(ti' => '~', '(ga' => '`');
-
-sub shown {
-    my ($text) = @_;
-    return $text =~ s{\\(\(..|.)}{$shown{$1} // die "can't read \\$1 of a manual\n"}ger;
+# What mandoc shows of a manual, without margins. Its bold and underlined characters are struck twice.
+sub shown_manual {
+    return run(qw(mandoc -T utf8 -O width=200), $_[0])->{out} =~ s/.\x08//gr =~ s/^ +//mgr;
 }
 
-# The text of a manual's section, or of a chapter of a document in Markdown.
+# The source of a manual's section.
 sub section_of {
     my ($text, $title) = @_;
-    return $1 if $text =~ /^\.Sh \Q$title\E\n(.*?)(?=^\.Sh |\z)/ms;
-    return $text =~ /^(#+) \Q$title\E\n(.*?)(?=^(?!\g{1}#)#+ |\z)/ms ? $2 : '';
-}
-
-# The blocks of a document: the literal displays of a manual's examples, as a reader sees them, or in Markdown the blocks in a
-# language.
-sub blocks_of {
-    my ($text, $language) = @_;
-    return map { shown($_) } section_of($text, 'EXAMPLES') =~ /^\.Bd -literal.*?\n(.*?)^\.Ed$/msg if $text =~ /^\.Dd /m;
-    return $text =~ /^```$language\n(.*?)^```$/msg;
+    return $text =~ /^\.Sh \Q$title\E\n(.*?)(?=^\.Sh |\z)/ms ? $1 : '';
 }
 
 # The block in a language that has `<!-- tested: NAME -->` above it, in whatever document it is. A test fails if there is none.
@@ -47,11 +35,12 @@ sub marked {
     return $block // '';
 }
 
-# The examples of a document: commands after "$ ", which go on after "> ", and what they print.
+# The examples of a document, or of a manual as it is shown: commands after "$ ", which go on after "> ", and what they print.
 sub examples_of {
-    my ($text) = @_;
+    my ($path) = @_;
+    my @blocks = $path =~ /\.md$/ ? slurp($path) =~ /^```console\n(.*?)^```$/msg : shown_manual($path) =~ /^(\$ .*?\n)(?=\n|\z)/msg;
     my @examples;
-    for (map { /^\$ (.*?\n)(?=\$ |\z)/msg } blocks_of($text, 'console')) {
+    for (map { /^\$ (.*?\n)(?=\$ |\z)/msg } @blocks) {
         my ($first, $more, $printed) = /^([^\n]*\n)((?:> [^\n]*\n)*)(.*)\z/s;
         push @examples, [$first . $more =~ s/^> //mgr, $printed];
     }

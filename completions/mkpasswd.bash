@@ -7,15 +7,15 @@
 
 _mkpasswd() {
     # The program also takes md5, sha-256 and sha-512. They are other names of these, so a list has no need of them.
-    local methods=(@METHODS@)
-    local options=(@OPTIONS@)
-    local modes=(@MODES@)
+    local methods=(md5crypt sha256crypt sha512crypt scrypt help)
+    local options=(-m --method -S --salt -R --rounds --work -h --help -V --version)
+    local modes=(-s --stdin --batch --check --rehash --budget)
     local cur=$2 at=$COMP_CWORD option word offered=() glued=''
     COMPREPLY=()
     # mkpasswd-parallel has options of its own, and takes lines alone.
     if [[ $1 == *-parallel ]]; then
-        options+=(@OWN@)
-        modes=(@LINES@)
+        options+=(--jobs --on --resume-from --progress)
+        modes=(--batch --check --rehash --budget)
     fi
 
     # Right behind "=", "<" or ">" readline has that as the last word, and an empty one stands behind it.
@@ -37,13 +37,16 @@ _mkpasswd() {
     for word in "${COMP_WORDS[@]:1:COMP_CWORD-1}"; do
         case $word in
             --) return ;;
-@CASES@
+            -s | --stdin) modes=() ;;
+            --batch) modes=(--budget) ;;
+            --check) modes=(--rehash --budget) ;;
         esac
     done
 
     case $option in
         -m | --method) offered=("${methods[@]}") ;;
-        @VALUES@) ;;
+        -S | --salt | -R | --rounds | --budget) ;;
+        --jobs | --on | --resume-from) ;;
         *)
             case $cur in
                 --method=*) glued=--method= ;;

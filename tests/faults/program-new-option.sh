@@ -1,6 +1,0 @@
-#!/bin/bash
-# An option has no documents and no completions.
-# Sees: options.t: manual of mkpasswd
-# Only: ^options
-"$REAL" "$@" | sed 's/^      --work .*/&\n      --nonesuch         Print nothing/'
-exit "${PIPESTATUS[0]}"
