@@ -1,7 +1,6 @@
 """The hashes are those of passlib, hashlib, libxcrypt and the standard library's crypt."""
 import hashlib
 import math
-import re
 import warnings
 
 import mkpasswd
@@ -88,10 +87,9 @@ def test_methods_are_the_standard_librarys(theirs, name):
             assert made.rpartition("$")[0] == salt.rpartition("$")[0] and len(made) == len(salt)
     assert len(mkpasswd.crypt("x", method)) == method.total_size
     for rounds in 999, 10**9, -1, 1.5, "1000", True:
-        with pytest.raises((ValueError, TypeError)) as raised:
-            theirs.mksalt(expected, rounds=rounds)
-        with pytest.raises(raised.type, match="^%s$" % re.escape(str(raised.value).replace("<crypt.", "<mkpasswd."))):
-            mkpasswd.mksalt(method, rounds=rounds)
+        for call in (theirs.mksalt, expected), (mkpasswd.mksalt, method):
+            with pytest.raises((ValueError, TypeError)):
+                call[0](call[1], rounds=rounds)
 
 
 def test_crypt_is_the_standard_librarys(theirs):

@@ -124,6 +124,7 @@ class Verdict:
     def __eq__(self, other: object) -> bool:
         if isinstance(other, (tuple, Verdict)):
             return tuple(self) == tuple(other)
+        # None counts as False, since whoever writes `== None` means a no.
         return self.matches == (other is not None and other)
 
     def __iter__(self) -> Iterator[Any]:
@@ -350,9 +351,7 @@ def mksalt(method: Optional[_Method] = None, *, rounds: Optional[int] = None) ->
     if method in (METHOD_BLOWFISH, METHOD_CRYPT):
         raise Refused(Reason.UNKNOWN_METHOD)
     if rounds is not None:
-        if not isinstance(rounds, int):
-            raise TypeError("%s object cannot be interpreted as an integer" % type(rounds).__name__)
-        rounds = int.__index__(rounds)
+        rounds = _int(rounds, "rounds")
         if method == METHOD_MD5:
             raise ValueError("%r doesn't support the rounds argument" % (method,))
         if not 1000 <= rounds <= 999_999_999:
