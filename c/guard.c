@@ -11,6 +11,7 @@
 #include <fcntl.h>
 #include <inttypes.h>
 #include <mkpasswd.h>
+#include <pthread.h>
 #include <stdarg.h>
 #include <stdio.h>
 #include <stdlib.h>
@@ -97,26 +98,25 @@ static uint64_t limit_of(const struct scheme *scheme, uint64_t cost)
 
 /* Sends a line to the system log as syslog(3) does, but through a socket that is closed again. syslog(3) keeps one open, and
  * when a service has closed all its descriptors, that number soon is a client's connection. The socket isn't connected, so
- * another thread that writes to a wrong number writes nothing into the log. A line that nobody takes at once is lost. */
+ * another thread that writes to a wrong number writes nothing into the log. A line that nobody takes at once is lost.
+ * The daemon adds the time: localtime_r(3) takes a lock, which after fork(2) nobody may be there to give back. As crypt(3),
+ * it is no point at which a thread can be cancelled. */
 __attribute__((format(printf, 1, 2))) static void log_line(const char *format, ...)
 {
     static const struct sockaddr_un log = {AF_UNIX, "/dev/log"};
-    static const char months[] = "JanFebMarAprMayJunJulAugSepOctNovDec"; /* as in the C locale */
-    int error = errno, descriptor = socket(AF_UNIX, SOCK_DGRAM | SOCK_CLOEXEC | SOCK_NONBLOCK, 0);
-    time_t now = time(NULL);
-    struct tm at = {0};
-    char text[512], line[640];
+    int error = errno, state, descriptor = socket(AF_UNIX, SOCK_DGRAM | SOCK_CLOEXEC | SOCK_NONBLOCK, 0);
+    char line[640];
+    int length = snprintf(line, sizeof line, "<%d>%s[%d]: mkpasswd guard: ", LOG_AUTHPRIV | LOG_WARNING, process, getpid());
     va_list values;
 
+    va_start(values, format);
+    vsnprintf(line + length, sizeof line - length, format, values);
+    va_end(values);
     if (descriptor >= 0) {
-        localtime_r(&now, &at);
-        va_start(values, format);
-        vsnprintf(text, sizeof text, format, values);
-        va_end(values);
-        snprintf(line, sizeof line, "<%d>%.3s %2d %02d:%02d:%02d %s[%d]: mkpasswd guard: %s", LOG_AUTHPRIV | LOG_WARNING,
-            months + 3 * at.tm_mon, at.tm_mday, at.tm_hour, at.tm_min, at.tm_sec, process, (int)getpid(), text);
+        pthread_setcancelstate(PTHREAD_CANCEL_DISABLE, &state);
         sendto(descriptor, line, strlen(line), MSG_NOSIGNAL, (const struct sockaddr *)&log, sizeof log);
         close(descriptor);
+        pthread_setcancelstate(state, NULL);
     }
     errno = error;
 }

@@ -92,6 +92,8 @@ subtest 'content' => sub {
     }
     my $pages = "$scratch/content/mkpasswd/usr/share/doc/mkpasswd/html";
     ok(-s "$pages/$_", "mkpasswd has $_") for qw(index.html site.css costs.svg);
+    my @dead = grep { !-e "$pages/$_" } map { slurp($_) =~ /(?:href|src)="(?![a-z]+:|#)([^"#]+)/g } glob "$pages/*.html";
+    is("@dead", '', 'each link of the pages leads to a file');
     my $libraries = 'libmkpasswd2/usr/lib/x86_64-linux-gnu';
     for (['mkpasswd', 'mkpasswd/usr/bin/mkpasswd'], ['libmkpasswd.so.2', "$libraries/libmkpasswd.so.2"],
         [$newer, "$libraries/glibc-hwcaps/x86-64-v3/libmkpasswd.so.2"]) {
@@ -133,6 +135,9 @@ for my $suite (@suites) {
         $is_held->('whois', 0, 0, 'at first the name is whois\'');
         isnt(inside($place, "dpkg -i $broken")->{status}, 0, 'a package that breaks off');
         $is_held->('whois', 0, 0, 'the name came back after it');
+        works($place, 'dpkg-divert --local --rename --add /usr/bin/mkpasswd; ! dpkg -i /debs/mkpasswd_*.deb; test -z "$(dpkg --audit)"
+            dpkg-divert --local --rename --remove /usr/bin/mkpasswd', 'a local diversion stops ours, and leaves nothing half done');
+        $is_held->('whois', 0, 0, 'the name is whois\' after it');
         works($place, "dpkg --purge mkpasswd; $apt install /debs/*.deb", 'ours come over whois');
         $is_held->('mkpasswd', 3, 3, 'the name is ours, and whois\' files stand aside');
         works($place, q{mkpasswd.whois -m yescrypt x | grep -F '$y$'; man -w mkpasswd.whois}, 'whois\' command and manual are there');
@@ -142,7 +147,10 @@ for my $suite (@suites) {
         $is_held->('mkpasswd', 3, 3, 'the name is ours after that');
         works($place, "$apt remove mkpasswd", 'ours is removed');
         $is_held->('whois', 0, 0, 'the name came back');
-        works($place, "$apt remove whois; $apt install /debs/mkpasswd_*.deb", 'ours without whois');
+        my $mine = '/usr/bin/mkpasswd.whois';
+        works($place, "$apt remove whois; echo mine > $mine; $apt install /debs/mkpasswd_*.deb; $apt purge mkpasswd
+            test ! -e /usr/bin/mkpasswd; grep mine $mine; rm $mine", 'a file of the administrator keeps its name');
+        works($place, "$apt install /debs/mkpasswd_*.deb", 'ours without whois');
         $is_held->('mkpasswd', 0, 3, 'the name is ours alone');
         works($place, "$apt install whois", 'whois comes after ours');
         $is_held->('mkpasswd', 3, 3, 'the name stays ours');

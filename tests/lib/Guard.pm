@@ -91,11 +91,11 @@ sub open_log {
     return $log;
 }
 
-# The lines of the system log since the last time, without priority and time, and what else it got.
+# The lines of the system log since the last time, without their priority, and what else it got.
 sub logged {
     my @lines;
     while (defined $log->recv(my $line, 2048, MSG_DONTWAIT)) {
-        push @lines, $line =~ s/^<84>[A-Z][a-z]{2} [ 1-3]\d \d\d:\d\d:\d\d //r;
+        push @lines, $line =~ s/^<84>//r;
     }
     return @lines;
 }

@@ -73,10 +73,10 @@ def test_budget_of_passlib(passlib, name, stored, word):
     assert handler.budget == handler.using().budget == mkpasswd.DEFAULT_BUDGET and "budget" not in handler.parsehash(stored)
 
 
-# Fields of a database of Django, and those for which the hasher raises: of another scheme, without a valid setting, too costly.
-REFUSED = ["mkpasswd" + field for field in ("$9$x", "$y$j9T$x$x", "$x", "$6$rounds=0$a$x", "$" + MD5, BEYOND)]
-ODD_FIELDS = ["", "!", "!x", "md5$x$x", MD5, "mkpasswdx", "mkpasswd!" + MD5, *REFUSED]
-ODD_FIELDS += ["mkpasswd", "mkpasswd$", "mkpasswd$!", "mkpasswd$*", "mkpasswd$!" + MD5[1:], "mkpasswd$!" + MD5]
+# Fields of a database of Django, and those that can't be checked: of another scheme, without a valid setting, too costly, locked.
+UNCHECKED = ["mkpasswd" + field for field in ("$9$x", "$y$j9T$x$x", "$x", "$6$rounds=0$a$x", "$" + MD5, BEYOND, "$5$rounds=90000000$x$x")]
+UNCHECKED += ["mkpasswd", "mkpasswd$", "mkpasswd$!", "mkpasswd$*", "mkpasswd$!" + MD5[1:], "mkpasswd$!" + MD5]
+ODD_FIELDS = ["", "!", "!x", "md5$x$x", MD5, "mkpasswdx", "mkpasswd!" + MD5, *UNCHECKED]
 ODD_FIELDS += ["mkpasswd" + field for field in ("$6$", "$1$ab", "$1$ab$", "$6$rounds=2000$ab", "$7$CU..../....ab", MD5[:-1], MD5[:13])]
 
 
@@ -115,11 +115,7 @@ def test_recipe_of_django(hashers, monkeypatch):
     # Those that no password matches cost a new hash, which is cheaper here.
     monkeypatch.setattr(type(hashers.get_hasher()), "rounds", 1000)
     for field in ODD_FIELDS:
-        if field in REFUSED:
-            with pytest.raises(mkpasswd.Refused):
-                hashers.check_password("password", field)
-        else:
-            assert hashers.check_password("password", field) is False, field
+        assert hashers.check_password("password", field) is False, field
     for password in "x\0", "x" * 1025, "\ud800":
         assert not hashers.check_password(password, encoded)
         with pytest.raises(ValueError):
@@ -147,6 +143,30 @@ def test_hasher_of_django(hashers, method, rounds, made, longest):
             hasher.encode("password", salt)
     with pytest.raises(ValueError):
         hashers.make_password("password", salt="a" * 40)
+
+
+def test_django_does_the_same_work_for_every_name(hashers, monkeypatch):
+    """A field that can't be checked costs what Django hashes for an unknown name."""
+    monkeypatch.setattr(type(hashers.get_hasher()), "rounds", 1000)
+    digests = []
+    for name in "mkpasswd_hash", "mkpasswd_login", "mkpasswd_new", "mkpasswd_verify":
+
+        def counted(*arguments, call=getattr(mkpasswd.lib, name)):
+            done = call(*arguments)
+            digests.append(arguments[-1].work.digests)
+            return done
+
+        monkeypatch.setattr(mkpasswd.lib, name, counted)
+    stored = hashers.make_password("password")
+    unknown = sum(digests)
+    for field in [stored, *UNCHECKED]:
+        digests.clear()
+        assert not hashers.check_password("passw0rd", field) and sum(digests) == unknown > 1000, field
+    # A password that costs more than the budget is a failed login for both.
+    hasher = hasher_with(rounds=656_000)
+    assert not hasher.verify("x" * 83, "mkpasswd" + FRONT + "a" * 16 + "$" + "x" * 86)
+    with pytest.raises(sys.modules["mkpasswd.django"].InvalidPassword):
+        hasher.encode("x" * 83, "a" * 16)
 
 
 def test_django_spends_what_is_missing(hashers, monkeypatch):

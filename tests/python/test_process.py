@@ -1,15 +1,14 @@
-"""Threads, forks, memory, and an interpreter that has no library."""
-import multiprocessing
+"""Threads, memory, and an interpreter that has no library."""
 import os
 import shutil
 import sys
 import threading
 import time
-from concurrent.futures import ProcessPoolExecutor, ThreadPoolExecutor
+from concurrent.futures import ThreadPoolExecutor
 
 import mkpasswd
 import pytest
-from support import COSTLY, MD5, ended, run_python
+from support import MD5, ended, run_python
 
 
 def test_other_threads_run_while_a_hash_is_made():
@@ -36,13 +35,6 @@ def test_threads_get_their_own_answers():
     assert answers == [n == m for n, m in pairs]
 
 
-def test_forked_processes():
-    """They draw different salts."""
-    with ProcessPoolExecutor(4, multiprocessing.get_context("fork")) as pool:
-        made = list(pool.map(mkpasswd.hash, ["x"] * 8, ["md5crypt"] * 8))
-    assert len(set(made)) == 8 and all(mkpasswd.verify("x", stored) for stored in made)
-
-
 WITHOUT_MEMORY = """
 import resource, mkpasswd
 used = int(open("/proc/self/statm").read().split()[0]) * resource.getpagesize()
@@ -63,24 +55,6 @@ def test_memory_is_refused():
     assert run_python(WITHOUT_MEMORY % MD5) == "out of memory\n" * 3 + "False None\n" * 2 + "True None\n"
 
 
-def test_memory_does_not_grow():
-    """In many calls, after as many as it takes to fill what the interpreter keeps."""
-
-    def calls(times):
-        for _ in range(times):
-            mkpasswd.verify("password", MD5)
-            mkpasswd.needs_rehash(MD5)
-            mkpasswd.work(MD5, mkpasswd.cost(MD5, 8) % 9)
-            mkpasswd.mksalt()
-            with pytest.raises(mkpasswd.TooCostly):
-                mkpasswd.verify("password", COSTLY)
-        with open("/proc/self/statm") as statm:
-            return int(statm.read().split()[1]) * os.sysconf("SC_PAGE_SIZE")
-
-    before = calls(1000)
-    assert calls(10_000) - before < 1 << 20
-
-
 @pytest.mark.parametrize("library", ["empty file", "garbage", "another library"])
 def test_no_library(library, tmp_path):
     """The loader stops at a file that is none, so that it finds none of the system's after it."""
@@ -91,9 +65,3 @@ def test_no_library(library, tmp_path):
     status, said = ended(sys.executable, "-c", "import mkpasswd", env=dict(os.environ, LD_LIBRARY_PATH=str(tmp_path)))
     words = "ImportError: mkpasswd needs its C library, libmkpasswd.so.2, and could not load it: "
     assert status == 1 and said.split("\n")[-2].startswith(words) and said.count("Traceback") == 1
-
-
-def test_python_m_mkpasswd_names_no_program():
-    """One on the PATH can be Debian's other mkpasswd."""
-    status, said = ended(sys.executable, "-m", "mkpasswd", "-m", "md5crypt", "x")
-    assert (status, said) == (1, "mkpasswd: this is a library for Python and has no command of its own\n")

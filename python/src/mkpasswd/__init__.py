@@ -22,12 +22,14 @@ import math
 import operator
 import os
 import re
-from typing import Any, NamedTuple, Optional, Tuple, Union
+from typing import Any, Iterator, NamedTuple, Optional, Tuple, Union
 
-from ._library import PASSWORD_LIMIT, TEXT_SIZE, Reason, Report, lib, words
+from ._library import PASSWORD_LIMIT, TEXT_SIZE, Reason, Report, lib
 
 __all__ = [
     "DEFAULT_BUDGET",
+    "METHOD_BLOWFISH",
+    "METHOD_CRYPT",
     "METHOD_MD5",
     "METHOD_SHA256",
     "METHOD_SHA512",
@@ -103,15 +105,37 @@ class TooCostly(Refused):
         return "%s: more than %d" % (self.reason.words, self.budget)
 
 
-class Verdict(NamedTuple):
-    """What login() and verify_and_update() return. It is true exactly if the password matches."""
+class Verdict:
+    """What login() and verify_and_update() return: (matches, new), which is true exactly if the password matches.
 
-    matches: bool  #: whether the password matches
-    new: Optional[str]  #: a new hash, to be stored in place of the old one, or None
+    Compared with a bool or None it is what its truth is. json.dumps() and a set refuse it: give them bool(result).
+    """
+
+    # Without a __dict__ and fields by name, so that no encoder makes an object of it, which would always be true.
+    __slots__ = ("matches", "new")
+
+    def __init__(self, matches: bool, new: Optional[str] = None) -> None:
+        self.matches = matches is True  #: whether the password matches
+        self.new = new  #: a new hash, to be stored in place of the old one, or None
 
     def __bool__(self) -> bool:
-        # A tuple of two is always true.
-        return self.matches is True
+        return self.matches
+
+    def __eq__(self, other: object) -> bool:
+        if isinstance(other, (tuple, Verdict)):
+            return tuple(self) == tuple(other)
+        # None counts as False, since whoever writes `== None` means a no.
+        return self.matches == (other is not None and other)
+
+    def __iter__(self) -> Iterator[Any]:
+        return iter((self.matches, self.new))
+
+    def __getitem__(self, at: int) -> Any:
+        return (self.matches, self.new)[at]
+
+    def __repr__(self) -> str:
+        # Logs have no hash.
+        return "Verdict(matches=%r, new=%s)" % (self.matches, self.new and "...")
 
 
 class Work(NamedTuple):
@@ -154,8 +178,8 @@ def login(
     """Check the password of a login, at the same cost for every name.
 
     `field` is what is stored for the name, and None for a name that does not exist. `method` and `rounds` are those that
-    the service gives hash(); scrypt takes 6 to 11. The result is a tuple (matches, new) that is true exactly if the
-    password matches. If needs_rehash() is then true of the field, `new` is a new hash to store in its place.
+    the service gives hash(); scrypt takes 6 to 11. The result is (matches, new), which is true exactly if the password
+    matches. If needs_rehash() is then true of the field, `new` is a new hash to store in its place.
 
     >>> login("password", "$1$xxxxxxxx$UYCIxa628.9qXjpQCjM4a.", "md5crypt")
     Verdict(matches=True, new=None)
@@ -164,8 +188,9 @@ def login(
     >>> bool(login("password", None))
     False
 
-    Nothing that a user can type or a database can hold as str or bytes raises an exception: a password that no hash can have, a locked or
-    malformed field, another scheme, a hash that costs more than the budget, and too little memory for scrypt are all false.
+    Nothing that a user can type or a database can hold as str or bytes raises an exception: a password that no hash can
+    have, a locked or malformed field, another scheme, a hash that costs more than the budget, and too little memory for
+    scrypt are all false.
     A field that can't be checked costs what a new hash costs, so the time does not tell which names exist, as long as all
     hashes have this method, these rounds and a salt as long as hash() makes. A password that no hash can have is refused at
     once, for every name.
@@ -179,20 +204,14 @@ def login(
     TypeError.
     """
     made, limit = _method(method, rounds), _limit(budget)
-    stored = b"" if field is None else _bytes(field, "field")
-    try:
-        word = _password(password)
-    except ValueError as fault:
-        _LOG.debug("login refused: %s", fault)
-        return Verdict(False, None)
-    reason = _login(word, stored, made, limit)
+    reason = _login(password, field, made, limit)
     if reason is not Reason.OUTDATED:
-        return Verdict(reason is Reason.FITS, None)
+        return Verdict(reason is Reason.FITS)
     try:
-        return Verdict(True, _new(word, made, limit))
+        return Verdict(True, _new(_password(password), made, limit))
     except (TooCostly, MemoryError, OSError) as fault:
         _LOG.debug("no new hash: %s", fault)
-        return Verdict(True, None)
+        return Verdict(True)
 
 
 def verify(password: Text, stored: Text, *, budget: float = DEFAULT_BUDGET) -> bool:
@@ -229,7 +248,7 @@ def verify_and_update(
 ) -> Verdict:
     """Whether the password matches, and a new hash to store if it does and needs_rehash() is true of the stored one.
 
-    The result is a tuple (matches, new) that is true exactly if the password matches.
+    The result is (matches, new), which is true exactly if the password matches.
 
     >>> verify_and_update("password", "$1$xxxxxxxx$UYCIxa628.9qXjpQCjM4a.", "md5crypt")
     Verdict(matches=True, new=None)
@@ -243,17 +262,16 @@ def verify_and_update(
     word, field, limit = _password(password), _bytes(stored, "stored"), _limit(budget)
     made = _method(method, rounds)
     if _is_locked(field):
-        return Verdict(False, None)
+        return Verdict(False)
     is_outdated = _is_outdated(field, made)
-    if not _matches(word, field, limit):
-        return Verdict(False, None)
-    if not is_outdated:
-        return Verdict(True, None)
+    is_match = _matches(word, field, limit)
+    if not is_match or not is_outdated:
+        return Verdict(is_match)
     left = limit - _bound(field, len(word)).cost
     try:
         return Verdict(True, _new(word, made, left))
     except TooCostly:
-        return Verdict(True, None)
+        return Verdict(True)
 
 
 def needs_rehash(stored: Text, method: str = "sha512crypt", rounds: Optional[int] = None) -> bool:
@@ -301,7 +319,7 @@ class _Method(NamedTuple):
     """A method of crypt(), with the attributes that the standard library's have."""
 
     name: str
-    ident: str
+    ident: Any
     salt_chars: int
     total_size: int
 
@@ -312,6 +330,10 @@ class _Method(NamedTuple):
 METHOD_SHA512 = _Method("SHA512", "6", 16, 106)
 METHOD_SHA256 = _Method("SHA256", "5", 16, 63)
 METHOD_MD5 = _Method("MD5", "1", 8, 34)
+
+#: Two names of the standard library's. A salt of one raises Refused.
+METHOD_BLOWFISH = _Method("BLOWFISH", "2b", 22, 60)
+METHOD_CRYPT = _Method("CRYPT", None, 2, 13)
 
 #: The methods of crypt(), strongest first. scrypt is a method of hash().
 methods = [METHOD_SHA512, METHOD_SHA256, METHOD_MD5]
@@ -326,15 +348,15 @@ def mksalt(method: Optional[_Method] = None, *, rounds: Optional[int] = None) ->
     method = methods[0] if method is None else method
     if not isinstance(method, _Method):
         raise TypeError("method must be one of mkpasswd.methods, not %s" % type(method).__name__)
+    if method in (METHOD_BLOWFISH, METHOD_CRYPT):
+        raise Refused(Reason.UNKNOWN_METHOD)
     if rounds is not None:
-        if not isinstance(rounds, int):
-            raise TypeError("%s object cannot be interpreted as an integer" % type(rounds).__name__)
-        rounds = int.__index__(rounds)
+        rounds = _int(rounds, "rounds")
         if method == METHOD_MD5:
             raise ValueError("%r doesn't support the rounds argument" % (method,))
         if not 1000 <= rounds <= 999_999_999:
             raise ValueError("rounds out of the range 1000 to 999_999_999")
-    return _setting((int(method.ident), rounds or 0), os.urandom(24)).decode("ascii")
+    return _setting((int(method.ident), rounds or 0))
 
 
 def crypt(word: Text, salt: Union[Text, _Method, None] = None, *, budget: float = DEFAULT_BUDGET) -> str:
@@ -435,14 +457,20 @@ def _new(word: bytes, made: Tuple[int, int], limit: int) -> str:
     return out.value.decode("ascii")
 
 
-def _login(word: bytes, field: bytes, made: Tuple[int, int], limit: int) -> Optional[Reason]:
+def _login(password: Text, stored: Optional[Text], made: Tuple[int, int], limit: int) -> Optional[Reason]:
     """FITS or OUTDATED for a match, and None otherwise."""
+    field = b"" if stored is None else _bytes(stored, "field")
+    try:
+        word = _password(password)
+    except ValueError as fault:
+        _LOG.debug("login refused: %s", fault)
+        return None
     report = Report()
     if lib.mkpasswd_login(word, len(word), field, len(field), *made, limit, report) == 1:
         return Reason(report.reason)
     if report.reason in (Reason.UNKNOWN_METHOD.value, Reason.COST.value):
         raise _failure(report)
-    _LOG.debug("login refused: %s", words(report.reason))
+    _LOG.debug("login refused: %s", Reason(report.reason).words)
     return None
 
 
@@ -475,13 +503,13 @@ def _bound(field: bytes, password_len: int) -> Report:
     return report
 
 
-def _setting(made: Tuple[int, int], random: bytes = bytes(24)) -> bytes:
+def _setting(made: Tuple[int, int]) -> str:
     report = Report()
     out = ctypes.create_string_buffer(TEXT_SIZE)
-    words = [int.from_bytes(random[i : i + 8], "little") for i in range(0, 24, 8)]
+    words = [int.from_bytes(os.urandom(8), "little") for _ in range(3)]
     if lib.mkpasswd_setting(*made, *words, out, len(out), report) != 1:
         raise _failure(report)
-    return out.value
+    return out.value.decode("ascii")
 
 
 def _failure(report: Report, limit: int = _NO_LIMIT) -> Exception:

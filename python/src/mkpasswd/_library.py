@@ -41,14 +41,9 @@ class Reason(enum.Enum):
 
     @property
     def words(self) -> str:
-        return words(self.value)
-
-
-def words(number: int) -> str:
-    """The message of a reason."""
-    out = ctypes.create_string_buffer(TEXT_SIZE)
-    lib.mkpasswd_words(number, out, len(out))
-    return out.value.decode("ascii")
+        out = ctypes.create_string_buffer(TEXT_SIZE)
+        lib.mkpasswd_words(self.value, out, len(out))
+        return out.value.decode("ascii")
 
 
 class CWork(ctypes.Structure):

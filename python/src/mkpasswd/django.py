@@ -8,15 +8,15 @@ PASSWORD_HASHERS has the name of such a class: the one here makes hashes of 5000
 of the first "$", so a hash is stored as "mkpasswd$6$..". Put "mkpasswd" in front of hashes of these methods that come from
 elsewhere.
 """
-import os
 import re
+from contextlib import suppress
 from typing import Any, Dict, Optional, Tuple
 
 from django.contrib.auth.hashers import BasePasswordHasher, mask_hash
 from django.core.exceptions import PermissionDenied
 from django.utils.translation import gettext_noop as _
 
-from . import DEFAULT_BUDGET, _method, _setting, crypt, hash, needs_rehash, verify
+from . import DEFAULT_BUDGET, Refused, _limit, _login, _method, _password, _setting, cost, crypt, hash, needs_rehash
 
 __all__ = ["InvalidPassword", "MkpasswdPasswordHasher"]
 
@@ -30,7 +30,7 @@ _FORMS = (
 
 
 class InvalidPassword(PermissionDenied, ValueError):
-    """A password that no hash can have.
+    """A password that no hash can have, or whose hash would cost more than the budget or the memory that there is.
 
     For an unknown name Django's authenticate() hashes what was typed. It takes this for a login that failed, so that unknown
     names don't stand out.
@@ -52,41 +52,34 @@ class MkpasswdPasswordHasher(BasePasswordHasher):
         setting = self._new_setting()[0] + salt
         try:
             encoded = crypt(password, setting, budget=self.budget)
-        except ValueError as fault:
-            if type(fault) is ValueError:
-                raise InvalidPassword(str(fault)) from None
-            raise
+        except (MemoryError, ValueError) as fault:
+            raise InvalidPassword(str(fault)) from None
         # A long salt would be cut, and of a bad one there is no hash.
         if not encoded.startswith(setting + "$"):
             raise ValueError("bad salt")
         return self.algorithm + encoded
 
     def verify(self, password: str, encoded: str) -> bool:
-        field = self._field(encoded)
-        try:
-            return verify(password, field, budget=self.budget)
-        except ValueError as fault:
-            # Nobody's password is too long or has a zero byte, whoever types it.
-            if type(fault) is ValueError:
-                return False
-            raise
+        # As login(), at the cost of a new hash where nothing can be checked; the new hash is Django's to make.
+        made = _method(self.method, self.rounds)
+        return _login(password, self._field(encoded), made, _limit(self.budget)) is not None
 
     def must_update(self, encoded: str) -> bool:
-        return needs_rehash(self._field(encoded), self.method, self.rounds)
+        with suppress(Refused):
+            return needs_rehash(self._field(encoded), self.method, self.rounds)
+        return False
 
     def harden_runtime(self, password: str, encoded: str) -> None:
         # The rounds that the stored hash has less than a new one; with another method or scrypt a whole new hash.
         rounds = self.rounds
-        try:
+        with suppress(ValueError):
+            if cost(self._field(encoded), len(_password(password))) > self.budget:
+                return  # verify() has done all of the work
             decoded = self.decode(encoded)
             if decoded["method"] == self.method and self.method.startswith("sha"):
                 rounds = max((rounds or 5000) - decoded["rounds"], 1000)
-        except ValueError:
-            pass
-        try:
+        with suppress(MemoryError, ValueError):
             hash(password, self.method, rounds=rounds, budget=self.budget)
-        except ValueError:
-            pass
 
     def decode(self, encoded: str) -> Dict[str, Any]:
         field = self._field(encoded)
@@ -122,10 +115,7 @@ class MkpasswdPasswordHasher(BasePasswordHasher):
         return rest if rest[:1] in ("", "!", "*") else dollar + rest
 
     def _new_setting(self) -> Tuple[str, str]:
-        return _cut(_setting(_method(self.method, self.rounds), os.urandom(24)).decode("ascii"))
-
-
-def _cut(setting: str) -> Tuple[str, str]:
-    """A setting up to its salt, and the salt. scrypt's begins after eleven characters of cost."""
-    at = 14 if setting.startswith("$7$") else setting.rindex("$") + 1
-    return setting[:at], setting[at:]
+        """A setting up to its salt, and the salt. scrypt's begins after eleven characters of cost."""
+        setting = _setting(_method(self.method, self.rounds))
+        at = 14 if setting.startswith("$7$") else setting.rindex("$") + 1
+        return setting[:at], setting[at:]
