@@ -1,7 +1,7 @@
 # make             builds ./mkpasswd, the proved program; make run also hashes a first password
 # make static      builds build/x86-64/mkpasswd, which needs nothing of the system but the kernel
 # make lib         builds the C libraries; make guard the one in front of crypt(3)
-# make web         builds build/mkpasswd.html, a page that makes and checks hashes in a browser
+# make web         builds build/mkpasswd.html, a page that makes and checks hashes in a browser, and build/mkpasswd.mjs, for node
 # make install     installs all of it below PREFIX (default /usr/local); make uninstall removes it
 # make test        tests what is built: T=tests/lines.t one file; with STRICT=1 a tool that is missing is a failure
 # make check       every check there is: layers, gate, tests; with ANEW=1 the gate proves everything anew
@@ -25,10 +25,12 @@ VERSION := $(shell tools/version)
 OWN = build/$(or $(CPU),x86-64-v2)
 FOR = $(or $(TARGET),$(CPU),x86-64)
 ARCHIVE ?= mkpasswd-$(VERSION)-$(subst -,_,$(FOR))-linux.tar.gz
-# The web pages are made where Debian's pandoc and mandoc are there; archives and packages always have them.
+# The web pages are made where Debian's pandoc and mandoc are there, and the one that hashes where its binaryen is; archives and
+# packages always have them.
 SITE := $(shell tools/site --check 2> /dev/null && echo build/site/index.html)
-BUILT = mkpasswd lib guard build/x86-64-v3/libmkpasswd.so.2 build/mkpasswd.html build/SPECIFICATION.md $(SITE)
-PACKED = $(addprefix build/$(FOR)/,mkpasswd libmkpasswd.a libmkpasswd.so.2) build/mkpasswd.html build/SPECIFICATION.md \
+WEB := $(shell tools/web --check 2> /dev/null && echo build/mkpasswd.html build/mkpasswd.mjs)
+BUILT = mkpasswd lib guard build/x86-64-v3/libmkpasswd.so.2 $(WEB) build/SPECIFICATION.md $(SITE)
+PACKED = $(addprefix build/$(FOR)/,mkpasswd libmkpasswd.a libmkpasswd.so.2) $(WEB) build/SPECIFICATION.md \
 	$(if $(TARGET),,build/$(FOR)/libmkpasswd-crypt.so build/x86-64-v3/libmkpasswd.so.2)
 ARM = $(addprefix build/aarch64/,mkpasswd libmkpasswd.a libmkpasswd.so.2)
 TRIED = $(BUILT) $(PACKED) $(if $(findstring /,$(shell aarch64-linux-gnu-gcc -print-file-name=libc.a 2> /dev/null)),$(ARM))
@@ -101,16 +103,23 @@ guard: libmkpasswd-crypt.so
 build/%/libmkpasswd-crypt.so: build/%/libmkpasswd.a c/guard.c c/libmkpasswd-crypt.map c/mkpasswd.h tools/guard
 	LIBRARY=$(abspath $<) tools/guard $@
 
-# The calls for a page, as a module of WebAssembly, and the page around it.
-web: build/mkpasswd.html
+# The calls for a page, as a module of WebAssembly, and what is made around it.
+web:
+	tools/web --check
+	$(MAKE) build/mkpasswd.html build/mkpasswd.mjs
 
 build/wasm64/libcrypt_web.a: $(SOURCES) tools/for-cpu
 	tools/for-cpu wasm64 $(@F)
 
-build/mkpasswd.wasm: build/wasm64/libcrypt_web.a
+build/wasm64/mkpasswd.wasm: build/wasm64/libcrypt_web.a
 	kit=$$(dirname $$($(RT) doc)) && $$kit/bin/rattle-link --target wasm64-unknown-unknown --toolchain $$kit/toolchain -o $@ $<
 
-build/mkpasswd.html: build/mkpasswd.wasm tools/web $(wildcard web/*)
+# Not every browser has 64-bit memory. The arguments of the calls stay what they are.
+build/mkpasswd.wasm: build/wasm64/mkpasswd.wasm
+	wasm-opt --enable-memory64 --enable-bulk-memory --memory64-lowering --strip-debug --strip-producers \
+		--strip-target-features $< -o $@
+
+build/mkpasswd.html build/mkpasswd.mjs: build/mkpasswd.wasm tools/web c/mkpasswd.h $(wildcard web/*)
 	tools/web $< $@
 
 # Each target keeps what it found in build/fuzz, from where the next run begins.
@@ -145,7 +154,7 @@ build/SPECIFICATION.md: tools/specification tools/specification.md $(SOURCES)
 
 site: build/site/index.html
 
-build/site/index.html: tools/site $(wildcard *.md docs/* man/* examples/* c/*.h) build/mkpasswd.html build/SPECIFICATION.md tools/version
+build/site/index.html: tools/site $(wildcard *.md docs/* man/* examples/* c/*.h) $(WEB) build/SPECIFICATION.md tools/version
 	rm -rf build/site && mkdir -p build/site
 	tools/site build/site
 
@@ -171,6 +180,7 @@ uninstall:
 
 dist:
 	tools/site --check
+	tools/web --check
 	$(MAKE) $(PACKED) build/site/index.html
 	tools/pack $(FOR)
 

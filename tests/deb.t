@@ -20,6 +20,7 @@ sub needs_all {
     needs('DEB=1' => 'none: these tests take ten minutes and 3 GB, so they are run with DEB=1 or STRICT=1', $is_wanted) or return 0;
     needs('the C library' => 'none: run make deb', -e "$root/libmkpasswd.so.2" && -e "$root/$newer") or return 0;
     needs('build/site' => 'mandoc, pandoc', -d "$root/build/site") or return 0;
+    needs('build/mkpasswd.mjs' => 'binaryen', -e "$root/build/mkpasswd.mjs") or return 0;
     needs('the superuser' => 'none: run it as root', $> == 0) or return 0;
     needs(mmdebstrap => 'mmdebstrap') && needs('dpkg-checkbuilddeps' => 'dpkg-dev') or return 0;
     for (@suites) {

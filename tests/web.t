@@ -1,22 +1,52 @@
 #!/usr/bin/env perl
-# The page that hashes in a browser: its worker and module in node, against libcrypt; all of it in Chromium and Firefox, from a
-# server on this machine, which logs each request, and from a file.
+# The page that hashes in a browser, and mkpasswd.mjs: in node against libcrypt; all of the page in Chromium, Firefox and WebKit,
+# from a server on this machine, which logs each request, and from a file.
 use strict;
 use warnings;
 use FindBin qw($Bin);
 use lib "$Bin/lib";
 use HTTP::Tiny;
+use IO::Socket::INET;
 use JSON::PP qw(decode_json encode_json);
 use Suite;
+use Texts;
 use Time::HiRes qw(sleep);
 
-my $page = "$root/build/mkpasswd.html";
--e $page or BAIL_OUT("$page is not built: run make web");
+my ($page, $module) = map { "$root/build/mkpasswd.$_" } qw(html mjs);
+needs('build/mkpasswd.html' => 'binaryen', -e $page) or do { done_testing; exit };
 
 # What is left to end, latest first.
 my @closing;
 END { local $?; close_all() }
 sub close_all { (pop @closing)->() while @closing }
+
+# Stored hashes and passwords that are refused, and the reasons' names. The program says the same of them.
+my @refused = (
+    ['$6$s$x', 'x' x 1025, 'REFUSED_PASSWORD_TOO_LONG'], ['$6$s$x', "x\0y", 'REFUSED_PASSWORD_ZERO_BYTE'],
+    ['$6$' . 'x' x 400, 'x', 'REFUSED_SETTING_TOO_LONG'], ["\$6\$s\x{e4}lt\$x", 'x', 'REFUSED_BAD_CHARACTER'],
+    ['$2b$05$x', 'x', 'REFUSED_UNKNOWN_SCHEME'], ['$5$rounds=$x', 'x', 'REFUSED_BAD_ROUNDS'],
+    ['$6$rounds=999999999$s$x', 'x', 'OVER_BUDGET'], ['$7$M0..../....s', 'x', 'REFUSED_ABOVE_CEILING'],
+);
+my $rows = JSON::PP->new->ascii->encode(\@refused);
+my $lines = join '', map { "n:$_->[0]:$_->[1]\n" } @refused;
+utf8::encode($lines);
+my @words = run({ stdin => $lines }, program(), qw(--check --budget 150000000))->{err} =~ /line \d+: (.*)/g;
+is(scalar @words, scalar @refused, 'the program refuses all of them');
+
+# Binaryen wraps addresses and lengths, and marks code that is never reached. It has nothing else to do.
+subtest 'lowered' => sub {
+    needs('wasm-objdump' => 'wabt') or return;
+    my ($before, $after) = map {
+        my %count;
+        $count{$_}++ for run('wasm-objdump', '-d', "$root/build/$_")->{out} =~ /^ \w+: [^|]*\| +([a-z][\w.]*)(?: |$)/mg;
+        \%count;
+    } qw(wasm64/mkpasswd.wasm mkpasswd.wasm);
+    my %arguments = map { $_ => /copy/ ? 3 : /fill/ ? 2 : 1 } grep { /load|store|memory/ } keys %$before;
+    $before->{'i32.wrap_i64'} += $arguments{$_} * $before->{$_} for keys %arguments;
+    ok($after->{unreachable} >= delete $before->{unreachable}, 'unreachable');
+    delete $after->{unreachable};
+    is_deeply($after, $before, 'all others');
+};
 
 # libxcrypt takes passwords of up to 511 bytes.
 subtest 'in node' => sub {
@@ -26,44 +56,60 @@ subtest 'in node' => sub {
         my $password = join '', map { chr 2 + rand 254 } 1 .. ($_ % 9 ? rand 40 : rand 512);
         my $salt = join '', map { $alphabet[rand @alphabet] } 1 .. rand 18;
         [$password, crypt $password, ('$1$', '$5$', '$6$', '$5$rounds=1001$', '$6$rounds=1999$')[$_ % 5] . $salt];
-    } 1 .. 500;
+    } 1 .. 1000;
+    my $longest = 'x' x 1024;
+    push @cases, [$longest, run({ stdin => $longest }, program(), qw(-m sha512crypt -S xxxxxxxx))->{out} =~ s/\n//r];
+    spew("$scratch/mkpasswd.mjs", slurp($module));
+    spew("$scratch/check.mjs", marked('worker', 'js'));
     my %with = (stdin => join '', map { join(' ', map { unpack 'H*', $_ } @$_) . "\n" } @cases);
-    my @flags = ([], ['--experimental-wasm-memory64']);
-    my ($run) = grep { $_->{status} < 9 } map { run(\%with, 'node', @$_, "$root/tests/web/worker.js", $page) } @flags;
-    needs('node with 64-bit memory' => 'nodejs 20', $run) or return;
-    is_run($run, 0, join('', map { "1 -17 $_->[1]\n" } @cases), '', 'as libcrypt');
+    my $run = run(\%with, 'node', "$root/tests/web/node.mjs", "$scratch/mkpasswd.mjs", $page, $rows);
+    my $told = eval { decode_json($run->{out}) } or return fail("node: $run->{err}");
+    my @reasons = ('REFUSED_UNKNOWN_METHOD: unknown method', 'REFUSED_COST: cost', 'OVER_BUDGET: over budget');
+    push @reasons, map { "$refused[$_][2]: $words[$_]" } 0 .. $#refused;
+    is_deeply($told->{refused}, [map { "MKPASSWD_$_" } @reasons], 'refusals by the names of C');
+    is_deeply($told->{checked}, [map { "true true false false $_->[1]" } @cases], 'the module and the worker say what libcrypt does');
+    is_deeply([map { crypt 'password', $_ } @{ $told->{made} }], $told->{made}, 'libcrypt makes the hashes with new salts');
+    is_deeply([map { $_->{matches} ? 1 : 0 } @{ $told->{answers} }], [1, 0, 0], 'the worker of GUIDE');
 };
 
-# Starts a server, and returns the port that it writes to its log.
+# Starts a server on a free port, and returns its address once it takes a call.
 sub started {
     my ($log, @command) = @_;
+    my $port = IO::Socket::INET->new(Listen => 1, LocalAddr => '127.0.0.1')->sockport;
     my $pid = fork // die "can't fork: $!";
     if (!$pid) {
         open $_, '>', $log or die for *STDOUT, *STDERR;
-        exec @command or POSIX::_exit(127);
+        exec map { s/PORT/$port/r } @command or POSIX::_exit(127);
     }
     push @closing, sub { kill KILL => $pid; waitpid $pid, 0 };
-    -e $log && slurp($log) =~ /\bport (\d\d+)/ and return $1 or sleep 0.1 for 1 .. 300;
+    IO::Socket::INET->new("127.0.0.1:$port") and return "http://127.0.0.1:$port" or sleep 0.1 for 1 .. 300;
     die "$command[0] doesn't start: " . slurp($log);
 }
 
-# The browsers, each with its driver's Debian package, whether that is there, and how it is started: then it is a call that
-# opens an address and runs a script there.
+# Starts a driver and its browser, and returns a call that opens an address and runs a script there.
 my %timeouts = (script => 100_000);
+sub driven {
+    my ($options, @driver) = @_;
+    my $to = started("$scratch/$driver[0].log", @driver) . '/session';
+    my $http = HTTP::Tiny->new(timeout => 120);
+    my $ask = sub { decode_json($http->post("$to$_[0]", { content => encode_json($_[1]) })->{content})->{value} };
+    my $id = '/' . $ask->('', { capabilities => { alwaysMatch => { timeouts => \%timeouts, %$options } } })->{sessionId};
+    push @closing, sub { $http->delete($to . $id) };
+    return sub { $ask->("$id/url", { url => $_[0] }); $ask->("$id/execute/sync", { script => $_[1], args => [] }) };
+}
+
+# The browsers, each with what has to be there and its Debian package, and how it is started.
 my %browsers = (
-    chromium => ['chromium-driver', sub { -x '/usr/bin/chromedriver' }, sub {
-        my $to = 'http://127.0.0.1:' . started("$scratch/chromedriver", qw(chromedriver --port=0)) . '/session';
-        my $http = HTTP::Tiny->new(timeout => 120);
-        my $ask = sub { decode_json($http->post("$to$_[0]", { content => encode_json($_[1]) })->{content})->{value} };
-        my %options = (timeouts => \%timeouts, 'goog:chromeOptions' => { args => [qw(--headless=new --no-sandbox)] });
-        my $id = '/' . $ask->('', { capabilities => { alwaysMatch => \%options } })->{sessionId};
-        push @closing, sub { $http->delete($to . $id) };
-        return sub { $ask->("$id/url", { url => $_[0] }); $ask->("$id/execute/sync", { script => $_[1], args => [] }) };
+    Chromium => [{ chromium => 'chromium', chromedriver => 'chromium-driver' }, sub {
+        driven({ 'goog:chromeOptions' => { args => [qw(--headless=new --no-sandbox)] } }, qw(chromedriver --port=PORT));
     }],
-    'firefox-esr' => ['libfirefox-marionette-perl', sub { eval { require Firefox::Marionette } }, sub {
+    Firefox => [{ 'firefox-esr' => 'firefox-esr', 'Firefox/Marionette.pm' => 'libfirefox-marionette-perl' }, sub {
         my $timeouts = Firefox::Marionette::Timeouts->new(%timeouts, page_load => 100_000, implicit => 0);
         my $firefox = Firefox::Marionette->new(binary => '/usr/bin/firefox-esr', timeouts => $timeouts);
         return sub { $firefox->go($_[0]); $firefox->script($_[1]) };
+    }],
+    WebKit => [{ WebKitWebDriver => 'webkit2gtk-driver', 'xvfb-run' => 'xvfb', xauth => 'xauth' }, sub {
+        driven({}, qw(xvfb-run -a WebKitWebDriver --port=PORT));
     }],
 );
 
@@ -81,38 +127,32 @@ sub visit {
     eval {
         my $visit = $open->();
         spew($told, '');
-        spew($told, join "\n", map { $visit->($_, $script) } @addresses);
+        spew($told, join "\n", map { my $answer = $visit->($_, $script); utf8::encode($answer); $answer } @addresses);
         close_all();
         1;
     } or print STDERR $@;
     kill KILL => -$$;
 }
 
-# Stored hashes and passwords that are refused, and what the program says of them.
-my @refused = (
-    ['$6$s$x', 'x' x 1025], ['$6$s$x', "x\0y"], ['$6$' . 'x' x 400, 'x'], ["\$6\$s\x{e4}lt\$x", 'x'], ['$2b$05$x', 'x'],
-    ['$5$rounds=$x', 'x'], ['$6$rounds=999999999$s$x', 'x'], ['$7$M0..../....s', 'x'],
-);
-my $lines = join '', map { "n:$_->[0]:$_->[1]\n" } @refused;
-utf8::encode($lines);
-my @words = run({ stdin => $lines }, program(), qw(--check --budget 150000000))->{err} =~ /line \d+: (.*)/g;
-is(scalar @words, scalar @refused, 'the program refuses all of them');
+# The page with policies that refuse its module, and its script.
+my @unable = map { "$scratch/without-$_.html" } qw(WebAssembly script);
+spew($unable[0], slurp($page) =~ s/ 'wasm-unsafe-eval'//r);
+spew($unable[1], slurp($page) =~ s/script-src [^;]*/script-src 'none'/r);
 
 for my $name (sort keys %browsers) {
     subtest $name => sub {
-        my ($package, $is_there, $open) = @{ $browsers{$name} };
-        needs($name => $name) && needs("$name\'s driver" => $package, $is_there->()) or return;
-        my @served = (qw(http.server 0 --bind 127.0.0.1 --directory), "$root/build");
-        my $server = 'http://127.0.0.1:' . started("$scratch/$name.server", qw(python3 -u -m), @served);
+        my ($needed, $open) = @{ $browsers{$name} };
+        needs($_ => $needed->{$_}, /\.pm$/ ? eval { require $_ } : undef) or return for sort keys %$needed;
+        my $server = started("$scratch/$name.server", qw(python3 -u -m http.server PORT --bind 127.0.0.1 --directory), "$root/build");
         my %salts;
-        my %value = (SERVER => $server, ROWS => JSON::PP->new->ascii->encode(\@refused));
+        my %value = (SERVER => $server, ROWS => $rows);
         my $script = slurp("$root/tests/web/page.js") =~ s/@(\w+)@/$value{$1}/gr;
-        my @addresses = ("$server/mkpasswd.html", "file://$page");
+        my @addresses = ("$server/mkpasswd.html", map { "file://$_" } $page, @unable);
         visit("$scratch/$name", $open, $script, @addresses);
-        needs("$name, started," => $package, -e "$scratch/$name") or return;
-        my @told = split /\n/, slurp("$scratch/$name") or return fail("$name answers in five minutes");
-        for my $address (@addresses) {
-            my $told = decode_json(shift @told);
+        needs("$name, started," => join(', ', sort values %$needed), -e "$scratch/$name") or return;
+        my @told = map { decode_json($_) } split /\n/, slurp("$scratch/$name") or return fail("$name answers in five minutes");
+        for my $address (@addresses[0, 1]) {
+            my $told = shift @told;
             ref $told or return fail("$address: $told");
             my @made = map { $_->[0] } @{ $told->{made} };
             my $password = "K\xc3\xa4se \xf0\x9f\x90\x8e";
@@ -123,9 +163,13 @@ for my $name (sort keys %browsers) {
             my @fits = map { map { /^The password (matches|does not match)\b/ } @$_[1, 2] } @{ $told->{made} };
             is_deeply(\@fits, [('matches', 'does not match') x 3], 'their passwords match, and others do not');
             is_deeply([map { /^([^:.]+)/ } @{ $told->{refused} }], \@words, 'the refusals of the program');
+            my $differ = ['The two passwords differ.', JSON::PP::false];
+            is_deeply($told->{mistyped}, $differ, 'a password that was mistyped once makes no hash, and leaves none');
             is_deeply([@$told{qw(beyond stopped sent)}], [[], 'Stopped.', ['refused', 'refused']], 'not too wide; stopped; nothing sent');
         }
         is(scalar keys %salts, 6, 'each salt is another');
+        my @unable = map { [$_->{unable} =~ /\b(WebAssembly|script)\b/, $_->{forms}] } @told;
+        is_deeply(\@unable, [['WebAssembly', 0], ['script', 0]], 'what a policy refuses is named, and no form is shown');
         my @asked = slurp("$scratch/$name.server") =~ /"(.*? HTTP)/g;
         is_deeply([grep { $_ ne 'GET /mkpasswd.html HTTP' } @asked], [], 'only the page is asked for');
     };

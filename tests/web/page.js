@@ -3,6 +3,7 @@
 const element = (id) => document.getElementById(id);
 const status = (form) => element(form).querySelector('[role=status]');
 const until = async (test) => { while (!test()) await new Promise((next) => setTimeout(next, 20)); };
+const isShown = (part) => part.offsetParent !== null;
 
 function start(form, values) {
     for (const [id, value] of Object.entries(values)) element(id).value = value;
@@ -23,17 +24,20 @@ function beyond(width) {
 }
 
 async function visit() {
+    await until(() => isShown(element('unsupported')) || isShown(element('make')));
+    if (isShown(element('unsupported'))) return { unable: element('unsupported').textContent, forms: [...document.forms].filter(isShown).length };
     const told = { made: [], refused: [] };
     const password = 'K\u00e4se \u{1f40e}';
-    for (const method of [6, 5, 1]) {
-        await ended('make', { password, method, rounds: 1234 });
+    for (const method of ['sha512crypt', 'sha256crypt', 'md5crypt']) {
+        await ended('make', { password, repeat: password, method, rounds: 1234 });
         const stored = element('hash').textContent;
         const right = await ended('check', { stored, guess: password });
         told.made.push([stored, right, await ended('check', { guess: 'K\u00e4se' })]);
     }
     told.beyond = [375, 1280].filter((width) => beyond(width) > 0);
     for (const [stored, guess] of @ROWS@) told.refused.push(await ended('check', { stored, guess }));
-    start('make', { method: 6, rounds: 999999999 });
+    told.mistyped = [await ended('make', { repeat: 'K\u00e4se' }), isShown(element('made'))];
+    start('make', { password, repeat: password, method: 'sha512crypt', rounds: 999999999 });
     const stop = element('make').querySelector('[data-stop]');
     await until(() => !stop.hidden);
     stop.click();

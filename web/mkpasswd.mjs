@@ -1,0 +1,60 @@
+// mkpasswd @VERSION@: hashes of crypt(5) by sha512crypt, sha256crypt and md5crypt, for web pages and node 20, or 18 with its option
+// --experimental-global-webcrypto. The proved code was compiled by LLVM and lowered by Binaryen; this script is tested. Passwords,
+// settings and hashes are strings, as UTF-8, or Uint8Arrays. A call blocks its thread until it has hashed: let a worker make it.
+const module = Uint8Array.from(atob('@MODULE@'), (character) => character.charCodeAt(0));
+const { exports } = new WebAssembly.Instance(new WebAssembly.Module(module));
+const memory = new Uint8Array(exports.memory.buffer);
+const initial = memory.slice();
+
+// In the free memory are the report, `out`, and then what is passed: of a password that is too long, a byte too many.
+const START = Math.ceil(Number(exports.__heap_base.value) / 16) * 16;
+const [OUT, OUT_SIZE, PASSED, MOST_BYTES] = [START + 64, 145, START + 256, 1025];
+const METHODS = { md5crypt: 1, sha256crypt: 5, sha512crypt: 6 };
+const BUDGET = 150000000;
+const [REFUSED_COST, DIFFERS] = [-14, -17];
+const REFUSALS = { @REFUSALS@ };
+
+// An error whose `reason` is the name that mkpasswd.h has for a refusal, such as MKPASSWD_OVER_BUDGET.
+const refusal = (number) => Object.assign(new Error(REFUSALS[number][1]), { reason: REFUSALS[number][0] });
+
+function bytesOf(text) {
+    if (text instanceof Uint8Array) return text;
+    if (typeof text !== 'string') throw new TypeError('neither a string nor a Uint8Array');
+    if (/\p{Surrogate}/u.test(text)) throw new TypeError('half of a character has no bytes');
+    return new TextEncoder().encode(text);
+}
+const within = (budget) => BigInt(Math.max(0, Math.min(budget, Number.MAX_SAFE_INTEGER)));
+
+// Calls the module with bytes and numbers, wipes its memory, and returns what it reports.
+function call(name, ...passed) {
+    let end = PASSED;
+    const words = passed.flatMap((value) => {
+        if (!(value instanceof Uint8Array)) return [value];
+        const [from, bytes] = [end, value.subarray(0, MOST_BYTES)];
+        memory.set(bytes, from);
+        end += bytes.length;
+        return [BigInt(from), BigInt(bytes.length)];
+    });
+    exports[name](...words, BigInt(START));
+    const report = new DataView(memory.buffer, START);
+    const [reason, length, cost] = [report.getInt32(0, true), report.getUint32(4, true), Number(report.getBigUint64(8, true))];
+    const text = String.fromCharCode(...memory.subarray(OUT, OUT + length));
+    memory.set(initial);
+    if (reason < 0 && reason !== DIFFERS) throw refusal(reason);
+    return { fits: reason === 1, cost, text };
+}
+
+// A setting with a new salt. Rounds are 1000 to 999999999; md5crypt has none.
+export function setting(method = 'sha512crypt', rounds = 656000) {
+    if (METHODS[method] > 1 && !(rounds >= 1000 && rounds <= 999999999)) throw refusal(REFUSED_COST);
+    const salt = new BigUint64Array(crypto.getRandomValues(new Uint8Array(24)).buffer);
+    return call('web_setting', METHODS[method] ?? 0, rounds, ...salt, BigInt(OUT), BigInt(OUT_SIZE)).text;
+}
+// The hash of a password. No more bytes than the budget are hashed for it.
+export const hash = (password, by = setting(), budget = BUDGET) =>
+    call('web_hash', bytesOf(password), bytesOf(by), within(budget), BigInt(OUT), BigInt(OUT_SIZE)).text;
+// Whether a password matches. A stored hash that can't be read or can cost more than the budget is refused.
+export const verify = (password, stored, budget = BUDGET) =>
+    call('web_verify', bytesOf(password), bytesOf(stored), within(budget)).fits;
+// The most bytes that a hash with this setting can cost, for a password of so many bytes.
+export const cost = (by, length) => call('web_cost', bytesOf(by), BigInt(length)).cost;
