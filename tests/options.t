@@ -1,6 +1,5 @@
 #!/usr/bin/env perl
-# Help fits a terminal, and the manuals have the options, methods and refusals of the program. The completions have them in
-# completion.t.
+# Help fits a terminal, and the manuals have the options, methods and refusals of the program.
 use strict;
 use warnings;
 use FindBin qw($Bin);

@@ -29,7 +29,7 @@ sub plant {
     my ($copy, $fault, $text) = @_;
     die "a patch of the tree's own crates\n" if $text =~ m{^\+\+\+ b/crates/}m;
     must({ dir => $root }, 'sh', '-c', 'mkdir -p "$0/build" || exit
-        for file in build/*.md build/*.html build/cpu build/site build/x86-64*; do [ ! -e "$file" ] || cp -a "$file" "$0/build" || exit; done
+        for file in build/*.md build/*.html build/cpu build/completions build/site build/x86-64*; do [ ! -e "$file" ] || cp -a "$file" "$0/build" || exit; done
         for file in * .ci; do case $file in build | crates) ;; *) cp -a "$file" "$0" || exit ;; esac done
         ln -s "$PWD/crates" "$0"', $copy);
     if ($fault !~ /\.patch$/) {

@@ -1,5 +1,5 @@
 #!/bin/bash
-# An option has no documents and no completions.
+# An option has no documents.
 # Sees: options.t: manual of mkpasswd
 # Only: ^options
 "$REAL" "$@" | sed 's/^      --work .*/&\n      --nonesuch         Print nothing/'
