@@ -29,8 +29,9 @@ ARCHIVE ?= mkpasswd-$(VERSION)-$(subst -,_,$(FOR))-linux.tar.gz
 # packages always have them.
 SITE := $(shell tools/site --check 2> /dev/null && echo build/site/index.html)
 WEB := $(shell tools/web --check 2> /dev/null && echo build/mkpasswd.html build/mkpasswd.mjs)
-BUILT = mkpasswd lib guard build/x86-64-v3/libmkpasswd.so.2 $(WEB) build/SPECIFICATION.md $(SITE)
-PACKED = $(addprefix build/$(FOR)/,mkpasswd libmkpasswd.a libmkpasswd.so.2) $(WEB) build/SPECIFICATION.md \
+COMPLETIONS = build/completions/mkpasswd.bash
+BUILT = mkpasswd $(COMPLETIONS) lib guard build/x86-64-v3/libmkpasswd.so.2 $(WEB) build/SPECIFICATION.md $(SITE)
+PACKED = $(addprefix build/$(FOR)/,mkpasswd libmkpasswd.a libmkpasswd.so.2) $(COMPLETIONS) $(WEB) build/SPECIFICATION.md \
 	$(if $(TARGET),,build/$(FOR)/libmkpasswd-crypt.so build/x86-64-v3/libmkpasswd.so.2)
 ARM = $(addprefix build/aarch64/,mkpasswd libmkpasswd.a libmkpasswd.so.2)
 TRIED = $(BUILT) $(PACKED) $(if $(findstring /,$(shell aarch64-linux-gnu-gcc -print-file-name=libc.a 2> /dev/null)),$(ARM))
@@ -72,6 +73,11 @@ build/%/mkpasswd: build/%/program.o c/heap.c c/runtime.c
 build/cpu: FORCE
 	@mkdir -p build
 	@echo '$(CPU)' | cmp -s - $@ || echo '$(CPU)' > $@
+
+# The completions, from the help of a program that runs on this machine.
+$(COMPLETIONS): mkpasswd bin/mkpasswd-parallel tools/completions
+	@mkdir -p $(@D)
+	tools/completions ./mkpasswd bin/mkpasswd-parallel $(@D)
 
 run: mkpasswd
 	@./mkpasswd -m md5crypt -S xxxxxxxx password

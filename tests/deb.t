@@ -85,7 +85,7 @@ subtest 'content' => sub {
         output_of('sh', '-euc', 'mkdir -p "$1"; dpkg-deb -x "$0" "$1"', $deb{$_}, "$scratch/content/$_");
         like(output_of(qw(dpkg-deb -f), $deb{$_}, 'Depends'), qr/\bsse4\.2-support\b/, "$_ refuses older processors") if /^(?:lib)?mkpasswd(?:2|-crypt)?$/;
     }
-    my %documents = (mkpasswd => [qw(FORMATS GUIDE MUTANTS README SECURITY SPECIFICATION SPEED)], 'libmkpasswd-dev' => ['SECURITY'],
+    my %documents = (mkpasswd => [qw(FORMATS GUIDE README SECURITY SPECIFICATION SPEED)], 'libmkpasswd-dev' => ['SECURITY'],
         'python3-mkpasswd' => [qw(PYTHON SECURITY)]);
     for my $package (sort keys %documents) {
         my $folder = "$scratch/content/$package/usr/share/doc/$package";

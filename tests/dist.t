@@ -19,7 +19,7 @@ my ($documents, $cc) = ("$tree/share/doc/mkpasswd", $ENV{CC} || 'cc');
 my @libraries = map { "$tree/lib/$_" } 'libmkpasswd.so.2', 'glibc-hwcaps/x86-64-v3/libmkpasswd.so.2';
 program();
 -e "$root/build/$_" or BAIL_OUT("build/$_ is not built: run make dist")
-    for "$cpu/mkpasswd", "$cpu/libmkpasswd.so.2", qw(x86-64-v3/libmkpasswd.so.2 SPECIFICATION.md);
+    for "$cpu/mkpasswd", "$cpu/libmkpasswd.so.2", qw(x86-64-v3/libmkpasswd.so.2 completions SPECIFICATION.md);
 
 needs('build/site' => 'mandoc, pandoc', -d "$root/build/site") && needs('build/mkpasswd.mjs' => 'binaryen', -e "$root/build/mkpasswd.mjs")
     or do { done_testing; exit };
