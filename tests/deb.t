@@ -92,7 +92,7 @@ subtest 'content' => sub {
         ok(-s "$folder/$_.md" || -s "$folder/$_.md.gz", "$package has $_") for @{ $documents{$package} };
     }
     my $pages = "$scratch/content/mkpasswd/usr/share/doc/mkpasswd/html";
-    ok(-s "$pages/$_", "mkpasswd has $_") for qw(index.html site.css costs.svg);
+    ok(-s "$pages/$_", "mkpasswd has $_") for qw(index.html site.css page.png);
     my @dead = grep { !-e "$pages/$_" } map { slurp($_) =~ /(?:href|src)="(?![a-z]+:|#)([^"#]+)/g } glob "$pages/*.html";
     is("@dead", '', 'each link of the pages leads to a file');
     my $libraries = 'libmkpasswd2/usr/lib/x86_64-linux-gnu';
