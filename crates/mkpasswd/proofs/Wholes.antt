@@ -54,7 +54,7 @@ module _ {I O E : Type 0} where
 
   by_lines : (kind : Kind) (job : Job) (bytes : List ℕ) (old new : RunState I O E) (tally : Tally) → tally_status tally ≡ 0
       → Reads old.input new.input bytes
-      → (answers : List Answer) × (IsAtEnd new.input.shown × AreAnswers kind job 1 (lines_of bytes) old.stream answers)
+      → (answers : List Answer) × (IsAtEnd new.input.shown × AreAnswers kind job job.first_line (lines_of bytes) old.stream answers)
       × Finishes answers old new (Ok tally)
       → SucceedsByLines kind job old new
   by_lines kind job bytes old new tally well reads (answers, (read_out, are), finishes) =

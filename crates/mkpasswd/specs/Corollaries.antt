@@ -44,7 +44,7 @@ module _ {I O E : Type 0} where
   -- The run read the input to its end, and answered each of its lines.
   abbrev pub SucceedsByLines : Kind → Job → RunState I O E → RunState I O E → Type 0
   SucceedsByLines kind job old new =
-      (bytes : List ℕ) × (answers : List Answer) × IsAtEnd new.input.shown × AreAnswers kind job 1 (lines_of bytes) old.stream answers
+      (bytes : List ℕ) × (answers : List Answer) × IsAtEnd new.input.shown × AreAnswers kind job job.first_line (lines_of bytes) old.stream answers
       × Succeeds bytes answers old new
 
   -- The command did everything that the plan asks for. If the password is an argument, the input is unchanged. If it is

@@ -36,8 +36,8 @@ option_rule id letter = record (value_rule id) { short = letter; long = Some id 
 abbrev pub flag_rule : Text → Option ℕ → Rule
 flag_rule id letter = record (new_rule id) { action = Some SetTrue; short = letter; long = Some id }
 
--- The short options are `-m` (109), `-S` (83), `-R` (82) and `-s` (115). The number of `-R` is at most 2^32 - 1, and that of
--- `--budget` at most 2^64 - 1. Of the arguments that are no options, the first is the password and the second the salt.
+-- The short options are `-m` (109), `-S` (83), `-R` (82) and `-s` (115). The number of `-R` is at most 2^32 - 1, that of
+-- `--budget` at most 2^64 - 1, and that of `--first-line` 1 to 2^32 - 1. Of the arguments that are no options, the first is the password and the second the salt.
 abbrev pub command_rules : List Rule
 command_rules =
     option_rule (codes "method") (Some 109) ∷ option_rule (codes "salt") (Some 83)
@@ -45,6 +45,7 @@ command_rules =
     ∷ flag_rule (codes "stdin") (Some 115) ∷ flag_rule (codes "batch") None ∷ flag_rule (codes "check") None
     ∷ flag_rule (codes "rehash") None ∷ flag_rule (codes "work") None
     ∷ record (option_rule (codes "budget") None) { parser = Some (Unsigned 0 18446744073709551615) }
+    ∷ record (option_rule (codes "first-line") None) { parser = Some (Signed (pos 1) (pos 4294967295)) }
     ∷ value_rule (codes "password") ∷ value_rule (codes "salt-word") ∷ []
 
 -- The command has a version, and its first argument is not the program's name.
@@ -68,6 +69,10 @@ type_of rows = unwrap_or (first_of (codes "method") rows) (codes "sha512crypt")
 -- The cost is the number of `-R`, and by default 0.
 abbrev pub cost_of : List Row → ℕ
 cost_of rows = unwrap_or (number_in (codes "rounds") rows) 0
+
+-- Lines are numbered from the number of `--first-line`, and by default from 1.
+abbrev pub first_line_of : List Row → ℕ
+first_line_of rows = unwrap_or (number_in (codes "first-line") rows) 1
 
 -- The salt is the value of `-S` or else the second argument, if one is given.
 abbrev pub given_salt : List Row → Option Text
@@ -109,6 +114,7 @@ pub record IsJob (rows : List Row) (job : Job) : Type 0 where
   pub rehash : job.rehash ≡ is_set (codes "rehash") rows
   pub work : job.work ≡ is_set (codes "work") rows
   pub budget : job.budget ≡ number_in (codes "budget") rows
+  pub first_line : job.first_line ≡ first_line_of rows
 
 -- The arguments ask for this plan: its job, in the mode that is given. The password is PASSWORD or the first line of
 -- the input, or there are lines to hash or to check. Without a mode the password is in the input.

@@ -47,6 +47,8 @@ const WORK_HELP: &str = "Show what the hash cost: digests, bytes, mixings,\nbyte
 
 const BUDGET_HELP: &str = "What a line may cost, by --batch and --check: bytes\ndigested and mixed";
 
+const FIRST_LINE_HELP: &str = "The number of the first line in messages about lines";
+
 const PASSWORD_HELP: &str = "The password, of at most 1,024 bytes; without it, as by --stdin";
 
 const SALT_WORD_HELP: &str = "The salt, in place of --salt";
@@ -195,6 +197,7 @@ fn planned(alloc: Global, given: &Arguments<'_>, maker: Maker) -> Result<Plan, A
         rehash: given.has("rehash"),
         work: given.has("work"),
         budget: given.number64("budget"),
+        first_line: given.number32("first-line").unwrap_or(1),
     };
     if let Some(password) = given.text("password") {
         let bytes = Vec::from_slice(alloc, password.as_bytes())?;
@@ -222,10 +225,12 @@ fn command<'a>(alloc: Global) -> Result<Command<'a>, AllocError>
     let rehash = flag(alloc, "rehash", None, REHASH_HELP);
     let work = flag(alloc, "work", None, WORK_HELP);
     let budget = number(alloc, "budget", None, value_parser!(u64), BUDGET_HELP);
+    let lines = ValueParser::signed(1, 4_294_967_295);
+    let first_line = number(alloc, "first-line", None, lines, FIRST_LINE_HELP);
     let password = operand(alloc, "password", "PASSWORD", PASSWORD_HELP);
     let salt_word = operand(alloc, "salt-word", "SALT", SALT_WORD_HELP);
     let arguments = vec![in alloc;
-        method, salt, rounds, stdin, batch, check, rehash, work, budget, password, salt_word,
+        method, salt, rounds, stdin, batch, check, rehash, work, budget, first_line, password, salt_word,
     ]?;
     Command::new(alloc, "mkpasswd")
         .version(VERSION)

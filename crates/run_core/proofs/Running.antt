@@ -155,7 +155,7 @@ module _ {I O E : Type 0} where
     pub lines : List (List ℕ)
     pub answers : List Answer
     pub given : HasGiven start.input now.input reader lines
-    pub are : AreAnswers kind job 1 lines start.stream answers
+    pub are : AreAnswers kind job job.first_line lines start.stream answers
     pub tallied : tally ≡ tally_of answers
     pub answered : HasAnswered answers start now
     pub calls : calls_of now + left ≡ calls_of start + turns
@@ -241,11 +241,11 @@ module _ {I O E : Type 0} {turns : ℕ} {kind : Kind} {job : Job} {start old : R
 
   -- all lines are answered
   all-answered : (next : LineReader) (given : HasGiven start.input input next is.lines) → next.at_end ≡ true
-      → (IsAtEnd input.shown × AreAnswers kind job 1 (lines_of given.bytes) start.stream is.answers)
+      → (IsAtEnd input.shown × AreAnswers kind job job.first_line (lines_of given.bytes) start.stream is.answers)
       × HasAnswered is.answers start (run_state input old.out old.faults old.stream old.counts)
   all-answered next given at_end =
       let at = subst (λ end. IsAt input next.piece end is.lines given.bytes) at_end given.at in (
-        (at.0, subst (λ lines. AreAnswers kind job 1 lines start.stream is.answers) at.1 is.are),
+        (at.0, subst (λ lines. AreAnswers kind job job.first_line lines start.stream is.answers) at.1 is.are),
         record {
           takes = record { of_input = given.unfailed ∙ sym (add-zero _); text = is.answered.takes.text; fault_text = is.answered.takes.fault_text };
           after = record { stream = is.answered.after.stream; counts = is.answered.after.counts };
@@ -294,12 +294,12 @@ given-line left start now reader lines false some gives = absurd (cc)
 module _ {I O E : Type 0} {turns : ℕ} {kind : Kind} {job : Job} {start old : RunState I O E} {reader : LineReader} {tally : Tally} {left : ℕ}
     (is : IsRunning turns kind job start old reader tally left) (input : Device I) (mid : ℕ) (read_calls : input.calls + mid ≡ old.input.calls + left)
     (next : LineReader) (line : List ℕ) (given : HasGiven start.input input next (is.lines ++ line ∷ []))
-    (answer : Answer) (answers : IsAnswer kind job (tally.lines + 1) line old.stream answer) where
-  answers-push : AreAnswers kind job 1 (is.lines ++ line ∷ []) start.stream (is.answers ++ answer ∷ [])
+    (answer : Answer) (answers : IsAnswer kind job (job.first_line + tally.lines) line old.stream answer) where
+  answers-push : AreAnswers kind job job.first_line (is.lines ++ line ∷ []) start.stream (is.answers ++ answer ∷ [])
   answers-push =
-      let lengths = same-length kind job 1 is.lines start.stream is.answers is.are in
-      let number : tally.lines + 1 ≡ 1 + length is.lines = omega (arith, ap (λ t. t.lines) is.tallied, lengths) in
-      AreAnswers-push kind job 1 is.lines line start.stream is.answers answer is.are (rw (number, is.answered.after.stream) at answers)
+      let lengths = same-length kind job job.first_line is.lines start.stream is.answers is.are in
+      let number : job.first_line + tally.lines ≡ job.first_line + length is.lines = omega (arith, ap (λ t. t.lines) is.tallied, lengths) in
+      AreAnswers-push kind job job.first_line is.lines line start.stream is.answers answer is.are (rw (number, is.answered.after.stream) at answers)
 
   after-push : (new : RunState I O E) → new.stream ≡ stream_left old.stream answer.hashings → new.counts ≡ after_work old.counts answer.hashings
       → IsAfter (hashings_of (is.answers ++ answer ∷ [])) start new

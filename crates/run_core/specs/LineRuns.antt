@@ -38,9 +38,9 @@ piece_size = 512
 --                  end of the input the answer to the last line
 abbrev pub EndsLines : {I O E : Type 0} → ℕ → Kind → Job → RunState I O E → RunState I O E → Result Tally RunFault → Type 0
 EndsLines turns kind job old new result = (bytes : List ℕ) × Reads old.input new.input bytes × EndsBy
-    (λ answers. IsAtEnd new.input.shown × AreAnswers kind job 1 (lines_of bytes) old.stream answers)
+    (λ answers. IsAtEnd new.input.shown × AreAnswers kind job job.first_line (lines_of bytes) old.stream answers)
     (λ done. (lines : List (List ℕ)) × (rest : List ℕ) × HasLines bytes lines rest × HasNoLineFeed rest
-    × AreAnswers kind job 1 lines old.stream done)
-    (λ answers. (lines : List (List ℕ)) × AreAnswers kind job 1 lines old.stream answers
+    × AreAnswers kind job job.first_line lines old.stream done)
+    (λ answers. (lines : List (List ℕ)) × AreAnswers kind job job.first_line lines old.stream answers
     × (((rest : List ℕ) × HasLines bytes lines rest × (length rest < piece_size)) ⊎ (IsAtEnd new.input.shown × (lines ≡ lines_of bytes))))
     (λ fault. ⊥) turns old new result

@@ -30,6 +30,8 @@ pub struct Job {
     ///
     /// A single password has no budget.
     pub budget: Option<u64>,
+    /// The number of the first line, by which the messages about refused lines count.
+    pub first_line: u32,
 }
 
 impl Job {

@@ -30,7 +30,7 @@ use std::io::{Read, Write};
 ///
 /// The password is everything after the first colon. The job's maker makes the setting of each hash; for a new salt the
 /// run draws three random numbers, and only for a line that it hashes. The input is split at its line feeds, and what
-/// follows the last one is a line if it is not empty. Lines are numbered from 1.
+/// follows the last one is a line if it is not empty. Lines are numbered from the job's `first_line` on.
 ///
 /// If a line breaks a rule, or can cost more than the job's `budget` ([`cost`](crypt_core::work::cost)), `faults` gets
 /// `mkpasswd: line NUMBER: MESSAGE` instead ([`LineFault`]), and the run continues. For such a line it hashes,
@@ -209,7 +209,7 @@ fn count_and_write<O: Write, E: Write>(
     requires flushes { faults.old.flushes ≤ 2 ^ 62 }
     requires short { IfOk answer.now (λ answered. length answered.name.now ≤ name_limit) }
     ensures tally { tally.new ≡ counted tally.old (outcome_of answer.now) }
-    ensures sends { (next : Answer) → Renders job.now (tally.old.lines + 1) answer.now next
+    ensures sends { (next : Answer) → Renders job.now (job.now.first_line + tally.old.lines) answer.now next
         → Sends left.new next out.old faults.old out.new faults.new result }
     ensures calls { out.new.calls + faults.new.calls + left.new ≡ out.old.calls + faults.old.calls + left.old }
     ensures fewer { left.new ≤ left.old }
@@ -220,6 +220,7 @@ fn count_and_write<O: Write, E: Write>(
     ensures faults_room { OnOk result (HasRoomFor answer_limit left.new faults.new) }
     ensures fault_room { HasRoomWithinRun faults.new }
 {
+    let number = u64::from(job.first_line) + tally.lines;
     tally.lines += 1;
     match answer {
         Ok(answered) => {
@@ -229,7 +230,7 @@ fn count_and_write<O: Write, E: Write>(
         }
         Err(fault) => {
             tally.refused += 1;
-            send(faults, render_refusal(tally.lines, fault).as_slice(), left)
+            send(faults, render_refusal(number, fault).as_slice(), left)
         }
     }
 }

@@ -245,6 +245,7 @@ fn left_by<'a>(
         rehash: asked.rehash,
         work: asked.work,
         budget: asked.budget,
+        first_line: 1,
     };
     let mut rng = ListedWords::new(&[129, 0, 0, 130, 0, 0, 7]);
     let mut meter = Meter::new();

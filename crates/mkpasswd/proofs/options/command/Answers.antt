@@ -49,6 +49,7 @@ returns c =
     & c.flag-rehash.ensures
     & c.flag-work.ensures
     & (rw c.value_parser-2.ensures at c.number-budget.ensures)
+    & (rw c.signed-lines.ensures at c.number-first_line.ensures)
     & c.operand-password.ensures
     & c.operand-salt_word.ensures
     & tt

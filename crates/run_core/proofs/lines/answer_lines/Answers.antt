@@ -45,7 +45,7 @@ returns-in_err-answer-clause-ends g c =
     let is = c.lines.invariant in
     let p = err_from_is_err_and c.from_residual-in_err-answer.result c.from_residual-in_err-answer.ensures.1 in
     let line = given-line c.next_line.new.left c.args.input.now c.next_line.new.input c.next_line.new.self is.lines c.in_ok-next_line.field-0 c.if-branch.true (c.in_ok-next_line.ensures.gives c.args.input.now is.lines is.given) in
-    let got = c.in_err-answer.ensures.decides line.0 line.1 (c.lines.tally.lines + 1) in
+    let got = c.in_err-answer.ensures.decides line.0 line.1 (c.args.job.now.first_line + c.lines.tally.lines) in
     rw (p.1, p.2) (ends-unanswered is c.next_line.new.input c.next_line.new.left c.next_line.ensures.turns c.next_line.new.self line.0 line.2 got.0 got.1
     (g.R.Rng.stream c.answer_line.new.rng) c.answer_line.new.meter got.2).0
 
@@ -53,7 +53,7 @@ pub returns-in_err-answer-clause-within_turns : goal.returns-in_err-answer-claus
 returns-in_err-answer-clause-within_turns g c =
     let is = c.lines.invariant in
     let line = given-line c.next_line.new.left c.args.input.now c.next_line.new.input c.next_line.new.self is.lines c.in_ok-next_line.field-0 c.if-branch.true (c.in_ok-next_line.ensures.gives c.args.input.now is.lines is.given) in
-    let got = c.in_err-answer.ensures.decides line.0 line.1 (c.lines.tally.lines + 1) in
+    let got = c.in_err-answer.ensures.decides line.0 line.1 (c.args.job.now.first_line + c.lines.tally.lines) in
     (ends-unanswered is c.next_line.new.input c.next_line.new.left c.next_line.ensures.turns c.next_line.new.self line.0 line.2 got.0 got.1
     (g.R.Rng.stream c.answer_line.new.rng) c.answer_line.new.meter got.2).1
 
@@ -68,7 +68,7 @@ returns-in_err-count_and_write-clause-ends g c =
     let is = c.lines.invariant in
     let p = err_from_is_err_and c.from_residual-in_err-count_and_write.result c.from_residual-in_err-count_and_write.ensures.1 in
     let line = given-line c.next_line.new.left c.args.input.now c.next_line.new.input c.next_line.new.self is.lines c.in_ok-next_line.field-0 c.if-branch.true (c.in_ok-next_line.ensures.gives c.args.input.now is.lines is.given) in
-    let got = c.in_ok-answer.ensures.decides line.0 line.1 (c.lines.tally.lines + 1) in
+    let got = c.in_ok-answer.ensures.decides line.0 line.1 (c.args.job.now.first_line + c.lines.tally.lines) in
     let wrote = c.in_err-count_and_write.ensures in
     rw (p.1, p.2) (ends-unsent is c.next_line.new.input c.next_line.new.left c.next_line.ensures.turns c.next_line.new.self line.0 line.2 got.0 got.1
     c.count_and_write.new.out c.count_and_write.new.faults (g.R.Rng.stream c.answer_line.new.rng) c.answer_line.new.meter c.count_and_write.new.left (Unit {0})
@@ -78,7 +78,7 @@ pub returns-in_err-count_and_write-clause-within_turns : goal.returns-in_err-cou
 returns-in_err-count_and_write-clause-within_turns g c =
     let is = c.lines.invariant in
     let line = given-line c.next_line.new.left c.args.input.now c.next_line.new.input c.next_line.new.self is.lines c.in_ok-next_line.field-0 c.if-branch.true (c.in_ok-next_line.ensures.gives c.args.input.now is.lines is.given) in
-    let got = c.in_ok-answer.ensures.decides line.0 line.1 (c.lines.tally.lines + 1) in
+    let got = c.in_ok-answer.ensures.decides line.0 line.1 (c.args.job.now.first_line + c.lines.tally.lines) in
     let wrote = c.in_err-count_and_write.ensures in
     (ends-unsent is c.next_line.new.input c.next_line.new.left c.next_line.ensures.turns c.next_line.new.self line.0 line.2 got.0 got.1
     c.count_and_write.new.out c.count_and_write.new.faults (g.R.Rng.stream c.answer_line.new.rng) c.answer_line.new.meter c.count_and_write.new.left (Unit {0})
@@ -89,9 +89,9 @@ lines-preserved g c =
     let is = c.lines.invariant in
     let next = c.in_ok-next_line.ensures in
     let line = given-line c.next_line.new.left c.args.input.now c.next_line.new.input c.next_line.new.self is.lines c.in_ok-next_line.field-0 c.if-branch.true (next.gives c.args.input.now is.lines is.given) in
-    let got = c.in_ok-answer.ensures.decides line.0 line.1 (c.lines.tally.lines + 1) in
+    let got = c.in_ok-answer.ensures.decides line.0 line.1 (c.args.job.now.first_line + c.lines.tally.lines) in
     let wrote = c.in_ok-count_and_write.ensures in
-    let outcome = renders-outcome c.args.job.now (c.lines.tally.lines + 1) c.in_ok-answer.answer got.0 got.2 in
+    let outcome = renders-outcome c.args.job.now (c.args.job.now.first_line + c.lines.tally.lines) c.in_ok-answer.answer got.0 got.2 in
     running-answered is c.next_line.new.input c.next_line.new.left next.turns c.next_line.new.self line.0 line.2 got.0 got.1
     c.count_and_write.new.out c.count_and_write.new.faults (g.R.Rng.stream c.answer_line.new.rng) c.answer_line.new.meter c.count_and_write.new.left c.count_and_write.new.tally
     c.in_ok-count_and_write.field-0 got.4 got.3 (wrote.sends got.0 got.2) wrote.out_moves wrote.faults_moves wrote.calls wrote.fewer (next.shorter c.if-branch.true)
