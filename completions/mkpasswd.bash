@@ -2,7 +2,7 @@
 # shellcheck shell=bash
 #
 # bash-completion finds it as share/bash-completion/completions/mkpasswd and mkpasswd-parallel; without that package
-# ~/.bashrc has to source it. A password, a salt, a number or a machine is never completed, so file names are offered
+# ~/.bashrc has to source it. A password, a salt or a number is never completed, so file names are offered
 # behind "<" and ">" alone.
 
 _mkpasswd() {
@@ -14,7 +14,7 @@ _mkpasswd() {
     COMPREPLY=()
     # mkpasswd-parallel has options of its own, and takes lines alone.
     if [[ $1 == *-parallel ]]; then
-        options+=(--jobs --on --resume-from --progress)
+        options+=(--jobs --progress)
         modes=(--batch --check --rehash --budget)
     fi
 
@@ -45,8 +45,7 @@ _mkpasswd() {
 
     case $option in
         -m | --method) offered=("${methods[@]}") ;;
-        -S | --salt | -R | --rounds | --budget) ;;
-        --jobs | --on | --resume-from) ;;
+        -S | --salt | -R | --rounds | --budget | --jobs) ;;
         *)
             case $cur in
                 --method=*) glued=--method= ;;

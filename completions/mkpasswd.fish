@@ -1,7 +1,7 @@
 # Completes the words of mkpasswd and mkpasswd-parallel in fish, which finds it as mkpasswd.fish and mkpasswd-parallel.fish
 # in fish/vendor_completions.d in the folders of XDG_DATA_DIRS, or in /usr/share where that isn't set.
 #
-# A password, a salt, a number or a machine is never completed, and there are no file names: -f, and -x where a word
+# A password, a salt or a number is never completed, and there are no file names: -f, and -x where a word
 # follows.
 
 # The program also takes md5, sha-256 and sha-512. They are other names of these, so a list has no need of them.
@@ -28,6 +28,4 @@ complete $each -s V -l version -d 'Print version'
 
 # mkpasswd-parallel has options of its own, and takes lines alone.
 complete -c mkpasswd-parallel -l jobs -x -d 'How many processes run here'
-complete -c mkpasswd-parallel -l on -x -d 'Run on this machine too'
-complete -c mkpasswd-parallel -l resume-from -x -d 'Begin with this line of the input'
 complete -c mkpasswd-parallel -l progress -d 'Show how many lines are done'

@@ -51,11 +51,11 @@ $lines{mkpasswd} = [
 $lines{'mkpasswd-parallel'} = [
     ['-m ', [@methods]], ['--check -m sha', [qw(sha256crypt sha512crypt)]], ['-mm', ['-mmd5crypt']],
     ['--method=sc', ['--method=scrypt']], ['-', [@parallel]], ['--', [@long_parallel]], ['--j', ['--jobs']], ['--st', []],
-    ['--b', [qw(--batch --budget)]], ['--r', [qw(--resume-from --rounds --rehash)]],
-    ['--prog', ['--progress']], ['--on east --o', ['--on']], ['--jobs 2 --che', ['--check']],
+    ['--b', [qw(--batch --budget)]], ['--r', [qw(--rounds --rehash)]],
+    ['--prog', ['--progress']], ['--jobs 2 --che', ['--check']],
     ['--batch --', but_of(\@long_parallel, qw(--batch --check --rehash))],
     ['--check --', but_of(\@long_parallel, qw(--batch --check))], ['--rehash --ch', ['--check']],
-    (map { [$_, []] } '', 'lo', '--jobs ', '--jobs=', '--on lo', '--resume-from lo', '--budget ', '-S lo',
+    (map { [$_, []] } '', 'lo', '--jobs ', '--jobs=', '--budget ', '-S lo',
         '--salt=', '-R ', '--batch lo', '--progress ', '-- ', '-- lo', '-- --b', '--batch -- -'),
     ['--check < lo', ['logins']], ['--batch < logins > sha', ['sha256sums']], ['< logins --ch', ['--check']],
 ];
