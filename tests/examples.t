@@ -152,18 +152,26 @@ subtest 'administration' => sub {
     spew("$folder/passwords", "ann:password\nbob:" . 'x' x 83 . "\n");
     is_run($recipe->('new passwords'), 1, '', "mkpasswd: line 2: over budget\n", 'a new password that a login would refuse');
     is(join('', slurp("$system/etc/shadow") =~ /:!:/g), ':!:' x 3, 'such a password changes no account');
-    my ($longer, $longest) = map { 'x' x $_ } 512, 511;
-    spew("$folder/passwords", "ann:\nbob:$longer\neve:$longest\nzoe::\xff\n");
-    is_run($recipe->('odd passwords'), 0, "1:ann:\n2:bob:$longer\n", '', 'passwords that are empty, or too long for libxcrypt');
     spew("$folder/passwords", "ann:password\nbob:pass:word\n");
     is_run($recipe->('new passwords'), 0, '', '', 'new passwords for many users');
     ok($is_made->($line_of->('ann'), 'password', $changed), 'the password of ann is new');
     ok($is_made->($line_of->('bob'), 'pass:word', $changed), 'the password of bob is new');
 
+    $accounts->(ann => '!', bob => '!', eve => '!');
+    spew("$folder/passwords", "ann:password\nbob:" . 'x' x 83 . "\nsecret\neve:x\n");
+    is_run($recipe->('good lines'), 0, "bob\n", '', 'new passwords for the good lines: the names of the others');
+    ok($is_made->($line_of->('ann'), 'password', $changed) && $line_of->('bob') eq "bob:!$aged", 'ann alone has a new one');
+
     my $costly = '$6$rounds=999999999$ab$x';
     my $old = crypt('password', '$5$rounds=1000$ab');
     spew("$folder/shadow", "ann:$old$aged\nbob:!$aged\nzoe:$costly$aged\neve:$known$aged\nmax:!$costly$aged\njoe:*$costly$aged\nsam:\$7\$C6....../..ab\$x$aged\n");
-    spew("$folder/list", "eve:guess\neve:password\nbob:x\nzoe:x\nann:word\neve:password\n");
+    spew("$folder/password", '');
+    is_run($recipe->('one password'), 1, '', "no password\n", 'a file without a password');
+    ok(!-e "$folder/list", 'it makes no list');
+    spew("$folder/password", "password\r\n");
+    is_run($recipe->('one password'), 0, '', '', 'a list of one password');
+    is_run($recipe->('known passwords'), 0, "ann\neve\n", "mkpasswd: line 6: above ceiling\nmkpasswd: line 7: over budget\n", 'who has it');
+    spew("$folder/list", "eve:guess\neve:password\r\nbob:x\nzoe:x\nann:word\neve:password\n");
     is_run($recipe->('known passwords'), 0, "eve\n", "mkpasswd: line 5: over budget\n", 'who still has a password of a list');
     like(slurp("$folder/joined"), qr/\A(?:.*\n){4}zoe:.*:x$/m, 'the line that was refused is in a file');
 
@@ -184,6 +192,29 @@ subtest 'administration' => sub {
     is_run($recipe->('another method'), 0, '', "mkpasswd: line 6: over budget\n", 'accounts move to another method');
     ok($is_made->($line_of->('ann'), 'password', $changed), 'the password of ann is hashed anew');
     is($line_of->($_), "$_:$fields{$_}$aged", "$_ keeps the field") for qw(bob eve kim zoe);
+
+    # A disk that is full at each command, as small as it is: nobody gets a part of a hash.
+    needs('unshare, or a mount of its own,' => 'util-linux', !run(qw(unshare --mount true))->{status}) or return;
+    my @users = map { "user$_" } 1 .. 60;
+    spew("$folder/$_", join '', map { "$_:password\n" } @users) for qw(passwords list);
+    spew("$folder/password", "password\n");
+    mkdir "$folder/full";
+    my $mount = 'mount -t tmpfs -o size=$0k none full && cd full && ln -s ../passwords ../password ../list . && sh -c "$1" 2> /dev/null; cat at.passwords; [ ! -e hash ] || echo "user0:$(cat hash)"';
+    for (['new passwords'], ['good lines'], ['another method'], ['hashes for services', 'pam_unix'], ['hashes for services', 'nginx'], ['Ansible']) {
+        my $commands = join '', map { '(' . marked($_, 'sh') . ")\n" } @$_;
+        $commands =~ s/ 656000/ 1000/g;
+        $commands =~ s{ /etc/(shadow |nginx/)}{$1 eq 'nginx/' ? ' at.' : " '$system/etc/shadow' "}ge;
+        my ($name, $is_done, @odd) = ("@$_, on a full disk");
+        for my $pages (1 .. 12) {
+            $accounts->(map { $_ => $old } @users);
+            my $run = run({ %in, dir => $folder }, qw(unshare --mount sh -c), $mount, 4 * $pages, $commands);
+            my @fields = map { /^user\d+:([^:]*)/ } split /\n/, slurp("$system/etc/shadow") . $run->{out};
+            push @odd, map { "$pages pages: '$_'" } grep { $_ eq '' || $_ ne $old && !is_hash_of($_, 'password') } @fields;
+            $is_done = grep { $_ ne $old } @fields;
+        }
+        is(join("\n", @odd), '', "$name: whole hashes alone");
+        ok($is_done, "$name: with room it is done");
+    }
 };
 
 done_testing;

@@ -225,10 +225,14 @@ END
     $entries .= "dn: uid=$_,ou=people,$suffix\nobjectClass: inetOrgPerson\ncn: $_\nsn: $_\n\n" for @names;
     my @command = ('slapd', '-d', '0', '-h', 'ldap://127.0.0.1:8083 ldapi:///', '-f', "$scratch/slapd.conf");
     while_serving(8083, \@command, sub {
-        spew("$in{dir}/admin", 'secret');
+        chmod 0600, spew("$in{dir}/admin", 'secret');
         my @admin = ('-x', '-H', 'ldapi:///', '-D', "cn=admin,$suffix", '-y', "$in{dir}/admin");
         is(run({ stdin => $entries }, 'ldapadd', @admin)->{status}, 0, 'OpenLDAP: entries of the users');
         prepare('OpenLDAP');
+        # Names that are the same to the directory, with the hash of another password.
+        my @same = ('Six', 'six ', "\\73ix");
+        spew("$in{dir}/hashes", join '', map { "$_:" . ($of_methods =~ /^one:(.*)/m)[0] . "\n" } @same);
+        is_run(run(\%in, 'sh', '-c', marked('OpenLDAP', 'sh')), 0, '', join('', map { "$_\n" } @same), 'OpenLDAP: names that are left out');
     });
     are_guarded('OpenLDAP', 8083, sub { @command }, sub {
         my ($name, $password) = @_;
