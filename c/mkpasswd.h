@@ -110,8 +110,8 @@ extern "C" {
 #define MKPASSWD_REFUSED_PASSWORD_TOO_LONG (-1)  /* password too long: more than MKPASSWD_PASSWORD_LIMIT bytes */
 #define MKPASSWD_REFUSED_PASSWORD_ZERO_BYTE (-2) /* password has a zero byte */
 #define MKPASSWD_REFUSED_SETTING_TOO_LONG (-3)   /* setting too long: more than 384 bytes */
-#define MKPASSWD_REFUSED_BAD_CHARACTER (-4)      /* bad character: no setting has it; also of a locked account, or a line end */
-#define MKPASSWD_REFUSED_UNKNOWN_SCHEME (-5)     /* unknown scheme: none of $1$, $5$, $6$, $7$; also of an empty field */
+#define MKPASSWD_REFUSED_BAD_CHARACTER (-4)      /* bad character: no setting has it; also of a line end */
+#define MKPASSWD_REFUSED_UNKNOWN_SCHEME (-5)     /* unknown scheme: none of $1$, $5$, $6$, $7$ */
 #define MKPASSWD_REFUSED_BAD_ROUNDS (-6)         /* bad rounds: `rounds=` without a valid number */
 #define MKPASSWD_REFUSED_BAD_COST (-7)           /* bad cost: scrypt's is not eleven of ./0-9A-Za-z */
 #define MKPASSWD_REFUSED_SCRYPT_RANGE (-8)       /* scrypt range: N, r or p is invalid */
@@ -125,6 +125,8 @@ extern "C" {
 #define MKPASSWD_DIFFERS (-17)                   /* differs: the password doesn't match; mkpasswd_verify() and mkpasswd_login() */
 #define MKPASSWD_CURRENT (-18)                   /* current: not outdated; mkpasswd_needs_rehash() alone */
 #define MKPASSWD_NO_RANDOM_WORDS (-19)           /* no random words: the system gave none; mkpasswd_new() alone */
+#define MKPASSWD_LOCKED (-20)                    /* locked: the field begins with ! or *; mkpasswd_verify() and mkpasswd_login() */
+#define MKPASSWD_NO_HASH (-21)                   /* no hash: the field is empty; mkpasswd_verify() and mkpasswd_login() */
 
 /* The work of a hash. Each count is below 2^41. */
 struct mkpasswd_work {

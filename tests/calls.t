@@ -41,10 +41,11 @@ sub printed {
 # ---- what each call must do
 
 my @reasons = ('done', 'outdated', 'fits', '', 'password too long', 'password has a zero byte', @setting_refusals,
-    'out of memory', 'too few bytes', 'unknown method', 'cost', '', 'over budget', 'differs', 'current', 'no random words');
+    'out of memory', 'too few bytes', 'unknown method', 'cost', '', 'over budget', 'differs', 'current', 'no random words',
+    'locked', 'no hash');
 my %number = map { $reasons[$_] => 3 - $_ } grep { $reasons[$_] ne '' } 0 .. $#reasons;
 my %steps = (
-    verify => 'password setting budget memory compare', needs_rehash => 'setting made replace', setting => 'made room',
+    verify => 'password field budget memory compare', needs_rehash => 'setting made replace', setting => 'made room',
     new => 'password made budget room draw memory', hash => 'password setting budget room memory', bound => 'length setting tell',
 );
 our $refused = 0;    # which allocation is refused, from 1
@@ -56,6 +57,7 @@ sub salt_of { my ($length, @of) = @_; return join '', map { $characters[$of[$_ /
 sub line {
     my ($call, $password, $text, $room, @n) = @_;
     my $name = $call =~ s/_(?:str|over)$//r;
+    return login_line($password, $text, @n) if $name eq 'login';
     ($password, $text, $room) = ($password // "\0", $text // '', $room // 0);
     my ($setting, $made, $hash, $refusal);
     my ($cost, $allocations, $drawn, @work) = (0, 0, 0, (0) x 5);
@@ -64,6 +66,7 @@ sub line {
         password => sub { length $password > 1024 ? 'password too long' : $password =~ /\0/ ? 'password has a zero byte' : '' },
         length => sub { $n[0] > 1024 ? 'password too long' : '' },
         setting => sub { ref($setting = read_setting($text)) ? '' : $setting },
+        field => sub { $text eq '' ? 'no hash' : $text =~ /^[!*]/ ? 'locked' : ref($setting = read_setting($text)) ? '' : $setting },
         made => sub {
             return 'unknown method' if $n[0] !~ /^[1567]$/;
             return 'cost' if $n[0] == 7 && $n[1] !~ /^([06-9]|1[01])$/;
@@ -220,16 +223,13 @@ sub login_line {
     return "0 $refused" . ' 0' x 11 . ' unchanged' if $refused;
     $line[1] = 2 if $line[0] && line('needs_rehash', '', $field, 0, $method, $cost) =~ /^1/;
     my $decoy = made_setting($method, $cost, '.' x $made_salt{$method})->{front};
-    @line[4 .. 10] = (split / /, line('hash', $password, $decoy, 145, $limit))[4 .. 10] if $line[1] =~ /^-([3-9]|10|16)$/;
+    @line[4 .. 10] = (split / /, line('hash', $password, $decoy, 145, $limit))[4 .. 10] if $line[1] =~ /^-([3-9]|10|16|20|21)$/;
     return join ' ', @line;
 }
 
-sub are_logged_in {
-    my ($name, $rows, @logins) = @_;
-    my @got = printed($driver, @$rows, map { my ($password, $field, @n) = @$_; map { row("login$_", $password, $field, 0, @n) }
-            '', ($password // '') . ($field // '') =~ /\0/ ? () : '_str' } @logins);
-    my @wanted = map { (login_line(@$_)) x (($_->[0] // '') . ($_->[1] // '') =~ /\0/ ? 1 : 2) } @logins;
-    is_deeply(\@got, \@wanted, $name);
+# Logins with lengths, and with strings where there is no byte 0.
+sub logins {
+    return map { my ($password, $field, @n) = @$_; map { ["login$_", $password, $field, 0, @n] } '', "$password$field" =~ /\0/ ? () : '_str' } @_;
 }
 
 subtest 'logins' => sub {
@@ -238,12 +238,9 @@ subtest 'logins' => sub {
     my @logins = map { my $field = $_; map { ['password', $field, @$_, $budget] } @prices[1 .. 3] } @fields;
     push @logins, map { my $price = $_; map { [@$_[0, 1], @$price, $budget] } @known[0 .. 4], ['', $fixed], ['a' x 1025, $fixed], ["a\0", ''], ["\0", "!"] } @prices;
     push @logins, map { my $limit = $_; map { ['password', $_, 6, 0, $limit] } $fixed, '', '!', $known[4][1] } 0, 36238, 36239, 452159, 452160, $most;
-    are_logged_in('each field', [], @logins);
-    are_logged_in('in eight threads', ['threads 8'], @logins[0 .. 150]);
-    for (1 .. 4) {
-        local $refused = $_;
-        are_logged_in("allocation $_ refused", ["refuse $_"], map { ['password', $_, 7, 6, $budget] } $fixed, '', '!', $known[4][1]);
-    }
+    are_made('each field', [], logins(@logins), ['login_str', 'password', undef, 0, 6, 0, $budget]);
+    are_made('in eight threads', ['threads 8'], logins(@logins[0 .. 150]));
+    are_refused([], logins(map { ['password', $_, 7, 6, $budget] } $fixed, '', '!', $known[4][1]));
     # The right and a wrong hash with the salt of a dropped one, and the fields that have none: the same work for all.
     for my $price ([1, 0], [5, 2000], [6, 0], [7, 6]) {
         my $setting = made_setting(@$price, '.' x $made_salt{ $price->[0] });
@@ -346,7 +343,8 @@ subtest 'compilers' => sub {
     push @calls, ['bound_str', '', $fixed, 0, 8], ['setting_str', '', '', 145, 6, 0, 1, 2, 3], ['hash_str', 'password', '!', 145, $budget],
         ['verify', '', $empty, 0, $budget], ['verify_str', 'x', $empty, 0, $budget], ['hash', 'password', $cheap, 145, $budget],
         ['hash_str', 'password', $cheap, 145, $most], ['new_str', 'password', '', 145, 1, 0, $budget],
-        map { ['new', 'password', '', 145, 7, 6, $_] } 0, $budget;
+        logins(map { ['password', $_, 6, 1000, $budget] } '', '!', '*', '!' . 'a' x 399, '$y$x', '$6$rounds=999999999$ab$x', $fixed),
+        ['login_str', 'password', undef, 0, 6, 1000, $budget], map { ['new', 'password', '', 145, 7, 6, $_] } 0, $budget;
     my ($rows, $wanted) = ("threads 8\n", '');
     for (0 .. 5) {
         local $refused = $_ % 5;
@@ -458,6 +456,19 @@ subtest 'the time of logins' => sub {
     cmp_ok($times{$_}, '>', 0.5 * $times{'wrong password'}, $_) for 'unknown name', 'empty', 'locked', 'yescrypt', 'above the budget';
 };
 
+# What no clause can say of the object: how hashes are compared.
+subtest 'the object' => sub {
+    needs(objdump => 'binutils') or return;
+    for my $folder (grep { -e "$_/crypt_c.o" } glob "$root/build/x86-64*") {
+        my %body = run(qw(objdump -dr --no-show-raw-insn), "$folder/crypt_c.o")->{out} =~ /^\w+ <(\S+)>:\n(.*?)\n(?=\n|\z)/msg;
+        # Of lengths are tests of a whole register, or by a number above 0; others whether there is a hash, and whether one differs.
+        my $compare = $body{'crypt_c::calls::compare'} // '';
+        my @tests = grep { !/ (?:%r(?:[a-d]x|[sd]i|[sb]p|\d+)|\$0x[1-9a-f]\w*),/ } $compare =~ /\t((?:test|cmp)\w* [^\n]*)\n[^\n]*\tj/g;
+        is(@tests, 2, "$folder: a comparison jumps by lengths alone") or diag(join "\n", @tests);
+        unlike($compare, qr/memcmp|bcmp|repz|pmovmsk|ptest/, 'and calls no other');
+    }
+};
+
 subtest 'what is installed' => sub {
     is(@declared, 9, 'the header declares nine calls');
     if (needs(objdump => 'binutils')) {
@@ -497,7 +508,7 @@ sub are_logins {
         [2, 'login: ', "$it <&-", $empty, 'a closed input'], [2, 'login: ', "$it 0> in", $empty, "an input that can't be read"],
         [2, 'usage: ', "echo password | $it"]);
     my @refused = (['over budget', "echo password | $it", '$6$rounds=999999999$ab$x', 'over budget'],
-        ['bad character', "echo password | $it", "!$fixed", 'a locked account'], ['unknown scheme', "echo password | $it", 'abc', 'no scheme'],
+        ['locked', "echo password | $it", "!$fixed", 'a locked account'], ['unknown scheme', "echo password | $it", 'abc', 'no scheme'],
         ['bad character', "echo password | $it", "$fixed\xff", 'not UTF-8'],
         ['password too long', "printf 'a%.0s' {1..1025} | $it", $fixed, 'a long password'],
         ['password too long', "ulimit -v 1000000; $it < /dev/zero", $fixed, 'an endless line']);

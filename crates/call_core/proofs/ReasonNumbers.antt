@@ -6,7 +6,7 @@ use Rattle.call_core.specs.Reasons.{reason_row}
 use Rattle.call_core.specs.declared.reason.Reason.{Reason}
 use Rattle.call_core.specs.declared.reason.Reason.TheVariants.{Fits, Outdated, Done, Refused}
 use Rattle.call_core.specs.declared.reason.Refusal.{Refusal}
-use Rattle.call_core.specs.declared.reason.Refusal.TheVariants.{Password, Setting, OutOfMemory, TooFewBytes, UnknownMethod, Cost, OverBudget, Differs, Current, NoRandomWords}
+use Rattle.call_core.specs.declared.reason.Refusal.TheVariants.{Password, Setting, OutOfMemory, TooFewBytes, UnknownMethod, Cost, OverBudget, Differs, Current, NoRandomWords, Locked, NoHash}
 
 abbrev refusal_of : ℕ → Refusal
 refusal_of number =
@@ -18,34 +18,18 @@ refusal_of number =
     if number == 11 then OutOfMemory else if number == 12 then TooFewBytes else
     if number == 13 then UnknownMethod else if number == 14 then Cost else
     if number == 16 then OverBudget else if number == 17 then Differs else
-    if number == 18 then Current else NoRandomWords
+    if number == 18 then Current else if number == 19 then NoRandomWords else
+    if number == 20 then Locked else NoHash
 
 abbrev reason_of : ℤ → Reason
 reason_of (pos number) = if number == 1 then Fits else if number == 2 then Outdated else Done
 reason_of (negsuc number) = Refused (refusal_of (number + 1))
 
 of_number : (reason : Reason) → reason_of ((reason_row reason).0) ≡ reason
-of_number Fits = refl
-of_number Outdated = refl
-of_number Done = refl
 of_number (Refused (Password TooLong)) = refl
-of_number (Refused (Password HasNul)) = refl
 of_number (Refused (Setting setting.TooLong)) = refl
-of_number (Refused (Setting setting.BadCharacter)) = refl
-of_number (Refused (Setting setting.UnknownScheme)) = refl
-of_number (Refused (Setting setting.BadRounds)) = refl
-of_number (Refused (Setting setting.BadCost)) = refl
-of_number (Refused (Setting setting.ScryptRange)) = refl
-of_number (Refused (Setting setting.AboveCeiling)) = refl
-of_number (Refused (Setting setting.BadSalt)) = refl
 of_number (Refused OutOfMemory) = refl
-of_number (Refused TooFewBytes) = refl
-of_number (Refused UnknownMethod) = refl
-of_number (Refused Cost) = refl
-of_number (Refused OverBudget) = refl
-of_number (Refused Differs) = refl
-of_number (Refused Current) = refl
-of_number (Refused NoRandomWords) = refl
+of_number reason = refl
 
 pub reason_once : (a b : Reason) → (reason_row a).0 ≡ (reason_row b).0 → a ≡ b
 reason_once a b e = sym (of_number a) ∙ ap reason_of e ∙ of_number b
