@@ -29,11 +29,12 @@
  * - malloc, realloc and free belong to one allocator, which aligns a block to every power of two up to 16 that divides its
  *   size, as the C library's does.
  * - A signal handler makes no call, and neither does the child of fork(2) in a process with threads before it runs execve(2).
- * - 64 KiB of stack are free. A call uses some 20 KiB.
+ * - 64 KiB of stack are free. A call uses some 25 KiB.
  *
- * Nothing is wiped: copies of the password, and of what was computed from it, may remain on the stack and in freed memory.
- * The calls don't hide from a clock what they work on: comparisons may end early, and scrypt reads its table at places that
- * depend on the password. */
+ * The calls that hash wipe the stack that they used, the memory that they free, and, where the library's compiler can, the
+ * registers. The caller's copies of the password, and of a hash, are the caller's to wipe.
+ * The calls don't hide from a clock what they work on: scrypt reads its table at places that depend on the password. A hash is
+ * compared to its last byte, wherever it differs from the stored one. */
 #ifndef MKPASSWD_H
 #define MKPASSWD_H
 
@@ -150,7 +151,12 @@ struct mkpasswd_report {
 };
 
 typedef char mkpasswd_report_has_64_bytes[sizeof(struct mkpasswd_report) == 64 ? 1 : -1];
-typedef char mkpasswd_report_has_work_at_16[offsetof(struct mkpasswd_report, work) == 16 ? 1 : -1];
+typedef char mkpasswd_report_has_fields_at_0_4_8_16_56[offsetof(struct mkpasswd_report, reason) == 0
+    && offsetof(struct mkpasswd_report, length) == 4 && offsetof(struct mkpasswd_report, cost) == 8
+    && offsetof(struct mkpasswd_report, work) == 16 && offsetof(struct mkpasswd_report, reserved) == 56 ? 1 : -1];
+typedef char mkpasswd_work_has_fields_at_0_8_16_24_32[offsetof(struct mkpasswd_work, digests) == 0
+    && offsetof(struct mkpasswd_work, bytes) == 8 && offsetof(struct mkpasswd_work, mixes) == 16
+    && offsetof(struct mkpasswd_work, table) == 24 && offsetof(struct mkpasswd_work, scratch) == 32 ? 1 : -1];
 
 /* Returns 1 exactly if the password matches the stored hash and that hash costs at most `budget`; with scrypt it may run
  * out of memory and return 0 instead. A budget of 0 lets nobody in. Above the budget nothing is hashed. */

@@ -5,6 +5,7 @@ use strict;
 use warnings;
 use FindBin qw($Bin);
 use lib "$Bin/lib";
+use IPC::Open2;
 use List::Util qw(sum0);
 use Model;
 use Suite;
@@ -456,15 +457,67 @@ subtest 'the time of logins' => sub {
     cmp_ok($times{$_}, '>', 0.5 * $times{'wrong password'}, $_) for 'unknown name', 'empty', 'locked', 'yescrypt', 'above the budget';
 };
 
-# What no clause can say of the object: how hashes are compared.
+# A second process looks at the memory of one that makes a call three times. The third password has another byte at each place.
+# So 8 bytes in a row that the third call changed are of the password, or of what was computed from it.
+subtest 'what calls leave in memory' => sub {
+    no warnings 'portable';    # of hex
+    my $residue = build('residue', $cc, '-std=c99', @strict, "$root/tests/c/residue.c", @static) or return;
+    my $memory_of = sub {
+        my %memory;
+        open my $file, '<:raw', "/proc/$_[0]/mem" or die "its memory: $!";
+        for (slurp("/proc/$_[0]/maps") =~ /^(\w+-\w+) rw.p/mg) {
+            my ($start, $end) = map { hex } split /-/;
+            sysseek $file, $start, 0;
+            sysread $file, $memory{$start}, $end - $start;
+        }
+        return \%memory;
+    };
+    my @calls = (['verify', $fixed], ['hash', $fixed], ['login', '!', 1, 0], ['new', '', 1, 0], ['verify', '$5$ab$x'], ['new', '', 5, 1000],
+        ['login', '!', 6, 1000], ['hash', '$6$ab'], ['new', '', 6, 1000], ['verify', $known[4][1]], ['login', '!', 7, 6], ['new', '', 7, 0],
+        map { ['hash', "\$7\$$_..../....ab"] } 'AU', 'BU');    # tables of 16 and 32 MiB
+    for my $call (map { my $call = $_; map { [@$call[0, 1], $call->[2] // 0, $call->[3] // 0, $_] } 8, 24, 1000 } @calls) {
+        my $pid = open2(my $out, my $in, $residue, @$call);
+        my @memory = map { sysread($out, my $stop, 1) or die "no stop: @$call"; my $seen = $_ && $memory_of->($pid); syswrite $in, "\n"; $seen } 0 .. 2;
+        waitpid $pid, 0;
+        my $changed = join ' ', map { ($memory[2]{$_} ^ ($memory[1]{$_} // '')) =~ /[^\0]{8,}/g } keys %{ $memory[2] };
+        is($? . unpack('H*', $changed), '0', "@$call");
+    }
+};
+
+subtest 'the report' => sub {
+    spew("$scratch/report.c", <<'END');
+#include <mkpasswd.h>
+#include <stdio.h>
+int main(void)
+{
+    struct mkpasswd_report report;
+    char out[MKPASSWD_TEXT_SIZE];
+    return !mkpasswd_hash_str("password", "$7$46..../....SodiumChloride", MKPASSWD_BUDGET, out, sizeof out, &report)
+        || fwrite(&report, sizeof report, 1, stdout) != 1;
+}
+END
+    my $program = build('report', $cc, '-std=c99', @strict, "$scratch/report.c", @static) or return;
+    # N is 64, r is 8: each field has a value of its own.
+    is_deeply([unpack 'l<L<Q<7', run($program)->{out}], [3, 72, 137_956, 66, 6884, 128, 65_536, 3072, 0], 'each field at its place');
+};
+
+# What no clause can say of the object: what is called, and how hashes are compared.
 subtest 'the object' => sub {
     needs(objdump => 'binutils') or return;
-    for my $folder (grep { -e "$_/crypt_c.o" } glob "$root/build/x86-64*") {
-        my %body = run(qw(objdump -dr --no-show-raw-insn), "$folder/crypt_c.o")->{out} =~ /^\w+ <(\S+)>:\n(.*?)\n(?=\n|\z)/msg;
+    for my $folder (glob "$root/build/x86-64*") {
+        -e "$folder/mkpasswd.o" && is_run(run({ dir => $scratch }, 'ar', 'x', "$folder/libcrypt_c.a", 'crypt_c.o'), 0, '', '', "$folder: the proved object") or next;
+        my ($proved, $linked) = map { run('objdump', '-s', $_)->{out} =~ s/^.*file format.*\n//mr } "$scratch/crypt_c.o", "$folder/crypt_c.o";
+        ok($proved ne '' && $proved eq $linked, 'only names changed in it');
+        my %body = run(qw(objdump -dr --no-show-raw-insn), "$folder/mkpasswd.o")->{out} =~ /^\w+ <(\S+)>:\n(.*?)\n(?=\n|\z)/msg;
+        my %calls = (hash_anew => ['getentropy', ('mkpasswd_proved_new_from') x 2], mkpasswd_new => ['hash_anew', 'wiped']);
+        for my $name ('hash_anew', map { "mkpasswd_$_" } qw(new verify login hash)) {
+            my @calls = grep { defined } $body{$name} =~ /PLT32\s+(\w+)|\t(?:call|jmp) .*<(wiped|hash_anew)>$/mg;
+            is_deeply([sort @calls], $calls{$name} // [$name =~ s/_/_proved_/r, 'wiped'], "$name calls its own");
+        }
         # Of lengths are tests of a whole register, or by a number above 0; others whether there is a hash, and whether one differs.
         my $compare = $body{'crypt_c::calls::compare'} // '';
         my @tests = grep { !/ (?:%r(?:[a-d]x|[sd]i|[sb]p|\d+)|\$0x[1-9a-f]\w*),/ } $compare =~ /\t((?:test|cmp)\w* [^\n]*)\n[^\n]*\tj/g;
-        is(@tests, 2, "$folder: a comparison jumps by lengths alone") or diag(join "\n", @tests);
+        is(@tests, 2, 'a comparison jumps by lengths alone') or diag(join "\n", @tests);
         unlike($compare, qr/memcmp|bcmp|repz|pmovmsk|ptest/, 'and calls no other');
     }
 };
