@@ -1,60 +1,93 @@
-/* Memory for the proved code: what it calls, over malloc, realloc and free. It fails exactly where those fail. Only scrypt's
- * table is large. In small pages the system takes up to a fifth of the time of a hash to provide it, so a large block asks for
- * huge pages wherever it has whole ones. Where the system has none the block is as good.
+/* Memory for the proved code: what it calls, over malloc and free. It fails exactly where malloc does. Only scrypt's table is
+ * large. In small pages the system takes up to a fifth of the time of a hash to provide it, so a large block asks for huge
+ * pages wherever it has whole ones. Where the system has none the block is as good.
+ *
+ * The size of a block stands before it, since not every allocator that a service brings can be asked for it.
  *
  * With -DKEEPS=1, in a program of one thread, the last large block that was freed waits for the next one of its size; one of
- * another size is allocated only after it is freed. Libraries keep none (-DKEEPS=0), since a service wants its memory back.
- * Nothing is wiped (docs/SECURITY.md): a kept block holds what a core file of any run may hold, in a process that held the
- * passwords too, and the next table begins as zeros. */
+ * another size is allocated only after it is freed. Nothing is wiped there (docs/SECURITY.md): the program has the passwords
+ * until it ends, and the next table begins as zeros.
+ *
+ * Libraries keep none (-DKEEPS=0), since a service wants its memory back, and wipe what they free. */
 #define _GNU_SOURCE /* for MADV_HUGEPAGE */
 #include <malloc.h>
 #include <stdbool.h>
 #include <stdint.h>
 #include <stdlib.h>
+#include <string.h>
 #include <sys/mman.h>
 
+#define PAGE ((uintptr_t)64 << 10) /* a multiple of each processor's small page */
 #define HUGE_PAGE ((uintptr_t)2 << 20)
 #define LARGE (2 * HUGE_PAGE) /* with a whole huge page in it, wherever it begins */
+#define MAPPED ((size_t)32 << 20) /* from here on glibc's malloc maps a block by itself, whatever was freed before */
+
+/* What stands before a block. Its 16 bytes keep the block's alignment. */
+struct head { size_t size, unused; };
 
 /* Whether there is a block, and where. Proved code has no null pointers, so without a block this points to some byte. */
 struct tried { bool is_there; void *block; };
 
-static void *kept;
+static struct head *kept;
 
-static struct tried tried(void *block)
+static struct tried tried(struct head *head)
 {
-    static char none;
-    return (struct tried){block != NULL, block ? block : &none};
+    static struct head none;
+    return (struct tried){head != NULL, head ? head + 1 : &none};
 }
 
+/* Whole pages of a block that was mapped by itself go back to the system, which takes less time than to write zeros. */
+static void wipe(char *block, size_t size)
+{
+    size_t before = -(uintptr_t)block % PAGE, pages = size < MAPPED ? 0 : (size - before) / PAGE * PAGE;
+    if (pages == 0 || madvise(block + before, pages, MADV_DONTNEED) != 0)
+        before = pages = 0;
+    explicit_bzero(block, before);
+    explicit_bzero(block + before + pages, size - before - pages);
+}
+
+/* The size is below 2^63, and the alignment divides 16. */
 struct tried rattle_alloc(size_t size, size_t alignment)
 {
-    char *block;
+    struct head *head;
+    (void)alignment;
     if (KEEPS && size >= LARGE) {
         mallopt(M_MMAP_THRESHOLD, LARGE); /* glibc would come to hold on to blocks below 32 MiB */
-        block = kept;
+        head = kept;
         kept = NULL;
-        if (size <= malloc_usable_size(block) && malloc_usable_size(block) - size < HUGE_PAGE)
-            return tried(block);
-        free(block);
+        if (head && head->size == size)
+            return tried(head);
+        free(head);
     }
-    block = malloc(size ? size : alignment);
-    if (block && size >= LARGE) {
-        size_t before = -(uintptr_t)block % HUGE_PAGE;
-        madvise(block + before, (size - before) / HUGE_PAGE * HUGE_PAGE, MADV_HUGEPAGE);
+    head = malloc(sizeof *head + (size + 15) / 16 * 16); /* a size that has malloc align it to 16 */
+    if (head)
+        head->size = size;
+    if (head && size >= LARGE) {
+        size_t before = -(uintptr_t)(head + 1) % HUGE_PAGE;
+        madvise((char *)(head + 1) + before, (size - before) / HUGE_PAGE * HUGE_PAGE, MADV_HUGEPAGE);
     }
-    return tried(block);
-}
-
-struct tried rattle_realloc(void *block, size_t used, size_t size, size_t alignment)
-{
-    (void)used;
-    return tried(realloc(block, size ? size : alignment));
+    return tried(head);
 }
 
 void rattle_dealloc(void *block)
 {
-    bool is_kept = KEEPS && malloc_usable_size(block) >= LARGE;
-    free(is_kept ? kept : block);
-    kept = is_kept ? block : kept;
+    struct head *head = (struct head *)block - 1, *freed = head;
+    if (KEEPS && head->size >= LARGE) {
+        freed = kept;
+        kept = head;
+    }
+    if (!KEEPS)
+        wipe(block, head->size);
+    free(freed);
+}
+
+/* The new block has the first `used` bytes of the old one, which are no more than either has. */
+struct tried rattle_realloc(void *block, size_t used, size_t size, size_t alignment)
+{
+    struct tried moved = rattle_alloc(size, alignment);
+    if (moved.is_there) {
+        memcpy(moved.block, block, used);
+        rattle_dealloc(block);
+    }
+    return moved;
 }

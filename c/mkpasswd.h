@@ -29,11 +29,12 @@
  * - malloc, realloc and free belong to one allocator, which aligns a block to every power of two up to 16 that divides its
  *   size, as the C library's does.
  * - A signal handler makes no call, and neither does the child of fork(2) in a process with threads before it runs execve(2).
- * - 64 KiB of stack are free. A call uses some 20 KiB.
+ * - 64 KiB of stack are free. A call uses some 25 KiB.
  *
- * Nothing is wiped: copies of the password, and of what was computed from it, may remain on the stack and in freed memory.
- * The calls don't hide from a clock what they work on: comparisons may end early, and scrypt reads its table at places that
- * depend on the password. */
+ * The calls that hash wipe the stack that they used, the memory that they free, and, where the library's compiler can, the
+ * registers. The caller's copies of the password, and of a hash, are the caller's to wipe.
+ * The calls don't hide from a clock what they work on: scrypt reads its table at places that depend on the password. A hash is
+ * compared to its last byte, wherever it differs from the stored one. */
 #ifndef MKPASSWD_H
 #define MKPASSWD_H
 
@@ -110,8 +111,8 @@ extern "C" {
 #define MKPASSWD_REFUSED_PASSWORD_TOO_LONG (-1)  /* password too long: more than MKPASSWD_PASSWORD_LIMIT bytes */
 #define MKPASSWD_REFUSED_PASSWORD_ZERO_BYTE (-2) /* password has a zero byte */
 #define MKPASSWD_REFUSED_SETTING_TOO_LONG (-3)   /* setting too long: more than 384 bytes */
-#define MKPASSWD_REFUSED_BAD_CHARACTER (-4)      /* bad character: no setting has it; also of a locked account, or a line end */
-#define MKPASSWD_REFUSED_UNKNOWN_SCHEME (-5)     /* unknown scheme: none of $1$, $5$, $6$, $7$; also of an empty field */
+#define MKPASSWD_REFUSED_BAD_CHARACTER (-4)      /* bad character: no setting has it; also of a line end */
+#define MKPASSWD_REFUSED_UNKNOWN_SCHEME (-5)     /* unknown scheme: none of $1$, $5$, $6$, $7$ */
 #define MKPASSWD_REFUSED_BAD_ROUNDS (-6)         /* bad rounds: `rounds=` without a valid number */
 #define MKPASSWD_REFUSED_BAD_COST (-7)           /* bad cost: scrypt's is not eleven of ./0-9A-Za-z */
 #define MKPASSWD_REFUSED_SCRYPT_RANGE (-8)       /* scrypt range: N, r or p is invalid */
@@ -125,6 +126,8 @@ extern "C" {
 #define MKPASSWD_DIFFERS (-17)                   /* differs: the password doesn't match; mkpasswd_verify() and mkpasswd_login() */
 #define MKPASSWD_CURRENT (-18)                   /* current: not outdated; mkpasswd_needs_rehash() alone */
 #define MKPASSWD_NO_RANDOM_WORDS (-19)           /* no random words: the system gave none; mkpasswd_new() alone */
+#define MKPASSWD_LOCKED (-20)                    /* locked: the field begins with ! or *; mkpasswd_verify() and mkpasswd_login() */
+#define MKPASSWD_NO_HASH (-21)                   /* no hash: the field is empty; mkpasswd_verify() and mkpasswd_login() */
 
 /* The work of a hash. Each count is below 2^41. */
 struct mkpasswd_work {
@@ -148,7 +151,12 @@ struct mkpasswd_report {
 };
 
 typedef char mkpasswd_report_has_64_bytes[sizeof(struct mkpasswd_report) == 64 ? 1 : -1];
-typedef char mkpasswd_report_has_work_at_16[offsetof(struct mkpasswd_report, work) == 16 ? 1 : -1];
+typedef char mkpasswd_report_has_fields_at_0_4_8_16_56[offsetof(struct mkpasswd_report, reason) == 0
+    && offsetof(struct mkpasswd_report, length) == 4 && offsetof(struct mkpasswd_report, cost) == 8
+    && offsetof(struct mkpasswd_report, work) == 16 && offsetof(struct mkpasswd_report, reserved) == 56 ? 1 : -1];
+typedef char mkpasswd_work_has_fields_at_0_8_16_24_32[offsetof(struct mkpasswd_work, digests) == 0
+    && offsetof(struct mkpasswd_work, bytes) == 8 && offsetof(struct mkpasswd_work, mixes) == 16
+    && offsetof(struct mkpasswd_work, table) == 24 && offsetof(struct mkpasswd_work, scratch) == 32 ? 1 : -1];
 
 /* Returns 1 exactly if the password matches the stored hash and that hash costs at most `budget`; with scrypt it may run
  * out of memory and return 0 instead. A budget of 0 lets nobody in. Above the budget nothing is hashed. */

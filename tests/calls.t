@@ -5,6 +5,7 @@ use strict;
 use warnings;
 use FindBin qw($Bin);
 use lib "$Bin/lib";
+use IPC::Open2;
 use List::Util qw(sum0);
 use Model;
 use Suite;
@@ -41,10 +42,11 @@ sub printed {
 # ---- what each call must do
 
 my @reasons = ('done', 'outdated', 'fits', '', 'password too long', 'password has a zero byte', @setting_refusals,
-    'out of memory', 'too few bytes', 'unknown method', 'cost', '', 'over budget', 'differs', 'current', 'no random words');
+    'out of memory', 'too few bytes', 'unknown method', 'cost', '', 'over budget', 'differs', 'current', 'no random words',
+    'locked', 'no hash');
 my %number = map { $reasons[$_] => 3 - $_ } grep { $reasons[$_] ne '' } 0 .. $#reasons;
 my %steps = (
-    verify => 'password setting budget memory compare', needs_rehash => 'setting made replace', setting => 'made room',
+    verify => 'password field budget memory compare', needs_rehash => 'setting made replace', setting => 'made room',
     new => 'password made budget room draw memory', hash => 'password setting budget room memory', bound => 'length setting tell',
 );
 our $refused = 0;    # which allocation is refused, from 1
@@ -56,6 +58,7 @@ sub salt_of { my ($length, @of) = @_; return join '', map { $characters[$of[$_ /
 sub line {
     my ($call, $password, $text, $room, @n) = @_;
     my $name = $call =~ s/_(?:str|over)$//r;
+    return login_line($password, $text, @n) if $name eq 'login';
     ($password, $text, $room) = ($password // "\0", $text // '', $room // 0);
     my ($setting, $made, $hash, $refusal);
     my ($cost, $allocations, $drawn, @work) = (0, 0, 0, (0) x 5);
@@ -64,6 +67,7 @@ sub line {
         password => sub { length $password > 1024 ? 'password too long' : $password =~ /\0/ ? 'password has a zero byte' : '' },
         length => sub { $n[0] > 1024 ? 'password too long' : '' },
         setting => sub { ref($setting = read_setting($text)) ? '' : $setting },
+        field => sub { $text eq '' ? 'no hash' : $text =~ /^[!*]/ ? 'locked' : ref($setting = read_setting($text)) ? '' : $setting },
         made => sub {
             return 'unknown method' if $n[0] !~ /^[1567]$/;
             return 'cost' if $n[0] == 7 && $n[1] !~ /^([06-9]|1[01])$/;
@@ -220,16 +224,13 @@ sub login_line {
     return "0 $refused" . ' 0' x 11 . ' unchanged' if $refused;
     $line[1] = 2 if $line[0] && line('needs_rehash', '', $field, 0, $method, $cost) =~ /^1/;
     my $decoy = made_setting($method, $cost, '.' x $made_salt{$method})->{front};
-    @line[4 .. 10] = (split / /, line('hash', $password, $decoy, 145, $limit))[4 .. 10] if $line[1] =~ /^-([3-9]|10|16)$/;
+    @line[4 .. 10] = (split / /, line('hash', $password, $decoy, 145, $limit))[4 .. 10] if $line[1] =~ /^-([3-9]|10|16|20|21)$/;
     return join ' ', @line;
 }
 
-sub are_logged_in {
-    my ($name, $rows, @logins) = @_;
-    my @got = printed($driver, @$rows, map { my ($password, $field, @n) = @$_; map { row("login$_", $password, $field, 0, @n) }
-            '', ($password // '') . ($field // '') =~ /\0/ ? () : '_str' } @logins);
-    my @wanted = map { (login_line(@$_)) x (($_->[0] // '') . ($_->[1] // '') =~ /\0/ ? 1 : 2) } @logins;
-    is_deeply(\@got, \@wanted, $name);
+# Logins with lengths, and with strings where there is no byte 0.
+sub logins {
+    return map { my ($password, $field, @n) = @$_; map { ["login$_", $password, $field, 0, @n] } '', "$password$field" =~ /\0/ ? () : '_str' } @_;
 }
 
 subtest 'logins' => sub {
@@ -238,12 +239,9 @@ subtest 'logins' => sub {
     my @logins = map { my $field = $_; map { ['password', $field, @$_, $budget] } @prices[1 .. 3] } @fields;
     push @logins, map { my $price = $_; map { [@$_[0, 1], @$price, $budget] } @known[0 .. 4], ['', $fixed], ['a' x 1025, $fixed], ["a\0", ''], ["\0", "!"] } @prices;
     push @logins, map { my $limit = $_; map { ['password', $_, 6, 0, $limit] } $fixed, '', '!', $known[4][1] } 0, 36238, 36239, 452159, 452160, $most;
-    are_logged_in('each field', [], @logins);
-    are_logged_in('in eight threads', ['threads 8'], @logins[0 .. 150]);
-    for (1 .. 4) {
-        local $refused = $_;
-        are_logged_in("allocation $_ refused", ["refuse $_"], map { ['password', $_, 7, 6, $budget] } $fixed, '', '!', $known[4][1]);
-    }
+    are_made('each field', [], logins(@logins), ['login_str', 'password', undef, 0, 6, 0, $budget]);
+    are_made('in eight threads', ['threads 8'], logins(@logins[0 .. 150]));
+    are_refused([], logins(map { ['password', $_, 7, 6, $budget] } $fixed, '', '!', $known[4][1]));
     # The right and a wrong hash with the salt of a dropped one, and the fields that have none: the same work for all.
     for my $price ([1, 0], [5, 2000], [6, 0], [7, 6]) {
         my $setting = made_setting(@$price, '.' x $made_salt{ $price->[0] });
@@ -346,7 +344,8 @@ subtest 'compilers' => sub {
     push @calls, ['bound_str', '', $fixed, 0, 8], ['setting_str', '', '', 145, 6, 0, 1, 2, 3], ['hash_str', 'password', '!', 145, $budget],
         ['verify', '', $empty, 0, $budget], ['verify_str', 'x', $empty, 0, $budget], ['hash', 'password', $cheap, 145, $budget],
         ['hash_str', 'password', $cheap, 145, $most], ['new_str', 'password', '', 145, 1, 0, $budget],
-        map { ['new', 'password', '', 145, 7, 6, $_] } 0, $budget;
+        logins(map { ['password', $_, 6, 1000, $budget] } '', '!', '*', '!' . 'a' x 399, '$y$x', '$6$rounds=999999999$ab$x', $fixed),
+        ['login_str', 'password', undef, 0, 6, 1000, $budget], map { ['new', 'password', '', 145, 7, 6, $_] } 0, $budget;
     my ($rows, $wanted) = ("threads 8\n", '');
     for (0 .. 5) {
         local $refused = $_ % 5;
@@ -458,6 +457,71 @@ subtest 'the time of logins' => sub {
     cmp_ok($times{$_}, '>', 0.5 * $times{'wrong password'}, $_) for 'unknown name', 'empty', 'locked', 'yescrypt', 'above the budget';
 };
 
+# A second process looks at the memory of one that makes a call three times. The third password has another byte at each place.
+# So 8 bytes in a row that the third call changed are of the password, or of what was computed from it.
+subtest 'what calls leave in memory' => sub {
+    no warnings 'portable';    # of hex
+    my $residue = build('residue', $cc, '-std=c99', @strict, "$root/tests/c/residue.c", @static) or return;
+    my $memory_of = sub {
+        my %memory;
+        open my $file, '<:raw', "/proc/$_[0]/mem" or die "its memory: $!";
+        for (slurp("/proc/$_[0]/maps") =~ /^(\w+-\w+) rw.p/mg) {
+            my ($start, $end) = map { hex } split /-/;
+            sysseek $file, $start, 0;
+            sysread $file, $memory{$start}, $end - $start;
+        }
+        return \%memory;
+    };
+    my @calls = (['verify', $fixed], ['hash', $fixed], ['login', '!', 1, 0], ['new', '', 1, 0], ['verify', '$5$ab$x'], ['new', '', 5, 1000],
+        ['login', '!', 6, 1000], ['hash', '$6$ab'], ['new', '', 6, 1000], ['verify', $known[4][1]], ['login', '!', 7, 6], ['new', '', 7, 0],
+        map { ['hash', "\$7\$$_..../....ab"] } 'AU', 'BU');    # tables of 16 and 32 MiB
+    for my $call (map { my $call = $_; map { [@$call[0, 1], $call->[2] // 0, $call->[3] // 0, $_] } 8, 24, 1000 } @calls) {
+        my $pid = open2(my $out, my $in, $residue, @$call);
+        my @memory = map { sysread($out, my $stop, 1) or die "no stop: @$call"; my $seen = $_ && $memory_of->($pid); syswrite $in, "\n"; $seen } 0 .. 2;
+        waitpid $pid, 0;
+        my $changed = join ' ', map { ($memory[2]{$_} ^ ($memory[1]{$_} // '')) =~ /[^\0]{8,}/g } keys %{ $memory[2] };
+        is($? . unpack('H*', $changed), '0', "@$call");
+    }
+};
+
+subtest 'the report' => sub {
+    spew("$scratch/report.c", <<'END');
+#include <mkpasswd.h>
+#include <stdio.h>
+int main(void)
+{
+    struct mkpasswd_report report;
+    char out[MKPASSWD_TEXT_SIZE];
+    return !mkpasswd_hash_str("password", "$7$46..../....SodiumChloride", MKPASSWD_BUDGET, out, sizeof out, &report)
+        || fwrite(&report, sizeof report, 1, stdout) != 1;
+}
+END
+    my $program = build('report', $cc, '-std=c99', @strict, "$scratch/report.c", @static) or return;
+    # N is 64, r is 8: each field has a value of its own.
+    is_deeply([unpack 'l<L<Q<7', run($program)->{out}], [3, 72, 137_956, 66, 6884, 128, 65_536, 3072, 0], 'each field at its place');
+};
+
+# What no clause can say of the object: what is called, and how hashes are compared.
+subtest 'the object' => sub {
+    needs(objdump => 'binutils') or return;
+    for my $folder (glob "$root/build/x86-64*") {
+        -e "$folder/mkpasswd.o" && is_run(run({ dir => $scratch }, 'ar', 'x', "$folder/libcrypt_c.a", 'crypt_c.o'), 0, '', '', "$folder: the proved object") or next;
+        my ($proved, $linked) = map { run('objdump', '-s', $_)->{out} =~ s/^.*file format.*\n//mr } "$scratch/crypt_c.o", "$folder/crypt_c.o";
+        ok($proved ne '' && $proved eq $linked, 'only names changed in it');
+        my %body = run(qw(objdump -dr --no-show-raw-insn), "$folder/mkpasswd.o")->{out} =~ /^\w+ <(\S+)>:\n(.*?)\n(?=\n|\z)/msg;
+        my %calls = (hash_anew => ['getentropy', ('mkpasswd_proved_new_from') x 2], mkpasswd_new => ['hash_anew', 'wiped']);
+        for my $name ('hash_anew', map { "mkpasswd_$_" } qw(new verify login hash)) {
+            my @calls = grep { defined } $body{$name} =~ /PLT32\s+(\w+)|\t(?:call|jmp) .*<(wiped|hash_anew)>$/mg;
+            is_deeply([sort @calls], $calls{$name} // [$name =~ s/_/_proved_/r, 'wiped'], "$name calls its own");
+        }
+        # Of lengths are tests of a whole register, or by a number above 0; others whether there is a hash, and whether one differs.
+        my $compare = $body{'crypt_c::calls::compare'} // '';
+        my @tests = grep { !/ (?:%r(?:[a-d]x|[sd]i|[sb]p|\d+)|\$0x[1-9a-f]\w*),/ } $compare =~ /\t((?:test|cmp)\w* [^\n]*)\n[^\n]*\tj/g;
+        is(@tests, 2, 'a comparison jumps by lengths alone') or diag(join "\n", @tests);
+        unlike($compare, qr/memcmp|bcmp|repz|pmovmsk|ptest/, 'and calls no other');
+    }
+};
+
 subtest 'what is installed' => sub {
     is(@declared, 9, 'the header declares nine calls');
     if (needs(objdump => 'binutils')) {
@@ -497,7 +561,7 @@ sub are_logins {
         [2, 'login: ', "$it <&-", $empty, 'a closed input'], [2, 'login: ', "$it 0> in", $empty, "an input that can't be read"],
         [2, 'usage: ', "echo password | $it"]);
     my @refused = (['over budget', "echo password | $it", '$6$rounds=999999999$ab$x', 'over budget'],
-        ['bad character', "echo password | $it", "!$fixed", 'a locked account'], ['unknown scheme', "echo password | $it", 'abc', 'no scheme'],
+        ['locked', "echo password | $it", "!$fixed", 'a locked account'], ['unknown scheme', "echo password | $it", 'abc', 'no scheme'],
         ['bad character', "echo password | $it", "$fixed\xff", 'not UTF-8'],
         ['password too long', "printf 'a%.0s' {1..1025} | $it", $fixed, 'a long password'],
         ['password too long', "ulimit -v 1000000; $it < /dev/zero", $fixed, 'an endless line']);

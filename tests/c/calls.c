@@ -7,7 +7,7 @@
  * allocated, how many blocks it kept, how many random bytes it drew, and what it left in `out`.
  *
  * Input ends where a page begins that nobody may touch, and is read-only; `out` and the report end at such a page too. Each
- * call is made twice, with a report full of 0xff and of 0 (a _str call the second time with none), with 24 KiB of stack left
+ * call is made twice, with a report full of 0xff and of 0 (a _str call the second time with none), with 26 KiB of stack left
  * above such a page (not with -DSANITIZED), and has to leave the same both times.
  *
  * With -DWRAP, linked with --wrap for malloc, realloc, free and getentropy, or with -DREPLACE, in the place of the C
@@ -36,7 +36,7 @@ typedef char has_the_budget[MKPASSWD_BUDGET == BUDGET ? 1 : -1];
 #define PATTERN 0xa5
 #define THREADS 8
 #define STACK (64 * 1024)
-#define STACK_LEFT (24 * 1024)
+#define STACK_LEFT (26 * 1024)
 
 /* So many bytes between two pages that nobody may touch. */
 static uint8_t *new_pages(size_t size)

@@ -54,6 +54,12 @@ void *calloc(size_t count, size_t size) {
     return fails("memory", &memory_calls, count * size, 0) ? errno = ENOMEM, NULL : __libc_calloc(count, size);
 }
 
+/* Not every allocator can be asked. */
+size_t malloc_usable_size(void *block) {
+    (void)block;
+    abort();
+}
+
 ssize_t read(int file, void *bytes, size_t size) {
     if (fails("read", &read_calls, size, file))
         return errno = EIO, -1;

@@ -15,7 +15,7 @@ static void log_in(const uint8_t *password, size_t len, const uint8_t *field, si
     struct mkpasswd_report told = report;
 
     MUST(!never && told.work.bytes <= budget && unknown.work.bytes <= budget);
-    if (unknown.reason != MKPASSWD_REFUSED_UNKNOWN_SCHEME) {
+    if (unknown.reason != MKPASSWD_NO_HASH) {
         MUST(!is_in && memcmp(&told, &unknown, sizeof told) == 0 && told.cost == 0 && told.work.digests == 0);
         return;
     }

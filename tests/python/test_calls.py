@@ -118,9 +118,11 @@ def test_a_login_goes_on_without_a_new_hash(monkeypatch):
 
 def test_a_login_logs_why_it_is_refused(caplog):
     caplog.set_level("DEBUG", "mkpasswd")
-    rows = ("x", MD5), ("password", None), ("password", COSTLY), ("\0", MD5), ("x" * 83, libxcrypt("x" * 83, "$1$salt"))
-    assert [bool(login(*row)) for row in rows] == [False] * 4 + [True] and login("password", MD5, "md5crypt")
-    refused = ["differs", "unknown scheme", "over budget", "password has a zero byte"]
+    fields = None, "", "!", "*", "!" + "x" * 400, "$y$x", COSTLY
+    rows = ("x", MD5), *(("password", field) for field in fields), ("\0", MD5), ("x" * 83, libxcrypt("x" * 83, "$1$salt"))
+    assert [bool(login(*row)) for row in rows] == [False] * 9 + [True] and login("password", MD5, "md5crypt")
+    of_fields = "no hash", "no hash", "locked", "locked", "locked", "unknown scheme", "over budget"
+    refused = ["differs", *of_fields, "password has a zero byte"]
     expected = [*("login refused: " + reason for reason in refused), "no new hash: over budget: more than 150000000"]
     assert [record.getMessage() for record in caplog.records] == expected
 

@@ -2,13 +2,14 @@
 --
 -- A password is the list of its bytes, `kept` is the setting that a text spells, and `price` is the cost that makes a
 -- scheme.
-use Rattle.std.specs.Prelude.{◌≡◌, ◌⊎◌, ◌<◌, ◌≤◌, ℕ, List, Some, None, Result, Ok, Err}
+use Rattle.std.specs.Prelude.{◌≡◌, ◌⊎◌, ◌<◌, ◌≤◌, ℕ, List, [], Some, None, Result, Ok, Err}
 use Rattle.crypt_core.specs.MadeSettings.{TakesCost, made_scheme}
 use Rattle.crypt_core.specs.Methods.{method_numbered}
 use Rattle.crypt_core.specs.Passwords.{IsPassword, IsPasswordRefused, password_limit}
 use Rattle.crypt_core.specs.Refusals.{IsRefused}
 use Rattle.crypt_core.specs.Rounds.{clamped}
 use Rattle.crypt_core.specs.Settings.{SettingValue, Spells}
+use Rattle.crypt_core.specs.StoredFields.{IsLocked, IsStored}
 use Rattle.crypt_core.specs.declared.method.Method.{Method}
 use Rattle.crypt_core.specs.declared.method.Method.TheVariants as methods
 use Rattle.crypt_core.specs.declared.password.PasswordFault.{PasswordFault}
@@ -17,7 +18,7 @@ use Rattle.crypt_core.specs.declared.scheme.Scheme.{Scheme}
 use Rattle.crypt_core.specs.declared.setting.fault.SettingFault.{SettingFault}
 use Rattle.call_core.specs.Reports.{refused}
 use Rattle.call_core.specs.declared.reason.Refusal.{Refusal}
-use Rattle.call_core.specs.declared.reason.Refusal.TheVariants.{Password, Setting, UnknownMethod, Cost}
+use Rattle.call_core.specs.declared.reason.Refusal.TheVariants.{Password, Setting, UnknownMethod, Cost, Locked, NoHash}
 use Rattle.call_core.specs.declared.report.Report.{Report}
 
 -- The bytes are a password, and `Then` holds; or they break a rule first, and `Refuses` holds of it.
@@ -33,6 +34,18 @@ OnLength len Refuses Then = ((len ≤ password_limit) × Then) ⊎ ((password_li
 abbrev pub OnSetting : List ℕ → (Refusal → Type 0) → (SettingValue → Type 0) → Type 0
 OnSetting text Refuses Then =
     ((kept : SettingValue) × Spells text kept × Then kept) ⊎ ((fault : SettingFault) × IsRefused text fault × Refuses (Setting fault))
+
+-- IsFieldRefusal field refusal: the field is empty, or locked, or neither and breaks this rule of a setting first.
+abbrev pub IsFieldRefusal : List ℕ → Refusal → Type 0
+IsFieldRefusal field NoHash = field ≡ []
+IsFieldRefusal field Locked = IsLocked field
+IsFieldRefusal field (Setting fault) = IsStored field × IsRefused field fault
+IsFieldRefusal field refusal = ⊥
+
+-- The stored field spells a setting, of which `Then` holds; or it is refused, and `Refuses` holds of the refusal.
+abbrev pub OnField : List ℕ → (Refusal → Type 0) → (SettingValue → Type 0) → Type 0
+OnField field Refuses Then =
+    ((kept : SettingValue) × Spells field kept × Then kept) ⊎ ((refusal : Refusal) × IsFieldRefusal field refusal × Refuses refusal)
 
 -- The costs of new hashes: those that a method takes without clamping them.
 abbrev pub TakesNewCost : Method → ℕ → Type 0

@@ -11,7 +11,7 @@ use Rattle.crypt_core.specs.MadeSettings.{TakesCost, salted}
 use Rattle.crypt_core.specs.Passwords.{IsPassword}
 use Rattle.crypt_core.specs.Settings.{SettingValue, Spells, canonical_text}
 use Rattle.crypt_core.specs.Work.{cost, work, work_bound}
-use Rattle.call_core.specs.Arguments.{OnLength, OnPassword, OnScheme, OnSetting, Refuses}
+use Rattle.call_core.specs.Arguments.{OnField, OnLength, OnPassword, OnScheme, OnSetting, Refuses}
 use Rattle.call_core.specs.Reports.{LacksMemory, Leaves, refused, reported, token}
 use Rattle.call_core.specs.declared.reason.Reason.{Reason}
 use Rattle.call_core.specs.declared.reason.Reason.TheVariants.{Fits, Done, Refused}
@@ -41,7 +41,7 @@ Compares password kept stored fits report =
 --   otherwise         Fits or Differs with the cost and the work of one hash, or that scrypt could not allocate
 abbrev pub Verifies : List ℕ → List ℕ → ℕ → Report → Type 0
 Verifies password stored budget report =
-    OnPassword password (Refuses report) (OnSetting stored (Refuses report) (λ kept.
+    OnPassword password (Refuses report) (OnField stored (Refuses report) (λ kept.
     let most = cost kept (length password) in
     MatchBool (nat_lt budget most) (report ≡ refused OverBudget most) (Compares password kept stored Fits report)))
 

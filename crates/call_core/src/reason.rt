@@ -30,6 +30,10 @@ pub enum Refusal {
     Current,
     /// The random numbers for a salt are missing.
     NoRandomWords,
+    /// The stored field is locked: it begins with `!` or `*`.
+    Locked,
+    /// The stored field is empty.
+    NoHash,
 }
 
 /// The reason for what a call returned.
@@ -74,6 +78,8 @@ impl Reason {
             Reason::Refused(Refusal::Differs) => -17,
             Reason::Refused(Refusal::Current) => -18,
             Reason::Refused(Refusal::NoRandomWords) => -19,
+            Reason::Refused(Refusal::Locked) => -20,
+            Reason::Refused(Refusal::NoHash) => -21,
         }
     }
 
@@ -104,6 +110,8 @@ impl Reason {
             -17 => Refusal::Differs,
             -18 => Refusal::Current,
             -19 => Refusal::NoRandomWords,
+            -20 => Refusal::Locked,
+            -21 => Refusal::NoHash,
             _ => return None,
         };
         Some(Reason::Refused(refusal))
@@ -127,6 +135,8 @@ impl Reason {
             Reason::Refused(Refusal::Differs) => "differs",
             Reason::Refused(Refusal::Current) => "current",
             Reason::Refused(Refusal::NoRandomWords) => "no random words",
+            Reason::Refused(Refusal::Locked) => "locked",
+            Reason::Refused(Refusal::NoHash) => "no hash",
         }
     }
 }

@@ -20,7 +20,7 @@ use Rattle.call_core.specs.Reports.{LacksMemory, refused, reported}
 use Rattle.call_core.specs.declared.reason.Reason.{Reason}
 use Rattle.call_core.specs.declared.reason.Reason.TheVariants.{Fits, Outdated, Refused}
 use Rattle.call_core.specs.declared.reason.Refusal.{Refusal}
-use Rattle.call_core.specs.declared.reason.Refusal.TheVariants.{Differs, OverBudget, Password, Setting}
+use Rattle.call_core.specs.declared.reason.Refusal.TheVariants.{Differs, OverBudget, Password}
 use Rattle.call_core.specs.declared.report.Report.{Report}
 use Rattle.call_core.proofs.Verdicts.{made_once}
 use Rattle.crypt_c.specs.Calls.{Agrees, Declines, IsHashWork, IsLoginWork, IsUncheckable, LogsIn, decoy}
@@ -97,7 +97,7 @@ agrees password field number price budget scheme report makes (inl (is, inr (inl
 agrees password field number price budget scheme report makes (inl (is, inr (inr (method, named, never, e)))) =
     never_refused number price scheme _ makes method named never
 agrees password field number price budget scheme report makes (inl (is, inl (other, also, inr (fault, broken, declines)))) =
-    (refused (Setting fault) 0, inl (is, inr (fault, broken, refl)), declined_agrees password other budget (refused (Setting fault) 0) report declines)
+    (refused fault 0, inl (is, inr (fault, broken, refl)), declined_agrees password other budget (refused fault 0) report declines)
 agrees password field number price budget scheme report makes (inl (is, inl (other, also, inl (kept, spells, checked)))) =
     let most = cost kept (length password) in
     let agree = checked_agrees (nat_lt budget most) (bytes_eq (crypt password kept) field) (is_replaced_by kept.scheme other)

@@ -12,7 +12,7 @@ use Rattle.crypt_core.specs.Replacements.{is_replaced_by}
 use Rattle.crypt_core.specs.Settings.{SettingValue, Spells}
 use Rattle.crypt_core.specs.Work.{cost, work}
 use Rattle.crypt_core.specs.declared.scheme.Scheme.{Scheme}
-use Rattle.call_core.specs.Arguments.{IsSchemeMade, OnPassword, OnScheme, OnSetting, Refuses, TakesNewCost}
+use Rattle.call_core.specs.Arguments.{IsSchemeMade, OnField, OnPassword, OnScheme, OnSetting, Refuses, TakesNewCost}
 use Rattle.call_core.specs.CommonCalls.{Compares, PutsHash, admission}
 use Rattle.call_core.specs.Reasons.{reason_row}
 use Rattle.call_core.specs.Reports.{Leaves, refused, reported, token}
@@ -75,7 +75,7 @@ Declines password scheme budget refusal report =
 abbrev pub LogsIn : List ℕ → List ℕ → ℕ → ℕ → ℕ → Report → Type 0
 LogsIn password field number price budget report =
     OnPassword password (Refuses report) (OnScheme TakesNewCost number price (Refuses report) (λ scheme.
-    OnSetting field (λ refusal. Declines password scheme budget (refused refusal 0) report) (λ kept.
+    OnField field (λ refusal. Declines password scheme budget (refused refusal 0) report) (λ kept.
     let most = cost kept (length password) in
     MatchBool (nat_lt budget most)
     (Declines password scheme budget (refused OverBudget most) report)

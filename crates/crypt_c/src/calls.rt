@@ -17,12 +17,13 @@ ghost use Rattle.call_core.specs.Reports.{either, put, refused, token};
 ghost use Rattle.crypt_c.specs.Calls.{HashesAnew, IsHashWork, IsOutdated, LogsIn, Rehashes};
 ghost use Rattle.crypt_c.specs.Private.Steps.{MakesHashAnew};
 
-use call_core::reading::{new_scheme_of, scheme_of};
+use call_core::reading::{new_scheme_of, scheme_of, stored_setting};
 use call_core::reason::{Reason, Refusal};
 use call_core::report::{NO_WORK, Report, leave, token};
 use call_core::steps::{admit, cost_within};
 use crypt_core::hash::{HashFault, Hashed, hash};
 use crypt_core::password::Password;
+use crypt_core::same::same_bytes;
 use crypt_core::setting::Setting;
 use prims_core::meter::{Meter, Work};
 use std::alloc::Global;
@@ -44,7 +45,7 @@ pub(crate) fn verify(
     ensures reserved { (either result).reserved ≡ 0 }
 {
     let password = Password::new(password)?;
-    let setting = Setting::read(stored)?;
+    let setting = stored_setting(stored)?;
     let most = cost_within(&password, &setting, budget)?;
     Ok(compare(
         alloc,
@@ -82,10 +83,10 @@ pub(crate) fn log_in(
     let password = Password::new(password)?;
     let scheme = new_scheme_of(method, cost)?;
     let decoy = Setting::salted(scheme, [0; 3]);
-    let setting = match Setting::read(field) {
+    let setting = match stored_setting(field) {
         Ok(setting) => setting,
-        Err(fault) => {
-            let refused = Report::from(fault);
+        Err(refusal) => {
+            let refused = Report::from(refusal);
             return Ok(decline(alloc, &password, &decoy, budget, refused, meter));
         }
     };
@@ -147,7 +148,7 @@ fn compare(
 {
     let (hashed, work) = counted_hash(alloc, password, setting, meter);
     let reason = match hashed {
-        Ok(hashed) if hashed.text() == stored => fits,
+        Ok(hashed) if same_bytes(hashed.text(), stored) => fits,
         Ok(_) => Reason::Refused(Refusal::Differs),
         Err(_) => Reason::Refused(Refusal::OutOfMemory),
     };

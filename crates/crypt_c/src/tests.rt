@@ -106,9 +106,9 @@ fn refuses_what_is_stored(rt: HostRuntime) {
         (&long, b"!", -1),
         (b"a\0b", b"!", -2),
         (b"x", &long[..385], -3),
-        (b"x", b"!", -4),
-        (b"x", b"*0", -4),
-        (b"x", b"", -5),
+        (b"x", b"!", -20),
+        (b"x", b"*0", -20),
+        (b"x", b"", -21),
         (b"x", b"x", -5),
         (b"x", b"$y$j9T$x", -5),
         (b"x", b"$5$rounds=$ab", -6),
@@ -165,8 +165,8 @@ fn logs_in(rt: HostRuntime) {
             SCRYPT_WORK,
         ),
         // A stored hash that can't be checked costs what a new one costs.
-        (b"password", b"", 1, 0, COST, 0, -5, 0, WORK),
-        (b"password", b"*", 1, 9, COST, 0, -4, 0, WORK),
+        (b"password", b"", 1, 0, COST, 0, -21, 0, WORK),
+        (b"password", b"*", 1, 9, COST, 0, -20, 0, WORK),
         (
             b"password",
             b"!$1$xxxxxxxx$UYCIxa628.9qXjpQCjM4a.",
@@ -174,7 +174,7 @@ fn logs_in(rt: HostRuntime) {
             0,
             COST,
             0,
-            -4,
+            -20,
             0,
             WORK,
         ),
@@ -194,8 +194,8 @@ fn logs_in(rt: HostRuntime) {
             NO_WORK,
         ),
         (b"password", STORED, 1, 0, COST - 1, 0, -16, COST, NO_WORK),
-        (b"password", b"", 1, 0, COST - 1, 0, -5, 0, NO_WORK),
-        (b"password", b"", 7, 0, 134245795, 0, -5, 0, NO_WORK),
+        (b"password", b"", 1, 0, COST - 1, 0, -21, 0, NO_WORK),
+        (b"password", b"", 7, 0, 134245795, 0, -21, 0, NO_WORK),
     ];
     for (password, field, method, price, budget, answer, reason, cost, work) in rows {
         let mut report = OLD;

@@ -16,6 +16,7 @@ pub mod Readings
 pub mod Refusals
 pub mod Rounds
 pub mod Rules
+pub mod SameBytes
 pub mod ShaCryptLemmas
 pub mod Steps
 pub mod WorkBounds

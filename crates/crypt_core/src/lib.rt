@@ -10,6 +10,7 @@ mod messages;
 pub mod method;
 pub mod pack;
 pub mod password;
+pub mod same;
 pub mod scheme;
 pub mod setting;
 pub mod shacrypt;

@@ -15,6 +15,7 @@ ghost use Rattle.crypt_core.specs.Work.{raised_by, work, work_limit, IsBelow};
 
 use crate::hash::{HashFault, hash};
 use crate::password::Password;
+use crate::same::same_bytes;
 use crate::setting::{Setting, SettingFault};
 use prims_core::meter::Meter;
 use std::alloc::Global;
@@ -68,6 +69,13 @@ impl<'a> StoredHash<'a> {
         &self.setting
     }
 
+    /// Returns the setting that the stored hash spells, to a caller who keeps no more of it.
+    pub fn into_setting(self) -> Setting
+        ensures { result ≡ self.entry.setting }
+    {
+        self.setting
+    }
+
     /// Returns whether hashing the password with the setting reproduces the stored hash, to the last byte.
     ///
     /// The call raises the meter by exactly the work of that one hash, less than 2^41 in each count;
@@ -94,7 +102,7 @@ impl<'a> StoredHash<'a> {
         ensures spelled { Spells self.now.text self.now.setting }
     {
         let hashed = hash(alloc, password, &self.setting, meter)?;
-        Ok(hashed.text() == self.text)
+        Ok(same_bytes(hashed.text(), self.text))
     }
 }
 

@@ -17,12 +17,14 @@ ghost use Rattle.crypt_web.specs.Private.{in_bytes};
 ghost use Rattle.crypt_web.specs.WebCalls.{NeedsNoMemory, allocates};
 
 use arrayvec::ArrayVec;
+use call_core::reading::stored_setting;
 use call_core::reason::{Reason, Refusal};
 use call_core::report::{Report, leave, token};
 use call_core::steps::{admit, cost_within};
 use crypt_core::md5crypt::md5crypt;
 use crypt_core::pack::pack;
 use crypt_core::password::Password;
+use crypt_core::same::same_bytes;
 use crypt_core::scheme::{Scheme, Sha};
 use crypt_core::setting::{Setting, TEXT_CAPACITY};
 use crypt_core::shacrypt::shacrypt;
@@ -46,12 +48,12 @@ pub(crate) fn verify(
     ensures reserved { (either result).reserved ≡ 0 }
 {
     let password = Password::new(password)?;
-    let setting = Setting::read(stored)?;
+    let setting = stored_setting(stored)?;
     let most = cost_within(&password, &setting, budget)?;
     let Some((hashed, work)) = counted_hash(&password, &setting, meter) else {
         return Err(Report::refused(Refusal::OutOfMemory, most));
     };
-    if hashed.as_slice() != stored {
+    if !same_bytes(hashed.as_slice(), stored) {
         return Err(Report::new(Reason::Refused(Refusal::Differs), 0, most, work));
     }
     Ok(Report::new(Reason::Fits, 0, most, work))

@@ -38,6 +38,8 @@ class Reason(enum.Enum):
     DIFFERS = -17
     CURRENT = -18
     NO_RANDOM_WORDS = -19
+    LOCKED = -20
+    NO_HASH = -21
 
     @property
     def words(self) -> str:

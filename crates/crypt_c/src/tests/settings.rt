@@ -118,7 +118,7 @@ fn puts_words(rt: HostRuntime) {
         (0, 40, 0, b"unknown reason\0"),
         (4, 40, 0, b"unknown reason\0"),
         (-15, 40, 0, b"unknown reason\0"),
-        (-20, 40, 0, b"unknown reason\0"),
+        (-22, 40, 0, b"unknown reason\0"),
         (i32::MIN, 40, 0, b"unknown reason\0"),
         (i32::MAX, 4, 0, b"unk\0"),
         (0, 0, 0, b""),

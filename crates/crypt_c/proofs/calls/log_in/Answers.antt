@@ -26,7 +26,7 @@ returns-in-Err-clause-logs_in c =
       inl (
         c.in_ok-scheme.scheme,
         c.in_ok-scheme.ensures,
-        inr (c.in-Err.fault, c.in-Err.ensures.refused, declines),
+        inr (c.in-Err.refusal, c.in-Err.ensures.refused, declines),
       ),
     )
 

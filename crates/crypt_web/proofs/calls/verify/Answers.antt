@@ -26,28 +26,28 @@ returns-in_default-clause-verifies c =
     compared c.args.password.now c.args.stored.now c.args.budget c.in_ok-setting.setting _ c.in_ok-password.ensures.ok.1
     c.in_ok-setting.ensures.spelled within.1 (inr (no_work, c.in_default.ensures.lacks, rw within.0 at c.refused.ensures))
 
-pub returns-then-ne-clause-verifies : goal.returns-then-ne-clause-verifies
-returns-then-ne-clause-verifies c =
+pub returns-then-not-same_bytes-clause-verifies : goal.returns-then-not-same_bytes-clause-verifies
+returns-then-not-same_bytes-clause-verifies c =
     let within = rw c.in_ok-password.ensures.ok.0 at c.in_ok-most.ensures.within in
     let text = rw c.in_ok-password.ensures.ok.0 at c.in-Some.ensures.text in
     let work = rw c.in_ok-password.ensures.ok.0 at c.in-Some.ensures.work in
-    let differs : bytes_eq (crypt c.args.password.now c.in_ok-setting.setting) c.args.stored.now ≡ false = search (rules, c.if-ne.true, text) in
+    let differs : bytes_eq (crypt c.args.password.now c.in_ok-setting.setting) c.args.stored.now ≡ false = search (rules, c.if-not-same_bytes.true, c.same_bytes.ensures, text) in
     compared c.args.password.now c.args.stored.now c.args.budget c.in_ok-setting.setting _ c.in_ok-password.ensures.ok.1
-    c.in_ok-setting.ensures.spelled within.1 (inl (rw differs (rw (within.0, work.0) at c.new-then-ne.ensures)))
+    c.in_ok-setting.ensures.spelled within.1 (inl (rw differs (rw (within.0, work.0) at c.new-then-not-same_bytes.ensures)))
 
-pub returns-then-ne-clause-opens : goal.returns-then-ne-clause-opens
-returns-then-ne-clause-opens c = λ opens free.
+pub returns-then-not-same_bytes-clause-opens : goal.returns-then-not-same_bytes-clause-opens
+returns-then-not-same_bytes-clause-opens c = λ opens free.
     let kept : c.in_ok-setting.setting ≡ opens.1.0 = cc (c.in_ok-setting.ensures.each_setting opens.1.0 opens.1.1) in
     let text = rw c.in_ok-password.ensures.ok.0 at c.in-Some.ensures.text in
     let whole : crypt c.args.password.now c.in_ok-setting.setting ≡ c.args.stored.now = rw kept opens.1.2 in
-    absurd (search (rules, c.if-ne.true, text, whole))
+    absurd (search (rules, c.if-not-same_bytes.true, c.same_bytes.ensures, text, whole))
 
 pub returns-clause-verifies : goal.returns-clause-verifies
 returns-clause-verifies c =
     let within = rw c.in_ok-password.ensures.ok.0 at c.in_ok-most.ensures.within in
     let text = rw c.in_ok-password.ensures.ok.0 at c.in-Some.ensures.text in
     let work = rw c.in_ok-password.ensures.ok.0 at c.in-Some.ensures.work in
-    let same : bytes_eq (crypt c.args.password.now c.in_ok-setting.setting) c.args.stored.now ≡ true = search (rules, c.if-ne.false, text) in
+    let same : bytes_eq (crypt c.args.password.now c.in_ok-setting.setting) c.args.stored.now ≡ true = search (rules, c.if-not-same_bytes.false, c.same_bytes.ensures, text) in
     compared c.args.password.now c.args.stored.now c.args.budget c.in_ok-setting.setting _ c.in_ok-password.ensures.ok.1
     c.in_ok-setting.ensures.spelled within.1 (inl (rw same (rw (within.0, work.0) at c.new-2.ensures)))
 
@@ -56,5 +56,5 @@ returns-clause-lets_in c = λ _.
     let kept = c.in_ok-setting.setting in
     let within = rw c.in_ok-password.ensures.ok.0 at c.in_ok-most.ensures.within in
     let text = rw c.in_ok-password.ensures.ok.0 at c.in-Some.ensures.text in
-    let same : crypt c.args.password.now kept ≡ c.args.stored.now = search (rules, c.if-ne.false, text) in
+    let same : crypt c.args.password.now kept ≡ c.args.stored.now = search (rules, c.if-not-same_bytes.false, c.same_bytes.ensures, text) in
     ((c.in_ok-password.ensures.ok.1, (kept, c.in_ok-setting.ensures.spelled, same, within.1)), (kept, c.in_ok-setting.ensures.spelled, c.in-Some.ensures.some))

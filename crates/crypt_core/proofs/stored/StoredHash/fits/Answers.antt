@@ -1,5 +1,4 @@
 use Rattle.std.proofs.Common.{◌≡◌, ◌∙◌, sym, ap, IsTrue}
-use Rattle.std.proofs.lemmas.Slice.Eq.{bytes_eq-Decides}
 use Rattle.crypt_core.specs.Crypt.{crypt}
 use Rattle.crypt_core.specs.Fits.{Fits}
 use Rattle.crypt_core.specs.Settings.{SettingValue}
@@ -13,7 +12,6 @@ returns-clause-fits c =
     let stored = c.self.inside.text.now in
     let setting : SettingValue = c.self.inside.setting in
     let hashed : c.text.result.now ≡ crypt password setting = c.text.ensures.text ∙ c.in_ok-hashed.ensures.text in
-    let compared = bytes_eq-Decides c.text.result.now stored in
-    let fitting : IsTrue c.eq.result → Fits password stored = λ equal. (setting, c.self.invariant, sym hashed ∙ compared.0 (sym c.eq.ensures ∙ equal)) in
-    let equal : Fits password stored → IsTrue c.eq.result = λ fits. c.eq.ensures ∙ compared.1 (hashed ∙ ap (crypt password) (setting_unique stored setting fits.0 c.self.invariant fits.1) ∙ fits.2) in
+    let fitting : IsTrue c.same_bytes.result → Fits password stored = λ equal. (setting, c.self.invariant, sym hashed ∙ c.same_bytes.ensures.same.0 equal) in
+    let equal : Fits password stored → IsTrue c.same_bytes.result = λ fits. c.same_bytes.ensures.same.1 (hashed ∙ ap (crypt password) (setting_unique stored setting fits.0 c.self.invariant fits.1) ∙ fits.2) in
     rw (← c.self.view_is) (fitting, equal)
