@@ -45,10 +45,9 @@ packed-drop digest table i d below =
     rw (next, drop-cons table i d below) refl
 
 -- where no group is left, the text has all of them
-pub all_groups : (digest : List ℕ) (table : List (Bor (List ℕ))) (i : ℕ) (text : List ℕ) → length table ≤ i
-    → text ++ packed_by (groups_in (drop i table)) digest ≡ packed_by (groups_in table) digest
-    → text ≡ packed_by (groups_in table) digest
-all_groups digest table i text done e =
+pub all_groups : (digest : List ℕ) (table : List (Bor (List ℕ))) (i : ℕ) (text whole : List ℕ) → length table ≤ i
+    → text ++ packed_by (groups_in (drop i table)) digest ≡ whole → text ≡ whole
+all_groups digest table i text whole done e =
     sym (append-nil text) ∙ ap (λ (rest : List (Bor (List ℕ))). text ++ packed_by (groups_in rest) digest) (sym (drop_all i table done)) ∙ e
 
 -- the number of up to two bytes leaves room for one more

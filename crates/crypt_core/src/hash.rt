@@ -15,7 +15,7 @@ ghost use Rattle.crypt_core.specs.Work.{raised_by, work, work_limit, IsBelow};
 ghost use Rattle.crypt_core.specs.MethodLimits.{digest_len};
 
 use crate::md5crypt::md5crypt;
-use crate::pack::{SCRYPT_PACKED_LEN, pack};
+use crate::pack::{SCRYPT_PACKED_LEN, append_packed};
 use crate::password::Password;
 use crate::scheme::{Scheme, Sha};
 use crate::setting::{CANONICAL_LIMIT, Setting, TEXT_CAPACITY};
@@ -115,10 +115,9 @@ pub fn hash(
     ensures refused { OnErr result (IsAfterRefusedGrowth meter.old setting.now.scheme meter.new) }
 {
     let digest = digest_of(alloc, password, setting, meter)?;
-    let packed = pack(setting.scheme().method(), digest.as_slice());
     let mut text = setting.text();
     text.push(b'$');
-    text.try_extend_from_slice(packed.as_slice()).unwrap();
+    append_packed(&mut text, setting.method(), digest.as_slice());
     Ok(Hashed { text })
 }
 

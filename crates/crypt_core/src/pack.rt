@@ -1,5 +1,5 @@
 //! The packed form of a digest: its bytes in the method's own groups, each as base-64 numerals (crypt(5)).
-ghost use Rattle.std.specs.Prelude.{◌≡◌, ◌+◌, ◌^◌, ◌<◌, length};
+ghost use Rattle.std.specs.Prelude.{◌≡◌, ◌+◌, ◌^◌, ◌<◌, ◌≤◌, ◌++◌, length};
 ghost use Rattle.crypt_core.specs.MethodLimits.{digest_len, packed_len};
 ghost use Rattle.crypt_core.specs.Packing.{packed};
 ghost use Rattle.crypt_core.specs.Private.Tables.{IsGroup, group_number};
@@ -84,12 +84,22 @@ pub fn pack(method: Method, digest: &[u8]) -> ArrayVec<u8, SHA512CRYPT_PACKED_LE
     ensures text { result.items ≡ packed method digest.now }
     ensures length { length result.items ≡ packed_len method }
 {
-    let groups = method.row().groups;
-    let mut text: ArrayVec<u8, TEXT_CAPACITY> = ArrayVec::new();
-    'groups: for places in groups {
-        put_group(&mut text, number_of(digest, places), places.len() + 1);
-    }
+    let mut text = ArrayVec::new();
+    append_packed(&mut text, method, digest);
     ArrayVec::try_from(text.as_slice()).unwrap()
+}
+
+/// Appends the packed form of a method's digest, as [`pack`] returns it.
+pub(crate) fn append_packed(text: &mut ArrayVec<u8, TEXT_CAPACITY>, method: Method, digest: &[u8])
+    requires digest { length digest.now ≡ digest_len method }
+    requires room { length text.old.items + packed_len method ≤ 160 }
+    ensures text { text.new.items ≡ text.old.items ++ packed method digest.now }
+    ensures length { length text.new.items ≡ length text.old.items + packed_len method }
+{
+    let groups = method.row().groups;
+    'groups: for places in groups {
+        put_group(text, number_of(digest, places), places.len() + 1);
+    }
 }
 
 // Returns the number of the bytes at these places, the first place highest.

@@ -57,7 +57,9 @@ pub fn shacrypt<H: Counted>(
     let salt_times = 16 + usize::from(digest.as_slice()[0]);
     let password_string = string_of::<H>(password, password.len(), meter);
     let salt_string = string_of::<H>(salt, salt_times, meter);
-    let strings = RoundStrings::new(password_string.as_slice(), salt_string.as_slice());
+    let p = password_string.as_slice();
+    let s = salt_string.as_slice();
+    let strings = RoundStrings::new(p, s);
     'rounds: for i in 0..rounds {
         round::<H>(i, digest.as_mut_slice(), &strings, meter);
     }
@@ -75,17 +77,12 @@ fn opening<H: Counted>(password: &[u8], salt: &[u8], meter: &mut Meter) -> Array
         (sha_opening_message H.digest password.now salt.now) }
 {
     let alternate = alternate_digest::<H>(password, salt, meter);
+    let b = alternate.as_slice();
     let mut running = H::begin();
     running.feed(meter, password);
     running.feed(meter, salt);
-    feed_cycle(&mut running, meter, alternate.as_slice(), password.len());
-    feed_digits(
-        &mut running,
-        meter,
-        password.len(),
-        alternate.as_slice(),
-        password,
-    );
+    feed_cycle(&mut running, meter, b, password.len());
+    feed_digits(&mut running, meter, password.len(), b, password);
     running.finish(meter)
 }
 

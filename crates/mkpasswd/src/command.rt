@@ -159,11 +159,13 @@ fn show_error<O: Write, E: Write>(
     let Ok(text) = format!(in alloc; "{error}") else {
         return report_fault(&Fault::Usage(UsageFault::OutOfMemory), faults);
     };
+    let message = text.as_bytes();
     if error.use_stderr() {
-        let _ = show(faults, text.as_bytes(), turns);
+        let _ = show(faults, message, turns);
         return 2;
     }
-    match show(out, text.as_bytes(), turns) {
+    let shown = show(out, message, turns);
+    match shown {
         Ok(()) => 0,
         Err(fault) => report_fault(&Fault::Run(fault), faults),
     }

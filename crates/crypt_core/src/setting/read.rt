@@ -12,7 +12,7 @@ ghost use Rattle.crypt_core.specs.Private.Parts.{AllRefused, HasField, HasNumber
 ghost use Rattle.crypt_core.specs.Readings.{IsReadOneWay};
 ghost use Rattle.crypt_core.specs.Refusals.{IsRefused};
 ghost use Rattle.crypt_core.specs.Schemes.{sha_method};
-ghost use Rattle.crypt_core.specs.Settings.{SettingValue, IsSettingByte, IsRoundsNumber, IsScryptSalt, SpellsScheme, Spells};
+ghost use Rattle.crypt_core.specs.Settings.{BeginsWith, SettingValue, IsSettingByte, IsRoundsNumber, IsScryptSalt, SpellsScheme, Spells};
 ghost use Rattle.crypt_core.specs.Rounds.{max_rounds};
 ghost use Rattle.crypt_core.specs.TextLimits.{scrypt_part_len};
 
@@ -80,20 +80,28 @@ fn scheme_at(text: &[u8]) -> Result<(Scheme, &[u8]), SettingFault>
     ensures ok { IfOk result (λ x. SpellsScheme text.now x.0 x.1.now) }
     ensures err { IfErr result (IsRefused text.now) }
 {
-    if let Some(after) = text.strip_prefix(Method::Md5crypt.row().prefix) {
+    if let Some(after) = after_prefix(text, Method::Md5crypt) {
         return Ok((Scheme::Md5crypt, after));
     }
-    if let Some(after) = text.strip_prefix(Method::Sha256crypt.row().prefix) {
+    if let Some(after) = after_prefix(text, Method::Sha256crypt) {
         return shacrypt_at(Sha::Sha256, after);
     }
-    if let Some(after) = text.strip_prefix(Method::Sha512crypt.row().prefix) {
+    if let Some(after) = after_prefix(text, Method::Sha512crypt) {
         return shacrypt_at(Sha::Sha512, after);
     }
-    if let Some(after) = text.strip_prefix(Method::Scrypt.row().prefix) {
+    if let Some(after) = after_prefix(text, Method::Scrypt) {
         let params = params_at(after)?;
         return Ok((Scheme::Scrypt(params), &after[COST_CHARACTERS..]));
     }
     Err(SettingFault::UnknownScheme)
+}
+
+// Returns what follows the method's prefix, if the text begins with it.
+fn after_prefix(text: &[u8], method: Method) -> Option<&[u8]>
+    ensures found { IfSome result (λ after. text.now ≡ prefix method ++ after.now) }
+    ensures lacks { IfNone result (¬ BeginsWith text.now (prefix method)) }
+{
+    text.strip_prefix(method.row().prefix)
 }
 
 // Returns SHA-crypt with the rounds that follow its prefix, or those without a field, and what follows the field.

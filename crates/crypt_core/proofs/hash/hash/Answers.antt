@@ -8,8 +8,8 @@ pub returns-clause-text : goal.returns-clause-text
 unfolding crypt
 returns-clause-text c =
     let kept = c.args.setting.now in
-    (rw c.unwrap.ensures at c.try_extend_from_slice.ensures.ok)
-    ∙ rw (c.as_slice-2.ensures.value, c.pack-packed.ensures.text, c.push.ensures.items, c.text-text.ensures.canonical, c.method.ensures.method, c.scheme.ensures, c.as_slice.ensures.value, c.in_ok-digest.ensures.digest) (append_assoc (canonical_text kept) (dollar ∷ []) _)
+    c.append_packed.ensures.text
+    ∙ rw (c.as_slice.ensures.value, c.push.ensures.items, c.text-text.ensures.canonical, c.method.ensures, c.in_ok-digest.ensures.digest) (append_assoc (canonical_text kept) (dollar ∷ []) _)
 
 pub returns-clause-spells : goal.returns-clause-spells
 unfolding crypt

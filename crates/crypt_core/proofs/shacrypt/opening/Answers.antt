@@ -12,8 +12,8 @@ use Rattle.crypt_core.proofs.shacrypt.opening.Goals as goal
 pub feed_digits-requires : goal.feed_digits-requires
 feed_digits-requires g c =
     let p = c.args.password.now in
-    let b = c.as_slice-2.result.now in
-    let small : length b ≤ password_limit = omega (arith, ap length c.as_slice-2.ensures.value, c.alternate_digest-alternate.ensures.length, g.met.H.Counted.at_most_64) in
+    let b = c.as_slice-b.result.now in
+    let small : length b ≤ password_limit = omega (arith, ap length c.as_slice-b.ensures.value, c.alternate_digest-alternate.ensures.length, g.met.H.Counted.at_most_64) in
     omega (
       arith,
       ap (λ m. m.bytes) c.alternate_digest-alternate.ensures.count,
@@ -35,7 +35,7 @@ returns-clause-count g c =
     let s = c.args.salt.now in
     let b = h (alternate_message p s) in
     let before = c.alternate_digest-alternate.new.meter in
-    let last = rw (c.as_slice-2.ensures.value ∙ c.alternate_digest-alternate.ensures.digest) at c.feed_digits.ensures.count in
+    let last = rw (c.as_slice-b.ensures.value ∙ c.alternate_digest-alternate.ensures.digest) at c.feed_digits.ensures.count in
     let two = bytes_more before _ c.feed-2.new.meter _ _ _ c.feed.ensures.count c.feed-2.ensures.count refl in
     let three = bytes_more before _ c.feed_cycle.new.meter _ _ _ two c.feed_cycle.ensures.count refl in
     let four = bytes_more before _ c.feed_digits.new.meter _ _ _ three last refl in

@@ -47,8 +47,8 @@ new-strings-requires g c =
     let s = c.args.salt.now in
     omega (
       arith,
-      ap length c.as_slice-2.ensures.value,
-      ap length c.as_slice-3.ensures.value,
+      ap length c.as_slice-p.ensures.value,
+      ap length c.as_slice-s.ensures.value,
       ap length c.string_of-password_string.ensures.string,
       ap length c.string_of-salt_string.ensures.string,
       length-cycle (h (password_repeated p)) (length p),
@@ -140,10 +140,10 @@ rounds-preserved g c =
     let digest_is = c.as_mut_slice.ensures.value ∙ c.rounds.invariant.0 in
     let password_is =
     ap (λ (x : Strings). x.password) c.new-strings.ensures
-    ∙ (c.as_slice-2.ensures.value ∙ rw is at c.string_of-password_string.ensures.string) in
+    ∙ (c.as_slice-p.ensures.value ∙ rw is at c.string_of-password_string.ensures.string) in
     let salt_is =
     ap (λ (x : Strings). x.salt) c.new-strings.ensures
-    ∙ (c.as_slice-3.ensures.value ∙ rw first at c.string_of-salt_string.ensures.string) in
+    ∙ (c.as_slice-s.ensures.value ∙ rw first at c.string_of-salt_string.ensures.string) in
     let same = round_is h p s i c.as_mut_slice.result.now strings.password strings.salt digest_is password_is salt_is in
     let next : c.rounds.i + 1 + 4 ≡ c.rounds.i + 4 + 1 = omega arith in
     let counted = digests_more c.args.meter.now c.rounds.meter c.round.new.meter _ _ c.rounds.invariant.2 c.round.ensures.count in
