@@ -82,19 +82,3 @@ rows_of_no_words = (refl, refl, refl, refl, refl, refl, refl)
 asks_for_help : fault_of command (codes "--help" ∷ []) ≡ kind.DisplayHelp ∷ []
 unfolding command clap_on_literals
 asks_for_help = refl
-
-takes_highest_number : fault_of command (codes "-R" ∷ codes "4294967295" ∷ []) ≡ []
-unfolding command clap_on_literals
-takes_highest_number = refl
-
-refuses_higher_number : fault_of command (codes "-R" ∷ codes "4294967296" ∷ []) ≡ kind.ValueValidation ∷ []
-unfolding command clap_on_literals
-refuses_higher_number = refl
-
-takes_highest_budget : fault_of command (codes "--budget" ∷ codes "18446744073709551615" ∷ []) ≡ []
-unfolding command clap_on_literals
-takes_highest_budget = refl
-
-refuses_higher_budget : fault_of command (codes "--budget" ∷ codes "18446744073709551616" ∷ []) ≡ kind.ValueValidation ∷ []
-unfolding command clap_on_literals
-refuses_higher_budget = refl

@@ -169,8 +169,9 @@ sound_entry kind line parts entry right fault breaks = go fault breaks
         right fault refused.0 refused.1 refused.2
     go OverBudget breaks = breaks
 
-sound_without_field : (kind : Kind) (line : List ℕ) (parts : Parts) → IsEntry kind line parts → parts.field ≡ None → IsSound kind line
-sound_without_field kind line parts entry none = sound_entry kind line parts entry (λ fault field some refused. cc)
+pub taken_without_field : (kind : Kind) (line : List ℕ) (parts : Parts) → IsEntry kind line parts → parts.field ≡ None → HasSoundParts kind line parts
+taken_without_field kind line parts entry none =
+    record { sound = sound_entry kind line parts entry (λ fault field some refused. cc); cut = entry.cut }
 
 -- a field that was read is not refused
 read_field : (field : List ℕ) (stored : StoredField) → IsReadOneWay field → IsFieldReading field (Ok stored) → (fault : SettingFault) → IsFieldRefused field fault → ⊥
@@ -181,19 +182,14 @@ read_field field (Hash stored) one read fault refused =
     let both : Ok stored.setting ≡ Err fault = one (Ok stored.setting) (Err fault) read.1.spells refused.1 in
     absurd cc
 
-sound_with_field : (kind : Kind) (line : List ℕ) (parts : Parts) (field : List ℕ) (stored : StoredField) → IsEntry kind line parts → parts.field ≡ Some field
-    → IsReadOneWay field → IsFieldReading field (Ok stored) → IsSound kind line
-sound_with_field kind line parts field stored entry is one read = sound_entry kind line parts entry (λ fault other some refused.
-    let same : other ≡ field = cc in
-    read_field field stored one read fault (subst IsStored same refused.0, subst (λ (bytes : List ℕ). IsRefused bytes fault) same refused.1))
-
 pub taken_with_field : (kind : Kind) (line : List ℕ) (parts : Parts) (field : List ℕ) (stored : StoredField) → IsEntry kind line parts → parts.field ≡ Some field
     → IsReadOneWay field → IsFieldReading field (Ok stored) → HasSoundParts kind line parts
-taken_with_field kind line parts field stored entry is one read =
-    record { sound = sound_with_field kind line parts field stored entry is one read; cut = entry.cut }
-
-pub taken_without_field : (kind : Kind) (line : List ℕ) (parts : Parts) → IsEntry kind line parts → parts.field ≡ None → HasSoundParts kind line parts
-taken_without_field kind line parts entry none = record { sound = sound_without_field kind line parts entry none; cut = entry.cut }
+taken_with_field kind line parts field stored entry is one read = record {
+  sound = sound_entry kind line parts entry (λ fault other some refused.
+      let same : other ≡ field = cc in
+      read_field field stored one read fault (subst IsStored same refused.0, subst (λ (bytes : List ℕ). IsRefused bytes fault) same refused.1));
+  cut = entry.cut;
+}
 
 -- the first rule that its field breaks as a setting is the first that an entry breaks
 pub refused_field : (kind : Kind) (line : List ℕ) (parts : Parts) (field : List ℕ) (fault : SettingFault) → IsEntry kind line parts

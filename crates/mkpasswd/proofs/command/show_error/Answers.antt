@@ -11,11 +11,11 @@ returns-then-use_stderr g c =
     mistake c.as_bytes-message.result.now (as_tally c.show.result) (status_of_mistake _ (c.use_stderr.ensures.0 c.if-use_stderr.true))
     (shows-tally c.args.turns c.args.faults.now c.show.new.out c.as_bytes-message.result.now c.show.result c.show.ensures) refl refl
 
-pub returns-in-Ok-show : goal.returns-in-Ok-show
-returns-in-Ok-show g c =
+pub returns-in-Ok-shown : goal.returns-in-Ok-shown
+returns-in-Ok-shown g c =
     let asked : ¬ ((kind_of c.args.error.now ≢ kind.DisplayHelp) × (kind_of c.args.error.now ≢ kind.DisplayVersion)) = λ both. true≢false (sym (c.use_stderr.ensures.1 both) ∙ c.if-use_stderr.false) in
     help c.as_bytes-message.result.now (status_of_help _ asked)
-    (shows-tally {A = Unit {0}} c.args.turns c.args.out.now c.show-shown.new.out c.as_bytes-message.result.now (Ok tt) c.in-Ok-show.ensures) refl refl
+    (shows-tally {A = Unit {0}} c.args.turns c.args.out.now c.show-shown.new.out c.as_bytes-message.result.now (Ok tt) c.in-Ok-shown.ensures) refl refl
 
 pub returns : goal.returns
 returns g c =
