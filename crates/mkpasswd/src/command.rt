@@ -23,7 +23,7 @@ use run_core::methods::run_methods;
 use run_core::one::run_one;
 use run_core::tally::Tally;
 use run_core::transfer::show;
-use std::alloc::Global;
+use std::alloc::{AllocError, Global};
 use std::io::{Read, Write};
 
 // The capacity for the line of an error, of which the longest has 35 bytes.
@@ -156,7 +156,7 @@ fn show_error<O: Write, E: Write>(
     requires fault_room { HasRoomWithinRun faults.old }
     ensures { ErrorShown error.now turns out.old faults.old out.new faults.new result }
 {
-    let Ok(text) = format!(in alloc; "{error}") else {
+    let Ok(text) = text_of(alloc, error) else {
         return report_fault(&Fault::Usage(UsageFault::OutOfMemory), faults);
     };
     let message = text.as_bytes();
@@ -168,6 +168,20 @@ fn show_error<O: Write, E: Write>(
     match shown {
         Ok(()) => 0,
         Err(fault) => report_fault(&Fault::Run(fault), faults),
+    }
+}
+
+// Returns the message of `clap`'s error. It has no tip to pass an unknown option as a value, since that value would be
+// the password.
+fn text_of(alloc: Global, error: &clap::Error) -> Result<String, AllocError> {
+    let text = format!(in alloc; "{error}")?;
+    match text.as_str().split_once("\n  tip: to pass ") {
+        Some((front, tip)) => {
+            let front = front.strip_suffix("\n").unwrap_or(front);
+            let back = tip.split_once("\n").map_or("", |(_, back)| back);
+            format!(in alloc; "{front}\n{back}")
+        }
+        None => Ok(text),
     }
 }
 
