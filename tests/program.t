@@ -53,6 +53,8 @@ subtest 'words' => sub {
     refused(@$_) for ["'-Q'", qw(-m md5crypt -S ab -Q password)], ["'--rounds <NUMBER>'", qw(-R 4294967296 password)],
         ["'--rounds <NUMBER>'", '-R', '', 'password'], ["'-1'", qw(-R -1 password)],
         ["'--budget <NUMBER>'", qw(--check --budget 18446744073709551616)], ["'--budget <NUMBER>'", qw(--check --budget few)],
+        (map { ["'--first-line <NUMBER>'", '--batch', '--first-line', $_] } qw(0 4294967296 x)),
+        ["'--first-line <NUMBER>' cannot be used multiple times", qw(--check --first-line 1 --first-line 2)],
         ["'--method <TYPE>'", '-m'], ["'-Q'", qw(-m help -Q)], ["'third'", qw(password ab third)];
     # As many words as the command takes, and more of them, which it refuses by the first that is one too many.
     my @taken = qw(-m md5 -S ab -R 5 --work -s --batch --check -- x cd);

@@ -2,7 +2,7 @@
 const MORE = {
     MKPASSWD_REFUSED_PASSWORD_TOO_LONG: 'it has more than 1024 bytes',
     MKPASSWD_REFUSED_SETTING_TOO_LONG: 'a stored hash has at most 384 bytes',
-    MKPASSWD_REFUSED_BAD_CHARACTER: 'take what stands between the first two colons; ! and * lock an account',
+    MKPASSWD_REFUSED_BAD_CHARACTER: 'take what stands between the first two colons',
     MKPASSWD_REFUSED_UNKNOWN_SCHEME: 'it begins with none of $1$, $5$ and $6$; yescrypt, $y$, cannot be checked here',
     MKPASSWD_REFUSED_BAD_ROUNDS: 'no valid number follows rounds=',
     MKPASSWD_REFUSED_OUT_OF_MEMORY: 'scrypt, $7$, needs more than this page has; mkpasswd --check checks it',
