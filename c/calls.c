@@ -10,7 +10,7 @@
 #include <mkpasswd.h>
 #include <unistd.h>
 
-/* More bytes of stack than a call uses. */
+/* More bytes of stack than a proved function uses. */
 #define REACH (24 * 1024)
 
 __typeof__(mkpasswd_verify) mkpasswd_proved_verify;

@@ -53,6 +53,7 @@ subtest 'words' => sub {
     refused(@$_) for ["'-Q'", qw(-m md5crypt -S ab -Q password)], ["'--rounds <NUMBER>'", qw(-R 4294967296 password)],
         ["'--rounds <NUMBER>'", '-R', '', 'password'], ["'-1'", qw(-R -1 password)],
         ["'--budget <NUMBER>'", qw(--check --budget 18446744073709551616)], ["'--budget <NUMBER>'", qw(--check --budget few)],
+        ["error: unexpected argument '-5' found\n\nUsage: ", qw(-5 secret)], ["error: unexpected argument '--x\ny' found\n\nUsage: ", "--x\ny"],
         (map { ["'--first-line <NUMBER>'", '--batch', '--first-line', $_] } qw(0 4294967296 x)),
         ["'--first-line <NUMBER>' cannot be used multiple times", qw(--check --first-line 1 --first-line 2)],
         ["'--method <TYPE>'", '-m'], ["'-Q'", qw(-m help -Q)], ["'third'", qw(password ab third)];

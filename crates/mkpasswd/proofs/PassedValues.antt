@@ -181,14 +181,19 @@ only_rule (rule ∷ rules) own id q is = go (bytes_eq rule.id id) refl (λ other
 
     go : (same : Bool) → bytes_eq rule.id id ≡ same → (have_own_ids rules ≡ true → parser_by_id id rules ≡ Some q → HaveOne rules id q)
         → (if same then rule.parser else parser_by_id id rules) ≡ Some q → HaveOne (rule ∷ rules) id q
-    go true same behind parser = (0, rule, (bytes_eq-Decides rule.id id).0 same, record {
-      within = omega arith;
-      place = λ z. refl;
-      parser = parser;
-      only = λ j z lt other. first j z lt other;
-      named = not_same differs_from.0;
-      own = λ auto. elim auto [ inl help ↦ not_same differs_from.1.0 help | inr version ↦ not_same differs_from.1.1.0 version ];
-    }) where
+    go true same behind parser = (
+      0,
+      rule,
+      (bytes_eq-Decides rule.id id).0 same,
+      record {
+        within = omega arith;
+        place = λ z. refl;
+        parser = parser;
+        only = λ j z lt other. first j z lt other;
+        named = not_same differs_from.0;
+        own = λ auto. elim auto [ inl help ↦ not_same differs_from.1.0 help | inr version ↦ not_same differs_from.1.1.0 version ];
+      },
+    ) where
       first : (j : ℕ) (z : Rule) → j < length (rule ∷ rules) → bytes_eq (slice_index_or (rule ∷ rules) j z).id rule.id ≡ true → j ≡ 0
       first zero z lt other = refl
       first (suc j) z lt other = absurd (lacks_each rule.id rules alone j z (omega (arith, lt)) other)

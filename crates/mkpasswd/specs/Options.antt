@@ -37,7 +37,8 @@ abbrev pub flag_rule : Text → Option ℕ → Rule
 flag_rule id letter = record (new_rule id) { action = Some SetTrue; short = letter; long = Some id }
 
 -- The short options are `-m` (109), `-S` (83), `-R` (82) and `-s` (115). The number of `-R` is at most 2^32 - 1, that of
--- `--budget` at most 2^64 - 1, and that of `--first-line` 1 to 2^32 - 1. Of the arguments that are no options, the first is the password and the second the salt.
+-- `--budget` at most 2^64 - 1, and that of `--first-line` 1 to 2^32 - 1. Of the arguments that are no options, the first
+-- is the password and the second the salt.
 abbrev pub command_rules : List Rule
 command_rules =
     option_rule (codes "method") (Some 109) ∷ option_rule (codes "salt") (Some 83)

@@ -12,8 +12,8 @@ ghost use Rattle.prims_core.specs.Work.{IsAtMost};
 ghost use Rattle.run_core.specs.Runs.{run_state};
 
 use crate::fault::{Fault, UsageFault};
-use crate::plan::Plan;
 use crate::options::plan;
+use crate::plan::Plan;
 use arrayvec::ArrayVec;
 use prims_core::meter::Meter;
 use rand_core::Rng;
@@ -37,8 +37,8 @@ const FAULT_LINE_ROOM: usize = 80;
 /// - 3: a system error occurred, an allocation failed, or the run needs too many I/O calls.
 ///
 /// [`plan`] plans the arguments, and [`run_methods`], [`run_one`], [`run_batch`] or [`run_check`] runs the plan. After
-/// an error `faults` gets `mkpasswd: MESSAGE` and a line feed. If `clap` refuses the arguments, `faults` gets its own
-/// message instead. Help and the version go to `out`.
+/// an error `faults` gets `mkpasswd: MESSAGE` and a line feed. If `clap` refuses the arguments, `faults` gets `clap`'s
+/// message instead, without a tip to pass an option as a value. Help and the version go to `out`.
 ///
 /// Without a generator a plan that hashes is not run, and the message is `start fault`. The list of the methods, help,
 /// the version and invalid arguments need no generator. If the message about an error cannot be written, the status
@@ -178,8 +178,10 @@ fn text_of(alloc: Global, error: &clap::Error) -> Result<String, AllocError> {
     match text.as_str().split_once("\n  tip: to pass ") {
         Some((front, tip)) => {
             let front = front.strip_suffix("\n").unwrap_or(front);
-            let back = tip.split_once("\n").map_or("", |(_, back)| back);
-            format!(in alloc; "{front}\n{back}")
+            let usage = tip
+                .rsplit_once("\n\nUsage: ")
+                .map_or("", |(_, usage)| usage);
+            format!(in alloc; "{front}\n\nUsage: {usage}")
         }
         None => Ok(text),
     }

@@ -16,7 +16,7 @@ use thiserror::Error;
 #[derive(Debug, Drop, Error)]
 #[error("{}", self.text())]
 pub enum UsageFault {
-    /// `clap` refuses the arguments, or they ask for help or the version. Its own message is printed.
+    /// `clap` refuses the arguments, or they ask for help or the version. `clap` has the message.
     #[error("{0}")]
     Parse(clap::Error),
     /// TYPE names no method.

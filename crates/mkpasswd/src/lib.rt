@@ -4,7 +4,7 @@
 
 pub mod command;
 pub mod fault;
-pub mod plan;
 pub mod options;
+pub mod plan;
 
 pub use run_core::{device, line, lines, methods, one, tally};

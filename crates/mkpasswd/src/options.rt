@@ -5,7 +5,7 @@ ghost use Rattle.clap.specs.Words.{app_of, fault_of, first_of, kind_of, matches_
 ghost use Rattle.run_core.specs.Makers.{bytes_of};
 ghost use Rattle.crypt_core.specs.Methods.{method_named};
 ghost use Rattle.mkpasswd.specs.Options.{IsMaker, IsPlan, Plans, Refuses, command, cost_of, flag_rule, given_salt, is_set, number_in, option_rule, type_of, value_rule};
-ghost use Rattle.mkpasswd.specs.Private.Options.{Follows, HasRule, IsNumber};
+ghost use Rattle.mkpasswd.specs.Private.Options.{ChecksRule, HasRule, IsNumber};
 
 use crate::fault::UsageFault;
 use crate::plan::{Job, Maker, PasswordFrom, Plan};
@@ -157,7 +157,7 @@ fn parse<'a>(alloc: Global, words: &'a [String]) -> Result<Arguments<'a>, clap::
 // Returns the method that TYPE names.
 fn known_method(given: &Arguments<'_>) -> Result<Method, UsageFault>
     ensures known { IfOk result (λ method. method_named (type_of given.now) ≡ Some method) }
-    ensures rule { Follows given.now UsageFault.Method result }
+    ensures rule { ChecksRule given.now UsageFault.Method result }
 {
     Method::named(given.type_name().as_bytes()).ok_or(UsageFault::Method)
 }
@@ -165,7 +165,7 @@ fn known_method(given: &Arguments<'_>) -> Result<Method, UsageFault>
 // Returns the salt, which may be given in at most one of the two ways.
 fn one_salt<'a>(given: &Arguments<'a>) -> Result<Option<&'a [u8]>, UsageFault>
     ensures once { IfOk result (λ salt. bytes_of salt ≡ given_salt given.now) }
-    ensures rule { Follows given.now UsageFault.TwoSalts result }
+    ensures rule { ChecksRule given.now UsageFault.TwoSalts result }
 {
     match (given.text("salt"), given.text("salt-word")) {
         (Some(_), Some(_)) => Err(UsageFault::TwoSalts),
@@ -176,7 +176,7 @@ fn one_salt<'a>(given: &Arguments<'a>) -> Result<Option<&'a [u8]>, UsageFault>
 
 // Checks that at most one mode is given.
 fn one_mode(given: &Arguments<'_>) -> Result<(), UsageFault>
-    ensures rule { Follows given.now UsageFault.TwoModes result }
+    ensures rule { ChecksRule given.now UsageFault.TwoModes result }
 {
     let password = u32::from(given.text("password").is_some());
     let stdin = u32::from(given.has("stdin"));
@@ -230,7 +230,8 @@ fn command<'a>(alloc: Global) -> Result<Command<'a>, AllocError>
     let password = operand(alloc, "password", "PASSWORD", PASSWORD_HELP);
     let salt_word = operand(alloc, "salt-word", "SALT", SALT_WORD_HELP);
     let arguments = vec![in alloc;
-        method, salt, rounds, stdin, batch, check, rehash, work, budget, first_line, password, salt_word,
+        method, salt, rounds, stdin, batch, check, rehash, work, budget, first_line, password,
+        salt_word,
     ]?;
     Command::new(alloc, "mkpasswd")
         .version(VERSION)

@@ -42,7 +42,7 @@ line_limit = 2048
 abbrev pub name_limit : ℕ
 name_limit = 64
 
--- The refusals in the order of their rules.
+-- The refusals in the order of their rules. `OverBudget` is none of a line's rules.
 abbrev pub line_faults : List LineFault
 line_faults = LineTooLong ∷ NoName ∷ NameTooLong ∷ NoPassword ∷ map Password password_faults ++ map Setting setting_faults
 

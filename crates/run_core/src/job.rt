@@ -64,9 +64,12 @@ pub struct Maker {
     source: Source,
 }
 
+/// What a maker holds.
 #[derive(Drop)]
-enum Source {
+pub(crate) enum Source {
+    /// The setting of all hashes.
     Setting(Setting),
+    /// The scheme of settings with new salts.
     Scheme(Scheme),
 }
 

@@ -44,6 +44,6 @@ IsNumber limit id = option_map_or (takes_below limit) (parser_by_id id command_r
 -- ---- checks
 
 -- The check of a rule passes, or the result is the refusal by that rule.
-abbrev pub Follows : {A : Type 0} → List Row → UsageFault → Result A UsageFault → Type 0
-Follows rows fault (Ok value) = ¬ BreaksUsage rows fault
-Follows rows fault (Err refusal) = (refusal ≡ fault) × BreaksUsage rows fault
+abbrev pub ChecksRule : {A : Type 0} → List Row → UsageFault → Result A UsageFault → Type 0
+ChecksRule rows fault (Ok value) = ¬ BreaksUsage rows fault
+ChecksRule rows fault (Err refusal) = (refusal ≡ fault) × BreaksUsage rows fault

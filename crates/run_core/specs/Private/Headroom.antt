@@ -42,11 +42,11 @@ abbrev pub HasCountsForLine : Work → Type 0
 HasCountsForLine counts = IsAtMost counts (2 ^ 110)
 
 -- to_read left piece is the most bytes that a run can still cut lines from, with this number of I/O calls left: what is
--- unread of the last read, and those of later reads. It falls with each line, whether or not anything is written for it.
+-- unread of the last read, and those of later reads. It falls with each line.
 abbrev pub to_read : ℕ → List ℕ → ℕ
 to_read left piece = piece_size * left + length piece
 
--- lines_limit is the most lines of a run.
+-- lines_limit is a bound of the lines of a run, since each has a byte at least.
 abbrev pub lines_limit : ℕ
 lines_limit = piece_size * turns_limit
 
