@@ -1,5 +1,5 @@
 -- The setting of each hash of a run: a scheme, and a salt that is given once or made for each hash.
-use Rattle.std.specs.Prelude.{ℕ, List, length, Option, is_some, option_map, if◌then◌else◌}
+use Rattle.std.specs.Prelude.{ℕ, List, length, Option, Some, None, is_some, option_map, if◌then◌else◌}
 use Rattle.std.specs.Borrow.{Bor}
 use Rattle.std.specs.Option.{option_map_or}
 use Rattle.rand_core.specs.Stream.{Stream}
@@ -9,13 +9,20 @@ use Rattle.crypt_core.specs.Methods.{method_row}
 use Rattle.crypt_core.specs.Schemes.{method_of}
 use Rattle.crypt_core.specs.Settings.{SettingValue}
 use Rattle.crypt_core.specs.Work.{cost_by}
-use Rattle.crypt_core.specs.declared.scheme.Scheme.{Scheme}
+use Rattle.crypt_core.specs.declared.scheme.Scheme.{Scheme as SchemeValue}
+use Rattle.run_core.specs.declared.job.Source.{Source}
+use Rattle.run_core.specs.declared.job.Source.TheVariants.{Setting, Scheme}
 
 -- A `Recipe` is what settings are made of: a scheme, and a salt if one is given. Without one each setting gets a new
 -- salt.
 pub record Recipe : Type 0 where
-  pub scheme : Scheme
+  pub scheme : SchemeValue
   pub salt : Option (List ℕ)
+
+-- recipe_of source is what a maker makes settings of: the setting that it holds with its salt, or the scheme alone.
+abbrev pub recipe_of : Source → Recipe
+recipe_of (Setting setting) = record { scheme = setting.scheme; salt = Some setting.salt }
+recipe_of (Scheme scheme) = record { scheme = scheme; salt = None }
 
 -- bytes_of reference is the list of the bytes that a reference leads to, if there is one.
 abbrev pub bytes_of : Option (Bor (List ℕ)) → Option (List ℕ)

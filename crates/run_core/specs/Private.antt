@@ -4,5 +4,4 @@ pub mod Deliveries
 pub mod Fetching
 pub mod Headroom
 pub mod Lines
-pub mod Makers
 pub mod Readers

@@ -74,8 +74,7 @@ pub(crate) enum Source {
 }
 
 impl Model for Maker {
-    ghost use Rattle.run_core.specs.Makers.{Recipe};
-    ghost use Rattle.run_core.specs.Private.Makers.{recipe_of};
+    ghost use Rattle.run_core.specs.Makers.{Recipe, recipe_of};
 
     ghost Value = { Recipe };
 
