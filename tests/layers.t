@@ -1,5 +1,5 @@
 #!/usr/bin/env perl
-# What no clause can say of the sources: no work passes the meter by, memory is allocated only where a list says so, and nothing
+# What no clause can say of the sources: no work bypasses the meter, memory is allocated only where a list says so, and nothing
 # prints a password. Each rule is a search for words. So it sees mistakes, and can be evaded by whoever wants to. Comments and
 # tests may have all words. Tests are files tests.rt and test_*.rt, folders tests, and what follows `mod tests {` in a file.
 use strict;
