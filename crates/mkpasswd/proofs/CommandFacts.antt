@@ -4,7 +4,6 @@ use Rattle.std.specs.List.{list_all}
 use Rattle.clap.specs.Simple.{is_ready, is_ready_leaf}
 use Rattle.clap.specs.Words.{Row, Text, fault_of, first_of, is_simple, is_simple_and_free, matches_of, takes}
 use Rattle.clap.specs.declared.builder.value_parser.ValueParser.{ValueParser}
-use Rattle.clap.specs.declared.error.kind.ErrorKind.TheVariants as kind
 use Rattle.clap.proofs.OnLiterals.{clap_on_literals}
 use Rattle.mkpasswd.specs.Options.{command, command_rules, cost_of, given_salt, is_set, mode_count, number_in, type_of}
 use Rattle.mkpasswd.specs.Private.Options.{parser_by_id}
@@ -78,7 +77,3 @@ HasNoWords rows =
 rows_of_no_words : HasNoWords (matches_of command [])
 unfolding command clap_on_literals
 rows_of_no_words = (refl, refl, refl, refl, refl, refl, refl)
-
-asks_for_help : fault_of command (codes "--help" ∷ []) ≡ kind.DisplayHelp ∷ []
-unfolding command clap_on_literals
-asks_for_help = refl
