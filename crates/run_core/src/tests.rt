@@ -142,7 +142,7 @@ fn run_batch_on<'a, R: Rng>(
 ) -> Ran<'a>
     requires { (given.turns ≤ 2 ^ 40) × IsAtMost meter.old (2 ^ 100) }
     ensures { OnOk result.0 ((bytes : List ℕ) → given.entry.reader ≡ Some bytes
-        → (answers : List Answer) × AreAnswers Batch job.now 1 (lines_of bytes) (R.stream rng.old) answers
+        → (answers : List Answer) × AreAnswers Batch job.now job.now.first_line (lines_of bytes) (R.stream rng.old) answers
         × (result.1.taken.items ≡ given.entry.out.taken.items ++ texts answers)
         × (result.2.taken.items ≡ given.entry.faults.taken.items ++ fault_texts answers)) }
 {
