@@ -98,6 +98,13 @@ impl Method {
             .find(|method| number == method.row().number)
     }
 
+    /// Returns the name of the method, by which [`named`](Method::named) finds it.
+    pub fn name(self) -> &'static [u8]
+        ensures { result.now ≡ (method_row self).name }
+    {
+        self.row().name
+    }
+
     /// Returns the method's row of the table.
     pub(crate) fn row(self) -> MethodRow
         ensures name { result.name.now ≡ (method_row self).name }
@@ -177,6 +184,13 @@ mod tests {
         ];
         for (word, method) in cases {
             assert_eq!(rt; Method::named(word.as_bytes()), method, "{word}");
+        }
+    }
+
+    #[test]
+    fn each_name_names_its_method(rt: HostRuntime) {
+        for method in METHODS {
+            assert_eq!(rt; Method::named(method.name()), Some(method));
         }
     }
 

@@ -92,7 +92,7 @@ pub fn pack(method: Method, digest: &[u8]) -> ArrayVec<u8, SHA512CRYPT_PACKED_LE
 /// Appends the packed form of a method's digest, as [`pack`] returns it.
 pub(crate) fn append_packed(text: &mut ArrayVec<u8, TEXT_CAPACITY>, method: Method, digest: &[u8])
     requires digest { length digest.now ≡ digest_len method }
-    requires room { length text.old.items + packed_len method ≤ 160 }
+    requires room { length text.old.items + packed_len method ≤ TEXT_CAPACITY }
     ensures text { text.new.items ≡ text.old.items ++ packed method digest.now }
     ensures length { length text.new.items ≡ length text.old.items + packed_len method }
 {

@@ -143,6 +143,7 @@ pub record IsGiven (name salt password : Text) (rows : List Row) : Type 0 where
   pub stdin : is_set (codes "stdin") rows ≡ false
   pub batch : is_set (codes "batch") rows ≡ false
   pub check : is_set (codes "check") rows ≡ false
+  pub audit : is_set (codes "audit") rows ≡ false
   pub work : is_set (codes "work") rows ≡ false
   pub modes : mode_count rows ≡ 1
 
@@ -151,7 +152,7 @@ rows_behind name salt password = finished shape.rules (behind_password name salt
 
 finds : (name salt password : Text) → IsGiven name salt password (rows_behind name salt password)
 unfolding shape command
-finds name salt password = record { type = refl; salt_is = refl; cost = refl; word = refl; stdin = refl; batch = refl; check = refl; work = refl; modes = refl }
+finds name salt password = record { type = refl; salt_is = refl; cost = refl; word = refl; stdin = refl; batch = refl; check = refl; audit = refl; work = refl; modes = refl }
 
 given_rows : (name salt password : Text) → IsNoOption name → IsNoOption salt → IsNoOption password
     → matches_of command (hash_arguments name salt password) ≡ rows_behind name salt password

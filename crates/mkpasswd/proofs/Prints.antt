@@ -15,7 +15,7 @@ use Rattle.run_core.specs.Runs.{RunState}
 use Rattle.run_core.specs.Texts.{as_line}
 use Rattle.run_core.specs.declared.job.Job.{Job}
 use Rattle.run_core.specs.declared.job.PasswordFrom.TheVariants.{Word, Input}
-use Rattle.mkpasswd.specs.declared.plan.Plan.TheVariants.{Methods, One, Batch, Check}
+use Rattle.mkpasswd.specs.declared.plan.Plan.TheVariants.{Methods, One, Batch, Check, Audit}
 use Rattle.mkpasswd.proofs.GivenWords.{IsGiven, given_fault, is_given}
 
 -- ---- a name is no option
@@ -73,3 +73,5 @@ module _ (name salt password : Text) (method : Method) (named : method_named nam
       absurd (not_set (finds words are).batch is)
   prints_hash words old new are (inl (Check job, (taken, (other, unbroken, (is_job, is))), done)) =
       absurd (not_set (finds words are).check is)
+  prints_hash words old new are (inl (Audit job, (taken, (other, unbroken, (is_job, is))), done)) =
+      absurd (not_set (finds words are).audit is)

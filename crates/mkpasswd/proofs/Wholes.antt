@@ -22,7 +22,7 @@ use Rattle.mkpasswd.specs.declared.fault.UsageFault.TheVariants.{Parse}
 use Rattle.run_core.specs.declared.job.Job.{Job}
 use Rattle.run_core.specs.declared.job.PasswordFrom.TheVariants.{Word, Input}
 use Rattle.mkpasswd.specs.declared.plan.Plan.{Plan}
-use Rattle.mkpasswd.specs.declared.plan.Plan.TheVariants.{Methods, One, Batch, Check}
+use Rattle.mkpasswd.specs.declared.plan.Plan.TheVariants.{Methods, One, Batch, Check, Audit}
 use Rattle.run_core.specs.declared.line.Kind.{Kind}
 use Rattle.run_core.specs.declared.line.Kind.TheVariants as kinds
 use Rattle.run_core.specs.declared.tally.Tally.{Tally}
@@ -77,6 +77,7 @@ module _ {I O E : Type 0} where
   )
   is_done turns (Batch job) old new tally well ((bytes, reads, ends), within) = by_lines kinds.Batch job bytes old new tally well reads ends
   is_done turns (Check job) old new tally well ((bytes, reads, ends), within) = by_lines kinds.Check job bytes old new tally well reads ends
+  is_done turns (Audit job) old new tally well ((bytes, reads, ends), within) = by_lines kinds.Audit job bytes old new tally well reads ends
 
   of_plan : (lacks : Bool) (turns : ℕ) (plan : Plan) (words : List Text) (old new : RunState I O E) (status : ℕ) → status ≡ 0 → Plans words (Ok plan)
       → MatchBool lacks (Tells Start old new status)

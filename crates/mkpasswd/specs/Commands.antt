@@ -19,7 +19,7 @@ use Rattle.run_core.specs.declared.fault.RunFault.{RunFault}
 use Rattle.mkpasswd.specs.declared.fault.UsageFault.{UsageFault}
 use Rattle.mkpasswd.specs.declared.fault.UsageFault.TheVariants.{Parse}
 use Rattle.mkpasswd.specs.declared.plan.Plan.{Plan}
-use Rattle.mkpasswd.specs.declared.plan.Plan.TheVariants.{Methods, One, Batch, Check}
+use Rattle.mkpasswd.specs.declared.plan.Plan.TheVariants.{Methods, One, Batch, Check, Audit}
 use Rattle.run_core.specs.declared.line.Kind.TheVariants as kinds
 use Rattle.run_core.specs.declared.tally.Tally.{Tally}
 
@@ -53,12 +53,13 @@ module _ {I O E : Type 0} where
   Concludes (Err fault) old new status = Tells (Run fault) old new status
 
   -- The run of a plan ends with this result, within the limit on I/O calls. It lists the methods, hashes one password,
-  -- or hashes or checks lines.
+  -- or hashes, checks or audits lines.
   abbrev pub Ends : ℕ → Plan → RunState I O E → RunState I O E → Result Tally RunFault → Type 0
   Ends turns Methods old new result = Prints turns methods_text old new result
   Ends turns (One job from) old new result = EndsOne turns job from old new result × IsWithinTurns turns old new
   Ends turns (Batch job) old new result = EndsLines turns kinds.Batch job old new result × IsWithinTurns turns old new
   Ends turns (Check job) old new result = EndsLines turns kinds.Check job old new result × IsWithinTurns turns old new
+  Ends turns (Audit job) old new result = EndsLines turns kinds.Audit job old new result × IsWithinTurns turns old new
 
   -- The command reports an error of `clap` with this exit status. If the status is 0, it writes help or the version to
   -- `out`, and reports a failure to write it. Otherwise it writes a message to `faults`, and the status is 2 even if

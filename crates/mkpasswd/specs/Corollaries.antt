@@ -23,7 +23,7 @@ use Rattle.mkpasswd.specs.declared.fault.UsageFault.TheVariants.{Parse}
 use Rattle.run_core.specs.declared.job.Job.{Job}
 use Rattle.run_core.specs.declared.job.PasswordFrom.TheVariants.{Word, Input}
 use Rattle.mkpasswd.specs.declared.plan.Plan.{Plan}
-use Rattle.mkpasswd.specs.declared.plan.Plan.TheVariants.{Methods, One, Batch, Check}
+use Rattle.mkpasswd.specs.declared.plan.Plan.TheVariants.{Methods, One, Batch, Check, Audit}
 use Rattle.run_core.specs.declared.line.Kind.{Kind}
 use Rattle.run_core.specs.declared.line.Kind.TheVariants as kinds
 
@@ -35,7 +35,8 @@ module _ {I O E : Type 0} where
     pub others : new ≡ record old { out = new.out }
     pub gives : Takes 0 1 old.out new.out text
 
-  -- A run read these bytes and wrote these answers, none of which is a refusal or the verdict `no`.
+  -- A run read these bytes and wrote these answers, none of which is a refusal, the verdict `no` or an account that
+  -- needs care.
   pub record Succeeds (read : List ℕ) (answers : List Answer) (old new : RunState I O E) : Type 0 where
     pub input : Reads old.input new.input read
     pub run : Finishes answers old new (Ok (tally_of answers))
@@ -59,6 +60,7 @@ module _ {I O E : Type 0} where
       × Succeeds bytes (password_answer job (first_line bytes) old.stream ∷ []) old new
   IsDone (Batch job) old new = SucceedsByLines kinds.Batch job old new
   IsDone (Check job) old new = SucceedsByLines kinds.Check job old new
+  IsDone (Audit job) old new = SucceedsByLines kinds.Audit job old new
 
   -- The arguments ask for help or the version, and `out` took some text.
   abbrev pub IsHelped : List Text → RunState I O E → RunState I O E → Type 0

@@ -20,7 +20,7 @@ use Rattle.run_core.specs.declared.job.PasswordFrom.TheVariants.{Word, Input}
 use Rattle.mkpasswd.specs.declared.fault.UsageFault.{UsageFault}
 use Rattle.mkpasswd.specs.declared.fault.UsageFault.TheVariants.{Parse, Method as UnknownMethod, TwoSalts, TwoModes, Make, OutOfMemory}
 use Rattle.mkpasswd.specs.declared.plan.Plan.{Plan}
-use Rattle.mkpasswd.specs.declared.plan.Plan.TheVariants.{Methods, One, Batch, Check}
+use Rattle.mkpasswd.specs.declared.plan.Plan.TheVariants.{Methods, One, Batch, Check, Audit}
 
 -- ---- the command, as `clap` parses it
 
@@ -44,7 +44,7 @@ command_rules =
     option_rule (codes "method") (Some 109) ∷ option_rule (codes "salt") (Some 83)
     ∷ record (option_rule (codes "rounds") (Some 82)) { parser = Some (Signed (pos 0) (pos 4294967295)) }
     ∷ flag_rule (codes "stdin") (Some 115) ∷ flag_rule (codes "batch") None ∷ flag_rule (codes "check") None
-    ∷ flag_rule (codes "rehash") None ∷ flag_rule (codes "work") None
+    ∷ flag_rule (codes "audit") None ∷ flag_rule (codes "rehash") None ∷ flag_rule (codes "work") None
     ∷ record (option_rule (codes "budget") None) { parser = Some (Unsigned 0 18446744073709551615) }
     ∷ record (option_rule (codes "first-line") None) { parser = Some (Signed (pos 1) (pos 4294967295)) }
     ∷ value_rule (codes "password") ∷ value_rule (codes "salt-word") ∷ []
@@ -79,10 +79,11 @@ first_line_of rows = unwrap_or (number_in (codes "first-line") rows) 1
 abbrev pub given_salt : List Row → Option Text
 given_salt rows = if is_some (first_of (codes "salt") rows) then first_of (codes "salt") rows else first_of (codes "salt-word") rows
 
--- The number is how many of PASSWORD, `--stdin`, `--batch` and `--check` are given.
+-- The number is how many of PASSWORD, `--stdin`, `--batch`, `--check` and `--audit` are given.
 abbrev pub mode_count : List Row → ℕ
 mode_count rows = count_by (λ given. given)
-    (is_some (first_of (codes "password") rows) ∷ is_set (codes "stdin") rows ∷ is_set (codes "batch") rows ∷ is_set (codes "check") rows ∷ [])
+    (is_some (first_of (codes "password") rows) ∷ is_set (codes "stdin") rows ∷ is_set (codes "batch") rows ∷ is_set (codes "check") rows
+    ∷ is_set (codes "audit") rows ∷ [])
 
 -- ---- what the arguments mean
 
@@ -118,12 +119,13 @@ pub record IsJob (rows : List Row) (job : Job) : Type 0 where
   pub first_line : job.first_line ≡ first_line_of rows
 
 -- The arguments ask for this plan: its job, in the mode that is given. The password is PASSWORD or the first line of
--- the input, or there are lines to hash or to check. Without a mode the password is in the input.
+-- the input, or there are lines to hash, to check or to audit. Without a mode the password is in the input.
 abbrev pub IsPlan : List Row → Plan → Type 0
 IsPlan rows (One job (Word word)) = IsJob rows job × (first_of (codes "password") rows ≡ Some word.items)
 IsPlan rows (One job Input) = IsJob rows job × ((is_set (codes "stdin") rows ≡ true) ⊎ (mode_count rows ≡ 0))
 IsPlan rows (Batch job) = IsJob rows job × (is_set (codes "batch") rows ≡ true)
 IsPlan rows (Check job) = IsJob rows job × (is_set (codes "check") rows ≡ true)
+IsPlan rows (Audit job) = IsJob rows job × (is_set (codes "audit") rows ≡ true)
 IsPlan rows Methods = ⊥
 
 -- TYPE `help` asks for the list of the methods, whatever else is given. Otherwise the arguments mean the refusal of the

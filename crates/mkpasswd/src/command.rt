@@ -18,7 +18,7 @@ use arrayvec::ArrayVec;
 use prims_core::meter::Meter;
 use rand_core::Rng;
 use run_core::device::{Input, Output};
-use run_core::lines::{run_batch, run_check};
+use run_core::lines::{run_audit, run_batch, run_check};
 use run_core::methods::run_methods;
 use run_core::one::run_one;
 use run_core::tally::Tally;
@@ -32,16 +32,16 @@ const FAULT_LINE_ROOM: usize = 80;
 /// Runs the command with the arguments after the program's name, and returns the exit status.
 ///
 /// - 0: everything was done, or help or the version was printed.
-/// - 1: a line was refused or got the verdict `no`.
+/// - 1: a line was refused or got the verdict `no`, or an audited account needs care.
 /// - 2: the arguments or the password are invalid.
 /// - 3: a system error occurred, an allocation failed, or the run needs too many I/O calls.
 ///
-/// [`plan`] plans the arguments, and [`run_methods`], [`run_one`], [`run_batch`] or [`run_check`] runs the plan. After
-/// an error `faults` gets `mkpasswd: MESSAGE` and a line feed. If `clap` refuses the arguments, `faults` gets `clap`'s
-/// message instead, without a tip to pass an option as a value. Help and the version go to `out`.
+/// [`plan`] plans the arguments, and [`run_methods`], [`run_one`], [`run_batch`], [`run_check`] or [`run_audit`] runs
+/// the plan. After an error `faults` gets `mkpasswd: MESSAGE` and a line feed. If `clap` refuses the arguments, `faults`
+/// gets `clap`'s message instead, without a tip to pass an option as a value. Help and the version go to `out`.
 ///
-/// Without a generator a plan that hashes is not run, and the message is `start fault`. The list of the methods, help,
-/// the version and invalid arguments need no generator. If the message about an error cannot be written, the status
+/// Without a generator a plan that hashes or audits is not run, and the message is `start fault`. The list of the
+/// methods, help, the version and invalid arguments need no generator. If the message about an error cannot be written, the status
 /// alone reports the error. If help or the version cannot be written in full, that is an error with status 3.
 ///
 /// The run, or `clap`'s message, takes at most `turns` I/O calls. The line of an error is not among them, and takes at
@@ -120,6 +120,9 @@ fn run_plan<I: Read, O: Write, E: Write, R: Rng>(
         }
         (Plan::Check(job), Some(rng)) => {
             Ok(run_check(alloc, job, input, out, faults, rng, meter, turns)?)
+        }
+        (Plan::Audit(job), Some(rng)) => {
+            Ok(run_audit(alloc, job, input, out, faults, rng, meter, turns)?)
         }
     }
 }

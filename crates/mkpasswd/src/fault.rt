@@ -23,7 +23,7 @@ pub enum UsageFault {
     Method,
     /// The salt is given twice, with `-S` and as an argument.
     TwoSalts,
-    /// More than one of PASSWORD, `-s`, `--batch` and `--check` is given.
+    /// More than one of PASSWORD, `-s`, `--batch`, `--check` and `--audit` is given.
     TwoModes,
     /// The method does not accept the cost or the given salt.
     Make(MakeFault),

@@ -22,7 +22,7 @@ const DEFAULT_TYPE: &str = "sha512crypt";
 
 // The words of help: its first line, those of each argument, and its last line.
 const ABOUT: &str =
-    "Prints the crypt(5) hash of a password, and hashes or checks the lines of a file";
+    "Prints the crypt(5) hash of a password, and hashes, checks or audits the lines of a file";
 
 const METHOD_HELP: &str =
     "The method: md5crypt, sha256crypt, sha512crypt (the\ndefault) or scrypt; help lists them";
@@ -40,12 +40,16 @@ const BATCH_HELP: &str = "Hash the password of each line of standard input:\nnam
 
 const CHECK_HELP: &str = "Check the password of each line of standard input:\nname:field:password";
 
+const AUDIT_HELP: &str =
+    "Say for each line of standard input what its hash is like:\nname:field, or name:field: and anything";
+
 const REHASH_HELP: &str =
     "With --check, a new hash for each password that fits a\nhash of another method or a lower cost";
 
 const WORK_HELP: &str = "Show what the hash cost: digests, bytes, mixings,\nbytes of table";
 
-const BUDGET_HELP: &str = "What a line may cost, by --batch and --check: bytes\ndigested and mixed";
+const BUDGET_HELP: &str =
+    "What a line may cost, by --batch, --check and --audit:\nbytes digested and mixed";
 
 const FIRST_LINE_HELP: &str = "The number of the first line in messages about lines";
 
@@ -124,7 +128,7 @@ impl<'a> Arguments<'a> {
 /// - `Parse`: `clap` refuses the arguments, or they ask for help or the version.
 /// - `Method`: TYPE names no method, and is not `help`.
 /// - `TwoSalts`: the salt is given with `-S` and as an argument.
-/// - `TwoModes`: more than one of PASSWORD, `-s`, `--batch` and `--check` is given.
+/// - `TwoModes`: more than one of PASSWORD, `-s`, `--batch`, `--check` and `--audit` is given.
 /// - `Make`: [`Maker::new`] refuses the method, the cost and the salt.
 ///
 /// If an allocation fails, the error is `OutOfMemory` instead of any later check.
@@ -182,7 +186,8 @@ fn one_mode(given: &Arguments<'_>) -> Result<(), UsageFault>
     let stdin = u32::from(given.has("stdin"));
     let batch = u32::from(given.has("batch"));
     let check = u32::from(given.has("check"));
-    if password + stdin + batch + check > 1 {
+    let audit = u32::from(given.has("audit"));
+    if password + stdin + batch + check + audit > 1 {
         return Err(UsageFault::TwoModes);
     }
     Ok(())
@@ -209,6 +214,9 @@ fn planned(alloc: Global, given: &Arguments<'_>, maker: Maker) -> Result<Plan, A
     if given.has("check") {
         return Ok(Plan::Check(job));
     }
+    if given.has("audit") {
+        return Ok(Plan::Audit(job));
+    }
     Ok(Plan::One(job, PasswordFrom::Input))
 }
 
@@ -222,6 +230,7 @@ fn command<'a>(alloc: Global) -> Result<Command<'a>, AllocError>
     let stdin = flag(alloc, "stdin", Some('s'), STDIN_HELP);
     let batch = flag(alloc, "batch", None, BATCH_HELP);
     let check = flag(alloc, "check", None, CHECK_HELP);
+    let audit = flag(alloc, "audit", None, AUDIT_HELP);
     let rehash = flag(alloc, "rehash", None, REHASH_HELP);
     let work = flag(alloc, "work", None, WORK_HELP);
     let budget = number(alloc, "budget", None, value_parser!(u64), BUDGET_HELP);
@@ -230,8 +239,8 @@ fn command<'a>(alloc: Global) -> Result<Command<'a>, AllocError>
     let password = operand(alloc, "password", "PASSWORD", PASSWORD_HELP);
     let salt_word = operand(alloc, "salt-word", "SALT", SALT_WORD_HELP);
     let arguments = vec![in alloc;
-        method, salt, rounds, stdin, batch, check, rehash, work, budget, first_line, password,
-        salt_word,
+        method, salt, rounds, stdin, batch, check, audit, rehash, work, budget, first_line,
+        password, salt_word,
     ]?;
     Command::new(alloc, "mkpasswd")
         .version(VERSION)

@@ -13,4 +13,6 @@ pub enum Plan {
     Batch(Job),
     /// Check the password of each line of the input.
     Check(Job),
+    /// Audit the field of each line of the input.
+    Audit(Job),
 }

@@ -1,10 +1,10 @@
 -- A text is cut at its first colon in one way, so a line has one name and one list of parts.
 use Rattle.std.proofs.Common.{◌≡◌, ℕ, List, [], ◌∷◌, ◌++◌, Contains, Option, Some, inl, inr, refl, sym, ap, subst, ◌∙◌, arith}
 use Rattle.std.proofs.lemmas.List.Elements.{Contains-append_right}
-use Rattle.run_core.specs.Lines.{HasName, HasParts, IsCut, Parts}
+use Rattle.run_core.specs.Lines.{HasFront, HasName, HasParts, IsCut, Parts}
 use Rattle.run_core.specs.Texts.{colon}
 use Rattle.run_core.specs.declared.line.Kind.{Kind}
-use Rattle.run_core.specs.declared.line.Kind.TheVariants.{Batch, Check}
+use Rattle.run_core.specs.declared.line.Kind.TheVariants.{Batch, Check, Audit}
 
 -- ---- cuts
 
@@ -56,3 +56,7 @@ parts_unique Check line p q one two =
     let cut = cut_unique one.2 two.2 in
     let behind = cut_unique one.3 (subst (λ (back : List ℕ). IsCut back two.0 q.password) (sym cut.1) two.3) in
     same_parts p q cut.0 (one.4 ∙ (ap Some behind.0 ∙ sym two.4)) behind.1
+parts_unique Audit line p q one two =
+    let cut = cut_unique one.2 two.2 in
+    let front = name_unique one.1 one.0 two.0 one.3 (subst (λ (back : List ℕ). HasFront back two.0) (sym cut.1) two.3) in
+    same_parts p q cut.0 (one.4 ∙ (ap Some front ∙ sym two.4)) (one.5 ∙ sym two.5)

@@ -1,5 +1,6 @@
 -- What a line comes to, by its parts and its field.
 use Rattle.std.proofs.Common.{◌≡◌, ℕ, Bool, true, false, List, [], ◌∷◌, ◌++◌, codes, slice_index, length, Option, Some, None, Ok, inl, inr, refl, sym, ap, subst, ◌∙◌, true≢false, arith}
+use Rattle.std.specs.Prelude.{◌≢◌}
 use Rattle.std.specs.Bool.{Decides}
 use Rattle.std.specs.Str.{bytes_eq}
 use Rattle.std.proofs.lemmas.Option.{none-some}
@@ -15,10 +16,10 @@ use Rattle.crypt_core.specs.declared.method.Method.{Method}
 use Rattle.crypt_core.specs.declared.method.Method.TheVariants.{Md5crypt}
 use Rattle.crypt_core.specs.declared.stored.StoredField.{StoredField}
 use Rattle.crypt_core.specs.declared.stored.StoredField.TheVariants as fields
-use Rattle.run_core.specs.Answers.{Hashing, hashing, new_hash, new_hashing}
+use Rattle.run_core.specs.Answers.{Answer, Hashing, hashing, new_hash, new_hashing}
 use Rattle.run_core.specs.JobOptions.{IsAbove, check_cost, is_outdated}
-use Rattle.run_core.specs.LineAnswers.{ComesTo, IsAnswer, IsCostly, answer_of}
-use Rattle.run_core.specs.Lines.{HasParts, Parts}
+use Rattle.run_core.specs.LineAnswers.{ComesTo, IsAnswer, IsCostly, IsPasswordAnswer, answer_of, refusal}
+use Rattle.run_core.specs.Lines.{HasParts, IsLineRefused, Parts}
 use Rattle.run_core.specs.Makers.{made_cost_by}
 use Rattle.run_core.specs.Private.Answers.{IsChecked, IsSettled, field_cost}
 use Rattle.run_core.specs.Private.Lines.{HasSoundParts, IsFieldOf, IsLine}
@@ -26,6 +27,8 @@ use Rattle.run_core.specs.declared.answer.Outcome.{Outcome}
 use Rattle.run_core.specs.declared.answer.Outcome.TheVariants.{Match, Rehashed, Misfit}
 use Rattle.run_core.specs.declared.job.Job.{Job}
 use Rattle.run_core.specs.declared.line.Kind.{Kind}
+use Rattle.run_core.specs.declared.line.Kind.TheVariants.{Audit}
+use Rattle.run_core.specs.declared.line.LineFault.{LineFault}
 use Rattle.run_core.proofs.Cuts.{parts_unique}
 
 -- ---- what a line costs
@@ -67,7 +70,7 @@ pub costly : (kind : Kind) (job : Job) (line name password : List ℕ) (stored :
 costly kind job line name password stored is above = costly_by kind job line name password is.field stored is.taken is.field_of above
 
 -- a text spells one setting
-one_setting : (field : List ℕ) (one other : SettingValue) → IsReadOneWay field → Spells field one → Spells field other → one ≡ other
+pub one_setting : (field : List ℕ) (one other : SettingValue) → IsReadOneWay field → Spells field one → Spells field other → one ≡ other
 unfolding IsReadOneWay
 one_setting field one other once spells spells_other =
     let both : Ok one ≡ Ok other = once (Ok one) (Ok other) spells spells_other in
@@ -173,10 +176,24 @@ settled_by kind job line stream name password (Some field) (Some (fields.Hash st
 settled_by kind job line stream name password None (Some stored) hashings outcome taken of within settled = absurd of
 settled_by kind job line stream name password (Some field) None hashings outcome taken of within settled = absurd of
 
+-- ---- the answer
+
+-- what is refused gets its refusal, whatever is asked for
+pub refused_answer : (kind : Kind) (job : Job) (number : ℕ) (line : List ℕ) (stream : Stream) (fault : LineFault) → IsLineRefused kind line fault
+    → IsAnswer kind job number line stream (refusal number fault)
+refused_answer Audit job number line stream fault refused = inl (fault, refused, refl)
+refused_answer kind job number line stream fault refused = inl (fault, refused, refl)
+
+-- a line that is not to be audited gets the answer for its password
+pub password_answer : (kind : Kind) (job : Job) (number : ℕ) (line : List ℕ) (stream : Stream) (answer : Answer) → kind ≢ Audit
+    → IsPasswordAnswer kind job number line stream answer → IsAnswer kind job number line stream answer
+password_answer Audit job number line stream answer other is = absurd (other refl)
+password_answer kind job number line stream answer other is = is
+
 pub decided : (kind : Kind) (job : Job) (number : ℕ) (line : List ℕ) (stream : Stream) (name password : List ℕ) (stored : Option StoredField)
     (hashings : List Hashing) (outcome : Outcome) → IsLine kind line name password stored
     → ¬ IsAbove job.budget (field_cost job stored (length password))
-    → IsSettled job password stored stream hashings outcome → IsAnswer kind job number line stream (answer_of job name outcome hashings)
+    → IsSettled job password stored stream hashings outcome → IsPasswordAnswer kind job number line stream (answer_of job name outcome hashings)
 decided kind job number line stream name password stored hashings outcome is within settled =
     let comes = settled_by kind job line stream name password is.field stored hashings outcome is.taken is.field_of within settled in
     inr (inr (is.taken.sound, comes.0, parts_with name password is.field, is.taken.cut, outcome, comes.1, refl))

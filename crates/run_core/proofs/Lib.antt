@@ -1,3 +1,4 @@
+pub mod Auditing
 pub mod Counting
 pub mod Cuts
 pub mod Deciding

@@ -1,28 +1,37 @@
 -- What a budget and new hashes change of the answers to lines, and that they change nothing for a single password.
-use Rattle.std.proofs.Common.{◌≡◌, ◌↔◌, ℕ, List, Result, inl, inr, refl, sym, ◌∙◌, arith, ◌≤◌, ◌⊎◌, Bool, true, false, true≢false, length, Option, None, Some}
+use Rattle.std.proofs.Common.{◌≡◌, ◌↔◌, ℕ, List, Result, inl, inr, refl, sym, ap, subst, ◌∙◌, arith, ◌≤◌, ◌⊎◌, Bool, true, false, true≢false, length, Option, None, Some}
+use Rattle.std.specs.Prelude.{◌≢◌}
 use Rattle.std.proofs.lemmas.Option.{none-some}
 use Rattle.rand_core.specs.Stream.{Stream}
 use Rattle.crypt_core.specs.Crypt.{crypt}
-use Rattle.crypt_core.specs.Settings.{SettingValue}
+use Rattle.crypt_core.specs.Readings.{IsReadOneWay}
+use Rattle.crypt_core.specs.Settings.{SettingValue, Spells}
+use Rattle.crypt_core.specs.Work.{cost}
+use Rattle.crypt_core.proofs.Longest.{longest}
+use Rattle.crypt_core.proofs.Refusals.{one_reading}
 use Rattle.run_core.specs.Answers.{Answer, Hashing}
+use Rattle.run_core.specs.Audits.{audit_cost}
 use Rattle.run_core.specs.JobOptions.{without_budget, without_rehash, IsAbove, check_cost, is_outdated}
-use Rattle.run_core.specs.LineAnswers.{ComesTo, HasSetting, IsAnswer, IsCostly, refusal}
-use Rattle.run_core.specs.LineOptions.{OnlyRefuses, IsRenewable, OnlyRenews, RenewsNone}
+use Rattle.run_core.specs.LineAnswers.{ComesTo, HasSetting, IsCostly, IsPasswordAnswer, refusal}
+use Rattle.run_core.specs.LineOptions.{Foresees, IsRenewable, OnlyRefuses, OnlyRenews, RenewsNone}
 use Rattle.run_core.specs.Lines.{HasParts, IsSound, Parts}
 use Rattle.run_core.specs.One.{EndsOne}
 use Rattle.run_core.specs.Runs.{RunState}
 use Rattle.run_core.specs.declared.answer.Outcome.{Outcome}
-use Rattle.run_core.specs.declared.answer.Outcome.TheVariants.{Hashed, Match, Rehashed, Misfit, NoHash, Locked}
+use Rattle.run_core.specs.declared.answer.Outcome.TheVariants.{Hashed, Match, Rehashed, Misfit, NoHash, Locked, Audited}
+use Rattle.run_core.specs.declared.audit.Finding.TheVariants.{Hash}
+use Rattle.run_core.specs.declared.audit.Standing.TheVariants.{Current, Outdated, OverBudget}
 use Rattle.run_core.specs.declared.fault.RunFault.{RunFault}
 use Rattle.run_core.specs.declared.job.Job.{Job}
 use Rattle.run_core.specs.declared.job.PasswordFrom.{PasswordFrom}
 use Rattle.run_core.specs.declared.job.PasswordFrom.TheVariants.{Word, Input}
 use Rattle.run_core.specs.declared.line.Kind.{Kind}
-use Rattle.run_core.specs.declared.line.Kind.TheVariants.{Batch}
+use Rattle.run_core.specs.declared.line.Kind.TheVariants.{Batch, Check, Audit}
 use Rattle.run_core.specs.declared.line.LineFault.TheVariants.{OverBudget}
 use Rattle.run_core.specs.declared.tally.Tally.{Tally}
-use Rattle.run_core.proofs.Deciding.{unstored-cheap}
-use Rattle.run_core.proofs.LineRules.{sound_not_refused}
+use Rattle.run_core.proofs.Cuts.{parts_unique}
+use Rattle.run_core.proofs.Deciding.{one_setting, unstored-cheap}
+use Rattle.run_core.proofs.LineRules.{sound_not_refused, sound_short}
 
 -- ---- lines
 
@@ -38,27 +47,28 @@ comes-budgeted job parts stream outcome made = ((λ comes. comes), λ comes. com
 
 module _ (kind : Kind) (job : Job) (number : ℕ) (line : List ℕ) (stream : Stream) (answer : Answer) where
   -- so another answer stands
-  answer-without : ¬ IsCostly kind job line → IsAnswer kind job number line stream answer → IsAnswer kind (without_budget job) number line stream answer
+  answer-without : ¬ IsCostly kind job line → IsPasswordAnswer kind job number line stream answer → IsPasswordAnswer kind (without_budget job) number line stream answer
   answer-without cheap (inl refused) = inl refused
   answer-without cheap (inr (inl (costly, is))) = absurd (cheap costly)
   answer-without cheap (inr (inr (sound, within, parts, cut, outcome, comes, is))) =
       inr (inr (sound, free kind job line, parts, cut, outcome, (comes-budgeted job parts stream outcome answer.hashings).0 comes, is))
 
   -- and the other way round
-  answer-within : ¬ IsCostly kind job line → IsAnswer kind (without_budget job) number line stream answer → IsAnswer kind job number line stream answer
+  answer-within : ¬ IsCostly kind job line → IsPasswordAnswer kind (without_budget job) number line stream answer → IsPasswordAnswer kind job number line stream answer
   answer-within cheap (inl refused) = inl refused
   answer-within cheap (inr (inl (costly, is))) = absurd costly.above
   answer-within cheap (inr (inr (sound, within, parts, cut, outcome, comes, is))) =
       inr (inr (sound, cheap, parts, cut, outcome, (comes-budgeted job parts stream outcome answer.hashings).1 comes, is))
 
   -- what breaks no rule and costs too much is refused
-  costly-refused : IsCostly kind job line → IsAnswer kind job number line stream answer → answer ≡ refusal number OverBudget
+  costly-refused : IsCostly kind job line → IsPasswordAnswer kind job number line stream answer → answer ≡ refusal number OverBudget
   costly-refused costly (inl (fault, refused, is)) = absurd (sound_not_refused kind line fault costly.sound refused)
   costly-refused costly (inr (inl (other, is))) = is
   costly-refused costly (inr (inr (sound, cheap, parts, cut, outcome, comes, is))) = absurd (cheap costly)
 
-pub only_refuses : (kind : Kind) (job : Job) → OnlyRefuses kind job
-only_refuses kind job = record {
+pub only_refuses : (kind : Kind) (job : Job) → kind ≢ Audit → OnlyRefuses kind job
+only_refuses Audit job unaudited = absurd (unaudited refl)
+only_refuses kind job unaudited = record {
   costly = costly-refused kind job;
   others = λ number line stream answer cheap.
       (answer-without kind job number line stream answer cheap, answer-within kind job number line stream answer cheap);
@@ -152,21 +162,23 @@ module _ (kind : Kind) (job : Job) (line : List ℕ) (stream : Stream) where
       λ (field, kept, spelled, same, outdated, is_new, is). absurd (true≢false (sym outdated)),
     )
     comes-renewed parts Misfit made sound cut = ((λ comes. comes), λ comes. comes)
+    comes-renewed parts (Audited finding) made sound cut = ((λ comes. comes), λ comes. comes)
 
-    answer-unrenewed : (number : ℕ) (answer : Answer) → IsAnswer kind job number line stream answer → IsAnswer kind (without_rehash job) number line stream answer
+    answer-unrenewed : (number : ℕ) (answer : Answer) → IsPasswordAnswer kind job number line stream answer → IsPasswordAnswer kind (without_rehash job) number line stream answer
     answer-unrenewed number answer (inl refused) = inl refused
     answer-unrenewed number answer (inr (inl (costly, is))) = inr (inl (costly-unrenewed costly, is))
     answer-unrenewed number answer (inr (inr (sound, cheap, parts, cut, outcome, comes, is))) =
         inr (inr (sound, (λ costly. cheap (costly-renewed costly)), parts, cut, outcome, (comes-renewed parts outcome answer.hashings sound cut).0 comes, is))
 
-    answer-renewed : (number : ℕ) (answer : Answer) → IsAnswer kind (without_rehash job) number line stream answer → IsAnswer kind job number line stream answer
+    answer-renewed : (number : ℕ) (answer : Answer) → IsPasswordAnswer kind (without_rehash job) number line stream answer → IsPasswordAnswer kind job number line stream answer
     answer-renewed number answer (inl refused) = inl refused
     answer-renewed number answer (inr (inl (costly, is))) = inr (inl (costly-renewed costly, is))
     answer-renewed number answer (inr (inr (sound, cheap, parts, cut, outcome, comes, is))) =
         inr (inr (sound, (λ costly. cheap (costly-unrenewed costly)), parts, cut, outcome, (comes-renewed parts outcome answer.hashings sound cut).1 comes, is))
 
-pub only_renews : (kind : Kind) (job : Job) → OnlyRenews kind job
-only_renews kind job number line stream answer still =
+pub only_renews : (kind : Kind) (job : Job) → kind ≢ Audit → OnlyRenews kind job
+only_renews Audit job unaudited = absurd (unaudited refl)
+only_renews kind job unaudited = λ number line stream answer still.
     (answer-unrenewed kind job line stream still number answer, answer-renewed kind job line stream still number answer)
 
 -- a line of a batch has no field
@@ -174,4 +186,29 @@ batch-still : (job : Job) (line : List ℕ) → ¬ IsRenewable Batch job line
 batch-still job line renewable = none-some renewable.field (sym renewable.cut.1 ∙ renewable.spelled.0)
 
 pub batch_renews_none : (job : Job) → RenewsNone Batch job
-batch_renews_none job number line stream answer = only_renews Batch job number line stream answer (batch-still job line)
+batch_renews_none job number line stream answer = only_renews Batch job (λ same. cc) number line stream answer (batch-still job line)
+
+-- ---- audits
+
+-- a check without new hashes costs no more than the audit says
+foreseen : (job : Job) (field : List ℕ) (kept : SettingValue) (line : List ℕ) (parts : Parts) → Spells field kept → IsReadOneWay field
+    → ¬ IsAbove job.budget (audit_cost kept) → HasParts Check line parts → parts.field ≡ Some field → ¬ IsCostly Check (without_rehash job) line
+foreseen job field kept line parts spells once within has is costly =
+    let same = parts_unique Check line costly.parts parts costly.cut has in
+    let other : costly.parts.field ≡ Some field = ap (λ (p : Parts). p.field) same ∙ is in
+    elim costly.cost [
+      | inl made ↦ absurd (none-some field (sym made.0 ∙ other))
+      | inr (spelled, found, spelled_is, found_spells, number_is) ↦
+          let fields : spelled ≡ field = cc (spelled_is, other) in
+          let one : found ≡ kept = one_setting field found kept once (subst (λ (f : List ℕ). Spells f found) fields found_spells) spells in
+          let most = longest kept (length costly.parts.password) (sound_short Check line costly.parts costly.sound costly.cut) in
+          within (still_above job.budget costly.number (audit_cost kept) (omega (arith, number_is, ap (λ (s : SettingValue). cost s (length costly.parts.password)) one, most)) costly.above)
+    ]
+
+pub foresees : (job : Job) → Foresees job
+foresees job field (Hash method number Current) (kept, spells, is_method, is_number, standing) within line parts has is =
+    foreseen job field kept line parts spells (one_reading field) standing.0 has is
+foresees job field (Hash method number Outdated) (kept, spells, is_method, is_number, standing) within line parts has is =
+    foreseen job field kept line parts spells (one_reading field) standing.0 has is
+foresees job field (Hash method number OverBudget) finds within line parts has is = absurd within
+foresees job field finding finds within line parts has is = absurd within

@@ -1,8 +1,9 @@
 -- Which rule is the first that a line breaks.
 use Rattle.std.proofs.Common.{◌≡◌, ℕ, ◌≤◌, ◌<◌, List, [], ◌∷◌, ◌++◌, length, map, Contains, Option, Some, None, inl, inr, refl, sym, ap, subst, ◌∙◌, arith}
+use Rattle.std.proofs.lemmas.Bool.{cases_order}
 use Rattle.std.proofs.lemmas.List.{nil_from_length}
-use Rattle.crypt_core.specs.Passwords.{IsPassword, IsPasswordRefused, password_faults}
-use Rattle.std.specs.Prelude.{Ok, Err}
+use Rattle.crypt_core.specs.Passwords.{IsPassword, IsPasswordRefused, password_faults, password_limit}
+use Rattle.std.specs.Prelude.{◌≢◌, Ok, Err}
 use Rattle.crypt_core.specs.FieldReadings.{IsFieldReading}
 use Rattle.crypt_core.specs.Readings.{IsReadOneWay}
 use Rattle.crypt_core.specs.Refusals.{FailsStage, IsRefused, setting_faults}
@@ -14,10 +15,10 @@ use Rattle.crypt_core.specs.declared.password.PasswordFault.{PasswordFault}
 use Rattle.crypt_core.specs.declared.password.PasswordFault.TheVariants.{TooLong, HasNul}
 use Rattle.crypt_core.specs.declared.setting.fault.SettingFault.{SettingFault}
 use Rattle.run_core.specs.Texts.{colon}
-use Rattle.run_core.specs.Lines.{BreaksLine, HasName, HasParts, IsLineRefused, IsSound, Parts, line_faults, line_limit, name_limit}
-use Rattle.run_core.specs.Private.Lines.{HasBehind, HasSoundParts, IsCutOrWhole, IsGoodName, IsNamed, IsTooLong, LacksParts}
+use Rattle.run_core.specs.Lines.{BreaksLine, HasFront, HasName, HasParts, IsLineRefused, IsSound, Parts, line_faults, line_limit, name_limit}
+use Rattle.run_core.specs.Private.Lines.{HasBehind, HasSoundParts, IsCutOrWhole, IsGoodName, IsNamed, IsTooLong, LacksParts, account_parts}
 use Rattle.run_core.specs.declared.line.Kind.{Kind}
-use Rattle.run_core.specs.declared.line.Kind.TheVariants.{Batch, Check}
+use Rattle.run_core.specs.declared.line.Kind.TheVariants.{Batch, Check, Audit}
 use Rattle.run_core.specs.declared.line.LineFault.{LineFault}
 use Rattle.run_core.specs.declared.line.LineFault.TheVariants.{LineTooLong, NoName, NameTooLong, NoPassword, Password, Setting, OverBudget}
 use Rattle.crypt_core.proofs.Rules.{first_breaks, first_mapped, first_unique}
@@ -25,13 +26,13 @@ use Rattle.run_core.proofs.Cuts.{cut_unique, cut_has_colon, name_unique, parts_u
 
 -- ---- names
 
-name_of_cut : (line name : List ℕ) (back : Option (List ℕ)) → IsCutOrWhole line name back → HasName line name
+pub name_of_cut : (line name : List ℕ) (back : Option (List ℕ)) → IsCutOrWhole line name back → HasName line name
 name_of_cut line name None whole = inr whole
 name_of_cut line name (Some back) cut = inl (back, cut)
 
 name_of_parts : (kind : Kind) (line : List ℕ) (parts : Parts) → HasParts kind line parts → HasName line parts.name
 name_of_parts Batch line parts cut = inl (parts.password, cut.0)
-name_of_parts Check line parts cut = inl (cut.1, cut.2)
+name_of_parts kind line parts cut = inl (cut.1, cut.2)
 
 module _ (kind : Kind) (line name : List ℕ) (short : length line ≤ line_limit) (good : IsGoodName name) (has : HasName line name) where
   -- a line with a good name breaks none of the rules on lengths and names
@@ -76,14 +77,16 @@ parts_from_behind : (kind : Kind) (line name : List ℕ) (back field : Option (L
 parts_from_behind Batch line name back field password cut behind = (subst (IsCutOrWhole line name) behind.0 cut, behind.1)
 parts_from_behind Check line name back field password cut behind =
     (behind.1, behind.0, subst (IsCutOrWhole line name) behind.2 cut, behind.3, behind.4)
+parts_from_behind Audit line name back field password cut behind =
+    (behind.1, behind.0, subst (IsCutOrWhole line name) behind.2 cut, behind.3, behind.4, behind.5)
 
 has_no_parts : (kind : Kind) (line name : List ℕ) (back : Option (List ℕ)) → IsCutOrWhole line name back → LacksParts kind back
     → (parts : Parts) → HasParts kind line parts → ⊥
 has_no_parts Batch line name None whole lacks parts cut = whole.1 (subst (λ (bytes : List ℕ). Contains bytes colon) whole.0 (cut_has_colon line parts.name parts.password cut.0))
-has_no_parts Check line name None whole lacks parts cut = whole.1 (subst (λ (bytes : List ℕ). Contains bytes colon) whole.0 (cut_has_colon line parts.name cut.1 cut.2))
-has_no_parts Batch line name (Some back) first lacks parts cut = lacks
+has_no_parts kind line name None whole lacks parts cut = whole.1 (subst (λ (bytes : List ℕ). Contains bytes colon) whole.0 (cut_has_colon line parts.name cut.1 cut.2))
 has_no_parts Check line name (Some back) first lacks parts cut =
     lacks (subst (λ (bytes : List ℕ). Contains bytes colon) (sym (cut_unique first cut.2).1) (cut_has_colon cut.1 cut.0 parts.password cut.3))
+has_no_parts kind line name (Some back) first lacks parts cut = lacks
 
 -- ---- the rules before that of the field
 
@@ -147,12 +150,12 @@ keeps_password kind line parts entry fault breaks =
 field_of_breaks : (kind : Kind) (line : List ℕ) (parts : Parts) → HasParts kind line parts
     → (fault : SettingFault) → BreaksLine kind (Setting fault) line → (field : List ℕ) × (parts.field ≡ Some field) × IsFieldRefused field fault
 field_of_breaks kind line parts has fault breaks =
-    let same = parts_unique kind line breaks.0 parts breaks.2 has in
-    (breaks.1, sym (ap (λ (p : Parts). p.field) same) ∙ breaks.3, (breaks.4, breaks.5))
+    let same = parts_unique kind line breaks.1 parts breaks.3 has in
+    (breaks.2, sym (ap (λ (p : Parts). p.field) same) ∙ breaks.4, (breaks.5, breaks.6))
 
--- an entry whose field is right breaks no rule
+-- an entry whose field is right, or is to be audited, breaks no rule
 sound_entry : (kind : Kind) (line : List ℕ) (parts : Parts) → IsEntry kind line parts
-    → ((fault : SettingFault) (field : List ℕ) → parts.field ≡ Some field → IsFieldRefused field fault → ⊥) → IsSound kind line
+    → ((fault : SettingFault) (field : List ℕ) → kind ≢ Audit → parts.field ≡ Some field → IsFieldRefused field fault → ⊥) → IsSound kind line
 sound_entry kind line parts entry right fault breaks = go fault breaks
   where
     has : HasName line parts.name
@@ -166,12 +169,12 @@ sound_entry kind line parts entry right fault breaks = go fault breaks
     go (Password fault) breaks = keeps_password kind line parts entry fault breaks
     go (Setting fault) breaks =
         let refused = field_of_breaks kind line parts entry.cut fault breaks in
-        right fault refused.0 refused.1 refused.2
+        right fault refused.0 breaks.0 refused.1 refused.2
     go OverBudget breaks = breaks
 
 pub taken_without_field : (kind : Kind) (line : List ℕ) (parts : Parts) → IsEntry kind line parts → parts.field ≡ None → HasSoundParts kind line parts
 taken_without_field kind line parts entry none =
-    record { sound = sound_entry kind line parts entry (λ fault field some refused. cc); cut = entry.cut }
+    record { sound = sound_entry kind line parts entry (λ fault field unaudited some refused. cc); cut = entry.cut }
 
 -- a field that was read is not refused
 read_field : (field : List ℕ) (stored : StoredField) → IsReadOneWay field → IsFieldReading field (Ok stored) → (fault : SettingFault) → IsFieldRefused field fault → ⊥
@@ -185,17 +188,25 @@ read_field field (Hash stored) one read fault refused =
 pub taken_with_field : (kind : Kind) (line : List ℕ) (parts : Parts) (field : List ℕ) (stored : StoredField) → IsEntry kind line parts → parts.field ≡ Some field
     → IsReadOneWay field → IsFieldReading field (Ok stored) → HasSoundParts kind line parts
 taken_with_field kind line parts field stored entry is one read = record {
-  sound = sound_entry kind line parts entry (λ fault other some refused.
+  sound = sound_entry kind line parts entry (λ fault other unaudited some refused.
       let same : other ≡ field = cc in
       read_field field stored one read fault (subst IsStored same refused.0, subst (λ (bytes : List ℕ). IsRefused bytes fault) same refused.1));
   cut = entry.cut;
 }
 
+-- a line to audit is an entry by its name alone
+pub taken_account : (line name back field : List ℕ) → IsNamed line name (Some back) → HasFront back field
+    → HasSoundParts Audit line (account_parts name field)
+taken_account line name back field named front =
+    let entry : IsEntry Audit line (account_parts name field) =
+    entry_from_behind Audit line name (Some back) (Some field) [] named (back, field, refl, front, refl, refl) (omega arith, λ has. omega (arith, has.1)) in
+    record { sound = sound_entry Audit line (account_parts name field) entry (λ fault other unaudited some refused. absurd (unaudited refl)); cut = entry.cut }
+
 -- the first rule that its field breaks as a setting is the first that an entry breaks
-pub refused_field : (kind : Kind) (line : List ℕ) (parts : Parts) (field : List ℕ) (fault : SettingFault) → IsEntry kind line parts
+pub refused_field : (kind : Kind) (line : List ℕ) (parts : Parts) (field : List ℕ) (fault : SettingFault) → kind ≢ Audit → IsEntry kind line parts
     → parts.field ≡ Some field → IsFieldRefused field fault → IsLineRefused kind line (Setting fault)
 unfolding IsRefused
-refused_field kind line parts field fault entry is (stored, refused) =
+refused_field kind line parts field fault unaudited entry is (stored, refused) =
     refused_after_name kind line parts.name entry.short entry.good (name_of_parts kind line parts entry.cut) (Setting fault) (inr (
       (λ lacks. lacks parts entry.cut),
       inr (keeps_password kind line parts entry TooLong, inr (keeps_password kind line parts entry HasNul, go setting_faults refused)),
@@ -205,7 +216,7 @@ refused_field kind line parts field fault entry is (stored, refused) =
         → IsFirstBroken (map Setting faults) (λ broken. BreaksLine kind broken line) (Setting fault)
     go [] broken = broken
     go (first ∷ others) (inl (one, fails)) =
-        inl (ap Setting one, (parts, field, entry.cut, is, stored, subst (IsRefused field) one refused))
+        inl (ap Setting one, (unaudited, parts, field, entry.cut, is, stored, subst (IsRefused field) one refused))
     go (first ∷ others) (inr (passes, broken)) = inr (
       (λ breaks.
           let own = field_of_breaks kind line parts entry.cut first breaks in
@@ -230,3 +241,15 @@ sound_not_refused kind line fault sound refused = sound fault (first_breaks line
 pub too_long-refused : (kind : Kind) (line : List ℕ) → IsTooLong line → IsLineRefused kind line LineTooLong
 unfolding IsLineRefused
 too_long-refused kind line long = inl (refl, long)
+
+-- ---- a line that breaks no rule
+
+-- its password is short
+pub sound_short : (kind : Kind) (line : List ℕ) (parts : Parts) → IsSound kind line → HasParts kind line parts → length parts.password ≤ password_limit
+sound_short kind line parts sound has = elim (cases_order (length parts.password) password_limit) [
+  | inl same ↦ omega (arith, same)
+  | inr other ↦ elim other [
+    | inl below ↦ omega (arith, below)
+    | inr above ↦ absurd (sound (Password TooLong) (parts, has, above))
+  ]
+]

@@ -6,10 +6,11 @@ use Rattle.prims_core.specs.declared.meter.Work.{Work}
 use Rattle.crypt_core.specs.Crypt.{crypt, IsAfterRefusedGrowth}
 use Rattle.crypt_core.specs.Settings.{SettingValue}
 use Rattle.crypt_core.specs.Work.{raised_by, work}
+use Rattle.run_core.specs.Audits.{finding_text, needs_care}
 use Rattle.run_core.specs.Makers.{next_setting, stream_after}
 use Rattle.run_core.specs.Texts.{as_line, colon}
 use Rattle.run_core.specs.declared.answer.Outcome.{Outcome}
-use Rattle.run_core.specs.declared.answer.Outcome.TheVariants.{Hashed, Match, Rehashed, Misfit, NoHash, Locked}
+use Rattle.run_core.specs.declared.answer.Outcome.TheVariants.{Hashed, Match, Rehashed, Misfit, NoHash, Locked, Audited}
 use Rattle.run_core.specs.declared.job.Job.{Job}
 use Rattle.run_core.specs.declared.line.LineFault.{LineFault}
 use Rattle.run_core.specs.declared.tally.Tally.{Tally}
@@ -63,9 +64,10 @@ abbrev pub is_refusal : Result Outcome LineFault → Bool
 is_refusal (Ok outcome) = false
 is_refusal (Err fault) = true
 
--- is_misfit outcome is true if the password does not match its stored hash.
+-- is_misfit outcome is true if the password does not match its stored hash, or an audited account needs care.
 abbrev pub is_misfit : Result Outcome LineFault → Bool
 is_misfit (Ok Misfit) = true
+is_misfit (Ok (Audited finding)) = needs_care finding
 is_misfit outcome = false
 
 -- texts answers is what these answers write to `out`, one after another.
@@ -80,7 +82,8 @@ fault_texts answers = flat_map (λ answer. if is_refusal answer.outcome then ans
 abbrev pub hashings_of : List Answer → List Hashing
 hashings_of answers = flat_map (λ answer. answer.hashings) answers
 
--- tally_of answers is their number, the number of refused lines, and the number of verdicts `no`.
+-- tally_of answers is their number, the number of refused lines, and the number of verdicts `no` and of accounts that
+-- need care.
 abbrev pub tally_of : List Answer → Tally
 tally_of answers = record {
   lines = length answers;
@@ -98,10 +101,16 @@ rendered (Rehashed hash) = codes "ok" ++ colon ∷ hash
 rendered Misfit = codes "no"
 rendered NoHash = codes "none"
 rendered Locked = codes "locked"
+rendered (Audited finding) = finding_text finding
 
 -- work_text work is `:digests:bytes:mixes:table` with the counts of this work.
 abbrev pub work_text : Work → List ℕ
 work_text work = flat_map (λ count. colon ∷ decimal count) (work.digests ∷ work.bytes ∷ work.mixes ∷ work.table ∷ [])
+
+-- shows_work outcome wanted is true if the answer shows counts: they are wanted, and the outcome is not a finding.
+abbrev pub shows_work : Outcome → Bool → Bool
+shows_work (Audited finding) wanted = false
+shows_work outcome wanted = wanted
 
 -- counts_text wanted made is that of the work of these hashes if `wanted` is true, else empty.
 abbrev pub counts_text : Bool → List Hashing → List ℕ

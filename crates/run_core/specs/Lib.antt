@@ -1,4 +1,5 @@
 pub mod Answers
+pub mod Audits
 pub mod DeviceCalls
 pub mod Devices
 pub mod Input

@@ -4,16 +4,19 @@ use Rattle.rand_core.specs.Stream.{Stream}
 use Rattle.crypt_core.specs.Crypt.{crypt}
 use Rattle.crypt_core.specs.Settings.{SettingValue, Spells}
 use Rattle.crypt_core.specs.StoredFields.{IsLocked}
-use Rattle.run_core.specs.Answers.{Answer, Hashing, counts_text, hashing, new_hash, new_hashing, rendered, stream_left}
+use Rattle.run_core.specs.Answers.{Answer, Hashing, counts_text, hashing, new_hash, new_hashing, rendered, shows_work, stream_left}
+use Rattle.run_core.specs.Audits.{Finds}
 use Rattle.run_core.specs.JobOptions.{IsAbove, check_cost, is_outdated}
 use Rattle.run_core.specs.LineFaults.{line_fault_text}
 use Rattle.run_core.specs.Lines.{Parts, HasParts, IsLineRefused, IsSound}
 use Rattle.run_core.specs.Makers.{made_cost_by}
 use Rattle.run_core.specs.Texts.{as_line, colon}
 use Rattle.run_core.specs.declared.answer.Outcome.{Outcome}
-use Rattle.run_core.specs.declared.answer.Outcome.TheVariants.{Hashed, Match, Rehashed, Misfit, NoHash, Locked}
+use Rattle.run_core.specs.declared.answer.Outcome.TheVariants.{Hashed, Match, Rehashed, Misfit, NoHash, Locked, Audited}
 use Rattle.run_core.specs.declared.job.Job.{Job}
+use Rattle.run_core.specs.declared.audit.Finding.{Finding}
 use Rattle.run_core.specs.declared.line.Kind.{Kind}
+use Rattle.run_core.specs.declared.line.Kind.TheVariants.{Audit}
 use Rattle.run_core.specs.declared.line.LineFault.{LineFault}
 use Rattle.run_core.specs.declared.line.LineFault.TheVariants.{OverBudget}
 
@@ -41,7 +44,7 @@ pub record IsCostly (kind : Kind) (job : Job) (line : List ℕ) : Type 0 where
 abbrev pub HasSetting : Parts → List ℕ → SettingValue → Type 0
 HasSetting parts field kept = (parts.field ≡ Some field) × Spells field kept
 
--- ComesTo job parts stream outcome made: a line with these parts has this outcome. The hashes `made` are made for it,
+-- ComesTo job parts stream outcome made: a line to hash or to check with these parts has this outcome. The hashes `made` are made for it,
 -- in order.
 --   Hashed    there is no field, and the password is hashed with a setting that the job makes
 --   NoHash    the field is empty
@@ -61,14 +64,15 @@ ComesTo job parts stream (Rehashed hash) made = (field : List ℕ) × (kept : Se
     × (made ≡ hashing parts.password kept stream ∷ new_hashing job parts.password stream ∷ [])
 ComesTo job parts stream Misfit made = (field : List ℕ) × (kept : SettingValue) × HasSetting parts field kept
     × (crypt parts.password kept ≢ field) × (made ≡ hashing parts.password kept stream ∷ [])
+ComesTo job parts stream (Audited finding) made = ⊥
 
 -- ---- answers
 
 -- answer_of job name outcome made is the answer to a line with this name and this outcome, for which these hashes are
--- made: the name, the outcome, and the counts of the hashes' work if the job asks for them.
+-- made: the name, the outcome, and the counts of the hashes' work if it shows them.
 abbrev pub answer_of : Job → List ℕ → Outcome → List Hashing → Answer
 answer_of job name outcome made = record {
-  text = as_line (name ++ colon ∷ rendered outcome ++ counts_text job.work made);
+  text = as_line (name ++ colon ∷ rendered outcome ++ counts_text (shows_work outcome job.work) made);
   outcome = Ok outcome;
   hashings = made;
 }
@@ -81,16 +85,31 @@ refusal number fault = record {
   hashings = [];
 }
 
--- IsAnswer kind job number line stream answer: this is the answer to the line with this number. If the line breaks a
--- rule, it is the refusal for the first one. If the line breaks none but can cost more than the budget, it is the
--- refusal for that. Otherwise it is the name and the outcome of the line.
-abbrev pub IsAnswer : Kind → Job → ℕ → List ℕ → Stream → Answer → Type 0
-IsAnswer kind job number line stream answer =
+-- IsPasswordAnswer kind job number line stream answer: this is the answer to the line with this number, which is to be
+-- hashed or checked. If the line breaks a rule, it is the refusal for the first one. If the line breaks none but can
+-- cost more than the budget, it is the refusal for that. Otherwise it is the name and the outcome of the line.
+abbrev pub IsPasswordAnswer : Kind → Job → ℕ → List ℕ → Stream → Answer → Type 0
+IsPasswordAnswer kind job number line stream answer =
     ((fault : LineFault) × IsLineRefused kind line fault × (answer ≡ refusal number fault))
     ⊎ ((IsCostly kind job line × (answer ≡ refusal number OverBudget))
     ⊎ (IsSound kind line × (¬ IsCostly kind job line) × (parts : Parts) × HasParts kind line parts
     × (outcome : Outcome) × ComesTo job parts stream outcome answer.hashings
     × (answer ≡ answer_of job parts.name outcome answer.hashings)))
+
+-- IsAuditAnswer job number line answer: this is the answer to the line with this number, which is to be audited. If the
+-- line breaks a rule, it is the refusal for the first one. Otherwise it is the name and what an audit finds in the
+-- field. It makes no hash.
+abbrev pub IsAuditAnswer : Job → ℕ → List ℕ → Answer → Type 0
+IsAuditAnswer job number line answer =
+    ((fault : LineFault) × IsLineRefused Audit line fault × (answer ≡ refusal number fault))
+    ⊎ (IsSound Audit line × (parts : Parts) × HasParts Audit line parts × (field : List ℕ) × (parts.field ≡ Some field)
+    × (finding : Finding) × Finds job field finding × (answer ≡ answer_of job parts.name (Audited finding) []))
+
+-- IsAnswer kind job number line stream answer: this is the answer to the line with this number.
+--   stream  the random numbers that are left for it
+abbrev pub IsAnswer : Kind → Job → ℕ → List ℕ → Stream → Answer → Type 0
+IsAnswer Audit job number line stream answer = IsAuditAnswer job number line answer
+IsAnswer kind job number line stream answer = IsPasswordAnswer kind job number line stream answer
 
 -- AreAnswers kind job number lines stream answers: these are the answers to lines that are numbered from `number` on.
 -- Each begins with the random numbers that the one before it left.

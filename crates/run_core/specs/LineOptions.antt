@@ -1,15 +1,21 @@
--- What a budget and rehashes change in the answers to lines, and what they leave unchanged.
-use Rattle.std.specs.Prelude.{◌≡◌, ℕ, ◌⊎◌, ◌↔◌, List, true, Some}
+-- What a budget and rehashes change in the answers to lines, and what they leave unchanged; and what an audit says of
+-- later checks.
+use Rattle.std.specs.Prelude.{◌≡◌, ℕ, ◌⊎◌, ◌↔◌, ⊤, List, true, Some}
 use Rattle.rand_core.specs.Stream.{Stream}
 use Rattle.crypt_core.specs.Crypt.{crypt}
 use Rattle.crypt_core.specs.Settings.{SettingValue}
 use Rattle.crypt_core.specs.StoredFields.{IsStored}
 use Rattle.run_core.specs.Answers.{Answer}
+use Rattle.run_core.specs.Audits.{Finds}
 use Rattle.run_core.specs.JobOptions.{is_outdated, without_budget, without_rehash}
 use Rattle.run_core.specs.LineAnswers.{HasSetting, IsAnswer, IsCostly, refusal}
 use Rattle.run_core.specs.Lines.{HasParts, IsSound, Parts}
+use Rattle.run_core.specs.declared.audit.Finding.{Finding}
+use Rattle.run_core.specs.declared.audit.Finding.TheVariants.{Hash}
+use Rattle.run_core.specs.declared.audit.Standing.TheVariants.{Current, Outdated}
 use Rattle.run_core.specs.declared.job.Job.{Job}
 use Rattle.run_core.specs.declared.line.Kind.{Kind}
+use Rattle.run_core.specs.declared.line.Kind.TheVariants.{Check}
 use Rattle.run_core.specs.declared.line.LineFault.TheVariants.{OverBudget}
 
 -- ---- a budget
@@ -49,3 +55,18 @@ OnlyRenews kind job = (number : ℕ) → (line : List ℕ) → (stream : Stream)
 abbrev pub RenewsNone : Kind → Job → Type 0
 RenewsNone kind job = (number : ℕ) → (line : List ℕ) → (stream : Stream) → (answer : Answer)
     → IsAnswer kind job number line stream answer ↔ IsAnswer kind (without_rehash job) number line stream answer
+
+-- ---- audits
+
+-- IsWithinBudget finding: the field is a hash, and no check of it exceeds the budget.
+abbrev pub IsWithinBudget : Finding → Type 0
+IsWithinBudget (Hash method number Current) = ⊤
+IsWithinBudget (Hash method number Outdated) = ⊤
+IsWithinBudget finding = ⊥
+
+-- Foresees job: if an audit finds that a field is within the budget, then no line with this field is over the same
+-- budget in a check without rehashes, whatever its password is.
+abbrev pub Foresees : Job → Type 0
+Foresees job = (field : List ℕ) → (finding : Finding) → Finds job field finding → IsWithinBudget finding
+    → (line : List ℕ) → (parts : Parts) → HasParts Check line parts → parts.field ≡ Some field
+    → ¬ IsCostly Check (without_rehash job) line

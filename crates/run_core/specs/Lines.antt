@@ -1,12 +1,12 @@
 -- Lines of an input: their parts, and the rules that a line can break.
-use Rattle.std.specs.Prelude.{◌≡◌, ℕ, ◌<◌, ◌⊎◌, List, [], ◌∷◌, ◌++◌, length, map, Contains, Option, Some, None}
+use Rattle.std.specs.Prelude.{◌≡◌, ◌≢◌, ℕ, ◌<◌, ◌⊎◌, List, [], ◌∷◌, ◌++◌, length, map, Contains, Option, Some, None}
 use Rattle.crypt_core.specs.Passwords.{IsPasswordRefused, password_faults}
 use Rattle.crypt_core.specs.Refusals.{IsRefused, setting_faults}
 use Rattle.crypt_core.specs.Rules.{IsFirstBroken}
 use Rattle.crypt_core.specs.StoredFields.{IsStored}
 use Rattle.run_core.specs.Texts.{colon}
 use Rattle.run_core.specs.declared.line.Kind.{Kind}
-use Rattle.run_core.specs.declared.line.Kind.TheVariants.{Batch, Check}
+use Rattle.run_core.specs.declared.line.Kind.TheVariants.{Batch, Check, Audit}
 use Rattle.run_core.specs.declared.line.LineFault.{LineFault}
 use Rattle.run_core.specs.declared.line.LineFault.TheVariants.{LineTooLong, NoName, NameTooLong, NoPassword, Password, Setting, OverBudget}
 
@@ -16,21 +16,29 @@ use Rattle.run_core.specs.declared.line.LineFault.TheVariants.{LineTooLong, NoNa
 abbrev pub IsCut : List ℕ → List ℕ → List ℕ → Type 0
 IsCut text front back = (text ≡ front ++ colon ∷ back) × ¬ Contains front colon
 
--- HasName line name: the name is everything before the first colon, or all of the line without one.
-abbrev pub HasName : List ℕ → List ℕ → Type 0
-HasName line name = ((back : List ℕ) × IsCut line name back) ⊎ ((line ≡ name) × ¬ Contains name colon)
+-- HasFront text front: `front` is everything before the first colon of the text, or all of a text without one.
+abbrev pub HasFront : List ℕ → List ℕ → Type 0
+HasFront text front = ((back : List ℕ) × IsCut text front back) ⊎ ((text ≡ front) × ¬ Contains front colon)
 
--- A `Parts` holds the parts of a line, which colons separate. Only a line to check has a field.
+-- HasName line name: the name is the front of the line.
+abbrev pub HasName : List ℕ → List ℕ → Type 0
+HasName line name = HasFront line name
+
+-- A `Parts` holds the parts of a line, which colons separate. A line to hash has no field, and a line to audit no
+-- password, so that part is empty.
 pub record Parts : Type 0 where
   pub name : List ℕ
   pub field : Option (List ℕ)
   pub password : List ℕ
 
 -- HasParts kind line parts: the line is `name:password`, or `name:field:password` to check. A password may have colons.
+-- A line to audit is `name:field`, or `name:field:` and anything.
 abbrev pub HasParts : Kind → List ℕ → Parts → Type 0
 HasParts Batch line parts = IsCut line parts.name parts.password × (parts.field ≡ None)
 HasParts Check line parts =
     (field back : List ℕ) × IsCut line parts.name back × IsCut back field parts.password × (parts.field ≡ Some field)
+HasParts Audit line parts =
+    (field back : List ℕ) × IsCut line parts.name back × HasFront back field × (parts.field ≡ Some field) × (parts.password ≡ [])
 
 -- ---- the rules
 
@@ -47,15 +55,15 @@ abbrev pub line_faults : List LineFault
 line_faults = LineTooLong ∷ NoName ∷ NameTooLong ∷ NoPassword ∷ map Password password_faults ++ map Setting setting_faults
 
 -- BreaksLine kind fault line: the line breaks the rule of this refusal. The cost of a hash is no rule of the line
--- alone.
+-- alone, and what the field to audit is like is the answer.
 abbrev pub BreaksLine : Kind → LineFault → List ℕ → Type 0
 BreaksLine kind LineTooLong line = line_limit < length line
 BreaksLine kind NoName line = HasName line []
 BreaksLine kind NameTooLong line = (name : List ℕ) × HasName line name × (name_limit < length name)
 BreaksLine kind NoPassword line = (parts : Parts) → ¬ HasParts kind line parts
 BreaksLine kind (Password fault) line = (parts : Parts) × HasParts kind line parts × IsPasswordRefused parts.password fault
-BreaksLine kind (Setting fault) line =
-    (parts : Parts) × (field : List ℕ) × HasParts kind line parts × (parts.field ≡ Some field) × IsStored field × IsRefused field fault
+BreaksLine kind (Setting fault) line = (kind ≢ Audit)
+    × (parts : Parts) × (field : List ℕ) × HasParts kind line parts × (parts.field ≡ Some field) × IsStored field × IsRefused field fault
 BreaksLine kind OverBudget line = ⊥
 
 -- IsLineRefused kind line fault: this is the refusal of the first rule that the line breaks.

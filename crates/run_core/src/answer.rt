@@ -1,24 +1,25 @@
 //! Outcomes of passwords and lines, and the output line of each. An outcome is a value; its line is rendered once,
 //! after all work is done.
-ghost use Rattle.std.specs.Prelude.{◌≡◌, ℕ, List, ◌+◌, ◌*◌, ◌<◌, ◌≤◌, ◌++◌, ◌↔◌, [], IsTrue, length, IfOk, OnOk, OnErr};
+ghost use Rattle.std.specs.Prelude.{◌≡◌, ℕ, List, ◌+◌, ◌*◌, ◌<◌, ◌≤◌, ◌++◌, ◌↔◌, [], IsTrue, length, Ok, IfOk, OnOk, OnErr};
 ghost use Rattle.arrayvec.specs.ArrayVec.{array_vec_len};
 ghost use Rattle.crypt_core.specs.Crypt.{IsAfterRefusedGrowth};
 ghost use Rattle.crypt_core.specs.Passwords.{password_limit};
 ghost use Rattle.crypt_core.specs.Work.{raised_by, work, work_limit};
 ghost use Rattle.prims_core.specs.Meter.{HasRoom};
 ghost use Rattle.prims_core.specs.Work.{IsWithin};
-ghost use Rattle.run_core.specs.Answers.{new_hash, rendered, work_text};
+ghost use Rattle.run_core.specs.Answers.{Answer, is_misfit, new_hash, rendered, shows_work, work_text};
 ghost use Rattle.run_core.specs.JobOptions.{IsAbove};
-ghost use Rattle.run_core.specs.LineAnswers.{refusal};
+ghost use Rattle.run_core.specs.LineAnswers.{IsAuditAnswer, refusal};
 ghost use Rattle.run_core.specs.Lines.{name_limit};
 ghost use Rattle.run_core.specs.Makers.{bytes_of, next_setting, stream_after};
-ghost use Rattle.run_core.specs.Private.Answers.{Decides, IsRaisedBelow, Settles, count_text, field_cost, front_by, wanted_text};
+ghost use Rattle.run_core.specs.Private.Answers.{Decides, IsRaisedBelow, Renders, Settles, count_text, field_cost, front_by, wanted_text};
 ghost use Rattle.run_core.specs.Private.Headroom.{HasCountsForLine, answer_limit, count_limit, front_limit, line_work_limit};
 ghost use Rattle.run_core.specs.Private.Lines.{Represents};
 ghost use Rattle.run_core.specs.Texts.{as_line};
 
+use crate::audit::{Finding, append_finding, audit};
 use crate::job::Job;
-use crate::line::{Kind, Line, LineFault, NAME_LIMIT, parse_line};
+use crate::line::{Kind, Line, LineFault, NAME_LIMIT, parse_account, parse_line};
 use crate::reader::buffer::LineBuffer;
 use arrayvec::ArrayVec;
 use crypt_core::hash::{HASH_LIMIT, HashFault, Hashed, hash};
@@ -35,6 +36,15 @@ const COUNT_LIMIT: usize = 21;
 
 // The most bytes of an output line: a name, `:ok:`, a hash, four counts and a line feed.
 const ANSWER_LIMIT: usize = NAME_LIMIT + 4 + HASH_LIMIT + 4 * COUNT_LIMIT + 1;
+
+// The counts of an answer without a hash.
+const NO_WORK: Work = Work {
+    digests: 0,
+    bytes: 0,
+    mixes: 0,
+    table: 0,
+    scratch: 0,
+};
 
 /// The bytes of an output line.
 pub(crate) type Text = ArrayVec<u8, ANSWER_LIMIT>;
@@ -54,6 +64,32 @@ pub(crate) enum Outcome {
     NoHash,
     /// The field is locked: it begins with `!` or `*`.
     Locked,
+    /// What an audit finds in the field.
+    Audited(Finding),
+}
+
+impl Outcome {
+    /// Returns whether the password does not match its stored hash, or the audited account needs care.
+    pub(crate) fn is_misfit(&self) -> bool
+        ensures { result ≡ is_misfit (Ok self.now) }
+    {
+        match self {
+            Outcome::Misfit => true,
+            Outcome::Audited(finding) => finding.needs_care(),
+            Outcome::Hashed(_)
+            | Outcome::Match
+            | Outcome::Rehashed(_)
+            | Outcome::NoHash
+            | Outcome::Locked => false,
+        }
+    }
+
+    // Returns whether the answer shows counts: they are wanted, and the outcome is not a finding.
+    fn shows_work(&self, wanted: bool) -> bool
+        ensures { result ≡ shows_work self.now wanted }
+    {
+        wanted && !matches!(self, Outcome::Audited(_))
+    }
 }
 
 /// The answer to a line as a value: its name, its outcome, and the work of its hashes.
@@ -89,6 +125,9 @@ pub(crate) fn answer_line<'a, R: Rng>(
     let LineBuffer::Bytes(bytes) = line else {
         return Ok(Err(LineFault::LineTooLong));
     };
+    if kind.is_audit() {
+        return Ok(audit_line(job, bytes.as_slice()));
+    }
     let line = match parse_line(kind, bytes.as_slice()) {
         Ok(line) => line,
         Err(fault) => return Ok(Err(fault)),
@@ -103,6 +142,22 @@ pub(crate) fn answer_line<'a, R: Rng>(
         outcome,
         work: meter.work_since(&before),
     }))
+}
+
+// Decides the answer to a line to audit, or the reason for its refusal.
+fn audit_line<'a>(job: &Job, bytes: &'a [u8]) -> Result<Answered<'a>, LineFault>
+    ensures audits { (number : ℕ) → (next : Answer) × IsAuditAnswer job.now number bytes.now next
+        × Renders job.now number result next × (next.hashings ≡ []) }
+    ensures short { IfOk result (λ answered. length answered.name.now ≤ name_limit) }
+{
+    match parse_account(bytes) {
+        Ok(account) => Ok(Answered {
+            name: account.name,
+            outcome: Outcome::Audited(audit(job, account.field)),
+            work: NO_WORK,
+        }),
+        Err(fault) => Err(fault),
+    }
 }
 
 // Returns whether the line can cost more than the budget. Without a budget it computes no cost.
@@ -209,10 +264,10 @@ pub(crate) fn render_refusal(number: u64, fault: &LineFault) -> Text
 
 /// Returns the output line of an outcome.
 ///
-/// It has the name and a colon, the outcome, the counts if the job asks for them, and a line feed.
+/// It has the name and a colon, the outcome, the counts if it shows them, and a line feed.
 pub(crate) fn render(job: &Job, name: Option<&[u8]>, outcome: &Outcome, work: &Work) -> Text
     requires { length (front_by (bytes_of name)) ≤ front_limit }
-    ensures { result.items ≡ as_line (front_by (bytes_of name.entry) ++ (rendered outcome.now ++ wanted_text job.now.work work.now)) }
+    ensures { result.items ≡ as_line (front_by (bytes_of name.entry) ++ (rendered outcome.now ++ wanted_text (shows_work outcome.now job.now.work) work.now)) }
 {
     let mut text = Text::new();
     if let Some(name) = name {
@@ -229,8 +284,9 @@ pub(crate) fn render(job: &Job, name: Option<&[u8]>, outcome: &Outcome, work: &W
         Outcome::Misfit => append(&mut text, b"no"),
         Outcome::NoHash => append(&mut text, b"none"),
         Outcome::Locked => append(&mut text, b"locked"),
+        Outcome::Audited(finding) => append_finding(&mut text, finding),
     }
-    if job.work {
+    if outcome.shows_work(job.work) {
         append_counts(&mut text, work);
     }
     text.push(b'\n');
@@ -249,8 +305,8 @@ fn append_counts(text: &mut Text, work: &Work)
     append_count(text, work.table);
 }
 
-// Appends a colon and the count in decimal.
-fn append_count(text: &mut Text, count: u64)
+/// Appends a colon and the count in decimal.
+pub(crate) fn append_count(text: &mut Text, count: u64)
     requires { array_vec_len text.old + count_limit ≤ answer_limit }
     ensures count { text.new.items ≡ text.old.items ++ count_text count }
     ensures few { array_vec_len text.new ≤ array_vec_len text.old + count_limit }
@@ -259,8 +315,8 @@ fn append_count(text: &mut Text, count: u64)
     append(text, Buffer::new().format(count).as_bytes());
 }
 
-// Appends bytes that fit into the remaining capacity.
-fn append(text: &mut Text, bytes: &[u8])
+/// Appends bytes that fit into the remaining capacity.
+pub(crate) fn append(text: &mut Text, bytes: &[u8])
     requires { array_vec_len text.old + length bytes.now ≤ answer_limit }
     ensures { text.new.items ≡ text.old.items ++ bytes.now }
 {

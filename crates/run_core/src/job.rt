@@ -4,6 +4,7 @@ ghost use Rattle.std.specs.Option.{option_map_or};
 ghost use Rattle.crypt_core.specs.declared.setting.fault.MakeFault.{MakeFault as Fault};
 ghost use Rattle.crypt_core.specs.MadeSettings.{BreaksMake, IsMakeRefused, made_scheme};
 ghost use Rattle.crypt_core.specs.Passwords.{password_limit};
+ghost use Rattle.crypt_core.specs.Replacements.{is_replaced_by};
 ghost use Rattle.crypt_core.specs.Schemes.{method_of};
 ghost use Rattle.crypt_core.specs.Work.{cost};
 ghost use Rattle.run_core.specs.JobOptions.{is_outdated};
@@ -35,17 +36,20 @@ pub struct Job {
 }
 
 impl Job {
+    /// Returns whether the job's scheme replaces that of the setting.
+    pub(crate) fn replaces(&self, setting: &Setting) -> bool
+        ensures { result ≡ is_replaced_by setting.now.scheme self.now.maker.scheme }
+    {
+        setting.scheme().is_replaced_by(&self.maker.scheme())
+    }
+
     /// Returns whether a stored hash is renewed once a password matches it.
     ///
     /// The job asks for rehashes, and its scheme replaces that of the stored hash.
     pub(crate) fn renews(&self, stored: &StoredHash<'_>) -> bool
         ensures { result ≡ is_outdated self.now stored.now.setting }
     {
-        self.rehash
-            && stored
-                .setting()
-                .scheme()
-                .is_replaced_by(&self.maker.scheme())
+        self.rehash && self.replaces(stored.setting())
     }
 }
 

@@ -1,8 +1,9 @@
-//! The runs of mkpasswd over any devices, generator and meter: hashing one password, hashing or checking lines, and
-//! listing the methods.
+//! The runs of mkpasswd over any devices, generator and meter: hashing one password, hashing, checking or auditing
+//! lines, and listing the methods.
 #![tactic(auto)]
 
 mod answer;
+mod audit;
 pub mod device;
 pub mod fault;
 pub mod job;

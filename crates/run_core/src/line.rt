@@ -1,10 +1,12 @@
-//! Lines of an input, `name:password` to hash or `name:field:password` to check, and the first rule that a line breaks.
-ghost use Rattle.std.specs.Prelude.{◌≡◌, ◌<◌, ◌≤◌, length, Err, Some, IfSome, IfNone, MatchOption, IfOk, IfErr, Contains};
+//! Lines of an input, `name:password` to hash, `name:field:password` to check or `name:field` to audit, and the first
+//! rule that a line breaks.
+ghost use Rattle.std.specs.Prelude.{◌≡◌, ◌≢◌, ◌↔◌, ◌<◌, ◌≤◌, length, Err, Some, IfSome, IfNone, MatchOption, IfOk, IfErr, IsTrue, Contains};
 ghost use Rattle.run_core.specs.Lines.{IsCut, IsLineRefused, IsSound, name_limit};
 ghost use Rattle.run_core.specs.Texts.{colon};
 ghost use Rattle.run_core.specs.Makers.{bytes_of};
-ghost use Rattle.run_core.specs.Private.Lines.{HasBehind, IsCutOrWhole, IsLine, IsNamed, LacksParts};
+ghost use Rattle.run_core.specs.Private.Lines.{HasBehind, HasSoundParts, IsCutOrWhole, IsLine, IsNamed, LacksParts, account_parts};
 ghost use Rattle.run_core.specs.declared.line.Kind.{Kind as LineKind};
+ghost use Rattle.run_core.specs.declared.line.Kind.TheVariants.{Audit};
 ghost use Rattle.run_core.specs.declared.line.LineFault.{LineFault as Refusal};
 
 use crypt_core::password::{Password, PasswordFault};
@@ -25,6 +27,17 @@ pub enum Kind {
     Batch,
     /// It checks the password of `name:field:password` against the field.
     Check,
+    /// It audits the field of `name:field`, or of `name:field:` and anything.
+    Audit,
+}
+
+impl Kind {
+    /// Returns whether the run audits.
+    pub(crate) fn is_audit(self) -> bool
+        ensures { IsTrue result ↔ (self ≡ Audit) }
+    {
+        matches!(self, Kind::Audit)
+    }
 }
 
 /// The first rule that a line breaks, in this order.
@@ -69,7 +82,8 @@ impl LineFault {
 /// Returns the first rule that a line breaks, or `None` if it breaks none.
 ///
 /// `line` has no line feed. The password is checked before the field. An empty or locked field is valid, whatever else
-/// a locked one contains. The call ignores budgets, so it never returns `OverBudget`. It allocates and hashes nothing.
+/// a locked one contains, and any field is valid in a line to audit. The call ignores budgets, so it never returns
+/// `OverBudget`. It allocates and hashes nothing.
 ///
 /// For example, `inspect(Kind::Batch, b"ann:password")` returns `None`, and `inspect(Kind::Batch, b"ann")` returns
 /// `Some(LineFault::NoPassword)`.
@@ -78,13 +92,13 @@ pub fn inspect(kind: Kind, line: &[u8]) -> Option<LineFault>
     ensures refused { IfSome result (IsLineRefused kind line.now) }
     ensures each_refusal { (fault : Refusal) → IsLineRefused kind line.now fault → result ≡ Some fault }
 {
-    match parse_line(kind, line) {
-        Ok(_) => None,
-        Err(fault) => Some(fault),
+    match kind {
+        Kind::Batch | Kind::Check => parse_line(kind, line).err(),
+        Kind::Audit => parse_account(line).err(),
     }
 }
 
-/// The parts of a line that breaks no rule.
+/// The parts of a line to hash or to check that breaks no rule.
 #[derive(Drop)]
 pub(crate) struct Line<'a> {
     pub(crate) name: &'a [u8],
@@ -93,12 +107,20 @@ pub(crate) struct Line<'a> {
     pub(crate) field: Option<StoredField<'a>>,
 }
 
-/// Reads the parts of a line, given without its line feed.
+/// The parts of a line to audit that breaks no rule.
+#[derive(Clone, Copy)]
+pub(crate) struct Account<'a> {
+    pub(crate) name: &'a [u8],
+    pub(crate) field: &'a [u8],
+}
+
+/// Reads the parts of a line to hash or to check, given without its line feed.
 ///
 /// # Errors
 ///
 /// - The first rule that the line breaks, but never `OverBudget`.
 pub(crate) fn parse_line(kind: Kind, bytes: &[u8]) -> Result<Line<'_>, LineFault>
+    requires { kind ≢ Audit }
     ensures read { IfOk result (λ line. IsLine kind bytes.now line.name.now line.password line.field) }
     ensures short { IfOk result (λ line. length line.name.now ≤ name_limit) }
     ensures refused { IfErr result (IsLineRefused kind bytes.now) }
@@ -132,6 +154,28 @@ pub(crate) fn parse_line(kind: Kind, bytes: &[u8]) -> Result<Line<'_>, LineFault
     }
 }
 
+/// Reads the parts of a line to audit, given without its line feed.
+///
+/// # Errors
+///
+/// - The first rule that the line breaks, but never one of the password, of the field or of a budget.
+pub(crate) fn parse_account(bytes: &[u8]) -> Result<Account<'_>, LineFault>
+    ensures read { IfOk result (λ account. HasSoundParts Audit bytes.now (account_parts account.name.now account.field.now)) }
+    ensures short { IfOk result (λ account. length account.name.now ≤ name_limit) }
+    ensures refused { IfErr result (IsLineRefused Audit bytes.now) }
+    ensures each_refusal { (fault : Refusal) → IsLineRefused Audit bytes.now fault → result ≡ Err fault }
+{
+    let (name, back) = match name_of(bytes) {
+        Ok(parts) => parts,
+        Err(fault) => return Err(fault),
+    };
+    let Some(back) = back else {
+        return Err(LineFault::NoPassword);
+    };
+    let (field, _) = cut_front(back);
+    Ok(Account { name, field })
+}
+
 // Returns the name, and what follows its colon if there is one.
 fn name_of(line: &[u8]) -> Result<(&[u8], Option<&[u8]>), LineFault>
     ensures named { IfOk result (λ x. IsNamed line.now x.0.now (bytes_of x.1)) }
@@ -140,7 +184,7 @@ fn name_of(line: &[u8]) -> Result<(&[u8], Option<&[u8]>), LineFault>
     if line.len() > LINE_LIMIT {
         return Err(LineFault::LineTooLong);
     }
-    let (name, back) = cut_name(line);
+    let (name, back) = cut_front(line);
     if name.is_empty() {
         return Err(LineFault::NoName);
     }
@@ -150,25 +194,27 @@ fn name_of(line: &[u8]) -> Result<(&[u8], Option<&[u8]>), LineFault>
     Ok((name, back))
 }
 
-// Returns what precedes the first colon, or the whole line without one, and what follows the colon.
-fn cut_name(line: &[u8]) -> (&[u8], Option<&[u8]>)
-    ensures { IsCutOrWhole line.now result.0.now (bytes_of result.1) }
+// Returns what precedes the first colon, or the whole text without one, and what follows the colon.
+fn cut_front(text: &[u8]) -> (&[u8], Option<&[u8]>)
+    ensures { IsCutOrWhole text.now result.0.now (bytes_of result.1) }
 {
-    match cut(line) {
-        Some((name, back)) => (name, Some(back)),
-        None => (line, None),
+    match cut(text) {
+        Some((front, back)) => (front, Some(back)),
+        None => (text, None),
     }
 }
 
 // Returns the field of a line to check, if it is one, and the password, from what follows the name's colon. It returns
 // `None` if a colon is missing.
 fn fields_after_name(kind: Kind, back: Option<&[u8]>) -> Option<(Option<&[u8]>, &[u8])>
+    requires { kind ≢ Audit }
     ensures { MatchOption result (LacksParts kind (bytes_of back.entry))
         (λ x. HasBehind kind (bytes_of back.entry) (bytes_of x.0) x.1.now) }
 {
     match kind {
         Kind::Batch => Some((None, back?)),
-        Kind::Check => {
+        // A precondition excludes `Audit`.
+        Kind::Check | Kind::Audit => {
             let (field, password) = cut(back?)?;
             Some((Some(field), password))
         }

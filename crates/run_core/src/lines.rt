@@ -1,19 +1,24 @@
 //! The runs over the lines of an input. A run answers each line once it has read the end of that line, and before it
 //! reads more. So it holds one line and one piece of the input at a time, whatever the size of the input.
-ghost use Rattle.std.specs.Prelude.{◌≡◌, ◌+◌, ◌^◌, ◌<◌, ◌≤◌, length, IfOk, OnOk};
+ghost use Rattle.std.specs.Prelude.{◌≡◌, ◌≢◌, ℕ, ◌+◌, ◌^◌, ◌<◌, ◌≤◌, length, Err, IfOk, OnOk};
 ghost use Rattle.prims_core.specs.Work.{IsAtMost};
+ghost use Rattle.crypt_core.specs.Passwords.{password_limit};
+ghost use Rattle.crypt_core.specs.Settings.{SettingValue};
+ghost use Rattle.crypt_core.specs.Work.{cost};
 ghost use Rattle.run_core.specs.Answers.{Answer};
+ghost use Rattle.run_core.specs.Audits.{audit_cost};
 ghost use Rattle.run_core.specs.Devices.{HasRoomBeforeRun, HasRoomWithinRun, MovesBytes, turns_limit};
-ghost use Rattle.run_core.specs.LineOptions.{OnlyRefuses, OnlyRenews, RenewsNone};
+ghost use Rattle.run_core.specs.LineOptions.{Foresees, OnlyRefuses, OnlyRenews, RenewsNone};
 ghost use Rattle.run_core.specs.LineRuns.{EndsLines};
 ghost use Rattle.run_core.specs.Lines.{name_limit};
 ghost use Rattle.run_core.specs.Private.Answers.{Renders, counted, outcome_of};
 ghost use Rattle.run_core.specs.Private.Deliveries.{Sends};
 ghost use Rattle.run_core.specs.Private.Headroom.{HasRoomFor, answer_limit, lines_limit};
 ghost use Rattle.run_core.specs.Runs.{IsWithinTurns, run_state};
-ghost use Rattle.run_core.specs.declared.line.Kind.TheVariants.{Batch, Check};
+ghost use Rattle.run_core.specs.declared.fault.RunFault.TheVariants.{OutOfMemory};
+ghost use Rattle.run_core.specs.declared.line.Kind.TheVariants.{Batch, Check, Audit};
 
-use crate::answer::{Answered, Outcome, answer_line, render, render_refusal};
+use crate::answer::{Answered, answer_line, render, render_refusal};
 use crate::device::{Input, Output};
 use crate::fault::RunFault;
 use crate::job::Job;
@@ -58,7 +63,6 @@ use std::io::{Read, Write};
 ///   is written.
 ///
 /// [`LineFault`]: crate::line::LineFault
-#[tactic(auto, using(crate::proofs::LineOptions::only_refuses))]
 pub fn run_batch<I: Read, O: Write, E: Write, R: Rng>(
     alloc: Global,
     job: &Job,
@@ -121,7 +125,6 @@ pub fn run_batch<I: Read, O: Write, E: Write, R: Rng>(
 /// As for [`run_batch`].
 ///
 /// [`Setting::replaced_by`]: crypt_core::setting::Setting::replaced_by
-#[tactic(auto, using(crate::proofs::LineOptions::only_refuses))]
 pub fn run_check<I: Read, O: Write, E: Write, R: Rng>(
     alloc: Global,
     job: &Job,
@@ -148,6 +151,75 @@ pub fn run_check<I: Read, O: Write, E: Write, R: Rng>(
     answer_lines(
         alloc,
         Kind::Check,
+        job,
+        input,
+        out,
+        faults,
+        rng,
+        meter,
+        turns,
+    )
+}
+
+/// Audits the field of each line `name:field`, or `name:field:` and anything, and writes what it finds to `out`.
+///
+/// - `name:METHOD:COST:current`: the job's settings do not replace the setting in `field`
+///   ([`Setting::replaced_by`]), and no check of it exceeds the job's `budget`.
+/// - `name:METHOD:COST:outdated`: they replace it, and no check of it exceeds the budget.
+/// - `name:METHOD:COST:over budget`: a check of it can cost more than the budget.
+/// - `name:locked`: `field` begins with `!` or `*`.
+/// - `name:none`: `field` is empty.
+/// - `name:unknown`: `field` begins with the prefix of no method.
+/// - `name:malformed:MESSAGE`: `field` breaks another rule of a setting, first the one with this message
+///   ([`SettingFault`]).
+///
+/// `field` ends at the second colon, or at the end of the line. METHOD is the name of its method. COST is the cost of a
+/// check of the longest password ([`cost`](crypt_core::work::cost)), and no password costs more. `faults` gets a message
+/// about each line without a name or a field, as by [`run_batch`].
+///
+/// The run hashes, allocates and draws nothing. The job's `rehash` and `work` have no effect. The tally counts with the
+/// verdicts `no` the findings `outdated`, `over budget`, `none` and `malformed`. Everything else is as for
+/// [`run_batch`], including the preconditions.
+///
+/// For example, with sha512crypt the line `ann:$1$xxxxxxxx$UYCIxa628.9qXjpQCjM4a.:19000:0` gives
+/// `ann:md5crypt:1927022:outdated`.
+///
+/// # Errors
+///
+/// As for [`run_batch`], but never `OutOfMemory`.
+///
+/// [`Setting::replaced_by`]: crypt_core::setting::Setting::replaced_by
+/// [`SettingFault`]: crypt_core::setting::SettingFault
+pub fn run_audit<I: Read, O: Write, E: Write, R: Rng>(
+    alloc: Global,
+    job: &Job,
+    input: &mut Input<I>,
+    out: &mut Output<O>,
+    faults: &mut Output<E>,
+    rng: &mut R,
+    meter: &mut Meter,
+    turns: u64,
+) -> Result<Tally, RunFault>
+    requires turns { turns ≤ turns_limit }
+    requires devices { HasRoomBeforeRun input.old × HasRoomBeforeRun out.old × HasRoomBeforeRun faults.old }
+    requires counts { IsAtMost meter.old (2 ^ 100) }
+    ensures ends { EndsLines turns Audit job.now
+        (run_state input.old out.old faults.old (R.stream rng.old) meter.old)
+        (run_state input.new out.new faults.new (R.stream rng.new) meter.new) result }
+    ensures within_turns { IsWithinTurns turns
+        (run_state input.old out.old faults.old (R.stream rng.old) meter.old)
+        (run_state input.new out.new faults.new (R.stream rng.new) meter.new) }
+    ensures fault_room { HasRoomWithinRun faults.new }
+    ensures draws_none { R.stream rng.new ≡ R.stream rng.old }
+    ensures hashes_none { meter.new ≡ meter.old }
+    ensures allocates_none { result ≢ Err OutOfMemory }
+    ensures longest { (kept : SettingValue) → (length : ℕ) → length ≤ password_limit → cost kept length ≤ audit_cost kept }
+    ensures foresees { Foresees job.now }
+    ensures rehash { RenewsNone Audit job.now }
+{
+    answer_lines(
+        alloc,
+        Kind::Audit,
         job,
         input,
         out,
@@ -224,7 +296,7 @@ fn count_and_write<O: Write, E: Write>(
     tally.lines += 1;
     match answer {
         Ok(answered) => {
-            tally.misfits += u64::from(matches!(answered.outcome, Outcome::Misfit));
+            tally.misfits += u64::from(answered.outcome.is_misfit());
             let text = render(job, Some(answered.name), &answered.outcome, &answered.work);
             send(out, text.as_slice(), left)
         }

@@ -8,7 +8,7 @@ pub struct Tally {
     pub lines: u64,
     /// The refused lines.
     pub refused: u64,
-    /// The lines with the verdict `no`.
+    /// The lines with the verdict `no`, and the audited accounts that need care.
     pub misfits: u64,
 }
 
@@ -29,7 +29,7 @@ impl Tally {
 
     /// Returns the exit status of a run that ends with this tally.
     ///
-    /// It is 1 if a line was refused or got the verdict `no`, otherwise 0.
+    /// It is 1 if a line was refused or got the verdict `no`, or an audited account needs care, otherwise 0.
     pub fn status(&self) -> u8
         ensures { result ≡ tally_status self.now }
     {

@@ -26,6 +26,10 @@ verdict_front_limit = front_limit + 2
 abbrev pub count_limit : ℕ
 count_limit = 21
 
+-- finding_limit is the most bytes of a finding: the name of a method, a count, a colon and a standing.
+abbrev pub finding_limit : ℕ
+finding_limit = 11 + count_limit + 1 + 11
+
 -- answer_limit is the most bytes of an answer: a name and its verdict, a colon and a hash, four counts and a line feed.
 abbrev pub answer_limit : ℕ
 answer_limit = verdict_front_limit + 1 + hash_limit + 4 * count_limit + 1

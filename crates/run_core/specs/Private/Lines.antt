@@ -3,10 +3,10 @@ use Rattle.std.specs.Prelude.{◌≡◌, ◌≢◌, ℕ, ◌<◌, ◌≤◌, Lis
 use Rattle.crypt_core.specs.FieldReadings.{IsFieldReading}
 use Rattle.crypt_core.specs.Readings.{IsReadOneWay}
 use Rattle.crypt_core.specs.declared.stored.StoredField.{StoredField}
-use Rattle.run_core.specs.Lines.{HasParts, IsCut, IsSound, Parts, line_limit, name_limit}
+use Rattle.run_core.specs.Lines.{HasFront, HasParts, IsCut, IsSound, Parts, line_limit, name_limit}
 use Rattle.run_core.specs.Texts.{colon}
 use Rattle.run_core.specs.declared.line.Kind.{Kind}
-use Rattle.run_core.specs.declared.line.Kind.TheVariants.{Batch, Check}
+use Rattle.run_core.specs.declared.line.Kind.TheVariants.{Batch, Check, Audit}
 use Rattle.run_core.specs.declared.reader.buffer.LineBuffer.{LineBuffer}
 use Rattle.run_core.specs.declared.reader.buffer.LineBuffer.TheVariants.{Bytes, TooLong}
 
@@ -23,6 +23,10 @@ Represents TooLong line = IsTooLong line
 pub record HasSoundParts (kind : Kind) (line : List ℕ) (parts : Parts) : Type 0 where
   pub sound : IsSound kind line
   pub cut : HasParts kind line parts
+
+-- account_parts name field are the parts of a line to audit.
+abbrev pub account_parts : List ℕ → List ℕ → Parts
+account_parts name field = record { name = name; field = Some field; password = [] }
 
 -- IsGoodName name: the name is neither empty nor too long.
 pub record IsGoodName (name : List ℕ) : Type 0 where
@@ -42,17 +46,19 @@ pub record IsNamed (line name : List ℕ) (back : Option (List ℕ)) : Type 0 wh
   pub good : IsGoodName name
 
 -- HasBehind kind back field password: the password follows the colon of the name; in a line to check, the field and a
--- colon precede it.
+-- colon precede it. In a line to audit the field is the front of what follows, and the password is empty.
 abbrev pub HasBehind : Kind → Option (List ℕ) → Option (List ℕ) → List ℕ → Type 0
 HasBehind Batch back field password = (back ≡ Some password) × (field ≡ None)
 HasBehind Check back field password =
     (behind stored : List ℕ) × (back ≡ Some behind) × IsCut behind stored password × (field ≡ Some stored)
+HasBehind Audit back field password =
+    (behind stored : List ℕ) × (back ≡ Some behind) × HasFront behind stored × (field ≡ Some stored) × (password ≡ [])
 
--- LacksParts kind back: the line has no colon, or if it is to check, no second one.
+-- LacksParts kind back: the line has no colon, or if it is to be checked, no second one.
 abbrev pub LacksParts : Kind → Option (List ℕ) → Type 0
 LacksParts kind None = Unit {0}
-LacksParts Batch (Some back) = ⊥
 LacksParts Check (Some back) = ¬ Contains back colon
+LacksParts kind (Some back) = ⊥
 
 -- IsFieldOf field stored: the field is read as `stored`, if there is one.
 abbrev pub IsFieldOf : Option (List ℕ) → Option StoredField → Type 0

@@ -6,7 +6,7 @@ pub places-preserved : goal.places-preserved
 places-preserved c =
     front_more c.args.a.now c.args.b.now c.places.i c.places.differ c.places-test.true (omega arith) c.places.invariant
 
-pub returns-clause-as_eq : goal.returns-clause-as_eq
-returns-clause-as_eq c =
+pub returns : goal.returns
+returns c =
     let long : length c.args.a.now ≡ length c.args.b.now = omega arith in
     finished c.args.a.now c.args.b.now c.places.i c.places.differ long (omega arith) c.places.invariant

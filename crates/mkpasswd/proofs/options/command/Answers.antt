@@ -46,6 +46,7 @@ returns c =
     & c.flag-stdin.ensures
     & c.flag-batch.ensures
     & c.flag-check.ensures
+    & c.flag-audit.ensures
     & c.flag-rehash.ensures
     & c.flag-work.ensures
     & (rw c.value_parser-2.ensures at c.number-budget.ensures)

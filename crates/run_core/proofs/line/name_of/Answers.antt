@@ -9,10 +9,10 @@ returns-then-line-gt-LINE_LIMIT-clause-refused c = λ kind. too_long-refused kin
 
 pub returns-then-is_empty-clause-refused : goal.returns-then-is_empty-clause-refused
 returns-then-is_empty-clause-refused c = λ kind.
-    refused_for_no_name kind c.args.line.now c.cut_name.result.0.now (bytes_of c.cut_name.result.1) c.if-line-gt-LINE_LIMIT.false c.cut_name.ensures
+    refused_for_no_name kind c.args.line.now c.cut_front.result.0.now (bytes_of c.cut_front.result.1) c.if-line-gt-LINE_LIMIT.false c.cut_front.ensures
     (eqb-true _ _ (sym c.is_empty.ensures ∙ c.if-is_empty.true))
 
 pub returns-then-name-gt-NAME_LIMIT-clause-refused : goal.returns-then-name-gt-NAME_LIMIT-clause-refused
 returns-then-name-gt-NAME_LIMIT-clause-refused c = λ kind.
-    refused_for_long_name kind c.args.line.now c.cut_name.result.0.now (bytes_of c.cut_name.result.1) c.if-line-gt-LINE_LIMIT.false c.cut_name.ensures
+    refused_for_long_name kind c.args.line.now c.cut_front.result.0.now (bytes_of c.cut_front.result.1) c.if-line-gt-LINE_LIMIT.false c.cut_front.ensures
     c.if-name-gt-NAME_LIMIT.true

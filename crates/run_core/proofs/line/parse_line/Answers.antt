@@ -76,7 +76,7 @@ returns-in-Err-read-clause-refused c =
     let password = c.in-Ok-new.password in
     let entry : IsEntry c.args.kind c.args.bytes.now (parts_with name password (bytes_of c.in-Some.field)) =
     rw kept.0 (entry_from_behind _ _ _ _ _ _ c.in-Ok.ensures.named c.in-Some.ensures kept.1) in
-    refused_field _ _ _ _ _ entry (ap bytes_of c.in-Some-field.is) c.in-Err-read.ensures.reading
+    refused_field _ _ _ _ _ c.requires entry (ap bytes_of c.in-Some-field.is) c.in-Err-read.ensures.reading
 
 pub returns-in-Err-read-clause-each_refusal : goal.returns-in-Err-read-clause-each_refusal
 returns-in-Err-read-clause-each_refusal c = λ fault refused.

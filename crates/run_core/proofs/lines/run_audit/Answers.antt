@@ -1,0 +1,22 @@
+use Rattle.run_core.proofs.Auditing.{spares}
+use Rattle.run_core.proofs.LineOptions.{foresees}
+use Rattle.crypt_core.proofs.Longest as Longest
+use Rattle.run_core.proofs.lines.run_audit.Goals as goal
+
+pub returns-clause-draws_none : goal.returns-clause-draws_none
+returns-clause-draws_none g c = (spares c.args.turns c.args.job.now _ _ _ c.answer_lines.ensures.ends).draws_none
+
+pub returns-clause-hashes_none : goal.returns-clause-hashes_none
+returns-clause-hashes_none g c = (spares c.args.turns c.args.job.now _ _ _ c.answer_lines.ensures.ends).hashes_none
+
+pub returns-clause-allocates_none : goal.returns-clause-allocates_none
+returns-clause-allocates_none g c = (spares c.args.turns c.args.job.now _ _ _ c.answer_lines.ensures.ends).allocates_none
+
+pub returns-clause-longest : goal.returns-clause-longest
+returns-clause-longest g c = λ kept length short. Longest.longest kept length short
+
+pub returns-clause-foresees : goal.returns-clause-foresees
+returns-clause-foresees g c = foresees c.args.job.now
+
+pub returns-clause-rehash : goal.returns-clause-rehash
+returns-clause-rehash g c = λ number line stream answer. ((λ is. is), λ is. is)
