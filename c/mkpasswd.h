@@ -184,8 +184,9 @@ MKPASSWD_EXPORT MKPASSWD_CHECKED MKPASSWD_NONNULL(8) int32_t mkpasswd_login(cons
     MKPASSWD_READS(password, 1, 2) MKPASSWD_READS(field, 3, 4);
 
 /* Hashes a new password, with a salt from getentropy(3), and puts the hash and a byte 0 into `out`; MKPASSWD_TEXT_SIZE
- * bytes are enough. `cost` is as in `mkpasswd -R`: the rounds of SHA-crypt; 6 to 11 for scrypt, for N = 2^(cost+7), r = 32
- * and p = 1; 0 for the method's own, 5000 or 7. md5crypt ignores it.
+ * bytes are enough. `cost` is as in `mkpasswd -R`: the rounds of SHA-crypt, for sha512crypt 656000; 6 to 11 for scrypt, for
+ * N = 2^(cost+7), r = 32 and p = 1. 0 stands for 7 with scrypt, and otherwise for 5000 rounds, which are too few today.
+ * md5crypt ignores it.
  *
  * Rounds other than 0 and 1000 to 999999999 are refused, here and by mkpasswd_login(). The formats clamp them, and so do the
  * command and all other calls; but a service whose cost is 12, as bcrypt's may be, should hear of it before it stores a hash

@@ -151,14 +151,16 @@ class Work(NamedTuple):
 def hash(
     password: Text, method: str = "sha512crypt", *, rounds: Optional[int] = None, budget: float = DEFAULT_BUDGET
 ) -> str:
-    """Hash a new password, with a salt from the system. The result is a str, also for a password of bytes.
+    """Hash a new password, with a salt from the system.
+
+    Without `rounds` it makes 5000 rounds of sha512crypt, which are too few today: give rounds=656000, as login() assumes.
+
+    >>> hash("password", rounds=656000).startswith("$6$rounds=656000$")
+    True
 
     `method` is "sha512crypt", "sha256crypt", "scrypt" or "md5crypt". `rounds` is the number of rounds of SHA-crypt, 1000
-    to 999999999; for scrypt it is 6 to 11, for N = 2^(rounds + 7), r = 32 and p = 1. None and 0 stand for the method's
-    own, 7 or 5000, which is too few today: give 656000. md5crypt ignores it.
-
-    >>> hash("password", rounds=20000).startswith("$6$rounds=20000$")
-    True
+    to 999999999; for scrypt it is 6 to 11, for N = 2^(rounds + 7), r = 32 and p = 1. None and 0 stand for 5000, or for 7
+    with scrypt. md5crypt ignores it. The result is a str, also for a password of bytes.
 
     Raises TooCostly if the hash costs more than the budget, so that what is made passes verify() with the same budget;
     ValueError for other rounds of SHA-crypt, and TypeError for a bool; Refused for an unknown method or rounds that scrypt
@@ -248,7 +250,8 @@ def verify_and_update(
 ) -> Verdict:
     """Whether the password matches, and a new hash to store if it does and needs_rehash() is true of the stored one.
 
-    The result is (matches, new), which is true exactly if the password matches.
+    The result is (matches, new), which is true exactly if the password matches. Give the rounds of your new hashes, 656000:
+    without `rounds` the new hash has 5000.
 
     >>> verify_and_update("password", "$1$xxxxxxxx$UYCIxa628.9qXjpQCjM4a.", "md5crypt")
     Verdict(matches=True, new=None)
@@ -341,6 +344,8 @@ methods = [METHOD_SHA512, METHOD_SHA256, METHOD_MD5]
 
 def mksalt(method: Optional[_Method] = None, *, rounds: Optional[int] = None) -> str:
     """A new setting for crypt(), as the standard library's crypt.mksalt() made it up to Python 3.12.
+
+    For a hash to store give rounds=656000: without `rounds` there are 5000.
 
     >>> mksalt(METHOD_SHA256, rounds=20000).startswith("$5$rounds=20000$")
     True
