@@ -69,7 +69,7 @@ mkpasswd: $(OWN)/program.o c/heap.c build/cpu
 build/%/mkpasswd: build/%/program.o c/heap.c c/runtime.c
 	$(COMPILE) -DKEEPS=1 -fPIE -static-pie -s -Wl,--gc-sections $(LINKED) $< c/heap.c $(RUNTIME)
 
-# The processor of the last build. Another one makes this file new, and so all that is built from it.
+# The processor of the last build. Building for another one rewrites this file, and so all that depends on it.
 build/cpu: FORCE
 	@mkdir -p build
 	@echo '$(CPU)' | cmp -s - $@ || echo '$(CPU)' > $@
@@ -167,8 +167,8 @@ build/site/index.html: tools/site $(wildcard *.md docs/* man/* examples/* c/*.h)
 	rm -rf build/site && mkdir -p build/site
 	tools/site build/site
 
-# The gate leaves the object that it proved, so there is none to prove again but for other processors. One that proved nothing
-# anew leaves none.
+# The gate leaves the object that it proved, so only other processors need another one. A gate that found all proofs kept leaves
+# no object.
 gate:
 	rm -f crates/program/out/program.o
 	tools/gate $(if $(ANEW),--anew)

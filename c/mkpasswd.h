@@ -17,7 +17,7 @@
  * stores it unseen locks the account. Bytes after its byte 0 are unchanged.
  *
  * Input is a pointer and a number of bytes; it may hold any bytes, and needs no byte 0 at its end. The calls that end in
- * _str take strings instead. No call keeps a pointer or has state: any number of threads may call at once, also with the
+ * _str take strings instead. No call keeps a pointer or state: any number of threads may call at once, also with the
  * same input. mkpasswd_new() alone asks the system for something, 24 random bytes from getentropy(3), which sets errno if it
  * gives none.
  *
@@ -32,9 +32,9 @@
  * - 64 KiB of stack are free. A call uses some 25 KiB.
  *
  * The calls that hash wipe the stack that they used, the memory that they free, and, where the library's compiler can, the
- * registers, but not the vector registers that AVX-512 adds. The caller's copies of the password, and of a hash, are the caller's to wipe.
- * The calls don't hide from a clock what they work on: scrypt reads its table at places that depend on the password. A hash of
- * the stored one's length is compared to its last byte, wherever the two differ. */
+ * registers, but not the vector registers that AVX-512 adds. The caller wipes its own copies of the password and of a hash.
+ * The time of a call can reveal what it works on: scrypt reads its table at places that depend on the password. A hash of the
+ * stored one's length is compared to its last byte, wherever the two differ. */
 #ifndef MKPASSWD_H
 #define MKPASSWD_H
 
@@ -51,7 +51,7 @@ extern "C" {
 
 /* gcc and clang warn about an ignored result. clang, and gcc with -Wall, also warn about a null that they see, and about a
  * comparison of a _str call's result that always or never holds. gcc warns about an `out` that it sees to have less room than
- * the call is told. Input isn't declared nonnull: a compiler could then drop a caller's own test for null behind a call. */
+ * `out_len`. Input isn't declared nonnull: a compiler could then drop a caller's own test for null after a call. */
 #if defined __GNUC__ || defined __clang__
 #define MKPASSWD_EXPORT __attribute__((visibility("default"), nothrow))
 #define MKPASSWD_CHECKED __attribute__((warn_unused_result))
@@ -111,7 +111,7 @@ extern "C" {
 #define MKPASSWD_REFUSED_PASSWORD_TOO_LONG (-1)  /* password too long: more than MKPASSWD_PASSWORD_LIMIT bytes */
 #define MKPASSWD_REFUSED_PASSWORD_ZERO_BYTE (-2) /* password has a zero byte */
 #define MKPASSWD_REFUSED_SETTING_TOO_LONG (-3)   /* setting too long: more than 384 bytes, whatever they are */
-#define MKPASSWD_REFUSED_BAD_CHARACTER (-4)      /* bad character: no setting has it; also of a line end */
+#define MKPASSWD_REFUSED_BAD_CHARACTER (-4)      /* bad character: no setting has it; also for a line end */
 #define MKPASSWD_REFUSED_UNKNOWN_SCHEME (-5)     /* unknown scheme: none of $1$, $5$, $6$, $7$ */
 #define MKPASSWD_REFUSED_BAD_ROUNDS (-6)         /* bad rounds: `rounds=` without a valid number */
 #define MKPASSWD_REFUSED_BAD_COST (-7)           /* bad cost: scrypt's is not eleven of ./0-9A-Za-z */
@@ -168,15 +168,14 @@ MKPASSWD_EXPORT MKPASSWD_CHECKED MKPASSWD_NONNULL(6) int32_t mkpasswd_verify(con
  * does. The reason is then MKPASSWD_FITS, or MKPASSWD_OUTDATED if mkpasswd_needs_rehash() with this method and cost returns 1
  * too: then store what mkpasswd_new() makes of the password, if the field is still the one that was checked. `method` and
  * `cost` are those that the service gives mkpasswd_new(). `field` is what is stored for the name, and empty for an unknown
- * name. With password and field exchanged, whoever types a hash of the field gets in: of `!`, of a stored hash, or of nothing.
+ * name. If password and field are swapped, whoever types a hash of the field gets in: of `!`, of a stored hash, or of nothing.
  *
- * A name without a valid setting does the work of a new hash, so that it is not faster. If the field
- * is empty, locked, of another scheme or without a valid setting, or can cost more than the budget, the call hashes the
- * password with this method and cost and a fixed salt, drops the hash, and returns 0 with the reason of mkpasswd_verify();
- * `work` is exactly the work of that hash. If that hash can cost more than the budget, or scrypt gets no memory for it, it is
- * not made.
+ * If the field is empty, locked, of another scheme or without a valid setting, or can cost more than the budget, the call
+ * hashes the password with this method and cost and a fixed salt, drops the hash, and returns 0 with the reason of
+ * mkpasswd_verify(), so that such a name is not faster. `work` is exactly the work of that hash. If that hash can cost more
+ * than the budget, or scrypt gets no memory for it, it is not made.
  *
- * A refused password, method or cost is refused at once, whatever the field is. Any other wrong password costs what the
+ * An invalid password, method or cost is refused at once, whatever the field is. Any other wrong password costs what the
  * stored hash costs, even one that was cut. So hashes with another cost, or with a shorter salt than mkpasswd_new() makes,
  * take another time; only outdated ones are ever replaced. */
 MKPASSWD_EXPORT MKPASSWD_CHECKED MKPASSWD_NONNULL(8) int32_t mkpasswd_login(const uint8_t *password, size_t password_len,
@@ -184,18 +183,20 @@ MKPASSWD_EXPORT MKPASSWD_CHECKED MKPASSWD_NONNULL(8) int32_t mkpasswd_login(cons
     MKPASSWD_READS(password, 1, 2) MKPASSWD_READS(field, 3, 4);
 
 /* Hashes a new password, with a salt from getentropy(3), and puts the hash and a byte 0 into `out`; MKPASSWD_TEXT_SIZE
- * bytes are enough. `cost` is as in `mkpasswd -R`: the rounds of SHA-crypt; 6 to 11 for scrypt, for N = 2^(cost+7), r = 32
- * and p = 1; 0 for the method's own, 5000 or 7. md5crypt ignores it.
+ * bytes are enough. `cost` is as in `mkpasswd -R`: the rounds of SHA-crypt, for sha512crypt 656000; 6 to 11 for scrypt, for
+ * N = 2^(cost+7), r = 32 and p = 1. 0 stands for 7 with scrypt, and otherwise for 5000 rounds, which are too few today.
+ * md5crypt ignores it.
  *
  * Rounds other than 0 and 1000 to 999999999 are refused, here and by mkpasswd_login(). The formats clamp them, and so do the
- * command and all other calls; but a service whose cost is 12, as bcrypt's may be, should hear of it before it stores a hash
- * that is cheap to guess. */
+ * command and all other calls; but a service whose cost is 12, as bcrypt's may be, should notice before it stores a hash that
+ * is cheap to guess. */
 MKPASSWD_EXPORT MKPASSWD_CHECKED MKPASSWD_NONNULL(6) MKPASSWD_NONNULL(8) MKPASSWD_WRITES(6, 7)
 int32_t mkpasswd_new(const uint8_t *password, size_t password_len, uint32_t method, uint32_t cost, uint64_t budget,
     uint8_t *out, size_t out_len, struct mkpasswd_report *report) MKPASSWD_READS(password, 1, 2);
 
-/* Returns 1 exactly if the stored hash has a valid setting and one with this method and cost would replace it: the method is
- * another one, or it is the same with more rounds, which are clamped here, or for scrypt with a greater N * r * p. */
+/* Returns 1 exactly if method and cost are valid, and the stored hash has a valid setting which one with this method and cost
+ * would replace: the method is another one, or the same with more rounds, which are clamped here, or for scrypt with a
+ * greater N * r * p. */
 MKPASSWD_EXPORT MKPASSWD_CHECKED MKPASSWD_NONNULL(5) int32_t mkpasswd_needs_rehash(const uint8_t *stored, size_t stored_len,
     uint32_t method, uint32_t cost, struct mkpasswd_report *report) MKPASSWD_READS(stored, 1, 2);
 
@@ -218,8 +219,8 @@ int32_t mkpasswd_setting(uint32_t method, uint32_t cost, uint64_t first, uint64_
     size_t out_len, struct mkpasswd_report *report);
 
 /* Puts the message for a reason and a byte 0 into `out`, and returns 1. For any other number it puts "unknown reason" and
- * returns 0. If the room is too small, it puts as much as there is room for, with the byte 0, and returns 0. So whatever
- * it returns, `out` holds a string, unless it has no room at all. */
+ * returns 0. If the room is too small, it puts as much as fits, with the byte 0, and returns 0. So whatever it returns, `out`
+ * holds a string, unless it has no room at all. */
 MKPASSWD_EXPORT MKPASSWD_NONNULL(2) MKPASSWD_WRITES(2, 3) int32_t mkpasswd_words(int32_t reason, uint8_t *out,
     size_t out_len);
 

@@ -4,8 +4,8 @@
 # but answers of a run that goes well, those of all lines before in full. Where words are refused the status
 # stays 2, whatever becomes of the text. Then reads and writes handle one byte each.
 #
-# One refusal of memory may go unheard, and the whole answer come: std makes the list of the words smaller in
-# the end, and where that is refused it stays as it was.
+# One failed allocation may be ignored, and the whole answer come: std shrinks the list of the arguments in the end,
+# and if that fails it stays as it was.
 #
 # At the end lines of many kinds are compared with none: only scrypt asks for memory.
 use strict;

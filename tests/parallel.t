@@ -157,7 +157,7 @@ subtest 'workers that fail' => sub {
         chmod 0755, spew("$scratch/played/mkpasswd", "#!/bin/bash\n$answers\n");
         my $run = run({ stdin => $lines, timeout => 60 }, $played, qw(--jobs 1), @batch);
         my $told = qr/^3 mkpasswd-parallel: $why; answered up to line 2; go on with tail -n \+3 and --first-line 3\n\z/;
-        like("$run->{status} $run->{err}", $told, "$name: it is told");
+        like("$run->{status} $run->{err}", $told, "$name: it is reported");
         is($run->{out}, "one:\$1\$x\ntwo:\$1\$x\n", "$name: the lines before are answered");
     }
     spew("$scratch/played/mkpasswd", "\x7fELF(\n");

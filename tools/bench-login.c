@@ -1,4 +1,4 @@
-/* Measures mkpasswd_login for each kind of field, in turns, and prints the median of each in processor time:
+/* Measures mkpasswd_login for each kind of field, alternating, and prints the median of each in processor time:
  *
  *     make lib && cc -O2 -Ic tools/bench-login.c libmkpasswd.a -o build/bench-login && build/bench-login [ROUNDS [LOGINS]]
  *

@@ -230,7 +230,7 @@ sub job {
     return \%job;
 }
 
-# What a line has to get: a refusal, or what its answer is made of. Nothing is hashed yet.
+# The expected result of a line: a refusal, or what its answer is made of. Nothing is hashed yet.
 sub judged {
     my ($job, $line) = @_;
     return { refusal => 'line too long' } if length $line > $limits{line};

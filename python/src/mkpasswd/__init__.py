@@ -52,8 +52,8 @@ __all__ = [
 
 Text = Union[str, bytes]
 
-#: What a call may cost unless it is told otherwise, and each of the two hashes of login(), as cost() counts it: the bytes
-#: that are digested, and for scrypt those that are mixed. It admits what hash() makes without `rounds`, and SHA-crypt with
+#: What a call may cost by default, and each of the two hashes of login(), as cost() counts it: the bytes that are digested,
+#: and for scrypt those that are mixed. It admits what hash() makes without `rounds`, and SHA-crypt with
 #: up to 75,000 rounds for any password and up to 1,000,000 for passwords of up to 40 bytes.
 DEFAULT_BUDGET = 150_000_000
 
@@ -92,7 +92,7 @@ class Refused(ValueError):
 
 
 class TooCostly(Refused):
-    """What was asked for can cost `cost`, and the budget is `budget`. Nothing was hashed. str() leaves the cost out."""
+    """The hash can cost `cost`, more than `budget`, so nothing was hashed. str() leaves the cost out."""
 
     def __init__(self, cost: int, budget: int) -> None:
         super().__init__(Reason.OVER_BUDGET)
@@ -108,7 +108,7 @@ class TooCostly(Refused):
 class Verdict:
     """What login() and verify_and_update() return: (matches, new), which is true exactly if the password matches.
 
-    Compared with a bool or None it is what its truth is. json.dumps() and a set refuse it: give them bool(result).
+    It equals True, or both False and None. json.dumps() and a set refuse it: give them bool(result).
     """
 
     # Without a __dict__ and fields by name, so that no encoder makes an object of it, which would always be true.
@@ -151,14 +151,16 @@ class Work(NamedTuple):
 def hash(
     password: Text, method: str = "sha512crypt", *, rounds: Optional[int] = None, budget: float = DEFAULT_BUDGET
 ) -> str:
-    """Hash a new password, with a salt from the system. The result is a str, also for a password of bytes.
+    """Hash a new password, with a salt from the system.
+
+    Without `rounds` it makes 5000 rounds of sha512crypt, which are too few today: give rounds=656000, as login() assumes.
+
+    >>> hash("password", rounds=656000).startswith("$6$rounds=656000$")
+    True
 
     `method` is "sha512crypt", "sha256crypt", "scrypt" or "md5crypt". `rounds` is the number of rounds of SHA-crypt, 1000
-    to 999999999; for scrypt it is 6 to 11, for N = 2^(rounds + 7), r = 32 and p = 1. None and 0 stand for the method's
-    own, 7 or 5000, which is too few today: give 656000. md5crypt ignores it.
-
-    >>> hash("password", rounds=20000).startswith("$6$rounds=20000$")
-    True
+    to 999999999; for scrypt it is 6 to 11, for N = 2^(rounds + 7), r = 32 and p = 1. None and 0 stand for 5000, or for 7
+    with scrypt. md5crypt ignores it. The result is a str, also for a password of bytes.
 
     Raises TooCostly if the hash costs more than the budget, so that what is made passes verify() with the same budget;
     ValueError for other rounds of SHA-crypt, and TypeError for a bool; Refused for an unknown method or rounds that scrypt
@@ -218,7 +220,7 @@ def verify(password: Text, stored: Text, *, budget: float = DEFAULT_BUDGET) -> b
     """Whether the password matches the stored hash.
 
     It is True only for a match. It is False for a wrong password, for a hash that was cut but has a valid setting, and if
-    the stored field is empty or begins with "!" or "*", as that of an account without a password or of a locked one.
+    the stored field is empty or begins with "!" or "*", as for an account without a password or a locked one.
 
     >>> verify("password", "$1$xxxxxxxx$UYCIxa628.9qXjpQCjM4a.")
     True
@@ -248,7 +250,8 @@ def verify_and_update(
 ) -> Verdict:
     """Whether the password matches, and a new hash to store if it does and needs_rehash() is true of the stored one.
 
-    The result is (matches, new), which is true exactly if the password matches.
+    The result is (matches, new), which is true exactly if the password matches. Give the rounds of your new hashes, 656000:
+    without `rounds` the new hash has 5000.
 
     >>> verify_and_update("password", "$1$xxxxxxxx$UYCIxa628.9qXjpQCjM4a.", "md5crypt")
     Verdict(matches=True, new=None)
@@ -277,8 +280,8 @@ def verify_and_update(
 def needs_rehash(stored: Text, method: str = "sha512crypt", rounds: Optional[int] = None) -> bool:
     """Whether hash() with this method and rounds would replace the stored hash.
 
-    So it is if the method is another one, whatever the stored hash costs, or the same with more rounds, or for scrypt with a
-    greater N * r * p. It is False for a hash with more rounds than these, and for an empty or locked field.
+    It is True if the method is another one, whatever the stored hash costs, or the same with more rounds, or for scrypt with
+    a greater N * r * p. It is False for a hash with more rounds than these, and for an empty or locked field.
 
     >>> needs_rehash("$6$rounds=20000$salt$x", rounds=10000)
     False
@@ -306,7 +309,7 @@ def cost(stored: Text, password_len: int) -> int:
 
 
 def work(stored: Text, password_len: int) -> Work:
-    """The same in five counts.
+    """The most work of a hash with this setting, in five counts.
 
     >>> work("$1$xxxxxxxx$UYCIxa628.9qXjpQCjM4a.", 8)
     Work(digests=1002, bytes=36239, mixes=0, table=0, scratch=0)
@@ -342,6 +345,8 @@ methods = [METHOD_SHA512, METHOD_SHA256, METHOD_MD5]
 def mksalt(method: Optional[_Method] = None, *, rounds: Optional[int] = None) -> str:
     """A new setting for crypt(), as the standard library's crypt.mksalt() made it up to Python 3.12.
 
+    For a hash to store give rounds=656000: without `rounds` there are 5000.
+
     >>> mksalt(METHOD_SHA256, rounds=20000).startswith("$5$rounds=20000$")
     True
     """
@@ -363,15 +368,15 @@ def crypt(word: Text, salt: Union[Text, _Method, None] = None, *, budget: float 
     """The hash of `word` with a setting, as the standard library's crypt.crypt() made it up to Python 3.12.
 
     `salt` is a setting or a stored hash; one of `methods`, for a new salt; or None, for the first of them. If it is not a
-    setting of these methods, the result is "*0" ("*1" if the salt begins with "*0"), which no password matches; so it is
-    for "$2b$" and all others that crypt(3) may know besides. Prefer verify(), which tells them apart.
+    setting of these methods, the result is "*0" ("*1" if the salt begins with "*0"), which no password matches; also for
+    "$2b$" and all others that crypt(3) may know. Prefer verify(), which tells them apart.
 
     >>> crypt("password", "$1$xxxxxxxx$")
     '$1$xxxxxxxx$UYCIxa628.9qXjpQCjM4a.'
     >>> crypt("password", "!")
     '*0'
 
-    Unlike the standard library's it raises TooCostly if the hash costs more than the budget, and takes bytes too. The
+    Unlike the standard library's, it raises TooCostly if the hash costs more than the budget, and takes bytes too. The
     result is always a str, so decode a field of bytes before you compare them.
     """
     if salt is None or isinstance(salt, _Method):

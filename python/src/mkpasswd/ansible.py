@@ -14,7 +14,10 @@ __all__ = ["FilterModule"]
 def mkpasswd_hash(
     password: Any, method: str = "sha512crypt", rounds: Optional[int] = None, current: Optional[str] = None
 ) -> str:
-    """A hash of the password: `current`, if that matches and is not outdated, so that a task changes nothing then."""
+    """A hash of the password: `current`, if that matches and is not outdated, so that a task changes nothing then.
+
+    Give rounds, 656000: without them there are 5000, too few today.
+    """
     try:
         word = _text(password)
         if current is not None:
