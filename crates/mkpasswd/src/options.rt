@@ -22,7 +22,7 @@ const DEFAULT_TYPE: &str = "sha512crypt";
 
 // The words of help: its first line, those of each argument, and its last line.
 const ABOUT: &str =
-    "Prints the crypt(5) hash of a password, and hashes, checks or audits the lines of a file";
+    "Prints a password's crypt(5) hash, and hashes, checks or audits lines of a file";
 
 const METHOD_HELP: &str =
     "The method: md5crypt, sha256crypt, sha512crypt (the\ndefault) or scrypt; help lists them";
@@ -31,7 +31,7 @@ const SALT_HELP: &str =
     "The salt: up to 8 (md5crypt), 16 or 86 (scrypt)\nletters, digits, '.' and '/'; else a new one";
 
 const ROUNDS_HELP: &str =
-    "The cost: rounds of sha256crypt and sha512crypt,\ntoday 656000; 6 to 11 for scrypt; 0: the method's own";
+    "The cost: for sha256crypt and sha512crypt rounds,\n656000 for a hash to store (default 5000); for scrypt\n6 to 11 (default 7); 0 is the default";
 
 const STDIN_HELP: &str =
     "The password is the first line of standard input,\nand empty without any input";
@@ -41,10 +41,10 @@ const BATCH_HELP: &str = "Hash the password of each line of standard input:\nnam
 const CHECK_HELP: &str = "Check the password of each line of standard input:\nname:field:password";
 
 const AUDIT_HELP: &str =
-    "Say for each line of standard input what its hash is like:\nname:field, or name:field: and anything";
+    "Tell what each hash of a shadow file on standard input\nis like: current, outdated by -m and -R, over --budget,\nmalformed ..; the status is 1 if one needs care";
 
 const REHASH_HELP: &str =
-    "With --check, a new hash for each password that fits a\nhash of another method or a lower cost";
+    "With --check, a new hash for each password that matches\na hash of another method or a lower cost";
 
 const WORK_HELP: &str = "Show what the hash cost: digests, bytes, mixings,\nbytes of table";
 
@@ -53,11 +53,11 @@ const BUDGET_HELP: &str =
 
 const FIRST_LINE_HELP: &str = "The number of the first line in messages about lines";
 
-const PASSWORD_HELP: &str = "The password, of at most 1,024 bytes; without it, as by --stdin";
+const PASSWORD_HELP: &str = "The password, of at most 1,024 bytes; without it, as with --stdin";
 
 const SALT_WORD_HELP: &str = "The salt, in place of --salt";
 
-const AFTER_HELP: &str = "A password that begins with '-' is handed in by --stdin.";
+const AFTER_HELP: &str = "Pass a password that begins with '-' by --stdin.";
 
 // What `clap` finds in the arguments. Clauses see its rows, one for each argument that is given.
 #[derive(Drop)]
