@@ -32,9 +32,9 @@
  * - 64 KiB of stack are free. A call uses some 25 KiB.
  *
  * The calls that hash wipe the stack that they used, the memory that they free, and, where the library's compiler can, the
- * registers, but not the vector registers that AVX-512 adds. The caller's copies of the password, and of a hash, are the caller's to wipe.
- * The calls don't hide from a clock what they work on: scrypt reads its table at places that depend on the password. A hash of
- * the stored one's length is compared to its last byte, wherever the two differ. */
+ * registers, but not the vector registers that AVX-512 adds. The caller's copies of the password, and of a hash, are the
+ * caller's to wipe. The calls don't hide from a clock what they work on: scrypt reads its table at places that depend on the
+ * password. A hash of the stored one's length is compared to its last byte, wherever the two differ. */
 #ifndef MKPASSWD_H
 #define MKPASSWD_H
 
