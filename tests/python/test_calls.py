@@ -347,15 +347,6 @@ def test_the_truth_of_verify_and_update_is_that_of_the_match():
         assert not changed
 
 
-def test_a_rehash_above_the_budget_locks_nobody_out():
-    """A match costs too much only together with the new hash: the old one stays. As docs/PYTHON.md has it, with 82 bytes."""
-    scrypt = libxcrypt("password", "$7$CU..../....salt")
-    for password, stored in ("password", scrypt), ("x" * 82, hash("x" * 82)), ("x" * 1024, hash("x" * 1024)):
-        assert verify_and_update(password, stored, rounds=656_000) == (True, None)
-        assert verify_and_update("y" + password[1:], stored, rounds=656_000) == (False, None)
-    assert verify_and_update("password", scrypt, rounds=656_000, budget=2 * mkpasswd.DEFAULT_BUDGET)[1].startswith("$6$")
-
-
 NEW = {
     "md5crypt": {None: "$1$", 5: "$1$"},
     "sha256crypt": {None: "$5$", 0: "$5$", 1000: "$5$rounds=1000$"},
