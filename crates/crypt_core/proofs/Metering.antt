@@ -5,7 +5,7 @@ use Rattle.std.proofs.lemmas.List.{length-append}
 use Rattle.std.proofs.lemmas.List.Sums.{sum_by-append}
 use Rattle.prims_core.specs.Meter.{with_work, HaveCountAndSum}
 use Rattle.prims_core.specs.declared.meter.Work.{Work}
-use Rattle.crypt_core.specs.Private.Counting.{with_digest}
+use Rattle.crypt_core.specs.Private.Messages.{with_digest}
 
 -- the meter after the digest of each message
 abbrev pub with_digests : Work → List (List ℕ) → Work

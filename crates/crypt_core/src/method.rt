@@ -188,13 +188,6 @@ mod tests {
     }
 
     #[test]
-    fn each_name_names_its_method(rt: HostRuntime) {
-        for method in METHODS {
-            assert_eq!(rt; Method::named(method.name()), Some(method));
-        }
-    }
-
-    #[test]
     fn four_numbers_stand_for_methods(rt: HostRuntime) {
         let cases = [
             (1, Some(Method::Md5crypt)),

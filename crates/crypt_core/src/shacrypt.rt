@@ -11,7 +11,7 @@ ghost use Rattle.crypt_core.specs.Passwords.{password_limit};
 ghost use Rattle.crypt_core.specs.RoundMessage.{alternate_message};
 ghost use Rattle.crypt_core.specs.Rounds.{max_rounds, min_rounds};
 ghost use Rattle.crypt_core.specs.ShaCrypt.{sha_opening, sha_opening_byte, sha_opening_message, shacrypt_digest};
-ghost use Rattle.crypt_core.specs.Private.Counting.{with_digest};
+ghost use Rattle.crypt_core.specs.Private.Messages.{with_digest};
 ghost use Rattle.crypt_core.specs.Work.{work_limit, shacrypt_bytes};
 
 use crate::messages::{

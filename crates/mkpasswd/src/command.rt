@@ -40,8 +40,8 @@ const FAULT_LINE_ROOM: usize = 80;
 /// gets `clap`'s message instead, without a tip to pass an option as a value. Help and the version go to `out`.
 ///
 /// Without a generator a plan that hashes or audits is not run, and the message is `start fault`. The list of the
-/// methods, help, the version and invalid arguments need no generator. If the message about an error cannot be written, the status
-/// alone reports the error. If help or the version cannot be written in full, that is an error with status 3.
+/// methods, help, the version and invalid arguments need no generator. If the message about an error cannot be written,
+/// the status alone reports the error. If help or the version cannot be written in full, that is an error with status 3.
 ///
 /// The run, or `clap`'s message, takes at most `turns` I/O calls. The line of an error is not among them, and takes at
 /// most as many calls as it has bytes.

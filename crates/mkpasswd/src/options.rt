@@ -41,7 +41,7 @@ const BATCH_HELP: &str = "Hash the password of each line of standard input:\nnam
 const CHECK_HELP: &str = "Check the password of each line of standard input:\nname:field:password";
 
 const AUDIT_HELP: &str =
-    "Tell what each hash of a shadow file on standard input\nis like: current, outdated by -m and -R, over --budget,\nmalformed ..; the status is 1 if one needs care";
+    "Audit each line name:field of standard input, such as\n/etc/shadow: is its hash current, outdated (by -m, -R),\nover budget, malformed, ..; status 1 if one needs care";
 
 const REHASH_HELP: &str =
     "With --check, a new hash for each password that matches\na hash of another method or a lower cost";

@@ -1,5 +1,4 @@
--- A run of audits makes no hash, so it draws nothing, counts nothing and lacks no memory; and what it finds holds for
--- later checks.
+-- A run of audits makes no hash, so it draws nothing, counts nothing and lacks no memory.
 use Rattle.std.specs.Prelude.{◌≢◌}
 use Rattle.std.proofs.Common.{◌≡◌, ℕ, ◌+◌, List, [], ◌∷◌, ◌++◌, Result, Ok, Err, inl, inr, refl, sym, ap, ◌∙◌}
 use Rattle.std.proofs.lemmas.List.Concat.{flat_map-append}

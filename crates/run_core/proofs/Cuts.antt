@@ -1,7 +1,7 @@
 -- A text is cut at its first colon in one way, so a line has one name and one list of parts.
 use Rattle.std.proofs.Common.{◌≡◌, ℕ, List, [], ◌∷◌, ◌++◌, Contains, Option, Some, inl, inr, refl, sym, ap, subst, ◌∙◌, arith}
 use Rattle.std.proofs.lemmas.List.Elements.{Contains-append_right}
-use Rattle.run_core.specs.Lines.{HasFront, HasName, HasParts, IsCut, Parts}
+use Rattle.run_core.specs.Lines.{HasFront, HasParts, IsCut, Parts}
 use Rattle.run_core.specs.Texts.{colon}
 use Rattle.run_core.specs.declared.line.Kind.{Kind}
 use Rattle.run_core.specs.declared.line.Kind.TheVariants.{Batch, Check, Audit}
@@ -30,7 +30,7 @@ cut_has_colon text front back cut =
 
 -- ---- names
 
-pub name_unique : (line name other : List ℕ) → HasName line name → HasName line other → name ≡ other
+pub name_unique : (line name other : List ℕ) → HasFront line name → HasFront line other → name ≡ other
 name_unique line name other (inl cut) (inl again) = (cut_unique cut.1 again.1).0
 name_unique line name other (inl cut) (inr whole) =
     absurd (whole.1 (subst (λ (bytes : List ℕ). Contains bytes colon) whole.0 (cut_has_colon line name cut.0 cut.1)))

@@ -1,4 +1,5 @@
--- What a budget and new hashes change of the answers to lines, and that they change nothing for a single password.
+-- What a budget and new hashes change of the answers to lines, that they change nothing for a single password, and what an
+-- audit says of later checks.
 use Rattle.std.proofs.Common.{◌≡◌, ◌↔◌, ℕ, List, Result, inl, inr, refl, sym, ap, subst, ◌∙◌, arith, ◌≤◌, ◌⊎◌, Bool, true, false, true≢false, length, Option, None, Some}
 use Rattle.std.specs.Prelude.{◌≢◌}
 use Rattle.std.proofs.lemmas.Option.{none-some}
@@ -206,9 +207,6 @@ foreseen job field kept line parts spells once within has is costly =
     ]
 
 pub foresees : (job : Job) → Foresees job
-foresees job field (Hash method number Current) (kept, spells, is_method, is_number, standing) within line parts has is =
-    foreseen job field kept line parts spells (one_reading field) standing.0 has is
-foresees job field (Hash method number Outdated) (kept, spells, is_method, is_number, standing) within line parts has is =
-    foreseen job field kept line parts spells (one_reading field) standing.0 has is
-foresees job field (Hash method number OverBudget) finds within line parts has is = absurd within
-foresees job field finding finds within line parts has is = absurd within
+foresees job field method most OverBudget finds other line parts has is = absurd (other refl)
+foresees job field method most standing (kept, spells, is_method, is_number, stands) other line parts has is =
+    foreseen job field kept line parts spells (one_reading field) stands.0 has is

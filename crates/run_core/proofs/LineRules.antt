@@ -14,7 +14,7 @@ use Rattle.crypt_core.specs.declared.password.PasswordFault.{PasswordFault}
 use Rattle.crypt_core.specs.declared.password.PasswordFault.TheVariants.{TooLong, HasNul}
 use Rattle.crypt_core.specs.declared.setting.fault.SettingFault.{SettingFault}
 use Rattle.run_core.specs.Texts.{colon}
-use Rattle.run_core.specs.Lines.{BreaksLine, HasFront, HasName, HasParts, IsLineRefused, IsSound, Parts, line_faults, line_limit, name_limit}
+use Rattle.run_core.specs.Lines.{BreaksLine, HasFront, HasParts, IsLineRefused, IsSound, Parts, line_faults, line_limit, name_limit}
 use Rattle.run_core.specs.Private.Lines.{HasBehind, HasSoundParts, IsCutOrWhole, IsGoodName, IsNamed, IsTooLong, LacksParts, account_parts}
 use Rattle.run_core.specs.declared.line.Kind.{Kind}
 use Rattle.run_core.specs.declared.line.Kind.TheVariants.{Batch, Check, Audit}
@@ -25,15 +25,15 @@ use Rattle.run_core.proofs.Cuts.{cut_unique, cut_has_colon, name_unique, parts_u
 
 -- ---- names
 
-pub name_of_cut : (line name : List ℕ) (back : Option (List ℕ)) → IsCutOrWhole line name back → HasName line name
+pub name_of_cut : (line name : List ℕ) (back : Option (List ℕ)) → IsCutOrWhole line name back → HasFront line name
 name_of_cut line name None whole = inr whole
 name_of_cut line name (Some back) cut = inl (back, cut)
 
-name_of_parts : (kind : Kind) (line : List ℕ) (parts : Parts) → HasParts kind line parts → HasName line parts.name
+name_of_parts : (kind : Kind) (line : List ℕ) (parts : Parts) → HasParts kind line parts → HasFront line parts.name
 name_of_parts Batch line parts cut = inl (parts.password, cut.0)
 name_of_parts kind line parts cut = inl (cut.1, cut.2)
 
-module _ (kind : Kind) (line name : List ℕ) (short : length line ≤ line_limit) (good : IsGoodName name) (has : HasName line name) where
+module _ (kind : Kind) (line name : List ℕ) (short : length line ≤ line_limit) (good : IsGoodName name) (has : HasFront line name) where
   -- a line with a good name breaks none of the rules on lengths and names
   kept_length : ¬ BreaksLine kind LineTooLong line
   kept_length long = omega (arith, short, long)
@@ -56,7 +56,7 @@ pub refused_for_no_name : (kind : Kind) (line name : List ℕ) (back : Option (L
     → length name ≡ 0 → IsLineRefused kind line NoName
 unfolding IsLineRefused
 refused_for_no_name kind line name back short cut none =
-    inr ((λ long. omega (arith, short, long)), inl (refl, subst (HasName line) (nil_from_length name none) (name_of_cut line name back cut)))
+    inr ((λ long. omega (arith, short, long)), inl (refl, subst (HasFront line) (nil_from_length name none) (name_of_cut line name back cut)))
 
 pub refused_for_long_name : (kind : Kind) (line name : List ℕ) (back : Option (List ℕ)) → length line ≤ line_limit → IsCutOrWhole line name back
     → name_limit < length name → IsLineRefused kind line NameTooLong
@@ -157,7 +157,7 @@ sound_entry : (kind : Kind) (line : List ℕ) (parts : Parts) → IsEntry kind l
     → ((fault : SettingFault) (field : List ℕ) → kind ≢ Audit → parts.field ≡ Some field → IsFieldRefused field fault → ⊥) → IsSound kind line
 sound_entry kind line parts entry right fault breaks = go fault breaks
   where
-    has : HasName line parts.name
+    has : HasFront line parts.name
     has = name_of_parts kind line parts entry.cut
 
     go : (fault : LineFault) → ¬ BreaksLine kind fault line

@@ -20,12 +20,12 @@ use Rattle.run_core.specs.declared.job.Job.{Job}
 
 -- ---- the findings
 
--- audit_cost kept is the cost of a check with this setting of a password of the greatest length.
+-- audit_cost kept is the cost of hashing a password of the greatest length with this setting.
 abbrev pub audit_cost : SettingValue → ℕ
 audit_cost kept = cost kept password_limit
 
 -- HasStanding job kept standing: a hash with this setting has this standing.
---   OverBudget  a check of it can cost more than the budget
+--   OverBudget  hashing a password with it can cost more than the budget
 --   Outdated    it can't, and the job's scheme replaces that of the setting
 --   Current     it can't, and the job's scheme doesn't
 abbrev pub HasStanding : Job → SettingValue → Standing → Type 0
@@ -37,20 +37,20 @@ HasStanding job kept Current = (¬ IsAbove job.budget (audit_cost kept)) × (is_
 --   Hash       the field spells a setting, with this method, this cost and this standing
 --   NoHash     it is empty
 --   Locked     it begins with `!` or `*`
---   Unknown    it begins with the prefix of no method, such as a hash of yescrypt
---   Malformed  it breaks another rule of a setting, and this is the first
+--   Unknown    the first rule that it breaks as a setting is `UnknownScheme`, as by a hash of yescrypt
+--   Malformed  the first rule that it breaks as a setting is another one
 abbrev pub Finds : Job → List ℕ → Finding → Type 0
-Finds job field (Hash method number standing) = (kept : SettingValue) × Spells field kept
-    × (method ≡ method_of kept.scheme) × (number ≡ audit_cost kept) × HasStanding job kept standing
+Finds job field (Hash method most standing) = (kept : SettingValue) × Spells field kept
+    × (method ≡ method_of kept.scheme) × (most ≡ audit_cost kept) × HasStanding job kept standing
 Finds job field NoHash = field ≡ []
 Finds job field Locked = IsLocked field
 Finds job field Unknown = IsStored field × IsRefused field UnknownScheme
 Finds job field (Malformed fault) = IsStored field × IsRefused field fault × (fault ≢ UnknownScheme)
 
--- needs_care finding is true if the account needs care: its hash is out of date or costs too much, is malformed, or
--- there is none.
+-- needs_care finding is true if the account needs care: its hash is out of date, can cost more than the budget or is
+-- malformed, or it has none.
 abbrev pub needs_care : Finding → Bool
-needs_care (Hash method number Current) = false
+needs_care (Hash method most Current) = false
 needs_care Locked = false
 needs_care Unknown = false
 needs_care finding = true
@@ -65,7 +65,7 @@ standing_text OverBudget = codes "over budget"
 
 -- finding_text finding is the finding as it is printed after the name.
 abbrev pub finding_text : Finding → List ℕ
-finding_text (Hash method number standing) = (method_row method).name ++ colon ∷ decimal number ++ colon ∷ standing_text standing
+finding_text (Hash method most standing) = (method_row method).name ++ colon ∷ decimal most ++ colon ∷ standing_text standing
 finding_text NoHash = codes "none"
 finding_text Locked = codes "locked"
 finding_text Unknown = codes "unknown"

@@ -31,7 +31,7 @@ HasCost job parts number =
     ⊎ ((field : List ℕ) × (kept : SettingValue) × (parts.field ≡ Some field) × Spells field kept
     × (number ≡ check_cost job kept (length parts.password)))
 
--- IsCostly kind job line: the line breaks no rule, and can cost more than the budget.
+-- IsCostly kind job line: the line, which is to be hashed or checked, breaks no rule, and can cost more than the budget.
 pub record IsCostly (kind : Kind) (job : Job) (line : List ℕ) : Type 0 where
   pub parts : Parts
   pub sound : IsSound kind line
@@ -44,8 +44,8 @@ pub record IsCostly (kind : Kind) (job : Job) (line : List ℕ) : Type 0 where
 abbrev pub HasSetting : Parts → List ℕ → SettingValue → Type 0
 HasSetting parts field kept = (parts.field ≡ Some field) × Spells field kept
 
--- ComesTo job parts stream outcome made: a line to hash or to check with these parts has this outcome. The hashes `made` are made for it,
--- in order.
+-- ComesTo job parts stream outcome made: a line to hash or to check with these parts has this outcome. The hashes `made`
+-- are made for it, in order.
 --   Hashed    there is no field, and the password is hashed with a setting that the job makes
 --   NoHash    the field is empty
 --   Locked    the field begins with `!` or `*`
@@ -69,7 +69,7 @@ ComesTo job parts stream (Audited finding) made = ⊥
 -- ---- answers
 
 -- answer_of job name outcome made is the answer to a line with this name and this outcome, for which these hashes are
--- made: the name, the outcome, and the counts of the hashes' work if it shows them.
+-- made: the name, the outcome, and the counts of the hashes' work if the outcome shows them.
 abbrev pub answer_of : Job → List ℕ → Outcome → List Hashing → Answer
 answer_of job name outcome made = record {
   text = as_line (name ++ colon ∷ rendered outcome ++ counts_text (shows_work outcome job.work) made);

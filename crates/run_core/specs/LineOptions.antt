@@ -1,18 +1,19 @@
 -- What a budget and rehashes change in the answers to lines, and what they leave unchanged; and what an audit says of
 -- later checks.
-use Rattle.std.specs.Prelude.{◌≡◌, ℕ, ◌⊎◌, ◌↔◌, ⊤, List, true, Some}
+use Rattle.std.specs.Prelude.{◌≡◌, ◌≢◌, ℕ, ◌⊎◌, ◌↔◌, List, true, Some}
 use Rattle.rand_core.specs.Stream.{Stream}
 use Rattle.crypt_core.specs.Crypt.{crypt}
 use Rattle.crypt_core.specs.Settings.{SettingValue}
 use Rattle.crypt_core.specs.StoredFields.{IsStored}
+use Rattle.crypt_core.specs.declared.method.Method.{Method}
 use Rattle.run_core.specs.Answers.{Answer}
 use Rattle.run_core.specs.Audits.{Finds}
 use Rattle.run_core.specs.JobOptions.{is_outdated, without_budget, without_rehash}
 use Rattle.run_core.specs.LineAnswers.{HasSetting, IsAnswer, IsCostly, refusal}
 use Rattle.run_core.specs.Lines.{HasParts, IsSound, Parts}
-use Rattle.run_core.specs.declared.audit.Finding.{Finding}
 use Rattle.run_core.specs.declared.audit.Finding.TheVariants.{Hash}
-use Rattle.run_core.specs.declared.audit.Standing.TheVariants.{Current, Outdated}
+use Rattle.run_core.specs.declared.audit.Standing.{Standing}
+use Rattle.run_core.specs.declared.audit.Standing.TheVariants.{OverBudget}
 use Rattle.run_core.specs.declared.job.Job.{Job}
 use Rattle.run_core.specs.declared.line.Kind.{Kind}
 use Rattle.run_core.specs.declared.line.Kind.TheVariants.{Check}
@@ -58,15 +59,10 @@ RenewsNone kind job = (number : ℕ) → (line : List ℕ) → (stream : Stream)
 
 -- ---- audits
 
--- IsWithinBudget finding: the field is a hash, and no check of it exceeds the budget.
-abbrev pub IsWithinBudget : Finding → Type 0
-IsWithinBudget (Hash method number Current) = ⊤
-IsWithinBudget (Hash method number Outdated) = ⊤
-IsWithinBudget finding = ⊥
-
--- Foresees job: if an audit finds that a field is within the budget, then no line with this field is over the same
+-- Foresees job: if an audit finds that a field is a hash within the budget, then no line with this field is over the same
 -- budget in a check without rehashes, whatever its password is.
 abbrev pub Foresees : Job → Type 0
-Foresees job = (field : List ℕ) → (finding : Finding) → Finds job field finding → IsWithinBudget finding
+Foresees job = (field : List ℕ) → (method : Method) → (most : ℕ) → (standing : Standing)
+    → Finds job field (Hash method most standing) → standing ≢ OverBudget
     → (line : List ℕ) → (parts : Parts) → HasParts Check line parts → parts.field ≡ Some field
     → ¬ IsCostly Check (without_rehash job) line

@@ -20,12 +20,8 @@ IsCut text front back = (text ≡ front ++ colon ∷ back) × ¬ Contains front 
 abbrev pub HasFront : List ℕ → List ℕ → Type 0
 HasFront text front = ((back : List ℕ) × IsCut text front back) ⊎ ((text ≡ front) × ¬ Contains front colon)
 
--- HasName line name: the name is the front of the line.
-abbrev pub HasName : List ℕ → List ℕ → Type 0
-HasName line name = HasFront line name
-
--- A `Parts` holds the parts of a line, which colons separate. A line to hash has no field, and a line to audit no
--- password, so that part is empty.
+-- A `Parts` holds the parts of a line, which colons separate. A line to hash has no field. A line to audit has no
+-- password: that part is empty.
 pub record Parts : Type 0 where
   pub name : List ℕ
   pub field : Option (List ℕ)
@@ -55,11 +51,11 @@ abbrev pub line_faults : List LineFault
 line_faults = LineTooLong ∷ NoName ∷ NameTooLong ∷ NoPassword ∷ map Password password_faults ++ map Setting setting_faults
 
 -- BreaksLine kind fault line: the line breaks the rule of this refusal. The cost of a hash is no rule of the line
--- alone, and what the field to audit is like is the answer.
+-- alone, and a line to audit breaks no rule of a setting: what is wrong with its field is its answer.
 abbrev pub BreaksLine : Kind → LineFault → List ℕ → Type 0
 BreaksLine kind LineTooLong line = line_limit < length line
-BreaksLine kind NoName line = HasName line []
-BreaksLine kind NameTooLong line = (name : List ℕ) × HasName line name × (name_limit < length name)
+BreaksLine kind NoName line = HasFront line []
+BreaksLine kind NameTooLong line = (name : List ℕ) × HasFront line name × (name_limit < length name)
 BreaksLine kind NoPassword line = (parts : Parts) → ¬ HasParts kind line parts
 BreaksLine kind (Password fault) line = (parts : Parts) × HasParts kind line parts × IsPasswordRefused parts.password fault
 BreaksLine kind (Setting fault) line = (kind ≢ Audit)

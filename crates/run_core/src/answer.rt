@@ -8,16 +8,17 @@ ghost use Rattle.crypt_core.specs.Work.{raised_by, work, work_limit};
 ghost use Rattle.prims_core.specs.Meter.{HasRoom};
 ghost use Rattle.prims_core.specs.Work.{IsWithin};
 ghost use Rattle.run_core.specs.Answers.{Answer, is_misfit, new_hash, rendered, shows_work, work_text};
+ghost use Rattle.run_core.specs.Audits.{finding_text};
 ghost use Rattle.run_core.specs.JobOptions.{IsAbove};
 ghost use Rattle.run_core.specs.LineAnswers.{IsAuditAnswer, refusal};
 ghost use Rattle.run_core.specs.Lines.{name_limit};
 ghost use Rattle.run_core.specs.Makers.{bytes_of, next_setting, stream_after};
 ghost use Rattle.run_core.specs.Private.Answers.{Decides, IsRaisedBelow, Renders, Settles, count_text, field_cost, front_by, wanted_text};
-ghost use Rattle.run_core.specs.Private.Headroom.{HasCountsForLine, answer_limit, count_limit, front_limit, line_work_limit};
+ghost use Rattle.run_core.specs.Private.Headroom.{HasCountsForLine, answer_limit, count_limit, finding_limit, front_limit, line_work_limit};
 ghost use Rattle.run_core.specs.Private.Lines.{Represents};
 ghost use Rattle.run_core.specs.Texts.{as_line};
 
-use crate::audit::{Finding, append_finding, audit};
+use crate::audit::{Finding, audit};
 use crate::job::Job;
 use crate::line::{Kind, Line, LineFault, NAME_LIMIT, parse_account, parse_line};
 use crate::reader::buffer::LineBuffer;
@@ -103,7 +104,8 @@ pub(crate) struct Answered<'a> {
 /// Decides the answer to a line, or the reason for its refusal.
 ///
 /// It refuses a line that breaks a rule, or that can cost more than the budget, before it hashes anything. It draws
-/// three random numbers for a salt that it makes; for a rehash it draws them after the verdict.
+/// three random numbers for a salt that it makes; for a rehash it draws them after the verdict. An audit hashes and draws
+/// nothing, and refuses no line for its cost.
 ///
 /// # Errors
 ///
@@ -160,15 +162,12 @@ fn audit_line<'a>(job: &Job, bytes: &'a [u8]) -> Result<Answered<'a>, LineFault>
     }
 }
 
-// Returns whether the line can cost more than the budget. Without a budget it computes no cost.
+// Returns whether the line can cost more than the budget.
 fn is_over_budget(job: &Job, line: &Line<'_>) -> bool
     requires { length line.now.password ≤ password_limit }
     ensures { IsTrue result ↔ IsAbove job.now.budget (field_cost job.now line.now.field (length line.now.password)) }
 {
-    match job.budget {
-        Some(budget) => cost_of(job, line) > budget,
-        None => false,
-    }
+    job.is_exceeded_by(cost_of(job, line))
 }
 
 // Returns the greatest cost of the hashes for the line.
@@ -264,7 +263,7 @@ pub(crate) fn render_refusal(number: u64, fault: &LineFault) -> Text
 
 /// Returns the output line of an outcome.
 ///
-/// It has the name and a colon, the outcome, the counts if it shows them, and a line feed.
+/// It has the name and a colon, the outcome, the counts if the outcome shows them, and a line feed.
 pub(crate) fn render(job: &Job, name: Option<&[u8]>, outcome: &Outcome, work: &Work) -> Text
     requires { length (front_by (bytes_of name)) ≤ front_limit }
     ensures { result.items ≡ as_line (front_by (bytes_of name.entry) ++ (rendered outcome.now ++ wanted_text (shows_work outcome.now job.now.work) work.now)) }
@@ -293,6 +292,33 @@ pub(crate) fn render(job: &Job, name: Option<&[u8]>, outcome: &Outcome, work: &W
     text
 }
 
+// Appends the text of a finding.
+fn append_finding(text: &mut Text, finding: &Finding)
+    requires { array_vec_len text.old + finding_limit ≤ answer_limit }
+    ensures text { text.new.items ≡ text.old.items ++ finding_text finding.now }
+    ensures short { array_vec_len text.new ≤ array_vec_len text.old + finding_limit }
+{
+    match finding {
+        Finding::Hash {
+            method,
+            most,
+            standing,
+        } => {
+            append(text, method.name());
+            append_count(text, *most);
+            text.push(b':');
+            append(text, standing.text());
+        }
+        Finding::NoHash => append(text, b"none"),
+        Finding::Locked => append(text, b"locked"),
+        Finding::Unknown => append(text, b"unknown"),
+        Finding::Malformed(fault) => {
+            append(text, b"malformed:");
+            append(text, fault.text().as_bytes());
+        }
+    }
+}
+
 // Appends `:digests:bytes:mixes:table`.
 fn append_counts(text: &mut Text, work: &Work)
     requires { array_vec_len text.old + 4 * count_limit < answer_limit }
@@ -305,8 +331,8 @@ fn append_counts(text: &mut Text, work: &Work)
     append_count(text, work.table);
 }
 
-/// Appends a colon and the count in decimal.
-pub(crate) fn append_count(text: &mut Text, count: u64)
+// Appends a colon and the count in decimal.
+fn append_count(text: &mut Text, count: u64)
     requires { array_vec_len text.old + count_limit ≤ answer_limit }
     ensures count { text.new.items ≡ text.old.items ++ count_text count }
     ensures few { array_vec_len text.new ≤ array_vec_len text.old + count_limit }
@@ -315,8 +341,8 @@ pub(crate) fn append_count(text: &mut Text, count: u64)
     append(text, Buffer::new().format(count).as_bytes());
 }
 
-/// Appends bytes that fit into the remaining capacity.
-pub(crate) fn append(text: &mut Text, bytes: &[u8])
+// Appends bytes that fit into the remaining capacity.
+fn append(text: &mut Text, bytes: &[u8])
     requires { array_vec_len text.old + length bytes.now ≤ answer_limit }
     ensures { text.new.items ≡ text.old.items ++ bytes.now }
 {

@@ -1,11 +1,7 @@
 //! Audits of stored fields, without any password.
-ghost use Rattle.std.specs.Prelude.{◌≡◌, ◌+◌, ◌≤◌, ◌++◌, ◌↔◌, IsTrue};
-ghost use Rattle.arrayvec.specs.ArrayVec.{array_vec_len};
-ghost use Rattle.run_core.specs.Audits.{Finds, finding_text, needs_care, standing_text};
-ghost use Rattle.run_core.specs.JobOptions.{IsAbove};
-ghost use Rattle.run_core.specs.Private.Headroom.{answer_limit, finding_limit};
+ghost use Rattle.std.specs.Prelude.{◌≡◌};
+ghost use Rattle.run_core.specs.Audits.{Finds, needs_care, standing_text};
 
-use crate::answer::{Text, append, append_count};
 use crate::job::Job;
 use crypt_core::method::Method;
 use crypt_core::password::PASSWORD_LIMIT;
@@ -16,15 +12,19 @@ use crypt_core::work::cost;
 /// What an audit finds in a field.
 #[derive(Clone, Copy)]
 pub(crate) enum Finding {
-    /// A hash of this method, the greatest cost of a check of it, in bytes digested and mixed, and its standing.
-    Hash(Method, u64, Standing),
+    /// A hash of this method, with the greatest cost of hashing a password with its setting, in bytes digested and mixed.
+    Hash {
+        method: Method,
+        most: u64,
+        standing: Standing,
+    },
     /// The field is empty.
     NoHash,
     /// The field begins with `!` or `*`.
     Locked,
-    /// The field begins with the prefix of no method, such as a hash of yescrypt.
+    /// The first rule that the field breaks as a setting is `UnknownScheme`, as by a hash of yescrypt.
     Unknown,
-    /// The field breaks another rule of a setting.
+    /// The first rule that the field breaks as a setting is another one.
     Malformed(SettingFault),
 }
 
@@ -35,7 +35,7 @@ pub(crate) enum Standing {
     Current,
     /// The job's settings replace its setting.
     Outdated,
-    /// A check of it can cost more than the budget.
+    /// Hashing a password with its setting can cost more than the budget.
     OverBudget,
 }
 
@@ -45,15 +45,20 @@ impl Finding {
         ensures { result ≡ needs_care self.now }
     {
         match self {
-            Finding::Hash(_, _, Standing::Current) | Finding::Locked | Finding::Unknown => false,
-            Finding::Hash(..) | Finding::NoHash | Finding::Malformed(_) => true,
+            Finding::Hash {
+                standing: Standing::Current,
+                ..
+            }
+            | Finding::Locked
+            | Finding::Unknown => false,
+            Finding::Hash { .. } | Finding::NoHash | Finding::Malformed(_) => true,
         }
     }
 }
 
 impl Standing {
-    // Returns the text of the standing.
-    fn text(&self) -> &'static [u8]
+    /// Returns the text of the standing.
+    pub(crate) fn text(&self) -> &'static [u8]
         ensures text { result.now ≡ standing_text self.now }
     {
         match self {
@@ -83,45 +88,16 @@ fn audit_hash(job: &Job, stored: &StoredHash<'_>) -> Finding
 {
     let setting = stored.setting();
     let most = cost(setting, PASSWORD_LIMIT);
-    let standing = if exceeds(job.budget, most) {
+    let standing = if job.is_exceeded_by(most) {
         Standing::OverBudget
     } else if job.replaces(setting) {
         Standing::Outdated
     } else {
         Standing::Current
     };
-    Finding::Hash(setting.method(), most, standing)
-}
-
-// Returns whether the cost exceeds the budget, if there is one.
-fn exceeds(budget: Option<u64>, cost: u64) -> bool
-    ensures { IsTrue result ↔ IsAbove budget cost }
-{
-    match budget {
-        Some(budget) => cost > budget,
-        None => false,
-    }
-}
-
-/// Appends the text of a finding.
-pub(crate) fn append_finding(text: &mut Text, finding: &Finding)
-    requires { array_vec_len text.old + finding_limit ≤ answer_limit }
-    ensures text { text.new.items ≡ text.old.items ++ finding_text finding.now }
-    ensures short { array_vec_len text.new ≤ array_vec_len text.old + finding_limit }
-{
-    match finding {
-        Finding::Hash(method, most, standing) => {
-            append(text, method.name());
-            append_count(text, *most);
-            text.push(b':');
-            append(text, standing.text());
-        }
-        Finding::NoHash => append(text, b"none"),
-        Finding::Locked => append(text, b"locked"),
-        Finding::Unknown => append(text, b"unknown"),
-        Finding::Malformed(fault) => {
-            append(text, b"malformed:");
-            append(text, fault.text().as_bytes());
-        }
+    Finding::Hash {
+        method: setting.method(),
+        most,
+        standing,
     }
 }

@@ -1,5 +1,5 @@
 //! The job of a run, and the maker of its settings, whose salt is given once or made from random numbers for each hash.
-ghost use Rattle.std.specs.Prelude.{◌≡◌, ◌↔◌, ℕ, ◌^◌, ◌<◌, ◌≤◌, List, Err, IsOk, IfOk, IfErr, is_some, length, not};
+ghost use Rattle.std.specs.Prelude.{◌≡◌, ◌↔◌, ℕ, ◌^◌, ◌<◌, ◌≤◌, List, Err, IsOk, IfOk, IfErr, IsTrue, is_some, length, not};
 ghost use Rattle.std.specs.Option.{option_map_or};
 ghost use Rattle.crypt_core.specs.declared.setting.fault.MakeFault.{MakeFault as Fault};
 ghost use Rattle.crypt_core.specs.MadeSettings.{BreaksMake, IsMakeRefused, made_scheme};
@@ -7,7 +7,7 @@ ghost use Rattle.crypt_core.specs.Passwords.{password_limit};
 ghost use Rattle.crypt_core.specs.Replacements.{is_replaced_by};
 ghost use Rattle.crypt_core.specs.Schemes.{method_of};
 ghost use Rattle.crypt_core.specs.Work.{cost};
-ghost use Rattle.run_core.specs.JobOptions.{is_outdated};
+ghost use Rattle.run_core.specs.JobOptions.{IsAbove, is_outdated};
 ghost use Rattle.run_core.specs.Makers.{bytes_of, made_cost_by, next_setting, setting_by, stream_after};
 
 use crypt_core::made_salt::{draw, made_salt_length};
@@ -25,11 +25,11 @@ pub struct Job {
     pub maker: Maker,
     /// Whether a check makes a new hash for each password that matches a stored hash which is out of date.
     pub rehash: bool,
-    /// Whether each output line shows the counts of its work.
+    /// Whether each output line shows the counts of its work. An audit shows none.
     pub work: bool,
     /// The most that a line may cost, in bytes digested and mixed ([`cost`](crypt_core::work::cost)).
     ///
-    /// A single password has no budget.
+    /// A single password has no budget. An audit compares it with the cost of each hash.
     pub budget: Option<u64>,
     /// The number of the first line, by which the messages about refused lines count.
     pub first_line: u32,
@@ -41,6 +41,16 @@ impl Job {
         ensures { result ≡ is_replaced_by setting.now.scheme self.now.maker.scheme }
     {
         setting.scheme().is_replaced_by(&self.maker.scheme())
+    }
+
+    /// Returns whether the cost exceeds the budget, if there is one.
+    pub(crate) fn is_exceeded_by(&self, cost: u64) -> bool
+        ensures { IsTrue result ↔ IsAbove self.now.budget cost }
+    {
+        match self.budget {
+            Some(budget) => cost > budget,
+            None => false,
+        }
     }
 
     /// Returns whether a stored hash is renewed once a password matches it.

@@ -213,11 +213,11 @@ fn fields_after_name(kind: Kind, back: Option<&[u8]>) -> Option<(Option<&[u8]>, 
 {
     match kind {
         Kind::Batch => Some((None, back?)),
-        // A precondition excludes `Audit`.
-        Kind::Check | Kind::Audit => {
+        Kind::Check => {
             let (field, password) = cut(back?)?;
             Some((Some(field), password))
         }
+        Kind::Audit => unreachable!(),
     }
 }
 

@@ -163,23 +163,22 @@ pub fn run_check<I: Read, O: Write, E: Write, R: Rng>(
 
 /// Audits the field of each line `name:field`, or `name:field:` and anything, and writes what it finds to `out`.
 ///
-/// - `name:METHOD:COST:current`: the job's settings do not replace the setting in `field`
-///   ([`Setting::replaced_by`]), and no check of it exceeds the job's `budget`.
-/// - `name:METHOD:COST:outdated`: they replace it, and no check of it exceeds the budget.
-/// - `name:METHOD:COST:over budget`: a check of it can cost more than the budget.
+/// - `name:METHOD:COST:current`: `field` spells a setting that the job's settings do not replace
+///   ([`Setting::replaced_by`]), and COST is within the job's `budget`.
+/// - `name:METHOD:COST:outdated`: they replace it, and COST is within the budget.
+/// - `name:METHOD:COST:over budget`: COST exceeds the budget.
 /// - `name:locked`: `field` begins with `!` or `*`.
 /// - `name:none`: `field` is empty.
-/// - `name:unknown`: `field` begins with the prefix of no method.
-/// - `name:malformed:MESSAGE`: `field` breaks another rule of a setting, first the one with this message
-///   ([`SettingFault`]).
+/// - `name:unknown`: the first rule of a setting that any other `field` breaks is `UnknownScheme`.
+/// - `name:malformed:MESSAGE`: it is another rule, with this message ([`SettingFault`]).
 ///
-/// `field` ends at the second colon, or at the end of the line. METHOD is the name of its method. COST is the cost of a
-/// check of the longest password ([`cost`](crypt_core::work::cost)), and no password costs more. `faults` gets a message
-/// about each line without a name or a field, as by [`run_batch`].
+/// `field` ends at the second colon, or at the end of the line. METHOD is the name of the setting's method. COST is the
+/// cost of hashing a password of 1,024 bytes with it ([`cost`](crypt_core::work::cost)), and no password costs more. A
+/// line that is too long, or has no valid name or no field, is refused as by [`run_batch`].
 ///
-/// The run hashes, allocates and draws nothing. The job's `rehash` and `work` have no effect. The tally counts with the
-/// verdicts `no` the findings `outdated`, `over budget`, `none` and `malformed`. Everything else is as for
-/// [`run_batch`], including the preconditions.
+/// The run hashes, allocates and draws nothing. The job's `rehash` and `work` have no effect. The tally's `misfits` are
+/// the findings `outdated`, `over budget`, `none` and `malformed`. Everything else is as for [`run_batch`], including
+/// the preconditions.
 ///
 /// For example, with sha512crypt the line `ann:$1$xxxxxxxx$UYCIxa628.9qXjpQCjM4a.:19000:0` gives
 /// `ann:md5crypt:1927022:outdated`.
@@ -213,7 +212,8 @@ pub fn run_audit<I: Read, O: Write, E: Write, R: Rng>(
     ensures draws_none { R.stream rng.new ≡ R.stream rng.old }
     ensures hashes_none { meter.new ≡ meter.old }
     ensures allocates_none { result ≢ Err OutOfMemory }
-    ensures longest { (kept : SettingValue) → (length : ℕ) → length ≤ password_limit → cost kept length ≤ audit_cost kept }
+    ensures longest { (kept : SettingValue) → (password_length : ℕ) → password_length ≤ password_limit
+        → cost kept password_length ≤ audit_cost kept }
     ensures foresees { Foresees job.now }
     ensures rehash { RenewsNone Audit job.now }
 {

@@ -32,11 +32,11 @@ pub record IsGoodName (name : List ℕ) : Type 0 where
   pub some : name ≢ []
   pub short : length name ≤ name_limit
 
--- IsCutOrWhole line name back: `name` precedes the first colon, and `back` follows it. A line without a colon is all
--- name.
+-- IsCutOrWhole text front back: `front` precedes the first colon of the text, and `back` follows it. A text without a
+-- colon is all front.
 abbrev pub IsCutOrWhole : List ℕ → List ℕ → Option (List ℕ) → Type 0
-IsCutOrWhole line name (Some back) = IsCut line name back
-IsCutOrWhole line name None = (line ≡ name) × ¬ Contains name colon
+IsCutOrWhole text front (Some back) = IsCut text front back
+IsCutOrWhole text front None = (text ≡ front) × ¬ Contains front colon
 
 -- IsNamed line name back: the line is not too long, and has this valid name.
 pub record IsNamed (line name : List ℕ) (back : Option (List ℕ)) : Type 0 where

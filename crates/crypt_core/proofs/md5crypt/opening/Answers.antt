@@ -4,7 +4,7 @@ use Rattle.std.proofs.Math.Nat.{min_comm}
 use Rattle.std.specs.Prelude.{min}
 use Rattle.crypt_core.specs.Cycle.{digit_pieces}
 use Rattle.crypt_core.specs.Md5crypt.{opening_message}
-use Rattle.crypt_core.specs.Private.Counting.{with_digest}
+use Rattle.crypt_core.specs.Private.Messages.{with_digest}
 use Rattle.crypt_core.proofs.CycleLemmas.{digit_bytes-few}
 use Rattle.crypt_core.proofs.Md5cryptLemmas.{length-digits, length-opening}
 use Rattle.crypt_core.proofs.MessageLists.{length-alternate}

@@ -2,7 +2,7 @@ use Rattle.crypt_core.specs.Passwords.{password_limit}
 use Rattle.std.proofs.Common.{◌≤◌, length, arith, refl, ◌∙◌, ap}
 use Rattle.crypt_core.specs.RoundMessage.{alternate_message}
 use Rattle.crypt_core.specs.ShaCrypt.{sha_opening_message}
-use Rattle.crypt_core.specs.Private.Counting.{with_digest}
+use Rattle.crypt_core.specs.Private.Messages.{with_digest}
 use Rattle.crypt_core.proofs.CycleLemmas.{digit_bytes-few, length-digit_pieces}
 use Rattle.crypt_core.proofs.MessageLists.{length-alternate}
 use Rattle.crypt_core.proofs.Metering.{bytes_more, digest_counted}

@@ -1,4 +1,4 @@
--- How single digests raise a meter, and the strings in the messages of rounds.
+-- What feeding the messages of md5crypt and SHA-crypt counts and holds.
 use Rattle.std.specs.Prelude.{ℕ, List, length}
 use Rattle.prims_core.specs.Meter.{with_work}
 use Rattle.prims_core.specs.declared.meter.Work.{Work}
