@@ -241,6 +241,7 @@ subtest 'several machines' => sub {
         ['that answer with another name', 3, 'SSH_ORIGINAL_COMMAND="{ $SSH_ORIGINAL_COMMAND; } | sed s/^user10:/root:/"'],
         ['that add a refusal', 3, 'SSH_ORIGINAL_COMMAND="($SSH_ORIGINAL_COMMAND); echo mkpasswd: line 1: no name"'],
         ['with no mkpasswd', 3, 'PATH=/nowhere'],
+        ['and commands here are killed', 3, 'sleep 3', '', join '', map { "$_() { timeout -s KILL 1 $_ \"\$@\"; }; " } qw(paste parallel)],
     ) {
         my ($how, $status, $login, $config, $first) = @$_;
         chmod 0755, spew("$scratch/login", "#!/bin/sh\ncd $scratch\n$login\nexec /bin/sh -c \"\$SSH_ORIGINAL_COMMAND\"\n");
