@@ -194,7 +194,9 @@ subtest 'administration' => sub {
         is_run($recipe->($_, env => \%env), 1, '', $told, "$_, with the mkpasswd of whois") for 'good lines', 'known passwords', 'another method';
     }
     mkdir "$scratch/empty";
-    isnt($recipe->($_, dir => "$scratch/empty")->{status}, 0, "$_: without its files") for 'good lines', 'known passwords', 'one password', 'another method';
+    spew("$scratch/empty/password", '');
+    isnt($recipe->($_, dir => "$scratch/empty")->{status}, 0, "$_: without its files, or with an empty one")
+        for 'good lines', 'known passwords', 'one password', 'another method', 'installer', 'cloud-init', 'Ansible';
 
     my %fields = (ann => $old, bob => "!$old", eve => $old, kim => crypt('password', '$6$rounds=656000$ab'), zoe => $costly);
     $accounts->(%fields);
