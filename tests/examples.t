@@ -158,8 +158,9 @@ subtest 'administration' => sub {
     ok($is_made->($line_of->('bob'), 'pass:word', $changed), 'the password of bob is new');
 
     $accounts->(ann => '!', bob => '!', eve => '!');
-    spew("$folder/passwords", "ann:password\nbob:" . 'x' x 83 . "\nsecret\neve:x\n");
-    is_run($recipe->('good lines'), 0, "bob\n", '', 'new passwords for the good lines: the names of the others');
+    spew("$folder/passwords", "ann:password\nbob:\374" . 'x' x 83 . "\nsecret\neve:x\n");
+    my $loaded = $recipe->('good lines', env => { %{ $in{env} }, LC_ALL => 'C.UTF-8' });
+    is_run($loaded, 0, "bob\n", '', 'new passwords for the good lines: the names of the others, without passwords');
     ok($is_made->($line_of->('ann'), 'password', $changed) && $line_of->('bob') eq "bob:!$aged", 'ann alone has a new one');
 
     my $costly = '$6$rounds=999999999$ab$x';
@@ -184,7 +185,15 @@ subtest 'administration' => sub {
         chmod 0755, "$scratch/tools/mkpasswd";
         my %env = (%{ $in{env} }, PATH => "$scratch/tools:$in{env}{PATH}");
         is_run($recipe->('costly hashes', env => \%env), 1, '', $told, 'stored hashes, with a mkpasswd that says: ' . $told =~ s/\n.*//sr);
+        next if $told ne $foreign;
+        is_run($recipe->($_, env => \%env), 1, '', $told, "$_, with the mkpasswd of whois") for 'good lines', 'known passwords', 'another method';
     }
+    mkdir "$scratch/empty";
+    spew("$scratch/empty/password", '');
+    spew("$scratch/empty/hashes.new", "bob:$known\n");
+    isnt($recipe->($_, dir => "$scratch/empty")->{status}, 0, "$_: without its files, or with an empty one")
+        for 'good lines', 'known passwords', 'one password', 'another method', 'installer', 'cloud-init', 'Ansible';
+    is($line_of->('bob'), "bob:!$aged", 'hashes of an earlier run are not loaded');
 
     my %fields = (ann => $old, bob => "!$old", eve => $old, kim => crypt('password', '$6$rounds=656000$ab'), zoe => $costly);
     $accounts->(%fields);

@@ -108,7 +108,7 @@ subtest 'arguments' => sub {
         ['--audit is quick: give it to mkpasswd', '--audit'],
     ) {
         my ($text, @words) = @$_;
-        is_run(run({ stdin => $thirty }, $script, @words), 2, '', "mkpasswd-parallel: $text\n", "@words");
+        is_run(run({ stdin => $thirty, env => { POSIXLY_CORRECT => 1 } }, $script, @words), 2, '', "mkpasswd-parallel: $text\n", "@words");
     }
     my $no_program = run({ env => { PATH => '/nowhere' } }, $^X, $played, '--batch');
     like("$no_program->{status} $no_program->{err}", qr/^3 mkpasswd-parallel: mkpasswd: No such file/, 'no program');
@@ -193,7 +193,7 @@ subtest 'environment' => sub {
     spew("$scratch/lib/POSIX.pm", 'die "not this one"');
     for (
         [PERL_UNICODE => 'SDA'], [PERL_UNICODE => ''], [PERL5OPT => '-CS'], [PERL5OPT => '-Mopen=:std,:utf8'],
-        [PERLIO => ':crlf'], [PERL5LIB => "$scratch/lib"], [LC_ALL => 'C.UTF-8'], [LC_NUMERIC => 'de_DE.UTF-8'],
+        [PERLIO => ':crlf'], [OMP_NUM_THREADS => 5000], [PERL5LIB => "$scratch/lib"], [LC_ALL => 'C.UTF-8'], [LC_NUMERIC => 'de_DE.UTF-8'],
     ) {
         my ($name, $value) = @$_;
         same("$name=$value", { stdin => batch_lines(), env => { LC_ALL => undef, PERL_BADLANG => 0, $name => $value } }, [], @batch);
@@ -241,6 +241,7 @@ subtest 'several machines' => sub {
         ['that answer with another name', 3, 'SSH_ORIGINAL_COMMAND="{ $SSH_ORIGINAL_COMMAND; } | sed s/^user10:/root:/"'],
         ['that add a refusal', 3, 'SSH_ORIGINAL_COMMAND="($SSH_ORIGINAL_COMMAND); echo mkpasswd: line 1: no name"'],
         ['with no mkpasswd', 3, 'PATH=/nowhere'],
+        ['and commands here are killed', 3, 'sleep 3', '', join '', map { "$_() { timeout -s KILL 1 $_ \"\$@\"; }; " } qw(paste parallel)],
     ) {
         my ($how, $status, $login, $config, $first) = @$_;
         chmod 0755, spew("$scratch/login", "#!/bin/sh\ncd $scratch\n$login\nexec /bin/sh -c \"\$SSH_ORIGINAL_COMMAND\"\n");

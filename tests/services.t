@@ -233,6 +233,8 @@ END
         my @same = ('Six', 'six ', "\\73ix");
         spew("$in{dir}/hashes", join '', map { "$_:" . ($of_methods =~ /^one:(.*)/m)[0] . "\n" } @same);
         is_run(run(\%in, 'sh', '-c', marked('OpenLDAP', 'sh')), 0, '', join('', map { "$_\n" } @same), 'OpenLDAP: names that are left out');
+        unlink "$in{dir}/hashes";
+        isnt(run(\%in, 'sh', '-c', marked('OpenLDAP', 'sh'))->{status}, 0, 'OpenLDAP: without hashes');
     });
     are_guarded('OpenLDAP', 8083, sub { @command }, sub {
         my ($name, $password) = @_;
@@ -359,13 +361,14 @@ sub is_hash {
 subtest 'installers' => sub {
     needs('debconf-set-selections' => 'debconf') && needs('debconf-communicate' => 'debconf') or return;
     spew("$in{dir}/password", "$password{ann}\nmore\n");
+    spew("$in{dir}/$_->[0]", $_->[1]) for ['preseed.cfg', 'd-i passwd/make-user boolean true'], ['site.ks', 'reboot'];
     run_recipe('installer');
     is_run(run(\%in, qw(debconf-set-selections --checkonly preseed.cfg)), 0, '', '', 'preseed: debconf has nothing to say');
     run(\%in, qw(debconf-set-selections preseed.cfg));
     my ($hash) = run({ %in, stdin => "GET passwd/user-password-crypted\n" }, 'debconf-communicate', 'd-i')->{out} =~ /^0 (.*)\n\z/;
     is_hash($hash // '', 'preseed: the hash in debconf');
 
-    my ($of_kickstart) = slurp("$in{dir}/site.ks") =~ /\Arootpw --iscrypted (\S+)\n\z/;
+    my ($of_kickstart) = slurp("$in{dir}/site.ks") =~ /^rootpw --iscrypted (\S+)\n\z/m;
     is_hash($of_kickstart // '', 'kickstart: the hash');
 };
 
