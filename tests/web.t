@@ -66,7 +66,7 @@ subtest 'in node' => sub {
     my $told = eval { decode_json($run->{out}) } or return fail("node: $run->{err}");
     my @reasons = ('REFUSED_UNKNOWN_METHOD: unknown method', 'REFUSED_COST: cost', 'OVER_BUDGET: over budget');
     push @reasons, map { "$refused[$_][2]: $words[$_]" } 0 .. $#refused;
-    is_deeply($told->{refused}, [map { "MKPASSWD_$_" } @reasons], 'refusals by the names of C');
+    is_deeply($told->{refused}, ['undefined: half of a character has no bytes', map { "MKPASSWD_$_" } @reasons], 'refusals by the names of C');
     # N is 64, r is 8: each other field of the report has another value, 3, 0, 66, 6884, 128, 65536 or 3072.
     is_deeply($told->{costs}, [137_956, 137_956], 'the worker and the module find the cost in the report');
     is_deeply($told->{checked}, [map { "true true false false $_->[1]" } @cases], 'the module and the worker say what libcrypt does');
@@ -165,9 +165,9 @@ for my $name (sort keys %browsers) {
             my @fits = map { map { /^The password (matches|does not match)\b/ } @$_[1, 2] } @{ $told->{made} };
             is_deeply(\@fits, [('matches', 'does not match') x 3], 'their passwords match, and others do not');
             is_deeply([map { /^([^:.]+)/ } @{ $told->{refused} }], \@words, 'the refusals of the program');
-            my $differ = ['The two passwords differ.', JSON::PP::false];
-            is_deeply($told->{mistyped}, $differ, 'a password that was mistyped once makes no hash, and leaves none');
-            is_deeply([@$told{qw(beyond stopped sent)}], [[], 'Stopped.', ['refused', 'refused']], 'not too wide; stopped; nothing sent');
+            my $no = JSON::PP::false;
+            is_deeply($told->{mistyped}, ['The two passwords differ.', $no], 'a password that was mistyped once makes no hash, and leaves none');
+            is_deeply([@$told{qw(left beyond stopped sent)}], [$no, [], 'Stopped.', ['refused', 'refused']], 'nothing left, too wide or sent; stopped');
         }
         is(scalar keys %salts, 6, 'each salt is another');
         my @unable = map { [$_->{unable} =~ /\b(WebAssembly|script)\b/, $_->{forms}] } @told;

@@ -10,7 +10,7 @@ globalThis.crypto ??= (await import('node:crypto')).webcrypto;    // node 18
 const [file, page, rows, costly] = process.argv.slice(2);
 const { hash, verify, setting, cost } = await import(file);
 const why = (call) => { try { return call(); } catch ({ reason, message }) { return `${reason}: ${message}`; } };
-const refused = [() => setting('bcrypt', 12), () => setting('sha512crypt', 12), () => hash('x', '$6$rounds=999999999$s'),
+const refused = [() => hash('\ud83d', '$1$s'), () => setting('bcrypt', 12), () => setting('sha512crypt', 12), () => hash('x', '$6$rounds=999999999$s'),
     ...JSON.parse(rows).map(([stored, password]) => () => verify(password, stored))].map(why);
 const made = ['sha512crypt', 'sha256crypt', 'md5crypt'].map((method) => hash('password', setting(method, 1234)));
 

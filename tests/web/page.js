@@ -26,12 +26,14 @@ function beyond(width) {
 async function visit() {
     await until(() => isShown(element('unsupported')) || isShown(element('make')));
     if (isShown(element('unsupported'))) return { unable: element('unsupported').textContent, forms: [...document.forms].filter(isShown).length };
-    const told = { made: [], refused: [] };
+    const told = { made: [], refused: [], left: false };
     const password = 'K\u00e4se \u{1f40e}';
     for (const method of ['sha512crypt', 'sha256crypt', 'md5crypt']) {
+        element('password').dispatchEvent(new Event('input', { bubbles: true }));
+        told.left ||= isShown(element('made'));
         await ended('make', { password, repeat: password, method, rounds: 1234 });
         const stored = element('hash').textContent;
-        const right = await ended('check', { stored, guess: password });
+        const right = await ended('check', { stored: ` ${stored} `, guess: password });    // as it may be pasted
         told.made.push([stored, right, await ended('check', { guess: 'K\u00e4se' })]);
     }
     told.beyond = [375, 1280].filter((width) => beyond(width) > 0);
