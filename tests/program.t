@@ -58,7 +58,7 @@ subtest 'words' => sub {
         ["'--first-line <NUMBER>' cannot be used multiple times", qw(--check --first-line 1 --first-line 2)],
         ["'--method <TYPE>'", '-m'], ["'-Q'", qw(-m help -Q)], ["'third'", qw(password ab third)];
     # As many words as the command takes, and more of them, which it refuses by the first that is one too many.
-    my @taken = qw(-m md5 -S ab -R 5 --work -s --batch --check -- x cd);
+    my @taken = qw(-m md5 -S ab -R 5 --work -s --batch --check --audit -- x cd);
     fault(2, 'two salts', @taken);
     refused("unexpected argument '--check'", @taken, ('--check') x 200);
     refused("'--check' cannot be used multiple times", ('--check') x 200);
@@ -74,7 +74,7 @@ subtest 'words' => sub {
 subtest 'refusals of the words' => sub {
     fault(@$_) for [2, 'unknown method', qw(-m sha1 -S ab x cd)], [2, 'unknown method', '-m', '', 'x'], [2, 'two salts', qw(-S ab x ab)],
         [2, 'two salts', qw(-m md5crypt -s -S a-b x cd)], [2, 'two modes', qw(-s x a-b)], [2, 'two modes', qw(--batch --check)],
-        [2, 'two modes', qw(--check x)], [2, 'two modes', qw(-s --batch)], [3, 'start fault', "\xff"],
+        [2, 'two modes', qw(--check x)], [2, 'two modes', qw(-s --batch)], [2, 'two modes', qw(--audit --check)], [2, 'two modes', qw(--audit x)], [3, 'start fault', "\xff"],
         [2, 'salt length', qw(--batch -S seventeen.letters)], [2, 'salt length', qw(-m md5 password nineChars)],
         [2, 'salt length', qw(-m scrypt -R 5 -S), '', 'password'], [2, 'salt character', qw(--check -S a-b)],
         [2, 'salt character', qw(-m scrypt -R 5 password a-b)], [2, 'cost', qw(-m scrypt -R 12 x)], [2, 'cost', qw(--check -m scrypt -R 12)],
@@ -106,11 +106,11 @@ subtest 'passwords' => sub {
 };
 
 subtest 'devices' => sub {
-    fault(3, 'read fault', { from => '/' }, @$_) for ['-s'], [qw(-m md5 -S ab)], ['--batch'], ['--check'];
+    fault(3, 'read fault', { from => '/' }, @$_) for ['-s'], [qw(-m md5 -S ab)], ['--batch'], ['--check'], ['--audit'];
     like(slurp("$root/crates/program/src/main.rt"), qr/^const TURNS: u64 = 1 << 40;$/m, '2^40 reads and writes are allowed');
     is_run(run('sh', '-c', 'exec "$0" -s <&-', program()), 3, '', "mkpasswd: read fault\n", 'read fault: a closed input');
     is_run(run({ stdin => "ann:x\n", to => '/dev/full' }, program(), @$_), 3, '', "mkpasswd: write fault\n", "a full output: @$_")
-        for [qw(-m md5 -S ab password)], [qw(-m md5 -s)], [qw(-m help)], [qw(--batch -m md5 -S ab)], ['--help'], ['-V'];
+        for [qw(-m md5 -S ab password)], [qw(-m md5 -s)], [qw(-m help)], [qw(--batch -m md5 -S ab)], ['--audit'], ['--help'], ['-V'];
 };
 
 subtest 'lines' => sub {
