@@ -52,8 +52,8 @@ subtest 'audits' => sub {
             for [], [qw(--work --rehash)];
     }
     my $input = join "\n", ':x', 'n' x 65 . ':!', 'ann', 'ann:' . 'x' x 2045, 'bob:!';
-    my @refusals = ('7: no name', '8: name too long', '9: no password field', '10: line too long');
-    is_run(run({ stdin => $input }, program(), qw(--audit --first-line 7)), 1, "bob:locked\n", join('', map { "mkpasswd: line $_\n" } @refusals), 'refused lines');
+    my $told = join '', map { "mkpasswd: line $_\n" } '7: no name', '8: name too long', '9: no password field', '10: line too long';
+    is_run(run({ stdin => $input }, program(), qw(--audit --first-line 7)), 1, "bob:locked\n", $told, 'refused lines');
 };
 
 # While the pipe is open each line has to be answered, and then the program's peak of memory is read.

@@ -117,24 +117,10 @@ subtest 'lines' => sub {
     answer('ann:ok:1002:36239:0:0', \"ann:$md5:password", qw(--check --work));
     answer('s:ok:10:948:32:2048', \'s:$7$2/..../....$rNxJWVHNv/mCNcgE/f6/L4zO6Fos5c2uTzhyzoisI62:', qw(--check --work));
     answer("b:locked\nc:none", \"b:!:x\nc::x\n", '--check');
-    is_run(run({ stdin => "b:*:x\nd:$md5:Password\ne\n" }, program(), '--check'), 1, "b:locked\nd:no\n", "mkpasswd: line 3: no password field\n",
-        'a wrong password and no field');
     # The rounds count as 1000, but the text is another.
     my $again = 'the minimum number is still observed';
     answer('r:ok', \"r:$low:$again", '--check');
     is_run(run({ stdin => 'r:' . $low =~ s/1000/10/r . ":$again" }, program(), '--check'), 1, "r:no\n", '', 'rounds=10');
-    # The first rule that the line breaks.
-    fault(1, "line 1: $_->[0]", \$_->[1], '--check') for ['line too long', ':' . 'x' x 2048], ['no name', "\n"], ['name too long', 'a' x 65],
-        ['no password field', 'a:!'], ['password too long', 'a::' . 'x' x 1025], ['password has a zero byte', "a:!:\0"],
-        ['password has a zero byte', "a:\$2b\$10\$x:\0"], ['setting too long', 'a:' . '$' x 385 . ':x'], ['bad character', 'a:$9$a b:x'],
-        ['bad character', 'a:$5$rounds=0$a b:x'], ['unknown scheme', 'a:$2b$10$x:y'], ['bad rounds', 'a:$5$rounds=0$ab:x'], ['bad cost', 'a:$7$A:x'],
-        ['scrypt range', 'a:$7$E/..../....a_b:x'], ['above ceiling', 'a:$7$J6..../....a_b:x'], ['bad salt', 'a:$7$CU..../....a_b:x'];
-    answer('a:locked', \$_, '--check') for 'a:!a b:x', 'a:' . '!' x 385 . ':x';
-    fault(1, 'line 1: name too long', \('a' x $_), '--batch', @md5) for 65, 2048;
-    answer("a\0b:$md5", \"a\0b:password\n", '--batch', @md5);
-    answer("ann:$md5:1002:36239:0:0\nann:$md5:1002:36239:0:0", \"ann:password\nann:password\n", qw(--batch --work), @md5);
-    is_run(run({ stdin => 'a' x 2 ** 20 . "\nann:password" }, program(), '--batch', @md5), 1, "ann:$md5\n", "mkpasswd: line 1: line too long\n",
-        'a line of a MiB');
 };
 
 # The greatest cost of a line is the least budget that admits it.
@@ -144,7 +130,6 @@ subtest 'budgets' => sub {
     fault(1, 'line 1: over budget', \$small, qw(--check --budget 5043));
     answer('s:ok', \$small, qw(--check --budget 5044));
     answer('b:locked', \"b:!:x\n", qw(--check --budget 0));
-    answer('ann:ok', \"ann:$md5:password", qw(--check --budget 36239));
     # The most rounds, and scrypt at its ceiling.
     fault(1, 'line 1: over budget', \"h:$_->[0]\$:$_->[1]", '--check', '--budget', $_->[2]) for
         ['$6$rounds=999999999$saltstringsaltst', 'password', 89523813983], ['$5$rounds=999999999$saltstringsaltst', 'password', 57523813983],
@@ -160,12 +145,10 @@ subtest 'new hashes' => sub {
         \"a:\$5\$saltstring\$5B8vYYiY.CVt1RlTTf8KbXBH3hsxY/GNooZaBBGWEc5:Hello world!\n", qw(--check --rehash -R 10000 -S saltstringsaltst));
     fault(1, 'line 1: over budget', \"$old:password\n", @rehash, qw(--budget 33693234));
     answer("z:ok:$md5:2028:138803:32768:1048576", \"$old:password\n", @rehash, qw(--budget 33693235));
-    fault(1, 'line 1: over budget', \"$old:Password\n", @rehash, qw(--budget 33693234));
     is_run(run({ stdin => "$old:Password\n" }, program(), @rehash, qw(--budget 33693235)), 1, "z:no:1026:102564:32768:1048576\n", '', 'a wrong password gets no new hash');
     answer('b:ok', \('b:$6$rounds=5000$toolongsaltstrin$lQ8jolhgVRVhY4b5pZKaysCLi0QBxGoNeKQzQ3glMhwllF7oGDZxUhx1yxdYcz/e1JSbq3y6JMxxl8audkUEm0:'
         . "This is just a test\n"), qw(--check --rehash));
     answer($md5, qw(--rehash -m md5 password xxxxxxxx));
-    answer("ann:$md5", \"ann:password\n", qw(--batch --rehash), @md5);
 };
 
 subtest 'made salts' => sub {

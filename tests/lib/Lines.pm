@@ -274,9 +274,7 @@ sub varied {
     my $kind = rand;
     return [$name, $hash, $password] if $kind < 0.5;
     return [$name, $hash, beside($password)] if $kind < 0.8;
-    return [$name, with_another_character($hash, 1 + rindex $hash, '$'), $password] if $kind < 0.95;
-    return [$name, substr($hash, 0, -1), $password] if $kind < 0.97;
-    return [$name, $hash . one_of(@characters), $password];
+    return [$name, with_another_character($hash, 1 + rindex $hash, '$'), $password];
 }
 
 # What the words say of the method, for hostile lines.
@@ -316,7 +314,7 @@ sub budget {
 sub hostile_chunk {
     my (undef, $count) = @_;
     my $mode = one_of(qw(--batch --batch --check --check --check --audit));
-    my @flags = ($mode, $mode ne '--batch' && chance(0.45) ? '--rehash' : ());
+    my @flags = ($mode, chance(0.45) ? '--rehash' : ());
     my $made = $mode ne '--check' || @flags > 1 ? hostile_words() : undef;
     my $job = job($made, @flags, chance(0.4) ? '--work' : ());
     my @hashes = $job->{is_batch} ? () : good_hashes();

@@ -12,7 +12,7 @@ use Exporter qw(import);
 use List::Util qw(max min sum0);
 
 our @EXPORT = qw(%limits %kinds %types %most_salt %made_salt %packed_length @characters @setting_refusals @line_refusals
-    forget shown numeral scrypt_cost setting read_setting made_setting is_replaced counts cost hash_of made_by_hand
+    forget shown numeral scrypt_cost setting read_setting made_setting is_replaced counts cost hash_of
     job judged differences);
 
 our %limits = (
@@ -173,8 +173,8 @@ sub second_digest {
     return $digest->($message);
 }
 
-# The digest whose characters stand behind the setting of a hash by md5crypt or SHA-crypt.
-sub last_digest {
+# The hash of a password by md5crypt or SHA-crypt, made here.
+sub made_by_hand {
     my ($setting, $password) = @_;
     my ($kind, $salt) = @$setting{qw(kind salt)};
     my $digest = $digest{$kind};
@@ -189,13 +189,7 @@ sub last_digest {
         my $middle = ($round % 3 ? $salt : '') . ($round % 7 ? $pass : '');
         $last = $digest->($round % 2 ? $pass . $middle . $last : $last . $middle . $pass);
     }
-    return $last;
-}
-
-# The hash of a password by md5crypt or SHA-crypt, made here.
-sub made_by_hand {
-    my ($setting, $password) = @_;
-    return "$setting->{front}\$" . packed($setting->{kind}, last_digest($setting, $password));
+    return "$setting->{front}\$" . packed($kind, $last);
 }
 
 # The same, libxcrypt's wherever it takes the two; nothing where it takes no scrypt. Hashes are kept until forgotten.
