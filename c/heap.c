@@ -1,6 +1,7 @@
 /* Memory for the proved code: what it calls, over malloc and free. It fails exactly where malloc does. Only scrypt's table is
- * large. In small pages the system takes up to a fifth of the time of a hash to provide it, so a large block asks for huge
- * pages wherever it has whole ones. Where the system has none the block is as good.
+ * large. In small pages the system takes up to a fifth of the time of a hash to provide it, and the processor longer to find
+ * its rows, so a large block begins with a huge page and asks for as many as it fills. Where the system has none the block is
+ * as good.
  *
  * The size of a block stands before it, since not every allocator that a service brings can be asked for it.
  *
@@ -18,12 +19,11 @@
 #include <sys/mman.h>
 
 #define PAGE ((uintptr_t)64 << 10) /* a multiple of each processor's small page */
-#define HUGE_PAGE ((uintptr_t)2 << 20)
-#define LARGE (2 * HUGE_PAGE) /* with a whole huge page in it, wherever it begins */
+#define HUGE_PAGE ((uintptr_t)2 << 20) /* from here on a block is large */
 #define MAPPED ((size_t)32 << 20) /* from here on glibc's malloc maps a block by itself, whatever was freed before */
 
-/* What stands before a block. Its 16 bytes keep the block's alignment. */
-struct head { size_t size, unused; };
+/* What stands before a block: its size, and what malloc returned. Its 16 bytes keep the block's alignment. */
+struct head { size_t size; void *start; };
 
 /* Whether there is a block, and where. Proved code has no null pointers, so without a block this points to some byte. */
 struct tried { bool is_there; void *block; };
@@ -39,46 +39,54 @@ static struct tried tried(struct head *head)
 /* Whole pages of a block that was mapped by itself go back to the system, which takes less time than to write zeros. */
 static void wipe(char *block, size_t size)
 {
-    size_t before = -(uintptr_t)block % PAGE, pages = size < MAPPED ? 0 : (size - before) / PAGE * PAGE;
-    if (pages == 0 || madvise(block + before, pages, MADV_DONTNEED) != 0)
-        before = pages = 0;
-    explicit_bzero(block, before);
-    explicit_bzero(block + before + pages, size - before - pages);
+    size_t pages = size < MAPPED ? 0 : size / PAGE * PAGE;
+    if (pages != 0 && madvise(block, pages, MADV_DONTNEED) != 0)
+        pages = 0;
+    explicit_bzero(block + pages, size - pages);
+}
+
+static void give_back(struct head *head)
+{
+    if (head)
+        free(head->start);
 }
 
 /* The size is below 2^63, and the alignment divides 16. */
 struct tried rattle_alloc(size_t size, size_t alignment)
 {
     struct head *head;
+    size_t unit = size < HUGE_PAGE ? sizeof *head : HUGE_PAGE; /* the block begins at a multiple of it, behind its head */
+    char *start;
     (void)alignment;
-    if (KEEPS && size >= LARGE) {
-        mallopt(M_MMAP_THRESHOLD, LARGE); /* glibc would come to hold on to blocks below 32 MiB */
+    if (KEEPS && size >= HUGE_PAGE) {
+        mallopt(M_MMAP_THRESHOLD, HUGE_PAGE); /* glibc would come to hold on to blocks below 32 MiB */
         head = kept;
         kept = NULL;
         if (head && head->size == size)
             return tried(head);
-        free(head);
+        give_back(head);
     }
-    head = malloc(sizeof *head + (size + 15) / 16 * 16); /* a size that has malloc align it to 16 */
-    if (head)
-        head->size = size;
-    if (head && size >= LARGE) {
-        size_t before = -(uintptr_t)(head + 1) % HUGE_PAGE;
-        madvise((char *)(head + 1) + before, (size - before) / HUGE_PAGE * HUGE_PAGE, MADV_HUGEPAGE);
-    }
+    start = malloc(unit + (size + 15) / 16 * 16); /* a size that has malloc align it to 16 */
+    if (!start)
+        return tried(NULL);
+    head = (struct head *)(start + unit - (uintptr_t)start % unit) - 1;
+    head->size = size;
+    head->start = start;
+    if (size >= HUGE_PAGE)
+        madvise(head + 1, size / HUGE_PAGE * HUGE_PAGE, MADV_HUGEPAGE);
     return tried(head);
 }
 
 void rattle_dealloc(void *block)
 {
     struct head *head = (struct head *)block - 1, *freed = head;
-    if (KEEPS && head->size >= LARGE) {
+    if (KEEPS && head->size >= HUGE_PAGE) {
         freed = kept;
         kept = head;
     }
     if (!KEEPS)
         wipe(block, head->size);
-    free(freed);
+    give_back(freed);
 }
 
 /* The new block has the first `used` bytes of the old one, which are no more than either has. */

@@ -104,7 +104,8 @@ extern "C" {
 #define MKPASSWD_SCRYPT 7
 
 /* Reasons. The call returned 1 exactly if the reason is above 0; a reason is never 0. Each comment begins with the message
- * of mkpasswd_words(), up to its colon. */
+ * of mkpasswd_words(), up to its colon. mkpasswd_hash(), mkpasswd_bound() and mkpasswd_needs_rehash() take a setting, and
+ * report a locked field as too long or of a bad character (-3, -4), and an empty one as an unknown scheme (-5). */
 #define MKPASSWD_FITS 1                          /* fits: the password matches; mkpasswd_verify() and mkpasswd_login() */
 #define MKPASSWD_OUTDATED 2                      /* outdated: mkpasswd_needs_rehash(), and mkpasswd_login() for a match */
 #define MKPASSWD_DONE 3                          /* done: all others */

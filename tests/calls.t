@@ -453,7 +453,7 @@ END
 # No clause keeps a compiler from dropping a hash that nobody reads.
 subtest 'the time of logins' => sub {
     my $bench = build('bench-login', $cc, '-std=c99', @strict, "$root/tools/bench-login.c", @static) or return;
-    my %times = run($bench, 1000, 50)->{out} =~ /^(\S.*?) +([\d.]+) ms$/mg;
+    my %times = run($bench, 1000, 50)->{out} =~ /^(\S.*?) +([\d.]+) ms /mg;
     cmp_ok($times{$_}, '>', 0.5 * $times{'wrong password'}, $_) for 'unknown name', 'empty', 'locked', 'yescrypt', 'above the budget';
 };
 

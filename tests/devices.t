@@ -107,8 +107,8 @@ sub sizes {
 # With N = 2^14 and p = 1 scrypt asks for a table of 128 N r bytes, or takes a kept one, the parts of 128 r p, and the
 # halves of 256 r. Nothing else about a line asks for memory. The hashes are libxcrypt's and openssl-passwd(1)'s.
 subtest 'what lines ask for' => sub {
-    my @of_32 = map { 16 + $_ } 67108864, 4096, 8192;    # with the size before each
-    my @of_8 = map { 16 + $_ } 16777216, 1024, 2048;
+    my @of_32 = (2097152 + 67108864, 16 + 4096, 16 + 8192);    # with what stands before each
+    my @of_8 = (2097152 + 16777216, 16 + 1024, 16 + 2048);
     my $refused = "ann\n:x\n" . 'n' x 65 . ":x\nann:" . 'p' x 1025 . "\nann:a\0b\n" . 'l' x 2049 . "\n";
     for (
         ['a check by md5crypt', [], 0, "ann:$md5:password\n", '--check'],

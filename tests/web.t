@@ -62,11 +62,13 @@ subtest 'in node' => sub {
     spew("$scratch/mkpasswd.mjs", slurp($module));
     spew("$scratch/check.mjs", marked('worker', 'js'));
     my %with = (stdin => join '', map { join(' ', map { unpack 'H*', $_ } @$_) . "\n" } @cases);
-    my $run = run(\%with, 'node', "$root/tests/web/node.mjs", "$scratch/mkpasswd.mjs", $page, $rows);
+    my $run = run(\%with, 'node', "$root/tests/web/node.mjs", "$scratch/mkpasswd.mjs", $page, $rows, '$7$46..../....SodiumChloride');
     my $told = eval { decode_json($run->{out}) } or return fail("node: $run->{err}");
     my @reasons = ('REFUSED_UNKNOWN_METHOD: unknown method', 'REFUSED_COST: cost', 'OVER_BUDGET: over budget');
     push @reasons, map { "$refused[$_][2]: $words[$_]" } 0 .. $#refused;
     is_deeply($told->{refused}, [map { "MKPASSWD_$_" } @reasons], 'refusals by the names of C');
+    # N is 64, r is 8: each other field of the report has another value, 3, 0, 66, 6884, 128, 65536 or 3072.
+    is_deeply($told->{costs}, [137_956, 137_956], 'the worker and the module find the cost in the report');
     is_deeply($told->{checked}, [map { "true true false false $_->[1]" } @cases], 'the module and the worker say what libcrypt does');
     is_deeply([map { crypt 'password', $_ } @{ $told->{made} }], $told->{made}, 'libcrypt makes the hashes with new salts');
     is_deeply([map { $_->{matches} ? 1 : 0 } @{ $told->{answers} }], [1, 0, 0], 'the worker of GUIDE');

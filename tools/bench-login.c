@@ -1,9 +1,10 @@
-/* Measures mkpasswd_login for each kind of field, alternating, and prints the median of each in processor time:
+/* Measures mkpasswd_login for each kind of field, alternating, and prints the median of each in processor time, and the
+ * quartiles:
  *
- *     make lib && cc -O2 -Ic tools/bench-login.c libmkpasswd.a -o build/bench-login && build/bench-login [ROUNDS [LOGINS]]
+ *     make lib && cc -O2 -Ic tools/bench-login.c libmkpasswd.a -o build/bench-login && build/bench-login [COST [LOGINS [METHOD]]]
  *
- * ROUNDS are those of sha512crypt (default 5000), LOGINS the number for each kind (default 200). Only the right password may
- * return 1; the others should take the same time. */
+ * LOGINS is the number for each kind (default 200), METHOD the number of the method (default 6, sha512crypt), COST its cost
+ * (default 0, its own). Only the right password may return 1; the others should take the same time. */
 #define _POSIX_C_SOURCE 199309L
 #include <mkpasswd.h>
 #include <stdio.h>
@@ -30,8 +31,9 @@ static int by_time(const void *a, const void *b)
 int main(int argc, char **argv)
 {
     static double times[7][MOST];
-    uint32_t rounds = argc > 1 ? (uint32_t)atol(argv[1]) : 5000;
+    uint32_t cost = argc > 1 ? (uint32_t)atol(argv[1]) : 0;
     long logins = argc > 2 ? atol(argv[2]) : 200, place;
+    uint32_t method = argc > 3 ? (uint32_t)atol(argv[3]) : MKPASSWD_SHA512CRYPT;
     char right[MKPASSWD_TEXT_SIZE], wrong[MKPASSWD_TEXT_SIZE], locked[MKPASSWD_TEXT_SIZE + 1];
     const char *fields[] = {right, wrong, NULL, "", locked, "$y$j9T$F5Jx5fExrKuPp53xLKQ..1$X3DX6M94c7o.9agCG9G317fhZg9SqC.5i5rd.RhAtQ7",
         "$6$rounds=999999999$saltsaltsaltsalt$x"};
@@ -39,16 +41,16 @@ int main(int argc, char **argv)
     int kind;
 
     if (logins < 1 || logins > MOST
-        || !mkpasswd_new_str("password", MKPASSWD_SHA512CRYPT, rounds, MKPASSWD_BUDGET, right, sizeof right, NULL)
-        || !mkpasswd_new_str("Password", MKPASSWD_SHA512CRYPT, rounds, MKPASSWD_BUDGET, wrong, sizeof wrong, NULL)) {
-        fprintf(stderr, "usage: bench-login [ROUNDS [LOGINS]]\n");
+        || !mkpasswd_new_str("password", method, cost, MKPASSWD_BUDGET, right, sizeof right, NULL)
+        || !mkpasswd_new_str("Password", method, cost, MKPASSWD_BUDGET, wrong, sizeof wrong, NULL)) {
+        fprintf(stderr, "usage: bench-login [COST [LOGINS [METHOD]]]\n");
         return 2;
     }
     snprintf(locked, sizeof locked, "!%s", right);
     for (place = 0; place < logins; place++)
         for (kind = 0; kind < 7; kind++) {
             double before = now();
-            int is_in = mkpasswd_login_str("password", fields[kind], MKPASSWD_SHA512CRYPT, rounds, MKPASSWD_BUDGET, NULL);
+            int is_in = mkpasswd_login_str("password", fields[kind], method, cost, MKPASSWD_BUDGET, NULL);
 
             times[kind][place] = now() - before;
             if (is_in != (kind == 0))
@@ -56,7 +58,8 @@ int main(int argc, char **argv)
         }
     for (kind = 0; kind < 7; kind++) {
         qsort(times[kind], (size_t)logins, sizeof **times, by_time);
-        printf("%-16s %8.3f ms\n", names[kind], times[kind][logins / 2]);
+        printf("%-16s %8.3f ms (%.3f to %.3f)\n", names[kind], times[kind][logins / 2], times[kind][logins / 4],
+            times[kind][logins * 3 / 4]);
     }
     return 0;
 }

@@ -1,13 +1,14 @@
 // Runs mkpasswd.mjs, the worker of GUIDE beside it and the page's worker in node, and tells what they say: to the rows, to each line
-// of standard input, which has a password and its hash in hexadecimal, and to other passwords. tests/web.t knows the answers.
+// of standard input, which has a password and its hash in hexadecimal, and to other passwords, and what a hash of scrypt costs.
+// tests/web.t knows the answers.
 import { once } from 'node:events';
 import { readFileSync } from 'node:fs';
 import vm from 'node:vm';
 import { Worker } from 'node:worker_threads';
 
 globalThis.crypto ??= (await import('node:crypto')).webcrypto;    // node 18
-const [file, page, rows] = process.argv.slice(2);
-const { hash, verify, setting } = await import(file);
+const [file, page, rows, costly] = process.argv.slice(2);
+const { hash, verify, setting, cost } = await import(file);
 const why = (call) => { try { return call(); } catch ({ reason, message }) { return `${reason}: ${message}`; } };
 const refused = [() => setting('bcrypt', 12), () => setting('sha512crypt', 12), () => hash('x', '$6$rounds=999999999$s'),
     ...JSON.parse(rows).map(([stored, password]) => () => verify(password, stored))].map(why);
@@ -21,15 +22,18 @@ for (const [password, stored] of [['password', made[0]], ['passwort', made[0]], 
 }
 worker.terminate();
 
-let told;
-globalThis.postMessage = (data) => { told = data; };
+let posted;
+globalThis.postMessage = (data) => { posted.push(data); };
 vm.runInThisContext(readFileSync(page, 'utf8').split('<script id="worker" type="text/plain">')[1].split('</script>')[0]);
-function check(password, stored) {
+function workerOn(password, stored) {
+    posted = [];
     onmessage({ data: { job: 'check', password, stored, budget: Infinity } });
-    return [told.fits, verify(password, stored, Infinity)];
+    return posted;
 }
+const costs = [workerOn('password', costly)[0].cost, cost(costly, 8)];
+const check = (password, stored) => [workerOn(password, stored).at(-1).fits, verify(password, stored, Infinity)];
 const checked = readFileSync(0, 'utf8').trimEnd().split('\n').map((line) => {
     const [password, stored] = line.split(' ').map((digits) => Uint8Array.from(Buffer.from(digits, 'hex')));
     return [...check(password, stored), ...check(Uint8Array.of(1, ...password.slice(1)), stored), hash(password, stored, Infinity)].join(' ');
 });
-console.log(JSON.stringify({ refused, made, answers, checked }));
+console.log(JSON.stringify({ refused, made, answers, costs, checked }));

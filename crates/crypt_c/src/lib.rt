@@ -6,8 +6,9 @@
 //! to the capacity of `out`.
 //!
 //! The report has the first refusal that applies, in this order: password, setting, method, cost, budget, capacity,
-//! random numbers, memory. For a login method and cost come before the field. The calls share no state and start no
-//! threads, so many threads may call at once.
+//! random numbers, memory. For a login method and cost come before the field. [`mkpasswd_verify`] and [`mkpasswd_login`]
+//! read a stored field: a locked one is `Locked` and an empty one `NoHash`, where the other calls report what is wrong with
+//! it as a setting. The calls share no state and start no threads, so many threads may call at once.
 #![tactic(auto)]
 
 ghost use Rattle.std.specs.Prelude.{◌≡◌, ◌≢◌, ◌⊎◌, ◌↔◌, ◌<◌, ◌≤◌, pos, [], ◌∷◌, Err, length, take, codes};
@@ -45,7 +46,9 @@ use std::alloc::Global;
 ///
 /// # Errors
 ///
-/// - `Password`, `Setting`: the password or the stored hash is invalid.
+/// - `Password`: the password is invalid.
+/// - `Locked`, `NoHash`: the stored hash begins with `!` or `*`, or is empty.
+/// - `Setting`: any other stored hash is invalid.
 /// - `OverBudget`: the hash can cost more than the budget.
 /// - `Differs`: the password does not match.
 /// - `OutOfMemory`: scrypt could not allocate.
@@ -80,9 +83,10 @@ pub extern "C" fn mkpasswd_verify(
 /// - `Password`: the password is invalid. The field makes no difference.
 /// - `UnknownMethod`, `Cost`: no method has the number, or a new hash cannot have the cost. Here too the field makes no
 ///   difference.
-/// - `Setting`, `OverBudget`: the field has no valid hash, or one that can cost more than the budget. The work is that of
-///   the new hash: none if that can cost more than the budget, and if scrypt could not allocate for it, that of the
-///   allocations before.
+/// - `Locked`, `NoHash`: the field begins with `!` or `*`, or is empty.
+/// - `Setting`, `OverBudget`: any other field has no valid hash, or one that can cost more than the budget. After these
+///   four the work is that of the new hash: none if that can cost more than the budget, and if scrypt could not allocate
+///   for it, that of the allocations before.
 /// - `Differs`: the password does not match.
 /// - `OutOfMemory`: scrypt could not allocate for the stored hash.
 #[unsafe(no_mangle)]

@@ -5,8 +5,9 @@
 //!
 //! Each call returns 1 if it did what its name says, and 0 otherwise. It writes the whole report, which has the reason: above
 //! 0 in the first case, else the number of the first refusal that applies, in the order password, setting, method, cost,
-//! budget, capacity, memory. These numbers, the report's other fields and what is left in `out` are those of the calls for C.
-//! scrypt needs memory, so its hashes are refused with `OutOfMemory`.
+//! budget, capacity, memory. [`web_verify`] reads a stored field: a locked one is `Locked` and an empty one `NoHash`, where the
+//! other calls report what is wrong with it as a setting. These numbers, the report's other fields and what is left in `out`
+//! are those of the calls for C. scrypt needs memory, so its hashes are refused with `OutOfMemory`.
 #![tactic(auto)]
 
 ghost use Rattle.std.specs.Prelude.{◌≡◌, ◌≢◌, ◌≤◌, pos, [], ◌∷◌, take};
@@ -33,7 +34,9 @@ use prims_core::meter::Meter;
 ///
 /// # Errors
 ///
-/// - `Password`, `Setting`: the password or the stored hash is invalid.
+/// - `Password`: the password is invalid.
+/// - `Locked`, `NoHash`: the stored hash begins with `!` or `*`, or is empty.
+/// - `Setting`: any other stored hash is invalid.
 /// - `OverBudget`: the hash can cost more than the budget.
 /// - `OutOfMemory`: the method is scrypt.
 /// - `Differs`: the password does not match.

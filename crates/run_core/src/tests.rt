@@ -14,7 +14,7 @@ use crate::device::{Input, Output};
 use crate::fault::RunFault;
 use crate::job::{Job, Maker, PasswordFrom};
 use crate::line::{Kind, LINE_LIMIT, inspect};
-use crate::lines::{run_batch, run_check};
+use crate::lines::{run_audit, run_batch, run_check};
 use crate::methods::run_methods;
 use crate::one::run_one;
 use crate::reader::buffer::LineBuffer;
@@ -40,6 +40,7 @@ enum Run<'a> {
     Input,
     Batch,
     Check,
+    Audit,
 }
 
 // A run and its job.
@@ -69,6 +70,11 @@ const CHECK: Asked<'static> = Asked {
     ..BATCH
 };
 
+const AUDIT: Asked<'static> = Asked {
+    run: Run::Audit,
+    ..BATCH
+};
+
 const BY_WORD: Asked<'static> = Asked {
     run: Run::Word(b"password"),
     ..BATCH
@@ -89,7 +95,7 @@ const HASHES: &str =
 
 const NO_NAME: &str = "mkpasswd: line 2: no name\n";
 
-// The counts of a tally (lines, refused lines, verdicts `no`), or the message of the error.
+// The counts of a tally (lines, refused lines, verdicts `no` and accounts that need care), or the message of the error.
 type Outcome = Result<(u64, u64, u64), &'static str>;
 
 const TURNS: Outcome = Err("too many turns");
@@ -189,6 +195,16 @@ fn run_on<'a>(
     let outcome = match run {
         Run::Methods => run_methods(&mut out, turns),
         Run::Check => run_check(
+            alloc,
+            job,
+            &mut input,
+            &mut out,
+            &mut faults,
+            rng,
+            meter,
+            turns,
+        ),
+        Run::Audit => run_audit(
             alloc,
             job,
             &mut input,
@@ -310,9 +326,13 @@ fn draws_and_counts(rt: HostRuntime) -> Result<(), Fail> {
         cost: 1000,
         ..salting(rehash)
     };
+    let audit = Asked {
+        run: Run::Audit,
+        ..within(salting(CHECK), 1927021)
+    };
     let over = "mkpasswd: line 1: over budget\n";
     // The run, its input and outcome, both outputs, the next random number, and the digests: without any, all counts are 0.
-    let rows: [(Asked<'_>, &str, Outcome, &str, &str, u64, u128); 8] = [
+    let rows: [(Asked<'_>, &str, Outcome, &str, &str, u64, u128); 9] = [
         (
             salting(BATCH),
             "ann:password\n:x\nbob:password\n",
@@ -360,6 +380,15 @@ fn draws_and_counts(rt: HostRuntime) -> Result<(), Fail> {
             0,
         ),
         (
+            audit,
+            "ann:$1$xxxxxxxx$UYCIxa628.9qXjpQCjM4a.\nbob:$6$rounds=0$a:x\n",
+            Ok((2, 0, 2)),
+            "ann:md5crypt:1927022:over budget\nbob:malformed:bad rounds\n",
+            "",
+            129,
+            0,
+        ),
+        (
             default,
             "b:$6$rounds=5000$toolongsaltstrin$lQ8jolhgVRVhY4b5pZKaysCLi0QBxGoNeKQzQ3glMhwllF7oGDZxUhx1yxdYcz/e1JSbq3y6JMxxl8audkUEm0:This is just a test",
             Ok((1, 0, 0)),
@@ -395,7 +424,7 @@ fn draws_and_counts(rt: HostRuntime) -> Result<(), Fail> {
 // By the rules by which the runs refuse lines.
 #[test]
 fn inspects_lines(rt: HostRuntime) {
-    let rows: [(Kind, &[u8], Option<&str>); 8] = [
+    let rows: [(Kind, &[u8], Option<&str>); 10] = [
         (Kind::Batch, b"ann:a:b", None),
         (Kind::Batch, b"ann", Some("no password field")),
         (Kind::Batch, &[b'a'; 2049], Some("line too long")),
@@ -404,6 +433,8 @@ fn inspects_lines(rt: HostRuntime) {
         (Kind::Check, b"a:!:\0", Some("password has a zero byte")),
         (Kind::Check, b"a:$5$rounds=0$a b:x", Some("bad character")),
         (Kind::Check, b"a:$7$J6..../....a_b:x", Some("above ceiling")),
+        (Kind::Audit, b"a:$7$J6..../....a_b", None),
+        (Kind::Audit, b"a", Some("no password field")),
     ];
     for (kind, line, text) in rows {
         let fault = inspect(kind, line);

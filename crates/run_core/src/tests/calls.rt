@@ -148,7 +148,26 @@ fn calls_in_order_over_lines(rt: HostRuntime) -> Result<(), Fail> {
         out: "b:locked\nc:none\nd:no\n",
         faults: "mkpasswd: line 4: no password field\n",
     };
-    let rows = [("a batch", batch), ("a check", check)];
+    let audit = Listed {
+        asked: AUDIT,
+        input: b"b:!:x\nd:$1$xxxxxxxx$UYCIxa628.9qXjpQCjM4a.:19000\nc:\n:x\nu:$y$j9T$a$b",
+        steps: &[
+            read(512, 67),
+            write(9, 9),
+            write(27, 27),
+            write(7, 7),
+            tell(26, 26),
+            read(512, 0),
+            write(10, 10),
+            FLUSH,
+            FLUSH_FAULTS,
+        ],
+        outcome: Ok((5, 1, 1)),
+        out: "b:locked\nd:md5crypt:1927022:current\nc:none\nu:unknown\n",
+        faults: "mkpasswd: line 4: no name\n",
+        ..check
+    };
+    let rows = [("a batch", batch), ("a check", check), ("an audit", audit)];
     for (what, listed) in rows {
         want_steps(&rt, rt.alloc(), what, listed)?;
     }
