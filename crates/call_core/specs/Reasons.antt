@@ -1,7 +1,6 @@
 -- The reasons for what a call returned, each with a number and a message.
 use Rattle.std.specs.Prelude.{ℕ, ℤ, pos, neg_ℤ, List, codes}
-use Rattle.crypt_core.specs.PasswordFaults.{password_fault_text}
-use Rattle.crypt_core.specs.SettingFaults.{setting_fault_text}
+use Rattle.crypt_core.specs.Faults.{password_fault_text, setting_fault_text}
 use Rattle.crypt_core.specs.declared.password.PasswordFault.TheVariants as password
 use Rattle.crypt_core.specs.declared.setting.fault.SettingFault.TheVariants as setting
 use Rattle.call_core.specs.declared.reason.Reason.{Reason}

@@ -131,7 +131,8 @@ pub extern "C" fn mkpasswd_login(
 /// Hashes a password with a new setting of the method and the cost, and writes the hash and a byte 0 to `out`.
 ///
 /// Three random numbers, `words`, make the salt. Without them the report has the first refusal that precedes them, or
-/// else that they are missing. So a caller draws them once only memory can be refused, and calls again.
+/// else that they are missing. So C's `mkpasswd_new` first calls it without numbers, and draws three only if nothing but
+/// memory can then be refused.
 ///
 /// The method is 1 for md5crypt, 5 for sha256crypt, 6 for sha512crypt or 7 for scrypt, as in their hashes. The cost is
 /// that of `mkpasswd -R`, and 0 is the method's default. [`mkpasswd_verify`] accepts the hash for its password within

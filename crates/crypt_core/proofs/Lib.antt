@@ -5,7 +5,6 @@ pub mod EachMethod
 pub mod Fields
 pub mod First
 pub mod HashedTexts
-pub mod Longest
 pub mod MadeSaltLemmas
 pub mod Making
 pub mod Md5cryptLemmas

@@ -10,7 +10,7 @@ use Rattle.crypt_core.specs.Md5crypt.{md5crypt_digest, md5crypt_opening, opening
 use Rattle.crypt_core.specs.Messages.{AreMd5cryptMessages, md5crypt_message, md5crypt_messages, md5crypt_rounds}
 use Rattle.crypt_core.specs.MethodLimits.{prefix}
 use Rattle.crypt_core.specs.RoundMessage.{alternate_message, digest_after, round_message}
-use Rattle.crypt_core.specs.WorkBytes.{md5crypt_bytes}
+use Rattle.crypt_core.specs.Work.{md5crypt_bytes}
 use Rattle.crypt_core.specs.declared.method.Method.TheVariants.{Md5crypt}
 use Rattle.crypt_core.proofs.CycleLemmas.{length-cycle, length-digit_pieces}
 use Rattle.crypt_core.proofs.MessageLists.{digest_after-more, length-messages_to, length-round_message, length-alternate, messages_to, round_length}

@@ -10,7 +10,7 @@ use Rattle.crypt_core.specs.Cycle.{cycle, digit_bytes, digit_pieces}
 use Rattle.crypt_core.specs.Messages.{AreShacryptMessages, sha_digest_before, sha_round_message, shacrypt_message, shacrypt_messages}
 use Rattle.crypt_core.specs.RoundMessage.{alternate_message, digest_after, round_message}
 use Rattle.crypt_core.specs.ShaCrypt.{password_repeated, password_string, salt_repeated, salt_string, sha_opening, sha_opening_byte, sha_opening_message, shacrypt_digest}
-use Rattle.crypt_core.specs.WorkBytes.{greatest_byte, shacrypt_bytes}
+use Rattle.crypt_core.specs.Work.{greatest_byte, shacrypt_bytes}
 use Rattle.crypt_core.proofs.CycleLemmas.{digit_bytes-few, length-cycle, length-digit_pieces, length-repeat}
 use Rattle.crypt_core.proofs.MessageLists.{digest_after-more, length-messages_to, length-round_message, length-alternate, messages_to, round_length}
 use Rattle.crypt_core.proofs.WorkSums.{rounds_sum}

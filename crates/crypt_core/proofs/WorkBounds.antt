@@ -1,16 +1,23 @@
--- Lemmas on the bound of the work of a hash.
-use Rattle.crypt_core.specs.MethodLimits.{scrypt_salt_limit}
-use Rattle.crypt_core.specs.Passwords.{password_limit}
-use Rattle.std.proofs.Common.{ℕ, ◌+◌, ◌*◌, ◌^◌, ◌<◌, ◌≤◌, arith}
+-- Lemmas on the bound of the work of a hash, and on its cost: a password of the greatest length costs at least as much as
+-- any other.
+use Rattle.std.proofs.Common.{ℕ, zero, suc, ◌+◌, ◌-◌, ◌*◌, ◌/◌, ◌%◌, ◌^◌, ◌<◌, ◌≤◌, Bool, true, false, cond, nat_eq, length, inl, inr, arith}
+use Rattle.std.specs.Int.{div_ceil}
+use Rattle.std.proofs.lemmas.Bool.{cases_order}
 use Rattle.std.proofs.lemmas.Bool.Decides.{nat_tests}
-use Rattle.std.proofs.Math.Nat.{mul-le-mul, mul-le-mul_right}
+use Rattle.std.proofs.Math.Nat.{mul-le-mul, mul-le-mul_left, mul-le-mul_right}
 use Rattle.kdf_core.specs.Hmac.{key_digests}
 use Rattle.kdf_core.specs.Params.{ScryptCost, IsBounded}
-use Rattle.crypt_core.specs.Work.{shacrypt_work, work_by, work_limit, IsBelow, IsWithin}
-use Rattle.crypt_core.specs.WorkBytes.{greatest_byte}
-use Rattle.crypt_core.specs.declared.scheme.Scheme.TheVariants.{Scrypt}
+use Rattle.crypt_core.specs.Cycle.{digit_bytes}
+use Rattle.crypt_core.specs.MethodLimits.{scrypt_salt_limit}
+use Rattle.crypt_core.specs.Passwords.{password_limit}
+use Rattle.crypt_core.specs.Settings.{SettingValue}
+use Rattle.crypt_core.specs.Work.{cost, cost_by, rounds_bytes, shacrypt_work, work_by, work_limit, IsBelow, IsWithin, greatest_byte}
+use Rattle.crypt_core.specs.declared.scheme.Scheme.{Scheme}
+use Rattle.crypt_core.specs.declared.scheme.Scheme.TheVariants.{Md5crypt, Shacrypt, Scrypt}
+use Rattle.crypt_core.specs.declared.scheme.Sha.TheVariants.{Sha256, Sha512}
+use Rattle.crypt_core.proofs.CycleLemmas.{digit_bytes-step}
 
--- Work
+-- ---- the work
 
 -- any first byte repeats the salt at most as often as the greatest byte does
 pub shacrypt-within : (digest a rounds password salt : ℕ) → a < 256
@@ -27,3 +34,52 @@ scrypt-small cost a password salt most password_short salt_short =
     let key : key_digests password * password ≤ 1 * password_limit = mul-le-mul digest password_short in
     let salted : cost.r * cost.p * salt ≤ 2 ^ 22 * scrypt_salt_limit = mul-le-mul most.parts salt_short in
     record { digests = omega arith; bytes = omega arith; mixes = omega arith; table = omega arith; scratch = omega arith }
+
+-- ---- the digested bytes: those for the binary digits of the length
+
+-- a number below 2 ^ k has at most k digits
+at_most_k : (k one other most n : ℕ) → one ≤ most → other ≤ most → n < 2 ^ k → digit_bytes one other n ≤ k * most
+at_most_k k one other most zero small too below = omega arith
+at_most_k zero one other most (suc n) small too below = absurd (omega (arith, below))
+at_most_k (suc k) one other most (suc n) small too below =
+    let rest = at_most_k k one other most (suc n / 2) small too (omega (arith, below)) in
+    omega (arith, digit_bytes-step one other (suc n) (omega arith), rest, piece (nat_eq (suc n % 2) 1))
+  where
+    piece : (odd : Bool) → cond odd one other ≤ most
+    piece true = small
+    piece false = too
+
+-- the greatest length has one digit more than any other, and ten of its eleven are 0
+digits_longest : (one n : ℕ) → one ≤ password_limit → n ≤ password_limit → digit_bytes one n n ≤ digit_bytes one password_limit password_limit
+digits_longest one n small short = elim (cases_order n password_limit) [
+  | inl same ↦ rw same (omega arith)
+  | inr other ↦ elim other [
+    | inl below ↦ omega (arith, at_most_k 10 one n password_limit n small short below)
+    | inr above ↦ absurd (omega (arith, short, above))
+  ]
+]
+
+single_longest : (n : ℕ) → n ≤ password_limit → digit_bytes 1 1 n ≤ digit_bytes 1 1 password_limit
+single_longest n short = omega (arith, at_most_k 11 1 1 1 n (omega arith) (omega arith) (omega (arith, short)))
+
+-- ---- those of the rounds
+
+rounds_longest : (count digest n salt : ℕ) → n ≤ password_limit → rounds_bytes count digest n salt ≤ rounds_bytes count digest password_limit salt
+rounds_longest count digest n salt short =
+    let once : count * (digest + n) ≤ count * (digest + password_limit) = mul-le-mul_left count (omega (arith, short)) in
+    omega (arith, once, mul-le-mul_left (count - div_ceil count 7) short)
+
+-- ---- the cost
+
+by_scheme : (scheme : Scheme) (n salt : ℕ) → n ≤ password_limit → cost_by scheme n salt ≤ cost_by scheme password_limit salt
+by_scheme Md5crypt n salt short = omega (arith, short, single_longest n short, rounds_longest 1000 16 n salt short)
+by_scheme (Shacrypt Sha256 rounds) n salt short =
+    omega (arith, short, mul-le-mul short short, digits_longest 32 n (omega arith) short, rounds_longest rounds.count 32 n salt short)
+by_scheme (Shacrypt Sha512 rounds) n salt short =
+    omega (arith, short, mul-le-mul short short, digits_longest 64 n (omega arith) short, rounds_longest rounds.count 64 n salt short)
+by_scheme (Scrypt params) n salt short =
+    let digest : key_digests n ≤ 1 = grind (arith, nat_tests) in
+    omega (arith, mul-le-mul digest short)
+
+pub longest : (kept : SettingValue) (n : ℕ) → n ≤ password_limit → cost kept n ≤ cost kept password_limit
+longest kept n short = by_scheme kept.scheme n (length kept.salt) short

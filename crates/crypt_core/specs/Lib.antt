@@ -1,9 +1,7 @@
 pub mod Crypt
 pub mod Cycle
-pub mod FieldReadings
-pub mod FitFaults
+pub mod Faults
 pub mod Fits
-pub mod HashFaults
 pub mod MadeSalts
 pub mod MadeSettings
 pub mod Md5crypt
@@ -11,7 +9,6 @@ pub mod Messages
 pub mod MethodLimits
 pub mod Methods
 pub mod Packing
-pub mod PasswordFaults
 pub mod Passwords
 pub mod Private
 pub mod Readings
@@ -21,10 +18,8 @@ pub mod RoundMessage
 pub mod Rounds
 pub mod Rules
 pub mod Schemes
-pub mod SettingFaults
 pub mod Settings
 pub mod ShaCrypt
 pub mod StoredFields
 pub mod TextLimits
 pub mod Work
-pub mod WorkBytes

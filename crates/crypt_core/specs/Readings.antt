@@ -1,8 +1,11 @@
--- The result of reading a setting.
-use Rattle.std.specs.Prelude.{◌≡◌, ℕ, List, Result, Ok, Err}
+-- The results of reading a setting and a stored field.
+use Rattle.std.specs.Prelude.{◌≡◌, ℕ, List, [], Result, Ok, Err}
 use Rattle.crypt_core.specs.Refusals.{IsRefused}
 use Rattle.crypt_core.specs.Settings.{SettingValue, Spells}
+use Rattle.crypt_core.specs.StoredFields.{IsHashOf, IsLocked, IsStored}
 use Rattle.crypt_core.specs.declared.setting.fault.SettingFault.{SettingFault}
+use Rattle.crypt_core.specs.declared.stored.StoredField.{StoredField}
+use Rattle.crypt_core.specs.declared.stored.StoredField.TheVariants.{Empty, Locked, Hash}
 
 -- IsReading text result: the text spells this setting, or gets this refusal.
 abbrev pub IsReading : List ℕ → Result SettingValue SettingFault → Type 0
@@ -13,3 +16,11 @@ IsReading text (Err fault) = IsRefused text fault
 -- both.
 unfoldable pub IsReadOneWay : List ℕ → Type 0
 IsReadOneWay text = (one other : Result SettingValue SettingFault) → IsReading text one → IsReading text other → one ≡ other
+
+-- IsFieldReading field result: the field is empty, locked, or this stored hash. The error is for a field that is
+-- neither empty nor locked, and is the first rule that it breaks as a setting.
+abbrev pub IsFieldReading : List ℕ → Result StoredField SettingFault → Type 0
+IsFieldReading field (Ok Empty) = field ≡ []
+IsFieldReading field (Ok Locked) = IsLocked field
+IsFieldReading field (Ok (Hash stored)) = IsStored field × IsHashOf field stored
+IsFieldReading field (Err fault) = IsStored field × IsRefused field fault

@@ -86,3 +86,17 @@ cost kept password_length = cost_by kept.scheme password_length (length kept.sal
 -- No count of a hash reaches this number, for any password and any setting.
 abbrev pub work_limit : ℕ
 work_limit = 2 ^ 41
+
+-- ---- parts of the work
+
+-- md5crypt_bytes password_length salt_length: the number of bytes of all messages of md5crypt.
+abbrev pub md5crypt_bytes : ℕ → ℕ → ℕ
+md5crypt_bytes password_length salt_length = (md5crypt_work password_length salt_length).bytes
+
+-- shacrypt_bytes digest_length a rounds password_length salt_length: the number of bytes of all messages of SHA-crypt.
+abbrev pub shacrypt_bytes : ℕ → ℕ → ℕ → ℕ → ℕ → ℕ
+shacrypt_bytes digest_length a rounds password_length salt_length = (shacrypt_work digest_length a rounds password_length salt_length).bytes
+
+-- The greatest value of a byte.
+abbrev pub greatest_byte : ℕ
+greatest_byte = 255

@@ -27,7 +27,7 @@ pub enum FitFault {
 }
 
 impl FitFault {
-    ghost use Rattle.crypt_core.specs.FitFaults.{fit_fault_text};
+    ghost use Rattle.crypt_core.specs.Faults.{fit_fault_text};
 
     /// Returns the message of the error.
     pub fn text(&self) -> &'static str

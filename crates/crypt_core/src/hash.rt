@@ -69,7 +69,7 @@ pub enum HashFault {
 }
 
 impl HashFault {
-    ghost use Rattle.crypt_core.specs.HashFaults.{hash_fault_text};
+    ghost use Rattle.crypt_core.specs.Faults.{hash_fault_text};
 
     /// Returns the message of the error.
     pub fn text(&self) -> &'static str

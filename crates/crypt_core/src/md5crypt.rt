@@ -11,8 +11,7 @@ ghost use Rattle.crypt_core.specs.MethodLimits.{digest_len, md5crypt_salt_limit}
 ghost use Rattle.crypt_core.specs.Passwords.{password_limit};
 ghost use Rattle.crypt_core.specs.RoundMessage.{alternate_message, digest_after};
 ghost use Rattle.crypt_core.specs.Private.Counting.{with_digest};
-ghost use Rattle.crypt_core.specs.Work.{work_limit};
-ghost use Rattle.crypt_core.specs.WorkBytes.{md5crypt_bytes};
+ghost use Rattle.crypt_core.specs.Work.{work_limit, md5crypt_bytes};
 
 use crate::messages::{RoundStrings, alternate_digest, feed_cycle, feed_digits, round};
 use crate::method::Method;

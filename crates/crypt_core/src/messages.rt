@@ -11,8 +11,7 @@ ghost use Rattle.crypt_core.specs.Cycle.{cycle, digit_pieces};
 ghost use Rattle.crypt_core.specs.MethodLimits.{shacrypt_salt_limit};
 ghost use Rattle.crypt_core.specs.Passwords.{password_limit};
 ghost use Rattle.crypt_core.specs.RoundMessage.{alternate_message, round_message};
-ghost use Rattle.crypt_core.specs.Private.Counting.{with_digest};
-ghost use Rattle.crypt_core.specs.Private.RoundStrings.{Strings};
+ghost use Rattle.crypt_core.specs.Private.Counting.{Strings, with_digest};
 
 use crate::method::SHACRYPT_SALT_LIMIT;
 use crate::password::PASSWORD_LIMIT;

@@ -20,7 +20,7 @@ pub enum PasswordFault {
 }
 
 impl PasswordFault {
-    ghost use Rattle.crypt_core.specs.PasswordFaults.{password_fault_text};
+    ghost use Rattle.crypt_core.specs.Faults.{password_fault_text};
 
     /// Returns the message of the error.
     pub fn text(&self) -> &'static str

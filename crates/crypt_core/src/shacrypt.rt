@@ -12,8 +12,7 @@ ghost use Rattle.crypt_core.specs.RoundMessage.{alternate_message};
 ghost use Rattle.crypt_core.specs.Rounds.{max_rounds, min_rounds};
 ghost use Rattle.crypt_core.specs.ShaCrypt.{sha_opening, sha_opening_byte, sha_opening_message, shacrypt_digest};
 ghost use Rattle.crypt_core.specs.Private.Counting.{with_digest};
-ghost use Rattle.crypt_core.specs.Work.{work_limit};
-ghost use Rattle.crypt_core.specs.WorkBytes.{shacrypt_bytes};
+ghost use Rattle.crypt_core.specs.Work.{work_limit, shacrypt_bytes};
 
 use crate::messages::{
     RoundStrings, alternate_digest, cycle_of, feed_cycle, feed_digits, feed_repeated, round,

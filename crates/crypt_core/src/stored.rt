@@ -5,9 +5,8 @@ ghost use Rattle.std.specs.Prelude.{◌≡◌, ◌↔◌, Err, IsTrue, IfOk, IfE
 ghost use Rattle.prims_core.specs.Meter.{HasRoom};
 ghost use Rattle.crypt_core.specs.declared.setting.fault.SettingFault.{SettingFault as Refusal};
 ghost use Rattle.crypt_core.specs.Crypt.{crypt, IsAfterRefusedGrowth};
-ghost use Rattle.crypt_core.specs.FieldReadings.{IsFieldReading};
+ghost use Rattle.crypt_core.specs.Readings.{IsFieldReading, IsReadOneWay};
 ghost use Rattle.crypt_core.specs.Fits.{Fits};
-ghost use Rattle.crypt_core.specs.Readings.{IsReadOneWay};
 ghost use Rattle.crypt_core.specs.Refusals.{IsRefused};
 ghost use Rattle.crypt_core.specs.Settings.{Spells};
 ghost use Rattle.crypt_core.specs.StoredFields.{IsHashOf, IsLocked};

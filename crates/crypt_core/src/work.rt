@@ -7,8 +7,7 @@ ghost use Rattle.crypt_core.specs.Passwords.{password_limit, IsPassword};
 ghost use Rattle.crypt_core.specs.Rounds.{max_rounds};
 ghost use Rattle.crypt_core.specs.Schemes.{method_of};
 ghost use Rattle.crypt_core.specs.ShaCrypt.{sha_opening_byte};
-ghost use Rattle.crypt_core.specs.Work.{cost, cost_by, digests_alone, md5crypt_work, rounds_bytes, shacrypt_work, work, work_bound, work_by, work_limit, IsBelow, IsWithin};
-ghost use Rattle.crypt_core.specs.WorkBytes.{greatest_byte};
+ghost use Rattle.crypt_core.specs.Work.{cost, cost_by, digests_alone, md5crypt_work, rounds_bytes, shacrypt_work, work, work_bound, work_by, work_limit, IsBelow, IsWithin, greatest_byte};
 
 use crate::md5crypt::ROUNDS;
 use crate::scheme::{Scheme, Sha};

@@ -5,21 +5,19 @@ use Rattle.clap.specs.declared.error.kind.ErrorKind.{ErrorKind}
 use Rattle.clap.specs.declared.error.kind.ErrorKind.TheVariants as kind
 use Rattle.clap.specs.declared.error.Error.{Error}
 use Rattle.mkpasswd.specs.Commands.{Serves, Tells}
-use Rattle.mkpasswd.specs.FaultLines.{IsTold, fault_line}
+use Rattle.mkpasswd.specs.Faults.{IsTold, fault_line, fault_row, parse_status}
 use Rattle.mkpasswd.specs.Private.Commands.{ErrorShown, RefusalShown, RunsOrLacks, front, help, mistake, no_text}
 use Rattle.run_core.specs.Devices.{Device}
-use Rattle.mkpasswd.specs.Faults.{fault_row, parse_status}
 use Rattle.mkpasswd.specs.Options.{Plans}
 use Rattle.run_core.specs.Output.{Shows}
 use Rattle.run_core.specs.Runs.{RunState}
-use Rattle.run_core.specs.Answers.{tally_of}
-use Rattle.run_core.specs.Tallies.{tally_status}
+use Rattle.run_core.specs.Answers.{tally_of, tally_status}
 use Rattle.mkpasswd.specs.declared.fault.Fault.{Fault}
 use Rattle.mkpasswd.specs.declared.fault.Fault.TheVariants.{Start, Usage, Run}
 use Rattle.run_core.specs.declared.fault.RunFault.{RunFault}
 use Rattle.mkpasswd.specs.declared.fault.UsageFault.{UsageFault}
 use Rattle.mkpasswd.specs.declared.fault.UsageFault.TheVariants.{Parse, OutOfMemory as NoMemory}
-use Rattle.run_core.proofs.Showing.{as_tally, shows-tally}
+use Rattle.run_core.proofs.Sending.{as_tally, shows-tally}
 use Rattle.mkpasswd.specs.declared.plan.Plan.{Plan}
 use Rattle.run_core.specs.declared.tally.Tally.{Tally}
 

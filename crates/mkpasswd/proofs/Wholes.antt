@@ -4,7 +4,7 @@ use Rattle.std.specs.Prelude.{MatchBool}
 use Rattle.std.specs.Io.KnownBytes.{Consumes, IsAtEnd}
 use Rattle.clap.specs.Words.{Text, kind_of}
 use Rattle.clap.specs.declared.error.Error.{Error}
-use Rattle.run_core.specs.Answers.{Answer}
+use Rattle.run_core.specs.Answers.{Answer, tally_status}
 use Rattle.mkpasswd.specs.Commands.{Concludes, Ends, Serves, ShowsError, Tells, wants_generator}
 use Rattle.mkpasswd.specs.Corollaries.{IsDone, IsWhole, Succeeds, SucceedsByLines}
 use Rattle.mkpasswd.specs.declared.fault.Fault.TheVariants.{Start}
@@ -15,7 +15,6 @@ use Rattle.run_core.specs.LineAnswers.{AreAnswers}
 use Rattle.run_core.specs.LineRuns.{lines_of}
 use Rattle.mkpasswd.specs.Options.{Plans}
 use Rattle.run_core.specs.Runs.{Finishes, RunState}
-use Rattle.run_core.specs.Tallies.{tally_status}
 use Rattle.run_core.specs.declared.fault.RunFault.{RunFault}
 use Rattle.run_core.specs.declared.fault.RunFault.TheVariants.{Read}
 use Rattle.mkpasswd.specs.declared.fault.UsageFault.TheVariants.{Parse}

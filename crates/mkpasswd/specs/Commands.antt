@@ -4,14 +4,13 @@ use Rattle.std.specs.Option.{option_map_or}
 use Rattle.clap.specs.Words.{Text, kind_of}
 use Rattle.rand_core.specs.Stream.{Stream}
 use Rattle.mkpasswd.specs.Faults.{fault_row, parse_status}
-use Rattle.run_core.specs.Answers.{tally_of}
+use Rattle.run_core.specs.Answers.{tally_of, tally_status}
 use Rattle.run_core.specs.LineRuns.{EndsLines}
 use Rattle.run_core.specs.Methods.{methods_text}
 use Rattle.run_core.specs.One.{EndsOne}
 use Rattle.mkpasswd.specs.Options.{Plans}
 use Rattle.run_core.specs.Output.{Shows}
 use Rattle.run_core.specs.Runs.{RunState, IsWithinTurns}
-use Rattle.run_core.specs.Tallies.{tally_status}
 use Rattle.run_core.specs.Texts.{as_line}
 use Rattle.mkpasswd.specs.declared.fault.Fault.{Fault}
 use Rattle.mkpasswd.specs.declared.fault.Fault.TheVariants.{Start, Usage, Run}

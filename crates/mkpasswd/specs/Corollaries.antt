@@ -8,7 +8,7 @@ use Rattle.crypt_core.specs.MadeSettings.{made_scheme}
 use Rattle.crypt_core.specs.Passwords.{IsPassword}
 use Rattle.crypt_core.specs.Settings.{BeginsWith}
 use Rattle.crypt_core.specs.declared.method.Method.{Method}
-use Rattle.run_core.specs.Answers.{Answer, password_answer, tally_of}
+use Rattle.run_core.specs.Answers.{Answer, password_answer, tally_of, tally_status}
 use Rattle.mkpasswd.specs.Faults.{parse_status}
 use Rattle.run_core.specs.Input.{IsDecided, Reads, first_line}
 use Rattle.run_core.specs.LineAnswers.{AreAnswers}
@@ -17,7 +17,6 @@ use Rattle.run_core.specs.Methods.{methods_text}
 use Rattle.mkpasswd.specs.Options.{Plans}
 use Rattle.run_core.specs.Output.{Takes}
 use Rattle.run_core.specs.Runs.{Finishes, RunState}
-use Rattle.run_core.specs.Tallies.{tally_status}
 use Rattle.run_core.specs.Texts.{as_line}
 use Rattle.mkpasswd.specs.declared.fault.UsageFault.TheVariants.{Parse}
 use Rattle.run_core.specs.declared.job.Job.{Job}

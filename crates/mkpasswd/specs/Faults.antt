@@ -1,10 +1,15 @@
--- The messages and exit statuses of the errors that end the program early.
-use Rattle.std.specs.Prelude.{ℕ, List, [], codes}
+-- The messages and exit statuses of the errors that end the program early, and the line of an error.
+use Rattle.std.specs.Prelude.{ℕ, List, [], ◌++◌, codes, length, Result}
 use Rattle.clap.specs.Words.{kind_of}
-use Rattle.crypt_core.specs.SettingFaults.{make_fault_text}
+use Rattle.crypt_core.specs.Faults.{make_fault_text}
 use Rattle.clap.specs.declared.error.kind.ErrorKind.{ErrorKind}
 use Rattle.clap.specs.declared.error.kind.ErrorKind.TheVariants.{DisplayHelp, DisplayVersion}
-pub use Rattle.run_core.specs.RunFaults.{run_row}
+pub use Rattle.run_core.specs.Faults.{run_row}
+use Rattle.run_core.specs.Devices.{Device}
+use Rattle.run_core.specs.Output.{Shows}
+use Rattle.run_core.specs.Texts.{as_line}
+use Rattle.run_core.specs.declared.fault.RunFault.{RunFault}
+use Rattle.run_core.specs.declared.tally.Tally.{Tally}
 use Rattle.mkpasswd.specs.declared.fault.Fault.{Fault}
 use Rattle.mkpasswd.specs.declared.fault.Fault.TheVariants.{Start, Usage, Run}
 use Rattle.mkpasswd.specs.declared.fault.UsageFault.TheVariants.{Parse, Method, TwoSalts, TwoModes, Make, OutOfMemory}
@@ -27,3 +32,13 @@ fault_row (Usage TwoModes) = (2, codes "two modes")
 fault_row (Usage (Make fault)) = (2, make_fault_text fault)
 fault_row (Usage OutOfMemory) = (3, codes "out of memory")
 fault_row (Run fault) = run_row fault
+
+-- The line of an error is `mkpasswd: `, its message and a line feed.
+abbrev pub fault_line : Fault → List ℕ
+fault_line fault = as_line (codes "mkpasswd: " ++ (fault_row fault).1)
+
+-- The command wrote the line of the error and flushed it, in at most as many calls as it has bytes. If that failed, a
+-- prefix of it is written.
+abbrev pub IsTold : {E : Type 0} → Fault → Device E → Device E → Type 0
+IsTold fault old new =
+    (result : Result Tally RunFault) × Shows (length (fault_line fault)) old new (fault_line fault) result

@@ -1,6 +1,5 @@
 pub mod Commands
 pub mod Corollaries
-pub mod FaultLines
 pub mod Faults
 pub mod Options
 pub mod Private

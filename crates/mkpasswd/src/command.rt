@@ -4,10 +4,9 @@ ghost use Rattle.crypt_core.specs.Methods.{method_named};
 ghost use Rattle.crypt_core.specs.declared.method.Method.{Method};
 ghost use Rattle.mkpasswd.specs.Commands.{Serves, stream_in};
 ghost use Rattle.mkpasswd.specs.Corollaries.{IsNoOption, IsWhole, PrintsHash, hash_arguments};
-ghost use Rattle.mkpasswd.specs.FaultLines.{IsTold, fault_line};
+ghost use Rattle.mkpasswd.specs.Faults.{IsTold, fault_line, fault_row};
 ghost use Rattle.mkpasswd.specs.Private.Commands.{ErrorShown, RefusalShown, RunsOrLacks};
 ghost use Rattle.run_core.specs.Devices.{HasRoomBeforeRun, HasRoomWithinRun, turns_limit};
-ghost use Rattle.mkpasswd.specs.Faults.{fault_row};
 ghost use Rattle.prims_core.specs.Work.{IsAtMost};
 ghost use Rattle.run_core.specs.Runs.{run_state};
 

@@ -11,10 +11,8 @@ pub mod LineOptions
 pub mod LineReading
 pub mod LineRules
 pub mod LinesOf
-pub mod MadeCosts
 pub mod Moving
 pub mod Reading
 pub mod Recipes
 pub mod Running
 pub mod Sending
-pub mod Showing

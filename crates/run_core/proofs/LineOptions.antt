@@ -7,8 +7,8 @@ use Rattle.crypt_core.specs.Crypt.{crypt}
 use Rattle.crypt_core.specs.Readings.{IsReadOneWay}
 use Rattle.crypt_core.specs.Settings.{SettingValue, Spells}
 use Rattle.crypt_core.specs.Work.{cost}
-use Rattle.crypt_core.proofs.Longest.{longest}
 use Rattle.crypt_core.proofs.Refusals.{one_reading}
+use Rattle.crypt_core.proofs.WorkBounds.{longest}
 use Rattle.run_core.specs.Answers.{Answer, Hashing}
 use Rattle.run_core.specs.Audits.{audit_cost}
 use Rattle.run_core.specs.JobOptions.{without_budget, without_rehash, IsAbove, check_cost, is_outdated}

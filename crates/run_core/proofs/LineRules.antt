@@ -4,8 +4,7 @@ use Rattle.std.proofs.lemmas.Bool.{cases_order}
 use Rattle.std.proofs.lemmas.List.{nil_from_length}
 use Rattle.crypt_core.specs.Passwords.{IsPassword, IsPasswordRefused, password_faults, password_limit}
 use Rattle.std.specs.Prelude.{◌≢◌, Ok, Err}
-use Rattle.crypt_core.specs.FieldReadings.{IsFieldReading}
-use Rattle.crypt_core.specs.Readings.{IsReadOneWay}
+use Rattle.crypt_core.specs.Readings.{IsFieldReading, IsReadOneWay}
 use Rattle.crypt_core.specs.Refusals.{FailsStage, IsRefused, setting_faults}
 use Rattle.crypt_core.specs.Rules.{IsFirstBroken}
 use Rattle.crypt_core.specs.StoredFields.{IsStored}

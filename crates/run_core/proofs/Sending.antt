@@ -1,12 +1,15 @@
 -- What an output has taken, one text after another, and how far the giving of a text has come.
-use Rattle.std.proofs.Common.{◌≡◌, ℕ, ◌+◌, ◌<◌, ◌≤◌, List, [], ◌++◌, length, take, drop, arith, refl, sym, ◌∙◌, ap, append_assoc, false, nat_eq, nat_lt, ◌&&◌, ◌-◌, add-zero}
+use Rattle.std.proofs.Common.{◌≡◌, ℕ, ◌+◌, ◌<◌, ◌≤◌, List, [], ◌++◌, length, take, drop, arith, refl, sym, ◌∙◌, ap, append_assoc, false, nat_eq, Result, Ok, Err, nat_lt, ◌&&◌, ◌-◌, add-zero}
 use Rattle.std.proofs.lemmas.List.{length-append, length-take-le, take-append-drop}
 use Rattle.std.specs.Io.KnownBytes.{Appends}
 use Rattle.std.proofs.KnownBytes.{Appends-nil, Appends-trans}
 use Rattle.std.proofs.lemmas.Bool.Decides.{nat_tests}
+use Rattle.run_core.specs.Answers.{tally_of}
 use Rattle.run_core.specs.DeviceCalls.{IsUnflushed, as_count}
 use Rattle.run_core.specs.Devices.{Device, MovesBytes}
-use Rattle.run_core.specs.Output.{Takes, TakesFront}
+use Rattle.run_core.specs.Output.{Shows, Takes, TakesFront}
+use Rattle.run_core.specs.declared.fault.RunFault.{RunFault}
+use Rattle.run_core.specs.declared.tally.Tally.{Tally}
 use Rattle.run_core.proofs.Moving.{moves-none, moves-trans}
 
 module _ {T : Type 0} where
@@ -100,3 +103,15 @@ module _ {T : Type 0} where
     untried = λ same. refl;
     moves = moves-none old;
   }
+
+-- ---- a text that was shown, by its outcome
+
+-- the same outcome with a tally
+abbrev pub as_tally : {A : Type 0} → Result A RunFault → Result Tally RunFault
+as_tally (Ok done) = Ok (tally_of [])
+as_tally (Err fault) = Err fault
+
+pub shows-tally : {A T : Type 0} (turns : ℕ) (old new : Device T) (text : List ℕ) (result : Result A RunFault)
+    → Shows turns old new text result → Shows turns old new text (as_tally result)
+shows-tally turns old new text (Ok done) shows = shows
+shows-tally turns old new text (Err fault) shows = shows

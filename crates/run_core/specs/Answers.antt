@@ -1,5 +1,5 @@
 -- The answer to one item, a password or a line, and the hashes that it takes.
-use Rattle.std.specs.Prelude.{◌≡◌, Bool, ℕ, List, [], ◌∷◌, ◌++◌, length, fold, count_by, flat_map, decimal, codes, if◌then◌else◌, true, false, Result, Ok, Err}
+use Rattle.std.specs.Prelude.{◌≡◌, ◌==◌, ◌&&◌, Bool, ℕ, List, [], ◌∷◌, ◌++◌, length, fold, count_by, flat_map, decimal, codes, if◌then◌else◌, true, false, Result, Ok, Err}
 use Rattle.rand_core.specs.Stream.{Stream}
 use Rattle.prims_core.specs.Work.{no_work}
 use Rattle.prims_core.specs.declared.meter.Work.{Work}
@@ -90,6 +90,11 @@ tally_of answers = record {
   refused = count_by (λ answer. is_refusal answer.outcome) answers;
   misfits = count_by (λ answer. is_misfit answer.outcome) answers;
 }
+
+-- tally_status tally is the exit status: 1 if a line was refused or got the verdict `no`, or an account needs care,
+-- else 0.
+abbrev pub tally_status : Tally → ℕ
+tally_status tally = if tally.refused == 0 && tally.misfits == 0 then 0 else 1
 
 -- ---- texts
 

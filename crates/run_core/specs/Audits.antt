@@ -5,7 +5,7 @@ use Rattle.crypt_core.specs.Passwords.{password_limit}
 use Rattle.crypt_core.specs.Refusals.{IsRefused}
 use Rattle.crypt_core.specs.Replacements.{is_replaced_by}
 use Rattle.crypt_core.specs.Schemes.{method_of}
-use Rattle.crypt_core.specs.SettingFaults.{setting_fault_text}
+use Rattle.crypt_core.specs.Faults.{setting_fault_text}
 use Rattle.crypt_core.specs.Settings.{SettingValue, Spells}
 use Rattle.crypt_core.specs.StoredFields.{IsLocked, IsStored}
 use Rattle.crypt_core.specs.Work.{cost}

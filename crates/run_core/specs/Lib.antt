@@ -2,10 +2,10 @@ pub mod Answers
 pub mod Audits
 pub mod DeviceCalls
 pub mod Devices
+pub mod Faults
 pub mod Input
 pub mod JobOptions
 pub mod LineAnswers
-pub mod LineFaults
 pub mod LineOptions
 pub mod LineRuns
 pub mod Lines
@@ -14,7 +14,5 @@ pub mod Methods
 pub mod One
 pub mod Output
 pub mod Private
-pub mod RunFaults
 pub mod Runs
-pub mod Tallies
 pub mod Texts

@@ -7,7 +7,7 @@ use Rattle.crypt_core.specs.StoredFields.{IsLocked}
 use Rattle.run_core.specs.Answers.{Answer, Hashing, counts_text, hashing, new_hash, new_hashing, rendered, shows_work, stream_left}
 use Rattle.run_core.specs.Audits.{Finds}
 use Rattle.run_core.specs.JobOptions.{IsAbove, check_cost, is_outdated}
-use Rattle.run_core.specs.LineFaults.{line_fault_text}
+use Rattle.run_core.specs.Faults.{line_fault_text}
 use Rattle.run_core.specs.Lines.{Parts, HasParts, IsLineRefused, IsSound}
 use Rattle.run_core.specs.Makers.{made_cost_by}
 use Rattle.run_core.specs.Texts.{as_line, colon}

@@ -22,7 +22,7 @@ pub enum RunFault {
 }
 
 impl RunFault {
-    ghost use Rattle.run_core.specs.RunFaults.{run_row};
+    ghost use Rattle.run_core.specs.Faults.{run_row};
 
     /// Returns the exit status: 2 for an invalid password, 3 for a system error or too many I/O calls.
     pub fn status(&self) -> u8

@@ -56,7 +56,7 @@ impl Job {
 /// The source of a single password.
 #[derive(Drop)]
 pub enum PasswordFrom {
-    /// The bytes of an argument, of any number and with any values.
+    /// The bytes of an argument, which may be any bytes.
     Word(Vec<u8>),
     /// The first line of the input.
     Input,

@@ -61,7 +61,7 @@ pub enum LineFault {
 }
 
 impl LineFault {
-    ghost use Rattle.run_core.specs.LineFaults.{line_fault_text};
+    ghost use Rattle.run_core.specs.Faults.{line_fault_text};
 
     /// Returns the message for users.
     pub fn text(&self) -> &'static str

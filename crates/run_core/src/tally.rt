@@ -13,8 +13,7 @@ pub struct Tally {
 }
 
 impl Tally {
-    ghost use Rattle.run_core.specs.Answers.{tally_of};
-    ghost use Rattle.run_core.specs.Tallies.{tally_status};
+    ghost use Rattle.run_core.specs.Answers.{tally_of, tally_status};
 
     /// Returns the tally of no lines.
     pub fn new() -> Tally

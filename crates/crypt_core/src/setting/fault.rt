@@ -1,7 +1,7 @@
 //! Why a string is no setting, and why a setting can't be made, with the messages that are promised.
 
 ghost use Rattle.std.specs.Prelude.{◌≡◌};
-ghost use Rattle.crypt_core.specs.SettingFaults.{setting_fault_text, make_fault_text};
+ghost use Rattle.crypt_core.specs.Faults.{setting_fault_text, make_fault_text};
 
 use kdf_core::params::ParamFault;
 use thiserror::Error;

@@ -9,8 +9,7 @@ use Rattle.run_core.specs.Answers.{tally_of}
 use Rattle.run_core.specs.declared.fault.RunFault.{RunFault}
 use Rattle.run_core.specs.declared.tally.Tally.{Tally}
 use Rattle.mkpasswd.specs.Commands.{Ends, wants_generator}
-use Rattle.mkpasswd.specs.FaultLines.{IsTold}
-use Rattle.mkpasswd.specs.Faults.{fault_row, parse_status}
+use Rattle.mkpasswd.specs.Faults.{IsTold, fault_row, parse_status}
 use Rattle.mkpasswd.specs.declared.fault.Fault.{Fault}
 use Rattle.mkpasswd.specs.declared.fault.Fault.TheVariants.{Start, Usage, Run}
 use Rattle.mkpasswd.specs.declared.fault.UsageFault.{UsageFault}

@@ -1,7 +1,6 @@
 -- The parts of a line, as the steps that read it find them.
 use Rattle.std.specs.Prelude.{◌≡◌, ◌≢◌, ℕ, ◌<◌, ◌≤◌, List, [], length, Contains, Option, Some, None, Ok}
-use Rattle.crypt_core.specs.FieldReadings.{IsFieldReading}
-use Rattle.crypt_core.specs.Readings.{IsReadOneWay}
+use Rattle.crypt_core.specs.Readings.{IsFieldReading, IsReadOneWay}
 use Rattle.crypt_core.specs.declared.stored.StoredField.{StoredField}
 use Rattle.run_core.specs.Lines.{HasFront, HasParts, IsCut, IsSound, Parts, line_limit, name_limit}
 use Rattle.run_core.specs.Texts.{colon}

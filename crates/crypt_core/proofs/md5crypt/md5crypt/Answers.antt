@@ -3,8 +3,7 @@ use Rattle.prims_core.specs.Digests.{length-md5, md5}
 use Rattle.crypt_core.specs.Md5crypt.{md5crypt_digest, md5crypt_opening, opening_message}
 use Rattle.crypt_core.specs.Messages.{md5crypt_message, md5crypt_messages, md5crypt_rounds}
 use Rattle.crypt_core.specs.RoundMessage.{round_message, alternate_message}
-use Rattle.crypt_core.specs.Private.Counting.{with_digest}
-use Rattle.crypt_core.specs.Private.RoundStrings.{Strings}
+use Rattle.crypt_core.specs.Private.Counting.{Strings, with_digest}
 use Rattle.crypt_core.proofs.CycleLemmas.{digit_bytes-few}
 use Rattle.crypt_core.proofs.Md5cryptLemmas.{are_messages, length-message_round, length-opening, message-round, messages-all, messages-in_all, messages-two}
 use Rattle.crypt_core.proofs.MessageLists.{digest_after-more, digest_after-none, length-messages_to, length-alternate, messages-more, round_length-small}

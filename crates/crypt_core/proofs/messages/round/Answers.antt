@@ -1,7 +1,7 @@
 use Rattle.std.proofs.Common.{◌≡◌, ◌+◌, ◌*◌, ◌≤◌, ◌++◌, List, ℕ, length, arith, ap}
 use Rattle.std.proofs.lemmas.List.{length-append}
 use Rattle.crypt_core.specs.RoundMessage.{round_message}
-use Rattle.crypt_core.specs.Private.RoundStrings.{Strings}
+use Rattle.crypt_core.specs.Private.Counting.{Strings}
 use Rattle.crypt_core.proofs.MessageLists.{length-round_message, round_length-small}
 use Rattle.crypt_core.proofs.messages.round.Goals as goal
 

@@ -1,4 +1,4 @@
-use Rattle.crypt_core.specs.WorkBytes.{greatest_byte}
+use Rattle.crypt_core.specs.Work.{greatest_byte}
 use Rattle.crypt_core.specs.Passwords.{password_limit}
 use Rattle.std.proofs.Common.{◌≡◌, ℕ, List, ◌+◌, ◌≤◌, length, drop, get_or, arith, refl, sym, ◌∙◌, ap}
 use Rattle.std.specs.List.{refill, repeat}
@@ -6,8 +6,7 @@ use Rattle.std.proofs.lemmas.List.{take_at}
 use Rattle.crypt_core.specs.RoundMessage.{alternate_message}
 use Rattle.crypt_core.specs.Messages.{shacrypt_message, shacrypt_messages}
 use Rattle.crypt_core.specs.ShaCrypt.{password_repeated, password_string, salt_repeated, salt_string, sha_opening, sha_opening_message, shacrypt_digest}
-use Rattle.crypt_core.specs.Private.Counting.{with_digest}
-use Rattle.crypt_core.specs.Private.RoundStrings.{Strings}
+use Rattle.crypt_core.specs.Private.Counting.{Strings, with_digest}
 use Rattle.crypt_core.proofs.CycleLemmas.{length-cycle, length-repeat}
 use Rattle.crypt_core.proofs.MessageLists.{digest_after-more, digest_after-none, length-messages_to, messages-more, round_length-small}
 use Rattle.crypt_core.proofs.Metering.{digests_in_all, digests_more, four_digests}

@@ -1,8 +1,7 @@
 use Rattle.std.proofs.Common.{◌≡◌, subst, sym, rules}
 use Rattle.prims_core.specs.declared.meter.Work.{Work}
 use Rattle.crypt_core.specs.ShaCrypt.{sha_opening_byte}
-use Rattle.crypt_core.specs.Work.{shacrypt_work, IsWithin}
-use Rattle.crypt_core.specs.WorkBytes.{greatest_byte}
+use Rattle.crypt_core.specs.Work.{shacrypt_work, IsWithin, greatest_byte}
 use Rattle.crypt_core.proofs.ShaCryptLemmas.{sha_opening_byte-below}
 use Rattle.crypt_core.proofs.WorkBounds.{shacrypt-within}
 use Rattle.crypt_core.proofs.work.shacrypt_bound.Goals as goal

@@ -2,7 +2,7 @@ use Rattle.std.proofs.Common.{◌≢◌, ◌∙◌, true≢false, Ok, Err, refl,
 use Rattle.clap.specs.Words.{kind_of}
 use Rattle.clap.specs.declared.error.kind.ErrorKind.TheVariants as kind
 use Rattle.mkpasswd.specs.Private.Commands.{front, help, mistake}
-use Rattle.run_core.proofs.Showing.{as_tally, shows-tally}
+use Rattle.run_core.proofs.Sending.{as_tally, shows-tally}
 use Rattle.mkpasswd.proofs.Serving.{status_of_help, status_of_mistake}
 use Rattle.mkpasswd.proofs.command.show_error.Goals as goal
 

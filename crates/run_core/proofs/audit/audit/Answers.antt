@@ -1,5 +1,5 @@
 use Rattle.std.proofs.Common.{ℕ, List, Ok, subst}
-use Rattle.crypt_core.specs.FieldReadings.{IsFieldReading}
+use Rattle.crypt_core.specs.Readings.{IsFieldReading}
 use Rattle.crypt_core.specs.declared.stored.StoredField.TheVariants.{Hash}
 use Rattle.run_core.specs.Audits.{Finds}
 use Rattle.run_core.proofs.audit.audit.Goals as goal

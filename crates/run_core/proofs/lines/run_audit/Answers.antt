@@ -1,6 +1,6 @@
 use Rattle.run_core.proofs.Auditing.{spares}
 use Rattle.run_core.proofs.LineOptions.{foresees}
-use Rattle.crypt_core.proofs.Longest as Longest
+use Rattle.crypt_core.proofs.WorkBounds.{longest}
 use Rattle.run_core.proofs.lines.run_audit.Goals as goal
 
 pub returns-clause-draws_none : goal.returns-clause-draws_none
@@ -13,7 +13,7 @@ pub returns-clause-allocates_none : goal.returns-clause-allocates_none
 returns-clause-allocates_none g c = (spares c.args.turns c.args.job.now _ _ _ c.answer_lines.ensures.ends).allocates_none
 
 pub returns-clause-longest : goal.returns-clause-longest
-returns-clause-longest g c = λ kept length short. Longest.longest kept length short
+returns-clause-longest g c = longest
 
 pub returns-clause-foresees : goal.returns-clause-foresees
 returns-clause-foresees g c = foresees c.args.job.now

@@ -1,5 +1,5 @@
 use Rattle.std.proofs.Common.{sym, ◌∙◌, rules}
-use Rattle.run_core.proofs.MadeCosts.{made_cost}
+use Rattle.run_core.proofs.Recipes.{made_cost}
 use Rattle.run_core.proofs.job.Maker.cost.Goals as goal
 
 pub returns-clause-number : goal.returns-clause-number
