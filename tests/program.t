@@ -145,7 +145,6 @@ subtest 'new hashes' => sub {
         \"a:\$5\$saltstring\$5B8vYYiY.CVt1RlTTf8KbXBH3hsxY/GNooZaBBGWEc5:Hello world!\n", qw(--check --rehash -R 10000 -S saltstringsaltst));
     fault(1, 'line 1: over budget', \"$old:password\n", @rehash, qw(--budget 33693234));
     answer("z:ok:$md5:2028:138803:32768:1048576", \"$old:password\n", @rehash, qw(--budget 33693235));
-    is_run(run({ stdin => "$old:Password\n" }, program(), @rehash, qw(--budget 33693235)), 1, "z:no:1026:102564:32768:1048576\n", '', 'a wrong password gets no new hash');
     answer('b:ok', \('b:$6$rounds=5000$toolongsaltstrin$lQ8jolhgVRVhY4b5pZKaysCLi0QBxGoNeKQzQ3glMhwllF7oGDZxUhx1yxdYcz/e1JSbq3y6JMxxl8audkUEm0:'
         . "This is just a test\n"), qw(--check --rehash));
     answer($md5, qw(--rehash -m md5 password xxxxxxxx));
