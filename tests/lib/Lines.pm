@@ -1,7 +1,7 @@
 package Lines;
 
-# Random lines for --batch, --check and --audit, in chunks. A chunk comes of a seed, a kind and a number; so a seed gives the same
-# lines again.
+# Random lines for --batch, --check and --audit, in chunks. A chunk comes of a seed, a kind and a number; so a seed gives
+# the same lines again.
 #
 # - Hash lines go through --batch, by a method with a given salt, with passwords of 0 to 511 bytes and a few longer ones; the
 #   hashes that it has to give become lines of --check, with right passwords, wrong ones, and texts in which one character
