@@ -8,8 +8,8 @@ import traceback
 
 import mkpasswd
 import pytest
-from mkpasswd import Reason, Refused, TooCostly, cost, crypt, hash, login, needs_rehash, verify, verify_and_update, work
-from support import COSTLY, MD5, SHA512, libxcrypt
+from mkpasswd import Reason, Refused, TooCostly, cost, crypt, describe, hash, login, needs_rehash, verify, verify_and_update, work
+from support import COSTLY, MD5, ROOT, SHA512, ended, libxcrypt
 
 REFUSED = {
     field: reason
@@ -168,6 +168,7 @@ def test_empty_and_locked_fields(field):
     for text in field, field.encode():
         assert verify("password", text) is verify("password", text, budget=0) is needs_rehash(text) is False
         assert verify_and_update("password", text) == (False, None)
+        assert describe(text) == (None, None, "locked" if field else "none", None)
         assert type(error_of(cost, text, 8)) is type(error_of(work, text, 8)) is Refused
 
 
@@ -178,6 +179,8 @@ def test_refused_fields_by_name(field):
         assert type(error) is Refused and error.reason is REFUSED[field]
         assert str(error) == REFUSED[field].name.lower().replace("_", " ")
     assert error_of(verify, "password", field, budget=0).reason is REFUSED[field]
+    is_unknown = REFUSED[field] is Reason.UNKNOWN_SCHEME
+    assert describe(field) == (None, None, *(("unknown", None) if is_unknown else ("malformed", REFUSED[field])))
 
 
 BAD_METHOD, BAD_ROUNDS = "method must be md5crypt, sha256crypt, sha512crypt or scrypt", "rounds must be 6 to 11, or 0 for 7"
@@ -187,7 +190,7 @@ def test_refused_methods_by_name():
     """The library says "cost", and Python names the argument."""
     rows = [*((method, 0) for method in ("bcrypt", "", "md5", "$6$")), *(("scrypt", n) for n in (1, 5, 12, 2**32 - 1))]
     for method, rounds in rows:
-        for call in (hash, "x"), (needs_rehash, MD5), (verify_and_update, "x", MD5):
+        for call in (hash, "x"), (needs_rehash, MD5), (verify_and_update, "x", MD5), (describe, MD5), (describe, "!"):
             error = error_of(*call, method, rounds=rounds)
             assert type(error) is Refused and error.reason is (Reason.COST if rounds else Reason.UNKNOWN_METHOD)
             assert str(error) == (BAD_ROUNDS if rounds else BAD_METHOD)
@@ -201,7 +204,7 @@ def test_reasons_of_the_library(monkeypatch, number, kind):
     """Those that no argument brings about, and those that no call should report."""
     for name in "verify", "new", "hash", "needs_rehash", "bound":
         monkeypatch.setattr(mkpasswd.lib, "mkpasswd_" + name, lambda *arguments: setattr(arguments[-1], "reason", number))
-    for failing in (hash, "x"), (crypt, "x", MD5), *with_field(MD5):
+    for failing in (hash, "x"), (crypt, "x", MD5), (describe, MD5), *with_field(MD5):
         assert type(error_of(*failing)) is kind
 
 
@@ -263,19 +266,20 @@ def test_subclasses_are_what_they_hold(password, length):
 
 
 def with_method(method):
-    calls = (hash, "x"), (needs_rehash, MD5), (verify_and_update, "x", MD5), (verify_and_update, "x", "!")
+    calls = (hash, "x"), (needs_rehash, MD5), (verify_and_update, "x", MD5), (verify_and_update, "x", "!"), (describe, "!")
     return [(*call, method) for call in calls]
 
 
 def test_wrong_types():
     views = memoryview(b"x"), memoryview(b"x" * 9)[::2], memoryview(b"x" * 8).cast("I")
     for value in (None, 5, True, 1.5, [], ["x"], object(), bytearray(b"x"), array.array("b", b"x"), *views):
-        for call in *with_password(value), *with_field(value), (crypt, "x", value or 0):
+        for call in *with_password(value), *with_field(value), (describe, value or 0), (crypt, "x", value or 0):
             error = error_of(*call)
             assert type(error) is TypeError and "must be str or bytes, not " in str(error)
     numbers = "5000", 5000.0, b"5", [], True, False, math.nan
     rounds = [(call, {"rounds": number}) for call in with_method("sha256crypt") + with_method("scrypt") for number in numbers]
-    budgets = [(call, {"budget": number}) for call in with_password("x") for number in (*numbers, None, -math.inf, 5j)]
+    limited = *with_password("x"), (describe, "!")
+    budgets = [(call, {"budget": number}) for call in limited for number in (*numbers, None, -math.inf, 5j)]
     lengths = [((call, MD5, number), {}) for call in (cost, work) for number in (*numbers, None)]
     methods = [(call, {}) for method in (None, 6, b"md5crypt", mkpasswd.METHOD_MD5) for call in with_method(method)]
     others = [((hash, "x", "md5crypt", 5000), {}), ((verify, "x", MD5, 5), {}), ((mkpasswd.mksalt, "6"), {})]
@@ -293,7 +297,7 @@ def test_numbers_out_of_range():
     assert needs_rehash(SHA512, rounds=999_999_999) and not needs_rehash(SHA512, rounds=1000)
     for number in -1, 1025, 2**64 + 8:
         assert type(error_of(cost, MD5, number)) is type(error_of(work, MD5, number)) is ValueError
-    for call in with_password("x"):
+    for call in *with_password("x"), (describe, "!"):
         assert type(error_of(*call, budget=-1)) is ValueError
 
 
@@ -343,15 +347,6 @@ def test_the_truth_of_verify_and_update_is_that_of_the_match():
         assert not changed
 
 
-def test_a_rehash_above_the_budget_locks_nobody_out():
-    """A match costs too much only together with the new hash: the old one stays. As docs/PYTHON.md has it, with 82 bytes."""
-    scrypt = libxcrypt("password", "$7$CU..../....salt")
-    for password, stored in ("password", scrypt), ("x" * 82, hash("x" * 82)), ("x" * 1024, hash("x" * 1024)):
-        assert verify_and_update(password, stored, rounds=656_000) == (True, None)
-        assert verify_and_update("y" + password[1:], stored, rounds=656_000) == (False, None)
-    assert verify_and_update("password", scrypt, rounds=656_000, budget=2 * mkpasswd.DEFAULT_BUDGET)[1].startswith("$6$")
-
-
 NEW = {
     "md5crypt": {None: "$1$", 5: "$1$"},
     "sha256crypt": {None: "$5$", 0: "$5$", 1000: "$5$rounds=1000$"},
@@ -387,3 +382,15 @@ def test_cost_and_work():
     n, r = 2**14, 32
     assert work("$7$CU..../....salt", 8) == (8 * r + 2, 4 * r * 168 + 164 + 128 * r, 2 * n, 128 * n * r, 384 * r)
     assert cost("$5$saltstring", 12) == 307760 and cost(SHA512, 1024) == work(SHA512, 1024).bytes
+
+
+# The first is what md5crypt digests of 1,024 bytes.
+@pytest.mark.parametrize("budget", [1_927_022, 1_927_021, 2**64 - 1])
+@pytest.mark.parametrize("made", [("sha512crypt", 656_000), ("sha512crypt", 5000), ("md5crypt", 0), ("scrypt", 8)])
+def test_descriptions_are_what_the_command_prints(made, budget):
+    fields = [field for field in [*LOCKED, *OTHERS, *REFUSED, MD5, SCRYPT, COSTLY] if not set(field) & set(":\n\ud800")]
+    options = "--audit -m %s -R %d --budget %d" % (*made, budget)
+    said = ended(ROOT / "mkpasswd", *options.split(), input="".join("ann:%s\n" % field for field in fields))[1]
+    for form in str, str.encode:
+        found = [str(describe(form(field), *made, budget=budget)) for field in fields]
+        assert ["ann:" + text for text in found] == said.splitlines()

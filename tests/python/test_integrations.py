@@ -57,6 +57,13 @@ def test_a_login_stores_nothing_over_what_changed_meanwhile(database, monkeypatc
         assert login(database, "ann", "password") is True and fields_of(database)["ann"] == change
 
 
+def test_recipe_of_an_audit(database, capsys):
+    recipe("Audit", database=database)
+    costly = "sha512crypt:%d:over budget" % mkpasswd.cost(COSTLY, 1024)
+    answers = "md5crypt:1927022:outdated", "none", "locked", costly, "none"
+    assert capsys.readouterr().out.splitlines() == ["%s:%s" % row for row in zip(fields_of(database), answers)]
+
+
 def test_recipe_of_asyncio():
     if not hasattr(asyncio, "to_thread"):
         pytest.skip("asyncio.to_thread came with Python 3.9")

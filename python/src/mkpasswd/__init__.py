@@ -22,12 +22,13 @@ import math
 import operator
 import os
 import re
-from typing import Any, Iterator, NamedTuple, Optional, Tuple, Union
+from typing import Any, Iterator, Literal, NamedTuple, Optional, Tuple, Union
 
 from ._library import PASSWORD_LIMIT, TEXT_SIZE, Reason, Report, lib
 
 __all__ = [
     "DEFAULT_BUDGET",
+    "Description",
     "METHOD_BLOWFISH",
     "METHOD_CRYPT",
     "METHOD_MD5",
@@ -40,6 +41,7 @@ __all__ = [
     "Work",
     "cost",
     "crypt",
+    "describe",
     "hash",
     "login",
     "methods",
@@ -51,6 +53,7 @@ __all__ = [
 ]
 
 Text = Union[str, bytes]
+State = Literal["current", "outdated", "over budget", "locked", "none", "unknown", "malformed"]
 
 #: What a call may cost by default, and each of the two hashes of login(), as cost() counts it: the bytes that are digested,
 #: and for scrypt those that are mixed. It admits what hash() makes without `rounds`, and SHA-crypt with
@@ -146,6 +149,19 @@ class Work(NamedTuple):
     mixes: int  #: mixings of 2r blocks of 64 bytes; scrypt alone
     table: int  #: bytes of scrypt's table
     scratch: int  #: bytes of scrypt's scratch memory
+
+
+class Description(NamedTuple):
+    """What describe() returns. str() is what `mkpasswd --audit` prints after the name."""
+
+    method: Optional[str]  #: None if there is no valid setting
+    cost: Optional[int]  #: the most that a hash with this setting costs, for a password of 1,024 bytes; or None
+    state: State
+    reason: Optional[Reason]  #: the first broken rule if the state is "malformed", and otherwise None
+
+    def __str__(self) -> str:
+        parts = self.method, self.cost, self.state, self.reason and self.reason.words
+        return ":".join(str(part) for part in parts if part is not None)
 
 
 def hash(
@@ -316,6 +332,46 @@ def work(stored: Text, password_len: int) -> Work:
     """
     most = _bound(_bytes(stored, "stored"), password_len).work
     return Work(*(getattr(most, name) for name in Work._fields))
+
+
+def describe(
+    field: Optional[Text], method: str = "sha512crypt", rounds: Optional[int] = 656_000, *, budget: float = math.inf
+) -> Description:
+    """What `mkpasswd --audit` says of a stored field, without any password. Nothing is hashed.
+
+    >>> describe("$1$xxxxxxxx$UYCIxa628.9qXjpQCjM4a.")
+    Description(method='md5crypt', cost=1927022, state='outdated', reason=None)
+    >>> str(describe("$6$rounds=0$salt$x"))
+    'malformed:bad rounds'
+
+    `method` and `rounds` are those that the service gives hash(), and `budget` is that of its logins; by default there is
+    none. The state is
+
+    - "over budget" if some password can cost more than the budget;
+    - otherwise "outdated" if needs_rehash() is true with this method and these rounds, and "current" if it is false;
+    - "locked" if the field begins with "!" or "*", and "none" if it is empty or None;
+    - "unknown" for another scheme, such as yescrypt;
+    - "malformed" for any other field without a valid setting. `reason` is then the first rule that it breaks.
+
+    Raises Refused, ValueError and TypeError as login() does, so nothing for what a database can hold as str or bytes.
+    """
+    text = b"" if field is None else _bytes(field, "field")
+    made, limit = _method(method, rounds), _limit(budget)
+    # This refuses an unknown method, and rounds that scrypt does not take, whatever the field is.
+    _is_outdated(b"$1$", made)
+    if _is_locked(text):
+        return Description(None, None, "locked" if text else "none", None)
+    try:
+        most = _bound(text, PASSWORD_LIMIT).cost
+    except Refused as fault:
+        if fault.reason is Reason.UNKNOWN_SCHEME:
+            return Description(None, None, "unknown", None)
+        return Description(None, None, "malformed", fault.reason)
+    # The setting begins with "$", the method's number and "$".
+    names = {number: name for name, number in _NUMBERS.items()}
+    is_outdated = _is_outdated(text, made)
+    state: State = "over budget" if most > limit else "outdated" if is_outdated else "current"
+    return Description(names[int(text[1:2])], most, state, None)
 
 
 class _Method(NamedTuple):
