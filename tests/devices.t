@@ -117,7 +117,6 @@ subtest 'what lines ask for' => sub {
         ['more checks by scrypt', [@of_8, @of_8[1, 2], @of_32, @of_8], 0, "$small$small$large$small", '--check'],
         ['a new hash by scrypt', [@of_8, @of_32], 0, $small, qw(--check --rehash -m scrypt)],
         ['a wrong password, without a new hash', \@of_8, 1, $small =~ s/word$/wort/r, qw(--check --rehash -m scrypt)],
-        ['a check over budget', [], 1, $small, qw(--check --budget 1000)],
         (map { ["a line hashed by $_", [], 0, "ann:password\n", '--batch', '-m', $_] } qw(md5crypt sha256crypt sha512crypt)),
         ['a line hashed by scrypt', \@of_32, 0, "ann:password\n", qw(--batch -m scrypt)],
         ['a line over budget', [], 1, "ann:password\n", qw(--batch -m scrypt --budget 1000)],

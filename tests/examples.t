@@ -173,7 +173,6 @@ subtest 'administration' => sub {
     is_run($recipe->('known passwords'), 0, "ann\neve\n", "mkpasswd: line 6: above ceiling\nmkpasswd: line 7: over budget\n", 'who has it');
     spew("$folder/list", "eve:guess\neve:password\r\nbob:x\nzoe:x\nann:word\neve:password\n");
     is_run($recipe->('known passwords'), 0, "eve\n", "mkpasswd: line 5: over budget\n", 'who still has a password of a list');
-    like(slurp("$folder/joined"), qr/\A(?:.*\n){4}zoe:.*:x$/m, 'the line that was refused is in a file');
 
     my %fields = (ann => $old, bob => "!$old", eve => $old, kim => crypt('password', '$6$rounds=656000$ab'), zoe => $costly);
     $accounts->(%fields);

@@ -90,7 +90,6 @@ subtest 'passwords' => sub {
         "a hash of $_ bytes with a made salt") for 512, $limits{password};
     fault(2, 'password too long', @$_) for [qw(-m md5 -S ab), "${most}a"], [qw(-m md5 -S ab), $long], [\"${most}a", '-s'], [\"${most}a\n"];
     fault(2, 'password has a zero byte', @$_) for [\"a\0b\n", '-s'], [\"\0", qw(-m scrypt -S ab -s)];
-    answer($md5, qw(-m md5 password xxxxxxxx));
     answer($md5, \$_, @md5, '-s') for 'password', "password\n", "password\nmore";
     answer($md5, \"password\nmore\0\n$most$most\n", @md5);
     answer('$1$xxxxxxxx$IqF7NosA6k6TofrEZx5/s/', @md5, '-s');
@@ -99,10 +98,8 @@ subtest 'passwords' => sub {
     answer($md5, @$_) for [qw(password --salt=xxxxxxxx --method md5)], [qw(-mmd5 -Sxxxxxxxx -- password)];
     answer('$1$xxxxxxxx$IqF7NosA6k6TofrEZx5/s/', @md5, '');
     answer('$5$rounds=1000$ab$1w1vy5uCLDQWfIMwmaMatnSGmBa34fZnvo3JO2w3CP1', qw(--method=sha256crypt --rounds=1000 --salt ab password));
-    answer('$5$saltstring$5B8vYYiY.CVt1RlTTf8KbXBH3hsxY/GNooZaBBGWEc5', qw(-m sha256crypt -S saltstring), 'Hello world!');
     answer("$low:1004:142068:0:0", \'the minimum number is still observed', qw(-R 10 -S roundstoolow -s --work));
     answer("$md5:1002:36239:0:0", @md5, qw(--work password));
-    answer("$md5:1002:36239:0:0", \"password\n", @md5, qw(-s --work));
 };
 
 subtest 'devices' => sub {
@@ -117,20 +114,11 @@ subtest 'lines' => sub {
     answer('ann:ok:1002:36239:0:0', \"ann:$md5:password", qw(--check --work));
     answer('s:ok:10:948:32:2048', \'s:$7$2/..../....$rNxJWVHNv/mCNcgE/f6/L4zO6Fos5c2uTzhyzoisI62:', qw(--check --work));
     answer("b:locked\nc:none", \"b:!:x\nc::x\n", '--check');
-    # The rounds count as 1000, but the text is another.
-    my $again = 'the minimum number is still observed';
-    answer('r:ok', \"r:$low:$again", '--check');
-    is_run(run({ stdin => 'r:' . $low =~ s/1000/10/r . ":$again" }, program(), '--check'), 1, "r:no\n", '', 'rounds=10');
 };
 
-# The greatest cost of a line is the least budget that admits it.
+# A budget that is one too small: with the most rounds, and with scrypt at its ceiling.
 subtest 'budgets' => sub {
     answer($md5, qw(-m md5 --budget 0 password xxxxxxxx));
-    my $small = "s:\$7\$2/..../....\$rNxJWVHNv/mCNcgE/f6/L4zO6Fos5c2uTzhyzoisI62:\n";
-    fault(1, 'line 1: over budget', \$small, qw(--check --budget 5043));
-    answer('s:ok', \$small, qw(--check --budget 5044));
-    answer('b:locked', \"b:!:x\n", qw(--check --budget 0));
-    # The most rounds, and scrypt at its ceiling.
     fault(1, 'line 1: over budget', \"h:$_->[0]\$:$_->[1]", '--check', '--budget', $_->[2]) for
         ['$6$rounds=999999999$saltstringsaltst', 'password', 89523813983], ['$5$rounds=999999999$saltstringsaltst', 'password', 57523813983],
         ['$7$J2..../....', '', 2147486947], ['$7$/...E./....', '', 5435818147];
@@ -145,8 +133,6 @@ subtest 'new hashes' => sub {
         \"a:\$5\$saltstring\$5B8vYYiY.CVt1RlTTf8KbXBH3hsxY/GNooZaBBGWEc5:Hello world!\n", qw(--check --rehash -R 10000 -S saltstringsaltst));
     fault(1, 'line 1: over budget', \"$old:password\n", @rehash, qw(--budget 33693234));
     answer("z:ok:$md5:2028:138803:32768:1048576", \"$old:password\n", @rehash, qw(--budget 33693235));
-    answer('b:ok', \('b:$6$rounds=5000$toolongsaltstrin$lQ8jolhgVRVhY4b5pZKaysCLi0QBxGoNeKQzQ3glMhwllF7oGDZxUhx1yxdYcz/e1JSbq3y6JMxxl8audkUEm0:'
-        . "This is just a test\n"), qw(--check --rehash));
     answer($md5, qw(--rehash -m md5 password xxxxxxxx));
 };
 
