@@ -628,7 +628,7 @@ subtest 'manuals' => sub {
         like($text, qr/^\.Sh NAME\n(?:\.Nm \w+ ,\n)*\.Nm $call\b/m, "$call: its page has its name");
     }
     for my $name (grep { $pages{$_} !~ /\A\.so / } sort keys %pages) {
-        my @examples = section_of($pages{$name}, 'EXAMPLES') =~ /^\.\\" prints: (.*?)\n\.Bd -literal.*?\n(.*?)^\.Ed$/msg;
+        my @examples = $pages{$name} =~ /^\.\\" prints: (.*?)\n\.Bd -literal.*?\n(.*?)^\.Ed$/msg;
         while (my ($wanted, $code) = splice @examples, 0, 2) {
             spew("$scratch/example.c", $code =~ s/\\e/\\/gr =~ s/\\&//gr);
             my $program = build("$name.example", $cc, '-std=c99', @strict, "$scratch/example.c", @static) or next;

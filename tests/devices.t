@@ -53,6 +53,7 @@ for (
     ['--rehash from scrypt', "bob:$old:password\n", [qw(--check --rehash), @md5], 0, "bob:ok:$md5\n", ''],
     ['--rehash between costs of scrypt', "ann::\nbob:$old:password\n", [qw(--check --rehash -m scrypt -R 6 -S ab)], 0, "ann:none\nbob:ok:$new\n", '', 6],
     ['--check with a table that is kept', $small x 2 . $large, ['--check'], 0, "ann:ok\n" x 3, '', 5],
+    ['--audit', "ann:$md5:1\n:x\nbob:!\n", ['--audit'], 1, "ann:md5crypt:1927022:outdated\nbob:locked\n", "mkpasswd: line 2: no name\n"],
     ['--rehash to scrypt', "bob:$md5:password\n", [qw(--check --rehash -m scrypt -R 6 -S ab)], 0, "bob:ok:$new\n", ''],
 ) {
     my ($mode, $input, $words, $status, $out, $err, $after) = @$_;
@@ -116,10 +117,10 @@ subtest 'what lines ask for' => sub {
         ['more checks by scrypt', [@of_8, @of_8[1, 2], @of_32, @of_8], 0, "$small$small$large$small", '--check'],
         ['a new hash by scrypt', [@of_8, @of_32], 0, $small, qw(--check --rehash -m scrypt)],
         ['a wrong password, without a new hash', \@of_8, 1, $small =~ s/word$/wort/r, qw(--check --rehash -m scrypt)],
-        ['a check over budget', [], 1, $small, qw(--check --budget 1000)],
         (map { ["a line hashed by $_", [], 0, "ann:password\n", '--batch', '-m', $_] } qw(md5crypt sha256crypt sha512crypt)),
         ['a line hashed by scrypt', \@of_32, 0, "ann:password\n", qw(--batch -m scrypt)],
         ['a line over budget', [], 1, "ann:password\n", qw(--batch -m scrypt --budget 1000)],
+        ['an audit', [], 1, $large, '--audit'],
         ['refused lines', [], 1, $refused, qw(--batch -m scrypt)],
     ) {
         my ($name, $more, $status, $input, @words) = @$_;

@@ -1,6 +1,6 @@
 #!/usr/bin/env perl
-# Has the program answer lines: random ones of each kind with one seed, which is a short soak; many through a pipe that stays
-# open; and some into outputs that are closed.
+# Has the program answer lines: random ones of each kind with one seed, which is a short soak; accounts to audit; many through a
+# pipe that stays open; and some into outputs that are closed.
 use strict;
 use warnings;
 use FindBin;
@@ -26,6 +26,35 @@ for my $kind (qw(hash hostile)) {
         }
     };
 }
+
+# An audit of each field, in lines of its own and as a shadow file has it. They are those of a fresh Debian, hostile ones, and
+# hashes by their settings. Then lines that are refused.
+subtest 'audits' => sub {
+    my ($current, $fewer, $most) = map { setting(6, 'ab', rounds => $_, is_written => 1) } 656000, 655999, $limits{most_rounds};
+    my ($md5, $cost) = (setting(1, 'xxxxxxxx'), cost($current, $limits{password}));
+    for (
+        [0, 'unknown', '$y$j9T$F5Jx5fExrKuPp53xLKQ..1$X3DX6M94c7o.9agCG9G317fhZg9SqC.5i5rd.RhAtQ7'],
+        (map { [0, 'locked', $_] } qw(! * !*)), [1, 'none', ''],
+        [1, 'malformed:setting too long', '$6$rounds=999999999$' . 'x' x 400], [1, 'malformed:bad character', "\$1\$a\0b"],
+        [1, 'malformed:bad rounds', '$5$rounds=0$ab$x'], [1, 'malformed:scrypt range', '$7$' . scrypt_cost(24, 1, 1) . 'ab$x'],
+        [1, 'malformed:above ceiling', '$7$' . scrypt_cost(20, 16, 1) . 'ab$x'], [1, 'malformed:bad salt', '$7$CU..../....a_b$x'],
+        [0, 'current', $current], [0, 'current', $current, '--budget', $cost], [1, 'over budget', $current, '--budget', $cost - 1],
+        [1, 'outdated', $fewer], [1, 'outdated', $fewer, '--budget', $cost], [1, 'over budget', $most, '--budget', $cost],
+        [0, 'current', $md5, qw(-m md5crypt)], [1, 'outdated', $md5], [1, 'outdated', made_setting(7, 7, 'ab')],
+    ) {
+        my ($status, $finding, $field, @words) = @$_;
+        if (ref $field) {
+            $finding = join ':', $types{ $field->{kind} }, cost($field, $limits{password}), $finding;
+            $field = "$field->{front}\$x";
+        }
+        my ($input, $answers) = ("ann:$field\nbob:$field:19000:0:99999:7:::\neve:$field:", "ann:$finding\nbob:$finding\neve:$finding\n");
+        is_run(run({ stdin => $input }, program(), qw(--audit -R 656000), @words, @$_), $status, $answers, '', "@words @$_ " . shown($field))
+            for [], [qw(--work --rehash)];
+    }
+    my $input = join "\n", ':x', 'n' x 65 . ':!', 'ann', 'ann:' . 'x' x 2045, 'bob:!';
+    my $told = join '', map { "mkpasswd: line $_\n" } '7: no name', '8: name too long', '9: no password field', '10: line too long';
+    is_run(run({ stdin => $input }, program(), qw(--audit --first-line 7)), 1, "bob:locked\n", $told, 'refused lines');
+};
 
 # While the pipe is open each line has to be answered, and then the program's peak of memory is read.
 subtest 'a pipe that stays open' => sub {

@@ -1,13 +1,13 @@
 package Lines;
 
-# Random lines for --batch and --check, in chunks. A chunk comes of a seed, a kind and a number; so a seed gives the same
-# lines again.
+# Random lines for --batch, --check and --audit, in chunks. A chunk comes of a seed, a kind and a number; so a seed gives
+# the same lines again.
 #
 # - Hash lines go through --batch, by a method with a given salt, with passwords of 0 to 511 bytes and a few longer ones; the
 #   hashes that it has to give become lines of --check, with right passwords, wrong ones, and texts in which one character
 #   is another. (Scrypt's cheap costs have no words of their own: their texts come from crypt, and are checked.)
 # - Hostile lines are put together from pieces of the grammar, stand at the limits, or are good lines that were changed, for
-#   --batch and --check with any flags and a budget.
+#   any mode with any flags and a budget.
 
 use strict;
 use warnings;
@@ -203,7 +203,7 @@ sub mutated {
     return $line;
 }
 
-# Lines at the limits: of any job, and of --check.
+# Lines at the limits: of any job, and of those with a field.
 my @limit_lines = (
     sub { bytes_of(between(63, 66), 'n', "\xc3") . ":$_[0]x" },
     sub { bytes_of(between(63, 66), 'n') . one_of('', ':') },
@@ -212,7 +212,7 @@ my @limit_lines = (
     sub { one_of('n', '', 'n' x 65) . ":$_[0]" . one_of('p', ':') x between(2040, 2050) },
     sub { one_of('n', '') . ":$_[0]" . bytes_of(50, @fragments) x between(50, 1500) },
 );
-my @check_limit_lines = (
+my @field_limit_lines = (
     sub { 'n:!' . 'x' x between(2035, 2039) . ':password' },
     sub { 'n:' . one_of('$1$', '$5$', '$5$rounds=1$', '$9$', '$7$2/..../....ab$') . bytes_of(between(367, 385), 'a', one_of('b', ' ', '!')) . ':p' },
     sub { 'n:' . substr(one_of('$1$ab$', '$6$rounds=1000$ab$', '$6$rounds=0$', '$7$', '*') . 'ab' x 192, 0, between(382, 387)) . ':p' },
@@ -222,8 +222,8 @@ my @check_limit_lines = (
 );
 
 sub limit_line {
-    return one_of(@limit_lines)->('') if !$_[0]{is_check};
-    return chance(0.5) ? one_of(@check_limit_lines)->() : one_of(@limit_lines)->(one_of('!', '*') . ':');
+    return one_of(@limit_lines)->('') if $_[0]{is_batch};
+    return chance(0.5) ? one_of(@field_limit_lines)->() : one_of(@limit_lines)->(one_of('!', '*') . ':');
 }
 
 # A line that no rule of lines or settings is meant for.
@@ -235,7 +235,7 @@ sub hostile_line {
     my $kind = rand;
     return limit_line($job) if $kind < 0.13;
     return junk() if $kind < 0.16;
-    if (!$job->{is_check}) {
+    if ($job->{is_batch}) {
         my $line = name() . ':' . password();
         return $kind < 0.36 ? mutated($line) : $line;
     }
@@ -249,8 +249,6 @@ sub hostile_line {
 }
 
 # ---- Chunks
-
-my %types = (1 => 'md5crypt', 5 => 'sha256crypt', 6 => 'sha512crypt', 7 => 'scrypt');
 
 sub hash_chunk {
     my ($number, $count) = @_;
@@ -276,9 +274,7 @@ sub varied {
     my $kind = rand;
     return [$name, $hash, $password] if $kind < 0.5;
     return [$name, $hash, beside($password)] if $kind < 0.8;
-    return [$name, with_another_character($hash, 1 + rindex $hash, '$'), $password] if $kind < 0.95;
-    return [$name, substr($hash, 0, -1), $password] if $kind < 0.97;
-    return [$name, $hash . one_of(@characters), $password];
+    return [$name, with_another_character($hash, 1 + rindex $hash, '$'), $password];
 }
 
 # What the words say of the method, for hostile lines.
@@ -306,23 +302,27 @@ sub good_hashes {
     } 1 .. 16;
 }
 
-# A budget for lines of these costs: at one of them, just below it, or anything; never so much that a line takes long.
+# A budget, at most so much, for lines of these costs: at one of them, just below it, or anything.
 sub budget {
-    my @costs = grep { $_ && $_ <= $dear } @_;
+    my ($most, @all) = @_;
+    my @costs = grep { $_ && $_ <= $most } @all;
     my $kind = rand;
     return one_of(@costs) - ($kind < 0.3 ? 1 : 0) if @costs && $kind < 0.7;
-    return $kind < 0.9 ? $dear : int exp rand log $dear;
+    return $kind < 0.9 ? $most : int exp rand log $most;
 }
 
 sub hostile_chunk {
     my (undef, $count) = @_;
-    my @flags = chance(0.35) ? '--batch' : ('--check', chance(0.45) ? '--rehash' : ());
-    my $made = $flags[0] eq '--batch' || @flags > 1 ? hostile_words() : undef;
+    my $mode = one_of(qw(--batch --batch --check --check --check --audit));
+    my @flags = ($mode, chance(0.45) ? '--rehash' : ());
+    my $made = $mode ne '--check' || @flags > 1 ? hostile_words() : undef;
     my $job = job($made, @flags, chance(0.4) ? '--work' : ());
-    my @hashes = $job->{is_check} ? good_hashes() : ();
+    my @hashes = $job->{is_batch} ? () : good_hashes();
     my @lines = map { hostile_line($job, \@hashes) =~ tr/\n/\r/r } 1 .. $count;
-    $job->{budget} = budget(map { judged($job, $_)->{cost} // () } @lines);
-    push @{ $job->{words} }, '--budget', $job->{budget};
+    if ($job->{is_audit}) { for (@lines) { s/:[^:]*\z// if chance(0.3) } }
+    $job->{budget} = budget($job->{is_audit} ? 10 ** 13 : $dear, map { judged($job, $_)->{cost} // () } @lines);
+    $job->{first_line} = between(1, 4294967295);
+    push @{ $job->{words} }, '--budget', $job->{budget}, '--first-line', $job->{first_line};
     my $input = join '', map { "$_\n" } @lines;
     chop $input if $lines[-1] ne '' && chance(0.3);
     return [$job, $input];

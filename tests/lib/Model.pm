@@ -11,14 +11,15 @@ use Digest::SHA qw(sha256 sha512);
 use Exporter qw(import);
 use List::Util qw(max min sum0);
 
-our @EXPORT = qw(%limits %kinds %most_salt %made_salt %packed_length @characters @setting_refusals @line_refusals
-    forget shown numeral scrypt_cost setting read_setting made_setting is_replaced counts cost hash_of made_by_hand
+our @EXPORT = qw(%limits %kinds %types %most_salt %made_salt %packed_length @characters @setting_refusals @line_refusals
+    forget shown numeral scrypt_cost setting read_setting made_setting is_replaced counts cost hash_of
     job judged differences);
 
 our %limits = (
     password => 1024, setting => 384, line => 2048, name => 64, least_rounds => 1000, most_rounds => 999999999, ceiling => 8388608,
 );
 our %kinds = (md5crypt => 1, md5 => 1, sha256crypt => 5, 'sha-256' => 5, sha512crypt => 6, 'sha-512' => 6, scrypt => 7);
+our %types = (1 => 'md5crypt', 5 => 'sha256crypt', 6 => 'sha512crypt', 7 => 'scrypt');
 our %most_salt = (1 => 8, 5 => 16, 6 => 16, 7 => 86);
 our %made_salt = (1 => 8, 5 => 16, 6 => 16, 7 => 22);
 our %packed_length = (1 => 22, 5 => 43, 6 => 86, 7 => 43);
@@ -172,8 +173,8 @@ sub second_digest {
     return $digest->($message);
 }
 
-# The digest whose characters stand behind the setting of a hash by md5crypt or SHA-crypt.
-sub last_digest {
+# The hash of a password by md5crypt or SHA-crypt, made here.
+sub made_by_hand {
     my ($setting, $password) = @_;
     my ($kind, $salt) = @$setting{qw(kind salt)};
     my $digest = $digest{$kind};
@@ -188,13 +189,7 @@ sub last_digest {
         my $middle = ($round % 3 ? $salt : '') . ($round % 7 ? $pass : '');
         $last = $digest->($round % 2 ? $pass . $middle . $last : $last . $middle . $pass);
     }
-    return $last;
-}
-
-# The hash of a password by md5crypt or SHA-crypt, made here.
-sub made_by_hand {
-    my ($setting, $password) = @_;
-    return "$setting->{front}\$" . packed($setting->{kind}, last_digest($setting, $password));
+    return "$setting->{front}\$" . packed($kind, $last);
 }
 
 # The same, libxcrypt's wherever it takes the two; nothing where it takes no scrypt. Hashes are kept until forgotten.
@@ -219,7 +214,7 @@ sub hash_of {
 # A job of these flags, and its words. With words for a method they are in %$made: kind, type, cost, salt.
 sub job {
     my ($made, @flags) = @_;
-    my %job = (words => [@flags], map { ('is_' . substr($_, 2) => 1) } @flags);
+    my %job = (words => [@flags], setting => made_setting(6), map { ('is_' . substr($_, 2) => 1) } @flags);
     if ($made) {
         my ($kind, $cost, $salt) = @$made{qw(kind cost salt)};
         push @{ $job{words} }, '-m', $made->{type} if defined $made->{type};
@@ -239,6 +234,7 @@ sub judged {
     return { refusal => 'no name' } if $name eq '';
     return { refusal => 'name too long' } if length $name > $limits{name};
     return { refusal => 'no password field' } if @fields < ($job->{is_check} ? 3 : 2);
+    return { name => $name, audited($job, $fields[1] =~ s/:.*//sr) } if $job->{is_audit};
     my $password = $fields[-1];
     my $length = length $password;
     return { refusal => 'password too long' } if $length > $limits{password};
@@ -259,6 +255,20 @@ sub judged {
     return \%judged;
 }
 
+# What an audit has to find in a field, the greatest cost of a hash with its setting, and whether it counts for the status.
+sub audited {
+    my ($job, $field) = @_;
+    return (finding => 'none', is_bad => 1) if $field eq '';
+    return (finding => 'locked') if $field =~ /\A[!*]/;
+    my $setting = read_setting($field);
+    return (finding => 'unknown') if $setting eq 'unknown scheme';
+    return (finding => "malformed:$setting", is_bad => 1) unless ref $setting;
+    my $cost = cost($setting, $limits{password});
+    my $standing = defined $job->{budget} && $cost > $job->{budget} ? 'over budget'
+        : is_replaced($setting, $job->{setting}) ? 'outdated' : 'current';
+    return (finding => "$types{ $setting->{kind} }:$cost:$standing", cost => $cost, is_bad => $standing ne 'current');
+}
+
 # Whether the field is the hash of the password: 1, 0, or nothing where that is not known.
 sub is_fit {
     my ($judged) = @_;
@@ -272,6 +282,7 @@ sub is_fit {
 # The answer that the line has to get, beside the one that it got: a salt that was drawn is only known from that.
 sub answer {
     my ($job, $judged, $got, $salts) = @_;
+    return ("$judged->{name}:$judged->{finding}\n", $judged->{is_bad}) if defined $judged->{finding};
     my ($verdict, $password) = @$judged{qw(verdict password)};
     my $text = "$judged->{name}:";
     my @work = (0, 0, 0, 0);
@@ -309,16 +320,17 @@ sub differences {
     my @faults = $run->{err} =~ /[^\n]*\n|[^\n]+\z/g;
     my @lines = split /\n/, $input, -1;
     pop @lines if @lines && $lines[-1] eq '';
-    my ($status, %salts, %is_told, @differences) = 0;
-    for my $number (1 .. @lines) {
-        my $judged = judged($job, $lines[$number - 1]);
+    my ($status, $number, %salts, %is_told, @differences) = (0, ($job->{first_line} // 1) - 1);
+    for my $line (@lines) {
+        my $judged = judged($job, $line);
+        $number++;
         my $refusal = $judged->{refusal};
         my $stream = defined $refusal ? 'fault output' : 'output';
         my $got = shift @{ defined $refusal ? \@faults : \@answers } // '';
         my ($wanted, $is_no) = defined $refusal ? ("mkpasswd: line $number: $refusal\n", 1) : answer($job, $judged, $got, \%salts);
         $status = 1 if $is_no;
         next if $got eq $wanted || $is_told{$stream}++;
-        push @differences, "line $number " . shown($lines[$number - 1]) . ": $stream " . shown($got) . ', and not ' . shown($wanted);
+        push @differences, "line $number " . shown($line) . ": $stream " . shown($got) . ', and not ' . shown($wanted);
     }
     push @differences, 'more output: ' . shown($answers[0]) if @answers && !%is_told;
     push @differences, 'more fault output: ' . shown($faults[0]) if @faults && !%is_told;

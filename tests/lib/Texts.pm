@@ -8,7 +8,7 @@ use Exporter qw(import);
 use List::Util qw(first);
 use Suite;
 
-our @EXPORT = qw(documents manuals shown_manual section_of marked name_of examples_of);
+our @EXPORT = qw(documents manuals shown_manual marked name_of examples_of);
 
 sub documents { return glob "$root/*.md $root/docs/*.md" }
 sub manuals { return glob "$root/man/*.[1-8]" }
@@ -19,12 +19,6 @@ sub name_of { return substr $_[0], 1 + length $root }
 # What mandoc shows of a manual, without margins. Its bold and underlined characters are struck twice.
 sub shown_manual {
     return run(qw(mandoc -T utf8 -O width=200), $_[0])->{out} =~ s/.\x08//gr =~ s/^ +//mgr;
-}
-
-# The source of a manual's section.
-sub section_of {
-    my ($text, $title) = @_;
-    return $text =~ /^\.Sh \Q$title\E\n(.*?)(?=^\.Sh |\z)/ms ? $1 : '';
 }
 
 # The block in a language that has `<!-- tested: NAME -->` above it, in whatever document it is. A test fails if there is none.
