@@ -135,9 +135,9 @@ subtest 'administration' => sub {
     spew("$scratch/bin/chpasswd", "#!/bin/sh\nexec $chpasswd -R '$system' \"\$@\"\n");
     chmod 0755, "$scratch/bin/chpasswd";
     my $recipe = sub {
-        my ($name, $language) = (@_, 'sh');
-        my $commands = marked($name, $language) =~ s{ /etc/shadow\b}{ '$system/etc/shadow'}gr =~ s/^0 6 \* \* \* root //r;
-        return run({ %in, dir => $folder }, 'sh', '-c', $commands);
+        my ($name, %with) = @_;
+        my $commands = marked($name, delete $with{language} // 'sh') =~ s{ /etc/shadow\b}{ '$system/etc/shadow'}gr =~ s/^0 6 \* \* \* root //r;
+        return run({ %in, dir => $folder, %with }, 'sh', '-c', $commands);
     };
     my $accounts = sub {
         my %fields = @_;
@@ -178,6 +178,7 @@ subtest 'administration' => sub {
 
     # The mkpasswd of whois in front of ours.
     my $foreign = "mkpasswd: unrecognized option '--check'\nTry 'mkpasswd --help' for more information.\n";
+    mkdir "$scratch/tools";
     spew("$scratch/tools/mkpasswd", "#!/bin/sh\ncat >&2 << 'END'\n${foreign}END\nexit 1\n");
     chmod 0755, "$scratch/tools/mkpasswd";
     my %env = (%{ $in{env} }, PATH => "$scratch/tools:$in{env}{PATH}");
@@ -204,9 +205,9 @@ subtest 'administration' => sub {
     my $counted = "      3 locked\n      1 malformed\n      1 none\n      2 sha256crypt\n      2 sha512crypt\n      1 unknown\n";
     my $unlocked = $listed->(%all, bob => $bad{ann}, max => $bad{zoe});
     is($recipe->('audits')->{out} =~ s/:\d+:/:/gr, $listed->(%all) . $counted . $unlocked, 'what each hash is like');
-    is($recipe->('audit by cron', 'text')->{out} =~ s/:\d+:/:/gr, $listed->(%bad), 'cron mails which need care');
+    is($recipe->('audit by cron', language => 'text')->{out} =~ s/:\d+:/:/gr, $listed->(%bad), 'cron mails which need care');
     $accounts->(joe => '*', kim => $fields{kim}, tom => '$y$j9T$ab$x');
-    is_run($recipe->('audit by cron', 'text'), 1, '', '', 'cron mails nothing if none does');
+    is_run($recipe->('audit by cron', language => 'text'), 1, '', '', 'cron mails nothing if none does');
 
     # A disk that is full at each command, as small as it is: nobody gets a part of a hash.
     needs('unshare, or a mount of its own,' => 'util-linux', !run(qw(unshare --mount true))->{status}) or return;
