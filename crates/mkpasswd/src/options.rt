@@ -57,7 +57,8 @@ const PASSWORD_HELP: &str = "The password, of at most 1,024 bytes; without it, a
 
 const SALT_WORD_HELP: &str = "The salt, in place of --salt";
 
-const AFTER_HELP: &str = "Pass a password that begins with '-' by --stdin.";
+const AFTER_HELP: &str =
+    "Pass a password that begins with '-' by --stdin.\n\nAudit by today's rounds, and by a budget that admits them with any password:\nmkpasswd --audit -R 656000 --budget 1300000000 < /etc/shadow";
 
 // What `clap` finds in the arguments. Clauses see its rows, one for each argument that is given.
 #[derive(Drop)]
