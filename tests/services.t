@@ -164,17 +164,6 @@ END
     });
 };
 
-subtest 'htpasswd' => sub {
-    needs(htpasswd => 'apache2-utils') or return;
-    mkdir '/etc/apache2';
-    prepare('Apache');
-    are_taken('htpasswd', sub {
-        my ($name, $password) = @_;
-        my $run = run({ stdin => "$password\n" }, 'htpasswd', '-vi', '/etc/apache2/passwords', $name);
-        return verdict($run->{status}, 0, $name eq 'nobody' ? 6 : 3);
-    });
-};
-
 # It gives its processes only what its configuration says.
 subtest 'Dovecot' => sub {
     needs('Dovecot 2.3' => 'dovecot-core, in Debian 12', run('dovecot', '--version')->{out} =~ /^2\.3\./) or return;
