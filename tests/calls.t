@@ -484,6 +484,23 @@ subtest 'what calls leave in memory' => sub {
     }
 };
 
+subtest 'the report' => sub {
+    spew("$scratch/report.c", <<'END');
+#include <mkpasswd.h>
+#include <stdio.h>
+int main(void)
+{
+    struct mkpasswd_report report;
+    char out[MKPASSWD_TEXT_SIZE];
+    return !mkpasswd_hash_str("password", "$7$46..../....SodiumChloride", MKPASSWD_BUDGET, out, sizeof out, &report)
+        || fwrite(&report, sizeof report, 1, stdout) != 1;
+}
+END
+    my $program = build('report', $cc, '-std=c99', @strict, "$scratch/report.c", @static) or return;
+    # N is 64, r is 8: each field has a value of its own.
+    is_deeply([unpack 'l<L<Q<7', run($program)->{out}], [3, 72, 137_956, 66, 6884, 128, 65_536, 3072, 0], 'each field at its place');
+};
+
 # What no clause can say of the object: what is called, and how hashes are compared.
 subtest 'the object' => sub {
     needs(objdump => 'binutils') or return;
