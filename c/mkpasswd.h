@@ -13,13 +13,13 @@
  * everybody in.
  *
  * After a 0, mkpasswd_new(), mkpasswd_hash() and mkpasswd_setting() leave the string "*0" in `out` ("*1" if the given
- * setting begins with "*0"), cut to the room there is. No password matches it, so with 3 bytes of room or more a caller who
- * stores it unseen locks the account. Bytes after its byte 0 are unchanged.
+ * setting begins with "*0"), cut to fit. No password matches it, so with 3 bytes of room or more a caller who stores it
+ * without a look locks the account. Bytes after its zero byte are unchanged.
  *
- * Input is a pointer and a number of bytes; it may hold any bytes, and needs no byte 0 at its end. The calls that end in
+ * Input is a pointer and a number of bytes; it may hold any bytes, and needs no zero byte at its end. The calls that end in
  * _str take strings instead. No call keeps a pointer or state: any number of threads may call at once, also with the
- * same input. mkpasswd_new() alone asks the system for something, 24 random bytes from getentropy(3), which sets errno if it
- * gives none.
+ * same input. Only mkpasswd_new() asks the system for anything but memory: 24 random bytes from getentropy(3), which sets errno
+ * if it fails.
  *
  * The caller makes sure of this:
  * - Each pointer is valid for its number of bytes and is not null, even if that number is 0. In C++ an empty std::vector,
@@ -79,7 +79,7 @@ extern "C" {
 /* The version: 10000 * major + 100 * minor + patch. */
 #define MKPASSWD_VERSION 10200
 
-/* The size of a buffer for any hash, setting or message, with its byte 0. */
+/* The size of a buffer for any hash, setting or message, with its zero byte. */
 #define MKPASSWD_TEXT_SIZE 145
 
 /* The longest password, in bytes. */
@@ -88,9 +88,8 @@ extern "C" {
 /* A budget for a login. It admits what mkpasswd_new() makes at cost 0 with any method, for any password, and SHA-crypt with
  * up to 75,000 rounds for any password, sha512crypt with 656,000 rounds for passwords of up to 82 bytes, SHA-crypt with
  * 1,000,000 rounds for passwords of up to 40 bytes. On one core of 2.5 GHz a hash of this cost takes 1.6 seconds with
- * sha256crypt, 1 with sha512crypt, 0.14 with scrypt. A budget of -1 is the greatest, and protects from nothing. scrypt, which
- * alone needs memory, takes at most half as many bytes as the budget for each call at the same time, and 64 MiB at its own
- * cost. */
+ * sha256crypt, 1 with sha512crypt, 0.14 with scrypt. A budget of -1 is the greatest, and protects against nothing. Only
+ * scrypt needs memory: for each concurrent call at most half as many bytes as the budget, and 64 MiB at its default cost. */
 #ifdef __cplusplus
 #define MKPASSWD_BUDGET static_cast<uint64_t>(150000000)
 #else
@@ -206,14 +205,14 @@ MKPASSWD_EXPORT MKPASSWD_CHECKED MKPASSWD_NONNULL(5) int32_t mkpasswd_needs_reha
 MKPASSWD_EXPORT MKPASSWD_CHECKED MKPASSWD_NONNULL(4) int32_t mkpasswd_bound(const uint8_t *stored, size_t stored_len,
     size_t password_len, struct mkpasswd_report *report) MKPASSWD_READS(stored, 1, 2);
 
-/* Hashes a password with the setting in a text, which may be a stored hash, as crypt(3) does. It is for a crypt(3) and for
- * tests: a login is mkpasswd_login(), and a new password mkpasswd_new(). */
+/* Hashes a password with the setting in a string, which may be a stored hash, as crypt(3) does. It is for implementing
+ * crypt(3) and for tests: a login calls mkpasswd_login(), and a change of password mkpasswd_new(). */
 MKPASSWD_EXPORT MKPASSWD_CHECKED MKPASSWD_NONNULL(6) MKPASSWD_NONNULL(8) MKPASSWD_WRITES(6, 7)
 int32_t mkpasswd_hash(const uint8_t *password, size_t password_len, const uint8_t *setting, size_t setting_len,
     uint64_t budget, uint8_t *out, size_t out_len, struct mkpasswd_report *report)
     MKPASSWD_READS(password, 1, 2) MKPASSWD_READS(setting, 3, 4);
 
-/* Puts a setting into `out` whose salt is made of three random words of the caller; method and cost are those of
+/* Puts a setting into `out` whose salt is made from three random words of the caller; method and cost are those of
  * mkpasswd_new(), but rounds are clamped. It is for tests and for systems with a random source of their own. */
 MKPASSWD_EXPORT MKPASSWD_CHECKED MKPASSWD_NONNULL(6) MKPASSWD_NONNULL(8) MKPASSWD_WRITES(6, 7)
 int32_t mkpasswd_setting(uint32_t method, uint32_t cost, uint64_t first, uint64_t second, uint64_t third, uint8_t *out,
@@ -229,7 +228,7 @@ MKPASSWD_EXPORT MKPASSWD_NONNULL(2) MKPASSWD_WRITES(2, 3) int32_t mkpasswd_words
 MKPASSWD_EXPORT uint32_t mkpasswd_version(void);
 
 /* The same for strings. The report may be null. So may every other pointer: a null password is refused as one with a zero
- * byte, a null text as an empty one, and a null `out` as one with no room. */
+ * byte, any other null string is an empty one, and a null `out` has no room. */
 #ifdef __cplusplus
 #define MKPASSWD_BYTES(text) reinterpret_cast<const uint8_t *>(text)
 #define MKPASSWD_OUT(text) reinterpret_cast<uint8_t *>(text)
