@@ -119,7 +119,7 @@ extern "C" {
 #define MKPASSWD_REFUSED_ABOVE_CEILING (-9)      /* above ceiling: N * r * p is above 8388608 */
 #define MKPASSWD_REFUSED_BAD_SALT (-10)          /* bad salt: invalid for scrypt */
 #define MKPASSWD_REFUSED_OUT_OF_MEMORY (-11)     /* out of memory: scrypt alone allocates */
-#define MKPASSWD_REFUSED_TOO_FEW_BYTES (-12)     /* too few bytes: `out` has no room for the result and a byte 0 */
+#define MKPASSWD_REFUSED_TOO_FEW_BYTES (-12)     /* too few bytes: `out` has no room for the result and a zero byte */
 #define MKPASSWD_REFUSED_UNKNOWN_METHOD (-13)    /* unknown method */
 #define MKPASSWD_REFUSED_COST (-14)              /* cost: scrypt takes 0 and 6 to 11, new SHA-crypt 0 and 1000 to 999999999 */
 #define MKPASSWD_OVER_BUDGET (-16)               /* over budget: the hash can cost more than the budget */
@@ -140,7 +140,7 @@ struct mkpasswd_work {
 
 struct mkpasswd_report {
     int32_t reason;            /* one of the above */
-    uint32_t length;           /* of what is in `out`, without its byte 0; 0 if the call returned 0 or has no `out` */
+    uint32_t length;           /* of what is in `out`, without its zero byte; 0 if the call returned 0 or has no `out` */
     uint64_t cost;             /* the greatest cost of a hash with this setting, for a password of this length: the bytes it
                                   digests and mixes. It is below 2^42. If password and setting (or method and cost) are
                                   valid it is reported even if the call returns 0; otherwise, and by
@@ -182,7 +182,7 @@ MKPASSWD_EXPORT MKPASSWD_CHECKED MKPASSWD_NONNULL(8) int32_t mkpasswd_login(cons
     const uint8_t *field, size_t field_len, uint32_t method, uint32_t cost, uint64_t budget, struct mkpasswd_report *report)
     MKPASSWD_READS(password, 1, 2) MKPASSWD_READS(field, 3, 4);
 
-/* Hashes a new password, with a salt from getentropy(3), and puts the hash and a byte 0 into `out`; MKPASSWD_TEXT_SIZE
+/* Hashes a new password, with a salt from getentropy(3), and puts the hash and a zero byte into `out`; MKPASSWD_TEXT_SIZE
  * bytes are enough. `cost` is as in `mkpasswd -R`: the rounds of SHA-crypt, for sha512crypt 656000; 6 to 11 for scrypt, for
  * N = 2^(cost+7), r = 32 and p = 1. 0 stands for 7 with scrypt, and otherwise for 5000 rounds, which are too few today.
  * md5crypt ignores it.
@@ -218,8 +218,8 @@ MKPASSWD_EXPORT MKPASSWD_CHECKED MKPASSWD_NONNULL(6) MKPASSWD_NONNULL(8) MKPASSW
 int32_t mkpasswd_setting(uint32_t method, uint32_t cost, uint64_t first, uint64_t second, uint64_t third, uint8_t *out,
     size_t out_len, struct mkpasswd_report *report);
 
-/* Puts the message for a reason and a byte 0 into `out`, and returns 1. For any other number it puts "unknown reason" and
- * returns 0. If the room is too small, it puts as much as fits, with the byte 0, and returns 0. So whatever it returns, `out`
+/* Puts the message for a reason and a zero byte into `out`, and returns 1. For any other number it puts "unknown reason" and
+ * returns 0. If the room is too small, it puts as much as fits, with the zero byte, and returns 0. So whatever it returns, `out`
  * holds a string, unless it has no room at all. */
 MKPASSWD_EXPORT MKPASSWD_NONNULL(2) MKPASSWD_WRITES(2, 3) int32_t mkpasswd_words(int32_t reason, uint8_t *out,
     size_t out_len);
