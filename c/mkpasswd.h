@@ -14,7 +14,7 @@
  *
  * After a 0, mkpasswd_new(), mkpasswd_hash() and mkpasswd_setting() leave the string "*0" in `out` ("*1" if the given
  * setting begins with "*0"), cut to fit. No password matches it, so with 3 bytes of room or more a caller who stores it
- * without a look locks the account. Bytes after its zero byte are unchanged.
+ * unchecked locks the account. Bytes after its zero byte are unchanged.
  *
  * Input is a pointer and a number of bytes; it may hold any bytes, and needs no zero byte at its end. The calls that end in
  * _str take strings instead. No call keeps a pointer or state: any number of threads may call at once, also with the
