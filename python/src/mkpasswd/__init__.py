@@ -353,6 +353,8 @@ def describe(
     - "unknown" for another scheme, such as yescrypt;
     - "malformed" for any other field without a valid setting. `reason` is then the first rule that it breaks.
 
+    Only the setting is judged, so a hash whose end was cut, which no password matches, can be "current" too.
+
     Raises Refused, ValueError and TypeError as login() does, so nothing for what a database can hold as str or bytes.
     """
     text = b"" if field is None else _bytes(field, "field")
