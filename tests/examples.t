@@ -207,7 +207,8 @@ subtest 'administration' => sub {
     my $unlocked = $listed->(%all, bob => $bad{ann}, max => $bad{zoe});
     is($recipe->('audits')->{out} =~ s/:\d+:/:/gr, $listed->(%all) . $counted . $unlocked, 'what each hash is like');
     is($recipe->('audit by cron', language => 'text')->{out} =~ s/:\d+:/:/gr, $listed->(%bad), 'cron mails which need care');
-    $accounts->(joe => '*', kim => $fields{kim}, tom => '$y$j9T$ab$x');
+    $accounts->(joe => '*', kim => $fields{kim}, tom => '$y$j9T$ab$x', des => 'abJnggxhB/yWI', max => 'plain', pam => '$2b$31$x', zoe => '$y$jFT$ab$x');
+    is_run($recipe->('unknown hashes'), 0, "des\nmax\npam\nzoe\n", '', 'other schemes than yescrypt at its usual cost');
     is_run($recipe->('audit by cron', language => 'text'), 1, '', '', 'cron mails nothing if none does');
 
     # A disk that is full at each command, as small as it is: nobody gets a part of a hash.
