@@ -158,9 +158,10 @@ subtest 'administration' => sub {
     ok($is_made->($line_of->('bob'), 'pass:word', $changed), 'the password of bob is new');
 
     $accounts->(ann => '!', bob => '!', eve => '!');
-    spew("$folder/passwords", "ann:password\nbob:\374" . 'x' x 83 . "\nsecret\neve:x\n");
+    spew("$folder/passwords", "ann:password\nbob:\374" . 'x' x 83 . "\nsecret\neve:x\n:secret\n" . 'secret' x 11 . "\n");
     my $loaded = $recipe->('good lines', env => { %{ $in{env} }, LC_ALL => 'C.UTF-8' });
-    is_run($loaded, 0, "bob\n", '', 'new passwords for the good lines: the names of the others, without passwords');
+    my $others = "bob\nline 3: no password field\nline 5: no name\nline 6: name too long\n";
+    is_run($loaded, 0, $others, '', 'new passwords for the good lines: the names of the others, without passwords');
     ok($is_made->($line_of->('ann'), 'password', $changed) && $line_of->('bob') eq "bob:!$aged", 'ann alone has a new one');
 
     my $costly = '$6$rounds=999999999$ab$x';
@@ -206,7 +207,8 @@ subtest 'administration' => sub {
     my $unlocked = $listed->(%all, bob => $bad{ann}, max => $bad{zoe});
     is($recipe->('audits')->{out} =~ s/:\d+:/:/gr, $listed->(%all) . $counted . $unlocked, 'what each hash is like');
     is($recipe->('audit by cron', language => 'text')->{out} =~ s/:\d+:/:/gr, $listed->(%bad), 'cron mails which need care');
-    $accounts->(joe => '*', kim => $fields{kim}, tom => '$y$j9T$ab$x');
+    $accounts->(joe => '*', kim => $fields{kim}, tom => '$y$j9T$ab$x', des => 'abJnggxhB/yWI', max => 'plain', pam => '$2b$31$x', zoe => '$y$jFT$ab$x');
+    is_run($recipe->('unknown hashes'), 0, "des\nmax\npam\nzoe\n", '', 'other schemes than yescrypt at its usual cost');
     is_run($recipe->('audit by cron', language => 'text'), 1, '', '', 'cron mails nothing if none does');
 
     # A disk that is full at each command, as small as it is: nobody gets a part of a hash.
