@@ -344,8 +344,8 @@ def describe(
     >>> str(describe("$6$rounds=0$salt$x"))
     'malformed:bad rounds'
 
-    `method` and `rounds` are those that the service gives hash(), and `budget` is that of its logins; by default there is
-    none. The state is
+    `method` and `rounds` are those that the service gives hash(). `budget` must admit them with the longest password, which
+    for 656000 rounds is 1300000000; by default there is none. The state is
 
     - "over budget" if some password can cost more than the budget;
     - otherwise "outdated" if needs_rehash() is true with this method and these rounds, and "current" if it is false;
