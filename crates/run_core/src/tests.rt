@@ -192,39 +192,14 @@ fn run_on<'a>(
     let mut input = Input::new(given.reader);
     let mut out = Output::new(given.out);
     let mut faults = Output::new(given.faults);
-    let outcome = match run {
-        Run::Methods => run_methods(&mut out, turns),
-        Run::Check => run_check(
-            alloc,
-            job,
-            &mut input,
-            &mut out,
-            &mut faults,
-            rng,
-            meter,
-            turns,
-        ),
-        Run::Audit => run_audit(
-            alloc,
-            job,
-            &mut input,
-            &mut out,
-            &mut faults,
-            rng,
-            meter,
-            turns,
-        ),
-        _ => run_one(
-            alloc,
-            job,
-            &from,
-            &mut input,
-            &mut out,
-            &mut faults,
-            rng,
-            meter,
-            turns,
-        ),
+    let outcome = {
+        let (input, out, faults) = (&mut input, &mut out, &mut faults);
+        match run {
+            Run::Methods => run_methods(out, turns),
+            Run::Check => run_check(alloc, job, input, out, faults, rng, meter, turns),
+            Run::Audit => run_audit(alloc, job, input, out, faults, rng, meter, turns),
+            _ => run_one(alloc, job, &from, input, out, faults, rng, meter, turns),
+        }
     };
     Ok((
         outcome,
