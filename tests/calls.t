@@ -623,10 +623,6 @@ subtest 'manuals' => sub {
     my @strings = $header =~ /^(?:MKPASSWD_\w+(?:\(\d, \d\))? )*static inline bool (mkpasswd_\w+_str)\(/mg;
     my %pages = map { m{/(\w+)\.3$} => slurp($_) } glob "$folder/*.3";
     is_deeply([sort keys %pages], [sort 'libmkpasswd', @declared, @strings], 'one for each call');
-    for my $call (@declared, @strings) {
-        my $text = $pages{$call} =~ m{\A\.so man3/(\w+)\.3\n\z} ? $pages{$1} : $pages{$call};
-        like($text, qr/^\.Sh NAME\n(?:\.Nm \w+ ,\n)*\.Nm $call\b/m, "$call: its page has its name");
-    }
     for my $name (grep { $pages{$_} !~ /\A\.so / } sort keys %pages) {
         my @examples = $pages{$name} =~ /^\.\\" prints: (.*?)\n\.Bd -literal.*?\n(.*?)^\.Ed$/msg;
         while (my ($wanted, $code) = splice @examples, 0, 2) {

@@ -64,6 +64,14 @@ def test_recipe_of_an_audit(database, capsys):
     assert capsys.readouterr().out.splitlines() == ["%s:%s" % row for row in zip(fields_of(database), answers)]
 
 
+def test_recipe_of_logging(capsys):
+    names = recipe("Logging")
+    names["user"].set("ann\n")
+    mkpasswd.login("password", "!")
+    names["logger"].removeHandler(names["handler"])
+    assert capsys.readouterr().err.endswith(" 'ann\\n': login refused: locked\n")
+
+
 def test_recipe_of_asyncio():
     if not hasattr(asyncio, "to_thread"):
         pytest.skip("asyncio.to_thread came with Python 3.9")

@@ -168,5 +168,5 @@ fn makes_settings_of_three_words(rt: HostRuntime) {
 
 #[test]
 fn tells_the_version(rt: HostRuntime) {
-    assert_eq!(rt; mkpasswd_version(), 10200);
+    assert_eq!(rt; mkpasswd_version(), 10300);
 }
