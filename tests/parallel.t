@@ -108,7 +108,7 @@ subtest 'arguments' => sub {
         my ($text, @words) = @$_;
         is_run(run({ stdin => $thirty, env => { POSIXLY_CORRECT => 1 } }, $script, @words), 2, '', "mkpasswd-parallel: $text\n", "@words");
     }
-    my $no_program = run({ env => { PATH => '/nowhere' } }, $^X, $played, '--batch');
+    my $no_program = run({ env => { PATH => '/nowhere' } }, $^X, '-x', $played, '--batch');
     like("$no_program->{status} $no_program->{err}", qr/^3 mkpasswd-parallel: mkpasswd: No such file/, 'no program');
 };
 
