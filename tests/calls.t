@@ -523,7 +523,6 @@ subtest 'the object' => sub {
 };
 
 subtest 'what is installed' => sub {
-    is(@declared, 9, 'the header declares nine calls');
     if (needs(objdump => 'binutils')) {
         my ($symbols, $parts, $names) = map { run(@$_)->{out} } ['objdump', '-T', "$libs/libmkpasswd.so"],
             ['objdump', '-p', "$libs/libmkpasswd.so"], ['nm', '-g', '--defined-only', "$libs/libmkpasswd.a"];

@@ -100,6 +100,8 @@ subtest 'README' => sub {
     my $symbols = run(qw(nm --undefined-only --format=just-symbols), "$tree/lib/libmkpasswd.a")->{out};
     my %undefined = map { $_ => 1 } $symbols =~ /^([a-z]\w*)$/mg;
     is_deeply([sort split /,\s+|\s+and\s+/, $needed // ''], [sort keys %undefined], 'functions that libmkpasswd.a needs');
+    my @links = map { slurp($_) =~ /\]\((?![a-z]+:)([\w.][^)#]*)/g } glob "$documents/*.md";
+    is(join(' ', grep { !-e "$documents/$_" } @links), '', 'each link of the documents leads to a file');
 };
 
 subtest 'the program elsewhere' => sub {

@@ -1,6 +1,6 @@
 #!/usr/bin/env perl
 # mandoc and groff find nothing to say about a manual. As mandoc shows it, that of a program has the options of its help, and
-# that of mkpasswd the methods and the refusals with their statuses, in the order in which they are made.
+# that of mkpasswd the refusals with their statuses, in the order in which they are made.
 use strict;
 use warnings;
 use FindBin qw($Bin);
@@ -25,10 +25,6 @@ for (['mkpasswd', program()], ['mkpasswd-parallel', "$root/bin/mkpasswd-parallel
 }
 
 my $manual = shown_manual("$root/man/mkpasswd.1");
-for (['md5crypt', 'md5', 1], ['sha256crypt', 'sha-256', 5], ['sha512crypt', 'sha-512', 6], ['scrypt', '', 7]) {
-    my ($name, $short, $kind) = @$_;
-    ok($manual =~ /^$name +$short +\$$kind\$ +1 to $most_salt{$kind} +$made_salt{$kind} characters$/m, "manual: $name");
-}
 my @of_runs = ((map { "2 +$_" } 'unknown method', 'two salts', 'two modes', 'salt length', 'salt character', 'cost',
     'password too long', 'password has a zero byte'), map { "3 +$_" } 'read fault', 'write fault', 'out of memory', 'too many turns', 'start fault');
 for (['Refused lines', @line_refusals], ['EXIT STATUS', @of_runs]) {
