@@ -1,5 +1,5 @@
 -- The memory of scrypt: how a table lies in one list, and what is lent of a scratch.
-use Rattle.std.specs.Prelude.{ℕ, zero, suc, List, [], ◌∷◌, ◌++◌, length, take, drop}
+use Rattle.std.specs.Prelude.{◌≡◌, ℕ, zero, suc, ◌-◌, ◌*◌, ◌<◌, ◌≤◌, List, [], ◌∷◌, ◌++◌, length, take, drop, replicate}
 use Rattle.std.specs.Borrow.{Lends, MutBor, Fml, Array, u8, u32}
 use Rattle.prims_core.specs.contracts.scratch.ByteScratch as bytes
 use Rattle.prims_core.specs.contracts.scratch.WordScratch as words
@@ -8,6 +8,18 @@ use Rattle.prims_core.specs.contracts.scratch.WordScratch as words
 unfoldable pub rows_of : ℕ → ℕ → List ℕ → List (List ℕ)
 rows_of zero row_words list = []
 rows_of (suc rows) row_words list = take row_words list ∷ rows_of rows row_words (drop row_words list)
+
+-- padded size list: the list, with zeros behind it up to a size.
+abbrev pub padded : ℕ → List ℕ → List ℕ
+padded size list = list ++ replicate (size - length list) 0
+
+-- IsLaidOut rows row_words size room: so many words are some of these rows, from the first one on; there is room for
+-- all of them, and a row that is not among them has at most 1024 words.
+pub record IsLaidOut (rows row_words size room : ℕ) : Type 0 where
+  pub whole : (set : ℕ) × (size ≡ set * row_words)
+  pub inside : size ≤ rows * row_words
+  pub fits : rows * row_words ≤ room
+  pub short : size < rows * row_words → row_words ≤ 1024
 
 -- written_over old new: a list with new items in place of the old ones, as many as there were, since a slice keeps its
 -- length.

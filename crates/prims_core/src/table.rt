@@ -1,9 +1,10 @@
 //! The table of scrypt, the V of RFC 7914, section 5: rows of 32-bit words, all of one length.
 //!
 //! All rows stand one after another in one vector, so a table is one allocation, made at once in its full
-//! size. A row is mixed from the one before it where it stands, without a copy.
+//! size. A row is mixed from the one before it where it stands, without a copy. Rows of usual length that nobody has
+//! set yet are behind the vector's end: they are zeros, and writing them first would take as long as wiping them.
 
-ghost use Rattle.std.specs.Prelude.{◌≡◌, ℕ, ◌+◌, ◌*◌, ◌/◌, ◌^◌, ◌<◌, ◌≤◌, List, [], length, take, drop, replicate, slice_index_or, slice_set, IfOk, OnOk, OnErr};
+ghost use Rattle.std.specs.Prelude.{◌≡◌, ℕ, ◌+◌, ◌-◌, ◌*◌, ◌/◌, ◌^◌, ◌<◌, ◌≤◌, List, [], ◌++◌, length, take, drop, replicate, slice_index_or, slice_set, vec_len, vec_capacity, IfOk, OnOk, OnErr};
 ghost use Rattle.prims_core.specs.BlockMix.{block_mix};
 ghost use Rattle.prims_core.specs.Diagonals.{in_rows};
 
@@ -12,6 +13,9 @@ use crate::mix::mix_diagonals;
 use std::alloc::{AllocError, Global};
 use std::marker::Model;
 use std::mem::size_of;
+
+// A row of zeros, up to r = 32.
+const ZEROS: [u32; 1024] = [0; 1024];
 
 /// Rows of words, all of one length.
 #[derive(Drop)]
@@ -22,14 +26,14 @@ pub struct Table {
 }
 
 impl Model for Table {
-    ghost use Rattle.std.specs.Prelude.{◌≡◌, ℕ, ◌*◌, List, vec_len};
-    ghost use Rattle.prims_core.specs.Memory.{rows_of};
+    ghost use Rattle.std.specs.Prelude.{ℕ, ◌*◌, List, vec_len, vec_capacity};
+    ghost use Rattle.prims_core.specs.Memory.{rows_of, padded, IsLaidOut};
 
     ghost Value = { List (List ℕ) };
 
-    ghost view = { λ t. rows_of t.rows t.row_words t.words.items };
+    ghost view = { λ t. rows_of t.rows t.row_words (padded (t.rows * t.row_words) t.words.items) };
 
-    ghost invariant = { λ t. vec_len t.words ≡ t.rows * t.row_words };
+    ghost invariant = { λ t. IsLaidOut t.rows t.row_words (vec_len t.words) (vec_capacity t.words) };
 }
 
 impl Table {
@@ -53,8 +57,11 @@ impl Table {
             ≡ record meter.old { table = meter.old.table + 4 * (rows * row_words) }) }
         ensures refused { OnErr result (meter.new ≡ meter.old) }
     {
-        let words = vec![in alloc; 0; rows * row_words]?;
+        let mut words = Vec::with_capacity(alloc, rows * row_words)?;
         meter.count_table(rows * row_words * size_of::<u32>());
+        if row_words > ZEROS.len() {
+            fill(&mut words, rows * row_words);
+        }
         Ok(Table {
             words,
             rows,
@@ -71,7 +78,12 @@ impl Table {
         ensures { result.now ≡ slice_index_or self.now i [] }
     {
         let start = i * self.row_words;
-        &self.words[start..start + self.row_words]
+        let end = start + self.row_words;
+        if end <= self.words.len() {
+            &self.words[start..end]
+        } else {
+            &ZEROS[..self.row_words]
+        }
     }
 
     /// Makes row `i` a copy of `row`. The other rows stay.
@@ -85,6 +97,7 @@ impl Table {
     {
         let start = i * self.row_words;
         let end = start + self.row_words;
+        fill(&mut self.words, end);
         self.words[start..end].copy_from_slice(row);
     }
 
@@ -103,8 +116,21 @@ impl Table {
         ensures count { meter.new ≡ record meter.old { mixes = meter.old.mixes + 1 } }
     {
         let start = i * self.row_words;
-        let next = start + self.row_words;
-        mix_into_second(&mut self.words[start..next + self.row_words], meter);
+        let end = start + 2 * self.row_words;
+        fill(&mut self.words, end);
+        mix_into_second(&mut self.words[start..end], meter);
+    }
+}
+
+// Appends zeros up to a length, for which there is room.
+fn fill(words: &mut Vec<u32>, len: usize)
+    requires room { len ≤ vec_capacity words.old }
+    ensures zeros { words.new.items ≡ words.old.items ++ replicate (len - length words.old.items) 0 }
+    ensures len { vec_len words.new ≡ vec_len words.old + (len - vec_len words.old) }
+    ensures room { vec_capacity words.old ≤ vec_capacity words.new }
+{
+    if words.len() < len {
+        words.resize(len, 0).unwrap();
     }
 }
 
@@ -141,6 +167,19 @@ mod tests {
         assert_eq!(rt;
             (table.row(0), table.row(1), table.row(2)),
             (zeros.as_slice(), row.as_slice(), zeros.as_slice())
+        );
+        Ok(())
+    }
+
+    #[test]
+    fn long_rows(rt: HostRuntime) -> Result<(), Fail> {
+        let mut meter = Meter::new();
+        let mut table = Table::new(rt.alloc(), 3, 1025, &mut meter)?;
+        let (zeros, ones) = ([0; 1025], [1; 1025]);
+        table.set_row(1, &ones);
+        assert_eq!(rt;
+            (table.row(0), table.row(1), table.row(2)),
+            (zeros.as_slice(), ones.as_slice(), zeros.as_slice())
         );
         Ok(())
     }

@@ -1,26 +1,39 @@
-use Rattle.std.proofs.Common.{◌≡◌, ℕ, ◌+◌, ◌-◌, ◌*◌, List, length, arith, ap, ◌∙◌, length-take, length-drop}
+use Rattle.std.proofs.Common.{◌≡◌, ℕ, ◌+◌, ◌-◌, ◌*◌, ◌≤◌, List, length, arith, ap, ◌∙◌, length-take, length-drop}
 use Rattle.std.specs.Vec.{with_items}
 use borrow.Rule.Slice.PartMut.{put_mid}
-use Rattle.prims_core.specs.Memory.{rows_of}
-use Rattle.prims_core.proofs.RowFacts.{row_end, length-row, row_written}
+use Rattle.prims_core.specs.Memory.{rows_of, padded}
+use Rattle.prims_core.proofs.RowFacts.{row_end, length-row, length-padded, same_rows, row_written, laid_out_after}
 use Rattle.prims_core.proofs.table.Table.set_row.Goals as goal
 
 pub copy_from_slice-requires : goal.copy_from_slice-requires
 copy_from_slice-requires c =
-    let long : length c.args.row.now ≡ c.self.inside.row_words =
+    let w : ℕ = c.self.inside.row_words in
+    let long : length c.args.row.now ≡ w =
     c.requires.same_length
-    ∙ length-row _ _ _ _ c.args.i c.self.view_is c.requires.inside (omega (arith, c.self.inside.words.ok.0)) in
-    simp (length-take, length-drop) (omega (arith, row_end _ _ _ _ c.args.i c.self.view_is c.requires.inside))
+    ∙ length-row _ _ _ _ c.args.i c.self.view_is c.requires.inside
+    (omega (arith, length-padded (c.self.inside.rows * w) c.self.inside.words.items (omega (arith, c.self.inside.words.ok.0)))) in
+    simp (length-take, length-drop) (omega (arith, long, ap length c.deref_mut.ensures.value, c.fill.new.words.ok.0))
+
+pub invariant_of-self : goal.invariant_of-self
+invariant_of-self c =
+    laid_out_after c.self.inside.rows c.self.inside.row_words _ _ c.args.i _ _ c.self.invariant
+    (row_end _ _ _ _ c.args.i c.self.view_is c.requires.inside) c.fill.ensures.len c.fill.ensures.room
 
 pub returns : goal.returns
 returns c =
+    let n : ℕ = c.self.inside.rows in
     let w : ℕ = c.self.inside.row_words in
     let start : ℕ = c.args.i * w in
+    let ends : start + w ≤ n * w = row_end _ _ _ _ c.args.i c.self.view_is c.requires.inside in
     let long : length c.args.row.now ≡ w =
     c.requires.same_length
-    ∙ length-row _ _ _ _ c.args.i c.self.view_is c.requires.inside (omega (arith, c.self.inside.words.ok.0)) in
+    ∙ length-row _ _ _ _ c.args.i c.self.view_is c.requires.inside
+    (omega (arith, length-padded (n * w) c.self.inside.words.items (omega (arith, c.self.inside.words.ok.0)))) in
+    let is : rows_of n w (padded (n * w) c.fill.new.words.items) ≡ c.args.self.now =
+    same_rows n w (start + w) _ _ _ c.self.view_is ends c.fill.ensures.zeros in
     let same : put_mid start (start + w - start) c.deref_mut.result.now c.copy_from_slice.new.self
-    ≡ put_mid start (start + w - start) c.self.inside.words.items c.args.row.now = cc in
-    ap (λ (words : List ℕ). rows_of c.self.inside.rows w (with_items c.self.inside.words words).items) same
-    ∙ row_written _ w _ _ c.args.i (start + w - start) c.self.inside.words.len c.args.row.now c.self.view_is
-    c.requires.inside (omega arith) c.self.inside.words.ok.0 long (omega arith)
+    ≡ put_mid start (start + w - start) c.fill.new.words.items c.args.row.now = cc in
+    ap (λ (words : List ℕ). rows_of n w (padded (n * w) (with_items c.fill.new.words words).items)) same
+    ∙ row_written n w _ _ c.args.i (start + w - start) c.fill.new.words.len c.args.row.now is
+    c.requires.inside (omega (arith, c.fill.ensures.len, c.fill.new.words.ok.0))
+    (omega (arith, ends, c.fill.ensures.len, c.fill.new.words.ok.0, c.self.invariant.inside)) c.fill.new.words.ok.0 long (omega arith)
