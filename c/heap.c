@@ -7,7 +7,7 @@
  *
  * With -DKEEPS=1, in a program of one thread, the last large block that was freed waits for the next one of its size; one of
  * another size is allocated only after it is freed. Nothing is wiped there (docs/SECURITY.md): the program has the passwords
- * until it ends, and the next table begins as zeros.
+ * until it ends, and of a table no row is read before it is written.
  *
  * Libraries keep none (-DKEEPS=0), since a service wants its memory back, and wipe what they free. */
 #define _GNU_SOURCE /* for MADV_HUGEPAGE */

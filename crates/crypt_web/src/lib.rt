@@ -137,6 +137,3 @@ pub extern "C" fn web_cost(setting: &[u8], password_len: usize, report: &mut Rep
 {
     tell(report, tell_bound(password_len, setting))
 }
-
-#[cfg(test)]
-mod tests;

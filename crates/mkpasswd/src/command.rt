@@ -215,6 +215,3 @@ fn fault_line(fault: &Fault) -> ArrayVec<u8, FAULT_LINE_ROOM>
     line.push(b'\n');
     line
 }
-
-#[cfg(test)]
-mod tests;
