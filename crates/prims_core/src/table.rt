@@ -17,6 +17,9 @@ use std::mem::size_of;
 // A row of zeros, up to r = 32.
 const ZEROS: [u32; 1024] = [0; 1024];
 
+// The words of a kilobyte.
+const PIECE: usize = 256;
+
 /// Rows of words, all of one length.
 #[derive(Drop)]
 pub struct Table {
@@ -122,15 +125,17 @@ impl Table {
     }
 }
 
-// Appends zeros up to a length, for which there is room.
+// Appends zeros up to a length, for which there is room. In pieces of a kilobyte they stay in the nearest cache: a longer
+// memset may write past it.
 fn fill(words: &mut Vec<u32>, len: usize)
     requires room { len ≤ vec_capacity words.old }
     ensures zeros { words.new.items ≡ words.old.items ++ replicate (len - length words.old.items) 0 }
     ensures len { vec_len words.new ≡ vec_len words.old + (len - vec_len words.old) }
     ensures room { vec_capacity words.old ≤ vec_capacity words.new }
 {
-    if words.len() < len {
-        words.resize(len, 0).unwrap();
+    'pieces: while words.len() < len {
+        let end = len.min(words.len() + PIECE);
+        words.resize(end, 0).unwrap();
     }
 }
 
