@@ -131,23 +131,28 @@ subtest 'image' => sub {
     }
 };
 
+my $source = "$scratch/login.c";
+spew($source, <<'END');
+#include <mkpasswd.h>
+int main(int argc, char **argv) { return argc != 3 || !mkpasswd_login_str(argv[1], argv[2], MKPASSWD_SHA512CRYPT, 5000, MKPASSWD_BUDGET, NULL); }
+END
+
 subtest 'libraries' => sub {
     my %env = (PKG_CONFIG_PATH => "$tree/lib/pkgconfig", LD_LIBRARY_PATH => "$tree/lib", PYTHONPATH => "$root/python/src");
     my $login = sub {
         my ($what, @command) = @_;
-        is(run({ stdin => "password\n", env => \%env }, @command, $known)->{status}, 0, "$what: the right password");
-        is(run({ stdin => "passwort\n", env => \%env }, @command, $known)->{status}, 1, "$what: a wrong one");
+        is(run({ env => \%env }, @command, 'password', $known)->{status}, 0, "$what: the right password");
+        is(run({ env => \%env }, @command, 'passwort', $known)->{status}, 1, "$what: a wrong one");
     };
-    $login->('login.py', 'python3', '-B', "$documents/examples/login.py") if needs(python3 => 'python3');
+    $login->('Python', qw(python3 -B -c), 'import sys, mkpasswd; sys.exit(not mkpasswd.login(*sys.argv[1:]))') if needs(python3 => 'python3');
     needs(cc => 'gcc', $cc ne 'cc' || undef) && needs('pkg-config' => 'pkgconf') or return;
     my $config = sub { run({ env => \%env }, 'pkg-config', @_, 'mkpasswd')->{out} =~ s/\s+\z//r };
     is($config->('--modversion'), $version, 'mkpasswd.pc has the version');
     is(abs_path($config->('--variable=prefix')), abs_path($tree), 'mkpasswd.pc finds the tree that it is in');
     for (['libmkpasswd.so', $config->('--libs')], ['libmkpasswd.a', "$tree/lib/libmkpasswd.a"]) {
         my ($what, $libs) = @$_;
-        my @words = (qw(-Wall -Wextra -Werror -o), "$scratch/login", "$documents/examples/login.c");
-        push @words, split ' ', $config->('--cflags') . " $libs";
-        is_run(run($cc, @words), 0, '', '', "login.c builds over $what") and $login->("login.c over $what", "$scratch/login");
+        my @words = (qw(-Wall -Wextra -Werror -o), "$scratch/login", $source, split ' ', $config->('--cflags') . " $libs");
+        is_run(run($cc, @words), 0, '', '', "a program builds over $what") and $login->("over $what", "$scratch/login");
     }
 };
 
@@ -159,13 +164,12 @@ subtest 'the library for x86-64-v3' => sub {
         my ($tunables, $library, $what) = @_;
         my %env = (LD_LIBRARY_PATH => "$tree/lib", LD_DEBUG => 'libs', GLIBC_TUNABLES => $tunables);
         for ('$1$xxxxxxxx', '$5$rounds=1000$xxxxxxxx', '$6$rounds=1000$xxxxxxxx', '$7$6U..../....xxxxxxxx') {
-            my $run = run({ env => \%env, stdin => "password\n" }, "$scratch/login", crypt 'password', $_);
+            my $run = run({ env => \%env }, "$scratch/login", 'password', crypt 'password', $_);
             my @loaded = $run->{err} =~ m{calling init: (\S*/libmkpasswd\S*)}g;
             is("$run->{status} @loaded", "0 $library", "$what is loaded, and takes the hash with $_");
         }
     };
-    my @built = ('-o', "$scratch/login", "$documents/examples/login.c", $libraries[0]);
-    is_run(run($cc, "-I$tree/include", @built), 0, '', '', 'login.c builds over it');
+    is_run(run($cc, "-I$tree/include", '-o', "$scratch/login", $source, $libraries[0]), 0, '', '', 'a program builds over it');
     $loaded->('glibc.cpu.hwcaps=-AVX2', $libraries[0], 'the default one, where there is no AVX2,');
     my $is_newer = slurp('/proc/cpuinfo') =~ /^flags\s*:.*\bavx2\b/m;
     needs('AVX2' => 'none: this processor lacks it', $is_newer) or return;

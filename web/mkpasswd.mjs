@@ -1,6 +1,10 @@
 // mkpasswd @VERSION@: hashes of crypt(5) by sha512crypt, sha256crypt and md5crypt, for web pages and node 20, or 18 with its option
 // --experimental-global-webcrypto. The proved code was compiled by LLVM and lowered by Binaryen; this script is tested. Passwords,
 // settings and hashes are strings, as UTF-8, or Uint8Arrays. A call blocks its thread until it has hashed: let a worker make it.
+//
+//     import { hash, setting, verify } from './mkpasswd.mjs';
+//     const stored = hash('correct horse', setting('sha512crypt', 656000));
+//     try { if (verify(password, stored)) letIn(); } catch ({ reason }) { console.error(reason); }
 const module = Uint8Array.from(atob('@MODULE@'), (character) => character.charCodeAt(0));
 const { exports } = new WebAssembly.Instance(new WebAssembly.Module(module));
 const memory = new Uint8Array(exports.memory.buffer);
@@ -53,8 +57,8 @@ export function setting(method = 'sha512crypt', rounds = 656000) {
 // The hash of a password. No more bytes than the budget are hashed for it.
 export const hash = (password, by = setting(), budget = BUDGET) =>
     call('web_hash', bytesOf(password), bytesOf(by), within(budget), BigInt(OUT), BigInt(OUT_SIZE)).text;
-// Whether a password matches. A stored hash that can't be read or can cost more than the budget is refused.
+// Whether a password matches. A field that is locked, empty or malformed, or can cost more than the budget, throws a refusal.
 export const verify = (password, stored, budget = BUDGET) =>
     call('web_verify', bytesOf(password), bytesOf(stored), within(budget)).fits;
 // The most bytes that a hash with this setting can cost, for a password of so many bytes.
-export const cost = (by, length) => call('web_cost', bytesOf(by), BigInt(length)).cost;
+export const cost = (by, length) => call('web_cost', bytesOf(by), BigInt(Math.min(length, MOST_BYTES))).cost;

@@ -6,7 +6,7 @@ const MORE = {
     MKPASSWD_REFUSED_UNKNOWN_SCHEME: 'it begins with none of $1$, $5$ and $6$; yescrypt, $y$, cannot be checked here',
     MKPASSWD_REFUSED_BAD_ROUNDS: 'no valid number follows rounds=',
     MKPASSWD_REFUSED_OUT_OF_MEMORY: 'scrypt, $7$, needs more than this page has; mkpasswd --check checks it',
-    MKPASSWD_OVER_BUDGET: 'nothing was hashed',
+    MKPASSWD_OVER_BUDGET: 'nothing was hashed; if you trust the hash, raise the budget to its cost',
     MKPASSWD_LOCKED: 'it begins with ! or *, and no password matches it',
     MKPASSWD_NO_HASH: 'the field is empty',
 };
@@ -29,13 +29,15 @@ function tellEstimate() {
     const [method, rounds] = [valueOf('method'), element('rounds')];
     rounds.disabled = method === 'md5crypt';
     const time = rates[method] && rates[method].time * (rounds.disabled ? 1 : rounds.value / 5000);
-    const text = rounds.validity.valid ? time && `Takes about ${shown(time)} here.` : 'From 1000 to 999999999.';
-    element('estimate').textContent = text || '\u00a0';
+    const text = rounds.validity.valid ? (time ? `Takes about ${shown(time)} here.` : '\u00a0') : 'From 1000 to 999999999.';
+    if (element('estimate').textContent !== text) element('estimate').textContent = text;
 }
 
 // Shows what becomes of a form's job.
 function say(form, text, kind = '') {
-    Object.assign(form.querySelector('[role=status]'), { textContent: text, className: kind });
+    const place = form.querySelector('[role=status]');
+    Object.assign(place, { textContent: text, className: kind });
+    if (text) place.scrollIntoView({ block: 'nearest' });
 }
 
 // Starts a job in a worker of its own.
@@ -124,6 +126,7 @@ for (const form of document.forms) {
     form.addEventListener('submit', (event) => {
         event.preventDefault();
         if (!running) start(form);
+        else if (running.form !== form) say(form, 'The other form is hashing: wait, or stop it.', 'refused');
     });
     form.addEventListener('input', () => {    // what was told is no longer of what stands in the fields
         tellEstimate();

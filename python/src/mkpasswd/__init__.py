@@ -337,7 +337,7 @@ def work(stored: Text, password_len: int) -> Work:
 def describe(
     field: Optional[Text], method: str = "sha512crypt", rounds: Optional[int] = 656_000, *, budget: float = math.inf
 ) -> Description:
-    """What `mkpasswd --audit` says of a stored field, without any password. Nothing is hashed.
+    """What `mkpasswd --audit -R 656000` says of a stored field, without any password. Nothing is hashed.
 
     >>> describe("$1$xxxxxxxx$UYCIxa628.9qXjpQCjM4a.")
     Description(method='md5crypt', cost=1927022, state='outdated', reason=None)
