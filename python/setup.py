@@ -12,7 +12,6 @@ from wheel.bdist_wheel import bdist_wheel
 
 HERE = os.path.dirname(os.path.abspath(__file__))
 LIBRARY = os.path.join(HERE, "src", "mkpasswd", "libmkpasswd.so.2")
-MANUAL = os.path.join(HERE, "..", "docs", "PYTHON.md")
 
 
 def output_of(*command):
@@ -35,14 +34,8 @@ class Wheel(bdist_wheel):
         return "py3", "none", "manylinux_%d_%d_%s" % (*max((int(major), int(minor)) for major, minor in needed), machine)
 
 
-with open(MANUAL, encoding="utf-8") as file:
-    # Without links to other pages, which a package's page doesn't have.
-    manual = re.sub(r"\[([^]]*)\]\([^):]*\)", r"\1", file.read())
-
 setup(
     version=os.environ.get("MKPASSWD_VERSION") or output_of(os.path.join(HERE, "..", "tools", "version")).strip(),
-    long_description=manual,
-    long_description_content_type="text/markdown",
     distclass=WithLibrary,
     cmdclass={"bdist_wheel": Wheel},
 )

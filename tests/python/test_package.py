@@ -45,7 +45,8 @@ def test_types(tmp_path):
     if not shutil.which("mypy", path="/usr/bin"):
         missing("mypy is missing (Debian package mypy)")
     mypy = ["/usr/bin/mypy", "--strict", "--cache-dir", tmp_path / "cache"]
-    run(*mypy, "--config-file", ROOT / "python/pyproject.toml", ROOT / "python/src/mkpasswd")
+    # ansible, django and passlib have no type hints.
+    run(*mypy, "--ignore-missing-imports", "--allow-subclassing-any", "--follow-imports=silent", ROOT / "python/src/mkpasswd")
     user = tmp_path / "user.py"
     user.write_text(
         "import math, mkpasswd\nstored: str = mkpasswd.hash(b'x', 'scrypt', rounds=6)\n"
