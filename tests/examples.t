@@ -172,9 +172,9 @@ subtest 'administration' => sub {
     ok(!-e "$folder/list", 'it makes no list');
     spew("$folder/password", "password\r\n");
     is_run($recipe->('one password'), 0, '', '', 'a list of one password');
-    is_run($recipe->('known passwords'), 0, "ann\neve\n", "mkpasswd: line 6: above ceiling\nmkpasswd: line 7: over budget\n", 'who has it');
-    spew("$folder/list", "eve:guess\neve:password\r\nbob:x\nzoe:x\nann:word\neve:password\n");
-    is_run($recipe->('known passwords'), 0, "eve\n", "mkpasswd: line 5: over budget\n", 'who still has a password of a list');
+    is_run($recipe->('known passwords'), 0, "ann\neve\n", "7 of 7 lines have an account\nmkpasswd: line 6: above ceiling\nmkpasswd: line 7: over budget\n", 'who has it');
+    spew("$folder/list", "eve:guess\neve:password\r\nbob:x\nzoe:x\nann:word\neve:password\n\xef\xbb\xbfeve:x\n");
+    is_run($recipe->('known passwords'), 0, "eve\n", "5 of 6 lines have an account\nmkpasswd: line 5: over budget\n", 'who still has a password of a list');
     like(slurp("$folder/joined"), qr/\A(?:.*\n){4}zoe:.*:x$/m, 'the line that was refused is in a file');
 
     # The mkpasswd of whois in front of ours.

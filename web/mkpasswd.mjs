@@ -13,7 +13,7 @@ const initial = memory.slice();
 // In the free memory are the report, `out`, and then what is passed: of a password that is too long, a byte too many.
 const START = Math.ceil(Number(exports.__heap_base.value) / 16) * 16;
 const [OUT, OUT_SIZE, PASSED, MOST_BYTES] = [START + 64, 145, START + 256, 1025];
-const METHODS = { md5crypt: 1, sha256crypt: 5, sha512crypt: 6 };
+const METHODS = { __proto__: null, md5crypt: 1, sha256crypt: 5, sha512crypt: 6 };
 const BUDGET = 150000000;
 const [REFUSED_COST, DIFFERS] = [-14, -17];
 const REFUSALS = { @REFUSALS@ };

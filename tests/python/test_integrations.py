@@ -41,6 +41,10 @@ def test_a_login_with_a_database(database):
     stored = fields_of(database)["zoe"]
     assert stored.startswith("$6$rounds=656000$") and stored == libxcrypt("pässword", stored)
     assert login(database, "zoe", "pässword") is True and fields_of(database)["zoe"] == stored
+    database.execute("UPDATE users SET hash = ? WHERE name = 'ann'", (MD5,))
+    database.commit()
+    database.execute("PRAGMA query_only = 1")
+    assert login(database, "ann", "password") is True and fields_of(database)["ann"] == MD5
 
 
 def test_a_login_stores_nothing_over_what_changed_meanwhile(database, monkeypatch):
@@ -61,7 +65,7 @@ def test_recipe_of_an_audit(database, capsys):
     recipe("Audit", database=database)
     costly = "sha512crypt:%d:over budget" % mkpasswd.cost(COSTLY, 1024)
     answers = "md5crypt:1927022:outdated", "none", "locked", costly, "none"
-    assert capsys.readouterr().out.splitlines() == ["%s:%s" % row for row in zip(fields_of(database), answers)]
+    assert capsys.readouterr().out.splitlines() == ["%r:%s" % row for row in zip(fields_of(database), answers)]
 
 
 def test_recipe_of_logging(capsys):
