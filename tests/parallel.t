@@ -190,7 +190,7 @@ subtest 'devices' => sub {
 subtest 'environment' => sub {
     spew("$scratch/lib/POSIX.pm", 'die "not this one"');
     my @changes = (PERL_UNICODE => 'SDA', PERL5OPT => '-CS', PERL5OPT => '-Mopen=:std,:utf8', PERLIO => ':crlf',
-        PERL5LIB => "$scratch/lib", OMP_NUM_THREADS => 5000, LC_ALL => 'C.UTF-8', LC_NUMERIC => 'de_DE.UTF-8');
+        PERL5LIB => "$scratch/lib", OMP_NUM_THREADS => 5000, LC_ALL => 'xx_XX.UTF-8', LC_NUMERIC => 'de_DE.UTF-8');
     while (my ($name, $value) = splice @changes, 0, 2) {
         same("$name=$value", { stdin => batch_lines(), env => { LC_ALL => undef, $name => $value } }, [], @batch);
     }

@@ -4,7 +4,7 @@
 //
 //     import { hash, setting, verify } from './mkpasswd.mjs';
 //     const stored = hash('correct horse', setting('sha512crypt', 656000));
-//     try { if (verify(password, stored)) letIn(); } catch ({ reason }) { console.error(reason); }
+//     try { if (verify(password, stored)) letIn(); } catch (error) { console.error(error.reason ?? error.message); }
 const module = Uint8Array.from(atob('@MODULE@'), (character) => character.charCodeAt(0));
 const { exports } = new WebAssembly.Instance(new WebAssembly.Module(module));
 const memory = new Uint8Array(exports.memory.buffer);
