@@ -35,8 +35,7 @@ function tellEstimate() {
 
 // Shows what becomes of a form's job.
 function say(form, text, kind = '') {
-    const place = form.querySelector('[role=status]');
-    Object.assign(place, { textContent: text, className: kind });
+    const place = Object.assign(form.querySelector('[role=status]'), { textContent: text, className: kind });
     if (text) place.scrollIntoView({ block: 'nearest' });
 }
 
