@@ -147,6 +147,9 @@ my @known = (
     ['password', '$7$86....E....NaCl$xffjQo7Bm/.SKRS4B2EuynbOLjAmXU5AbDbRXhoBl64'],
     ['a' x 1024, '$6$rounds=1000$saltstringsaltst$UITgQYibhtrcIyhgNAv/DDO8/OQE6EKx5rkYTPL4qIsMeLcMgWAzj5DYNJhQQ0ExOfR41/mJ0EqVZGWUDvrmO1'],
     ['a' x 1024, '$1$xxxxxxxx$K/D5CvaOI4iV5zX0cnQoW0'],
+    ['This is just a test', '$6$rounds=5000$toolongsaltstrin$lQ8jolhgVRVhY4b5pZKaysCLi0QBxGoNeKQzQ3glMhwllF7oGDZxUhx1yxdYcz/e1JSbq3y6JMxxl8audkUEm0'],
+    ['the minimum number is still observed', '$6$rounds=1000$roundstoolow$kUMsbe306n21p9R.FRkW3IGn.S9NPN0x50YhH1xhLsPuWGsUSklZt58jaTfF4ZEQpyUNGc0dqbpBYYBaHHrsX.'],
+    ['pleaseletmein', '$7$C6..../....SodiumChloride$kBGj9fHznVYFQMEn/qDCfrDevf9YDtcDdKvEqHJLV8D'],
 );
 my @methods = ([1, 0], [1, 5], [5, 0], [5, 5000], [6, 0], [6, 10], [6, 4294967295], [7, 0], [7, 6], [7, 11]);
 my @no_methods = ([0, 0], [2, 0], [3, 5], [4, 0], [8, 0], [4294967295, 7], [7, 1], [7, 5], [7, 12], [7, 4294967295]);

@@ -52,7 +52,7 @@ def test_hashes_are_libxcrypts(password, setting):
     assert mkpasswd.verify(password, expected) is True
 
 
-@pytest.mark.parametrize("log2_n, r, p", [(4, 1, 1), (10, 8, 1), (5, 3, 7), (1, 1, 1), (14, 8, 1)])
+@pytest.mark.parametrize("log2_n, r, p", [(4, 1, 1), (10, 8, 1), (5, 3, 7), (1, 1, 1), (1, 1, 8193), (14, 8, 1)])
 def test_scrypt_is_hashlibs(log2_n, r, p):
     for password in b"", b"password", "pässword".encode(), b"x" * 600:
         setting = scrypt_setting(log2_n, r, p, "SodiumChloride")

@@ -304,6 +304,3 @@ pub extern "C" fn mkpasswd_version() -> u32
 {
     VERSION_NUMBER
 }
-
-#[cfg(test)]
-mod tests;

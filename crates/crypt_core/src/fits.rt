@@ -90,6 +90,3 @@ pub fn fits(
 {
     Ok(StoredHash::read(stored)?.fits(alloc, password, meter)?)
 }
-
-#[cfg(test)]
-mod tests;

@@ -178,6 +178,3 @@ fn scrypt_digest(
     scrypt(alloc, password, salt, params, &mut digest, meter)?;
     Ok(ArrayVec::try_from(digest.as_slice()).unwrap())
 }
-
-#[cfg(test)]
-pub(crate) mod tests;

@@ -15,7 +15,5 @@ pub mod scheme;
 pub mod setting;
 pub mod shacrypt;
 pub mod stored;
-#[cfg(test)]
-mod values;
 pub mod version;
 pub mod work;

@@ -5,9 +5,6 @@ ghost use Rattle.prims_core.specs.Alphabet.{alphabet};
 ghost use Rattle.crypt_core.specs.MadeSalts.{made_salt, three_words};
 ghost use Rattle.crypt_core.specs.MethodLimits.{made_salt_length, made_salt_limit};
 
-#[cfg(test)]
-mod tests;
-
 pub use crate::method::MADE_SALT_LIMIT;
 use crate::method::Method;
 use arrayvec::ArrayVec;

@@ -78,33 +78,3 @@ fn opening(password: &[u8], salt: &[u8], meter: &mut Meter) -> ArrayVec<u8, 64>
     feed_digits(&mut running, meter, password.len(), &[0], first);
     running.finish(meter)
 }
-
-#[cfg(test)]
-mod tests {
-    use super::*;
-    use crate::hash::tests::counts;
-    use crate::pack::pack;
-    use std::test::Fail;
-
-    #[test]
-    fn counts_its_messages(rt: HostRuntime) -> Result<(), Fail> {
-        for (len, bytes) in [(0, 21347), (512, 974189), (1024, 1927022)] {
-            let password = vec![in rt.alloc(); b'a'; len]?;
-            let password = Password::new(password.as_slice()).expect(&rt, "a password");
-            let mut meter = Meter::new();
-            let _ = md5crypt(&password, b"xxxxxxxx", &mut meter);
-            assert_eq!(rt; counts(&meter), [1002, bytes, 0, 0, 0], "{len} bytes");
-        }
-        Ok(())
-    }
-
-    #[test]
-    fn is_the_scheme(rt: HostRuntime) {
-        let password = Password::new(b"password").expect(&rt, "a password");
-        let mut meter = Meter::new();
-        let digest = md5crypt(&password, b"xxxxxxxx", &mut meter);
-        let text = pack(Method::Md5crypt, &digest);
-        assert_eq!(rt; text.as_slice(), b"UYCIxa628.9qXjpQCjM4a.".as_slice());
-        assert_eq!(rt; counts(&meter), [1002, 36239, 0, 0, 0]);
-    }
-}

@@ -190,9 +190,6 @@ impl Scheme {
     }
 }
 
-#[cfg(test)]
-mod tests;
-
 // Returns scrypt's parameters for a cost: N = 2^(cost + 7), r = 32 and p = 1.
 fn params_of(cost: u32) -> Params
     requires from { 6 ≤ cost }

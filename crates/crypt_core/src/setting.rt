@@ -12,8 +12,6 @@ ghost use Rattle.crypt_core.specs.Replacements.{is_replaced_by};
 mod fault;
 mod make;
 mod read;
-#[cfg(test)]
-mod tests;
 mod text;
 
 use crate::method::{Method, SCRYPT_SALT_LIMIT};

@@ -138,6 +138,3 @@ impl<'a> StoredField<'a> {
         }
     }
 }
-
-#[cfg(test)]
-mod tests;

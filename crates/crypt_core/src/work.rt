@@ -203,6 +203,3 @@ fn rounds_bytes(rounds: u64, digest: u64, password: u64, salt: u64) -> u64
     let with_password_twice = rounds - rounds.div_ceil(7);
     rounds * (digest + password) + with_salt * salt + with_password_twice * password
 }
-
-#[cfg(test)]
-mod tests;
