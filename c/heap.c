@@ -18,13 +18,13 @@
 #include <string.h>
 #include <sys/mman.h>
 
-#define PAGE ((uintptr_t)64 << 10) /* a multiple of each processor's small page */
 #define HUGE_PAGE ((uintptr_t)2 << 20) /* from here on a block is large */
 #define MAPPED ((size_t)32 << 20) /* from here on glibc's malloc maps a block by itself, whatever was freed before */
 #define LINE ((size_t)64) /* of the cache */
 
 /* What stands before a block: its size, and what malloc returned. Its 16 bytes keep the block's alignment. */
 struct head { size_t size; void *start; };
+_Static_assert(sizeof(struct head) == 16, "a block is aligned as what malloc returned");
 
 typedef uint64_t quarter __attribute__((vector_size(16))); /* of a line */
 
@@ -39,19 +39,24 @@ static struct tried tried(struct head *head)
     return (struct tried){head != NULL, head ? head + 1 : &none};
 }
 
-/* Whole pages of a block that was mapped by itself go back to the system, which takes less time than to write zeros. A large
- * block is written from its end, so that what the next table takes first is still near, and the line a page further on is
- * fetched meanwhile, since by itself the processor fetches ahead only within a page. */
+/* Whole huge pages of a block that was mapped by itself go back to the system, which takes less time than to write zeros. A
+ * large block is written from its end, so that what the next table takes first is still near, and the line a page further on
+ * is fetched meanwhile, since by itself the processor fetches ahead only within a page. */
 static void wipe(char *block, size_t size)
 {
-    size_t pages = size < MAPPED ? 0 : size / PAGE * PAGE, end = size < HUGE_PAGE ? 0 : size / LINE * LINE;
+    size_t pages = size < MAPPED ? 0 : size / HUGE_PAGE * HUGE_PAGE, end = size < HUGE_PAGE ? 0 : size / LINE * LINE;
     if (pages != 0 && madvise(block, pages, MADV_DONTNEED) != 0)
         pages = 0;
     explicit_bzero(block + end, size - end);
     while (end > pages) {
-        volatile quarter *line = (volatile quarter *)(block + (end -= LINE));
+        const quarter zeros = {0, 0};
+        volatile quarter *line = (volatile quarter *)(block + end - LINE);
         __builtin_prefetch((char *)((uintptr_t)line - 4096), 1);
-        line[0] = line[1] = line[2] = line[3] = (quarter){0, 0};
+        line[0] = zeros;
+        line[1] = zeros;
+        line[2] = zeros;
+        line[3] = zeros;
+        end -= LINE;
     }
 }
 

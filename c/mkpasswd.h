@@ -26,8 +26,8 @@
  *   std::span or std::string_view may have a null data(): pass the address of any byte in that case, or use a _str call.
  * - `out` and the report overlap nothing else that the call is given.
  * - Until the call returns, no other thread writes to its input, or reads or writes its output.
- * - malloc and free belong to one allocator, which aligns a block to every power of two up to 16 that divides its
- *   size, as the C library's does.
+ * - malloc and free belong to one allocator of private memory, which aligns a block to every power of two up to 16 that
+ *   divides its size, as the C library's does.
  * - A signal handler makes no call, and neither does the child of fork(2) in a process with threads before it runs execve(2).
  * - 64 KiB of stack are free. A call uses some 25 KiB.
  *
@@ -110,7 +110,7 @@ extern "C" {
 #define MKPASSWD_DONE 3                          /* done: all others */
 #define MKPASSWD_REFUSED_PASSWORD_TOO_LONG (-1)  /* password too long: more than MKPASSWD_PASSWORD_LIMIT bytes */
 #define MKPASSWD_REFUSED_PASSWORD_ZERO_BYTE (-2) /* password has a zero byte */
-#define MKPASSWD_REFUSED_SETTING_TOO_LONG (-3)   /* setting too long: more than 384 bytes, whatever they are */
+#define MKPASSWD_REFUSED_SETTING_TOO_LONG (-3)   /* setting too long: more than 384 bytes, unless it is MKPASSWD_LOCKED */
 #define MKPASSWD_REFUSED_BAD_CHARACTER (-4)      /* bad character: no setting has it; also for a line end */
 #define MKPASSWD_REFUSED_UNKNOWN_SCHEME (-5)     /* unknown scheme: none of $1$, $5$, $6$, $7$ */
 #define MKPASSWD_REFUSED_BAD_ROUNDS (-6)         /* bad rounds: `rounds=` without a valid number */

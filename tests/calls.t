@@ -170,7 +170,8 @@ my @other_fields = (substr($fixed, 0, -1), "$fixed.", "$fixed\$", '$1$', '$1$xxx
 subtest 'hashes' => sub {
     srand 26;
     my $salt = sub { join '', map { $characters[rand 64] } 1 .. $_[0] };
-    my @settings = ('$1$a_b~c', '$1$#%&()+', '$6$rounds=1000$(-=-)', '$5$rounds=1001$~', $long_salt, map { '$1$' . $salt->($_ % 13) } 0 .. 110);
+    my @settings = ('$1$a_b~c', '$1$#%&()+', '$6$rounds=1000$(-=-)', '$5$rounds=1001$~', $long_salt, '$5$rounds=1000$~{}[]|<>?@^_`',
+        '$6$rounds=1000$\'",-=', '$5$rounds', '$5$rounds=1000$rounds=5', '$1$rounds=5', map { '$1$' . $salt->($_ % 13) } 0 .. 110);
     for my $front ('$5$', '$6$') {
         push @settings, (map { $front . $salt->($_) } 0, 7, 16), map { $front . 'rounds=' . (1000 + $_ * $_) . '$' . $salt->($_) } 0 .. 18;
     }
@@ -258,6 +259,7 @@ subtest 'logins' => sub {
 subtest 'refusals' => sub {
     my @calls = map { ['hash_str', @$_, $budget] } [undef, $fixed, 145], ['a', undef, 145], [undef, undef, 145], ['a', '$1$a', undef], ['a', '*0', undef];
     push @calls, ['needs_rehash_str', '', undef, 0, 6, 0], ['bound_str', '', undef, 0, 8];
+    push @calls, map { my $text = $_; map { ['needs_rehash', '', $text, 0, @$_] } @methods } '$5$ab', '$5$rounds=5000$ab', '$6$rounds=5000$ab', '$7$86....U....ab';
     for my $text ($fixed, $known[4][1], $long_salt, @no_settings) {
         my $setting = read_setting($text);
         my ($length, $cost) = ref $setting ? (length($setting->{front}) + 1 + $packed_length{ $setting->{kind} }, cost($setting, 8)) : (3, 9);
@@ -477,13 +479,18 @@ subtest 'what calls leave in memory' => sub {
     };
     my @calls = (['verify', $fixed], ['hash', $fixed], ['login', '!', 1, 0], ['new', '', 1, 0], ['verify', '$5$ab$x'], ['new', '', 5, 1000],
         ['login', '!', 6, 1000], ['hash', '$6$ab'], ['new', '', 6, 1000], ['verify', $known[4][1]], ['login', '!', 7, 6], ['new', '', 7, 0],
-        map { ['hash', "\$7\$$_..../....ab"] } 'AU', 'BU');    # tables of 16 and 32 MiB
-    for my $call (map { my $call = $_; map { [@$call[0, 1], $call->[2] // 0, $call->[3] // 0, $_] } 8, 24, 1000 } @calls) {
-        my $pid = open2(my $out, my $in, $residue, @$call);
-        my @memory = map { sysread($out, my $stop, 1) or die "no stop: @$call"; my $seen = $_ && $memory_of->($pid); syswrite $in, "\n"; $seen } 0 .. 2;
+        map { ['hash', "\$7\$$_.../....ab"] } 'AU.', 'BU.', '6/E');    # tables of 16 and 32 MiB, and of some more
+    # Once more of large tables in a process that never hands memory back by itself, and whose memory is locked.
+    my @kept = ('env', 'GLIBC_TUNABLES=glibc.malloc.mmap_max=0:glibc.malloc.trim_threshold=4000000000', $residue);
+    my @with = ((map { my $call = $_; map { [[$residue], @$call[0, 1], $call->[2] // 0, $call->[3] // 0, $_] } 8, 24, 1000 } @calls),
+        map { my $call = $_; map { [\@kept, @$call, 0, $_, 24] } 0, $> ? () : 1 } @calls[-2, -1]);
+    for (@with) {
+        my ($command, @call) = @$_;
+        my $pid = open2(my $out, my $in, @$command, @call);
+        my @memory = map { sysread($out, my $stop, 1) or die "no stop: @call"; my $seen = $_ && $memory_of->($pid); syswrite $in, "\n"; $seen } 0 .. 2;
         waitpid $pid, 0;
         my $changed = join ' ', map { ($memory[2]{$_} ^ ($memory[1]{$_} // '')) =~ /[^\0]{8,}/g } keys %{ $memory[2] };
-        is($? . unpack('H*', $changed), '0', "@$call");
+        is($? . unpack('H*', $changed), '0', "@call[0 .. 4]" . (@$command > 1 && ' in memory that is kept'));
     }
 };
 

@@ -72,7 +72,7 @@ sub ended {
 # Tests a run that was ended: what it printed is that of one run up to the line that it names, and another run takes the rest.
 sub resumes {
     my ($name, $lines, $why, $out, $err, @words) = @_;
-    my $said = qr/^mkpasswd-parallel: $why; answered up to line (\d+); go on with tail -n \+(\d+), --first-line \g{2} and >>\n\z/m;
+    my $said = qr/^mkpasswd-parallel: $why; answered up to line (\d+); go on with tail -n \+(\d+), --first-line \g{2}, >> and 2>>\n\z/m;
     my ($last) = $err =~ s/$said// ? $1 : ();
     is($2, ($last // 0) + 1, "$name: it says the line") or return diag($err);
     my $alone = $lines eq $slow_lines ? $slow_alone : run({ stdin => $lines }, $program, @words);
@@ -154,7 +154,7 @@ subtest 'workers that fail' => sub {
             . " three:*) $does ;; *) echo \"\${line%%:*}:\\\$1\\\$x\" ;; esac; done";
         chmod 0755, spew("$scratch/played/mkpasswd", "#!/bin/bash\n$answers\n");
         my $run = run({ stdin => $lines, timeout => 60 }, $played, qw(--jobs 1), @batch);
-        my $told = qr/^3 mkpasswd-parallel: $why; answered up to line 2; go on with tail -n \+3, --first-line 3 and >>\n\z/;
+        my $told = qr/^3 mkpasswd-parallel: $why; answered up to line 2; go on with tail -n \+3, --first-line 3, >> and 2>>\n\z/;
         like("$run->{status} $run->{err}", $told, "$name: it is reported");
         is($run->{out}, "one:\$1\$x\ntwo:\$1\$x\n", "$name: the lines before are answered");
     }
@@ -162,7 +162,7 @@ subtest 'workers that fail' => sub {
     cmp_ok(run({ stdin => $lines }, $played, @batch)->{status}, '>', 1, 'a mkpasswd that no machine runs');
 };
 
-my $none = 'answered up to line 0; go on with tail -n +1, --first-line 1 and >>';
+my $none = 'answered up to line 0; go on with tail -n +1, --first-line 1, >> and 2>>';
 subtest 'devices' => sub {
     my %how = (stdin => $thirty);
     is_run(run({ %how, to => '/dev/full' }, $script, @batch), 3, '', "mkpasswd-parallel: write fault; $none\n", 'a full output');

@@ -72,11 +72,11 @@ subtest 'words' => sub {
 };
 
 subtest 'refusals of the words' => sub {
-    fault(@$_) for [2, 'unknown method', qw(-m sha1 -S ab x cd)], [2, 'unknown method', '-m', '', 'x'], [2, 'two salts', qw(-S ab x ab)],
+    fault(@$_) for [2, 'unknown method', qw(-m sha1 -S ab x cd)], [2, 'unknown method', '-m', '', 'x'], [2, 'unknown method', qw(-m MD5 x)], [2, 'unknown method', qw(-m md5cryp x)], [2, 'two salts', qw(-S ab x ab)],
         [2, 'two salts', qw(-m md5crypt -s -S a-b x cd)], [2, 'two modes', qw(-s x a-b)], [2, 'two modes', qw(--batch --check)],
         [2, 'two modes', qw(--check x)], [2, 'two modes', qw(-s --batch)], [2, 'two modes', qw(--audit --check)], [2, 'two modes', qw(--audit x)], [3, 'start fault', "\xff"],
         [2, 'salt length', qw(--batch -S seventeen.letters)], [2, 'salt length', qw(-m md5 password nineChars)],
-        [2, 'salt length', qw(-m scrypt -R 5 -S), '', 'password'], [2, 'salt character', qw(--check -S a-b)],
+        [2, 'salt length', qw(-m scrypt -R 5 -S), '', 'password'], [2, 'salt length', qw(-m md5 -S a-b-c-d-e x)], [2, 'salt character', qw(--check -S a-b)],
         [2, 'salt character', qw(-m scrypt -R 5 password a-b)], [2, 'cost', qw(-m scrypt -R 12 x)], [2, 'cost', qw(--check -m scrypt -R 12)],
         [2, 'unknown method', '-m', $long, 'x'], [2, 'salt length', '-S', $long, 'x'], [2, 'two salts', '-S', 'ab', $long, $long],
         [2, 'cost', { from => '/' }, qw(-m scrypt -R 5 -S ab -s)];

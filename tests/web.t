@@ -27,11 +27,13 @@ my @refused = (
     ['$2b$05$x', 'x', 'REFUSED_UNKNOWN_SCHEME'], ['$5$rounds=$x', 'x', 'REFUSED_BAD_ROUNDS'],
     ['$6$rounds=999999999$s$x', 'x', 'OVER_BUDGET'], ['$7$M0..../....s', 'x', 'REFUSED_ABOVE_CEILING'],
 );
-my $rows = JSON::PP->new->ascii->encode(\@refused);
 my $lines = join '', map { "n:$_->[0]:$_->[1]\n" } @refused;
 utf8::encode($lines);
 my @words = run({ stdin => $lines }, program(), qw(--check --budget 150000000))->{err} =~ /line \d+: (.*)/g;
 is(scalar @words, scalar @refused, 'the program refuses all of them');
+push @refused, ['!x', 'x', 'LOCKED'], ['', 'x', 'NO_HASH'];    # for these it has an answer
+push @words, 'locked', 'no hash';
+my $rows = JSON::PP->new->ascii->encode(\@refused);
 
 # Binaryen wraps addresses and lengths, and marks code that is never reached. It has nothing else to do.
 subtest 'lowered' => sub {
@@ -64,6 +66,7 @@ subtest 'in node' => sub {
     my %with = (stdin => join '', map { join(' ', map { unpack 'H*', $_ } @$_) . "\n" } @cases);
     my $run = run(\%with, 'node', "$root/tests/web/node.mjs", "$scratch/mkpasswd.mjs", $page, $rows, '$7$46..../....SodiumChloride');
     my $told = eval { decode_json($run->{out}) } or return fail("node: $run->{err}");
+    is($told->{after}, JSON::PP::true, 'the module works after a call for which the stack was too short');
     my @reasons = ('REFUSED_UNKNOWN_METHOD: unknown method', 'REFUSED_COST: cost', 'OVER_BUDGET: over budget');
     push @reasons, map { "$refused[$_][2]: $words[$_]" } 0 .. $#refused;
     is_deeply($told->{refused}, ['undefined: half of a character has no bytes', map { "MKPASSWD_$_" } @reasons], 'refusals by the names of C');

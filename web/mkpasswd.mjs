@@ -6,8 +6,9 @@
 //     const stored = hash('correct horse', setting('sha512crypt', 656000));
 //     try { if (verify(password, stored)) letIn(); } catch (error) { console.error(error.reason ?? error.message); }
 const module = Uint8Array.from(atob('@MODULE@'), (character) => character.charCodeAt(0));
-const { exports } = new WebAssembly.Instance(new WebAssembly.Module(module));
-const memory = new Uint8Array(exports.memory.buffer);
+const compiled = new WebAssembly.Module(module);
+let { exports } = new WebAssembly.Instance(compiled);
+let memory = new Uint8Array(exports.memory.buffer);
 const initial = memory.slice();
 
 // In the free memory are the report, `out`, and then what is passed: of a password that is too long, a byte too many.
@@ -31,6 +32,10 @@ const within = (budget) => BigInt(Math.max(0, Math.min(budget, Number.MAX_SAFE_I
 
 // Calls the module with bytes and numbers, wipes its memory, and returns what it reports.
 function call(name, ...passed) {
+    if (!exports) {
+        const { exports: anew } = new WebAssembly.Instance(compiled);
+        [exports, memory] = [anew, new Uint8Array(anew.memory.buffer)];
+    }
     let end = PASSED;
     const words = passed.flatMap((value) => {
         if (!(value instanceof Uint8Array)) return [value];
@@ -39,7 +44,11 @@ function call(name, ...passed) {
         end += bytes.length;
         return [BigInt(from), BigInt(bytes.length)];
     });
-    exports[name](...words, BigInt(START));
+    try { exports[name](...words, BigInt(START)); } catch (error) {    // the stack ended
+        exports = undefined;
+        memory.fill(0);
+        throw error;
+    }
     const report = new DataView(memory.buffer, START);
     const [reason, length, cost] = [report.getInt32(0, true), report.getUint32(4, true), Number(report.getBigUint64(8, true))];
     const text = String.fromCharCode(...memory.subarray(OUT, OUT + length));
@@ -57,7 +66,8 @@ export function setting(method = 'sha512crypt', rounds = 656000) {
 // The hash of a password. No more bytes than the budget are hashed for it.
 export const hash = (password, by = setting(), budget = BUDGET) =>
     call('web_hash', bytesOf(password), bytesOf(by), within(budget), BigInt(OUT), BigInt(OUT_SIZE)).text;
-// Whether a password matches. A field that is locked, empty or malformed, or can cost more than the budget, throws a refusal.
+// Whether a password matches. A field that is locked, empty, malformed or of scrypt, or that can cost more than the budget, throws a
+// refusal, and so does a password of more than 1,024 bytes or with a zero byte. Half a character throws a TypeError.
 export const verify = (password, stored, budget = BUDGET) =>
     call('web_verify', bytesOf(password), bytesOf(stored), within(budget)).fits;
 // The most bytes that a hash with this setting can cost, for a password of so many bytes.

@@ -1,5 +1,6 @@
 /* Makes a call three times, and stops after each: `CALL TEXT METHOD COST LENGTH`. The third time the password has another byte
- * at each place. tests/calls.t looks at the memory of the process then. All that a caller holds is in a page that is shared. */
+ * at each place. tests/calls.t looks at the memory of the process then. All that a caller holds is in a page that is shared.
+ * For mkpasswd_hash, which has no cost, a COST of 1 locks the memory of the process. */
 #define _GNU_SOURCE
 #include <mkpasswd.h>
 #include <stdlib.h>
@@ -18,6 +19,8 @@ int main(int argc, char **argv)
     uint32_t method = argc == 6 ? (uint32_t)atol(argv[3]) : 0, cost = argc == 6 ? (uint32_t)atol(argv[4]) : 0;
     size_t len = argc == 6 ? (size_t)atol(argv[5]) : 0, text_len = argc == 6 ? strlen(argv[2]) : 0;
 
+    if (argc == 6 && argv[1][0] == 'h' && cost == 1 && mlockall(MCL_CURRENT | MCL_FUTURE) != 0)
+        return 2;
     for (int round = 0; round < 3 && held != MAP_FAILED; round++) {
         for (size_t place = 0; place < len; place++)
             held->password[place] = (uint8_t)('!' + (place * place + place / 7 + (round == 2 ? 31 : 0)) % 90);

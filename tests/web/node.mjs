@@ -36,4 +36,16 @@ const checked = readFileSync(0, 'utf8').trimEnd().split('\n').map((line) => {
     const [password, stored] = line.split(' ').map((digits) => Uint8Array.from(Buffer.from(digits, 'hex')));
     return [...check(password, stored), ...check(Uint8Array.of(1, ...password.slice(1)), stored), hash(password, stored, Infinity)].join(' ');
 });
-console.log(JSON.stringify({ refused, made, answers, costs, checked }));
+
+// Calls with ever more of the stack left, from none on, and compiled by now, so that it can end in the module.
+const [word, md5crypt] = ['password', made[2]].map((text) => Uint8Array.from(Buffer.from(text)));
+for (let count = 0; count < 3000; count++) verify(word, md5crypt);
+let count = 0;
+(function deep() {
+    try { deep(); } catch (error) {
+        try { verify(word, md5crypt); } catch { }
+        if (++count < 1500) throw error;
+    }
+})();
+const after = why(() => verify('password', made[2]));
+console.log(JSON.stringify({ refused, made, after, answers, costs, checked }));

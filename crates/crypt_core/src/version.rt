@@ -1,5 +1,5 @@
-//! The version of the program, the libraries and the archive. `tools/version` reads it here; `c/mkpasswd.h`, the packages
-//! and a few tests repeat it.
+//! The version of the program, the libraries and the archive. `tools/version` reads it here; `c/mkpasswd.h` and the packages
+//! repeat it.
 
 /// The version, as text.
 pub const VERSION: &str = "1.3.0";

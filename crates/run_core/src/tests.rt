@@ -20,7 +20,9 @@ use crate::one::run_one;
 use crate::reader::buffer::LineBuffer;
 use crate::tally::Tally;
 use crate::test_devices::{ALL, ListedWords, MemoryReader, MemoryWriter};
+use crypt_core::fits::fits;
 use crypt_core::method::Method;
+use crypt_core::password::Password;
 use prims_core::meter::Meter;
 use rand_core::Rng;
 use std::alloc::Global;
@@ -394,6 +396,31 @@ fn draws_and_counts(rt: HostRuntime) -> Result<(), Fail> {
         );
     }
     Ok(())
+}
+
+// The call for other programs in Rattle. The hashes are those of openssl-passwd(1) and libxcrypt.
+#[test]
+fn fits_stored_hashes(rt: HostRuntime) {
+    let (md5crypt, scrypt) = (
+        "$1$xxxxxxxx$UYCIxa628.9qXjpQCjM4a.",
+        "$7$2/..../....$rNxJWVHNv/mCNcgE/f6/L4zO6Fos5c2uTzhyzoisI62",
+    );
+    let rows = [
+        ("password", md5crypt, Ok(true)),
+        ("Password", md5crypt, Ok(false)),
+        ("", scrypt, Ok(true)),
+        ("x", scrypt, Ok(false)),
+        ("x", "$1$a:b", Err("bad character")),
+    ];
+    for (word, stored, wanted) in rows {
+        let password = Password::new(word.as_bytes()).expect(&rt, word);
+        let told = fits(rt.alloc(), &password, stored.as_bytes(), &mut Meter::new());
+        assert_eq!(rt;
+            told.map_err(|fault| fault.text()),
+            wanted,
+            "{word} and {stored}"
+        );
+    }
 }
 
 // By the rules by which the runs refuse lines.
