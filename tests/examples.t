@@ -149,6 +149,8 @@ subtest 'administration' => sub {
     my $is_made = sub { $_[0] =~ m{(\$6\$rounds=656000\$[./\w]+\$[./\w]+)\Q$_[2]\E$} && is_hash_of($1, $_[1]) };
 
     $accounts->(ann => '!', bob => '!', eve => '!');
+    is_run(run({ %in, dir => $folder }, qw(flock lock sh -c), marked($_, 'sh')), 1, '', '', "$_: one run at a time")
+        for 'new passwords', 'good lines', 'several machines', 'known passwords', 'hashes for services';
     spew("$folder/passwords", "ann:password\nbob:" . 'x' x 83 . "\n");
     is_run($recipe->('new passwords'), 1, '', "mkpasswd: line 2: over budget\n", 'a new password that a login would refuse');
     is(join('', slurp("$system/etc/shadow") =~ /:!:/g), ':!:' x 3, 'such a password changes no account');

@@ -1,6 +1,6 @@
-/* Makes a call three times, and stops after each: `CALL TEXT METHOD COST LENGTH`. The third time the password has another byte
- * at each place. tests/calls.t looks at the memory of the process then. All that a caller holds is in a page that is shared.
- * For mkpasswd_hash, which has no cost, a COST of 1 locks the memory of the process. */
+/* Makes a call three times, and stops after each: `CALL TEXT METHOD COST LENGTH`; a COST of 1 for mkpasswd_hash locks its memory.
+ * The third time the password has another byte at each place. tests/calls.t looks at the memory of the process then. All that a
+ * caller holds is in a page that is shared. */
 #define _GNU_SOURCE
 #include <mkpasswd.h>
 #include <stdlib.h>

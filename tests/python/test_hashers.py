@@ -37,7 +37,7 @@ def test_recipe_of_passlib(passlib):
     for word in "password", "x" * 83, "\U0001f511" * 256:
         matches, new = context.verify_and_update(word, MD5 if word == "password" else mkpasswd.hash(word))
         assert matches and new.startswith(FRONT)
-        assert len(word) > 83 or context.verify(word, new) and not context.verify(word[:-1] + "y", new)
+        assert len(word) > 83 or (context.verify(word, new) and not context.verify(word[:-1] + "y", new))
     # By hand passlib's own rounds stay, and the budget admits 82 bytes.
     stored = mkpasswd.passlib.sha512_crypt.hash("x" * 82)
     assert stored.startswith(FRONT) and mkpasswd.passlib.sha512_crypt.verify("x" * 82, stored)

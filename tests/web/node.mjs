@@ -47,5 +47,4 @@ let count = 0;
         if (++count < 1500) throw error;
     }
 })();
-const after = why(() => verify('password', made[2]));
-console.log(JSON.stringify({ refused, made, after, answers, costs, checked }));
+console.log(JSON.stringify({ refused, made, after: why(() => verify('password', made[2])), answers, costs, checked }));
