@@ -482,9 +482,8 @@ subtest 'what calls leave in memory' => sub {
         map { ['hash', "\$7\$$_.../....ab"] } 'AU.', 'BU.', '6/E');    # tables of 16 and 32 MiB, and of some more
     # Once more of large tables in a process that never hands memory back by itself, and whose memory is locked.
     my @kept = ('env', 'GLIBC_TUNABLES=glibc.malloc.mmap_max=0:glibc.malloc.trim_threshold=4000000000', $residue);
-    my @with = ((map { my $call = $_; map { [[$residue], @$call[0, 1], $call->[2] // 0, $call->[3] // 0, $_] } 8, 24, 1000 } @calls),
-        map { my $call = $_; map { [\@kept, @$call, 0, $_, 24] } 0, $> ? () : 1 } @calls[-2, -1]);
-    for (@with) {
+    for ((map { my $call = $_; map { [[$residue], @$call[0, 1], $call->[2] // 0, $call->[3] // 0, $_] } 8, 24, 1000 } @calls),
+        map { my $call = $_; map { [\@kept, @$call, 0, $_, 24] } 0, $> ? () : 1 } @calls[-2, -1]) {
         my ($command, @call) = @$_;
         my $pid = open2(my $out, my $in, @$command, @call);
         my @memory = map { sysread($out, my $stop, 1) or die "no stop: @call"; my $seen = $_ && $memory_of->($pid); syswrite $in, "\n"; $seen } 0 .. 2;
