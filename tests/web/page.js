@@ -37,7 +37,7 @@ async function visit() {
         told.made.push([stored, right, await ended('check', { guess: 'K\u00e4se' })]);
     }
     told.beyond = [375, 1280].filter((width) => beyond(width) > 0);
-    for (const [stored, guess] of @ROWS@) told.refused.push(await ended('check', { stored, guess }));
+    for (const [stored, guess] of @ROWS@) told.refused.push(await ended('check', { stored: stored || ' ', guess }));    // an empty field isn't sent
     told.mistyped = [await ended('make', { repeat: 'K\u00e4se' }), isShown(element('made'))];
     start('make', { password, repeat: password, method: 'sha512crypt', rounds: 999999999 });
     const stop = element('make').querySelector('[data-stop]');
