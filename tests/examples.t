@@ -168,7 +168,7 @@ subtest 'administration' => sub {
 
     my $costly = '$6$rounds=999999999$ab$x';
     my $old = crypt('password', '$5$rounds=1000$ab');
-    spew("$folder/shadow", "ann:$old$aged\nbob:!$aged\nzoe:$costly$aged\neve:$known$aged\nmax:!$costly$aged\njoe:*$costly$aged\nsam:\$7\$C6....../..ab\$x$aged\n");
+    spew("$folder/copy", "ann:$old$aged\nbob:!$aged\nzoe:$costly$aged\neve:$known$aged\nmax:!$costly$aged\njoe:*$costly$aged\nsam:\$7\$C6....../..ab\$x$aged\n");
     spew("$folder/password", '');
     is_run($recipe->('one password'), 1, '', "no password\n", 'a file without a password');
     ok(!-e "$folder/list", 'it makes no list');
