@@ -181,27 +181,33 @@ mod tests {
         to_diagonals(&mut words);
         load_words(&MIXED, &mut expected);
         to_diagonals(&mut expected);
-        for before in 0..3 {
-            let mut meter = Meter::new();
-            let mut table = Table::new(rt.alloc(), 3, 32, &mut meter)?;
-            let (ones, mut mixed) = ([1; 32], [0; 32]);
-            for i in 0..before {
-                table.set_row(i, &ones);
-            }
-            table.set_row_and_mix(1, &words, &mut mixed, &mut meter);
-            let (zeros, first) = ([0; 32], if before > 0 { ones } else { [0; 32] });
-            assert_eq!(rt;
-                (table.row(0), table.row(1), table.row(2), mixed.as_slice()),
-                (
-                    first.as_slice(),
-                    words.as_slice(),
-                    zeros.as_slice(),
-                    expected.as_slice()
-                ),
-                "RFC 7914, section 9, after {before} rows"
-            );
-            assert_eq!(rt; counts(&meter), [0, 0, 1, 384, 0]);
-        }
+        let mut meter = Meter::new();
+        let mut table = Table::new(rt.alloc(), 3, 32, &mut meter)?;
+        let (zeros, mut mixed, mut other) = ([0; 32], [7; 32], [7; 32]);
+        table.set_row_and_mix(1, &words, &mut mixed, &mut meter);
+        assert_eq!(rt;
+            (table.row(0), table.row(1), table.row(2), mixed.as_slice()),
+            (
+                zeros.as_slice(),
+                words.as_slice(),
+                zeros.as_slice(),
+                expected.as_slice()
+            ),
+            "RFC 7914, section 9, with a row that nobody had set"
+        );
+        table.set_row_and_mix(1, &mixed, &mut other, &mut meter);
+        table.set_row_and_mix(0, &words, &mut mixed, &mut meter);
+        assert_eq!(rt;
+            (table.row(0), table.row(1), table.row(2), mixed.as_slice()),
+            (
+                words.as_slice(),
+                expected.as_slice(),
+                zeros.as_slice(),
+                expected.as_slice()
+            ),
+            "with rows that were set"
+        );
+        assert_eq!(rt; counts(&meter), [0, 0, 3, 384, 0]);
         Ok(())
     }
 
