@@ -9,7 +9,6 @@
 # make soak        answers LINES random lines of each kind, by SEED; make fuzz makes random calls, for FUZZ_SECONDS each
 # make specification    writes build/SPECIFICATION.md; make site all documents as web pages
 # make dist        packs an archive; make image one for containers; make wheel a Python wheel; make deb Debian packages
-# All that rt writes while it proves is in build/log.
 #
 # CPU=x86-64-v3 builds for such processors. The default is x86-64-v2, and x86-64 for make static, dist, image and wheel. Say it
 # to each make, also to make install. TARGET=aarch64 is for ARM: make builds its archive and wheel, make image the image.

@@ -383,19 +383,6 @@ subtest 'compilers' => sub {
     is($results[$_] && $results[$_][0], $wanted, $builds[$_][0]) for 0 .. $#builds;
 };
 
-# The targets of `make fuzz`, for as many calls as take a few seconds.
-subtest 'fuzzing' => sub {
-    my ($runtime) = run('clang', '-print-runtime-dir')->{out} =~ /(.*)/;
-    needs('the runtime of libFuzzer' => 'libclang-rt-14-dev', scalar glob "$runtime/libclang_rt.fuzzer*") or return;
-    my ($options) = slurp("$root/Makefile") =~ /^\tclang (.*?)\s-Ic/ms;
-    for my $source (glob "$root/tests/c/fuzz_*.c") {
-        my ($name) = $source =~ m{(\w+)\.c$};
-        my $target = build($name, 'clang', split(/[\s\\]+/, $options), $source, @static, '-lcrypt') or next;
-        my $run = run({ dir => $scratch, timeout => 100 }, $target, qw(-runs=2000 -seed=26 -max_len=1600 -timeout=20));
-        is($run->{status}, 0, "$name finds nothing in 2,000 calls") or diag($run->{err});
-    }
-};
-
 # A program of these statements, each in a line of its own after the first ten; what a compiler says of each.
 sub told {
     my ($compiler, @statements) = @_;

@@ -47,6 +47,7 @@ subtest 'install' => sub {
     is(run('find', "$installed/usr", qw{( -type d -o -path */bin/* ) ! -perm 755 -o -type f ! -perm -644})->{out}, '', 'everybody may use it');
     my @packed = map { 'usr/' . s{^lib/}{lib/x86_64-linux-gnu/}r } grep { !/README$|SUMS$/ } files_in($tree);
     is_deeply([files_in($installed)], [sort @packed], 'the files of the archive, under the prefix and the folder for libraries');
+    is(join(' ', grep { !-e "$installed/usr/share/man/man" . substr($_, -1) . s{.*/}{/}r } glob "$root/man/*.?"), '', 'each manual is there');
     my $pc = slurp("$installed/usr/lib/x86_64-linux-gnu/pkgconfig/mkpasswd.pc");
     like($pc, qr{^prefix=/usr\nlibdir=/usr/lib/x86_64-linux-gnu\n}, 'mkpasswd.pc has the places');
     spew("$installed/usr/share/doc/mkpasswd/notes", '');

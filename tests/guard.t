@@ -77,6 +77,8 @@ subtest 'what the library has' => sub {
     my @exported = $symbols =~ /^[0-9a-f]{16} (?!.*\*(?:UND|ABS)\*).*\s(\S+\s+\S+)$/mg;
     is_deeply([sort @exported], [map { "XCRYPT_2.0  $_" } qw(crypt crypt_r crypt_ra crypt_rn)], 'it offers four calls at XCRYPT_2.0');
     is_deeply([sort $parts =~ /(?:SONAME|NEEDED) +(\S+)/g], ['libc.so.6', 'libcrypt.so.1'], 'it needs libcrypt.so.1');
+    my ($place) = map { quotemeta =~ s{\\\*}{[^/]+}r } slurp("$root/debian/libmkpasswd-crypt.install") =~ /^(\S+\.so)$/m;
+    is_deeply([grep { !m{^/$place$} } slurp("$root/man/libmkpasswd-crypt.7") =~ /LD_PRELOAD=(\S+)/g], [], 'its manual has its place');
 };
 
 my @calls = ([qw(crypt -1)], [qw(crypt_r -1)], [qw(crypt_rn 32768)], [qw(crypt_rn 40000)], [qw(crypt_ra -1)], [qw(crypt_ra 10)], [qw(crypt_ra 32768)]);

@@ -25,6 +25,7 @@ for (['mkpasswd', program()], ['mkpasswd-parallel', "$root/bin/mkpasswd-parallel
 }
 
 my $manual = shown_manual("$root/man/mkpasswd.1");
+is_run(run(program(), '-m', "$2", qw(x y)), 0, run(program(), '-m', "$1", qw(x y))->{out}, '', "manual: $2") while $manual =~ /^(\w+crypt) +(md5|sha\S*) /mg;
 my @of_runs = ((map { "2 +$_" } 'unknown method', 'two salts', 'two modes', 'salt length', 'salt character', 'cost',
     'password too long', 'password has a zero byte'), map { "3 +$_" } 'read fault', 'write fault', 'out of memory', 'too many turns', 'start fault');
 for (['Refused lines', @line_refusals], ['EXIT STATUS', @of_runs]) {

@@ -171,6 +171,9 @@ subtest 'devices' => sub {
     is(run(\%how, 'sh', '-c', 'exec "$@" >&-', '-', $script, @batch)->{status}, 3, 'no output');
     my @closes = ('bash', '-c', '"$@" | true; exit ${PIPESTATUS[0]}', '-', $script);
     is(run({ stdin => $thirty x 500 }, @closes, @batch)->{status}, 3, 'an output that closes');
+    my $hangs_up = 'import os, pty, sys; m, s = pty.openpty(); os.write(s, b"ann:x\nbob:pass"); os.close(s); os.dup2(m, 0); os.execv(sys.argv[1], sys.argv[1:])';
+    my @told = @{ run('python3', '-c', $hangs_up, $script, @batch) }{qw(status out err)};
+    like("@told", qr/^3 ann:\S+\n mkpasswd-parallel: read fault; answered up to line 1;/, 'an input that fails in a line');
     my $lines = join '', map { $_ % 50 ? "user$_:password$_\n" : ":\n" } 1 .. 2000;
     my $limited = run({ stdin => $lines }, 'bash', '-c', 'ulimit -f 20; "$@" > "$0"', "$scratch/out", $script, @batch);
     resumes('a limit of the length of files', $lines, 'write fault', slurp("$scratch/out"), $limited->{err}, @batch);

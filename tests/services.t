@@ -116,6 +116,7 @@ sub pam {
 subtest 'nginx' => sub {
     needs(nginx => 'nginx') or return;
     prepare('nginx');
+    is((stat '/etc/nginx/passwords')[2] & 0777, 0640, 'not everybody reads the hashes');
     my $block = marked('nginx', 'nginx');
     spew("$scratch/nginx.conf", <<"END");
 user www-data;

@@ -171,6 +171,8 @@ for my $name (sort keys %browsers) {
             my $no = JSON::PP::false;
             is_deeply($told->{mistyped}, ['The two passwords differ.', $no], 'a password that was mistyped once makes no hash, and leaves none');
             is_deeply([@$told{qw(left beyond stopped sent)}], [$no, [], 'Stopped.', ['refused', 'refused']], 'nothing left, too wide or sent; stopped');
+            my @lines = map { ["d-i passwd/user-password-crypted password $_", "rootpw --iscrypted $_", "lock_passwd: false\nhashed_passwd: $_", "password: \"$_\""] } @made;
+            is_deeply([map { $_->[3] } @{ $told->{made} }], \@lines, 'lines for installers, with the hash');
         }
         is(scalar keys %salts, 6, 'each salt is another');
         my @unable = map { [$_->{unable} =~ /\b(WebAssembly|script)\b/, $_->{forms}] } @told;

@@ -145,6 +145,7 @@ def test_str_is_its_utf8():
             expected = libxcrypt(password.encode(), setting)
             assert crypt(password, setting) == crypt(password.encode(), setting) == expected
             assert verify(password, expected) and not verify(password.encode()[: len(password)], expected)
+    assert crypt(b"\xed\xa0", "$1$salt") == libxcrypt(b"\xed\xa0", "$1$salt")  # in Latin-1
 
 
 def test_a_careless_login_opens_for_the_right_password_alone():
@@ -316,15 +317,16 @@ def test_budgets():
 
 
 def test_verify_and_update_charges_both_hashes():
-    old, new, wanted = cost(MD5, 8), cost("$5$rounds=2000$" + "s" * 16, 8), ("sha256crypt", 2000)
-    matches, update = verify_and_update("password", MD5, *wanted, budget=old + new)
-    assert matches is True and update.startswith("$5$rounds=2000$") and verify("password", update)
-    assert verify_and_update("password", MD5, *wanted, budget=old + new - 1) == (True, None)
-    assert verify_and_update("password", MD5, "md5crypt", budget=old) == (True, None)
+    stored = libxcrypt("pässwörd".encode(), "$1$xxxxxxxx")
+    old, new, wanted = cost(stored, 10), cost("$5$rounds=2000$" + "s" * 16, 10), ("sha256crypt", 2000)
+    matches, update = verify_and_update("pässwörd", stored, *wanted, budget=old + new)
+    assert matches is True and update.startswith("$5$rounds=2000$") and verify("pässwörd", update)
+    assert verify_and_update("pässwörd", stored, *wanted, budget=old + new - 1) == (True, None)
+    assert verify_and_update("pässwörd", stored, "md5crypt", budget=old) == (True, None)
     for budget in old, old + new:
-        assert verify_and_update("passw0rd", MD5, *wanted, budget=budget) == (False, None)
-    for password in "password", "passw0rd":
-        error = error_of(verify_and_update, password, MD5, *wanted, budget=old - 1)
+        assert verify_and_update("pässw0rds", stored, *wanted, budget=budget) == (False, None)
+    for password in "pässwörd", "pässw0rds":
+        error = error_of(verify_and_update, password, stored, *wanted, budget=old - 1)
         assert (type(error), error.cost, error.budget) == (TooCostly, old, old - 1)
 
 

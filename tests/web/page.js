@@ -34,7 +34,9 @@ async function visit() {
         await ended('make', { password, repeat: password, method, rounds: 1234 });
         const stored = element('hash').textContent;
         const right = await ended('check', { stored: ` ${stored} `, guess: password });    // as it may be pasted
-        told.made.push([stored, right, await ended('check', { guess: 'K\u00e4se' })]);
+        element('guess').dispatchEvent(new Event('input', { bubbles: true }));
+        told.left ||= status('check').textContent !== '';
+        told.made.push([stored, right, await ended('check', { guess: 'K\u00e4se' }), ['preseed', 'kickstart', 'cloud', 'ansible'].map((id) => element(id).textContent)]);
     }
     told.beyond = [375, 1280].filter((width) => beyond(width) > 0);
     for (const [stored, guess] of @ROWS@) told.refused.push(await ended('check', { stored: stored || ' ', guess }));    // an empty field isn't sent
