@@ -4,7 +4,9 @@
 //
 //     import { hash, setting, verify } from './mkpasswd.mjs';
 //     const stored = hash('correct horse', setting('sha512crypt', 656000));
-//     try { if (verify(password, stored)) letIn(); } catch (error) { console.error(error.reason ?? error.message); }
+//     let matches = false;
+//     try { matches = verify(password, stored); } catch (error) { console.error(error.reason ?? error.message); }
+//     if (matches) letIn();
 const module = Uint8Array.from(atob('@MODULE@'), (character) => character.charCodeAt(0));
 const compiled = new WebAssembly.Module(module);
 let { exports } = new WebAssembly.Instance(compiled);
