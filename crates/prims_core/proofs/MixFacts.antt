@@ -1,11 +1,10 @@
 -- Block mixing: X from block to block, blocks that are written, and the order of the results.
-use Rattle.std.proofs.Common.{◌≡◌, ℕ, ◌+◌, ◌-◌, ◌*◌, ◌/◌, ◌%◌, ◌<◌, ◌≤◌, ◌⊎◌, inl, inr, List, [], ◌++◌, length, take, drop, map, refl, sym, ◌∙◌, ap, add-one, arith, append_assoc, length-take}
+use Rattle.std.proofs.Common.{◌≡◌, ℕ, ◌+◌, ◌-◌, ◌*◌, ◌/◌, ◌%◌, ◌<◌, ◌⊎◌, inl, inr, List, [], ◌++◌, length, map, refl, sym, ◌∙◌, ap, add-one, arith}
 use borrow.Rule.Slice.PartMut.{put_mid}
 use Rattle.std.specs.List.{concat, range_with_len}
 use Rattle.std.proofs.lemmas.Bool.{cases_lt}
 use Rattle.std.proofs.lemmas.List.FromFn.{get_or-map-range_with_len, length-map-range_with_len}
-use Rattle.std.proofs.lemmas.List.{get_or_append_left, get_or-append_right, length-append, drop-drop, take_at, drop_at}
-use Rattle.std.proofs.Math.Seq.{take-add}
+use Rattle.std.proofs.lemmas.List.{get_or_append_left, get_or-append_right, length-append}
 use Rattle.prims_core.specs.Private.Mixing.{mixed_block, place_of, ArePlaced}
 use Rattle.prims_core.specs.BlockMix.{block_at, x_after}
 use Rattle.prims_core.specs.Diagonals.{block_in_rows, in_rows}
@@ -74,22 +73,3 @@ in_order r y out whole placed =
           ∙ get_or-map-range_with_len (λ i. y (2 * i + 1)) 0 r q q [] (omega arith) (omega arith)
           ∙ sym (rw place at (placed (2 * q + 1) (omega arith))) ∙ there p (omega arith)
     ])
-
--- copies of the first words, and more behind them
-pub copied_more : (start n m : ℕ) (xs src now more : List ℕ) → start ≤ length xs → n + m ≤ length src
-    → now ≡ take start xs ++ (take n src ++ drop (start + n) xs) → more ≡ take m (drop n src)
-    → take (start + n) now ++ (more ++ drop (start + n + m) now) ≡ take start xs ++ (take (n + m) src ++ drop (start + n + m) xs)
-copied_more start n m xs src now more reached inside is these =
-    let front : List ℕ = take start xs ++ take n src in
-    let rest : List ℕ = drop (start + n) xs in
-    let long : length front ≡ start + n = simp (length-append, length-take) (omega (arith, reached, inside)) in
-    let apart : now ≡ front ++ rest = is ∙ sym (append_assoc (take start xs) (take n src) rest) in
-    let before : take (start + n) now ≡ front = ap (take (start + n)) apart ∙ take_at front rest (start + n) long in
-    let behind : drop (start + n + m) now ≡ drop (start + n + m) xs =
-    sym (drop-drop m (start + n) now) ∙ ap (drop m) (ap (drop (start + n)) apart ∙ drop_at front rest (start + n) long)
-    ∙ drop-drop m (start + n) xs in
-    let all : take n src ++ more ≡ take (n + m) src = ap (λ (ys : List ℕ). take n src ++ ys) these ∙ sym (take-add n m src) in
-    rw (before, behind)
-    (append_assoc (take start xs) (take n src) (more ++ drop (start + n + m) xs)
-    ∙ ap (λ (ys : List ℕ). take start xs ++ ys)
-    (sym (append_assoc (take n src) more (drop (start + n + m) xs)) ∙ ap (λ (ys : List ℕ). ys ++ drop (start + n + m) xs) all))

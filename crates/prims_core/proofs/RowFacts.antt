@@ -1,9 +1,8 @@
 -- Rows that lie in one list, one behind another.
-use Rattle.std.proofs.Common.{◌≡◌, ℕ, zero, suc, ◌+◌, ◌-◌, ◌*◌, ◌<◌, ◌≤◌, List, [], ◌∷◌, ◌++◌, length, get_or, set, take, drop, replicate, inl, inr, refl, sym, ◌∙◌, ap, arith, length-take, length-drop, length-append, length-take-le, append_assoc, append-nil, zero-add}
-use Rattle.std.proofs.Math.Nat.{suc-mul, zero-mul}
+use Rattle.std.proofs.Common.{◌≡◌, ℕ, zero, suc, ◌+◌, ◌-◌, ◌*◌, ◌<◌, ◌≤◌, List, [], ◌∷◌, ◌++◌, length, get_or, set, take, drop, replicate, refl, sym, ◌∙◌, ap, arith, length-take, length-drop, length-append, length-take-le, append_assoc, zero-add}
+use Rattle.std.proofs.Math.Nat.{add-mul, suc-mul, zero-mul}
 use Rattle.std.proofs.Math.Seq.{take-add, drop-append-add}
-use Rattle.std.proofs.lemmas.Bool.{cases_lt}
-use Rattle.std.proofs.lemmas.List.{length-replicate, drop_all, drop-drop, drop-append-le, take-append-le, take_at, drop_at, take-replicate, drop-replicate, replicate-append-replicate}
+use Rattle.std.proofs.lemmas.List.{length-replicate, drop-drop, drop-append-le, take-append-le, take_at, drop_at, take-replicate, drop-replicate, replicate-append-replicate}
 use Rattle.std.proofs.lemmas.Nat.{rows}
 use borrow.Rule.Slice.PartMut.{put_mid}
 use Rattle.prims_core.specs.Memory.{rows_of, padded, IsLaidOut}
@@ -34,6 +33,12 @@ row_end n w xs table i is inside =
     let below : i < n = row_inside n w xs table i is inside in
     grind (arith, rows)
 
+-- the end of the next row
+pub next_row_end : (n w : ℕ) (xs : List ℕ) (table : List (List ℕ)) (i : ℕ) → rows_of n w xs ≡ table
+    → i + 1 < length table → i * w + w + w ≤ n * w
+next_row_end n w xs table i is inside =
+    omega (arith, row_end n w xs table (i + 1) is inside, add-mul i 1 w)
+
 -- what is read of row i, and its length
 pub row_read : (n w : ℕ) (xs : List ℕ) (table : List (List ℕ)) (i : ℕ) → rows_of n w xs ≡ table
     → i < length table → take w (drop (i * w) xs) ≡ get_or table i []
@@ -46,16 +51,6 @@ pub length-row : (n w : ℕ) (xs : List ℕ) (table : List (List ℕ)) (i : ℕ)
 length-row n w xs table i is inside whole =
     ap length (sym (row_read n w xs table i is inside))
     ∙ length-take-le w (drop (i * w) xs) (omega (arith, length-drop (i * w) xs, row_end n w xs table i is inside))
-
--- zeros fill a list up to the size
-pub length-padded : (size : ℕ) (xs : List ℕ) → length xs ≤ size → length (padded size xs) ≡ size
-length-padded size xs inside = simp (length-append, length-replicate) (omega (arith, inside))
-
--- a row that is as long as one of the table
-pub same_words : (n w : ℕ) (xs row : List ℕ) (table : List (List ℕ)) (i : ℕ) → rows_of n w (padded (n * w) xs) ≡ table
-    → i < length table → length xs ≤ n * w → length row ≡ length (get_or table i []) → length row ≡ w
-same_words n w xs row table i is inside within same =
-    same ∙ length-row n w (padded (n * w) xs) table i is inside (omega (arith, length-padded (n * w) xs within))
 
 pub rows_of-replicate : (n w : ℕ) → rows_of n w (replicate (n * w) 0) ≡ replicate n (replicate w 0)
 unfolding rows_of
@@ -93,14 +88,9 @@ rows_of-written (suc n) w (suc i) xs row inside long whole =
     )
     (ap (λ (xss : List (List ℕ)). take w xs ∷ xss) below)
 
--- behind the size there is what was there
-pub drop-padded : (size : ℕ) (xs : List ℕ) → drop size (padded size xs) ≡ drop size xs
-drop-padded size xs = elim (cases_lt (length xs) size) [
-  | inl short ↦ drop_all size (padded size xs) (omega (arith, length-padded size xs (omega arith))) ∙ sym (drop_all size xs (omega arith))
-  | inr long ↦
-      let none : size - length xs ≡ 0 = omega arith in
-      ap (λ (k : ℕ). drop size (xs ++ replicate k zero)) none ∙ ap (drop size) (append-nil xs)
-]
+-- zeros fill a list up to the size
+pub length-padded : (size : ℕ) (xs : List ℕ) → length xs ≤ size → length (padded size xs) ≡ size
+length-padded size xs inside = simp (length-append, length-replicate) (omega (arith, inside))
 
 -- some of these zeros written out
 pub padded-filled : (size len : ℕ) (xs : List ℕ) → len ≤ size
@@ -206,25 +196,17 @@ row_written n w xs table i size items row is inside written within counted long 
     )
     (ap (λ (rows : List (List ℕ)). set rows i row) is)
 
--- that row as a copy from its beginning on leaves it, in a list that reaches so far
-pub row_copied : (n w : ℕ) (xs : List ℕ) (table : List (List ℕ)) (i count : ℕ) (row : List ℕ)
-    → rows_of n w (padded (n * w) xs) ≡ table → i < length table → i * w ≤ length xs → length xs ≤ n * w → length row ≡ w → count ≡ w
-    → rows_of n w (padded (n * w) (take (i * w) xs ++ (row ++ drop (i * w + count) xs))) ≡ set table i row
-row_copied n w xs table i count row is inside reached within long counted =
-    let start : ℕ = i * w in
-    let zeros : List ℕ = replicate (start + w - length xs) zero in
-    let ends : start + w ≤ n * w = row_end n w (padded (n * w) xs) table i is inside in
-    let all : List ℕ = padded (start + w) xs in
-    let whole : length all ≡ length xs + (start + w - length xs) = simp (length-append, length-replicate) (omega arith) in
-    let front : take start all ≡ take start xs = take-append-le start xs zeros reached in
-    let behind : drop w (drop start all) ≡ drop (start + w) xs = drop-drop w start all ∙ drop-padded (start + w) xs in
-    let same : take start xs ++ (row ++ drop (start + count) xs) ≡ put_mid start w all row =
-    rw (counted, front, behind) refl in
-    rw (
-      same,
-      padded-put_mid (n * w) start w all row (omega (arith, whole)) long,
-      drop-drop w start (padded (n * w) all),
-      rows_of-written n w i (padded (n * w) all) row (row_inside n w (padded (n * w) xs) table i is inside) long
-          (omega (arith, length-padded (n * w) all (omega (arith, whole, ends, within)))),
-    )
-    (ap (λ (rows : List (List ℕ)). set rows i row) (same_rows n w (start + w) xs all table is ends refl))
+-- two rows, where the second was made of the first, written over those two
+pub next_row_written : (n w : ℕ) (xs : List ℕ) (table : List (List ℕ)) (i size items : ℕ) (both made : List ℕ)
+    → rows_of n w (padded (n * w) xs) ≡ table → i + 1 < length table → i * w + 2 * w ≤ length xs → length xs ≤ n * w
+    → items ≡ length xs → length made ≡ w → size ≡ 2 * w → both ≡ take w (drop (i * w) xs) ++ made
+    → rows_of n w (padded (n * w) (take items (put_mid (i * w) size xs both ++ drop (length (put_mid (i * w) size xs both)) xs)))
+    ≡ set table (i + 1) made
+next_row_written n w xs table i size items both made is inside ends within counted long sized written =
+    let next : (i + 1) * w ≡ i * w + w = omega (arith, add-mul i 1 w) in
+    let same : put_mid (i * w) size xs both ≡ put_mid ((i + 1) * w) w xs made =
+    rw (written, sized, next, take-add (i * w) w xs, drop-drop w (i * w + w) xs, drop-drop (2 * w) (i * w) xs)
+    (ap (λ (rest : List ℕ). take (i * w) xs ++ rest) (append_assoc (take w (drop (i * w) xs)) made (drop (i * w + 2 * w) xs))
+    ∙ ap (λ (k : ℕ). take (i * w) xs ++ (take w (drop (i * w) xs) ++ (made ++ drop k xs))) (omega arith)
+    ∙ sym (append_assoc (take (i * w) xs) (take w (drop (i * w) xs)) (made ++ drop (i * w + w + w) xs))) in
+    rw same (row_written n w xs table (i + 1) w items made is inside (omega (arith, next)) within counted long refl)

@@ -6,10 +6,9 @@
 //!
 //! During the whole of ROMix a block's words stand diagonal by diagonal, as Salsa20/8 in lanes takes them:
 //! words 0, 5, 10, 15, then 4, 9, 14, 3, then 8, 13, 2, 7, then 12, 1, 6, 11. So no mixing has to rearrange
-//! any. [`to_diagonals`] and [`from_diagonals`] convert blocks before and after it. While blocks are mixed, ROMix's
-//! table gets a copy of them ([`Table::set_row_and_mix`](crate::table::Table::set_row_and_mix)).
+//! any. [`to_diagonals`] and [`from_diagonals`] convert blocks before and after it.
 
-ghost use Rattle.std.specs.Prelude.{◌≡◌, ℕ, ◌+◌, ◌*◌, ◌%◌, ◌^◌, ◌<◌, ◌≤◌, List, ◌++◌, length, take, drop, vec_len, vec_capacity};
+ghost use Rattle.std.specs.Prelude.{◌≡◌, ℕ, ◌+◌, ◌*◌, ◌%◌, ◌^◌, ◌<◌, ◌≤◌, List, length};
 ghost use Rattle.prims_core.specs.BlockMix.{block_at, block_mix};
 ghost use Rattle.prims_core.specs.Diagonals.{block_in_rows, in_rows};
 ghost use Rattle.prims_core.specs.Private.Mixing.{mixed_block, ArePlaced};
@@ -39,35 +38,21 @@ pub fn block_mix(src: &[u32], dst: &mut [u32], meter: &mut Meter)
     meter.count_mix();
 }
 
-/// Mixes the 2r blocks of `src` into `dst`, where both stand diagonal by diagonal (RFC 7914, section 4), makes the
-/// words of `copies` from `start` on a copy of `src`, and counts one mixing.
+/// Mixes the 2r blocks of `src` into `dst`, where both stand diagonal by diagonal (RFC 7914, section 4), and counts
+/// one mixing.
 ///
-/// Preconditions: both have the 32r words of 2r blocks, for one r of at least 1, `copies` reaches up to `start` and has
-/// room for a copy there, and the meter has room.
-pub(crate) fn mix_and_copy(
-    src: &[u32],
-    dst: &mut [u32],
-    copies: &mut Vec<u32>,
-    start: usize,
-    meter: &mut Meter,
-)
+/// Preconditions: both have the 32r words of 2r blocks, for one r of at least 1, and the meter has room.
+pub fn mix_diagonals(src: &[u32], dst: &mut [u32], meter: &mut Meter)
     requires blocks { (r : ℕ) × (1 ≤ r) × (length src.now ≡ 32 * r) × (length dst.old ≡ 32 * r) }
-    requires reached { start ≤ vec_len copies.old }
-    requires fits { start + length src.now ≤ vec_capacity copies.old }
     requires room { meter.old.mixes + 1 < 2 ^ 128 }
     ensures mixed { in_rows dst.new ≡ block_mix (in_rows src.now) }
-    ensures copied { copies.new.items ≡ take start copies.old.items ++ (src.now ++ drop (start + length src.now) copies.old.items) }
-    ensures kept { vec_capacity copies.old ≤ vec_capacity copies.new }
     ensures count { meter.new ≡ record meter.old { mixes = meter.old.mixes + 1 } }
 {
-    let r = src.len() / (2 * BLOCK_WORDS);
-    let blocks = OnDiagonals { words: src };
-    let mut x = blocks.block(2 * r - 1);
-    'mixing: for i in 0..2 * r {
-        copy_block(block_words(src, i), copies, start + BLOCK_WORDS * i);
-        x = mixed_block(&x, &blocks.block(i));
-        put_result(&x, dst, i, r);
-    }
+    mix_blocks(
+        &OnDiagonals { words: src },
+        dst,
+        src.len() / (2 * BLOCK_WORDS),
+    );
     meter.count_mix();
 }
 
@@ -183,23 +168,6 @@ fn block_words(words: &[u32], i: usize) -> &[u32]
     ensures { result.now ≡ block_at i words.now }
 {
     &words[BLOCK_WORDS * i..BLOCK_WORDS * i + BLOCK_WORDS]
-}
-
-// Makes the words of `copies` from `place` on those of a block, and appends what it has not yet.
-#[inline(always)]
-fn copy_block(block: &[u32], copies: &mut Vec<u32>, place: usize)
-    requires block { length block.now ≡ 16 }
-    requires reached { place ≤ vec_len copies.old }
-    requires fits { place + 16 ≤ vec_capacity copies.old }
-    ensures copied { copies.new.items ≡ take place copies.old.items ++ (block.now ++ drop (place + 16) copies.old.items) }
-    ensures kept { vec_capacity copies.old ≤ vec_capacity copies.new }
-{
-    if place + BLOCK_WORDS <= copies.len() {
-        copies[place..place + BLOCK_WORDS].copy_from_slice(block);
-    } else {
-        copies.truncate(place);
-        copies.extend_from_slice(block).unwrap();
-    }
 }
 
 // Mixes 2r blocks, and writes the results to `dst` diagonal by diagonal.
