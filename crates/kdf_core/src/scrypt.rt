@@ -1,9 +1,8 @@
 //! scrypt (RFC 7914), over PBKDF2 and block mixing.
 //!
 //! All memory is allocated before any work: one table, which serves one part after another; the parts as
-//! bytes; and two halves of words, each as long as a part. While a part is mixed with the rows, each step
-//! reads one half and writes the other. During ROMix its blocks stand diagonal by diagonal, as the mixing
-//! takes them.
+//! bytes; and two halves of words, each as long as a part. Each step of ROMix reads one half and writes the
+//! other. During ROMix the blocks stand diagonal by diagonal, as the mixing takes them.
 
 ghost use Rattle.std.specs.Prelude.{◌≡◌, ℕ, ◌+◌, ◌-◌, ◌*◌, ◌/◌, ◌^◌, ◌%◌, ◌<◌, ◌≤◌, List, length, OnOk, OnErr};
 ghost use Rattle.std.specs.Fn.{iterate};
@@ -20,7 +19,7 @@ use crate::hmac::HmacKey;
 use crate::params::Params;
 use crate::pbkdf2::pbkdf2;
 use prims_core::meter::Meter;
-use prims_core::mix::{from_diagonals, mix_diagonals, mix_xor_diagonals, to_diagonals};
+use prims_core::mix::{from_diagonals, mix_xor_diagonals, to_diagonals};
 use prims_core::scratch::{ByteScratch, WordScratch};
 use prims_core::table::Table;
 use prims_core::words::{load_words, store_words};
@@ -132,17 +131,17 @@ fn mix_part(part: &mut [u8], rows: usize, table: &mut Table, halves: &mut [u32],
     let (x, y) = halves.split_at_mut(part_words);
     load_words(part, x);
     to_diagonals(x);
-    fill_table(table, rows, x, meter);
+    fill_table(table, rows, x, y, meter);
     mix_with_rows(table, rows, x, y, meter);
     from_diagonals(x);
     store_words(x, part);
 }
 
-// Begins with the part in `x`, RFC 7914's B. Writes it after 0, 1, .. N - 1 mixings to the rows, each mixed from the
-// row before it, and after N mixings to `x`.
-fn fill_table(table: &mut Table, rows: usize, x: &mut [u32], meter: &mut Meter)
+// Begins with the part in `x`, RFC 7914's B. Writes it after 0, 1, .. N - 1 mixings to the rows, and after N mixings to
+// `x`. Each mixing goes from one half to the other; N is even, so the last one writes to `x`.
+fn fill_table(table: &mut Table, rows: usize, x: &mut [u32], y: &mut [u32], meter: &mut Meter)
     requires power { (k : ℕ) × IsPower rows k }
-    requires some_block { (r : ℕ) × (1 ≤ r) × (length x.old ≡ part_words r) }
+    requires halves { (r : ℕ) × AreHalves r x.old y.old }
     requires shape { HasShape table.old rows (length x.old) }
     requires room { meter.old.mixes + rows < 2 ^ 128 }
     ensures shape { HasShape table.new rows (length x.old) }
@@ -150,11 +149,10 @@ fn fill_table(table: &mut Table, rows: usize, x: &mut [u32], meter: &mut Meter)
     ensures mixed { in_rows x.new ≡ iterate block_mix rows (in_rows x.old) }
     ensures count { meter.new ≡ record meter.old { mixes = meter.old.mixes + rows } }
 {
-    table.set_row(0, x);
-    'filling: for i in 0..rows - 1 {
-        table.mix_row(i, meter);
+    'filling: for i in 0..rows / 2 {
+        table.set_row_and_mix(2 * i, x, y, meter);
+        table.set_row_and_mix(2 * i + 1, y, x, meter);
     }
-    mix_diagonals(table.row(rows - 1), x, meter);
 }
 
 // Makes the N steps of ROMix's second loop from `x` on. They write to `y` and to `x` in turn, so that no block is

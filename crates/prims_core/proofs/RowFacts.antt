@@ -1,6 +1,6 @@
 -- Rows that lie in one list, one behind another.
 use Rattle.std.proofs.Common.{◌≡◌, ℕ, zero, suc, ◌+◌, ◌-◌, ◌*◌, ◌<◌, ◌≤◌, List, [], ◌∷◌, ◌++◌, length, get_or, set, take, drop, replicate, refl, sym, ◌∙◌, ap, arith, length-take, length-drop, length-append, length-take-le, append_assoc, zero-add}
-use Rattle.std.proofs.Math.Nat.{add-mul, suc-mul, zero-mul}
+use Rattle.std.proofs.Math.Nat.{suc-mul, zero-mul}
 use Rattle.std.proofs.Math.Seq.{take-add, drop-append-add}
 use Rattle.std.proofs.lemmas.List.{length-replicate, drop-drop, drop-append-le, take-append-le, take_at, drop_at, take-replicate, drop-replicate, replicate-append-replicate}
 use Rattle.std.proofs.lemmas.Nat.{rows}
@@ -33,12 +33,6 @@ row_end n w xs table i is inside =
     let below : i < n = row_inside n w xs table i is inside in
     grind (arith, rows)
 
--- the end of the next row
-pub next_row_end : (n w : ℕ) (xs : List ℕ) (table : List (List ℕ)) (i : ℕ) → rows_of n w xs ≡ table
-    → i + 1 < length table → i * w + w + w ≤ n * w
-next_row_end n w xs table i is inside =
-    omega (arith, row_end n w xs table (i + 1) is inside, add-mul i 1 w)
-
 -- what is read of row i, and its length
 pub row_read : (n w : ℕ) (xs : List ℕ) (table : List (List ℕ)) (i : ℕ) → rows_of n w xs ≡ table
     → i < length table → take w (drop (i * w) xs) ≡ get_or table i []
@@ -51,6 +45,16 @@ pub length-row : (n w : ℕ) (xs : List ℕ) (table : List (List ℕ)) (i : ℕ)
 length-row n w xs table i is inside whole =
     ap length (sym (row_read n w xs table i is inside))
     ∙ length-take-le w (drop (i * w) xs) (omega (arith, length-drop (i * w) xs, row_end n w xs table i is inside))
+
+-- zeros fill a list up to the size
+pub length-padded : (size : ℕ) (xs : List ℕ) → length xs ≤ size → length (padded size xs) ≡ size
+length-padded size xs inside = simp (length-append, length-replicate) (omega (arith, inside))
+
+-- a row that is as long as one of the table
+pub same_words : (n w : ℕ) (xs row : List ℕ) (table : List (List ℕ)) (i : ℕ) → rows_of n w (padded (n * w) xs) ≡ table
+    → i < length table → length xs ≤ n * w → length row ≡ length (get_or table i []) → length row ≡ w
+same_words n w xs row table i is inside within same =
+    same ∙ length-row n w (padded (n * w) xs) table i is inside (omega (arith, length-padded (n * w) xs within))
 
 pub rows_of-replicate : (n w : ℕ) → rows_of n w (replicate (n * w) 0) ≡ replicate n (replicate w 0)
 unfolding rows_of
@@ -87,10 +91,6 @@ rows_of-written (suc n) w (suc i) xs row inside long whole =
       drop_at (take w xs) (take (i * w) rest ++ (row ++ drop (i * w + w) rest)) w first,
     )
     (ap (λ (xss : List (List ℕ)). take w xs ∷ xss) below)
-
--- zeros fill a list up to the size
-pub length-padded : (size : ℕ) (xs : List ℕ) → length xs ≤ size → length (padded size xs) ≡ size
-length-padded size xs inside = simp (length-append, length-replicate) (omega (arith, inside))
 
 -- some of these zeros written out
 pub padded-filled : (size len : ℕ) (xs : List ℕ) → len ≤ size
@@ -196,17 +196,24 @@ row_written n w xs table i size items row is inside written within counted long 
     )
     (ap (λ (rows : List (List ℕ)). set rows i row) is)
 
--- two rows, where the second was made of the first, written over those two
-pub next_row_written : (n w : ℕ) (xs : List ℕ) (table : List (List ℕ)) (i size items : ℕ) (both made : List ℕ)
-    → rows_of n w (padded (n * w) xs) ≡ table → i + 1 < length table → i * w + 2 * w ≤ length xs → length xs ≤ n * w
-    → items ≡ length xs → length made ≡ w → size ≡ 2 * w → both ≡ take w (drop (i * w) xs) ++ made
-    → rows_of n w (padded (n * w) (take items (put_mid (i * w) size xs both ++ drop (length (put_mid (i * w) size xs both)) xs)))
-    ≡ set table (i + 1) made
-next_row_written n w xs table i size items both made is inside ends within counted long sized written =
-    let next : (i + 1) * w ≡ i * w + w = omega (arith, add-mul i 1 w) in
-    let same : put_mid (i * w) size xs both ≡ put_mid ((i + 1) * w) w xs made =
-    rw (written, sized, next, take-add (i * w) w xs, drop-drop w (i * w + w) xs, drop-drop (2 * w) (i * w) xs)
-    (ap (λ (rest : List ℕ). take (i * w) xs ++ rest) (append_assoc (take w (drop (i * w) xs)) made (drop (i * w + 2 * w) xs))
-    ∙ ap (λ (k : ℕ). take (i * w) xs ++ (take w (drop (i * w) xs) ++ (made ++ drop k xs))) (omega arith)
-    ∙ sym (append_assoc (take (i * w) xs) (take w (drop (i * w) xs)) (made ++ drop (i * w + w + w) xs))) in
-    rw same (row_written n w xs table (i + 1) w items made is inside (omega (arith, next)) within counted long refl)
+-- that row as appending it to the rows before it leaves it
+pub row_appended : (n w : ℕ) (xs : List ℕ) (table : List (List ℕ)) (i : ℕ) (row : List ℕ)
+    → rows_of n w (padded (n * w) xs) ≡ table → i < length table → length xs ≡ i * w → length row ≡ w
+    → rows_of n w (padded (n * w) (xs ++ row)) ≡ set table i row
+row_appended n w xs table i row is inside reached long =
+    let all : List ℕ = padded (n * w) xs in
+    let zeros : List ℕ = replicate (n * w - length xs) zero in
+    let ends : i * w + w ≤ n * w = row_end n w all table i is inside in
+    let place : i * w + w ≡ length xs + w = omega (arith, reached) in
+    let front : take (i * w) all ≡ xs = take_at xs zeros (i * w) reached in
+    let behind : drop (i * w + w) all ≡ replicate (n * w - length xs - w) zero =
+    ap (λ (k : ℕ). drop k all) place ∙ drop-append-add xs zeros w ∙ drop-replicate w (n * w - length xs) zero in
+    let whole : padded (n * w) (xs ++ row) ≡ take (i * w) all ++ (row ++ drop (i * w + w) all) =
+    rw (append_assoc xs row (replicate (n * w - length (xs ++ row)) zero), front, behind)
+    (ap (λ (k : ℕ). xs ++ (row ++ replicate k zero)) (omega (arith, length-append xs row, long, reached))) in
+    rw (
+      whole,
+      rows_of-written n w i all row (row_inside n w all table i is inside) long
+          (omega (arith, length-padded (n * w) xs (omega (arith, reached, ends)))),
+    )
+    (ap (λ (rows : List (List ℕ)). set rows i row) is)

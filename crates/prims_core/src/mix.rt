@@ -6,9 +6,10 @@
 //!
 //! During the whole of ROMix a block's words stand diagonal by diagonal, as Salsa20/8 in lanes takes them:
 //! words 0, 5, 10, 15, then 4, 9, 14, 3, then 8, 13, 2, 7, then 12, 1, 6, 11. So no mixing has to rearrange
-//! any. [`to_diagonals`] and [`from_diagonals`] convert blocks before and after it.
+//! any. [`to_diagonals`] and [`from_diagonals`] convert blocks before and after it. While blocks are mixed, ROMix's
+//! table gets a copy of them ([`Table::set_row_and_mix`](crate::table::Table::set_row_and_mix)).
 
-ghost use Rattle.std.specs.Prelude.{◌≡◌, ℕ, ◌+◌, ◌*◌, ◌%◌, ◌^◌, ◌<◌, ◌≤◌, List, length};
+ghost use Rattle.std.specs.Prelude.{◌≡◌, ℕ, ◌+◌, ◌*◌, ◌%◌, ◌^◌, ◌<◌, ◌≤◌, List, ◌++◌, length, vec_len, vec_capacity};
 ghost use Rattle.prims_core.specs.BlockMix.{block_at, block_mix};
 ghost use Rattle.prims_core.specs.Diagonals.{block_in_rows, in_rows};
 ghost use Rattle.prims_core.specs.Private.Mixing.{mixed_block, ArePlaced};
@@ -17,6 +18,7 @@ ghost use Rattle.prims_core.specs.Words.{xor_lists};
 use crate::diagonals::Diagonals;
 use crate::meter::Meter;
 use crate::salsa::salsa8_of;
+use std::simd::prelude::*;
 
 #[cfg(test)]
 pub(crate) mod tests;
@@ -38,21 +40,54 @@ pub fn block_mix(src: &[u32], dst: &mut [u32], meter: &mut Meter)
     meter.count_mix();
 }
 
-/// Mixes the 2r blocks of `src` into `dst`, where both stand diagonal by diagonal (RFC 7914, section 4), and counts
-/// one mixing.
+/// Mixes the 2r blocks of `src` into `dst`, where both stand diagonal by diagonal (RFC 7914, section 4), makes `copy` a
+/// copy of `src`, and counts one mixing.
 ///
-/// Preconditions: both have the 32r words of 2r blocks, for one r of at least 1, and the meter has room.
-pub fn mix_diagonals(src: &[u32], dst: &mut [u32], meter: &mut Meter)
-    requires blocks { (r : ℕ) × (1 ≤ r) × (length src.now ≡ 32 * r) × (length dst.old ≡ 32 * r) }
+/// Preconditions: all three have the 32r words of 2r blocks, for one r of at least 1, and the meter has room.
+pub(crate) fn mix_and_copy(src: &[u32], dst: &mut [u32], copy: &mut [u32], meter: &mut Meter)
+    requires blocks { (r : ℕ) × (1 ≤ r) × (length src.now ≡ 32 * r) × (length dst.old ≡ 32 * r)
+        × (length copy.old ≡ 32 * r) }
     requires room { meter.old.mixes + 1 < 2 ^ 128 }
     ensures mixed { in_rows dst.new ≡ block_mix (in_rows src.now) }
+    ensures copied { copy.new ≡ src.now }
     ensures count { meter.new ≡ record meter.old { mixes = meter.old.mixes + 1 } }
 {
-    mix_blocks(
-        &OnDiagonals { words: src },
-        dst,
-        src.len() / (2 * BLOCK_WORDS),
-    );
+    let r = src.len() / (2 * BLOCK_WORDS);
+    let blocks = OnDiagonals { words: src };
+    let mut x = blocks.block(2 * r - 1);
+    'mixing: for i in 0..2 * r {
+        x = mixed_block(&x, &blocks.block(i));
+        copy_block(
+            block_words(src, i),
+            &mut copy[BLOCK_WORDS * i..BLOCK_WORDS * i + BLOCK_WORDS],
+        );
+        put_result(&x, dst, i, r);
+    }
+    meter.count_mix();
+}
+
+/// Mixes the 2r blocks of `src` into `dst`, where both stand diagonal by diagonal (RFC 7914, section 4), appends `src` to
+/// `copies`, and counts one mixing.
+///
+/// Preconditions: both have the 32r words of 2r blocks, for one r of at least 1, `copies` has room for 32r words more,
+/// and the meter has room.
+pub(crate) fn mix_and_append(src: &[u32], dst: &mut [u32], copies: &mut Vec<u32>, meter: &mut Meter)
+    requires blocks { (r : ℕ) × (1 ≤ r) × (length src.now ≡ 32 * r) × (length dst.old ≡ 32 * r) }
+    requires fits { vec_len copies.old + length src.now ≤ vec_capacity copies.old }
+    requires room { meter.old.mixes + 1 < 2 ^ 128 }
+    ensures mixed { in_rows dst.new ≡ block_mix (in_rows src.now) }
+    ensures copied { copies.new.items ≡ copies.old.items ++ src.now }
+    ensures kept { vec_capacity copies.old ≤ vec_capacity copies.new }
+    ensures count { meter.new ≡ record meter.old { mixes = meter.old.mixes + 1 } }
+{
+    let r = src.len() / (2 * BLOCK_WORDS);
+    let blocks = OnDiagonals { words: src };
+    let mut x = blocks.block(2 * r - 1);
+    'mixing: for i in 0..2 * r {
+        x = mixed_block(&x, &blocks.block(i));
+        append_block(block_words(src, i), copies);
+        put_result(&x, dst, i, r);
+    }
     meter.count_mix();
 }
 
@@ -168,6 +203,25 @@ fn block_words(words: &[u32], i: usize) -> &[u32]
     ensures { result.now ≡ block_at i words.now }
 {
     &words[BLOCK_WORDS * i..BLOCK_WORDS * i + BLOCK_WORDS]
+}
+
+// Copies a block by one vector.
+#[inline(always)]
+fn copy_block(block: &[u32], copy: &mut [u32])
+    requires { (length block.now ≡ 16) × (length copy.old ≡ 16) }
+    ensures { copy.new ≡ block.now }
+{
+    u32x16::from_slice(block).copy_to_slice(copy);
+}
+
+// Appends a block.
+#[inline(always)]
+fn append_block(block: &[u32], copies: &mut Vec<u32>)
+    requires fits { vec_len copies.old + length block.now ≤ vec_capacity copies.old }
+    ensures appended { copies.new.items ≡ copies.old.items ++ block.now }
+    ensures kept { vec_capacity copies.old ≤ vec_capacity copies.new }
+{
+    copies.extend_from_slice(block).unwrap();
 }
 
 // Mixes 2r blocks, and writes the results to `dst` diagonal by diagonal.

@@ -1,24 +1,21 @@
 //! The table of scrypt, the V of RFC 7914, section 5: rows of 32-bit words, all of one length.
 //!
 //! All rows stand one after another in one vector, so a table is one allocation, made at once in its full
-//! size. A row is mixed from the one before it where it stands, without a copy. Rows of usual length that nobody has
-//! set yet are behind the vector's end: they are zeros, and writing them first would take as long as wiping them.
+//! size. Rows of usual length that nobody has set yet are behind the vector's end: they are zeros, and writing them
+//! first would take as long as wiping them.
 
 ghost use Rattle.std.specs.Prelude.{◌≡◌, ℕ, ◌+◌, ◌-◌, ◌*◌, ◌/◌, ◌^◌, ◌<◌, ◌≤◌, List, [], ◌++◌, length, take, drop, replicate, slice_index_or, slice_set, vec_len, vec_capacity, IfOk, OnOk, OnErr};
 ghost use Rattle.prims_core.specs.BlockMix.{block_mix};
 ghost use Rattle.prims_core.specs.Diagonals.{in_rows};
 
 use crate::meter::Meter;
-use crate::mix::mix_diagonals;
+use crate::mix::{mix_and_append, mix_and_copy};
 use std::alloc::{AllocError, Global};
 use std::marker::Model;
 use std::mem::size_of;
 
 // A row of zeros, up to r = 32.
 const ZEROS: [u32; 1024] = [0; 1024];
-
-// The words of a kilobyte.
-const PIECE: usize = 256;
 
 /// Rows of words, all of one length.
 #[derive(Drop)]
@@ -104,51 +101,44 @@ impl Table {
         self.words[start..end].copy_from_slice(row);
     }
 
-    /// Makes row `i + 1` what scryptBlockMix (RFC 7914, section 4) makes of row `i`, where both stand diagonal by
-    /// diagonal, and counts that mixing. The other rows stay.
+    /// Makes row `i` a copy of `row`, mixes the blocks of `row` into `mixed`, where both stand diagonal by diagonal
+    /// (scryptBlockMix of RFC 7914, section 4), and counts that mixing. The other rows stay.
     ///
-    /// Preconditions: there is a row `i + 1`, a row has the 32r words of 2r blocks, for one r of at least 1, and the
-    /// meter has room.
-    #[tactic(auto, using(crate::proofs::RowFacts::next_row_end))]
-    pub fn mix_row(&mut self, i: usize, meter: &mut Meter)
-        requires inside { i + 1 < length self.old }
-        requires blocks { (r : ℕ) × (1 ≤ r) × (length (slice_index_or self.old i []) ≡ 32 * r) }
+    /// Both are done block by block: a whole row that is written first keeps the processor waiting for its memory.
+    ///
+    /// Preconditions: `i` is below the number of rows, `row` has the length of a row, `row` and `mixed` have the 32r
+    /// words of 2r blocks, for one r of at least 1, and the meter has room.
+    #[tactic(auto, using(crate::proofs::RowFacts::row_end))]
+    pub fn set_row_and_mix(&mut self, i: usize, row: &[u32], mixed: &mut [u32], meter: &mut Meter)
+        requires inside { i < length self.old }
+        requires same_length { length row.now ≡ length (slice_index_or self.old i []) }
+        requires blocks { (r : ℕ) × (1 ≤ r) × (length row.now ≡ 32 * r) × (length mixed.old ≡ 32 * r) }
         requires room { meter.old.mixes + 1 < 2 ^ 128 }
-        ensures mixed { (row : List ℕ) × (length row ≡ length (slice_index_or self.old i []))
-            × (in_rows row ≡ block_mix (in_rows (slice_index_or self.old i []))) × (self.new ≡ slice_set self.old (i + 1) row) }
+        ensures row { self.new ≡ slice_set self.old i row.now }
+        ensures mixed { in_rows mixed.new ≡ block_mix (in_rows row.now) }
         ensures count { meter.new ≡ record meter.old { mixes = meter.old.mixes + 1 } }
     {
         let start = i * self.row_words;
-        let end = start + 2 * self.row_words;
-        fill(&mut self.words, end);
-        mix_into_second(&mut self.words[start..end], meter);
+        let end = start + self.row_words;
+        if end <= self.words.len() {
+            mix_and_copy(row, mixed, &mut self.words[start..end], meter);
+        } else {
+            fill(&mut self.words, start);
+            mix_and_append(row, mixed, &mut self.words, meter);
+        }
     }
 }
 
-// Appends zeros up to a length, for which there is room. In pieces of a kilobyte they stay in the nearest cache: a longer
-// memset may write past it.
+// Appends zeros up to a length, for which there is room.
 fn fill(words: &mut Vec<u32>, len: usize)
     requires room { len ≤ vec_capacity words.old }
     ensures zeros { words.new.items ≡ words.old.items ++ replicate (len - length words.old.items) 0 }
     ensures len { vec_len words.new ≡ vec_len words.old + (len - vec_len words.old) }
     ensures room { vec_capacity words.old ≤ vec_capacity words.new }
 {
-    'pieces: while words.len() < len {
-        let end = len.min(words.len() + PIECE);
-        words.resize(end, 0).unwrap();
+    if words.len() < len {
+        words.resize(len, 0).unwrap();
     }
-}
-
-// Makes the second of two rows what block mixing makes of the first, diagonal by diagonal.
-fn mix_into_second(rows: &mut [u32], meter: &mut Meter)
-    requires blocks { (r : ℕ) × (1 ≤ r) × (length rows.old ≡ 64 * r) }
-    requires room { meter.old.mixes + 1 < 2 ^ 128 }
-    ensures first { take (length rows.old / 2) rows.new ≡ take (length rows.old / 2) rows.old }
-    ensures second { in_rows (drop (length rows.old / 2) rows.new) ≡ block_mix (in_rows (take (length rows.old / 2) rows.old)) }
-    ensures count { meter.new ≡ record meter.old { mixes = meter.old.mixes + 1 } }
-{
-    let (row, next) = rows.split_at_mut(rows.len() / 2);
-    mix_diagonals(row, next, meter);
 }
 
 #[cfg(test)]
@@ -190,23 +180,39 @@ mod tests {
     }
 
     #[test]
-    fn a_row_of_the_one_before(rt: HostRuntime) -> Result<(), Fail> {
-        let mut words = [0; 32];
+    fn a_row_and_what_it_is_mixed_to(rt: HostRuntime) -> Result<(), Fail> {
+        let (mut words, mut expected) = ([0; 32], [0; 32]);
         load_words(&BLOCKS, &mut words);
         to_diagonals(&mut words);
+        load_words(&MIXED, &mut expected);
+        to_diagonals(&mut expected);
         let mut meter = Meter::new();
         let mut table = Table::new(rt.alloc(), 3, 32, &mut meter)?;
-        table.set_row(0, &words);
-        table.mix_row(0, &mut meter);
-        let mut mixed = [0; 32];
-        load_words(&MIXED, &mut mixed);
-        to_diagonals(&mut mixed);
+        let (zeros, mut mixed, mut other) = ([0; 32], [7; 32], [7; 32]);
+        table.set_row_and_mix(1, &words, &mut mixed, &mut meter);
         assert_eq!(rt;
-            (table.row(0), table.row(1), table.row(2)),
-            (words.as_slice(), mixed.as_slice(), [0; 32].as_slice()),
-            "RFC 7914, section 9, between rows that stay"
+            (table.row(0), table.row(1), table.row(2), mixed.as_slice()),
+            (
+                zeros.as_slice(),
+                words.as_slice(),
+                zeros.as_slice(),
+                expected.as_slice()
+            ),
+            "RFC 7914, section 9, with a row that nobody had set"
         );
-        assert_eq!(rt; counts(&meter), [0, 0, 1, 384, 0]);
+        table.set_row_and_mix(1, &mixed, &mut other, &mut meter);
+        table.set_row_and_mix(0, &words, &mut mixed, &mut meter);
+        assert_eq!(rt;
+            (table.row(0), table.row(1), table.row(2), mixed.as_slice()),
+            (
+                words.as_slice(),
+                expected.as_slice(),
+                zeros.as_slice(),
+                expected.as_slice()
+            ),
+            "with rows that were set"
+        );
+        assert_eq!(rt; counts(&meter), [0, 0, 3, 384, 0]);
         Ok(())
     }
 

@@ -207,18 +207,3 @@ fn a_block_by_its_diagonals(rt: HostRuntime) {
     from_diagonals(&mut words);
     assert_eq!(rt; words, rows);
 }
-
-// The vector by its diagonals.
-#[test]
-fn vector_by_its_diagonals(rt: HostRuntime) {
-    let mut words = [0; 32];
-    load_words(&BLOCKS, &mut words);
-    to_diagonals(&mut words);
-    let mut meter = Meter::new();
-    let mut mixed = [7; 32];
-    mix_diagonals(&words, &mut mixed, &mut meter);
-    from_diagonals(&mut mixed);
-    let mut bytes = [0; 128];
-    store_words(&mixed, &mut bytes);
-    assert_eq!(rt; (bytes, counts(&meter)), (MIXED, [0, 0, 1, 0, 0]));
-}

@@ -2,16 +2,14 @@ use Rattle.std.proofs.Common.{◌≡◌, ℕ, ◌+◌, ◌-◌, ◌*◌, ◌≤�
 use Rattle.std.specs.Vec.{with_items}
 use borrow.Rule.Slice.PartMut.{put_mid}
 use Rattle.prims_core.specs.Memory.{rows_of, padded}
-use Rattle.prims_core.proofs.RowFacts.{row_end, length-row, length-padded, same_rows, row_written, laid_out_after}
+use Rattle.prims_core.proofs.RowFacts.{row_end, same_words, same_rows, row_written, laid_out_after}
 use Rattle.prims_core.proofs.table.Table.set_row.Goals as goal
 
 pub copy_from_slice-requires : goal.copy_from_slice-requires
 copy_from_slice-requires c =
     let w : ℕ = c.self.inside.row_words in
     let long : length c.args.row.now ≡ w =
-    c.requires.same_length
-    ∙ length-row _ _ _ _ c.args.i c.self.view_is c.requires.inside
-    (omega (arith, length-padded (c.self.inside.rows * w) c.self.inside.words.items (omega (arith, c.self.inside.words.ok.0)))) in
+    same_words _ _ _ _ _ c.args.i c.self.view_is c.requires.inside (omega (arith, c.self.inside.words.ok.0, c.self.invariant.inside)) c.requires.same_length in
     simp (length-take, length-drop) (omega (arith, long, ap length c.deref_mut.ensures.value, c.fill.new.words.ok.0))
 
 pub invariant_of-self : goal.invariant_of-self
@@ -26,9 +24,7 @@ returns c =
     let start : ℕ = c.args.i * w in
     let ends : start + w ≤ n * w = row_end _ _ _ _ c.args.i c.self.view_is c.requires.inside in
     let long : length c.args.row.now ≡ w =
-    c.requires.same_length
-    ∙ length-row _ _ _ _ c.args.i c.self.view_is c.requires.inside
-    (omega (arith, length-padded (n * w) c.self.inside.words.items (omega (arith, c.self.inside.words.ok.0)))) in
+    same_words _ _ _ _ _ c.args.i c.self.view_is c.requires.inside (omega (arith, c.self.inside.words.ok.0, c.self.invariant.inside)) c.requires.same_length in
     let is : rows_of n w (padded (n * w) c.fill.new.words.items) ≡ c.args.self.now =
     same_rows n w (start + w) _ _ _ c.self.view_is ends c.fill.ensures.zeros in
     let same : put_mid start (start + w - start) c.deref_mut.result.now c.copy_from_slice.new.self

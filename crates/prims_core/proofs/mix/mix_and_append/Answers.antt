@@ -1,0 +1,46 @@
+use Rattle.std.proofs.Common.{◌≡◌, ℕ, ◌+◌, ◌*◌, ◌/◌, List, ◌++◌, length, take, sym, ap, ap₂, ◌∙◌, arith, append_assoc, append-nil}
+use Rattle.prims_core.specs.BlockMix.{block_at, x_after, block_mix}
+use Rattle.prims_core.specs.Diagonals.{in_rows}
+use Rattle.prims_core.specs.Private.Mixing.{mixed_block, y_at}
+use Rattle.prims_core.proofs.InRowsFacts.{length-in_rows}
+use Rattle.prims_core.proofs.MixFacts.{x_after-none, x_after-more, in_order, block_more}
+use Rattle.prims_core.proofs.mix.mix_and_append.Goals as goal
+
+pub block-x-requires : goal.block-x-requires
+block-x-requires c = omega (arith, c.requires.blocks, length-in_rows c.args.src.now)
+
+pub mixing-init : goal.mixing-init
+mixing-init c = record {
+  before = c.block-x.ensures ∙ sym (x_after-none (length c.args.src.now / 32) (in_rows c.args.src.now));
+  placed = λ k none. absurd (omega arith);
+  copied = sym (append-nil c.args.copies.now.items);
+  kept = omega arith;
+}
+
+pub block-requires : goal.block-requires
+block-requires c = omega (arith, c.requires.blocks, c.mixing-test.true, length-in_rows c.args.src.now)
+
+pub mixing-preserved : goal.mixing-preserved
+mixing-preserved c =
+    let words = in_rows c.args.src.now in
+    let i : ℕ = c.mixing.i in
+    let r : ℕ = length c.args.src.now / 32 in
+    let old : List ℕ = c.args.copies.now.items in
+    let is : c.mixed_block-x.result ≡ x_after r words (i + 1) =
+    c.mixed_block-x.ensures ∙ ap₂ mixed_block {y = x_after r words i} c.mixing.invariant.before c.block.ensures ∙ sym (x_after-more r words i) in record {
+      before = is;
+      placed = c.put_result.ensures (y_at r words) c.mixing.invariant.placed is;
+      copied = c.append_block.ensures.appended
+          ∙ ap₂ (λ (done block : List ℕ). done ++ block) c.mixing.invariant.copied c.block_words.ensures
+          ∙ append_assoc old (take (16 * i) c.args.src.now) (block_at i c.args.src.now)
+          ∙ ap (λ (blocks : List ℕ). old ++ blocks) (block_more i c.args.src.now);
+      kept = omega (arith, c.mixing.invariant.kept, c.append_block.ensures.kept);
+    }
+
+pub returns-clause-mixed : goal.returns-clause-mixed
+unfolding block_mix
+returns-clause-mixed c =
+    let words = in_rows c.args.src.now in
+    let r : length words / 32 ≡ length c.args.src.now / 32 = omega (arith, c.requires.blocks, length-in_rows c.args.src.now) in
+    rw r (in_order (length c.args.src.now / 32) (y_at (length c.args.src.now / 32) words) c.mixing.dst
+    (omega (arith, c.requires.blocks, c.mixing.auto.dst)) (λ k inside. c.mixing.invariant.placed k (omega (arith, c.mixing-test.false))))

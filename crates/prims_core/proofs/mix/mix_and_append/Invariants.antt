@@ -1,0 +1,14 @@
+use Rattle.std.proofs.Common.{◌≡◌, ◌*◌, ◌≤◌, ◌++◌, take, vec_capacity}
+use Rattle.prims_core.specs.BlockMix.{x_after}
+use Rattle.prims_core.specs.Diagonals.{in_rows}
+use Rattle.prims_core.specs.Private.Mixing.{y_at, ArePlaced}
+use Rattle.prims_core.proofs.mix.mix_and_append.Given as goal
+
+-- x is X before block i is mixed, the results before that block stand at their places, and the blocks before it are appended
+abbrev pub invariant-mixing : goal.invariant-mixing
+invariant-mixing l = record {
+  before : l.x ≡ x_after l.r (in_rows l.src) l.i;
+  placed : ArePlaced (y_at l.r (in_rows l.src)) l.r l.i l.dst;
+  copied : l.copies.items ≡ l.fn.copies.items ++ take (16 * l.i) l.src;
+  kept : vec_capacity l.fn.copies ≤ vec_capacity l.copies;
+}

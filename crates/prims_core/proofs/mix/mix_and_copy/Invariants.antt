@@ -1,0 +1,13 @@
+use Rattle.std.proofs.Common.{◌≡◌, ◌*◌, take}
+use Rattle.prims_core.specs.BlockMix.{x_after}
+use Rattle.prims_core.specs.Diagonals.{in_rows}
+use Rattle.prims_core.specs.Private.Mixing.{y_at, ArePlaced}
+use Rattle.prims_core.proofs.mix.mix_and_copy.Given as goal
+
+-- x is X before block i is mixed, the results before that block stand at their places, and so do its copies
+abbrev pub invariant-mixing : goal.invariant-mixing
+invariant-mixing l = record {
+  before : l.x ≡ x_after l.r (in_rows l.src) l.i;
+  placed : ArePlaced (y_at l.r (in_rows l.src)) l.r l.i l.dst;
+  copied : take (16 * l.i) l.copy ≡ take (16 * l.i) l.src;
+}
