@@ -6,8 +6,9 @@
 //!
 //! During the whole of ROMix a block's words stand diagonal by diagonal, as Salsa20/8 in lanes takes them:
 //! words 0, 5, 10, 15, then 4, 9, 14, 3, then 8, 13, 2, 7, then 12, 1, 6, 11. So no mixing has to rearrange
-//! any. [`to_diagonals`] and [`from_diagonals`] convert blocks before and after it. While blocks are mixed, ROMix's
-//! table gets a copy of them ([`Table::set_row_and_mix`](crate::table::Table::set_row_and_mix)).
+//! any. [`to_diagonals`] and [`from_diagonals`] convert blocks before and after it. ROMix's first loop copies blocks to
+//! the table while it mixes them ([`Table::set_row_and_mix`](crate::table::Table::set_row_and_mix)): rows that are
+//! written before that keep the processor waiting for memory.
 
 ghost use Rattle.std.specs.Prelude.{◌≡◌, ℕ, ◌+◌, ◌*◌, ◌%◌, ◌^◌, ◌<◌, ◌≤◌, List, ◌++◌, length, vec_len, vec_capacity};
 ghost use Rattle.prims_core.specs.BlockMix.{block_at, block_mix};
@@ -53,10 +54,9 @@ pub(crate) fn mix_and_copy(src: &[u32], dst: &mut [u32], copy: &mut [u32], meter
     ensures count { meter.new ≡ record meter.old { mixes = meter.old.mixes + 1 } }
 {
     let r = src.len() / (2 * BLOCK_WORDS);
-    let blocks = OnDiagonals { words: src };
-    let mut x = blocks.block(2 * r - 1);
+    let mut x = block_on_diagonals(src, 2 * r - 1);
     'mixing: for i in 0..2 * r {
-        x = mixed_block(&x, &blocks.block(i));
+        x = mixed_block(&x, &block_on_diagonals(src, i));
         copy_block(
             block_words(src, i),
             &mut copy[BLOCK_WORDS * i..BLOCK_WORDS * i + BLOCK_WORDS],
@@ -81,10 +81,9 @@ pub(crate) fn mix_and_append(src: &[u32], dst: &mut [u32], copies: &mut Vec<u32>
     ensures count { meter.new ≡ record meter.old { mixes = meter.old.mixes + 1 } }
 {
     let r = src.len() / (2 * BLOCK_WORDS);
-    let blocks = OnDiagonals { words: src };
-    let mut x = blocks.block(2 * r - 1);
+    let mut x = block_on_diagonals(src, 2 * r - 1);
     'mixing: for i in 0..2 * r {
-        x = mixed_block(&x, &blocks.block(i));
+        x = mixed_block(&x, &block_on_diagonals(src, i));
         append_block(block_words(src, i), copies);
         put_result(&x, dst, i, r);
     }
@@ -164,21 +163,6 @@ impl<'a> Blocks for InRows<'a> {
     }
 }
 
-// Blocks that stand diagonal by diagonal.
-#[derive(Drop)]
-struct OnDiagonals<'a> {
-    words: &'a [u32],
-}
-
-impl<'a> Blocks for OnDiagonals<'a> {
-    ghost words = { λ s. in_rows s.words.now };
-
-    #[inline(always)]
-    fn block(&self, i: usize) -> Diagonals {
-        Diagonals::of_diagonals(block_words(self.words, i))
-    }
-}
-
 // The XOR of two lists of blocks that stand diagonal by diagonal.
 #[derive(Drop)]
 struct Xored<'a> {
@@ -191,9 +175,17 @@ impl<'a> Blocks for Xored<'a> {
 
     #[inline(always)]
     fn block(&self, i: usize) -> Diagonals {
-        let block = Diagonals::of_diagonals(block_words(self.words, i));
-        block.xor(&Diagonals::of_diagonals(block_words(self.row, i)))
+        block_on_diagonals(self.words, i).xor(&block_on_diagonals(self.row, i))
     }
+}
+
+// Block `i` of blocks that stand diagonal by diagonal.
+#[inline(always)]
+fn block_on_diagonals(words: &[u32], i: usize) -> Diagonals
+    requires { 16 * i + 16 ≤ length words.now }
+    ensures { result ≡ block_at i (in_rows words.now) }
+{
+    Diagonals::of_diagonals(block_words(words, i))
 }
 
 // The sixteen words of block `i`.
@@ -205,7 +197,7 @@ fn block_words(words: &[u32], i: usize) -> &[u32]
     &words[BLOCK_WORDS * i..BLOCK_WORDS * i + BLOCK_WORDS]
 }
 
-// Copies a block by one vector.
+// Copies a block as one vector, as it is read for the mixing: so it is read once.
 #[inline(always)]
 fn copy_block(block: &[u32], copy: &mut [u32])
     requires { (length block.now ≡ 16) × (length copy.old ≡ 16) }

@@ -1,10 +1,10 @@
 //! The table of scrypt, the V of RFC 7914, section 5: rows of 32-bit words, all of one length.
 //!
 //! All rows stand one after another in one vector, so a table is one allocation, made at once in its full
-//! size. Rows of usual length that nobody has set yet are behind the vector's end: they are zeros, and writing them
-//! first would take as long as wiping them.
+//! size. The vector holds whole rows. Rows of at most 1,024 words behind the last one that was set are not written yet
+//! and are read as zeros: writing these first would take as long as wiping them.
 
-ghost use Rattle.std.specs.Prelude.{◌≡◌, ℕ, ◌+◌, ◌-◌, ◌*◌, ◌/◌, ◌^◌, ◌<◌, ◌≤◌, List, [], ◌++◌, length, take, drop, replicate, slice_index_or, slice_set, vec_len, vec_capacity, IfOk, OnOk, OnErr};
+ghost use Rattle.std.specs.Prelude.{◌≡◌, ℕ, ◌+◌, ◌-◌, ◌*◌, ◌^◌, ◌<◌, ◌≤◌, [], ◌++◌, length, replicate, slice_index_or, slice_set, vec_len, vec_capacity, IfOk, OnOk, OnErr};
 ghost use Rattle.prims_core.specs.BlockMix.{block_mix};
 ghost use Rattle.prims_core.specs.Diagonals.{in_rows};
 
@@ -104,8 +104,6 @@ impl Table {
     /// Makes row `i` a copy of `row`, mixes the blocks of `row` into `mixed`, where both stand diagonal by diagonal
     /// (scryptBlockMix of RFC 7914, section 4), and counts that mixing. The other rows stay.
     ///
-    /// Both are done block by block: a whole row that is written first keeps the processor waiting for its memory.
-    ///
     /// Preconditions: `i` is below the number of rows, `row` has the length of a row, `row` and `mixed` have the 32r
     /// words of 2r blocks, for one r of at least 1, and the meter has room.
     #[tactic(auto, using(crate::proofs::RowFacts::row_end))]
@@ -180,7 +178,7 @@ mod tests {
     }
 
     #[test]
-    fn a_row_and_what_it_is_mixed_to(rt: HostRuntime) -> Result<(), Fail> {
+    fn sets_a_row_and_mixes_it(rt: HostRuntime) -> Result<(), Fail> {
         let (mut words, mut expected) = ([0; 32], [0; 32]);
         load_words(&BLOCKS, &mut words);
         to_diagonals(&mut words);
@@ -210,7 +208,7 @@ mod tests {
                 zeros.as_slice(),
                 expected.as_slice()
             ),
-            "with rows that were set"
+            "with rows that are written already"
         );
         assert_eq!(rt; counts(&meter), [0, 0, 3, 384, 0]);
         Ok(())

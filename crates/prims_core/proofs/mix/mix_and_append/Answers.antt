@@ -6,19 +6,19 @@ use Rattle.prims_core.proofs.InRowsFacts.{length-in_rows}
 use Rattle.prims_core.proofs.MixFacts.{x_after-none, x_after-more, in_order, block_more}
 use Rattle.prims_core.proofs.mix.mix_and_append.Goals as goal
 
-pub block-x-requires : goal.block-x-requires
-block-x-requires c = omega (arith, c.requires.blocks, length-in_rows c.args.src.now)
+pub block_on_diagonals-x-requires : goal.block_on_diagonals-x-requires
+block_on_diagonals-x-requires c = omega (arith, c.requires.blocks)
 
 pub mixing-init : goal.mixing-init
 mixing-init c = record {
-  before = c.block-x.ensures ∙ sym (x_after-none (length c.args.src.now / 32) (in_rows c.args.src.now));
+  before = c.block_on_diagonals-x.ensures ∙ sym (x_after-none (length c.args.src.now / 32) (in_rows c.args.src.now));
   placed = λ k none. absurd (omega arith);
   copied = sym (append-nil c.args.copies.now.items);
   kept = omega arith;
 }
 
-pub block-requires : goal.block-requires
-block-requires c = omega (arith, c.requires.blocks, c.mixing-test.true, length-in_rows c.args.src.now)
+pub block_on_diagonals-requires : goal.block_on_diagonals-requires
+block_on_diagonals-requires c = omega (arith, c.requires.blocks, c.mixing-test.true)
 
 pub mixing-preserved : goal.mixing-preserved
 mixing-preserved c =
@@ -27,7 +27,7 @@ mixing-preserved c =
     let r : ℕ = length c.args.src.now / 32 in
     let old : List ℕ = c.args.copies.now.items in
     let is : c.mixed_block-x.result ≡ x_after r words (i + 1) =
-    c.mixed_block-x.ensures ∙ ap₂ mixed_block {y = x_after r words i} c.mixing.invariant.before c.block.ensures ∙ sym (x_after-more r words i) in record {
+    c.mixed_block-x.ensures ∙ ap₂ mixed_block {y = x_after r words i} c.mixing.invariant.before c.block_on_diagonals.ensures ∙ sym (x_after-more r words i) in record {
       before = is;
       placed = c.put_result.ensures (y_at r words) c.mixing.invariant.placed is;
       copied = c.append_block.ensures.appended
