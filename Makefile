@@ -109,7 +109,7 @@ build/%/libmkpasswd.so.2: build/%/mkpasswd.o c/libmkpasswd.map
 guard: libmkpasswd-crypt.so
 
 build/%/libmkpasswd-crypt.so: build/%/libmkpasswd.a c/guard.c c/libmkpasswd-crypt.map c/mkpasswd.h tools/guard
-	LIBRARY=$(abspath $<) tools/guard $@
+	LIBRARY='$(abspath $<)' tools/guard $@
 
 # The calls for a page, as a module of WebAssembly, and what is made around it.
 web:
