@@ -7,8 +7,8 @@ use Rattle.prims_core.specs.declared.meter.Work.{Work}
 use Rattle.crypt_core.specs.Crypt.{crypt}
 use Rattle.crypt_core.specs.Settings.{SettingValue}
 use Rattle.crypt_core.specs.Work.{work}
-use Rattle.call_core.specs.CommonCalls.{Hashes, PutsHash, admission}
-use Rattle.call_core.specs.Private.Steps.{IsPut, IsTold, MakesHash, MakesHashOf}
+use Rattle.call_core.specs.Hashes.{Hashes, PutsHash, admission}
+use Rattle.call_core.specs.Private.Hashes.{IsPut, IsTold, MakesHash, MakesHashOf}
 use Rattle.call_core.specs.Reports.{LacksMemory, Leaves, put, reported, token}
 use Rattle.call_core.specs.declared.reason.Reason.TheVariants.{Done}
 use Rattle.call_core.specs.declared.report.Report.{Report}

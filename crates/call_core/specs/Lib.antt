@@ -1,5 +1,9 @@
 pub mod Arguments
-pub mod CommonCalls
+pub mod Checks
+pub mod Hashes
+pub mod Logins
 pub mod Private
 pub mod Reasons
+pub mod Rehashes
 pub mod Reports
+pub mod Settings

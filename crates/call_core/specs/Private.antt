@@ -1,2 +1,3 @@
 -- Definitions that only contracts of private functions cite. A reader of the calls needs none of them.
-pub mod Steps
+pub mod Checks
+pub mod Hashes

@@ -1,5 +1,5 @@
 -- Reports, and what a call leaves in the caller's bytes.
-use Rattle.std.specs.Prelude.{◌≡◌, ◌⊎◌, ◌↔◌, ◌<ℤ◌, ℕ, ℤ, pos, if◌then◌else◌, List, [], ◌∷◌, ◌++◌, length, take, drop, codes, Result, Ok, Err}
+use Rattle.std.specs.Prelude.{◌≡◌, ◌⊎◌, ◌↔◌, ◌<ℤ◌, ℕ, ℤ, pos, if◌then◌else◌, List, [], ◌∷◌, ◌++◌, length, take, drop, codes}
 use Rattle.std.specs.Str.{bytes_eq}
 use Rattle.prims_core.specs.Work.{no_work}
 use Rattle.prims_core.specs.declared.meter.Work.{Work}
@@ -20,11 +20,6 @@ reported reason len most counts =
 -- The report of a refusal before any hashing, with the cost, or 0 if it is not known yet.
 abbrev pub refused : Refusal → ℕ → Report
 refused refusal most = reported (Refused refusal) 0 most no_work
-
--- The report of a step, whether it ended early or not. Either can be that of a refusal.
-abbrev pub either : Result Report Report → Report
-either (Ok report) = report
-either (Err report) = report
 
 -- The report if scrypt could not allocate. Its work is that of the allocations before. No other scheme allocates.
 abbrev pub LacksMemory : SettingValue → ℕ → Report → Type 0

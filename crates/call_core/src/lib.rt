@@ -1,10 +1,20 @@
-//! What the calls for C and for a web page have in common: how they read their arguments, their reasons and reports,
-//! and the calls that hash nothing.
+//! The calls for C (`crypt_c`) and for a web page (`crypt_web`), for whoever has memory or none: they read their arguments,
+//! hash, and return a report.
 //!
-//! Both are static libraries, which no crate can depend on, so this is a library below them. It allocates nothing.
+//! Both are static libraries, which no crate can depend on, so this is a library below them. A call that can hash takes a
+//! new meter, and its report has all that this meter counted. So it hashes nothing that it does not report: nothing above
+//! the budget, without capacity for the hash, or after a refusal, but for the decoy of a login. tests/layers.t checks that
+//! it makes no other meter.
 #![tactic(auto)]
 
-pub mod reading;
+pub mod bound;
+mod budget;
+pub mod hash;
+pub mod login;
+pub mod new_hash;
+mod reading;
 pub mod reason;
+pub mod rehash;
 pub mod report;
-pub mod steps;
+pub mod setting;
+pub mod verify;

@@ -1,65 +1,92 @@
-//! The scheme of a method's number and a cost, and the setting of a stored field, or the first refusal.
-ghost use Rattle.std.specs.Prelude.{◌≡◌, Ok, IfOk, IfErr};
-ghost use Rattle.crypt_core.specs.MadeSettings.{TakesCost};
+//! The scheme that a method's number and the rounds make, and the hash in a stored field, or the first refusal.
+ghost use Rattle.std.specs.Prelude.{◌≡◌, ◌<ℤ◌, pos, IfOk, IfErr, IsOk, IsOkAnd};
+ghost use Rattle.prims_core.specs.Work.{no_work};
+ghost use Rattle.crypt_core.specs.MadeSettings.{TakesRounds};
+ghost use Rattle.crypt_core.specs.Passwords.{IsPassword};
 ghost use Rattle.crypt_core.specs.Settings.{SettingValue, Spells};
-ghost use Rattle.call_core.specs.Arguments.{IsFieldRefusal, IsSchemeReading, TakesNewCost};
+ghost use Rattle.crypt_core.specs.StoredFields.{IsHashOf};
+ghost use Rattle.crypt_core.specs.declared.scheme.Scheme.{Scheme as Made};
+ghost use Rattle.call_core.specs.Arguments.{IsFieldRefusal, IsSchemeMade, IsSchemeReading, TakesNewRounds};
+ghost use Rattle.call_core.specs.Private.Hashes.{IsRequestRefused};
 
 use crate::reason::Refusal;
+use crate::report::Report;
 use crypt_core::method::Method;
+use crypt_core::password::Password;
 use crypt_core::scheme::Scheme;
-use crypt_core::setting::Setting;
-use crypt_core::stored::StoredField;
+use crypt_core::stored::{StoredField, StoredHash};
 
-/// Makes the scheme with a method's number and a cost.
+/// Makes the scheme with a method's number and the rounds.
 ///
 /// # Errors
 ///
 /// - `UnknownMethod`: no method has the number.
-/// - `Cost`: the method does not take the cost.
-pub fn scheme_of(number: u32, cost: u32) -> Result<Scheme, Refusal>
-    ensures { IsSchemeReading TakesCost number cost result }
+/// - `Cost`: the method does not take the rounds.
+pub(crate) fn scheme_of(number: u32, rounds: u32) -> Result<Scheme, Refusal>
+    ensures { IsSchemeReading TakesRounds number rounds result }
 {
     let Some(method) = Method::numbered(number) else {
         return Err(Refusal::UnknownMethod);
     };
-    match Scheme::made(method, cost) {
+    match Scheme::made(method, rounds) {
         Ok(scheme) => Ok(scheme),
         Err(_) => Err(Refusal::Cost),
     }
 }
 
-/// Makes the scheme of new hashes with a method's number and a cost.
+/// Makes the scheme of new hashes with a method's number and the rounds.
 ///
 /// # Errors
 ///
 /// - `UnknownMethod`: no method has the number.
-/// - `Cost`: the method does not take the cost, or would clamp it.
-pub fn new_scheme_of(number: u32, cost: u32) -> Result<Scheme, Refusal>
-    ensures { IsSchemeReading TakesNewCost number cost result }
+/// - `Cost`: the method does not take the rounds, or would clamp them.
+fn new_scheme_of(number: u32, rounds: u32) -> Result<Scheme, Refusal>
+    ensures { IsSchemeReading TakesNewRounds number rounds result }
 {
-    let scheme = scheme_of(number, cost)?;
+    let scheme = scheme_of(number, rounds)?;
     match &scheme {
-        Scheme::Shacrypt(_, rounds) if cost != 0 && rounds.count() != cost => Err(Refusal::Cost),
+        Scheme::Shacrypt(_, kept) if rounds != 0 && kept.count() != rounds => Err(Refusal::Cost),
         _ => Ok(scheme),
     }
 }
 
-/// Returns the setting that a stored field spells, read as [`StoredField::read`] does.
+/// Reads what a new hash is made of: a password, and a scheme by its method's number and the rounds.
+///
+/// # Errors
+///
+/// The report of the first refusal: of the password, or else that of [`new_scheme_of`].
+pub(crate) fn read_request(
+    password: &[u8],
+    number: u32,
+    rounds: u32,
+) -> Result<(Password, Scheme), Report>
+    ensures password { IfOk result (λ request. (request.0 ≡ password.now) × IsPassword password.now) }
+    ensures scheme { IfOk result (λ request. IsSchemeMade TakesNewRounds number rounds request.1) }
+    ensures refused { IfErr result (IsRequestRefused password.now number rounds) }
+    ensures idle { IfErr result (λ report. (¬ (pos 0 <ℤ report.reason)) × (report.work ≡ no_work) × (report.reserved ≡ 0)) }
+    ensures admits { (scheme : Made) → IsPassword password.now → IsSchemeMade TakesNewRounds number rounds scheme → IsOk result }
+{
+    let password = Password::new(password)?;
+    let scheme = new_scheme_of(number, rounds)?;
+    Ok((password, scheme))
+}
+
+/// Returns the stored hash in a field, read as [`StoredField::read`] does.
 ///
 /// # Errors
 ///
 /// - `NoHash`: the field is empty.
 /// - `Locked`: the field begins with `!` or `*`, whatever follows.
 /// - `Setting`: the first rule that any other field breaks as a setting.
-pub fn stored_setting(field: &[u8]) -> Result<Setting, Refusal>
-    ensures spelled { IfOk result (Spells field.now) }
+pub(crate) fn stored_hash(field: &[u8]) -> Result<StoredHash<'_>, Refusal>
+    ensures spelled { IfOk result (IsHashOf field.now) }
     ensures refused { IfErr result (IsFieldRefusal field.now) }
-    ensures each_setting { (kept : SettingValue) → Spells field.now kept → result ≡ Ok kept }
+    ensures each_setting { (kept : SettingValue) → Spells field.now kept → IsOkAnd result (λ stored. stored.setting ≡ kept) }
 {
     match StoredField::read(field) {
         Ok(StoredField::Empty) => Err(Refusal::NoHash),
         Ok(StoredField::Locked) => Err(Refusal::Locked),
-        Ok(StoredField::Hash(stored)) => Ok(stored.into_setting()),
+        Ok(StoredField::Hash(stored)) => Ok(stored),
         Err(fault) => Err(Refusal::Setting(fault)),
     }
 }

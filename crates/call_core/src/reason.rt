@@ -29,7 +29,7 @@ pub enum Refusal {
     /// The stored hash needs no rehash.
     Current,
     /// The random numbers for a salt are missing.
-    NoRandomWords,
+    NoRandomNumbers,
     /// The stored field is locked: it begins with `!` or `*`.
     Locked,
     /// The stored field is empty.
@@ -77,7 +77,7 @@ impl Reason {
             Reason::Refused(Refusal::OverBudget) => -16,
             Reason::Refused(Refusal::Differs) => -17,
             Reason::Refused(Refusal::Current) => -18,
-            Reason::Refused(Refusal::NoRandomWords) => -19,
+            Reason::Refused(Refusal::NoRandomNumbers) => -19,
             Reason::Refused(Refusal::Locked) => -20,
             Reason::Refused(Refusal::NoHash) => -21,
         }
@@ -109,7 +109,7 @@ impl Reason {
             -16 => Refusal::OverBudget,
             -17 => Refusal::Differs,
             -18 => Refusal::Current,
-            -19 => Refusal::NoRandomWords,
+            -19 => Refusal::NoRandomNumbers,
             -20 => Refusal::Locked,
             -21 => Refusal::NoHash,
             _ => return None,
@@ -118,7 +118,7 @@ impl Reason {
     }
 
     /// Returns the message for the reason.
-    pub fn words(self) -> &'static str
+    pub fn message(self) -> &'static str
         ensures { result.now ≡ (reason_row self).1 }
     {
         match self {
@@ -134,7 +134,7 @@ impl Reason {
             Reason::Refused(Refusal::OverBudget) => "over budget",
             Reason::Refused(Refusal::Differs) => "differs",
             Reason::Refused(Refusal::Current) => "current",
-            Reason::Refused(Refusal::NoRandomWords) => "no random words",
+            Reason::Refused(Refusal::NoRandomNumbers) => "no random words",
             Reason::Refused(Refusal::Locked) => "locked",
             Reason::Refused(Refusal::NoHash) => "no hash",
         }

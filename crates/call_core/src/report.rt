@@ -1,6 +1,6 @@
 //! The report of a call, and the string that it leaves in the caller's bytes.
 ghost use Rattle.std.specs.Prelude.{◌≡◌, ◌↔◌, ◌⊎◌, ◌<ℤ◌, pos};
-ghost use Rattle.call_core.specs.Reports.{Leaves, either, put, refused, reported, token};
+ghost use Rattle.call_core.specs.Reports.{Leaves, put, refused, reported, token};
 
 use crate::reason::{Reason, Refusal};
 use crypt_core::password::PasswordFault;
@@ -87,16 +87,12 @@ impl From<Refusal> for Report {
 }
 
 /// Writes the report of a call and returns its result: 1 if the reason is above 0, else 0.
-///
-/// `Err` only means that the call ended early: the report in `Ok` can be that of a refusal too.
-pub fn tell(report: &mut Report, told: Result<Report, Report>) -> i32
-    ensures told { report.new ≡ either told }
+pub fn tell(report: &mut Report, told: Report) -> i32
+    ensures told { report.new ≡ told }
     ensures one_or_zero { (result ≡ pos 1) ⊎ (result ≡ pos 0) }
-    ensures positive { result ≡ pos 1 ↔ pos 0 <ℤ (either told).reason }
+    ensures positive { result ≡ pos 1 ↔ pos 0 <ℤ told.reason }
 {
-    *report = match told {
-        Ok(told) | Err(told) => told,
-    };
+    *report = told;
     if report.reason > 0 { 1 } else { 0 }
 }
 

@@ -5,8 +5,8 @@
 //! reason. So a caller who compares nothing denies access. After a 0 `out` holds a token, which matches no password, cut
 //! to the capacity of `out`.
 //!
-//! The report has the first refusal that applies, in this order: password, setting, method, cost, budget, capacity,
-//! random numbers, memory. For a login method and cost come before the field. [`mkpasswd_verify`] and [`mkpasswd_login`]
+//! The report has the first refusal that applies, in this order: password, setting, method, rounds, budget, capacity,
+//! random numbers, memory. For a login method and rounds come before the field. [`mkpasswd_verify`] and [`mkpasswd_login`]
 //! read a stored field: a locked one is `Locked` and an empty one `NoHash`, where the other calls report what is wrong with
 //! it as a setting. The calls share no state and start no threads, so many threads may call at once.
 #![tactic(auto)]
@@ -16,23 +16,29 @@ ghost use Rattle.crypt_core.specs.Passwords.{IsPassword, IsPasswordRefused};
 ghost use Rattle.crypt_core.specs.Settings.{SettingValue, Spells};
 ghost use Rattle.crypt_core.specs.declared.password.PasswordFault.{PasswordFault};
 ghost use Rattle.crypt_core.specs.declared.scheme.Scheme.{Scheme};
-ghost use Rattle.call_core.specs.Arguments.{IsSchemeMade, IsSchemeReading, TakesNewCost};
-ghost use Rattle.call_core.specs.CommonCalls.{Bounds, Hashes, Opens, PutsSetting, Verifies};
+ghost use Rattle.call_core.specs.Arguments.{IsSchemeMade, IsSchemeReading, TakesNewRounds};
+ghost use Rattle.call_core.specs.Checks.{Opens, Verifies};
+ghost use Rattle.call_core.specs.Hashes.{Hashes, HashesAnew};
+ghost use Rattle.call_core.specs.Logins.{Agrees, IsHashWork, IsLoginWork, IsUncheckable, LogsIn, decoy};
 ghost use Rattle.call_core.specs.Reasons.{reason_row};
+ghost use Rattle.call_core.specs.Rehashes.{IsOutdated, Rehashes};
 ghost use Rattle.call_core.specs.Reports.{Answers, put, refused, token};
+ghost use Rattle.call_core.specs.Settings.{Bounds, PutsSetting};
 ghost use Rattle.call_core.specs.declared.reason.Reason.{Reason as Why};
 ghost use Rattle.call_core.specs.declared.reason.Reason.TheVariants.{Outdated, Refused};
 ghost use Rattle.call_core.specs.declared.reason.Refusal.{Refusal};
 ghost use Rattle.call_core.specs.declared.reason.Refusal.TheVariants.{Current, OutOfMemory, Password};
 ghost use Rattle.call_core.specs.declared.report.Report.{Report as Told};
-ghost use Rattle.crypt_c.specs.Calls.{Agrees, HashesAnew, IsHashWork, IsLoginWork, IsOutdated, IsUncheckable, LogsIn, Rehashes, decoy};
 
-mod calls;
-
+use call_core::bound::report_bound;
+use call_core::hash::put_hash;
+use call_core::login::log_in;
+use call_core::new_hash::put_new_hash;
 use call_core::reason::Reason;
+use call_core::rehash::report_rehash;
 use call_core::report::{Report, put, tell};
-use call_core::steps::{put_setting, tell_bound};
-use calls::{log_in, put_hash, put_new_hash, tell_rehash, verify};
+use call_core::setting::put_setting;
+use call_core::verify::verify;
 use crypt_core::version::VERSION_NUMBER;
 use prims_core::meter::Meter;
 use std::alloc::Global;
@@ -68,20 +74,20 @@ pub extern "C" fn mkpasswd_verify(
 {
     tell(
         report,
-        verify(alloc, password, stored, budget, &mut Meter::new()),
+        verify(&alloc, password, stored, budget, &mut Meter::new()),
     )
 }
 
-/// Returns 1 exactly if a new hash can have the method and the cost, and [`mkpasswd_verify`] returns 1. The reason then
+/// Returns 1 exactly if a new hash can have the method and the rounds, and [`mkpasswd_verify`] returns 1. The reason then
 /// tells whether [`mkpasswd_needs_rehash`] would return 1.
 ///
-/// If the field has no setting, or one above the budget, the call hashes the password with the method, the cost and a
+/// If the field has no setting, or one above the budget, the call hashes the password with the method, the rounds and a
 /// fixed salt, and returns 0. So such a name does the work of a new hash. A name that is not known has an empty field.
 ///
 /// # Errors
 ///
 /// - `Password`: the password is invalid. The field makes no difference.
-/// - `UnknownMethod`, `Cost`: no method has the number, or a new hash cannot have the cost. Here too the field makes no
+/// - `UnknownMethod`, `Cost`: no method has the number, or a new hash cannot have the rounds. Here too the field makes no
 ///   difference.
 /// - `Locked`, `NoHash`: the field begins with `!` or `*`, or is empty.
 /// - `Setting`, `OverBudget`: any other field has no valid hash, or one that can cost more than the budget. After these
@@ -95,83 +101,83 @@ pub extern "C" fn mkpasswd_login(
     password: &[u8],
     field: &[u8],
     method: u32,
-    cost: u32,
+    rounds: u32,
     budget: u64,
     report: &mut Report,
 ) -> i32
     ensures answers { Answers result report.new }
     ensures lets_in { result ≡ pos 1 → Opens password.now field.now budget }
-    ensures opens { (scheme : Scheme) → IsSchemeMade TakesNewCost method cost scheme → Opens password.now field.now budget
+    ensures opens { (scheme : Scheme) → IsSchemeMade TakesNewRounds method rounds scheme → Opens password.now field.now budget
         → (result ≡ pos 1) ⊎ (report.new.reason ≡ (reason_row (Refused OutOfMemory)).0) }
-    ensures outdated { report.new.reason ≡ (reason_row Outdated).0 ↔ (result ≡ pos 1) × IsOutdated field.now method cost }
-    ensures as_verify { (scheme : Scheme) → IsSchemeMade TakesNewCost method cost scheme
+    ensures outdated { report.new.reason ≡ (reason_row Outdated).0 ↔ (result ≡ pos 1) × IsOutdated field.now method rounds }
+    ensures as_verify { (scheme : Scheme) → IsSchemeMade TakesNewRounds method rounds scheme
         → (verified : Told) × Verifies password.now field.now budget verified × Agrees report.new verified }
-    ensures decoy { (scheme : Scheme) → IsSchemeMade TakesNewCost method cost scheme → IsPassword password.now
+    ensures decoy { (scheme : Scheme) → IsSchemeMade TakesNewRounds method rounds scheme → IsPassword password.now
         → IsUncheckable password.now field.now budget → IsHashWork password.now (decoy scheme) budget report.new.work }
     ensures alike { (fault : PasswordFault) → IsPasswordRefused password.now fault → report.new ≡ refused (Password fault) 0 }
-    ensures alike_cost { (refusal : Refusal) → IsPassword password.now → IsSchemeReading TakesNewCost method cost (Err refusal)
+    ensures alike_cost { (refusal : Refusal) → IsPassword password.now → IsSchemeReading TakesNewRounds method rounds (Err refusal)
         → report.new ≡ refused refusal 0 }
-    ensures one_hash { IsLoginWork password.now field.now method cost budget report.new.work }
-    ensures logs_in { LogsIn password.now field.now method cost budget report.new }
+    ensures one_hash { IsLoginWork password.now field.now method rounds budget report.new.work }
+    ensures logs_in { LogsIn password.now field.now method rounds budget report.new }
 {
     tell(
         report,
         log_in(
-            alloc,
+            &alloc,
             password,
             field,
             method,
-            cost,
+            rounds,
             budget,
             &mut Meter::new(),
         ),
     )
 }
 
-/// Hashes a password with a new setting of the method and the cost, and writes the hash and a byte 0 to `out`.
+/// Hashes a password with a new setting of the method and the rounds, and writes the hash and a byte 0 to `out`.
 ///
-/// Three random numbers, `words`, make the salt. Without them the report has the first refusal that precedes them, or
+/// Three random `numbers` make the salt. Without them the report has the first refusal that precedes them, or
 /// else that they are missing. So C's `mkpasswd_new` first calls it without numbers, and draws three only if nothing but
 /// memory can then be refused.
 ///
-/// The method is 1 for md5crypt, 5 for sha256crypt, 6 for sha512crypt or 7 for scrypt, as in their hashes. The cost is
-/// that of `mkpasswd -R`, and 0 is the method's default. [`mkpasswd_verify`] accepts the hash for its password within
-/// the budget, unless scrypt lacks memory. For the same method and cost [`mkpasswd_needs_rehash`] does not report it as
+/// The method is 1 for md5crypt, 5 for sha256crypt, 6 for sha512crypt or 7 for scrypt, as in their hashes. The rounds
+/// are those of `mkpasswd -R`, and 0 is the method's default. [`mkpasswd_verify`] accepts the hash for its password within
+/// the budget, unless scrypt lacks memory. For the same method and rounds [`mkpasswd_needs_rehash`] does not report it as
 /// outdated.
 ///
 /// # Errors
 ///
 /// - `Password`: the password is invalid.
-/// - `UnknownMethod`, `Cost`: no method has the number, or the method does not accept the cost, or would clamp it.
+/// - `UnknownMethod`, `Cost`: no method has the number, or the method does not accept the rounds, or would clamp them.
 /// - `OverBudget`: the hash can cost more than the budget.
 /// - `TooFewBytes`: the hash and the byte 0 do not fit into `out`.
-/// - `NoRandomWords`: `words` does not have three numbers.
+/// - `NoRandomNumbers`: `numbers` does not have three.
 /// - `OutOfMemory`: scrypt could not allocate.
 #[unsafe(no_mangle)]
 pub extern "C" fn mkpasswd_new_from(
     alloc: Global,
     password: &[u8],
     method: u32,
-    cost: u32,
+    rounds: u32,
     budget: u64,
-    words: &[u64],
+    numbers: &[u64],
     out: &mut [u8],
     report: &mut Report,
 ) -> i32
     ensures answers { Answers result report.new }
-    ensures hashes { HashesAnew password.now method cost budget words.now out.old report.new out.new }
+    ensures hashes { HashesAnew password.now method rounds budget numbers.now out.old report.new out.new }
     ensures locked { result ≡ pos 0 → out.new ≡ put (token []) out.old }
     ensures then_opens { result ≡ pos 1 → Opens password.now (take report.new.length out.new) budget }
-    ensures then_current { result ≡ pos 1 → Rehashes (take report.new.length out.new) method cost (refused Current 0) }
+    ensures then_current { result ≡ pos 1 → Rehashes (take report.new.length out.new) method rounds (refused Current 0) }
 {
     tell(
         report,
         put_new_hash(
-            alloc,
+            &alloc,
             password,
             method,
-            cost,
-            words,
+            rounds,
+            numbers,
             budget,
             out,
             &mut Meter::new(),
@@ -179,27 +185,27 @@ pub extern "C" fn mkpasswd_new_from(
     )
 }
 
-/// Returns 1 if a new hash with the method and the cost would replace the stored one.
+/// Returns 1 if a new hash with the method and the rounds would replace the stored one.
 ///
 /// It would if the stored hash has another method, fewer rounds, or for scrypt a smaller `N * r * p`.
 ///
 /// # Errors
 ///
 /// - `Setting`: the stored hash is invalid.
-/// - `UnknownMethod`, `Cost`: no method has the number, or the method does not accept the cost.
+/// - `UnknownMethod`, `Cost`: no method has the number, or the method does not accept the rounds.
 /// - `Current`: the stored hash needs no replacement.
 #[unsafe(no_mangle)]
 pub extern "C" fn mkpasswd_needs_rehash(
     stored: &[u8],
     method: u32,
-    cost: u32,
+    rounds: u32,
     report: &mut Report,
 ) -> i32
     ensures answers { Answers result report.new }
-    ensures outdated { result ≡ pos 1 ↔ IsOutdated stored.now method cost }
-    ensures rehashes { Rehashes stored.now method cost report.new }
+    ensures outdated { result ≡ pos 1 ↔ IsOutdated stored.now method rounds }
+    ensures rehashes { Rehashes stored.now method rounds report.new }
 {
-    tell(report, tell_rehash(stored, method, cost))
+    tell(report, report_rehash(stored, method, rounds))
 }
 
 /// Reports the greatest cost and the greatest work of a hash with this setting, for any password of this length.
@@ -215,7 +221,7 @@ pub extern "C" fn mkpasswd_bound(stored: &[u8], password_len: usize, report: &mu
     ensures answers { Answers result report.new }
     ensures bounds { Bounds password_len stored.now report.new }
 {
-    tell(report, tell_bound(password_len, stored))
+    tell(report, report_bound(password_len, stored))
 }
 
 /// Hashes a password with a setting, and writes the hash and a byte 0 to `out`. [`mkpasswd_verify`] accepts it for the
@@ -247,20 +253,20 @@ pub extern "C" fn mkpasswd_hash(
 {
     tell(
         report,
-        put_hash(alloc, password, setting, budget, out, &mut Meter::new()),
+        put_hash(&alloc, password, setting, budget, out, &mut Meter::new()),
     )
 }
 
-/// Makes a setting with a method, a cost and three random numbers, and writes it and a byte 0 to `out`.
+/// Makes a setting with a method, the rounds and three random numbers, and writes it and a byte 0 to `out`.
 ///
 /// # Errors
 ///
-/// - `UnknownMethod`, `Cost`: no method has the number, or the method does not accept the cost.
+/// - `UnknownMethod`, `Cost`: no method has the number, or the method does not accept the rounds.
 /// - `TooFewBytes`: the setting and the byte 0 do not fit into `out`.
 #[unsafe(no_mangle)]
 pub extern "C" fn mkpasswd_setting(
     method: u32,
-    cost: u32,
+    rounds: u32,
     first: u64,
     second: u64,
     third: u64,
@@ -268,12 +274,12 @@ pub extern "C" fn mkpasswd_setting(
     report: &mut Report,
 ) -> i32
     ensures answers { Answers result report.new }
-    ensures puts { PutsSetting method cost (first ∷ second ∷ third ∷ []) out.old report.new out.new }
+    ensures puts { PutsSetting method rounds (first ∷ second ∷ third ∷ []) out.old report.new out.new }
     ensures locked { result ≡ pos 0 → out.new ≡ put (token []) out.old }
 {
     tell(
         report,
-        put_setting(method, cost, [first, second, third], out),
+        put_setting(method, rounds, [first, second, third], out),
     )
 }
 
@@ -292,9 +298,9 @@ pub extern "C" fn mkpasswd_words(reason: i32, out: &mut [u8]) -> i32
         put(out, b"unknown reason");
         return 0;
     };
-    let words = reason.words().as_bytes();
-    put(out, words);
-    if words.len() < out.len() { 1 } else { 0 }
+    let message = reason.message().as_bytes();
+    put(out, message);
+    if message.len() < out.len() { 1 } else { 0 }
 }
 
 /// Returns the version: 10000 times its first number, plus 100 times its second, plus its third.

@@ -19,6 +19,7 @@ pub mod Rules
 pub mod SameBytes
 pub mod ShaCryptLemmas
 pub mod Steps
+pub mod Within
 pub mod WorkBounds
 pub mod WorkSums
 pub mod Writing

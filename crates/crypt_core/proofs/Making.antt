@@ -14,7 +14,7 @@ use Rattle.crypt_core.specs.declared.scheme.Scheme.TheVariants.{Md5crypt, Shacry
 use Rattle.crypt_core.specs.declared.setting.fault.MakeFault.{MakeFault}
 use Rattle.crypt_core.specs.declared.setting.fault.MakeFault.TheVariants.{SaltLength, SaltCharacter, Cost}
 use Rattle.crypt_core.specs.MethodLimits.{salt_limit}
-use Rattle.crypt_core.specs.MadeSettings.{made_scheme, TakesCost, BreaksMake, IsMakeRefused, make_faults}
+use Rattle.crypt_core.specs.MadeSettings.{made_scheme, TakesRounds, BreaksMake, IsMakeRefused, make_faults}
 use Rattle.crypt_core.specs.Private.Parts.{HasNumerals, TakesSalt}
 use Rattle.crypt_core.specs.Schemes.{IsScheme, method_of}
 use Rattle.crypt_core.specs.Settings.{SettingValue, IsSettingByte, dollar, BeginsWith, rounds_word, SpellsCost, KeepsSalt, cost_part, canonical_text}
@@ -97,12 +97,12 @@ unfolding IsMakeRefused
 make_refused_character m cost salt some short bad = inr (right_length m salt some short, inl (refl, bad))
 
 -- where the method takes the salt, the cost is
-pub make_refused_cost : (m : Method) (cost : ℕ) (salt : List ℕ) → TakesSalt m salt → (TakesCost m cost → ⊥) → IsMakeRefused m cost (Some salt) Cost
+pub make_refused_cost : (m : Method) (cost : ℕ) (salt : List ℕ) → TakesSalt m salt → (TakesRounds m cost → ⊥) → IsMakeRefused m cost (Some salt) Cost
 unfolding IsMakeRefused
 make_refused_cost m cost salt h bad = inr (right_length m salt h.some h.short, inr (λ b. b h.characters, inl (refl, bad)))
 
 -- a salt and a cost that the method takes break no rule
-pub taken : (m : Method) (cost : ℕ) (salt : List ℕ) → TakesSalt m salt → TakesCost m cost → (f : MakeFault) → ¬ BreaksMake m cost (Some salt) f
+pub taken : (m : Method) (cost : ℕ) (salt : List ℕ) → TakesSalt m salt → TakesRounds m cost → (f : MakeFault) → ¬ BreaksMake m cost (Some salt) f
 taken m cost salt h takes SaltLength = right_length m salt h.some h.short
 taken m cost salt h takes SaltCharacter = λ b. b h.characters
 taken m cost salt h takes Cost = λ b. b takes

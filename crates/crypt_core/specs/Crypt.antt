@@ -1,5 +1,5 @@
 -- The hash of a password with a setting (crypt(3)).
-use Rattle.std.specs.Prelude.{ℕ, List, ◌∷◌, ◌++◌}
+use Rattle.std.specs.Prelude.{ℕ, Bool, true, false, List, ◌∷◌, ◌++◌}
 use Rattle.prims_core.specs.declared.meter.Work.{Work}
 use Rattle.kdf_core.specs.Scrypt.{scrypt}
 use Rattle.kdf_core.specs.ScryptWork.{IsAfterRefusal}
@@ -23,6 +23,11 @@ digest_by (Scrypt cost) password salt = scrypt password salt cost (method_row me
 unfoldable pub crypt : List ℕ → SettingValue → List ℕ
 crypt password kept =
     canonical_text kept ++ dollar ∷ packed (method_of kept.scheme) (digest_by kept.scheme password kept.salt)
+
+-- allocates scheme: whether a hash with the scheme allocates, as scrypt's alone does.
+abbrev pub allocates : Scheme → Bool
+allocates (Scrypt cost) = true
+allocates scheme = false
 
 -- IsAfterRefusedGrowth before scheme after: these are the counts after a failed allocation of scrypt. No other scheme
 -- allocates.

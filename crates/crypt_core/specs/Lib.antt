@@ -6,6 +6,7 @@ pub mod MadeSalts
 pub mod MadeSettings
 pub mod Md5crypt
 pub mod Messages
+pub mod Metering
 pub mod MethodLimits
 pub mod Methods
 pub mod Packing

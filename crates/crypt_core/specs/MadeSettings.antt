@@ -37,10 +37,10 @@ made_scheme methods.Scrypt cost = Scrypt (made_cost cost)
 abbrev pub salted : Scheme → List ℕ → SettingValue
 salted scheme words = record { scheme = scheme; salt = made_salt words (method_row (method_of scheme)).made_salt_length }
 
--- TakesCost method cost: scrypt takes the costs 0 and 6 to 11, and the other methods take any.
-abbrev pub TakesCost : Method → ℕ → Type 0
-TakesCost methods.Scrypt cost = (cost ≡ 0) ⊎ ((6 ≤ cost) × (cost ≤ 11))
-TakesCost method cost = Unit {0}
+-- TakesRounds method cost: scrypt takes the costs 0 and 6 to 11, and the other methods take any.
+abbrev pub TakesRounds : Method → ℕ → Type 0
+TakesRounds methods.Scrypt cost = (cost ≡ 0) ⊎ ((6 ≤ cost) × (cost ≤ 11))
+TakesRounds method cost = Unit {0}
 
 -- The refusals in the order of their rules.
 abbrev pub make_faults : List MakeFault
@@ -51,7 +51,7 @@ make_faults = SaltLength ∷ SaltCharacter ∷ Cost ∷ []
 --   SaltLength      the salt has at least one character, and no more than the method keeps
 --   SaltCharacter   all characters of the salt are of crypt's alphabet
 abbrev pub BreaksMake : Method → ℕ → Option (List ℕ) → MakeFault → Type 0
-BreaksMake method cost given Cost = ¬ TakesCost method cost
+BreaksMake method cost given Cost = ¬ TakesRounds method cost
 BreaksMake method cost None fault = ⊥
 BreaksMake method cost (Some salt) SaltLength = (length salt ≡ 0) ⊎ ((method_row method).salt_limit < length salt)
 BreaksMake method cost (Some salt) SaltCharacter = ¬ All (Contains alphabet) salt

@@ -1,28 +1,22 @@
 //! Hashing a password with a setting, as crypt(3) does.
-ghost use Rattle.std.specs.Prelude.{◌≡◌, ℕ, ◌≤◌, List, length, IfOk, OnOk, OnErr};
+ghost use Rattle.std.specs.Prelude.{◌≡◌, ℕ, ◌≤◌, ⊤, List, length, IfOk};
 ghost use Rattle.prims_core.specs.Meter.{HasRoom};
-ghost use Rattle.kdf_core.specs.Params.{IsBounded};
-ghost use Rattle.kdf_core.specs.Scrypt.{scrypt};
-ghost use Rattle.kdf_core.specs.ScryptMessages.{with_scrypt};
-ghost use Rattle.kdf_core.specs.ScryptWork.{IsAfterRefusal};
-ghost use Rattle.crypt_core.specs.declared.method.Method.TheVariants.{Scrypt};
-ghost use Rattle.crypt_core.specs.Crypt.{crypt, digest_by, IsAfterRefusedGrowth};
+ghost use Rattle.crypt_core.specs.Crypt.{crypt, digest_by};
+ghost use Rattle.crypt_core.specs.Metering.{IsMetered};
 ghost use Rattle.crypt_core.specs.TextLimits.{hash_limit};
 ghost use Rattle.crypt_core.specs.Packing.{packed};
 ghost use Rattle.crypt_core.specs.Settings.{Spells, canonical_text, dollar};
 ghost use Rattle.crypt_core.specs.Schemes.{method_of};
-ghost use Rattle.crypt_core.specs.Work.{raised_by, work, work_limit, IsBelow};
 ghost use Rattle.crypt_core.specs.MethodLimits.{digest_len};
 
 use crate::md5crypt::md5crypt;
+use crate::memory::Memory;
 use crate::pack::{SCRYPT_PACKED_LEN, append_packed};
 use crate::password::Password;
 use crate::scheme::{Scheme, Sha};
 use crate::setting::{CANONICAL_LIMIT, Setting, TEXT_CAPACITY};
 use crate::shacrypt::shacrypt;
 use arrayvec::ArrayVec;
-use kdf_core::params::Params;
-use kdf_core::scrypt::scrypt;
 use prims_core::counted::{CountedSha256, CountedSha512};
 use prims_core::meter::Meter;
 use std::alloc::{AllocError, Global};
@@ -108,13 +102,30 @@ pub fn hash(
     requires { HasRoom meter.old }
     ensures text { IfOk result (λ hashed. hashed ≡ crypt password.now setting.now) }
     ensures spells { IfOk result (λ hashed. Spells hashed setting.now) }
-    ensures count { OnOk result (meter.new ≡ raised_by meter.old (work password.now setting.now)) }
-    ensures below { IsBelow (work password.now setting.now) work_limit }
-
-    // By this clause only settings of scrypt lead to an error.
-    ensures refused { OnErr result (IsAfterRefusedGrowth meter.old setting.now.scheme meter.new) }
+    ensures metered { IsMetered ⊤ meter.old password.now setting.now meter.new result }
 {
-    let digest = digest_of(alloc, password, setting, meter)?;
+    hash_by(&alloc, password, setting, meter)
+}
+
+/// Returns the hash of a password with a setting, as [`hash`] does, with this memory for scrypt.
+///
+/// Precondition: each count of the meter is at most 2^120.
+///
+/// # Errors
+///
+/// - `OutOfMemory`: scrypt has no memory, or could not allocate. No other method needs any.
+pub fn hash_by<M: Memory>(
+    memory: &M,
+    password: &Password,
+    setting: &Setting,
+    meter: &mut Meter,
+) -> Result<Hashed, HashFault>
+    requires { HasRoom meter.old }
+    ensures text { IfOk result (λ hashed. hashed ≡ crypt password.now setting.now) }
+    ensures spells { IfOk result (λ hashed. Spells hashed setting.now) }
+    ensures metered { IsMetered M.HasSome meter.old password.now setting.now meter.new result }
+{
+    let digest = digest_of(memory, password, setting, meter)?;
     let mut text = setting.text();
     text.push(b'$');
     append_packed(&mut text, setting.method(), digest.as_slice());
@@ -131,8 +142,8 @@ pub fn hash_len(setting: &Setting) -> usize
 }
 
 // Returns the digest of the password with the setting's scheme and salt.
-fn digest_of(
-    alloc: Global,
+fn digest_of<M: Memory>(
+    memory: &M,
     password: &Password,
     setting: &Setting,
     meter: &mut Meter,
@@ -141,9 +152,7 @@ fn digest_of(
     ensures digest { IfOk result (λ digest. digest.items
         ≡ digest_by setting.now.scheme password.now setting.now.salt) }
     ensures length { IfOk result (λ digest. length digest.items ≡ digest_len (method_of setting.now.scheme)) }
-    ensures count { OnOk result (meter.new ≡ raised_by meter.old (work password.now setting.now)) }
-    ensures below { IsBelow (work password.now setting.now) work_limit }
-    ensures refused { OnErr result (IsAfterRefusedGrowth meter.old setting.now.scheme meter.new) }
+    ensures metered { IsMetered M.HasSome meter.old password.now setting.now meter.new result }
 {
     let salt = setting.salt();
     match setting.scheme() {
@@ -154,27 +163,9 @@ fn digest_of(
             Sha::Sha256 => shacrypt::<CountedSha256>(password, salt, rounds.count(), meter),
             Sha::Sha512 => shacrypt::<CountedSha512>(password, salt, rounds.count(), meter),
         }),
-        Scheme::Scrypt(params) => scrypt_digest(alloc, password.bytes(), salt, &params, meter),
+        Scheme::Scrypt(params) => {
+            prove!(params.row_count() > 1);
+            memory.scrypt(password.bytes(), salt, &params, meter)
+        }
     }
-}
-
-// Returns scrypt's digest, which has 32 bytes.
-fn scrypt_digest(
-    alloc: Global,
-    password: &[u8],
-    salt: &[u8],
-    params: &Params,
-    meter: &mut Meter,
-) -> Result<ArrayVec<u8, 64>, AllocError>
-    requires { HasRoom meter.old }
-    ensures digest { IfOk result (λ digest. digest.items ≡ scrypt password.now salt.now params.now (digest_len Scrypt)) }
-    ensures length { IfOk result (λ digest. length digest.items ≡ digest_len Scrypt) }
-    ensures count { OnOk result (meter.new
-        ≡ with_scrypt meter.old params.now (length password.now) (length salt.now) (digest_len Scrypt)) }
-    ensures refused { OnErr result (IsAfterRefusal meter.old params.now meter.new) }
-    ensures bounded { IsBounded params.now }
-{
-    let mut digest = [0; 32];
-    scrypt(alloc, password, salt, params, &mut digest, meter)?;
-    Ok(ArrayVec::try_from(digest.as_slice()).unwrap())
 }

@@ -3,7 +3,7 @@
 
 ghost use Rattle.std.specs.Prelude.{◌≡◌, ◌+◌, ◌≤◌, ◌↔◌, IsOk, IfOk, IfErr, true, false};
 ghost use Rattle.kdf_core.specs.Params.{IsAccepted};
-ghost use Rattle.crypt_core.specs.MadeSettings.{TakesCost, made_scheme};
+ghost use Rattle.crypt_core.specs.MadeSettings.{TakesRounds, made_scheme};
 ghost use Rattle.crypt_core.specs.Replacements.{is_replaced_by};
 ghost use Rattle.crypt_core.specs.Rounds.{IsRounds, default_rounds, clamped};
 ghost use Rattle.crypt_core.specs.Schemes.{IsScheme, method_of};
@@ -132,7 +132,7 @@ impl Scheme {
     pub fn made(method: Method, cost: u32) -> Result<Scheme, MakeFault>
         ensures made { IfOk result (λ scheme. scheme ≡ made_scheme method cost) }
         ensures in_range { IfOk result IsScheme }
-        ensures accepted { IsOk result ↔ TakesCost method cost }
+        ensures accepted { IsOk result ↔ TakesRounds method cost }
         ensures refused { IfErr result (λ fault. fault ≡ MakeFault.Cost) }
     {
         let rounds = if cost == 0 {

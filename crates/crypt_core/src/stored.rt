@@ -1,23 +1,23 @@
 //! Stored fields, as a password file has them (shadow(5)): empty, locked, or a stored hash. A stored hash is read once
 //! and keeps its setting.
 
-ghost use Rattle.std.specs.Prelude.{◌≡◌, ◌↔◌, Err, IsTrue, IfOk, IfErr, OnOk, OnErr};
+ghost use Rattle.std.specs.Prelude.{◌≡◌, ◌↔◌, Err, IsTrue, IfOk, IfErr};
 ghost use Rattle.prims_core.specs.Meter.{HasRoom};
 ghost use Rattle.crypt_core.specs.declared.setting.fault.SettingFault.{SettingFault as Refusal};
-ghost use Rattle.crypt_core.specs.Crypt.{crypt, IsAfterRefusedGrowth};
+ghost use Rattle.crypt_core.specs.Crypt.{crypt};
+ghost use Rattle.crypt_core.specs.Metering.{IsMetered};
 ghost use Rattle.crypt_core.specs.Readings.{IsFieldReading, IsReadOneWay};
 ghost use Rattle.crypt_core.specs.Fits.{Fits};
 ghost use Rattle.crypt_core.specs.Refusals.{IsRefused};
 ghost use Rattle.crypt_core.specs.Settings.{Spells};
 ghost use Rattle.crypt_core.specs.StoredFields.{IsHashOf, IsLocked};
-ghost use Rattle.crypt_core.specs.Work.{raised_by, work, work_limit, IsBelow};
 
-use crate::hash::{HashFault, hash};
+use crate::hash::{HashFault, hash_by};
+use crate::memory::Memory;
 use crate::password::Password;
 use crate::same::same_bytes;
 use crate::setting::{Setting, SettingFault};
 use prims_core::meter::Meter;
-use std::alloc::Global;
 use std::marker::Model;
 
 /// A stored hash, and the setting that it spells. Contracts see both.
@@ -68,13 +68,6 @@ impl<'a> StoredHash<'a> {
         &self.setting
     }
 
-    /// Returns the setting that the stored hash spells, to a caller who keeps no more of it.
-    pub fn into_setting(self) -> Setting
-        ensures { result ≡ self.entry.setting }
-    {
-        self.setting
-    }
-
     /// Returns whether hashing the password with the setting reproduces the stored hash, to the last byte.
     ///
     /// The call raises the meter by exactly the work of that one hash, less than 2^41 in each count;
@@ -84,23 +77,21 @@ impl<'a> StoredHash<'a> {
     ///
     /// # Errors
     ///
-    /// - `OutOfMemory`: scrypt could not allocate. The meter adds only the allocations that succeeded. No other method
-    ///   allocates.
-    pub fn fits(
+    /// - `OutOfMemory`: scrypt has no memory, or could not allocate. The meter adds only the allocations that succeeded.
+    ///   No other method allocates.
+    pub fn fits<M: Memory>(
         &self,
-        alloc: Global,
+        memory: &M,
         password: &Password,
         meter: &mut Meter,
     ) -> Result<bool, HashFault>
         requires { HasRoom meter.old }
         ensures verdict { IfOk result (λ verdict. IsTrue verdict ↔ (crypt password.now self.now.setting ≡ self.now.text)) }
         ensures fits { IfOk result (λ verdict. IsTrue verdict ↔ Fits password.now self.now.text) }
-        ensures count { OnOk result (meter.new ≡ raised_by meter.old (work password.now self.now.setting)) }
-        ensures below { IsBelow (work password.now self.now.setting) work_limit }
-        ensures refused { OnErr result (IsAfterRefusedGrowth meter.old self.now.setting.scheme meter.new) }
+        ensures metered { IsMetered M.HasSome meter.old password.now self.now.setting meter.new result }
         ensures spelled { Spells self.now.text self.now.setting }
     {
-        let hashed = hash(alloc, password, &self.setting, meter)?;
+        let hashed = hash_by(memory, password, &self.setting, meter)?;
         Ok(same_bytes(hashed.text(), self.text))
     }
 }

@@ -4,7 +4,7 @@
 //! are valid, the report is aligned, and neither `out` nor the report overlaps another argument. Nothing is wiped.
 //!
 //! Each call returns 1 if it did what its name says, and 0 otherwise. It writes the whole report, which has the reason: above
-//! 0 in the first case, else the number of the first refusal that applies, in the order password, setting, method, cost,
+//! 0 in the first case, else the number of the first refusal that applies, in the order password, setting, method, rounds,
 //! budget, capacity, memory. [`web_verify`] reads a stored field: a locked one is `Locked` and an empty one `NoHash`, where the
 //! other calls report what is wrong with it as a setting. These numbers, the report's other fields and what is left in `out`
 //! are those of the calls for C. scrypt needs memory, so its hashes are refused with `OutOfMemory`.
@@ -13,15 +13,17 @@
 ghost use Rattle.std.specs.Prelude.{◌≡◌, ◌≢◌, ◌≤◌, pos, [], ◌∷◌, take};
 ghost use Rattle.prims_core.specs.Work.{no_work};
 ghost use Rattle.crypt_core.specs.Settings.{SettingValue, Spells};
-ghost use Rattle.call_core.specs.CommonCalls.{Bounds, Hashes, Opens, PutsSetting, Verifies};
+ghost use Rattle.call_core.specs.Checks.{NeedsNoMemory, Opens, Verifies};
+ghost use Rattle.call_core.specs.Hashes.{Hashes};
 ghost use Rattle.call_core.specs.Reports.{Answers, put, token};
-ghost use Rattle.crypt_web.specs.WebCalls.{NeedsNoMemory};
+ghost use Rattle.call_core.specs.Settings.{Bounds, PutsSetting};
 
-mod calls;
-
+use call_core::bound::report_bound;
+use call_core::hash::put_hash;
 use call_core::report::{Report, tell};
-use call_core::steps::{put_setting, tell_bound};
-use calls::{put_hash, verify};
+use call_core::setting::put_setting;
+use call_core::verify::verify;
+use crypt_core::memory::NoHeap;
 use prims_core::meter::Meter;
 
 /// Checks a password against a stored hash. Returns 1 exactly if it matches, its hash costs at most the budget, and its
@@ -54,7 +56,10 @@ pub extern "C" fn web_verify(
     ensures scrypt { ¬ NeedsNoMemory stored.now → (result ≡ pos 0) × (report.new.work ≡ no_work) }
     ensures bytes { report.new.work.bytes ≤ budget }
 {
-    tell(report, verify(password, stored, budget, &mut Meter::new()))
+    tell(
+        report,
+        verify(&NoHeap, password, stored, budget, &mut Meter::new()),
+    )
 }
 
 /// Hashes a password with a setting, and writes the hash and a byte 0 to `out`. [`web_verify`] accepts it for the password
@@ -88,24 +93,24 @@ pub extern "C" fn web_hash(
 {
     tell(
         report,
-        put_hash(password, setting, budget, out, &mut Meter::new()),
+        put_hash(&NoHeap, password, setting, budget, out, &mut Meter::new()),
     )
 }
 
-/// Makes a setting with a method, a cost and three random numbers, and writes it and a byte 0 to `out`.
+/// Makes a setting with a method, the rounds and three random numbers, and writes it and a byte 0 to `out`.
 ///
-/// The method is 1 for md5crypt, 5 for sha256crypt, 6 for sha512crypt or 7 for scrypt, as in their hashes. The cost is that
-/// of `mkpasswd -R`: 0 is the method's default, and other rounds are clamped to 1000 to 999999999. After a refusal `out` has
-/// the token `*0`, cut to the capacity of `out`.
+/// The method is 1 for md5crypt, 5 for sha256crypt, 6 for sha512crypt or 7 for scrypt, as in their hashes. The rounds are
+/// those of `mkpasswd -R`: 0 is the method's default, and others are clamped to 1000 to 999999999. After a refusal `out`
+/// has the token `*0`, cut to the capacity of `out`.
 ///
 /// # Errors
 ///
-/// - `UnknownMethod`, `Cost`: no method has the number, or the method does not accept the cost.
+/// - `UnknownMethod`, `Cost`: no method has the number, or the method does not accept the rounds.
 /// - `TooFewBytes`: the setting and the byte 0 do not fit into `out`.
 #[unsafe(no_mangle)]
 pub extern "C" fn web_setting(
     method: u32,
-    cost: u32,
+    rounds: u32,
     first: u64,
     second: u64,
     third: u64,
@@ -113,12 +118,12 @@ pub extern "C" fn web_setting(
     report: &mut Report,
 ) -> i32
     ensures answers { Answers result report.new }
-    ensures puts { PutsSetting method cost (first ∷ second ∷ third ∷ []) out.old report.new out.new }
+    ensures puts { PutsSetting method rounds (first ∷ second ∷ third ∷ []) out.old report.new out.new }
     ensures locked { result ≡ pos 0 → out.new ≡ put (token []) out.old }
 {
     tell(
         report,
-        put_setting(method, cost, [first, second, third], out),
+        put_setting(method, rounds, [first, second, third], out),
     )
 }
 
@@ -135,5 +140,5 @@ pub extern "C" fn web_cost(setting: &[u8], password_len: usize, report: &mut Rep
     ensures answers { Answers result report.new }
     ensures bounds { Bounds password_len setting.now report.new }
 {
-    tell(report, tell_bound(password_len, setting))
+    tell(report, report_bound(password_len, setting))
 }

@@ -1,7 +1,7 @@
 -- Status 0: all that the words ask for was done, and told nowhere else.
 use Rattle.std.proofs.Common.{◌≡◌, ℕ, Bool, true, false, not, ◌&&◌, Result, List, [], Option, Some, None, Ok, Err, refl, zero, suc, inl, inr, subst, sym, ◌∙◌, arith}
 use Rattle.std.specs.Prelude.{MatchBool}
-use Rattle.std.specs.Io.KnownBytes.{Consumes, IsAtEnd}
+use Rattle.std.specs.Io.KnownBytes.{Consumes}
 use Rattle.clap.specs.Words.{Text, kind_of}
 use Rattle.clap.specs.declared.error.Error.{Error}
 use Rattle.run_core.specs.Answers.{Answer, tally_status}
@@ -11,14 +11,15 @@ use Rattle.mkpasswd.specs.declared.fault.Fault.TheVariants.{Start}
 use Rattle.run_core.specs.Devices.{Device}
 use Rattle.mkpasswd.specs.Faults.{parse_status, run_row}
 use Rattle.run_core.specs.Input.{Reads}
-use Rattle.run_core.specs.LineAnswers.{AreAnswers}
-use Rattle.run_core.specs.LineRuns.{lines_of}
+use Rattle.run_core.specs.LineRuns.{EndsLines}
 use Rattle.mkpasswd.specs.Options.{Plans}
 use Rattle.run_core.specs.Runs.{Finishes, RunState}
 use Rattle.run_core.specs.declared.fault.RunFault.{RunFault}
 use Rattle.run_core.specs.declared.fault.RunFault.TheVariants.{Read}
 use Rattle.mkpasswd.specs.declared.fault.UsageFault.TheVariants.{Parse}
 use Rattle.run_core.specs.declared.job.Job.{Job}
+use Rattle.run_core.specs.One.{EndsOne}
+use Rattle.run_core.specs.declared.job.PasswordFrom.{PasswordFrom}
 use Rattle.run_core.specs.declared.job.PasswordFrom.TheVariants.{Word, Input}
 use Rattle.mkpasswd.specs.declared.plan.Plan.{Plan}
 use Rattle.mkpasswd.specs.declared.plan.Plan.TheVariants.{Methods, One, Batch, Check, Audit}
@@ -51,32 +52,33 @@ module _ {I O E : Type 0} where
     status = rw is at well;
   }
 
-  by_lines : (kind : Kind) (job : Job) (bytes : List ℕ) (old new : RunState I O E) (tally : Tally) → tally_status tally ≡ 0
-      → Reads old.input new.input bytes
-      → (answers : List Answer) × (IsAtEnd new.input.shown × AreAnswers kind job job.first_line (lines_of bytes) old.stream answers)
-      × Finishes answers old new (Ok tally)
-      → SucceedsByLines kind job old new
-  by_lines kind job bytes old new tally well reads (answers, (read_out, are), finishes) =
+  one_is_done : (turns : ℕ) (job : Job) (from : PasswordFrom) (old new : RunState I O E) (tally : Tally) → tally_status tally ≡ 0
+      → EndsOne turns job from old new (Ok tally) → IsDone (One job from) old new
+  one_is_done turns job (Word password) old new tally well (same, (answers, (known, is_password, are), finishes)) = (
+    is_password,
+    same,
+    succeeds _ [] old new tally well (rw same (reads_nothing old.input)) (subst (λ (a : List Answer). Finishes a old new (Ok tally)) are finishes),
+  )
+  one_is_done turns job Input old new tally well (bytes, reads, (answers, (decided, is_password, are), finishes)) = (
+    bytes,
+    decided,
+    is_password,
+    succeeds _ bytes old new tally well reads (subst (λ (a : List Answer). Finishes a old new (Ok tally)) are finishes),
+  )
+
+  by_lines : (turns : ℕ) (kind : Kind) (job : Job) (old new : RunState I O E) (tally : Tally) → tally_status tally ≡ 0
+      → EndsLines turns kind job old new (Ok tally) → SucceedsByLines kind job old new
+  by_lines turns kind job old new tally well (bytes, reads, (answers, (read_out, are), finishes)) =
       (bytes, answers, read_out, are, succeeds answers bytes old new tally well reads finishes)
 
   is_done : (turns : ℕ) (plan : Plan) (old new : RunState I O E) (tally : Tally) → tally_status tally ≡ 0
       → Ends turns plan old new (Ok tally) → IsDone plan old new
   is_done turns Methods old new tally well (shows, same, is) =
       record { others = same; gives = shows.0 }
-  is_done turns (One job (Word password)) old new tally well ((same, (answers, (known, is_password, are), finishes)), within) = (
-    is_password,
-    same,
-    succeeds _ [] old new tally well (rw same (reads_nothing old.input)) (subst (λ (a : List Answer). Finishes a old new (Ok tally)) are finishes),
-  )
-  is_done turns (One job Input) old new tally well ((bytes, reads, (answers, (decided, is_password, are), finishes)), within) = (
-    bytes,
-    decided,
-    is_password,
-    succeeds _ bytes old new tally well reads (subst (λ (a : List Answer). Finishes a old new (Ok tally)) are finishes),
-  )
-  is_done turns (Batch job) old new tally well ((bytes, reads, ends), within) = by_lines kinds.Batch job bytes old new tally well reads ends
-  is_done turns (Check job) old new tally well ((bytes, reads, ends), within) = by_lines kinds.Check job bytes old new tally well reads ends
-  is_done turns (Audit job) old new tally well ((bytes, reads, ends), within) = by_lines kinds.Audit job bytes old new tally well reads ends
+  is_done turns (One job from) old new tally well runs = one_is_done turns job from old new tally well runs.ends
+  is_done turns (Batch job) old new tally well runs = by_lines turns kinds.Batch job old new tally well runs.ends
+  is_done turns (Check job) old new tally well runs = by_lines turns kinds.Check job old new tally well runs.ends
+  is_done turns (Audit job) old new tally well runs = by_lines turns kinds.Audit job old new tally well runs.ends
 
   of_plan : (lacks : Bool) (turns : ℕ) (plan : Plan) (words : List Text) (old new : RunState I O E) (status : ℕ) → status ≡ 0 → Plans words (Ok plan)
       → MatchBool lacks (Tells Start old new status)

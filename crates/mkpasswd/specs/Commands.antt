@@ -5,12 +5,12 @@ use Rattle.clap.specs.Words.{Text, kind_of}
 use Rattle.rand_core.specs.Stream.{Stream}
 use Rattle.mkpasswd.specs.Faults.{fault_row, parse_status}
 use Rattle.run_core.specs.Answers.{tally_of, tally_status}
-use Rattle.run_core.specs.LineRuns.{EndsLines}
+use Rattle.run_core.specs.LineRuns.{RunsLines}
 use Rattle.run_core.specs.Methods.{methods_text}
-use Rattle.run_core.specs.One.{EndsOne}
+use Rattle.run_core.specs.One.{RunsOne}
 use Rattle.mkpasswd.specs.Options.{Plans}
 use Rattle.run_core.specs.Output.{Shows}
-use Rattle.run_core.specs.Runs.{RunState, IsWithinTurns}
+use Rattle.run_core.specs.Runs.{RunState}
 use Rattle.run_core.specs.Texts.{as_line}
 use Rattle.mkpasswd.specs.declared.fault.Fault.{Fault}
 use Rattle.mkpasswd.specs.declared.fault.Fault.TheVariants.{Start, Usage, Run}
@@ -55,10 +55,10 @@ module _ {I O E : Type 0} where
   -- or hashes, checks or audits lines.
   abbrev pub Ends : ℕ → Plan → RunState I O E → RunState I O E → Result Tally RunFault → Type 0
   Ends turns Methods old new result = Prints turns methods_text old new result
-  Ends turns (One job from) old new result = EndsOne turns job from old new result × IsWithinTurns turns old new
-  Ends turns (Batch job) old new result = EndsLines turns kinds.Batch job old new result × IsWithinTurns turns old new
-  Ends turns (Check job) old new result = EndsLines turns kinds.Check job old new result × IsWithinTurns turns old new
-  Ends turns (Audit job) old new result = EndsLines turns kinds.Audit job old new result × IsWithinTurns turns old new
+  Ends turns (One job from) old new result = RunsOne turns job from old new result
+  Ends turns (Batch job) old new result = RunsLines turns kinds.Batch job old new result
+  Ends turns (Check job) old new result = RunsLines turns kinds.Check job old new result
+  Ends turns (Audit job) old new result = RunsLines turns kinds.Audit job old new result
 
   -- The command reports an error of `clap` with this exit status. If the status is 0, it writes help or the version to
   -- `out`, and reports a failure to write it. Otherwise it writes a message to `faults`, and the status is 2 even if

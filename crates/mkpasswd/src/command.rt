@@ -1,14 +1,13 @@
 //! The whole command: it plans the arguments, runs the plan, and reports errors.
-ghost use Rattle.std.specs.Prelude.{◌≡◌, ℕ, ◌^◌, ◌<◌, ◌≤◌, List, Some, is_some, map, string_bytes};
+ghost use Rattle.std.specs.Prelude.{◌≡◌, ℕ, ◌<◌, ◌≤◌, List, Some, is_some, map, string_bytes};
 ghost use Rattle.crypt_core.specs.Methods.{method_named};
 ghost use Rattle.crypt_core.specs.declared.method.Method.{Method};
 ghost use Rattle.mkpasswd.specs.Commands.{Serves, stream_in};
 ghost use Rattle.mkpasswd.specs.Corollaries.{IsNoOption, IsWhole, PrintsHash, hash_arguments};
 ghost use Rattle.mkpasswd.specs.Faults.{IsTold, fault_line, fault_row};
 ghost use Rattle.mkpasswd.specs.Private.Commands.{ErrorShown, RefusalShown, RunsOrLacks};
-ghost use Rattle.run_core.specs.Devices.{HasRoomBeforeRun, HasRoomWithinRun, turns_limit};
-ghost use Rattle.prims_core.specs.Work.{IsAtMost};
-ghost use Rattle.run_core.specs.Runs.{run_state};
+ghost use Rattle.run_core.specs.Devices.{HasRoomWithinRun, turns_limit};
+ghost use Rattle.run_core.specs.Runs.{IsReady, run_state};
 
 use crate::fault::{Fault, UsageFault};
 use crate::options::plan;
@@ -61,9 +60,7 @@ pub fn run_command<I: Read, O: Write, E: Write, R: Rng>(
     meter: &mut Meter,
     turns: u64,
 ) -> u8
-    requires turns { turns ≤ turns_limit }
-    requires devices { HasRoomBeforeRun input.old × HasRoomBeforeRun out.old × HasRoomBeforeRun faults.old }
-    requires counts { IsAtMost meter.old (2 ^ 100) }
+    requires { IsReady turns input.old out.old faults.old meter.old }
     ensures serves { Serves turns (is_some generator.old) (map string_bytes words.now)
         (run_state input.old out.old faults.old (stream_in R.stream generator.old) meter.old)
         (run_state input.new out.new faults.new (stream_in R.stream generator.new) meter.new) result }
@@ -99,9 +96,7 @@ fn run_plan<I: Read, O: Write, E: Write, R: Rng>(
     meter: &mut Meter,
     turns: u64,
 ) -> Result<Tally, Fault>
-    requires turns { turns ≤ turns_limit }
-    requires devices { HasRoomBeforeRun input.old × HasRoomBeforeRun out.old × HasRoomBeforeRun faults.old }
-    requires counts { IsAtMost meter.old (2 ^ 100) }
+    requires { IsReady turns input.old out.old faults.old meter.old }
     ensures runs { RunsOrLacks turns (is_some generator.old) plan.now
         (run_state input.old out.old faults.old (stream_in R.stream generator.old) meter.old)
         (run_state input.new out.new faults.new (stream_in R.stream generator.new) meter.new) result }

@@ -115,6 +115,22 @@ impl Meter {
         self.scratch
     }
 
+    /// Returns all the work that a meter has counted since it was new.
+    ///
+    /// Precondition: each count is below 2^64.
+    pub fn work(&self) -> Work
+        requires { IsBelow self.now (2 ^ 64) }
+        ensures { result ≡ self.now }
+    {
+        Work {
+            digests: self.digests as u64,
+            bytes: self.bytes as u64,
+            mixes: self.mixes as u64,
+            table: self.table as u64,
+            scratch: self.scratch as u64,
+        }
+    }
+
     /// Returns the counts at this moment.
     pub fn reading(&self) -> Reading
         ensures { result ≡ self.now }

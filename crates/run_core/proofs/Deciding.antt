@@ -17,6 +17,7 @@ use Rattle.crypt_core.specs.declared.method.Method.TheVariants.{Md5crypt}
 use Rattle.crypt_core.specs.declared.stored.StoredField.{StoredField}
 use Rattle.crypt_core.specs.declared.stored.StoredField.TheVariants as fields
 use Rattle.run_core.specs.Answers.{Answer, Hashing, hashing, new_hash, new_hashing}
+use Rattle.run_core.specs.Audits.{Finds}
 use Rattle.run_core.specs.JobOptions.{IsAbove, check_cost, is_outdated}
 use Rattle.run_core.specs.LineAnswers.{ComesTo, IsAnswer, IsCostly, IsPasswordAnswer, answer_of, refusal}
 use Rattle.run_core.specs.Lines.{HasParts, IsLineRefused, Parts}
@@ -24,10 +25,11 @@ use Rattle.run_core.specs.Makers.{made_cost_by}
 use Rattle.run_core.specs.Private.Answers.{IsChecked, IsSettled, field_cost}
 use Rattle.run_core.specs.Private.Lines.{HasSoundParts, IsFieldOf, IsLine}
 use Rattle.run_core.specs.declared.answer.Outcome.{Outcome}
-use Rattle.run_core.specs.declared.answer.Outcome.TheVariants.{Match, Rehashed, Misfit}
+use Rattle.run_core.specs.declared.answer.Outcome.TheVariants.{Match, Rehashed, Misfit, Audited}
+use Rattle.run_core.specs.declared.audit.Finding.{Finding}
 use Rattle.run_core.specs.declared.job.Job.{Job}
 use Rattle.run_core.specs.declared.line.Kind.{Kind}
-use Rattle.run_core.specs.declared.line.Kind.TheVariants.{Audit}
+use Rattle.run_core.specs.declared.line.Kind.TheVariants.{Batch, Check, Audit}
 use Rattle.run_core.specs.declared.line.LineFault.{LineFault}
 use Rattle.run_core.proofs.Cuts.{parts_unique}
 
@@ -189,6 +191,15 @@ pub password_answer : (kind : Kind) (job : Job) (number : ℕ) (line : List ℕ)
     → IsPasswordAnswer kind job number line stream answer → IsAnswer kind job number line stream answer
 password_answer Audit job number line stream answer other is = absurd (other refl)
 password_answer kind job number line stream answer other is = is
+
+-- one that is gets the finding of its field
+pub audit_answer : (kind : Kind) (job : Job) (number : ℕ) (line : List ℕ) (stream : Stream) (name field : List ℕ) (finding : Finding) → kind ≡ Audit
+    → HasSoundParts kind line (parts_with name [] (Some field)) → Finds job field finding
+    → IsAnswer kind job number line stream (answer_of job name (Audited finding) [])
+audit_answer Audit job number line stream name field finding is taken finds =
+    inr (taken.sound, parts_with name [] (Some field), taken.cut, field, refl, finding, finds, refl)
+audit_answer Batch job number line stream name field finding is taken finds = absurd cc
+audit_answer Check job number line stream name field finding is taken finds = absurd cc
 
 pub decided : (kind : Kind) (job : Job) (number : ℕ) (line : List ℕ) (stream : Stream) (name password : List ℕ) (stored : Option StoredField)
     (hashings : List Hashing) (outcome : Outcome) → IsLine kind line name password stored

@@ -16,12 +16,11 @@ use Rattle.run_core.specs.JobOptions.{without_budget, without_rehash, IsAbove, c
 use Rattle.run_core.specs.LineAnswers.{ComesTo, HasSetting, IsCostly, IsPasswordAnswer, refusal}
 use Rattle.run_core.specs.LineOptions.{Foresees, IsRenewable, OnlyRefuses, OnlyRenews, RenewsNone}
 use Rattle.run_core.specs.Lines.{HasParts, IsSound, Parts}
-use Rattle.run_core.specs.One.{EndsOne}
-use Rattle.run_core.specs.Runs.{RunState}
+use Rattle.run_core.specs.One.{EndsOne, RunsOne}
+use Rattle.run_core.specs.Runs.{IsWithinTurns, RunState}
 use Rattle.run_core.specs.declared.answer.Outcome.{Outcome}
 use Rattle.run_core.specs.declared.answer.Outcome.TheVariants.{Hashed, Match, Rehashed, Misfit, NoHash, Locked, Audited}
-use Rattle.run_core.specs.declared.audit.Finding.TheVariants.{Hash}
-use Rattle.run_core.specs.declared.audit.Standing.TheVariants.{Current, Outdated, OverBudget}
+use Rattle.run_core.specs.declared.audit.Standing.TheVariants.{OverBudget}
 use Rattle.run_core.specs.declared.fault.RunFault.{RunFault}
 use Rattle.run_core.specs.declared.job.Job.{Job}
 use Rattle.run_core.specs.declared.job.PasswordFrom.{PasswordFrom}
@@ -79,10 +78,18 @@ only_refuses kind job unaudited = record {
 -- ---- a single password
 
 -- its run ends as without what only lines have
-pub unoptioned : {I O E : Type 0} (turns : ℕ) (job : Job) (from : PasswordFrom) (old new : RunState I O E) (result : Result Tally RunFault)
+unoptioned : {I O E : Type 0} (turns : ℕ) (job : Job) (from : PasswordFrom) (old new : RunState I O E) (result : Result Tally RunFault)
     → EndsOne turns job from old new result → EndsOne turns (without_rehash (without_budget job)) from old new result
 unoptioned turns job (Word word) old new result ends = ends
 unoptioned turns job Input old new result ends = ends
+
+pub runs_one : {I O E : Type 0} (turns : ℕ) (job : Job) (from : PasswordFrom) (old new : RunState I O E) (result : Result Tally RunFault)
+    → EndsOne turns job from old new result → IsWithinTurns turns old new → RunsOne turns job from old new result
+runs_one turns job from old new result ends within = record {
+  ends = ends;
+  options = unoptioned turns job from old new result ends;
+  within_turns = within;
+}
 
 -- ---- new hashes
 

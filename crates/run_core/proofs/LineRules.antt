@@ -3,7 +3,7 @@ use Rattle.std.proofs.Common.{◌≡◌, ℕ, ◌≤◌, ◌<◌, List, [], ◌�
 use Rattle.std.proofs.lemmas.Bool.{cases_order}
 use Rattle.std.proofs.lemmas.List.{nil_from_length}
 use Rattle.crypt_core.specs.Passwords.{IsPassword, IsPasswordRefused, password_faults, password_limit}
-use Rattle.std.specs.Prelude.{◌≢◌, Ok, Err}
+use Rattle.std.specs.Prelude.{◌≢◌, Result, Ok, Err}
 use Rattle.crypt_core.specs.Readings.{IsFieldReading, IsReadOneWay}
 use Rattle.crypt_core.specs.Refusals.{FailsStage, IsRefused, setting_faults}
 use Rattle.crypt_core.specs.Rules.{IsFirstBroken}
@@ -15,11 +15,14 @@ use Rattle.crypt_core.specs.declared.password.PasswordFault.TheVariants.{TooLong
 use Rattle.crypt_core.specs.declared.setting.fault.SettingFault.{SettingFault}
 use Rattle.run_core.specs.Texts.{colon}
 use Rattle.run_core.specs.Lines.{BreaksLine, HasFront, HasParts, IsLineRefused, IsSound, Parts, line_faults, line_limit, name_limit}
-use Rattle.run_core.specs.Private.Lines.{HasBehind, HasSoundParts, IsCutOrWhole, IsGoodName, IsNamed, IsTooLong, LacksParts, account_parts}
+use Rattle.run_core.specs.Private.Lines.{HasBehind, HasSoundParts, HasTask, IsCutOrWhole, IsGoodName, IsNamed, IsTaskReading, IsTooLong, LacksParts, Parses}
 use Rattle.run_core.specs.declared.line.Kind.{Kind}
 use Rattle.run_core.specs.declared.line.Kind.TheVariants.{Batch, Check, Audit}
+use Rattle.run_core.specs.declared.line.Line.{Line}
 use Rattle.run_core.specs.declared.line.LineFault.{LineFault}
 use Rattle.run_core.specs.declared.line.LineFault.TheVariants.{LineTooLong, NoName, NameTooLong, NoPassword, Password, Setting, OverBudget}
+use Rattle.run_core.specs.declared.line.Task.{Task}
+use Rattle.run_core.specs.declared.line.Task.TheVariants as tasks
 use Rattle.crypt_core.proofs.Rules.{first_breaks, first_mapped, first_unique}
 use Rattle.run_core.proofs.Cuts.{cut_unique, cut_has_colon, name_unique, parts_unique}
 
@@ -193,13 +196,10 @@ taken_with_field kind line parts field stored entry is one read = record {
   cut = entry.cut;
 }
 
--- a line to audit is an entry by its name alone
-pub taken_account : (line name back field : List ℕ) → IsNamed line name (Some back) → HasFront back field
-    → HasSoundParts Audit line (account_parts name field)
-taken_account line name back field named front =
-    let entry : IsEntry Audit line (account_parts name field) =
-    entry_from_behind Audit line name (Some back) (Some field) [] named (back, field, refl, front, refl, refl) (omega arith, λ has. omega (arith, has.1)) in
-    record { sound = sound_entry Audit line (account_parts name field) entry (λ fault other unaudited some refused. absurd (unaudited refl)); cut = entry.cut }
+-- the field of a line to audit breaks no rule of the line
+pub taken_to_audit : (kind : Kind) (line : List ℕ) (parts : Parts) → kind ≡ Audit → IsEntry kind line parts → HasSoundParts kind line parts
+taken_to_audit kind line parts audited entry =
+    record { sound = sound_entry kind line parts entry (λ fault other unaudited some refused. absurd (unaudited audited)); cut = entry.cut }
 
 -- the first rule that its field breaks as a setting is the first that an entry breaks
 pub refused_field : (kind : Kind) (line : List ℕ) (parts : Parts) (field : List ℕ) (fault : SettingFault) → kind ≢ Audit → IsEntry kind line parts
@@ -233,6 +233,46 @@ refusal_unique kind line = first_unique line_faults (λ broken. BreaksLine kind 
 pub sound_not_refused : (kind : Kind) (line : List ℕ) (fault : LineFault) → IsSound kind line → IsLineRefused kind line fault → ⊥
 unfolding IsLineRefused
 sound_not_refused kind line fault sound refused = sound fault (first_breaks line_faults (λ broken. BreaksLine kind broken line) fault refused)
+
+-- ---- a line, by its name and what follows it
+
+pub parsed : (kind : Kind) (line : List ℕ) (name : List ℕ) (back : Option (List ℕ)) (task : Task) → IsNamed line name back → IsTaskReading kind back (Ok task)
+    → HasTask kind line name task
+parsed kind line name back (tasks.Password password None) named (unaudited, None, behind, is_password, field_of) = record {
+  unaudited = unaudited;
+  field = None;
+  taken = taken_without_field kind line _ (entry_from_behind kind line name back None password named behind is_password) refl;
+  field_of = tt;
+}
+parsed kind line name back (tasks.Password password None) named (unaudited, Some field, behind, is_password, field_of) = absurd field_of
+parsed kind line name back (tasks.Password password (Some stored)) named (unaudited, None, behind, is_password, field_of) = absurd field_of
+parsed kind line name back (tasks.Password password (Some stored)) named (unaudited, Some field, behind, is_password, field_of) = record {
+  unaudited = unaudited;
+  field = Some field;
+  taken = taken_with_field kind line _ field stored (entry_from_behind kind line name back (Some field) password named behind is_password) refl field_of.1 field_of.0;
+  field_of = field_of;
+}
+parsed kind line name back (tasks.Audit field) named (audited, behind) =
+    (audited, taken_to_audit kind line _ audited (entry_from_behind kind line name back (Some field.now) [] named behind (omega arith, λ some. omega (arith, some.1))))
+
+pub refused_parsing : (kind : Kind) (line : List ℕ) (name : List ℕ) (back : Option (List ℕ)) (fault : LineFault) → IsNamed line name back
+    → IsTaskReading kind back (Err fault) → IsLineRefused kind line fault
+refused_parsing kind line name back NoPassword named lacks = refused_without_parts kind line name back named lacks
+refused_parsing kind line name back (Password fault) named (field, password, behind, refused) =
+    refused_password kind line name back field password fault named behind refused
+refused_parsing kind line name back (Setting fault) named (unaudited, field, password, behind, is_password, stored, refused) =
+    refused_field kind line _ field fault unaudited (entry_from_behind kind line name back (Some field) password named behind is_password) refl (stored, refused)
+refused_parsing kind line name back fault named never = absurd never
+
+-- a parser that finds a refusal finds the only one
+pub refused_once : (kind : Kind) (line : List ℕ) (result : Result Line LineFault) (fault : LineFault) → Parses kind line result
+    → IsLineRefused kind line fault → result ≡ Err fault
+refused_once kind line (Err other) fault refused also = ap Err (refusal_unique kind line other fault refused also)
+refused_once kind line (Ok found) fault parses refused = absurd (go found.task parses)
+  where
+    go : (task : Task) → HasTask kind line found.name.now task → ⊥
+    go (tasks.Password password stored) is = sound_not_refused kind line fault is.taken.sound refused
+    go (tasks.Audit field) is = sound_not_refused kind line fault is.1.sound refused
 
 -- ---- a line that is too long
 

@@ -9,7 +9,7 @@ use Rattle.run_core.specs.Answers.{Answer, IsRefusedAmong, after_work, fault_tex
 use Rattle.run_core.specs.DeviceCalls.{as_count}
 use Rattle.run_core.specs.Devices.{Device, HasRoomBeforeRun, MovesBytes, turns_limit}
 use Rattle.run_core.specs.LineAnswers.{AreAnswers, IsAnswer}
-use Rattle.run_core.specs.LineRuns.{EndsLines, HasLines, lines_of, piece_size}
+use Rattle.run_core.specs.LineRuns.{RunsLines, HasLines, lines_of, piece_size}
 use Rattle.run_core.specs.Output.{Takes, TakesFront}
 use Rattle.run_core.specs.Private.Answers.{IsRaisedBelow, Renders, counted, outcome_of}
 use Rattle.run_core.specs.Private.Deliveries.{FinishesBoth, IsFinished, IsKept, IsUnfinished, Sends}
@@ -195,9 +195,6 @@ module _ {I O E : Type 0} where
 -- A run that called `next_line`: `input` is left, with this number of I/O calls.
 module _ {I O E : Type 0} {turns : ℕ} {kind : Kind} {job : Job} {start old : RunState I O E} {reader : LineReader} {tally : Tally} {left : ℕ}
     (is : IsRunning turns kind job start old reader tally left) (input : Device I) (mid : ℕ) (read_calls : input.calls + mid ≡ old.input.calls + left) where
-  abbrev Ends : RunState I O E → Result Tally RunFault → Type 0
-  Ends new result = EndsLines turns kind job start new result × IsWithinTurns turns start new
-
   -- all calls by then, and those of the outputs
   ends-within : (new_left : ℕ) (new : RunState I O E) → MovesBytes 1 start.input new.input → MovesBytes 0 old.out new.out → MovesBytes 0 old.faults new.faults
       → failures_of new ≤ failures_of start + 1 → new.input.calls ≡ input.calls
@@ -208,12 +205,16 @@ module _ {I O E : Type 0} {turns : ℕ} {kind : Kind} {job : Job} {start old : R
       (moves-trans 0 start.out old.out new.out is.out_moves out) (moves-trans 0 start.faults old.faults new.faults is.faults_moves faults)
 
   -- it stopped while it read
-  pub ends-reading : (fault : RunFault) → HasStopped mid start.input input is.lines fault → Ends (run_state input old.out old.faults old.stream old.counts) (Err fault)
+  pub ends-reading : (fault : RunFault) → HasStopped mid start.input input is.lines fault → RunsLines turns kind job start (run_state input old.out old.faults old.stream old.counts) (Err fault)
   ends-reading fault stop =
       let now = run_state input old.out old.faults old.stream old.counts in
       let takes = is.answered.takes in
-      let calls = is.calls in (
-        (
+      let calls = is.calls in
+      let once = stops-once mid start.input input fault stop.stops in
+      let of_out = takes.text.failed in
+      let of_faults = takes.fault_text.failed in
+      record {
+        ends = (
           stop.bytes,
           stop.reads,
           inr (inl (
@@ -232,12 +233,10 @@ module _ {I O E : Type 0} {turns : ℕ} {kind : Kind} {job : Job} {start old : R
               ],
             ),
           )),
-        ),
-        (let once = stops-once mid start.input input fault stop.stops in
-            let out = takes.text.failed in
-            let faults = takes.fault_text.failed in
-            ends-within mid now (moves-one false start.input input stop.stops.0) (moves-none old.out) (moves-none old.faults) (omega (arith, once, out, faults)) refl refl),
-      )
+        );
+        within_turns = ends-within mid now (moves-one false start.input input stop.stops.0) (moves-none old.out) (moves-none old.faults)
+            (omega (arith, once, of_out, of_faults)) refl refl;
+      }
 
   -- all lines are answered
   all-answered : (next : LineReader) (given : HasGiven start.input input next is.lines) → next.at_end ≡ true
@@ -265,24 +264,26 @@ module _ {I O E : Type 0} {turns : ℕ} {kind : Kind} {job : Job} {start old : R
   -- and both outputs flushed
   pub ends-flushed : (next : LineReader) (out : Device O) (faults : Device E) {A : Type 0} (done : A) (more : Bool) → more ≡ false
       → GivesNext mid start.input input next is.lines (Ok more)
-      → FinishesBoth old.out old.faults out faults (Ok done) → Ends (run_state input out faults old.stream old.counts) (Ok tally)
+      → FinishesBoth old.out old.faults out faults (Ok done) → RunsLines turns kind job start (run_state input out faults old.stream old.counts) (Ok tally)
   ends-flushed next out faults done true none gives flushes = absurd (cc)
   ends-flushed next out faults done false none (at_end, given) flushes =
-      let all = all-answered next given at_end in (
-        (given.bytes, given.reads, (is.answers, all.0, finishes is.answers start _ out faults tally done all.1 is.tallied flushes)),
-        flushed-within next out faults (Ok done) given flushes,
-      )
+      let all = all-answered next given at_end in
+      record {
+        ends = (given.bytes, given.reads, (is.answers, all.0, finishes is.answers start _ out faults tally done all.1 is.tallied flushes));
+        within_turns = flushed-within next out faults (Ok done) given flushes;
+      }
 
   -- or a flush failed
   pub ends-unflushed : (next : LineReader) (out : Device O) (faults : Device E) (A : Type 0) (fault : RunFault) (more : Bool) → more ≡ false
       → GivesNext mid start.input input next is.lines (Ok more)
-      → FinishesBoth old.out old.faults out faults {A = A} (Err fault) → Ends (run_state input out faults old.stream old.counts) (Err fault)
+      → FinishesBoth old.out old.faults out faults {A = A} (Err fault) → RunsLines turns kind job start (run_state input out faults old.stream old.counts) (Err fault)
   ends-unflushed next out faults A fault true none gives flushes = absurd (cc)
   ends-unflushed next out faults A fault false none (at_end, given) flushes =
-      let all = all-answered next given at_end in (
-        (given.bytes, given.reads, inl (is.answers, all.0, finishes-with_fault is.answers start _ out faults A fault all.1 flushes)),
-        flushed-within next out faults {A = A} (Err fault) given flushes,
-      )
+      let all = all-answered next given at_end in
+      record {
+        ends = (given.bytes, given.reads, inl (is.answers, all.0, finishes-with_fault is.answers start _ out faults A fault all.1 flushes));
+        within_turns = flushed-within next out faults {A = A} (Err fault) given flushes;
+      }
 
 -- a line was given
 pub given-line : {I : Type 0} (left : ℕ) (start now : Device I) (reader : LineReader) (lines : List (List ℕ)) (more : Bool) → more ≡ true
@@ -310,13 +311,13 @@ module _ {I O E : Type 0} {turns : ℕ} {kind : Kind} {job : Job} {start old : R
 
   -- scrypt could not allocate for it
   pub ends-unanswered : (stream : Stream) (counts : Work) → IsRefusedAmong old.counts answer.hashings counts stream
-      → EndsLines turns kind job start (run_state input old.out old.faults stream counts) (Err OutOfMemory)
-      × IsWithinTurns turns start (run_state input old.out old.faults stream counts)
+      → RunsLines turns kind job start (run_state input old.out old.faults stream counts) (Err OutOfMemory)
   ends-unanswered stream counts refused =
       let unfailed = given.unfailed in
       let of_out = is.answered.takes.text.failed in
-      let of_faults = is.answered.takes.fault_text.failed in (
-        (
+      let of_faults = is.answered.takes.fault_text.failed in
+      record {
+        ends = (
           given.bytes,
           given.reads,
           inr (inr (inl (
@@ -329,10 +330,10 @@ module _ {I O E : Type 0} {turns : ℕ} {kind : Kind} {job : Job} {start old : R
               subst (λ (work : Work). IsRefusedAmong work answer.hashings counts stream) is.answered.after.counts refused,
             )),
           ))),
-        ),
-        ends-within is input mid read_calls mid _ (moves-one next.at_end start.input input given.moves)
-            (moves-none old.out) (moves-none old.faults) (omega (arith, unfailed, of_out, of_faults)) refl refl,
-      )
+        );
+        within_turns = ends-within is input mid read_calls mid _ (moves-one next.at_end start.input input given.moves)
+            (moves-none old.out) (moves-none old.faults) (omega (arith, unfailed, of_out, of_faults)) refl refl;
+      }
 
   -- it was written in part
   pub ends-unsent : (out : Device O) (faults : Device E) (stream : Stream) (counts : Work) (new_left : ℕ) (A : Type 0) (fault : RunFault)
@@ -340,8 +341,7 @@ module _ {I O E : Type 0} {turns : ℕ} {kind : Kind} {job : Job} {start old : R
       → Sends new_left answer old.out old.faults out faults {A = A} (Err fault)
       → MovesBytes 0 old.out out → MovesBytes 0 old.faults faults → out.failures + faults.failures ≤ old.out.failures + old.faults.failures + 1
       → out.calls + faults.calls + new_left ≡ old.out.calls + old.faults.calls + mid
-      → EndsLines turns kind job start (run_state input out faults stream counts) (Err fault)
-      × IsWithinTurns turns start (run_state input out faults stream counts)
+      → RunsLines turns kind job start (run_state input out faults stream counts) (Err fault)
   ends-unsent out faults stream counts new_left A fault stream_is counts_is sends out_moves faults_moves once calls =
       let new = run_state input out faults stream counts in
       let takes = is.answered.takes in
@@ -349,8 +349,9 @@ module _ {I O E : Type 0} {turns : ℕ} {kind : Kind} {job : Job} {start old : R
       let of_out = takes.text.failed in
       let of_faults = takes.fault_text.failed in
       let before = is.calls in
-      let after = after-push new stream_is counts_is in (
-        (
+      let after = after-push new stream_is counts_is in
+      record {
+        ends = (
           given.bytes,
           given.reads,
           inr (inr (inl (
@@ -369,10 +370,10 @@ module _ {I O E : Type 0} {turns : ℕ} {kind : Kind} {job : Job} {start old : R
               ))
             ],
           ))),
-        ),
-        ends-within is input mid read_calls new_left new (moves-one next.at_end start.input input given.moves)
-            out_moves faults_moves (omega (arith, unfailed, of_out, of_faults, once)) refl calls,
-      )
+        );
+        within_turns = ends-within is input mid read_calls new_left new (moves-one next.at_end start.input input given.moves)
+            out_moves faults_moves (omega (arith, unfailed, of_out, of_faults, once)) refl calls;
+      }
 
   -- it was written
   pub running-answered : (out : Device O) (faults : Device E) (stream : Stream) (counts : Work) (new_left : ℕ) (new_tally : Tally) {A : Type 0} (done : A)

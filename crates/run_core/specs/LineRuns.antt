@@ -4,7 +4,7 @@ use Rattle.std.specs.List.{slice_split, AllByRecursion}
 use Rattle.std.specs.Io.KnownBytes.{IsAtEnd}
 use Rattle.run_core.specs.Input.{Reads}
 use Rattle.run_core.specs.LineAnswers.{AreAnswers}
-use Rattle.run_core.specs.Runs.{EndsBy, RunState}
+use Rattle.run_core.specs.Runs.{EndsBy, IsWithinTurns, RunState}
 use Rattle.run_core.specs.Texts.{HasNoLineFeed, line_feed}
 use Rattle.run_core.specs.declared.fault.RunFault.{RunFault}
 use Rattle.run_core.specs.declared.job.Job.{Job}
@@ -44,3 +44,8 @@ EndsLines turns kind job old new result = (bytes : List ℕ) × Reads old.input 
     (λ answers. (lines : List (List ℕ)) × AreAnswers kind job job.first_line lines old.stream answers
     × (((rest : List ℕ) × HasLines bytes lines rest × (length rest < piece_size)) ⊎ (IsAtEnd new.input.shown × (lines ≡ lines_of bytes))))
     (λ fault. ⊥) turns old new result
+
+-- RunsLines turns kind job old new result: the run over lines ends with this result, and within `turns` I/O calls.
+pub record RunsLines {I O E : Type 0} (turns : ℕ) (kind : Kind) (job : Job) (old new : RunState I O E) (result : Result Tally RunFault) : Type 0 where
+  pub ends : EndsLines turns kind job old new result
+  pub within_turns : IsWithinTurns turns old new

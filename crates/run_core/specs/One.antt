@@ -2,8 +2,9 @@
 use Rattle.std.specs.Prelude.{◌≡◌, ℕ, ◌≤◌, List, [], ◌∷◌, length, ⊤, Result}
 use Rattle.crypt_core.specs.Passwords.{IsPassword, IsPasswordRefused, password_limit}
 use Rattle.run_core.specs.Answers.{password_answer}
+use Rattle.run_core.specs.JobOptions.{without_budget, without_rehash}
 use Rattle.run_core.specs.Input.{first_line, IsDecided, Reads}
-use Rattle.run_core.specs.Runs.{EndsBy, RunState}
+use Rattle.run_core.specs.Runs.{EndsBy, IsWithinTurns, RunState}
 use Rattle.run_core.specs.Texts.{HasNoLineFeed}
 use Rattle.run_core.specs.declared.fault.RunFault.{RunFault}
 use Rattle.run_core.specs.declared.job.Job.{Job}
@@ -30,3 +31,10 @@ abbrev pub EndsOne : {I O E : Type 0} → ℕ → Job → PasswordFrom → RunSt
 EndsOne turns job (Word word) old new result = (new.input ≡ old.input) × EndsPassword ⊤ ⊥ turns job word.items old new result
 EndsOne turns job Input old new result = (bytes : List ℕ) × Reads old.input new.input bytes
     × EndsPassword (IsDecided new.input bytes) (HasNoLineFeed bytes × (length bytes ≤ password_limit)) turns job (first_line bytes) old new result
+
+-- RunsOne turns job from old new result: the run for one password ends with this result, and within `turns` I/O calls. A
+-- budget and rehashes make no difference.
+pub record RunsOne {I O E : Type 0} (turns : ℕ) (job : Job) (from : PasswordFrom) (old new : RunState I O E) (result : Result Tally RunFault) : Type 0 where
+  pub ends : EndsOne turns job from old new result
+  pub options : EndsOne turns (without_rehash (without_budget job)) from old new result
+  pub within_turns : IsWithinTurns turns old new

@@ -1,11 +1,12 @@
 -- The effect of a run on its three devices, the random numbers of its generator and its meter. The answers are
 -- arguments: those that the run wrote in full, and the one at which it stopped.
-use Rattle.std.specs.Prelude.{◌≡◌, ℕ, ◌+◌, ◌≤◌, ◌⊎◌, List, [], ◌∷◌, ◌++◌, MatchBool, Result, Ok, Err}
+use Rattle.std.specs.Prelude.{◌≡◌, ℕ, ◌+◌, ◌^◌, ◌≤◌, ◌⊎◌, List, [], ◌∷◌, ◌++◌, MatchBool, Result, Ok, Err}
 use Rattle.rand_core.specs.Stream.{Stream}
+use Rattle.prims_core.specs.Work.{IsAtMost}
 use Rattle.prims_core.specs.declared.meter.Work.{Work}
 use Rattle.crypt_core.specs.declared.password.PasswordFault.{PasswordFault}
 use Rattle.run_core.specs.Answers.{Answer, Hashing, IsRefusedAmong, after_work, fault_texts, hashings_of, is_refusal, stream_left, tally_of, texts}
-use Rattle.run_core.specs.Devices.{Device, MovesBytes}
+use Rattle.run_core.specs.Devices.{Device, HasRoomBeforeRun, MovesBytes, turns_limit}
 use Rattle.run_core.specs.Output.{Takes, TakesFront}
 use Rattle.run_core.specs.declared.fault.RunFault.{RunFault}
 use Rattle.run_core.specs.declared.fault.RunFault.TheVariants.{Read, Write, OutOfMemory, Turns, Password}
@@ -23,6 +24,13 @@ pub record RunState (I O E : Type 0) : Type 0 where
 -- run_state input out faults stream counts is the `RunState` with these parts.
 abbrev pub run_state : {I O E : Type 0} → Device I → Device O → Device E → Stream → Work → RunState I O E
 run_state input out faults stream counts = record { input = input; out = out; faults = faults; stream = stream; counts = counts }
+
+-- IsReady turns input out faults counts: a run can begin. It may make this number of I/O calls, and the counts of its
+-- devices and of its meter have room for it.
+pub record IsReady {I O E : Type 0} (turns : ℕ) (input : Device I) (out : Device O) (faults : Device E) (counts : Work) : Type 0 where
+  pub limit : turns ≤ turns_limit
+  pub devices : HasRoomBeforeRun input × HasRoomBeforeRun out × HasRoomBeforeRun faults
+  pub meter : IsAtMost counts (2 ^ 100)
 
 -- TakeInPart failures done next out faults new_out new_faults: the outputs have taken the answers `done`, and one of
 -- them has then taken a proper prefix of `next`. Exactly `failures` calls of that output failed, and none of the other.

@@ -10,7 +10,7 @@ ghost use Rattle.prims_core.specs.Work.{IsWithin};
 ghost use Rattle.run_core.specs.Answers.{Answer, is_misfit, new_hash, rendered, shows_work, work_text};
 ghost use Rattle.run_core.specs.Audits.{finding_text};
 ghost use Rattle.run_core.specs.JobOptions.{IsAbove};
-ghost use Rattle.run_core.specs.LineAnswers.{IsAuditAnswer, refusal};
+ghost use Rattle.run_core.specs.LineAnswers.{refusal};
 ghost use Rattle.run_core.specs.Lines.{name_limit};
 ghost use Rattle.run_core.specs.Makers.{bytes_of, next_setting, stream_after};
 ghost use Rattle.run_core.specs.Private.Answers.{Decides, IsRaisedBelow, Renders, Settles, count_text, field_cost, front_by, wanted_text};
@@ -20,7 +20,7 @@ ghost use Rattle.run_core.specs.Texts.{as_line};
 
 use crate::audit::{Finding, audit};
 use crate::job::Job;
-use crate::line::{Kind, Line, LineFault, NAME_LIMIT, parse_account, parse_line};
+use crate::line::{Kind, LineFault, NAME_LIMIT, Task, parse_line};
 use crate::reader::buffer::LineBuffer;
 use arrayvec::ArrayVec;
 use crypt_core::hash::{HASH_LIMIT, HashFault, Hashed, hash};
@@ -124,21 +124,25 @@ pub(crate) fn answer_line<'a, R: Rng>(
     ensures short { IfOk result (λ answer. IfOk answer (λ answered. length answered.name.now ≤ name_limit)) }
     ensures small { IsRaisedBelow line_work_limit meter.old meter.new }
 {
-    let LineBuffer::Bytes(bytes) = line else {
-        return Ok(Err(LineFault::LineTooLong));
-    };
-    if kind.is_audit() {
-        return Ok(audit_line(job, bytes.as_slice()));
-    }
-    let line = match parse_line(kind, bytes.as_slice()) {
+    let line = match parse_line(kind, line) {
         Ok(line) => line,
         Err(fault) => return Ok(Err(fault)),
     };
-    if is_over_budget(job, &line) {
+    let (password, field) = match &line.task {
+        Task::Password(password, field) => (password, field),
+        Task::Audit(field) => {
+            return Ok(Ok(Answered {
+                name: line.name,
+                outcome: Outcome::Audited(audit(job, field)),
+                work: NO_WORK,
+            }));
+        }
+    };
+    if is_over_budget(job, password, field) {
         return Ok(Err(LineFault::OverBudget));
     }
     let before = meter.reading();
-    let outcome = outcome_of(alloc, job, &line, rng, meter)?;
+    let outcome = outcome_of(alloc, job, password, field, rng, meter)?;
     Ok(Ok(Answered {
         name: line.name,
         outcome,
@@ -146,37 +150,21 @@ pub(crate) fn answer_line<'a, R: Rng>(
     }))
 }
 
-// Decides the answer to a line to audit, or the reason for its refusal.
-fn audit_line<'a>(job: &Job, bytes: &'a [u8]) -> Result<Answered<'a>, LineFault>
-    ensures audits { (number : ℕ) → (next : Answer) × IsAuditAnswer job.now number bytes.now next
-        × Renders job.now number result next × (next.hashings ≡ []) }
-    ensures short { IfOk result (λ answered. length answered.name.now ≤ name_limit) }
-{
-    match parse_account(bytes) {
-        Ok(account) => Ok(Answered {
-            name: account.name,
-            outcome: Outcome::Audited(audit(job, account.field)),
-            work: NO_WORK,
-        }),
-        Err(fault) => Err(fault),
-    }
-}
-
 // Returns whether the line can cost more than the budget.
-fn is_over_budget(job: &Job, line: &Line<'_>) -> bool
-    requires { length line.now.password ≤ password_limit }
-    ensures { IsTrue result ↔ IsAbove job.now.budget (field_cost job.now line.now.field (length line.now.password)) }
+fn is_over_budget(job: &Job, password: &Password, field: &Option<StoredField<'_>>) -> bool
+    requires { length password.now ≤ password_limit }
+    ensures { IsTrue result ↔ IsAbove job.now.budget (field_cost job.now field.now (length password.now)) }
 {
-    job.is_exceeded_by(cost_of(job, line))
+    job.is_exceeded_by(cost_of(job, password, field))
 }
 
 // Returns the greatest cost of the hashes for the line.
-fn cost_of(job: &Job, line: &Line<'_>) -> u64
-    requires { length line.now.password ≤ password_limit }
-    ensures { result ≡ field_cost job.now line.now.field (length line.now.password) }
+fn cost_of(job: &Job, password: &Password, field: &Option<StoredField<'_>>) -> u64
+    requires { length password.now ≤ password_limit }
+    ensures { result ≡ field_cost job.now field.now (length password.now) }
 {
-    let password_len = line.password.bytes().len();
-    match &line.field {
+    let password_len = password.bytes().len();
+    match field {
         None => job.maker.cost(password_len),
         Some(StoredField::Empty | StoredField::Locked) => 0,
         Some(StoredField::Hash(stored)) => {
@@ -195,17 +183,17 @@ fn cost_of(job: &Job, line: &Line<'_>) -> u64
 fn outcome_of<R: Rng>(
     alloc: Global,
     job: &Job,
-    line: &Line<'_>,
+    password: &Password,
+    field: &Option<StoredField<'_>>,
     rng: &mut R,
     meter: &mut Meter,
 ) -> Result<Outcome, HashFault>
     requires { HasCountsForLine meter.old }
-    ensures settles { Settles job.now line.now.password line.now.field (R.stream rng.old) meter.old meter.new (R.stream rng.new) result }
+    ensures settles { Settles job.now password.now field.now (R.stream rng.old) meter.old meter.new (R.stream rng.new) result }
     ensures rises { IsWithin meter.old meter.new }
     ensures small { IsRaisedBelow line_work_limit meter.old meter.new }
 {
-    let password = &line.password;
-    let Some(field) = &line.field else {
+    let Some(field) = field else {
         return Ok(Outcome::Hashed(make_hash(alloc, job, password, rng, meter)?));
     };
     let stored = match field {
@@ -213,7 +201,7 @@ fn outcome_of<R: Rng>(
         StoredField::Locked => return Ok(Outcome::Locked),
         StoredField::Hash(stored) => stored,
     };
-    if !stored.fits(alloc, password, meter)? {
+    if !stored.fits(&alloc, password, meter)? {
         return Ok(Outcome::Misfit);
     }
     if !job.renews(stored) {

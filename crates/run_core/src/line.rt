@@ -1,14 +1,15 @@
 //! Lines of an input, `name:password` to hash, `name:field:password` to check or `name:field` to audit, and the first
 //! rule that a line breaks.
-ghost use Rattle.std.specs.Prelude.{◌≡◌, ◌≢◌, ◌↔◌, ◌<◌, ◌≤◌, length, Err, Some, IfSome, IfNone, MatchOption, IfOk, IfErr, IsTrue, Contains};
+ghost use Rattle.std.specs.Prelude.{◌≡◌, ℕ, ◌≤◌, List, length, Some, IfSome, IfNone, MatchOption, IfOk, IfErr, Contains};
 ghost use Rattle.run_core.specs.Lines.{IsCut, IsLineRefused, IsSound, name_limit};
 ghost use Rattle.run_core.specs.Texts.{colon};
 ghost use Rattle.run_core.specs.Makers.{bytes_of};
-ghost use Rattle.run_core.specs.Private.Lines.{HasBehind, HasSoundParts, IsCutOrWhole, IsLine, IsNamed, LacksParts, account_parts};
+ghost use Rattle.run_core.specs.Private.Lines.{IsCutOrWhole, IsNamed, IsTaskReading, Parses, Represents};
 ghost use Rattle.run_core.specs.declared.line.Kind.{Kind as LineKind};
-ghost use Rattle.run_core.specs.declared.line.Kind.TheVariants.{Audit};
 ghost use Rattle.run_core.specs.declared.line.LineFault.{LineFault as Refusal};
 
+use crate::reader::buffer::LineBuffer;
+use arrayvec::ArrayVec;
 use crypt_core::password::{Password, PasswordFault};
 use crypt_core::setting::SettingFault;
 use crypt_core::stored::StoredField;
@@ -29,15 +30,6 @@ pub enum Kind {
     Check,
     /// It audits the field of `name:field`, or of `name:field:` and anything.
     Audit,
-}
-
-impl Kind {
-    /// Returns whether the run audits.
-    pub(crate) fn is_audit(self) -> bool
-        ensures { IsTrue result ↔ (self ≡ Audit) }
-    {
-        matches!(self, Kind::Audit)
-    }
 }
 
 /// The first rule that a line breaks, in this order.
@@ -79,6 +71,26 @@ impl LineFault {
     }
 }
 
+impl From<PasswordFault> for LineFault {
+    ghost use Rattle.run_core.specs.declared.line.LineFault.TheVariants.{Password};
+
+    ghost from_gives = { λ fault outer. outer ≡ Password fault };
+
+    fn from(fault: PasswordFault) -> LineFault {
+        LineFault::Password(fault)
+    }
+}
+
+impl From<SettingFault> for LineFault {
+    ghost use Rattle.run_core.specs.declared.line.LineFault.TheVariants.{Setting};
+
+    ghost from_gives = { λ fault outer. outer ≡ Setting fault };
+
+    fn from(fault: SettingFault) -> LineFault {
+        LineFault::Setting(fault)
+    }
+}
+
 /// Returns the first rule that a line breaks, or `None` if it breaks none.
 ///
 /// `line` has no line feed. The password is checked before the field. An empty or locked field is valid, whatever else
@@ -92,99 +104,50 @@ pub fn inspect(kind: Kind, line: &[u8]) -> Option<LineFault>
     ensures refused { IfSome result (IsLineRefused kind line.now) }
     ensures each_refusal { (fault : Refusal) → IsLineRefused kind line.now fault → result ≡ Some fault }
 {
-    match kind {
-        Kind::Batch | Kind::Check => parse_line(kind, line).err(),
-        Kind::Audit => parse_account(line).err(),
-    }
+    let mut buffer = LineBuffer::new();
+    buffer.append(line);
+    parse_line(kind, &buffer).err()
 }
 
-/// The parts of a line to hash or to check that breaks no rule.
+/// A line that breaks no rule: its name, and what is to be done.
 #[derive(Drop)]
 pub(crate) struct Line<'a> {
     pub(crate) name: &'a [u8],
-    pub(crate) password: Password,
-    /// The stored field to check the password against. Only a line to check has one.
-    pub(crate) field: Option<StoredField<'a>>,
+    pub(crate) task: Task<'a>,
 }
 
-/// The parts of a line to audit that breaks no rule.
-#[derive(Clone, Copy)]
-pub(crate) struct Account<'a> {
-    pub(crate) name: &'a [u8],
-    pub(crate) field: &'a [u8],
+/// What is to be done with a line.
+#[derive(Drop)]
+pub(crate) enum Task<'a> {
+    /// Hash the password, or check it against the stored field. Only a line to check has one.
+    Password(Password, Option<StoredField<'a>>),
+    /// Audit the field.
+    Audit(&'a [u8]),
 }
 
-/// Reads the parts of a line to hash or to check, given without its line feed.
+/// Reads a line, given without its line feed.
 ///
 /// # Errors
 ///
 /// - The first rule that the line breaks, but never `OverBudget`.
-pub(crate) fn parse_line(kind: Kind, bytes: &[u8]) -> Result<Line<'_>, LineFault>
-    requires { kind ≢ Audit }
-    ensures read { IfOk result (λ line. IsLine kind bytes.now line.name.now line.password line.field) }
+pub(crate) fn parse_line(kind: Kind, line: &LineBuffer) -> Result<Line<'_>, LineFault>
+    ensures parses { (text : List ℕ) → Represents line.now text → Parses kind text result }
     ensures short { IfOk result (λ line. length line.name.now ≤ name_limit) }
-    ensures refused { IfErr result (IsLineRefused kind bytes.now) }
-    ensures each_refusal { (fault : Refusal) → IsLineRefused kind bytes.now fault → result ≡ Err fault }
 {
-    let (name, back) = match name_of(bytes) {
-        Ok(parts) => parts,
-        Err(fault) => return Err(fault),
+    let LineBuffer::Bytes(bytes) = line else {
+        return Err(LineFault::LineTooLong);
     };
-    let Some((field, password)) = fields_after_name(kind, back) else {
-        return Err(LineFault::NoPassword);
-    };
-    let password = match Password::new(password) {
-        Ok(password) => password,
-        Err(fault) => return Err(LineFault::Password(fault)),
-    };
-    let Some(field) = field else {
-        return Ok(Line {
-            name,
-            password,
-            field: None,
-        });
-    };
-    match StoredField::read(field) {
-        Ok(field) => Ok(Line {
-            name,
-            password,
-            field: Some(field),
-        }),
-        Err(fault) => Err(LineFault::Setting(fault)),
-    }
-}
-
-/// Reads the parts of a line to audit, given without its line feed.
-///
-/// # Errors
-///
-/// - The first rule that the line breaks, but never one of the password, of the field or of a budget.
-pub(crate) fn parse_account(bytes: &[u8]) -> Result<Account<'_>, LineFault>
-    ensures read { IfOk result (λ account. HasSoundParts Audit bytes.now (account_parts account.name.now account.field.now)) }
-    ensures short { IfOk result (λ account. length account.name.now ≤ name_limit) }
-    ensures refused { IfErr result (IsLineRefused Audit bytes.now) }
-    ensures each_refusal { (fault : Refusal) → IsLineRefused Audit bytes.now fault → result ≡ Err fault }
-{
-    let (name, back) = match name_of(bytes) {
-        Ok(parts) => parts,
-        Err(fault) => return Err(fault),
-    };
-    let Some(back) = back else {
-        return Err(LineFault::NoPassword);
-    };
-    let (field, _) = cut_front(back);
-    Ok(Account { name, field })
+    let (name, back) = name_of(bytes)?;
+    let task = task_of(kind, back)?;
+    Ok(Line { name, task })
 }
 
 // Returns the name, and what follows its colon if there is one.
-fn name_of(line: &[u8]) -> Result<(&[u8], Option<&[u8]>), LineFault>
-    ensures named { IfOk result (λ x. IsNamed line.now x.0.now (bytes_of x.1)) }
-    ensures refused { IfErr result (λ fault. (kind : LineKind) → IsLineRefused kind line.now fault) }
+fn name_of(line: &ArrayVec<u8, LINE_LIMIT>) -> Result<(&[u8], Option<&[u8]>), LineFault>
+    ensures named { IfOk result (λ x. IsNamed line.now.items x.0.now (bytes_of x.1)) }
+    ensures refused { IfErr result (λ fault. (kind : LineKind) → IsLineRefused kind line.now.items fault) }
 {
-    if line.len() > LINE_LIMIT {
-        return Err(LineFault::LineTooLong);
-    }
-    let (name, back) = cut_front(line);
+    let (name, back) = cut_front(line.as_slice());
     if name.is_empty() {
         return Err(LineFault::NoName);
     }
@@ -194,6 +157,30 @@ fn name_of(line: &[u8]) -> Result<(&[u8], Option<&[u8]>), LineFault>
     Ok((name, back))
 }
 
+// Reads what is to be done, from what follows the name's colon.
+fn task_of(kind: Kind, back: Option<&[u8]>) -> Result<Task<'_>, LineFault>
+    ensures { IsTaskReading kind (bytes_of back.entry) result }
+{
+    let Some(back) = back else {
+        return Err(LineFault::NoPassword);
+    };
+    match kind {
+        Kind::Batch => Ok(Task::Password(Password::new(back)?, None)),
+        Kind::Check => {
+            let Some((field, password)) = cut(back) else {
+                return Err(LineFault::NoPassword);
+            };
+            let password = Password::new(password)?;
+            let field = StoredField::read(field)?;
+            Ok(Task::Password(password, Some(field)))
+        }
+        Kind::Audit => {
+            let (field, _) = cut_front(back);
+            Ok(Task::Audit(field))
+        }
+    }
+}
+
 // Returns what precedes the first colon, or the whole text without one, and what follows the colon.
 fn cut_front(text: &[u8]) -> (&[u8], Option<&[u8]>)
     ensures { IsCutOrWhole text.now result.0.now (bytes_of result.1) }
@@ -201,23 +188,6 @@ fn cut_front(text: &[u8]) -> (&[u8], Option<&[u8]>)
     match cut(text) {
         Some((front, back)) => (front, Some(back)),
         None => (text, None),
-    }
-}
-
-// Returns the field of a line to check, if it is one, and the password, from what follows the name's colon. It returns
-// `None` if a colon is missing.
-fn fields_after_name(kind: Kind, back: Option<&[u8]>) -> Option<(Option<&[u8]>, &[u8])>
-    requires { kind ≢ Audit }
-    ensures { MatchOption result (LacksParts kind (bytes_of back.entry))
-        (λ x. HasBehind kind (bytes_of back.entry) (bytes_of x.0) x.1.now) }
-{
-    match kind {
-        Kind::Batch => Some((None, back?)),
-        Kind::Check => {
-            let (field, password) = cut(back?)?;
-            Some((Some(field), password))
-        }
-        Kind::Audit => unreachable!(),
     }
 }
 

@@ -1,20 +1,19 @@
 //! The runs over the lines of an input. A run answers each line once it has read the end of that line, and before it
 //! reads more. So it holds one line and one piece of the input at a time, whatever the size of the input.
 ghost use Rattle.std.specs.Prelude.{◌≡◌, ◌≢◌, ℕ, ◌+◌, ◌^◌, ◌<◌, ◌≤◌, length, Err, IfOk, OnOk};
-ghost use Rattle.prims_core.specs.Work.{IsAtMost};
 ghost use Rattle.crypt_core.specs.Passwords.{password_limit};
 ghost use Rattle.crypt_core.specs.Settings.{SettingValue};
 ghost use Rattle.crypt_core.specs.Work.{cost};
 ghost use Rattle.run_core.specs.Answers.{Answer};
 ghost use Rattle.run_core.specs.Audits.{audit_cost};
-ghost use Rattle.run_core.specs.Devices.{HasRoomBeforeRun, HasRoomWithinRun, MovesBytes, turns_limit};
+ghost use Rattle.run_core.specs.Devices.{HasRoomWithinRun, MovesBytes};
 ghost use Rattle.run_core.specs.LineOptions.{Foresees, OnlyRefuses, OnlyRenews, RenewsNone};
-ghost use Rattle.run_core.specs.LineRuns.{EndsLines};
+ghost use Rattle.run_core.specs.LineRuns.{RunsLines};
 ghost use Rattle.run_core.specs.Lines.{name_limit};
 ghost use Rattle.run_core.specs.Private.Answers.{Renders, counted, outcome_of};
 ghost use Rattle.run_core.specs.Private.Deliveries.{Sends};
 ghost use Rattle.run_core.specs.Private.Headroom.{HasRoomFor, answer_limit, lines_limit};
-ghost use Rattle.run_core.specs.Runs.{IsWithinTurns, run_state};
+ghost use Rattle.run_core.specs.Runs.{IsReady, run_state};
 ghost use Rattle.run_core.specs.declared.fault.RunFault.TheVariants.{OutOfMemory};
 ghost use Rattle.run_core.specs.declared.line.Kind.TheVariants.{Batch, Check, Audit};
 
@@ -73,15 +72,10 @@ pub fn run_batch<I: Read, O: Write, E: Write, R: Rng>(
     meter: &mut Meter,
     turns: u64,
 ) -> Result<Tally, RunFault>
-    requires turns { turns ≤ turns_limit }
-    requires devices { HasRoomBeforeRun input.old × HasRoomBeforeRun out.old × HasRoomBeforeRun faults.old }
-    requires counts { IsAtMost meter.old (2 ^ 100) }
-    ensures ends { EndsLines turns Batch job.now
+    requires { IsReady turns input.old out.old faults.old meter.old }
+    ensures runs { RunsLines turns Batch job.now
         (run_state input.old out.old faults.old (R.stream rng.old) meter.old)
         (run_state input.new out.new faults.new (R.stream rng.new) meter.new) result }
-    ensures within_turns { IsWithinTurns turns
-        (run_state input.old out.old faults.old (R.stream rng.old) meter.old)
-        (run_state input.new out.new faults.new (R.stream rng.new) meter.new) }
     ensures fault_room { HasRoomWithinRun faults.new }
     ensures budget { OnlyRefuses Batch job.now }
     ensures rehash { RenewsNone Batch job.now }
@@ -135,15 +129,10 @@ pub fn run_check<I: Read, O: Write, E: Write, R: Rng>(
     meter: &mut Meter,
     turns: u64,
 ) -> Result<Tally, RunFault>
-    requires turns { turns ≤ turns_limit }
-    requires devices { HasRoomBeforeRun input.old × HasRoomBeforeRun out.old × HasRoomBeforeRun faults.old }
-    requires counts { IsAtMost meter.old (2 ^ 100) }
-    ensures ends { EndsLines turns Check job.now
+    requires { IsReady turns input.old out.old faults.old meter.old }
+    ensures runs { RunsLines turns Check job.now
         (run_state input.old out.old faults.old (R.stream rng.old) meter.old)
         (run_state input.new out.new faults.new (R.stream rng.new) meter.new) result }
-    ensures within_turns { IsWithinTurns turns
-        (run_state input.old out.old faults.old (R.stream rng.old) meter.old)
-        (run_state input.new out.new faults.new (R.stream rng.new) meter.new) }
     ensures fault_room { HasRoomWithinRun faults.new }
     ensures budget { OnlyRefuses Check job.now }
     ensures rehash { OnlyRenews Check job.now }
@@ -199,15 +188,10 @@ pub fn run_audit<I: Read, O: Write, E: Write, R: Rng>(
     meter: &mut Meter,
     turns: u64,
 ) -> Result<Tally, RunFault>
-    requires turns { turns ≤ turns_limit }
-    requires devices { HasRoomBeforeRun input.old × HasRoomBeforeRun out.old × HasRoomBeforeRun faults.old }
-    requires counts { IsAtMost meter.old (2 ^ 100) }
-    ensures ends { EndsLines turns Audit job.now
+    requires { IsReady turns input.old out.old faults.old meter.old }
+    ensures runs { RunsLines turns Audit job.now
         (run_state input.old out.old faults.old (R.stream rng.old) meter.old)
         (run_state input.new out.new faults.new (R.stream rng.new) meter.new) result }
-    ensures within_turns { IsWithinTurns turns
-        (run_state input.old out.old faults.old (R.stream rng.old) meter.old)
-        (run_state input.new out.new faults.new (R.stream rng.new) meter.new) }
     ensures fault_room { HasRoomWithinRun faults.new }
     ensures draws_none { R.stream rng.new ≡ R.stream rng.old }
     ensures hashes_none { meter.new ≡ meter.old }
@@ -242,15 +226,10 @@ fn answer_lines<I: Read, O: Write, E: Write, R: Rng>(
     meter: &mut Meter,
     turns: u64,
 ) -> Result<Tally, RunFault>
-    requires turns { turns ≤ turns_limit }
-    requires devices { HasRoomBeforeRun input.old × HasRoomBeforeRun out.old × HasRoomBeforeRun faults.old }
-    requires counts { IsAtMost meter.old (2 ^ 100) }
-    ensures ends { EndsLines turns kind job.now
+    requires { IsReady turns input.old out.old faults.old meter.old }
+    ensures runs { RunsLines turns kind job.now
         (run_state input.old out.old faults.old (R.stream rng.old) meter.old)
         (run_state input.new out.new faults.new (R.stream rng.new) meter.new) result }
-    ensures within_turns { IsWithinTurns turns
-        (run_state input.old out.old faults.old (R.stream rng.old) meter.old)
-        (run_state input.new out.new faults.new (R.stream rng.new) meter.new) }
     ensures fault_room { HasRoomWithinRun faults.new }
 {
     let mut left = turns;

@@ -1,11 +1,10 @@
 //! The run for a single password: it writes the hash, the counts if the job asks for them, and a line feed.
-ghost use Rattle.std.specs.Prelude.{◌≡◌, ◌+◌, ◌^◌, ◌≤◌};
-ghost use Rattle.prims_core.specs.Work.{IsAtMost};
+ghost use Rattle.std.specs.Prelude.{◌≡◌, ◌+◌, ◌≤◌};
 ghost use Rattle.run_core.specs.JobOptions.{without_budget, without_rehash};
 ghost use Rattle.run_core.specs.Devices.{HasRoomBeforeRun, HasRoomWithinRun, MovesBytes, turns_limit};
-ghost use Rattle.run_core.specs.One.{EndsOne};
+ghost use Rattle.run_core.specs.One.{EndsOne, RunsOne};
 ghost use Rattle.run_core.specs.Private.Fetching.{ObtainsFrom};
-ghost use Rattle.run_core.specs.Runs.{IsWithinTurns, run_state};
+ghost use Rattle.run_core.specs.Runs.{IsReady, IsWithinTurns, run_state};
 
 mod password;
 
@@ -58,18 +57,10 @@ pub fn run_one<I: Read, O: Write, E: Write, R: Rng>(
     meter: &mut Meter,
     turns: u64,
 ) -> Result<Tally, RunFault>
-    requires turns { turns ≤ turns_limit }
-    requires devices { HasRoomBeforeRun input.old × HasRoomBeforeRun out.old × HasRoomBeforeRun faults.old }
-    requires counts { IsAtMost meter.old (2 ^ 100) }
-    ensures ends { EndsOne turns job.now from.now
+    requires { IsReady turns input.old out.old faults.old meter.old }
+    ensures runs { RunsOne turns job.now from.now
         (run_state input.old out.old faults.old (R.stream rng.old) meter.old)
         (run_state input.new out.new faults.new (R.stream rng.new) meter.new) result }
-    ensures options { EndsOne turns (without_rehash (without_budget job.now)) from.now
-        (run_state input.old out.old faults.old (R.stream rng.old) meter.old)
-        (run_state input.new out.new faults.new (R.stream rng.new) meter.new) result }
-    ensures within_turns { IsWithinTurns turns
-        (run_state input.old out.old faults.old (R.stream rng.old) meter.old)
-        (run_state input.new out.new faults.new (R.stream rng.new) meter.new) }
     ensures fault_room { HasRoomWithinRun faults.new }
 {
     let mut left = turns;

@@ -11,7 +11,6 @@ pub(crate) mod buffer;
 use crate::device::Input;
 use crate::fault::RunFault;
 use crate::transfer::{fetch_piece, line_feed_at};
-use arrayvec::ArrayVec;
 use buffer::LineBuffer;
 use std::io::Read;
 use std::marker::Model;
@@ -101,7 +100,7 @@ impl LineReader {
                 start: 0,
                 end: 0,
             },
-            buffer: LineBuffer::Bytes(ArrayVec::new()),
+            buffer: LineBuffer::new(),
             at_end: false,
         }
     }
@@ -124,7 +123,7 @@ impl LineReader {
         if self.at_end {
             return Ok(false);
         }
-        self.buffer = LineBuffer::Bytes(ArrayVec::new());
+        self.buffer = LineBuffer::new();
         'fetches: while !self.piece.take_line(&mut self.buffer) {
             if !self.piece.fetch(input, left)? {
                 self.at_end = true;

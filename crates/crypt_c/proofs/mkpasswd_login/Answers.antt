@@ -1,5 +1,5 @@
 use Rattle.std.proofs.Common.{inl, inr, rules}
-use Rattle.crypt_c.proofs.Logins.{agrees, alike, alike_cost, one_hash, pretends}
+use Rattle.call_core.proofs.Logins.{agrees, alike, alike_cost, one_hash, pretends}
 use Rattle.crypt_c.proofs.mkpasswd_login.Goals as goal
 
 pub returns-clause-opens : goal.returns-clause-opens
@@ -10,25 +10,25 @@ returns-clause-opens c = λ scheme made opens. elim (c.log_in.ensures.opens sche
 
 pub returns-clause-as_verify : goal.returns-clause-as_verify
 returns-clause-as_verify c = λ scheme made.
-    rw c.tell.ensures.told (agrees c.args.password.now c.args.field.now c.args.method c.args.cost c.args.budget scheme _ made c.log_in.ensures.logs_in)
+    rw c.tell.ensures.told (agrees c.args.password.now c.args.field.now c.args.method c.args.rounds c.args.budget scheme _ made c.log_in.ensures.logs_in)
 
 pub returns-clause-decoy : goal.returns-clause-decoy
 returns-clause-decoy c = λ scheme made is never.
-    rw c.tell.ensures.told (pretends c.args.password.now c.args.field.now c.args.method c.args.cost c.args.budget scheme _ made is never
+    rw c.tell.ensures.told (pretends c.args.password.now c.args.field.now c.args.method c.args.rounds c.args.budget scheme _ made is never
     c.log_in.ensures.logs_in)
 
 pub returns-clause-alike : goal.returns-clause-alike
 returns-clause-alike c = λ fault broken.
-    rw c.tell.ensures.told (alike c.args.password.now c.args.field.now c.args.method c.args.cost c.args.budget fault _ broken c.log_in.ensures.logs_in)
+    rw c.tell.ensures.told (alike c.args.password.now c.args.field.now c.args.method c.args.rounds c.args.budget fault _ broken c.log_in.ensures.logs_in)
 
 pub returns-clause-alike_cost : goal.returns-clause-alike_cost
 returns-clause-alike_cost c = λ refusal is reading.
-    rw c.tell.ensures.told (alike_cost c.args.password.now c.args.field.now c.args.method c.args.cost c.args.budget refusal _ is reading
+    rw c.tell.ensures.told (alike_cost c.args.password.now c.args.field.now c.args.method c.args.rounds c.args.budget refusal _ is reading
     c.log_in.ensures.logs_in)
 
 pub returns-clause-one_hash : goal.returns-clause-one_hash
 returns-clause-one_hash c =
-    rw c.tell.ensures.told (one_hash c.args.password.now c.args.field.now c.args.method c.args.cost c.args.budget _ c.log_in.ensures.logs_in)
+    rw c.tell.ensures.told (one_hash c.args.password.now c.args.field.now c.args.method c.args.rounds c.args.budget _ c.log_in.ensures.logs_in)
 
 pub returns-clause-logs_in : goal.returns-clause-logs_in
 returns-clause-logs_in c = rw c.tell.ensures.told c.log_in.ensures.logs_in

@@ -1,5 +1,4 @@
 use Rattle.std.proofs.Common.{◌<ℤ◌, pos, rules}
-use Rattle.call_core.specs.Reports.{either}
 use Rattle.crypt_c.proofs.mkpasswd_new_from.Goals as goal
 
 pub returns-clause-hashes : goal.returns-clause-hashes
@@ -7,5 +6,5 @@ returns-clause-hashes c = rw c.tell.ensures.told c.put_new_hash.ensures.hashes
 
 pub returns-clause-then_current : goal.returns-clause-then_current
 returns-clause-then_current c = λ one.
-    let positive : pos 0 <ℤ (either c.put_new_hash.result).reason = c.tell.ensures.positive.0 (search (rules, one)) in
+    let positive : pos 0 <ℤ (c.put_new_hash.result).reason = c.tell.ensures.positive.0 (search (rules, one)) in
     rw c.tell.ensures.told (c.put_new_hash.ensures.current positive)

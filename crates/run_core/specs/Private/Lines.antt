@@ -1,11 +1,19 @@
 -- The parts of a line, as the steps that read it find them.
-use Rattle.std.specs.Prelude.{◌≡◌, ◌≢◌, ℕ, ◌<◌, ◌≤◌, List, [], length, Contains, Option, Some, None, Ok}
+use Rattle.std.specs.Prelude.{◌≡◌, ◌≢◌, ℕ, ◌<◌, ◌≤◌, List, [], length, Contains, Option, Some, None, Result, Ok, Err}
+use Rattle.crypt_core.specs.Passwords.{IsPassword, IsPasswordRefused}
 use Rattle.crypt_core.specs.Readings.{IsFieldReading, IsReadOneWay}
+use Rattle.crypt_core.specs.Refusals.{IsRefused}
+use Rattle.crypt_core.specs.StoredFields.{IsStored}
 use Rattle.crypt_core.specs.declared.stored.StoredField.{StoredField}
-use Rattle.run_core.specs.Lines.{HasFront, HasParts, IsCut, IsSound, Parts, line_limit, name_limit}
+use Rattle.run_core.specs.Lines.{HasFront, HasParts, IsCut, IsLineRefused, IsSound, Parts, line_limit, name_limit}
 use Rattle.run_core.specs.Texts.{colon}
 use Rattle.run_core.specs.declared.line.Kind.{Kind}
 use Rattle.run_core.specs.declared.line.Kind.TheVariants.{Batch, Check, Audit}
+use Rattle.run_core.specs.declared.line.Line.{Line}
+use Rattle.run_core.specs.declared.line.LineFault.{LineFault}
+use Rattle.run_core.specs.declared.line.LineFault.TheVariants.{NoPassword, Password, Setting}
+use Rattle.run_core.specs.declared.line.Task.{Task}
+use Rattle.run_core.specs.declared.line.Task.TheVariants as tasks
 use Rattle.run_core.specs.declared.reader.buffer.LineBuffer.{LineBuffer}
 use Rattle.run_core.specs.declared.reader.buffer.LineBuffer.TheVariants.{Bytes, TooLong}
 
@@ -22,10 +30,6 @@ Represents TooLong line = IsTooLong line
 pub record HasSoundParts (kind : Kind) (line : List ℕ) (parts : Parts) : Type 0 where
   pub sound : IsSound kind line
   pub cut : HasParts kind line parts
-
--- account_parts name field are the parts of a line to audit.
-abbrev pub account_parts : List ℕ → List ℕ → Parts
-account_parts name field = record { name = name; field = Some field; password = [] }
 
 -- IsGoodName name: the name is neither empty nor too long.
 pub record IsGoodName (name : List ℕ) : Type 0 where
@@ -66,8 +70,33 @@ IsFieldOf (Some field) (Some stored) = IsFieldReading field (Ok stored) × IsRea
 IsFieldOf None (Some stored) = ⊥
 IsFieldOf (Some field) None = ⊥
 
--- IsLine kind line name password stored: the line breaks no rule, and these are its name, its password and its field.
+-- IsLine kind line name password stored: the line, which is not to be audited, breaks no rule, and these are its name,
+-- its password and its field.
 pub record IsLine (kind : Kind) (line name password : List ℕ) (stored : Option StoredField) : Type 0 where
+  pub unaudited : kind ≢ Audit
   pub field : Option (List ℕ)
   pub taken : HasSoundParts kind line (record { name = name; field = field; password = password })
   pub field_of : IsFieldOf field stored
+
+-- HasTask kind line name task: the line breaks no rule, and this is its name and what is to be done with it.
+abbrev pub HasTask : Kind → List ℕ → List ℕ → Task → Type 0
+HasTask kind line name (tasks.Password password stored) = IsLine kind line name password stored
+HasTask kind line name (tasks.Audit field) =
+    (kind ≡ Audit) × HasSoundParts kind line (record { name = name; field = Some field.now; password = [] })
+
+-- Parses kind line result: this is the name of the line and what is to be done with it, or the first rule that it breaks.
+abbrev pub Parses : Kind → List ℕ → Result Line LineFault → Type 0
+Parses kind line (Ok parsed) = HasTask kind line parsed.name.now parsed.task
+Parses kind line (Err fault) = IsLineRefused kind line fault
+
+-- IsTaskReading kind back result: this is to be done by what follows the colon of the name, or it breaks this rule first.
+abbrev pub IsTaskReading : Kind → Option (List ℕ) → Result Task LineFault → Type 0
+IsTaskReading kind back (Ok (tasks.Password password stored)) = (kind ≢ Audit) × (field : Option (List ℕ))
+    × HasBehind kind back field password × IsPassword password × IsFieldOf field stored
+IsTaskReading kind back (Ok (tasks.Audit field)) = (kind ≡ Audit) × HasBehind kind back (Some field.now) []
+IsTaskReading kind back (Err NoPassword) = LacksParts kind back
+IsTaskReading kind back (Err (Password fault)) = (field : Option (List ℕ)) × (password : List ℕ)
+    × HasBehind kind back field password × IsPasswordRefused password fault
+IsTaskReading kind back (Err (Setting fault)) = (kind ≢ Audit) × (field password : List ℕ)
+    × HasBehind kind back (Some field) password × IsPassword password × IsStored field × IsRefused field fault
+IsTaskReading kind back (Err fault) = ⊥

@@ -15,6 +15,13 @@ pub(crate) enum LineBuffer {
 }
 
 impl LineBuffer {
+    /// Returns a buffer for a line of which nothing has been read.
+    pub(crate) fn new() -> LineBuffer
+        ensures { Represents result [] }
+    {
+        LineBuffer::Bytes(ArrayVec::new())
+    }
+
     pub(crate) fn is_empty(&self) -> bool
         ensures { (line : List ℕ) → Represents self.now line → IsTrue result ↔ (line ≡ []) }
     {

@@ -6,16 +6,16 @@ pub returns-in_err-run_batch-in-Batch-Some-clause-runs : goal.returns-in_err-run
 returns-in_err-run_batch-in-Batch-Some-clause-runs g c =
     let p = err_from_is_err_and c.from_residual-in_err-run_batch-in-Batch-Some.result c.from_residual-in_err-run_batch-in-Batch-Some.ensures.1 in
     let run = c.in_err-run_batch-in-Batch-Some.ensures in
-    rw (p.1, p.2, c.in-Batch-Some.is-0, c.in-Batch-Some.is-1) (refl, (run.ends, run.within_turns))
+    rw (p.1, p.2, c.in-Batch-Some.is-0, c.in-Batch-Some.is-1) (refl, run.runs)
 
 pub returns-in_err-run_check-in-Check-Some-clause-runs : goal.returns-in_err-run_check-in-Check-Some-clause-runs
 returns-in_err-run_check-in-Check-Some-clause-runs g c =
     let p = err_from_is_err_and c.from_residual-in_err-run_check-in-Check-Some.result c.from_residual-in_err-run_check-in-Check-Some.ensures.1 in
     let run = c.in_err-run_check-in-Check-Some.ensures in
-    rw (p.1, p.2, c.in-Check-Some.is-0, c.in-Check-Some.is-1) (refl, (run.ends, run.within_turns))
+    rw (p.1, p.2, c.in-Check-Some.is-0, c.in-Check-Some.is-1) (refl, run.runs)
 
 pub returns-in_err-run_audit-in-Audit-Some-clause-runs : goal.returns-in_err-run_audit-in-Audit-Some-clause-runs
 returns-in_err-run_audit-in-Audit-Some-clause-runs g c =
     let p = err_from_is_err_and c.from_residual-in_err-run_audit-in-Audit-Some.result c.from_residual-in_err-run_audit-in-Audit-Some.ensures.1 in
     let run = c.in_err-run_audit-in-Audit-Some.ensures in
-    rw (p.1, p.2, c.in-Audit-Some.is-0, c.in-Audit-Some.is-1) (refl, (run.ends, run.within_turns))
+    rw (p.1, p.2, c.in-Audit-Some.is-0, c.in-Audit-Some.is-1) (refl, run.runs)

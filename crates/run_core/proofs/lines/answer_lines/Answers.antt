@@ -8,22 +8,16 @@ pub lines-init : goal.lines-init
 lines-init g c =
     let start = run_state c.args.input.now c.args.out.now c.args.faults.now (g.R.Rng.stream c.args.rng.now) c.args.meter.now in
     running-start c.args.turns c.args.kind c.args.job.now start c.new-reader.result c.new-tally.result
-    c.new-reader.ensures.unread c.new-reader.ensures.no_end c.new-tally.ensures c.requires.turns c.requires.devices c.requires.counts
+    c.new-reader.ensures.unread c.new-reader.ensures.no_end c.new-tally.ensures c.requires.limit c.requires.devices c.requires.meter
 
 -- ---- reading failed
 
-pub returns-in_err-next_line-clause-ends : goal.returns-in_err-next_line-clause-ends
-returns-in_err-next_line-clause-ends g c =
+pub returns-in_err-next_line-clause-runs : goal.returns-in_err-next_line-clause-runs
+returns-in_err-next_line-clause-runs g c =
     let is = c.lines.invariant in
     let p = err_from_is_err_and c.from_residual.result c.from_residual.ensures.1 in
     rw (p.1, p.2) (ends-reading is c.next_line.new.input c.next_line.new.left c.next_line.ensures.turns c.in_err-next_line.field-0.0
-    (c.in_err-next_line.ensures.gives c.args.input.now is.lines is.given)).0
-
-pub returns-in_err-next_line-clause-within_turns : goal.returns-in_err-next_line-clause-within_turns
-returns-in_err-next_line-clause-within_turns g c =
-    let is = c.lines.invariant in
-    (ends-reading is c.next_line.new.input c.next_line.new.left c.next_line.ensures.turns c.in_err-next_line.field-0.0
-    (c.in_err-next_line.ensures.gives c.args.input.now is.lines is.given)).1
+    (c.in_err-next_line.ensures.gives c.args.input.now is.lines is.given))
 
 -- ---- a line is answered
 
@@ -40,22 +34,14 @@ answer_line-requires g c =
       scratch = (let count = counts.scratch in omega (arith, count, lines));
     }
 
-pub returns-in_err-answer-clause-ends : goal.returns-in_err-answer-clause-ends
-returns-in_err-answer-clause-ends g c =
+pub returns-in_err-answer-clause-runs : goal.returns-in_err-answer-clause-runs
+returns-in_err-answer-clause-runs g c =
     let is = c.lines.invariant in
     let p = err_from_is_err_and c.from_residual-in_err-answer.result c.from_residual-in_err-answer.ensures.1 in
     let line = given-line c.next_line.new.left c.args.input.now c.next_line.new.input c.next_line.new.self is.lines c.in_ok-next_line.field-0 c.if-branch.true (c.in_ok-next_line.ensures.gives c.args.input.now is.lines is.given) in
     let got = c.in_err-answer.ensures.decides line.0 line.1 (c.args.job.now.first_line + c.lines.tally.lines) in
     rw (p.1, p.2) (ends-unanswered is c.next_line.new.input c.next_line.new.left c.next_line.ensures.turns c.next_line.new.self line.0 line.2 got.0 got.1
-    (g.R.Rng.stream c.answer_line.new.rng) c.answer_line.new.meter got.2).0
-
-pub returns-in_err-answer-clause-within_turns : goal.returns-in_err-answer-clause-within_turns
-returns-in_err-answer-clause-within_turns g c =
-    let is = c.lines.invariant in
-    let line = given-line c.next_line.new.left c.args.input.now c.next_line.new.input c.next_line.new.self is.lines c.in_ok-next_line.field-0 c.if-branch.true (c.in_ok-next_line.ensures.gives c.args.input.now is.lines is.given) in
-    let got = c.in_err-answer.ensures.decides line.0 line.1 (c.args.job.now.first_line + c.lines.tally.lines) in
-    (ends-unanswered is c.next_line.new.input c.next_line.new.left c.next_line.ensures.turns c.next_line.new.self line.0 line.2 got.0 got.1
-    (g.R.Rng.stream c.answer_line.new.rng) c.answer_line.new.meter got.2).1
+    (g.R.Rng.stream c.answer_line.new.rng) c.answer_line.new.meter got.2)
 
 pub count_and_write-requires-clause-out_room : goal.count_and_write-requires-clause-out_room
 count_and_write-requires-clause-out_room g c = room-less _ _ _ _ c.next_line.ensures.fewer c.lines.invariant.room.out
@@ -63,8 +49,8 @@ count_and_write-requires-clause-out_room g c = room-less _ _ _ _ c.next_line.ens
 pub count_and_write-requires-clause-faults_room : goal.count_and_write-requires-clause-faults_room
 count_and_write-requires-clause-faults_room g c = room-less _ _ _ _ c.next_line.ensures.fewer c.lines.invariant.room.faults
 
-pub returns-in_err-count_and_write-clause-ends : goal.returns-in_err-count_and_write-clause-ends
-returns-in_err-count_and_write-clause-ends g c =
+pub returns-in_err-count_and_write-clause-runs : goal.returns-in_err-count_and_write-clause-runs
+returns-in_err-count_and_write-clause-runs g c =
     let is = c.lines.invariant in
     let p = err_from_is_err_and c.from_residual-in_err-count_and_write.result c.from_residual-in_err-count_and_write.ensures.1 in
     let line = given-line c.next_line.new.left c.args.input.now c.next_line.new.input c.next_line.new.self is.lines c.in_ok-next_line.field-0 c.if-branch.true (c.in_ok-next_line.ensures.gives c.args.input.now is.lines is.given) in
@@ -72,17 +58,7 @@ returns-in_err-count_and_write-clause-ends g c =
     let wrote = c.in_err-count_and_write.ensures in
     rw (p.1, p.2) (ends-unsent is c.next_line.new.input c.next_line.new.left c.next_line.ensures.turns c.next_line.new.self line.0 line.2 got.0 got.1
     c.count_and_write.new.out c.count_and_write.new.faults (g.R.Rng.stream c.answer_line.new.rng) c.answer_line.new.meter c.count_and_write.new.left (Unit {0})
-    c.in_err-count_and_write.field-0.0 got.4 got.3 (wrote.sends got.0 got.2) wrote.out_moves wrote.faults_moves wrote.failures wrote.calls).0
-
-pub returns-in_err-count_and_write-clause-within_turns : goal.returns-in_err-count_and_write-clause-within_turns
-returns-in_err-count_and_write-clause-within_turns g c =
-    let is = c.lines.invariant in
-    let line = given-line c.next_line.new.left c.args.input.now c.next_line.new.input c.next_line.new.self is.lines c.in_ok-next_line.field-0 c.if-branch.true (c.in_ok-next_line.ensures.gives c.args.input.now is.lines is.given) in
-    let got = c.in_ok-answer.ensures.decides line.0 line.1 (c.args.job.now.first_line + c.lines.tally.lines) in
-    let wrote = c.in_err-count_and_write.ensures in
-    (ends-unsent is c.next_line.new.input c.next_line.new.left c.next_line.ensures.turns c.next_line.new.self line.0 line.2 got.0 got.1
-    c.count_and_write.new.out c.count_and_write.new.faults (g.R.Rng.stream c.answer_line.new.rng) c.answer_line.new.meter c.count_and_write.new.left (Unit {0})
-    c.in_err-count_and_write.field-0.0 got.4 got.3 (wrote.sends got.0 got.2) wrote.out_moves wrote.faults_moves wrote.failures wrote.calls).1
+    c.in_err-count_and_write.field-0.0 got.4 got.3 (wrote.sends got.0 got.2) wrote.out_moves wrote.faults_moves wrote.failures wrote.calls)
 
 pub lines-preserved : goal.lines-preserved
 lines-preserved g c =
@@ -99,31 +75,17 @@ lines-preserved g c =
 
 -- ---- all lines were answered
 
-pub returns-in_err-finish_both-clause-ends : goal.returns-in_err-finish_both-clause-ends
-returns-in_err-finish_both-clause-ends g c =
+pub returns-in_err-finish_both-clause-runs : goal.returns-in_err-finish_both-clause-runs
+returns-in_err-finish_both-clause-runs g c =
     let is = c.lines.invariant in
     let p = err_from_is_err_and c.from_residual-in_err-finish_both.result c.from_residual-in_err-finish_both.ensures.1 in
     rw (p.1, p.2) (ends-unflushed is c.next_line.new.input c.next_line.new.left c.next_line.ensures.turns c.next_line.new.self
     c.finish_both.new.out c.finish_both.new.faults (Unit {0}) c.in_err-finish_both.field-0.0 c.in_ok-next_line.field-0 c.if-branch.false
-    (c.in_ok-next_line.ensures.gives c.args.input.now is.lines is.given) c.in_err-finish_both.ensures.finishes).0
+    (c.in_ok-next_line.ensures.gives c.args.input.now is.lines is.given) c.in_err-finish_both.ensures.finishes)
 
-pub returns-in_err-finish_both-clause-within_turns : goal.returns-in_err-finish_both-clause-within_turns
-returns-in_err-finish_both-clause-within_turns g c =
-    let is = c.lines.invariant in
-    (ends-unflushed is c.next_line.new.input c.next_line.new.left c.next_line.ensures.turns c.next_line.new.self
-    c.finish_both.new.out c.finish_both.new.faults (Unit {0}) c.in_err-finish_both.field-0.0 c.in_ok-next_line.field-0 c.if-branch.false
-    (c.in_ok-next_line.ensures.gives c.args.input.now is.lines is.given) c.in_err-finish_both.ensures.finishes).1
-
-pub returns-clause-ends : goal.returns-clause-ends
-returns-clause-ends g c =
+pub returns-clause-runs : goal.returns-clause-runs
+returns-clause-runs g c =
     let is = c.lines.invariant in
     (ends-flushed is c.next_line.new.input c.next_line.new.left c.next_line.ensures.turns c.next_line.new.self
     c.finish_both.new.out c.finish_both.new.faults c.in_ok-finish_both.field-0 c.in_ok-next_line.field-0 c.if-branch.false
-    (c.in_ok-next_line.ensures.gives c.args.input.now is.lines is.given) c.in_ok-finish_both.ensures.finishes).0
-
-pub returns-clause-within_turns : goal.returns-clause-within_turns
-returns-clause-within_turns g c =
-    let is = c.lines.invariant in
-    (ends-flushed is c.next_line.new.input c.next_line.new.left c.next_line.ensures.turns c.next_line.new.self
-    c.finish_both.new.out c.finish_both.new.faults c.in_ok-finish_both.field-0 c.in_ok-next_line.field-0 c.if-branch.false
-    (c.in_ok-next_line.ensures.gives c.args.input.now is.lines is.given) c.in_ok-finish_both.ensures.finishes).1
+    (c.in_ok-next_line.ensures.gives c.args.input.now is.lines is.given) c.in_ok-finish_both.ensures.finishes)

@@ -4,13 +4,13 @@ use Rattle.crypt_core.proofs.WorkBounds.{longest}
 use Rattle.run_core.proofs.lines.run_audit.Goals as goal
 
 pub returns-clause-draws_none : goal.returns-clause-draws_none
-returns-clause-draws_none g c = (spares c.args.turns c.args.job.now _ _ _ c.answer_lines.ensures.ends).draws_none
+returns-clause-draws_none g c = (spares c.args.turns c.args.job.now _ _ _ c.answer_lines.ensures.runs.ends).draws_none
 
 pub returns-clause-hashes_none : goal.returns-clause-hashes_none
-returns-clause-hashes_none g c = (spares c.args.turns c.args.job.now _ _ _ c.answer_lines.ensures.ends).hashes_none
+returns-clause-hashes_none g c = (spares c.args.turns c.args.job.now _ _ _ c.answer_lines.ensures.runs.ends).hashes_none
 
 pub returns-clause-allocates_none : goal.returns-clause-allocates_none
-returns-clause-allocates_none g c = (spares c.args.turns c.args.job.now _ _ _ c.answer_lines.ensures.ends).allocates_none
+returns-clause-allocates_none g c = (spares c.args.turns c.args.job.now _ _ _ c.answer_lines.ensures.runs.ends).allocates_none
 
 pub returns-clause-longest : goal.returns-clause-longest
 returns-clause-longest g c = longest

@@ -1,4 +1,4 @@
-use Rattle.std.proofs.Common.{◌≡◌, ℕ, List, [], ◌∷◌, ◌++◌, ap, sym, ◌∙◌, arith}
+use Rattle.std.proofs.Common.{rules, ◌≡◌, ℕ, List, [], ◌∷◌, ◌++◌, ap, sym, ◌∙◌, arith}
 use Rattle.rand_core.specs.Stream.{Stream}
 use Rattle.prims_core.specs.Work.{no_work}
 use Rattle.prims_core.specs.declared.meter.Work.{Work}
@@ -11,7 +11,7 @@ use Rattle.run_core.specs.declared.answer.Outcome.TheVariants.{Hashed}
 use Rattle.run_core.specs.declared.job.Job.{Job}
 use Rattle.std.proofs.lemmas.Result.{err_from_is_err_and}
 use Rattle.run_core.specs.Runs.{run_state}
-use Rattle.run_core.proofs.LineOptions.{unoptioned}
+use Rattle.run_core.proofs.LineOptions.{runs_one}
 use Rattle.run_core.proofs.Ending as ending
 use Rattle.run_core.proofs.Counting.{after_hashings, small_rise}
 use Rattle.run_core.proofs.one.run_one.Goals as goal
@@ -27,20 +27,20 @@ the_line job password stream hash before after reading told is counted read rais
     ap (λ (h : List ℕ). as_line (h ++ wanted_text job.work told)) is
     ∙ ap (λ (w : Work). as_line (new_hash job password stream ++ wanted_text job.work w)) (raised more risen)
 
-pub returns-in_err-password-clause-ends : goal.returns-in_err-password-clause-ends
-returns-in_err-password-clause-ends g c =
+pub returns-in_err-password-clause-runs : goal.returns-in_err-password-clause-runs
+returns-in_err-password-clause-runs g c =
     let p = err_from_is_err_and c.from_residual.result c.from_residual.ensures.1 in
-    rw (p.1, p.2) (ending.ends-without_password c.args.turns c.args.job.now c.args.from.now
+    rw (p.1, p.2) (runs_one c.args.turns c.args.job.now c.args.from.now _ _ _ (ending.ends-without_password c.args.turns c.args.job.now c.args.from.now
     (run_state c.args.input.now c.args.out.now c.args.faults.now (g.R.Rng.stream c.args.rng.now) c.args.meter.now)
-    c.obtain.new.input c.obtain.new.left c.in_err-password.field-0.0 c.in_err-password.ensures.password c.obtain.ensures.turns)
+    c.obtain.new.input c.obtain.new.left c.in_err-password.field-0.0 c.in_err-password.ensures.password c.obtain.ensures.turns) (search rules))
 
-pub returns-in_err-hash-clause-ends : goal.returns-in_err-hash-clause-ends
-returns-in_err-hash-clause-ends g c =
+pub returns-in_err-hash-clause-runs : goal.returns-in_err-hash-clause-runs
+returns-in_err-hash-clause-runs g c =
     let p = err_from_is_err_and c.from_residual-in_err-hash.result c.from_residual-in_err-hash.ensures.1 in
-    rw (p.1, p.2) (ending.ends-out_of_memory c.args.turns c.args.job.now c.args.from.now c.in_ok-password.password
+    rw (p.1, p.2) (runs_one c.args.turns c.args.job.now c.args.from.now _ _ _ (ending.ends-out_of_memory c.args.turns c.args.job.now c.args.from.now c.in_ok-password.password
     (run_state c.args.input.now c.args.out.now c.args.faults.now (g.R.Rng.stream c.args.rng.now) c.args.meter.now)
     c.obtain.new.input (g.R.Rng.stream c.make_hash.new.rng) c.make_hash.new.meter c.obtain.new.left c.in_ok-password.ensures.password
-    c.make_hash.ensures.stream c.in_err-hash.ensures.refused)
+    c.make_hash.ensures.stream c.in_err-hash.ensures.refused) (search rules))
 
 pub work_since-work-requires : goal.work_since-work-requires
 work_since-work-requires g c = record {
@@ -48,61 +48,39 @@ work_since-work-requires g c = record {
   small = rw c.reading-before.ensures (small_rise work_limit c.args.meter.now c.make_hash.new.meter (omega arith) c.make_hash.ensures.small);
 }
 
-pub returns-in_err-send-clause-ends : goal.returns-in_err-send-clause-ends
-returns-in_err-send-clause-ends g c =
+pub returns-in_err-send-clause-runs : goal.returns-in_err-send-clause-runs
+returns-in_err-send-clause-runs g c =
     let old = run_state c.args.input.now c.args.out.now c.args.faults.now (g.R.Rng.stream c.args.rng.now) c.args.meter.now in
     let has = ending.has_hash c.args.turns c.args.job.now c.args.from.now c.in_ok-password.password c.as_slice.result.now old c.obtain.new.input (g.R.Rng.stream c.make_hash.new.rng) c.make_hash.new.meter
     c.obtain.new.left c.in_ok-password.ensures.password c.obtain.ensures.turns c.make_hash.ensures.stream
     c.in_ok-hash.ensures.count (c.as_slice.ensures.value ∙ (c.render-line.ensures ∙ the_line c.args.job.now c.in_ok-password.password (g.R.Rng.stream c.args.rng.now) c.in_ok-hash.hash
     c.args.meter.now c.make_hash.new.meter c.reading-before.result c.work_since-work.result c.in_ok-hash.ensures.hash c.in_ok-hash.ensures.count c.reading-before.ensures c.work_since-work.ensures.raised)) in
     let p = err_from_is_err_and c.from_residual-in_err-send.result c.from_residual-in_err-send.ensures.1 in
-    rw (p.1, p.2) (ending.ends-sending c.args.turns c.args.job.now c.args.from.now c.in_ok-password.password c.as_slice.result.now old
+    rw (p.1, p.2) (runs_one c.args.turns c.args.job.now c.args.from.now _ _ _ (ending.ends-sending c.args.turns c.args.job.now c.args.from.now c.in_ok-password.password c.as_slice.result.now old
     c.obtain.new.input c.send.new.out (g.R.Rng.stream c.make_hash.new.rng) c.make_hash.new.meter c.obtain.new.left c.in_err-send.field-0.0
-    has c.in_err-send.ensures.delivers)
+    has c.in_err-send.ensures.delivers) (search rules))
 
-pub returns-in_err-finish_both-clause-ends : goal.returns-in_err-finish_both-clause-ends
-returns-in_err-finish_both-clause-ends g c =
+pub returns-in_err-finish_both-clause-runs : goal.returns-in_err-finish_both-clause-runs
+returns-in_err-finish_both-clause-runs g c =
     let old = run_state c.args.input.now c.args.out.now c.args.faults.now (g.R.Rng.stream c.args.rng.now) c.args.meter.now in
     let has = ending.has_hash c.args.turns c.args.job.now c.args.from.now c.in_ok-password.password c.as_slice.result.now old c.obtain.new.input (g.R.Rng.stream c.make_hash.new.rng) c.make_hash.new.meter
     c.obtain.new.left c.in_ok-password.ensures.password c.obtain.ensures.turns c.make_hash.ensures.stream
     c.in_ok-hash.ensures.count (c.as_slice.ensures.value ∙ (c.render-line.ensures ∙ the_line c.args.job.now c.in_ok-password.password (g.R.Rng.stream c.args.rng.now) c.in_ok-hash.hash
     c.args.meter.now c.make_hash.new.meter c.reading-before.result c.work_since-work.result c.in_ok-hash.ensures.hash c.in_ok-hash.ensures.count c.reading-before.ensures c.work_since-work.ensures.raised)) in
     let p = err_from_is_err_and c.from_residual-in_err-finish_both.result c.from_residual-in_err-finish_both.ensures.1 in
-    rw (p.1, p.2) (ending.ends-unfinished c.args.turns c.args.job.now c.args.from.now c.in_ok-password.password c.as_slice.result.now old
+    rw (p.1, p.2) (runs_one c.args.turns c.args.job.now c.args.from.now _ _ _ (ending.ends-unfinished c.args.turns c.args.job.now c.args.from.now c.in_ok-password.password c.as_slice.result.now old
     c.obtain.new.input c.send.new.out c.finish_both.new.out c.finish_both.new.faults
     (g.R.Rng.stream c.make_hash.new.rng) c.make_hash.new.meter c.obtain.new.left (Unit {0}) c.in_err-finish_both.field-0.0
-    has c.in_ok-send.ensures.delivers c.in_err-finish_both.ensures.finishes)
+    has c.in_ok-send.ensures.delivers c.in_err-finish_both.ensures.finishes) (search rules))
 
-pub returns-clause-ends : goal.returns-clause-ends
-returns-clause-ends g c =
+pub returns-clause-runs : goal.returns-clause-runs
+returns-clause-runs g c =
     let old = run_state c.args.input.now c.args.out.now c.args.faults.now (g.R.Rng.stream c.args.rng.now) c.args.meter.now in
     let has = ending.has_hash c.args.turns c.args.job.now c.args.from.now c.in_ok-password.password c.as_slice.result.now old c.obtain.new.input (g.R.Rng.stream c.make_hash.new.rng) c.make_hash.new.meter
     c.obtain.new.left c.in_ok-password.ensures.password c.obtain.ensures.turns c.make_hash.ensures.stream
     c.in_ok-hash.ensures.count (c.as_slice.ensures.value ∙ (c.render-line.ensures ∙ the_line c.args.job.now c.in_ok-password.password (g.R.Rng.stream c.args.rng.now) c.in_ok-hash.hash
     c.args.meter.now c.make_hash.new.meter c.reading-before.result c.work_since-work.result c.in_ok-hash.ensures.hash c.in_ok-hash.ensures.count c.reading-before.ensures c.work_since-work.ensures.raised)) in
-    ending.ends-finished c.args.turns c.args.job.now c.args.from.now c.in_ok-password.password c.as_slice.result.now old
+    runs_one c.args.turns c.args.job.now c.args.from.now _ _ _ (ending.ends-finished c.args.turns c.args.job.now c.args.from.now c.in_ok-password.password c.as_slice.result.now old
     c.obtain.new.input c.send.new.out c.finish_both.new.out c.finish_both.new.faults
     (g.R.Rng.stream c.make_hash.new.rng) c.make_hash.new.meter c.obtain.new.left c.in_ok-finish_both.field-0
-    has c.in_ok-send.ensures.delivers c.in_ok-finish_both.ensures.finishes
-
--- ---- what only lines have has no effect
-
-pub returns-in_err-password-clause-options : goal.returns-in_err-password-clause-options
-returns-in_err-password-clause-options g c =
-    unoptioned c.args.turns c.args.job.now c.args.from.now _ _ c.from_residual.result (returns-in_err-password-clause-ends g c)
-
-pub returns-in_err-hash-clause-options : goal.returns-in_err-hash-clause-options
-returns-in_err-hash-clause-options g c =
-    unoptioned c.args.turns c.args.job.now c.args.from.now _ _ c.from_residual-in_err-hash.result (returns-in_err-hash-clause-ends g c)
-
-pub returns-in_err-send-clause-options : goal.returns-in_err-send-clause-options
-returns-in_err-send-clause-options g c =
-    unoptioned c.args.turns c.args.job.now c.args.from.now _ _ c.from_residual-in_err-send.result (returns-in_err-send-clause-ends g c)
-
-pub returns-in_err-finish_both-clause-options : goal.returns-in_err-finish_both-clause-options
-returns-in_err-finish_both-clause-options g c =
-    unoptioned c.args.turns c.args.job.now c.args.from.now _ _ c.from_residual-in_err-finish_both.result (returns-in_err-finish_both-clause-ends g c)
-
-pub returns-clause-options : goal.returns-clause-options
-returns-clause-options g c =
-    unoptioned c.args.turns c.args.job.now c.args.from.now _ _ _ (returns-clause-ends g c)
+    has c.in_ok-send.ensures.delivers c.in_ok-finish_both.ensures.finishes) (search rules)

@@ -2,7 +2,7 @@ use Rattle.std.proofs.Common.{◌≡◌, ◌∙◌, ap, rules, subst, sym}
 use Rattle.std.specs.Prelude.{Err, Some}
 use Rattle.crypt_core.specs.declared.setting.fault.MakeFault.{MakeFault}
 use Rattle.crypt_core.specs.declared.setting.fault.MakeFault.TheVariants.{Cost}
-use Rattle.crypt_core.specs.MadeSettings.{IsMakeRefused, TakesCost}
+use Rattle.crypt_core.specs.MadeSettings.{IsMakeRefused, TakesRounds}
 use Rattle.crypt_core.specs.Private.Parts.{TakesSalt}
 use Rattle.crypt_core.specs.Schemes.{method_of}
 use Rattle.crypt_core.specs.declared.method.Method.{Method}
@@ -20,7 +20,7 @@ returns-in-Err-clause-refused c = c.in-Err.ensures.err c.args.cost
 
 pub returns-in_err-scheme-in-Ok-clause-refused : goal.returns-in_err-scheme-in-Ok-clause-refused
 returns-in_err-scheme-in-Ok-clause-refused c =
-    let cost : TakesCost c.args.method c.args.cost → ⊥ = search rules in
+    let cost : TakesRounds c.args.method c.args.cost → ⊥ = search rules in
     let refused : IsMakeRefused c.args.method c.args.cost (Some c.args.salt.now) Cost = make_refused_cost c.args.method c.args.cost c.args.salt.now c.in-Ok.ensures.ok cost in
     search (rules, refused)
 
@@ -34,7 +34,7 @@ returns-in_err-scheme-in-Ok-clause-each_refusal c =
 
 pub returns-in_ok-scheme-in-Ok-clause-each_refusal : goal.returns-in_ok-scheme-in-Ok-clause-each_refusal
 returns-in_ok-scheme-in-Ok-clause-each_refusal c =
-    let cost : TakesCost c.args.method c.args.cost = search rules in
+    let cost : TakesRounds c.args.method c.args.cost = search rules in
     only_make_refusal c.args.method c.args.cost (Some c.args.salt.now) _ (taken c.args.method c.args.cost c.args.salt.now c.in-Ok.ensures.ok cost) tt
 
 pub returns-in-Err-clause-accepted : goal.returns-in-Err-clause-accepted

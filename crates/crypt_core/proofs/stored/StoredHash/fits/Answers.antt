@@ -9,7 +9,7 @@ use Rattle.crypt_core.proofs.stored.StoredHash.fits.Goals as goal
 
 -- A text spells one setting at most, so the hash that was compared is the only one that could be the text.
 pub returns-clause-fits : goal.returns-clause-fits
-returns-clause-fits c =
+returns-clause-fits g c =
     let password = c.args.password.now in
     let stored = c.self.inside.text.now in
     let setting : SettingValue = c.self.inside.setting in

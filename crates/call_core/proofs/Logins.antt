@@ -1,0 +1,184 @@
+-- What the report of a login says of its password and the stored hash.
+use Rattle.std.proofs.Common.{◌≡◌, ◌≤◌, ◌⊎◌, ℕ, Bool, Some, List, Err, length, nat_lt, if◌then◌else◌, false, true, ap, inl, inr, refl, sym, subst, arith}
+use Rattle.std.specs.Prelude.{IsTrue, MatchBool}
+use Rattle.std.specs.Str.{bytes_eq}
+use Rattle.prims_core.specs.Work.{no_work}
+use Rattle.prims_core.specs.declared.meter.Work.{Work}
+use Rattle.crypt_core.specs.Crypt.{IsAfterRefusedGrowth, crypt}
+use Rattle.crypt_core.specs.Methods.{method_numbered}
+use Rattle.crypt_core.specs.Passwords.{IsPassword, IsPasswordRefused}
+use Rattle.crypt_core.specs.Replacements.{is_replaced_by}
+use Rattle.crypt_core.specs.Settings.{SettingValue, Spells}
+use Rattle.crypt_core.specs.Work.{cost, work}
+use Rattle.crypt_core.specs.declared.method.Method.{Method}
+use Rattle.crypt_core.specs.declared.password.PasswordFault.{PasswordFault}
+use Rattle.crypt_core.specs.declared.password.PasswordFault.TheVariants.{TooLong, HasNul}
+use Rattle.crypt_core.specs.declared.scheme.Scheme.{Scheme}
+use Rattle.call_core.specs.Arguments.{IsSchemeMade, IsSchemeReading, TakesNewRounds}
+use Rattle.call_core.specs.Checks.{Compares, Verifies}
+use Rattle.call_core.specs.Private.Checks.{IsCheckRefused}
+use Rattle.call_core.specs.Private.Hashes.{IsRequestRefused}
+use Rattle.call_core.specs.Reports.{LacksMemory, refused, reported}
+use Rattle.call_core.specs.declared.reason.Reason.{Reason}
+use Rattle.call_core.specs.declared.reason.Reason.TheVariants.{Fits, Outdated, Refused}
+use Rattle.call_core.specs.declared.reason.Refusal.{Refusal}
+use Rattle.call_core.specs.declared.reason.Refusal.TheVariants.{Differs, OverBudget, Password}
+use Rattle.call_core.specs.declared.report.Report.{Report}
+use Rattle.call_core.proofs.Schemes.{made_once}
+use Rattle.call_core.specs.Logins.{Agrees, Declines, IsHashWork, IsLoginWork, IsUncheckable, LogsIn, decoy}
+
+-- ---- The report, by the branches of a login
+
+pub refused_request : (password field : List ℕ) (number rounds budget : ℕ) (report : Report) → IsRequestRefused password number rounds report
+    → LogsIn password field number rounds budget report
+refused_request password field number rounds budget report (inr refused) = inr refused
+refused_request password field number rounds budget report (inl (is, inr refused)) = inl (is, inr refused)
+refused_request password field number rounds budget report (inl (is, inl (scheme, makes, never))) = absurd never
+
+pub declined : (password field : List ℕ) (number rounds budget : ℕ) (scheme : Scheme) (refusal report : Report)
+    → IsPassword password → IsSchemeMade TakesNewRounds number rounds scheme → IsCheckRefused password field budget refusal
+    → Declines password scheme budget refusal report → LogsIn password field number rounds budget report
+declined password field number rounds budget scheme refusal report is makes (inl (first, refused, e)) declines =
+    inl (is, inl (scheme, makes, inr (first, refused, rw e at declines)))
+declined password field number rounds budget scheme refusal report is makes (inr (kept, spells, above, e)) declines =
+    let test : nat_lt budget (cost kept (length password)) ≡ true = grind arith in
+    inl (is, inl (scheme, makes, inl (kept, spells, rw test (rw e at declines))))
+
+pub compared : (password field : List ℕ) (number rounds budget : ℕ) (scheme : Scheme) (kept : SettingValue) (report : Report)
+    → IsPassword password → IsSchemeMade TakesNewRounds number rounds scheme → Spells field kept → cost kept (length password) ≤ budget
+    → Compares password kept field (if is_replaced_by kept.scheme scheme then Outdated else Fits) report
+    → LogsIn password field number rounds budget report
+compared password field number rounds budget scheme kept report is makes spells low compares =
+    let test : nat_lt budget (cost kept (length password)) ≡ false = grind arith in
+    inl (is, inl (scheme, makes, inl (kept, spells, rw test compares)))
+
+pub outdated_fits : (kept other : SettingValue) (scheme also : Scheme) (reason : Reason)
+    → reason ≡ (if is_replaced_by kept.scheme scheme then Outdated else Fits) → kept ≡ other → scheme ≡ also
+    → IsTrue (is_replaced_by other.scheme also) → reason ≡ Outdated
+outdated_fits kept other scheme also reason e same made is =
+    let replaced : is_replaced_by other.scheme also ≡ true = is in
+    let told = rw (same, made) at e in
+    rw replaced at told
+
+-- ---- It agrees with mkpasswd_verify
+
+-- a number and a cost that make a scheme are not refused
+never_refused : (number rounds : ℕ) (scheme : Scheme) (Then : Type 0) → IsSchemeMade TakesNewRounds number rounds scheme
+    → (method : Method) → method_numbered number ≡ Some method → ¬ TakesNewRounds method rounds → Then
+never_refused number rounds scheme Then makes method named never =
+    let same : method ≡ makes.0 = cc (named, makes.1) in
+    absurd (never (rw same makes.2))
+
+declined_agrees : (password : List ℕ) (scheme : Scheme) (budget : ℕ) (refusal report : Report)
+    → Declines password scheme budget refusal report → Agrees report refusal
+declined_agrees password scheme budget refusal report declines =
+    (ap (λ (r : Report). r.cost) declines.0, inl (ap (λ (r : Report). r.reason) declines.0))
+
+told_agrees : (equal replaced : Bool) (most : ℕ) (counts : Work) (report : Report)
+    → report ≡ reported (if equal then (if replaced then Outdated else Fits) else Refused Differs) 0 most counts
+    → Agrees report (reported (if equal then Fits else Refused Differs) 0 most counts)
+told_agrees false replaced most counts report e = rw e (refl, inl refl)
+told_agrees true false most counts report e = rw e (refl, inl refl)
+told_agrees true true most counts report e = rw e (refl, inr (refl, refl))
+
+checked_agrees : (over equal replaced : Bool) (password : List ℕ) (budget most : ℕ) (scheme : Scheme) (kept : SettingValue) (report : Report)
+    → MatchBool over (Declines password scheme budget (refused OverBudget most) report)
+    ((report ≡ reported (if equal then (if replaced then Outdated else Fits) else Refused Differs) 0 most (work password kept))
+    ⊎ LacksMemory kept most report)
+    → (verified : Report) × MatchBool over (verified ≡ refused OverBudget most)
+    ((verified ≡ reported (if equal then Fits else Refused Differs) 0 most (work password kept)) ⊎ LacksMemory kept most verified)
+    × Agrees report verified
+checked_agrees true equal replaced password budget most scheme kept report declines =
+    (refused OverBudget most, refl, declined_agrees password scheme budget (refused OverBudget most) report declines)
+checked_agrees false equal replaced password budget most scheme kept report (inl told) = (
+  reported (if equal then Fits else Refused Differs) 0 most (work password kept),
+  inl refl,
+  told_agrees equal replaced most (work password kept) report told,
+)
+checked_agrees false equal replaced password budget most scheme kept report (inr lacks) = (report, inr lacks, (refl, inl refl))
+
+pub agrees : (password field : List ℕ) (number rounds budget : ℕ) (scheme : Scheme) (report : Report)
+    → IsSchemeMade TakesNewRounds number rounds scheme → LogsIn password field number rounds budget report
+    → (verified : Report) × Verifies password field budget verified × Agrees report verified
+agrees password field number rounds budget scheme report makes (inr (fault, is, e)) =
+    (refused (Password fault) 0, inr (fault, is, refl), rw e (refl, inl refl))
+agrees password field number rounds budget scheme report makes (inl (is, inr (inl (none, e)))) = absurd (cc (none, makes.1))
+agrees password field number rounds budget scheme report makes (inl (is, inr (inr (method, named, never, e)))) =
+    never_refused number rounds scheme _ makes method named never
+agrees password field number rounds budget scheme report makes (inl (is, inl (other, also, inr (fault, broken, declines)))) =
+    (refused fault 0, inl (is, inr (fault, broken, refl)), declined_agrees password other budget (refused fault 0) report declines)
+agrees password field number rounds budget scheme report makes (inl (is, inl (other, also, inl (kept, spells, checked)))) =
+    let most = cost kept (length password) in
+    let agree = checked_agrees (nat_lt budget most) (bytes_eq (crypt password kept) field) (is_replaced_by kept.scheme other)
+    password budget most other kept report checked in
+    (agree.0, inl (is, inl (kept, spells, agree.1)), agree.2)
+
+-- ---- Its work
+
+checked_work : (above : Bool) (password field : List ℕ) (budget : ℕ) (scheme : Scheme) (kept : SettingValue) (reason : Reason) (report : Report)
+    → nat_lt budget (cost kept (length password)) ≡ above
+    → MatchBool above (Declines password scheme budget (refused OverBudget (cost kept (length password))) report) (Compares password kept field reason report)
+    → IsHashWork password (decoy scheme) budget report.work ⊎ IsHashWork password kept budget report.work
+checked_work true password field budget scheme kept reason report e declines = inl declines.1
+checked_work false password field budget scheme kept reason report e (inl told) = inr (rw e (inl (ap (λ (r : Report). r.work) told)))
+checked_work false password field budget scheme kept reason report e (inr (done, failed, told)) =
+    let same : report.work ≡ done = ap (λ (r : Report). r.work) told in
+    inr (rw e (inr (subst (λ (w : Work). IsAfterRefusedGrowth no_work kept.scheme w) (sym same) failed)))
+
+pub one_hash : (password field : List ℕ) (number rounds budget : ℕ) (report : Report) → LogsIn password field number rounds budget report
+    → IsLoginWork password field number rounds budget report.work
+one_hash password field number rounds budget report (inr (fault, is, e)) = inl (ap (λ (r : Report). r.work) e)
+one_hash password field number rounds budget report (inl (is, inr (inl (none, e)))) = inl (ap (λ (r : Report). r.work) e)
+one_hash password field number rounds budget report (inl (is, inr (inr (method, named, never, e)))) = inl (ap (λ (r : Report). r.work) e)
+one_hash password field number rounds budget report (inl (is, inl (scheme, makes, inr (fault, broken, declines)))) =
+    inr (decoy scheme, inr (scheme, makes, refl), declines.1)
+one_hash password field number rounds budget report (inl (is, inl (scheme, makes, inl (kept, spells, checked)))) =
+    elim (checked_work (nat_lt budget (cost kept (length password))) password field budget scheme kept
+    (if is_replaced_by kept.scheme scheme then Outdated else Fits) report refl checked) [
+      | inl new ↦ inr (decoy scheme, inr (scheme, makes, refl), new)
+      | inr old ↦ inr (kept, inl spells, old)
+    ]
+
+-- a stored hash that can't be checked costs what a new hash costs
+pub pretends : (password field : List ℕ) (number rounds budget : ℕ) (scheme : Scheme) (report : Report)
+    → IsSchemeMade TakesNewRounds number rounds scheme → IsPassword password → IsUncheckable password field budget
+    → LogsIn password field number rounds budget report → IsHashWork password (decoy scheme) budget report.work
+pretends password field number rounds budget scheme report makes is never (inr (TooLong, broken, e)) = absurd (omega (arith, is.0, broken))
+pretends password field number rounds budget scheme report makes is never (inr (HasNul, broken, e)) = absurd (is.1 broken.1)
+pretends password field number rounds budget scheme report makes is never (inl (also, inr (inl (none, e)))) = absurd (cc (none, makes.1))
+pretends password field number rounds budget scheme report makes is never (inl (also, inr (inr (method, named, not, e)))) =
+    never_refused number rounds scheme _ makes method named not
+pretends password field number rounds budget scheme report makes is never (inl (also, inl (other, made, inr (fault, broken, declines)))) =
+    let same : other ≡ scheme = made_once TakesNewRounds TakesNewRounds number rounds other scheme made makes in
+    rw same at declines.1
+pretends password field number rounds budget scheme report makes is never (inl (also, inl (other, made, inl (kept, spells, checked)))) =
+    let same : other ≡ scheme = made_once TakesNewRounds TakesNewRounds number rounds other scheme made makes in
+    let above : nat_lt budget (cost kept (length password)) ≡ true = grind (arith, never kept spells) in
+    let declines = rw above at checked in
+    rw same at declines.1
+
+-- a password that no hash has is refused alike for every field
+pub alike : (password field : List ℕ) (number rounds budget : ℕ) (fault : PasswordFault) (report : Report)
+    → IsPasswordRefused password fault → LogsIn password field number rounds budget report → report ≡ refused (Password fault) 0
+alike password field number rounds budget TooLong report broken (inl (is, rest)) = absurd (omega (arith, is.0, broken))
+alike password field number rounds budget HasNul report broken (inl (is, rest)) = absurd (is.1 broken.1)
+alike password field number rounds budget TooLong report broken (inr (TooLong, also, e)) = e
+alike password field number rounds budget HasNul report broken (inr (HasNul, also, e)) = e
+alike password field number rounds budget TooLong report broken (inr (HasNul, also, e)) = absurd (omega (arith, also.0, broken))
+alike password field number rounds budget HasNul report broken (inr (TooLong, also, e)) = absurd (omega (arith, broken.0, also))
+
+-- a method and a cost that no new hash has are refused alike for every field
+pub alike_cost : (password field : List ℕ) (number rounds budget : ℕ) (refusal : Refusal) (report : Report) → IsPassword password
+    → IsSchemeReading TakesNewRounds number rounds (Err refusal) → LogsIn password field number rounds budget report → report ≡ refused refusal 0
+alike_cost password field number rounds budget refusal report is reading (inr (TooLong, broken, e)) = absurd (omega (arith, is.0, broken))
+alike_cost password field number rounds budget refusal report is reading (inr (HasNul, broken, e)) = absurd (is.1 broken.1)
+alike_cost password field number rounds budget refusal report is (inl (kind, none)) (inl (also, inr (inl (nobody, e)))) = rw kind e
+alike_cost password field number rounds budget refusal report is (inr (kind, rest)) (inl (also, inr (inr (method, named, never, e)))) = rw kind e
+alike_cost password field number rounds budget refusal report is (inl (kind, none)) (inl (also, inr (inr (method, named, never, e)))) =
+    absurd (cc (none, named))
+alike_cost password field number rounds budget refusal report is (inr (kind, (method, named, never))) (inl (also, inr (inl (none, e)))) =
+    absurd (cc (none, named))
+alike_cost password field number rounds budget refusal report is (inl (kind, none)) (inl (also, inl (scheme, makes, rest))) =
+    absurd (cc (none, makes.1))
+alike_cost password field number rounds budget refusal report is (inr (kind, (method, named, never))) (inl (also, inl (scheme, makes, rest))) =
+    never_refused number rounds scheme _ makes method named never

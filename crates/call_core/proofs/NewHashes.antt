@@ -1,0 +1,66 @@
+-- Hashes that are made, and put into the caller's bytes.
+use Rattle.std.proofs.Common.{◌≡◌, ◌≢◌, ◌==◌, ℕ, List, [], ◌∷◌, length, Result, Ok, Err, false, inl, inr, arith}
+use Rattle.std.specs.Prelude.{MatchBool, MatchResult, Bool, true}
+use Rattle.crypt_core.specs.MadeSettings.{salted}
+use Rattle.crypt_core.specs.Passwords.{IsPassword}
+use Rattle.crypt_core.specs.declared.scheme.Scheme.{Scheme}
+use Rattle.call_core.specs.Arguments.{IsSchemeMade, TakesNewRounds}
+use Rattle.call_core.specs.Hashes.{PutsHash, admission}
+use Rattle.call_core.specs.Private.Hashes.{IsPut, MakesHash}
+use Rattle.call_core.specs.Reports.{Leaves, put, refused, token}
+use Rattle.call_core.specs.declared.reason.Refusal.TheVariants.{NoRandomNumbers}
+use Rattle.call_core.specs.declared.report.Report.{Report}
+use Rattle.call_core.proofs.Hashes.{puts}
+use Rattle.call_core.specs.Hashes.{HashesAnew}
+use Rattle.call_core.specs.Private.Hashes.{MakesHashAnew}
+
+-- ---- What is made
+
+pub without_numbers : (password : List ℕ) (number rounds : ℕ) (numbers : List ℕ) (budget room : ℕ) (scheme : Scheme) (admitted : Result ℕ Report)
+    (made : Result (List ℕ × Report) Report) → IsPassword password → IsSchemeMade TakesNewRounds number rounds scheme
+    → (length numbers == 3) ≡ false → admitted ≡ admission budget room password (salted scheme (0 ∷ 0 ∷ 0 ∷ []))
+    → MatchResult admitted (λ most. made ≡ Err (refused NoRandomNumbers most)) (λ refusal. made ≡ Err refusal)
+    → MakesHashAnew password number rounds numbers budget room made
+without_numbers password number rounds numbers budget room scheme admitted made is makes missing e fails =
+    inl (is, inl (scheme, makes, rw missing (rw e at fails)))
+
+-- ---- What is put
+
+fails_at : (old : List ℕ) (made : Result (List ℕ × Report) Report) (report : Report) (new : List ℕ) (admitted : Result ℕ Report)
+    → MatchResult admitted (λ most. made ≡ Err (refused NoRandomNumbers most)) (λ refusal. made ≡ Err refusal)
+    → IsPut made (token []) old report new
+    → MatchResult admitted (λ most. Leaves (refused NoRandomNumbers most) (token []) old report new) (λ refusal. Leaves refusal (token []) old report new)
+fails_at old made report new (Ok most) e put = rw e at put
+fails_at old made report new (Err refusal) e put = rw e at put
+
+puts_with : (password : List ℕ) (scheme : Scheme) (numbers : List ℕ) (budget : ℕ) (old : List ℕ) (made : Result (List ℕ × Report) Report)
+    (report : Report) (new : List ℕ) (three : Bool)
+    → MatchBool three
+    (MakesHash password (salted scheme numbers) budget (length old) made)
+    (MatchResult (admission budget (length old) password (salted scheme (0 ∷ 0 ∷ 0 ∷ [])))
+    (λ most. made ≡ Err (refused NoRandomNumbers most))
+    (λ refusal. made ≡ Err refusal))
+    → IsPut made (token []) old report new
+    → MatchBool three
+    (PutsHash password (salted scheme numbers) budget (token []) old report new)
+    (MatchResult (admission budget (length old) password (salted scheme (0 ∷ 0 ∷ 0 ∷ [])))
+    (λ most. Leaves (refused NoRandomNumbers most) (token []) old report new)
+    (λ refusal. Leaves refusal (token []) old report new))
+puts_with password scheme numbers budget old made report new true makes put =
+    puts password (salted scheme numbers) budget (token []) old made report new makes put
+puts_with password scheme numbers budget old made report new false makes put =
+    fails_at old made report new (admission budget (length old) password (salted scheme (0 ∷ 0 ∷ 0 ∷ []))) makes put
+
+pub puts_new_hash : (password : List ℕ) (number rounds budget : ℕ) (numbers old : List ℕ) (made : Result (List ℕ × Report) Report) (report : Report)
+    (new : List ℕ) → MakesHashAnew password number rounds numbers budget (length old) made → IsPut made (token []) old report new
+    → HashesAnew password number rounds budget numbers old report new
+puts_new_hash password number rounds budget numbers old made report new (inr (fault, is, e)) put = inr (fault, is, rw e at put)
+puts_new_hash password number rounds budget numbers old made report new (inl (is, inr (inl (none, e)))) put =
+    inl (is, inr (inl (none, rw e at put)))
+puts_new_hash password number rounds budget numbers old made report new (inl (is, inr (inr (method, named, never, e)))) put =
+    inl (is, inr (inr (method, named, never, rw e at put)))
+puts_new_hash password number rounds budget numbers old made report new (inl (is, inl (scheme, makes, made_by))) put =
+    inl (is, inl (scheme, makes, puts_with password scheme numbers budget old made report new (length numbers == 3) made_by put))
+
+pub no_three : (n : ℕ) → n ≢ 3 → (n == 3) ≡ false
+no_three n other = grind arith

@@ -1,0 +1,46 @@
+use Rattle.std.proofs.Common.{◌≡◌, ◌∙◌, if◌then◌else◌, false, true, ap, arith}
+use Rattle.crypt_core.specs.MadeSettings.{TakesRounds}
+use Rattle.crypt_core.specs.Replacements.{is_replaced_by}
+use Rattle.call_core.specs.Arguments.{TakesNewRounds}
+use Rattle.call_core.specs.Reasons.{reason_row}
+use Rattle.call_core.specs.declared.reason.Reason.{Reason}
+use Rattle.call_core.specs.declared.reason.Reason.TheVariants.{Fits, Outdated}
+use Rattle.call_core.proofs.Logins.{compared, declined, outdated_fits}
+use Rattle.call_core.proofs.Schemes.{made_once}
+use Rattle.call_core.proofs.login.log_in.Goals as goal
+use Rattle.call_core.proofs.login.log_in.Goals.{then-is_replaced_by, else-is_replaced_by}
+
+pub returns-in-Err-checkable-clause-logs_in : goal.returns-in-Err-checkable-clause-logs_in
+returns-in-Err-checkable-clause-logs_in g c =
+    let password = c.in-Ok.ensures.password in
+    declined c.args.password.now c.args.field.now c.args.method c.args.rounds c.args.budget c.in-Ok.request.1 _ _ password.1 c.in-Ok.ensures.scheme
+    (rw password.0 at c.in-Err-checkable.ensures.refused) (rw (password.0, c.salted-decoy.ensures) at c.decline.ensures.declines)
+
+pub returns-after-is_replaced_by-clause-logs_in : goal.returns-after-is_replaced_by-clause-logs_in
+returns-after-is_replaced_by-clause-logs_in g c =
+    let kept = (c.in-Ok-checkable.stored).setting in
+    let scheme = c.in-Ok.request.1 in
+    let password = c.in-Ok.ensures.password in
+    let found = c.in-Ok-checkable.ensures.found in
+    let within = rw password.0 at c.in-Ok-checkable.ensures.within in
+    let fits : c.if-is_replaced_by.fits ≡ (if is_replaced_by kept.scheme scheme then Outdated else Fits) =
+    elim c.if-is_replaced_by.branch [
+      | then-is_replaced_by w ↦ let e : is_replaced_by kept.scheme scheme ≡ true = cc in rw e w.fits-is
+      | else-is_replaced_by w ↦ let e : is_replaced_by kept.scheme scheme ≡ false = cc in rw e w.fits-is
+    ] in
+    compared c.args.password.now c.args.field.now c.args.method c.args.rounds c.args.budget scheme kept _ password.1 c.in-Ok.ensures.scheme
+    found.spells (omega (arith, within)) (rw (password.0, found.is_text, fits) at c.compare.ensures.compares)
+
+pub returns-after-is_replaced_by-clause-replaced : goal.returns-after-is_replaced_by-clause-replaced
+returns-after-is_replaced_by-clause-replaced g c = λ positive is.
+    let kept = (c.in-Ok-checkable.stored).setting in
+    let scheme = c.in-Ok.request.1 in
+    let same : kept ≡ is.0 = c.in-Ok-checkable.ensures.only is.0 is.2 in
+    let made : scheme ≡ is.1 = made_once TakesNewRounds TakesRounds c.args.method c.args.rounds scheme is.1 c.in-Ok.ensures.scheme is.3 in
+    let fits : c.if-is_replaced_by.fits ≡ (if is_replaced_by kept.scheme scheme then Outdated else Fits) =
+    elim c.if-is_replaced_by.branch [
+      | then-is_replaced_by w ↦ let e : is_replaced_by kept.scheme scheme ≡ true = cc in rw e w.fits-is
+      | else-is_replaced_by w ↦ let e : is_replaced_by kept.scheme scheme ≡ false = cc in rw e w.fits-is
+    ] in
+    let is_outdated = outdated_fits kept is.0 scheme is.1 c.if-is_replaced_by.fits fits same made is.4 in
+    (c.compare.ensures.same positive).1 ∙ ap (λ (reason : Reason). (reason_row reason).0) is_outdated

@@ -1,0 +1,44 @@
+use Rattle.std.proofs.Common.{◌≡◌, ◌∙◌, inl, inr, sym, ap, arith}
+use Rattle.crypt_core.specs.Crypt.{allocates}
+use Rattle.crypt_core.specs.Settings.{SettingValue}
+use Rattle.call_core.proofs.Verdicts.{compared, declined}
+use Rattle.call_core.proofs.verify.verify.Goals as goal
+
+pub returns-in-Err-checkable-clause-verifies : goal.returns-in-Err-checkable-clause-verifies
+returns-in-Err-checkable-clause-verifies g c =
+    declined c.args.password.now c.args.stored.now c.args.budget _ c.in-Ok.ensures.ok.1
+    (rw c.in-Ok.ensures.ok.0 at c.in-Err-checkable.ensures.refused)
+
+pub returns-in-Err-checkable-clause-opens : goal.returns-in-Err-checkable-clause-opens
+returns-in-Err-checkable-clause-opens g c = λ opens.
+    absurd (cc (c.in-Err-checkable.ensures.admits opens.1.0 opens.1.1 (rw c.in-Ok.ensures.ok.0 opens.1.3)))
+
+pub returns-in-Err-checkable-clause-granted : goal.returns-in-Err-checkable-clause-granted
+returns-in-Err-checkable-clause-granted g c = let idle = c.in-Err-checkable.ensures.idle in inr (inr (idle.0, idle.1))
+
+pub returns-in-Ok-checkable-clause-verifies : goal.returns-in-Ok-checkable-clause-verifies
+returns-in-Ok-checkable-clause-verifies g c =
+    let kept = (c.in-Ok-checkable.stored).setting in
+    let found = c.in-Ok-checkable.ensures.found in
+    let within = rw c.in-Ok.ensures.ok.0 at c.in-Ok-checkable.ensures.within in
+    compared c.args.password.now c.args.stored.now c.args.budget kept _ c.in-Ok.ensures.ok.1 found.spells (omega (arith, within))
+    (rw (c.in-Ok.ensures.ok.0, found.is_text) at c.compare.ensures.compares)
+
+pub returns-in-Ok-checkable-clause-opens : goal.returns-in-Ok-checkable-clause-opens
+returns-in-Ok-checkable-clause-opens g c = λ opens.
+    let kept = (c.in-Ok-checkable.stored).setting in
+    let found = c.in-Ok-checkable.ensures.found in
+    let only = c.in-Ok-checkable.ensures.only in
+    let same : kept ≡ opens.1.0 = only opens.1.0 opens.1.1 in
+    elim (c.compare.ensures.opens (rw (c.in-Ok.ensures.ok.0, same, found.is_text) opens.1.2)) [
+      | inl positive ↦ inl positive
+      | inr lacks ↦ inr (lacks.0, λ free.
+          let also : kept ≡ free.0 = only free.0 free.1 in
+          cc (sym (ap (λ (k : SettingValue). allocates k.scheme) also) ∙ lacks.1, free.2))
+    ]
+
+pub returns-in-Ok-checkable-clause-granted : goal.returns-in-Ok-checkable-clause-granted
+returns-in-Ok-checkable-clause-granted g c = elim c.compare.ensures.granted [
+  | inl free ↦ inl ((c.in-Ok-checkable.stored).setting, c.in-Ok-checkable.ensures.found.spells, free)
+  | inr rest ↦ inr rest
+]

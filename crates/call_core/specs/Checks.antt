@@ -1,0 +1,44 @@
+-- The check of a password against a stored hash, for C and for a web page alike.
+--
+-- A password is the list of its bytes, `kept` is the setting that a text spells, and `most` is the cost of a hash: the most
+-- bytes that it digests and mixes.
+use Rattle.std.specs.Prelude.{◌≡◌, ◌⊎◌, ◌≤◌, if◌then◌else◌, ℕ, nat_lt, false, MatchBool, List, length}
+use Rattle.std.specs.Str.{bytes_eq}
+use Rattle.crypt_core.specs.Crypt.{allocates, crypt}
+use Rattle.crypt_core.specs.Passwords.{IsPassword}
+use Rattle.crypt_core.specs.Settings.{SettingValue, Spells}
+use Rattle.crypt_core.specs.Work.{cost, work}
+use Rattle.call_core.specs.Arguments.{OnField, OnPassword, Refuses}
+use Rattle.call_core.specs.Reports.{LacksMemory, refused, reported}
+use Rattle.call_core.specs.declared.reason.Reason.{Reason}
+use Rattle.call_core.specs.declared.reason.Reason.TheVariants.{Fits, Refused}
+use Rattle.call_core.specs.declared.reason.Refusal.TheVariants.{OverBudget, Differs}
+use Rattle.call_core.specs.declared.report.Report.{Report}
+
+-- A password that opens a stored hash: the hash spells a setting, the password's hash with that setting is the stored
+-- hash, and its cost is at most the budget.
+abbrev pub Opens : List ℕ → List ℕ → ℕ → Type 0
+Opens password stored budget =
+    IsPassword password × ((kept : SettingValue) × Spells stored kept × (crypt password kept ≡ stored)
+    × (cost kept (length password) ≤ budget))
+
+-- The text spells a setting with which a hash needs no memory.
+abbrev pub NeedsNoMemory : List ℕ → Type 0
+NeedsNoMemory text = (kept : SettingValue) × Spells text kept × (allocates kept.scheme ≡ false)
+
+-- The report of a hash that is compared with the stored one: `fits` or Differs, or that scrypt could not allocate.
+abbrev pub Compares : List ℕ → SettingValue → List ℕ → Reason → Report → Type 0
+Compares password kept stored fits report =
+    let most = cost kept (length password) in
+    (report ≡ reported (if bytes_eq (crypt password kept) stored then fits else Refused Differs) 0 most (work password kept))
+    ⊎ LacksMemory kept most report
+
+-- The report of mkpasswd_verify and web_verify.
+--   a refusal         that refusal
+--   above the budget  OverBudget and the cost, without work
+--   otherwise         Fits or Differs with the cost and the work of one hash, or that scrypt could not allocate
+abbrev pub Verifies : List ℕ → List ℕ → ℕ → Report → Type 0
+Verifies password stored budget report =
+    OnPassword password (Refuses report) (OnField stored (Refuses report) (λ kept.
+    let most = cost kept (length password) in
+    MatchBool (nat_lt budget most) (report ≡ refused OverBudget most) (Compares password kept stored Fits report)))

@@ -1,0 +1,53 @@
+-- The hash of a password with a setting, or with a new one, for C and for a web page alike.
+--
+-- A password is the list of its bytes, `kept` is the setting that a text spells, and `most` is the cost of a hash: the most
+-- bytes that it digests and mixes. `out` has the bytes
+-- `old` before a call, and `new` after it.
+use Rattle.std.specs.Prelude.{◌⊎◌, ◌==◌, if◌then◌else◌, ℕ, nat_lt, MatchBool, MatchResult, List, [], ◌∷◌, length, Result, Ok, Err}
+use Rattle.crypt_core.specs.Crypt.{crypt}
+use Rattle.crypt_core.specs.MadeSettings.{salted}
+use Rattle.crypt_core.specs.Settings.{SettingValue}
+use Rattle.crypt_core.specs.Work.{cost, work}
+use Rattle.call_core.specs.Arguments.{OnPassword, OnScheme, OnSetting, TakesNewRounds}
+use Rattle.call_core.specs.Reports.{LacksMemory, Leaves, refused, reported, token}
+use Rattle.call_core.specs.declared.reason.Reason.TheVariants.{Done}
+use Rattle.call_core.specs.declared.reason.Refusal.{Refusal}
+use Rattle.call_core.specs.declared.reason.Refusal.TheVariants.{TooFewBytes, OverBudget, NoRandomNumbers}
+use Rattle.call_core.specs.declared.report.Report.{Report}
+
+-- The cost, if the budget and then the capacity `room` allow the hash and a byte 0; otherwise the report of the
+-- refusal.
+abbrev pub admission : ℕ → ℕ → List ℕ → SettingValue → Result ℕ Report
+admission budget room password kept =
+    let most = cost kept (length password) in
+    if nat_lt budget most then Err (refused OverBudget most)
+    else if nat_lt (length (crypt password kept)) room then Ok most
+    else Err (refused TooFewBytes most)
+
+-- The report and `out` of a hash with a setting: the hash, or the lock with the first refusal in the order budget,
+-- capacity, memory.
+abbrev pub PutsHash : List ℕ → SettingValue → ℕ → List ℕ → List ℕ → Report → List ℕ → Type 0
+PutsHash password kept budget lock old report new =
+    let text = crypt password kept in
+    MatchResult (admission budget (length old) password kept)
+    (λ most. Leaves (reported Done (length text) most (work password kept)) text old report new
+    ⊎ (LacksMemory kept most report × Leaves report lock old report new))
+    (λ refusal. Leaves refusal lock old report new)
+
+-- The effect of mkpasswd_hash and web_hash: the hash, or the token with the first refusal.
+abbrev pub Hashes : List ℕ → List ℕ → ℕ → List ℕ → Report → List ℕ → Type 0
+Hashes password text budget old report new =
+    let Locks = λ (refusal : Refusal). Leaves (refused refusal 0) (token text) old report new in
+    OnPassword password Locks (OnSetting text Locks (λ kept. PutsHash password kept budget (token text) old report new))
+
+-- The effect of mkpasswd_new_from: with three random numbers the hash with the setting that they make. Without them it
+-- is the first refusal that precedes them, or else that they are missing.
+abbrev pub HashesAnew : List ℕ → ℕ → ℕ → ℕ → List ℕ → List ℕ → Report → List ℕ → Type 0
+HashesAnew password number rounds budget numbers old report new =
+    let Locks = λ (refusal : Refusal). Leaves (refused refusal 0) (token []) old report new in
+    OnPassword password Locks (OnScheme TakesNewRounds number rounds Locks (λ scheme.
+    MatchBool (length numbers == 3)
+    (PutsHash password (salted scheme numbers) budget (token []) old report new)
+    (MatchResult (admission budget (length old) password (salted scheme (0 ∷ 0 ∷ 0 ∷ [])))
+    (λ most. Leaves (refused NoRandomNumbers most) (token []) old report new)
+    (λ refusal. Leaves refusal (token []) old report new))))

@@ -1,0 +1,69 @@
+-- A login: the check of a password against a stored hash, which does the work of a new hash if it can't be made.
+--
+-- A password is the list of its bytes, `kept` is the setting that a text spells, and `most` is the cost of a hash: the most
+-- bytes that it digests and mixes.
+use Rattle.std.specs.Prelude.{◌≡◌, ◌⊎◌, ◌<◌, if◌then◌else◌, ℕ, nat_lt, MatchBool, List, [], ◌∷◌, length}
+use Rattle.prims_core.specs.Work.{no_work}
+use Rattle.prims_core.specs.declared.meter.Work.{Work}
+use Rattle.crypt_core.specs.Crypt.{IsAfterRefusedGrowth}
+use Rattle.crypt_core.specs.MadeSettings.{salted}
+use Rattle.crypt_core.specs.Replacements.{is_replaced_by}
+use Rattle.crypt_core.specs.Settings.{SettingValue, Spells}
+use Rattle.crypt_core.specs.Work.{cost, work}
+use Rattle.crypt_core.specs.declared.scheme.Scheme.{Scheme}
+use Rattle.call_core.specs.Arguments.{IsSchemeMade, OnField, OnPassword, OnScheme, Refuses, TakesNewRounds}
+use Rattle.call_core.specs.Checks.{Compares}
+use Rattle.call_core.specs.Reasons.{reason_row}
+use Rattle.call_core.specs.Reports.{refused}
+use Rattle.call_core.specs.declared.reason.Reason.TheVariants.{Fits, Outdated}
+use Rattle.call_core.specs.declared.reason.Refusal.TheVariants.{OverBudget}
+use Rattle.call_core.specs.declared.report.Report.{Report}
+
+-- The setting of the hash that a login makes and drops if it can't check the stored one: a new hash's, with a fixed salt.
+abbrev pub decoy : Scheme → SettingValue
+decoy scheme = salted scheme (0 ∷ 0 ∷ 0 ∷ [])
+
+-- The work of a hash with this setting, or of scrypt's allocations before one failed; none if the hash can cost more than
+-- the budget.
+abbrev pub IsHashWork : List ℕ → SettingValue → ℕ → Work → Type 0
+IsHashWork password kept budget done =
+    MatchBool (nat_lt budget (cost kept (length password)))
+    (done ≡ no_work)
+    ((done ≡ work password kept) ⊎ IsAfterRefusedGrowth no_work kept.scheme done)
+
+-- The report of a login that can't check the stored hash: the refusal, but with the work of the decoy.
+abbrev pub Declines : List ℕ → Scheme → ℕ → Report → Report → Type 0
+Declines password scheme budget refusal report =
+    (report ≡ record refusal { work = report.work }) × IsHashWork password (decoy scheme) budget report.work
+
+-- The report of mkpasswd_login.
+--   a refused password, method or cost   that refusal, without work
+--   a stored hash that can't be checked  the report of mkpasswd_verify with the work of the decoy
+--   otherwise                            the report of mkpasswd_verify, with Outdated in place of Fits if the scheme
+--                                        replaces the setting
+abbrev pub LogsIn : List ℕ → List ℕ → ℕ → ℕ → ℕ → Report → Type 0
+LogsIn password field number rounds budget report =
+    OnPassword password (Refuses report) (OnScheme TakesNewRounds number rounds (Refuses report) (λ scheme.
+    OnField field (λ refusal. Declines password scheme budget (refused refusal 0) report) (λ kept.
+    let most = cost kept (length password) in
+    MatchBool (nat_lt budget most)
+    (Declines password scheme budget (refused OverBudget most) report)
+    (Compares password kept field (if is_replaced_by kept.scheme scheme then Outdated else Fits) report))))
+
+-- The work of a login: none, or that of one hash, with the stored setting or with the decoy.
+abbrev pub IsLoginWork : List ℕ → List ℕ → ℕ → ℕ → ℕ → Work → Type 0
+IsLoginWork password field number rounds budget done =
+    (done ≡ no_work) ⊎ ((kept : SettingValue)
+    × (Spells field kept ⊎ ((scheme : Scheme) × IsSchemeMade TakesNewRounds number rounds scheme × (kept ≡ decoy scheme)))
+    × IsHashWork password kept budget done)
+
+-- A stored hash that a login can't check: each setting that it spells, if any, costs more than the budget.
+abbrev pub IsUncheckable : List ℕ → List ℕ → ℕ → Type 0
+IsUncheckable password field budget = (kept : SettingValue) → Spells field kept → budget < cost kept (length password)
+
+-- A report that agrees with that of mkpasswd_verify: its cost and reason are the same, but Outdated may stand for Fits.
+abbrev pub Agrees : Report → Report → Type 0
+Agrees report verified =
+    (report.cost ≡ verified.cost)
+    × ((report.reason ≡ verified.reason)
+    ⊎ ((report.reason ≡ (reason_row Outdated).0) × (verified.reason ≡ (reason_row Fits).0)))

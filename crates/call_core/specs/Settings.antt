@@ -1,0 +1,27 @@
+-- The bound on the work of a hash, and a new setting, for C and for a web page alike.
+use Rattle.std.specs.Prelude.{◌≡◌, ℕ, nat_lt, MatchBool, List, [], length}
+use Rattle.prims_core.specs.Work.{no_work}
+use Rattle.crypt_core.specs.MadeSettings.{TakesRounds, salted}
+use Rattle.crypt_core.specs.Settings.{canonical_text}
+use Rattle.crypt_core.specs.Work.{cost, work_bound}
+use Rattle.call_core.specs.Arguments.{OnLength, OnScheme, OnSetting, Refuses}
+use Rattle.call_core.specs.Reports.{Leaves, refused, reported, token}
+use Rattle.call_core.specs.declared.reason.Reason.TheVariants.{Done}
+use Rattle.call_core.specs.declared.reason.Refusal.TheVariants.{TooFewBytes}
+use Rattle.call_core.specs.declared.report.Report.{Report}
+
+-- The report of mkpasswd_bound and web_cost: the cost, and the bound on the work, of each password of this length.
+abbrev pub Bounds : ℕ → List ℕ → Report → Type 0
+Bounds len stored report =
+    OnLength len (Refuses report) (OnSetting stored (Refuses report) (λ kept.
+    report ≡ reported Done 0 (cost kept len) (work_bound kept len)))
+
+-- The effect of mkpasswd_setting and web_setting: the setting that the random numbers make; or the token, if the method or
+-- the cost is refused, or the capacity is too small.
+abbrev pub PutsSetting : ℕ → ℕ → List ℕ → List ℕ → Report → List ℕ → Type 0
+PutsSetting number rounds numbers old report new =
+    OnScheme TakesRounds number rounds (λ refusal. Leaves (refused refusal 0) (token []) old report new) (λ scheme.
+    let text = canonical_text (salted scheme numbers) in
+    MatchBool (nat_lt (length text) (length old))
+    (Leaves (reported Done (length text) 0 no_work) text old report new)
+    (Leaves (refused TooFewBytes 0) (token []) old report new))

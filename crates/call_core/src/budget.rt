@@ -1,0 +1,46 @@
+//! What a budget allows. Nothing here hashes or allocates.
+ghost use Rattle.std.specs.Prelude.{◌≡◌, ◌<◌, ◌≤◌, length, IfOk, IfErr};
+ghost use Rattle.crypt_core.specs.Work.{cost};
+ghost use Rattle.call_core.specs.Hashes.{admission};
+ghost use Rattle.call_core.specs.Reports.{refused};
+
+use crate::reason::Refusal;
+use crate::report::Report;
+use crypt_core::hash::hash_len;
+use crypt_core::password::Password;
+use crypt_core::setting::Setting;
+use crypt_core::work::cost;
+
+/// Returns the cost, if the budget allows the hash, or else the report of the refusal.
+pub(crate) fn cost_within(
+    password: &Password,
+    setting: &Setting,
+    budget: u64,
+) -> Result<u64, Report>
+    ensures within { IfOk result (λ most. (most ≡ cost setting.now (length password.now))
+        × (cost setting.now (length password.now) ≤ budget)) }
+    ensures above { IfErr result (λ report. (budget < cost setting.now (length password.now))
+        × (report ≡ refused Refusal.OverBudget (cost setting.now (length password.now)))) }
+{
+    let most = cost(setting, password.bytes().len());
+    if most > budget {
+        return Err(Report::refused(Refusal::OverBudget, most));
+    }
+    Ok(most)
+}
+
+/// Returns the cost, if the budget and then the capacity allow the hash, or else the report of the refusal.
+pub(crate) fn admit(
+    password: &Password,
+    setting: &Setting,
+    budget: u64,
+    room: usize,
+) -> Result<u64, Report>
+    ensures { result ≡ admission budget room password.now setting.now }
+{
+    let most = cost_within(password, setting, budget)?;
+    if hash_len(setting) >= room {
+        return Err(Report::refused(Refusal::TooFewBytes, most));
+    }
+    Ok(most)
+}

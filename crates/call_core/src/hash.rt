@@ -1,0 +1,110 @@
+//! The hash of a password with a setting.
+ghost use Rattle.std.specs.Prelude.{◌≡◌, ◌⊎◌, ◌≤◌, ◌<ℤ◌, pos, length, take, false, IsErr, IfOk};
+ghost use Rattle.prims_core.specs.Work.{no_work};
+ghost use Rattle.crypt_core.specs.Crypt.{allocates, crypt};
+ghost use Rattle.crypt_core.specs.Settings.{Spells};
+ghost use Rattle.crypt_core.specs.Work.{cost};
+ghost use Rattle.call_core.specs.Checks.{NeedsNoMemory, Opens};
+ghost use Rattle.call_core.specs.Hashes.{Hashes};
+ghost use Rattle.call_core.specs.Private.Hashes.{IsPut, IsTold, MakesHash, MakesHashOf};
+ghost use Rattle.call_core.specs.Reports.{put, token};
+
+use crate::budget::admit;
+use crate::reason::{Reason, Refusal};
+use crate::report::{Report, leave, token};
+use crypt_core::hash::{Hashed, hash_by};
+use crypt_core::memory::Memory;
+use crypt_core::password::Password;
+use crypt_core::setting::Setting;
+use prims_core::meter::Meter;
+
+/// Hashes the password with the setting in the text, and writes the hash to `out`, or after a refusal the token.
+pub fn put_hash<M: Memory>(
+    memory: &M,
+    password: &[u8],
+    text: &[u8],
+    budget: u64,
+    out: &mut [u8],
+    meter: &mut Meter,
+) -> Report
+    requires new { meter.old ≡ no_work }
+    ensures hashes { Hashes password.now text.now budget out.old result out.new }
+    ensures locked { ¬ (pos 0 <ℤ result.reason) → out.new ≡ put (token text.now) out.old }
+    ensures opens { pos 0 <ℤ result.reason → Opens password.now (take result.length out.new) budget
+        × (NeedsNoMemory (take result.length out.new) ⊎ M.HasSome) }
+    ensures within { pos 0 <ℤ result.reason → result.cost ≤ budget }
+    ensures granted { NeedsNoMemory text.now
+        ⊎ (M.HasSome ⊎ ((¬ (pos 0 <ℤ result.reason)) × (result.work ≡ no_work))) }
+    ensures bytes { result.work.bytes ≤ budget }
+    ensures counted { meter.new ≡ result.work }
+    ensures reserved { result.reserved ≡ 0 }
+{
+    let hashed = hash_of(memory, password, text, budget, out.len(), meter);
+    put_hashed(hashed, token(text), out)
+}
+
+/// Writes the hash to `out`, or after a refusal `lock`, and returns the report.
+pub(crate) fn put_hashed(
+    hashed: Result<(Hashed, Report), Report>,
+    lock: &[u8],
+    out: &mut [u8],
+) -> Report
+    ensures puts { IsPut hashed lock.now out.old result out.new }
+{
+    match hashed {
+        Ok((hashed, report)) => leave(report, out, hashed.text()),
+        Err(refused) => leave(refused, out, lock),
+    }
+}
+
+// Hashes the password with the setting in the text, for `room` bytes, and returns the hash and the report.
+fn hash_of<M: Memory>(
+    memory: &M,
+    password: &[u8],
+    text: &[u8],
+    budget: u64,
+    room: usize,
+    meter: &mut Meter,
+) -> Result<(Hashed, Report), Report>
+    requires new { meter.old ≡ no_work }
+    ensures makes { MakesHashOf password.now text.now budget room result }
+    ensures told { IsTold budget room meter.new result }
+    ensures opens { IfOk result (λ made. Opens password.now made.0 budget × (NeedsNoMemory made.0 ⊎ M.HasSome)) }
+    ensures granted { NeedsNoMemory text.now ⊎ (M.HasSome ⊎ (IsErr result × (meter.new ≡ no_work))) }
+    ensures bytes { meter.new.bytes ≤ budget }
+{
+    let password = Password::new(password)?;
+    let setting = Setting::read(text)?;
+    hash_within(memory, &password, &setting, budget, room, meter)
+}
+
+/// Hashes, if the budget and then `room` bytes allow it, and returns the hash and the report.
+pub(crate) fn hash_within<M: Memory>(
+    memory: &M,
+    password: &Password,
+    setting: &Setting,
+    budget: u64,
+    room: usize,
+    meter: &mut Meter,
+) -> Result<(Hashed, Report), Report>
+    requires new { meter.old ≡ no_work }
+    ensures makes { MakesHash password.now setting.now budget room result }
+    ensures told { IsTold budget room meter.new result }
+    ensures spells { IfOk result (λ made. Spells made.0 setting.now × (crypt password.now setting.now ≡ made.0)
+        × (cost setting.now (length password.now) ≤ budget) × ((allocates setting.now.scheme ≡ false) ⊎ M.HasSome)) }
+    ensures granted { (allocates setting.now.scheme ≡ false) ⊎ (M.HasSome ⊎ (IsErr result × (meter.new ≡ no_work))) }
+    ensures bytes { meter.new.bytes ≤ budget }
+{
+    let most = admit(password, setting, budget, room)?;
+    match hash_by(memory, password, setting, meter) {
+        Ok(hashed) => {
+            let length = hashed.text().len() as u32;
+            let report = Report::new(Reason::Done, length, most, meter.work());
+            Ok((hashed, report))
+        }
+        Err(_) => {
+            let reason = Reason::Refused(Refusal::OutOfMemory);
+            Err(Report::new(reason, 0, most, meter.work()))
+        }
+    }
+}

@@ -1,0 +1,88 @@
+//! A login: a password against a stored hash, which may be outdated. If the stored hash can't be checked, the password is
+//! hashed as a new one is, so that the call costs the same.
+ghost use Rattle.std.specs.Prelude.{◌≡◌, ◌⊎◌, ◌<ℤ◌, pos};
+ghost use Rattle.prims_core.specs.Work.{no_work};
+ghost use Rattle.crypt_core.specs.declared.scheme.Scheme.{Scheme as Made};
+ghost use Rattle.call_core.specs.Arguments.{IsSchemeMade, TakesNewRounds};
+ghost use Rattle.call_core.specs.Checks.{Opens};
+ghost use Rattle.call_core.specs.Logins.{IsHashWork, LogsIn};
+ghost use Rattle.call_core.specs.Reasons.{reason_row};
+ghost use Rattle.call_core.specs.Rehashes.{IsOutdated};
+
+use crate::budget::cost_within;
+use crate::reading::read_request;
+use crate::reason::{Reason, Refusal};
+use crate::report::Report;
+use crate::verify::{checkable, compare};
+use crypt_core::hash::hash_by;
+use crypt_core::memory::Memory;
+use crypt_core::password::Password;
+use crypt_core::setting::Setting;
+use prims_core::meter::Meter;
+
+/// Compares the password's hash with the stored one, if the budget allows it, or else makes and drops a hash like a new
+/// one. The reason tells whether a new hash with the method and the rounds would replace the stored one.
+pub fn log_in<M: Memory>(
+    memory: &M,
+    password: &[u8],
+    field: &[u8],
+    method: u32,
+    rounds: u32,
+    budget: u64,
+    meter: &mut Meter,
+) -> Report
+    requires new { meter.old ≡ no_work }
+    ensures logs_in { LogsIn password.now field.now method rounds budget result }
+    ensures lets_in { pos 0 <ℤ result.reason → Opens password.now field.now budget }
+    ensures opens { (scheme : Made) → IsSchemeMade TakesNewRounds method rounds scheme → Opens password.now field.now budget
+        → (pos 0 <ℤ result.reason) ⊎ (result.reason ≡ (reason_row (Reason.Refused Refusal.OutOfMemory)).0) }
+    ensures outdated { result.reason ≡ (reason_row Reason.Outdated).0 → IsOutdated field.now method rounds }
+    ensures replaced { pos 0 <ℤ result.reason → IsOutdated field.now method rounds
+        → result.reason ≡ (reason_row Reason.Outdated).0 }
+    ensures counted { meter.new ≡ result.work }
+    ensures reserved { result.reserved ≡ 0 }
+{
+    let (password, scheme) = match read_request(password, method, rounds) {
+        Ok(request) => request,
+        Err(refused) => return refused,
+    };
+    match checkable(&password, field, budget) {
+        Ok((stored, most)) => {
+            let fits = if stored.setting().scheme().is_replaced_by(&scheme) {
+                Reason::Outdated
+            } else {
+                Reason::Fits
+            };
+            compare(memory, &password, &stored, most, fits, meter)
+        }
+        Err(refused) => {
+            let decoy = Setting::salted(scheme, [0; 3]);
+            decline(memory, &password, &decoy, budget, refused, meter)
+        }
+    }
+}
+
+// Makes and drops a hash with the setting `decoy`, if the budget allows it, and returns the refusal with its work.
+fn decline<M: Memory>(
+    memory: &M,
+    password: &Password,
+    decoy: &Setting,
+    budget: u64,
+    refused: Report,
+    meter: &mut Meter,
+) -> Report
+    requires new { meter.old ≡ no_work }
+    requires refused { (¬ (pos 0 <ℤ refused.reason)) × (refused.work ≡ no_work) × (refused.reserved ≡ 0) }
+    ensures declines { (result ≡ record refused { work = result.work })
+        × IsHashWork password.now decoy.now budget result.work }
+    ensures counted { meter.new ≡ result.work }
+{
+    if cost_within(password, decoy, budget).is_err() {
+        return refused;
+    }
+    let _ = hash_by(memory, password, decoy, meter);
+    Report {
+        work: meter.work(),
+        ..refused
+    }
+}

@@ -1,0 +1,74 @@
+//! The hash of a password with a new setting.
+ghost use Rattle.std.specs.Prelude.{◌≡◌, ◌<ℤ◌, pos, [], take, IfOk};
+ghost use Rattle.prims_core.specs.Work.{no_work};
+ghost use Rattle.call_core.specs.Checks.{Opens};
+ghost use Rattle.call_core.specs.Hashes.{HashesAnew};
+ghost use Rattle.call_core.specs.Private.Hashes.{IsTold, MakesHashAnew};
+ghost use Rattle.call_core.specs.Rehashes.{Rehashes};
+ghost use Rattle.call_core.specs.Reports.{put, refused, token};
+
+use crate::budget::admit;
+use crate::hash::{hash_within, put_hashed};
+use crate::reading::read_request;
+use crate::reason::Refusal;
+use crate::report::{Report, token};
+use crypt_core::hash::Hashed;
+use crypt_core::memory::Memory;
+use crypt_core::setting::Setting;
+use prims_core::meter::Meter;
+
+/// Hashes the password with a new setting, and writes the hash to `out`, or after a refusal the token.
+///
+/// Without three random numbers it refuses, once nothing else but memory can be refused.
+pub fn put_new_hash<M: Memory>(
+    memory: &M,
+    password: &[u8],
+    method: u32,
+    rounds: u32,
+    numbers: &[u64],
+    budget: u64,
+    out: &mut [u8],
+    meter: &mut Meter,
+) -> Report
+    requires new { meter.old ≡ no_work }
+    ensures hashes { HashesAnew password.now method rounds budget numbers.now out.old result out.new }
+    ensures locked { ¬ (pos 0 <ℤ result.reason) → out.new ≡ put (token []) out.old }
+    ensures opens { pos 0 <ℤ result.reason → Opens password.now (take result.length out.new) budget }
+    ensures current { pos 0 <ℤ result.reason
+        → Rehashes (take result.length out.new) method rounds (refused Refusal.Current 0) }
+    ensures counted { meter.new ≡ result.work }
+    ensures reserved { result.reserved ≡ 0 }
+{
+    let room = out.len();
+    let hashed = new_hash_of(
+        memory, password, method, rounds, numbers, budget, room, meter,
+    );
+    put_hashed(hashed, token(b""), out)
+}
+
+// Hashes the password with a new setting, for `room` bytes, and returns the hash and the report.
+fn new_hash_of<M: Memory>(
+    memory: &M,
+    password: &[u8],
+    method: u32,
+    rounds: u32,
+    numbers: &[u64],
+    budget: u64,
+    room: usize,
+    meter: &mut Meter,
+) -> Result<(Hashed, Report), Report>
+    requires new { meter.old ≡ no_work }
+    ensures makes { MakesHashAnew password.now method rounds numbers.now budget room result }
+    ensures told { IsTold budget room meter.new result }
+    ensures opens { IfOk result (λ made. Opens password.now made.0 budget) }
+    ensures current { IfOk result (λ made. Rehashes made.0 method rounds (refused Refusal.Current 0)) }
+{
+    let (password, scheme) = read_request(password, method, rounds)?;
+    if numbers.len() == 3 {
+        let setting = Setting::salted(scheme, [numbers[0], numbers[1], numbers[2]]);
+        return hash_within(memory, &password, &setting, budget, room, meter);
+    }
+    // Neither the cost nor the length of a hash depends on the random numbers.
+    let most = admit(&password, &Setting::salted(scheme, [0; 3]), budget, room)?;
+    Err(Report::refused(Refusal::NoRandomNumbers, most))
+}

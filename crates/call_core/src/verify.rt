@@ -1,0 +1,99 @@
+//! A password against a stored hash.
+ghost use Rattle.std.specs.Prelude.{◌≡◌, ◌⊎◌, ◌≤◌, ◌<◌, ◌<ℤ◌, pos, length, false, true, IfOk, IfErr, IsOk};
+ghost use Rattle.prims_core.specs.Work.{no_work};
+ghost use Rattle.crypt_core.specs.Crypt.{allocates, crypt};
+ghost use Rattle.crypt_core.specs.Settings.{SettingValue, Spells};
+ghost use Rattle.crypt_core.specs.StoredFields.{IsHashOf};
+ghost use Rattle.crypt_core.specs.Work.{cost};
+ghost use Rattle.call_core.specs.Checks.{Compares, NeedsNoMemory, Opens, Verifies};
+ghost use Rattle.call_core.specs.Private.Checks.{IsCheckRefused};
+ghost use Rattle.call_core.specs.Reasons.{reason_row};
+
+use crate::budget::cost_within;
+use crate::reading::stored_hash;
+use crate::reason::{Reason, Refusal};
+use crate::report::Report;
+use crypt_core::memory::Memory;
+use crypt_core::password::Password;
+use crypt_core::stored::StoredHash;
+use prims_core::meter::Meter;
+
+/// Compares the password's hash with the stored one, if the budget allows it.
+pub fn verify<M: Memory>(
+    memory: &M,
+    password: &[u8],
+    stored: &[u8],
+    budget: u64,
+    meter: &mut Meter,
+) -> Report
+    requires new { meter.old ≡ no_work }
+    ensures verifies { Verifies password.now stored.now budget result }
+    ensures lets_in { pos 0 <ℤ result.reason → Opens password.now stored.now budget }
+    ensures opens { Opens password.now stored.now budget → (pos 0 <ℤ result.reason)
+        ⊎ ((result.reason ≡ (reason_row (Reason.Refused Refusal.OutOfMemory)).0) × ¬ NeedsNoMemory stored.now) }
+    ensures granted { NeedsNoMemory stored.now
+        ⊎ (M.HasSome ⊎ ((¬ (pos 0 <ℤ result.reason)) × (result.work ≡ no_work))) }
+    ensures bytes { result.work.bytes ≤ budget }
+    ensures counted { meter.new ≡ result.work }
+    ensures reserved { result.reserved ≡ 0 }
+{
+    let password = match Password::new(password) {
+        Ok(password) => password,
+        Err(fault) => return Report::from(fault),
+    };
+    match checkable(&password, stored, budget) {
+        Ok((stored, most)) => compare(memory, &password, &stored, most, Reason::Fits, meter),
+        Err(refused) => refused,
+    }
+}
+
+/// Returns the stored hash in the field, and the cost of comparing the password with it, if the budget allows that; or
+/// else the report of the first refusal.
+pub(crate) fn checkable<'a>(
+    password: &Password,
+    field: &'a [u8],
+    budget: u64,
+) -> Result<(StoredHash<'a>, u64), Report>
+    ensures found { IfOk result (λ check. IsHashOf field.now check.0) }
+    ensures within { IfOk result (λ check. (check.1 ≡ cost check.0.setting (length password.now)) × (check.1 ≤ budget)) }
+    ensures refused { IfErr result (IsCheckRefused password.now field.now budget) }
+    ensures idle { IfErr result (λ report. (¬ (pos 0 <ℤ report.reason)) × (report.work ≡ no_work) × (report.reserved ≡ 0)) }
+    ensures only { IfOk result (λ check. (kept : SettingValue) → Spells field.now kept → check.0.setting ≡ kept) }
+    ensures admits { (kept : SettingValue) → Spells field.now kept → cost kept (length password.now) ≤ budget → IsOk result }
+{
+    let stored = stored_hash(field)?;
+    let most = cost_within(password, stored.setting(), budget)?;
+    Ok((stored, most))
+}
+
+/// Compares the password's hash, which costs at most `most`, with the stored one. The reason is `fits` if they are the
+/// same.
+pub(crate) fn compare<M: Memory>(
+    memory: &M,
+    password: &Password,
+    stored: &StoredHash<'_>,
+    most: u64,
+    fits: Reason,
+    meter: &mut Meter,
+) -> Report
+    requires new { meter.old ≡ no_work }
+    requires most { most ≡ cost stored.now.setting (length password.now) }
+    requires fits { (fits ≡ Reason.Fits) ⊎ (fits ≡ Reason.Outdated) }
+    ensures compares { Compares password.now stored.now.setting stored.now.text fits result }
+    ensures same { pos 0 <ℤ result.reason
+        → (crypt password.now stored.now.setting ≡ stored.now.text) × (result.reason ≡ (reason_row fits).0) }
+    ensures opens { crypt password.now stored.now.setting ≡ stored.now.text → (pos 0 <ℤ result.reason)
+        ⊎ ((result.reason ≡ (reason_row (Reason.Refused Refusal.OutOfMemory)).0) × (allocates stored.now.setting.scheme ≡ true)) }
+    ensures granted { (allocates stored.now.setting.scheme ≡ false)
+        ⊎ (M.HasSome ⊎ ((¬ (pos 0 <ℤ result.reason)) × (result.work ≡ no_work))) }
+    ensures bytes { result.work.bytes ≤ most }
+    ensures counted { meter.new ≡ result.work }
+    ensures reserved { result.reserved ≡ 0 }
+{
+    let reason = match stored.fits(memory, password, meter) {
+        Ok(true) => fits,
+        Ok(false) => Reason::Refused(Refusal::Differs),
+        Err(_) => Reason::Refused(Refusal::OutOfMemory),
+    };
+    Report::new(reason, 0, most, meter.work())
+}

@@ -1,3 +1,0 @@
-pub mod Logins
-pub mod NewHashes
-pub mod Verdicts

@@ -1,2 +1,0 @@
--- Definitions that only contracts of private functions cite. A reader of the calls needs none of them.
-pub mod Steps

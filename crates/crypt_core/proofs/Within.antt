@@ -1,0 +1,35 @@
+-- The digested bytes of a hash are at most its cost, and those of a refusal none.
+use Rattle.std.proofs.Common.{◌≡◌, ◌≤◌, ℕ, List, length, inl, inr, ap, arith}
+use Rattle.prims_core.specs.Digests.{sha256, sha512, length-sha256, length-sha512}
+use Rattle.prims_core.specs.Private.DigestFacts.{sha256_bytes, sha512_bytes}
+use Rattle.prims_core.specs.declared.meter.Work.{Work}
+use Rattle.crypt_core.specs.Crypt.{IsAfterRefusedGrowth}
+use Rattle.crypt_core.specs.Settings.{SettingValue}
+use Rattle.crypt_core.specs.ShaCrypt.{sha_opening_byte}
+use Rattle.crypt_core.specs.Work.{cost, cost_by, first_byte_by, work, work_by}
+use Rattle.crypt_core.specs.declared.scheme.Scheme.{Scheme}
+use Rattle.crypt_core.specs.declared.scheme.Scheme.TheVariants.{Md5crypt, Shacrypt, Scrypt}
+use Rattle.crypt_core.specs.declared.scheme.Sha.TheVariants.{Sha256, Sha512}
+use Rattle.crypt_core.proofs.ShaCryptLemmas.{sha_opening_byte-below}
+use Rattle.crypt_core.proofs.WorkBounds.{shacrypt-within}
+
+by_scheme : (scheme : Scheme) (password salt : List ℕ)
+    → (work_by scheme (first_byte_by scheme password salt) (length password) (length salt)).bytes ≤ cost_by scheme (length password) (length salt)
+by_scheme Md5crypt password salt = omega arith
+by_scheme (Shacrypt Sha256 rounds) password salt =
+    (shacrypt-within 32 (sha_opening_byte sha256 password salt) rounds.count (length password) (length salt)
+    (sha_opening_byte-below sha256 32 length-sha256 password salt (omega arith) sha256_bytes)).bytes
+by_scheme (Shacrypt Sha512 rounds) password salt =
+    (shacrypt-within 64 (sha_opening_byte sha512 password salt) rounds.count (length password) (length salt)
+    (sha_opening_byte-below sha512 64 length-sha512 password salt (omega arith) sha512_bytes)).bytes
+by_scheme (Scrypt cost) password salt = omega arith
+
+pub bytes_within : (password : List ℕ) (kept : SettingValue) → (work password kept).bytes ≤ cost kept (length password)
+bytes_within password kept = by_scheme kept.scheme password kept.salt
+
+pub refused_bytes : (before : Work) (scheme : Scheme) (after : Work) → IsAfterRefusedGrowth before scheme after → after.bytes ≡ before.bytes
+refused_bytes before (Scrypt cost) after (inl e) = ap (λ (w : Work). w.bytes) e
+refused_bytes before (Scrypt cost) after (inr (inl e)) = ap (λ (w : Work). w.bytes) e
+refused_bytes before (Scrypt cost) after (inr (inr e)) = ap (λ (w : Work). w.bytes) e
+refused_bytes before Md5crypt after never = absurd never
+refused_bytes before (Shacrypt sha rounds) after never = absurd never
