@@ -511,10 +511,10 @@ subtest 'the object' => sub {
             is_deeply([sort @calls], $calls{$name} // [$name =~ s/_/_proved_/r, 'wiped'], "$name calls its own");
         }
         # Of lengths are tests of a whole register, or by a number above 0; others whether there is a hash, and whether one differs.
-        my $compare = $body{'crypt_c::calls::compare'} // '';
-        my @tests = grep { !/ (?:%r(?:[a-d]x|[sd]i|[sb]p|\d+)|\$0x[1-9a-f]\w*),/ } $compare =~ /\t((?:test|cmp)\w* [^\n]*)\n[^\n]*\tj/g;
+        my ($compare) = map { $body{$_} } grep { /^call_core::verify::compare\b/ } keys %body;
+        my @tests = grep { !/[ ,]%r(?:[a-d]x|[sd]i|[sb]p|\d+)\b| \$0x[1-9a-f]\w*,/ } ($compare // '') =~ /\t((?:test|cmp)\w* [^\n]*)\n[^\n]*\tj/g;
         is(@tests, 2, 'a comparison jumps by lengths alone') or diag(join "\n", @tests);
-        unlike($compare, qr/memcmp|bcmp|repz|pmovmsk|ptest/, 'and calls no other');
+        unlike($compare // 'memcmp', qr/memcmp|bcmp|repz|pmovmsk|ptest/, 'and calls no other');
     }
 };
 

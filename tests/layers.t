@@ -50,7 +50,7 @@ stands_only_in('only the program and the calls make a meter', '\bMeter::new\b', 
 my @prims = map { "prims_core/src/$_.rt" } qw(table scratch hexadecimal);    # the last one is for tests
 my @command = map { "mkpasswd/src/$_.rt" } qw(command options);
 my @scrypt = 'kdf_core/src/scrypt.rt';
-my @on_the_way = ('crypt_c/src/', map({ "crypt_core/src/$_.rt" } qw(hash stored fits)), map { "run_core/src/$_.rt" } qw(one lines answer));
+my @on_the_way = ('crypt_c/src/', map({ "crypt_core/src/$_.rt" } qw(hash memory fits)), map { "run_core/src/$_.rt" } qw(one lines answer));
 stands_only_in('only what leads to scrypt or to arguments gets the allocator', '\bGlobal\b', @prims, @scrypt, @on_the_way, @command);
 stands_only_in('memory is allocated only for these', '\bin (\w+\.)?alloc\b|::\w+\(alloc\b|\.alloc\(\)', @prims, @scrypt, @command,
     'program/src/main.rt');

@@ -1,6 +1,6 @@
-pub mod Hashes
-pub mod Logins
-pub mod NewHashes
+pub mod CheckReports
+pub mod LoginReports
+pub mod MadeSchemes
+pub mod PutHashes
+pub mod PutNewHashes
 pub mod ReasonNumbers
-pub mod Schemes
-pub mod Verdicts

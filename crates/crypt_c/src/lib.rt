@@ -115,7 +115,7 @@ pub extern "C" fn mkpasswd_login(
     ensures decoy { (scheme : Scheme) → IsSchemeMade TakesNewRounds method rounds scheme → IsPassword password.now
         → IsUncheckable password.now field.now budget → IsHashWork password.now (decoy scheme) budget report.new.work }
     ensures alike { (fault : PasswordFault) → IsPasswordRefused password.now fault → report.new ≡ refused (Password fault) 0 }
-    ensures alike_cost { (refusal : Refusal) → IsPassword password.now → IsSchemeReading TakesNewRounds method rounds (Err refusal)
+    ensures alike_rounds { (refusal : Refusal) → IsPassword password.now → IsSchemeReading TakesNewRounds method rounds (Err refusal)
         → report.new ≡ refused refusal 0 }
     ensures one_hash { IsLoginWork password.now field.now method rounds budget report.new.work }
     ensures logs_in { LogsIn password.now field.now method rounds budget report.new }

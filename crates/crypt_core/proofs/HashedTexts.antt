@@ -8,8 +8,8 @@ use Rattle.crypt_core.specs.Packing.{packed}
 use Rattle.crypt_core.specs.Settings.{SettingValue, Spells, IsSettingByte, canonical_text, dollar}
 use Rattle.crypt_core.specs.Schemes.{method_of}
 use Rattle.crypt_core.specs.MethodLimits.{packed_len}
-use Rattle.crypt_core.proofs.Canonical.{canonical_spells_before}
-use Rattle.crypt_core.proofs.Canonical.{character_is_byte}
+use Rattle.crypt_core.proofs.CanonicalSpells.{canonical_spells_before}
+use Rattle.crypt_core.proofs.CanonicalSpells.{character_is_byte}
 use Rattle.std.proofs.lemmas.List.{length-append}
 use Rattle.crypt_core.proofs.PackingLemmas.{all_packed, length-packed_text, packed_len-small}
 

@@ -1,4 +1,4 @@
--- Lemmas on salts made of random words.
+-- Lemmas on salts made of random numbers.
 use Rattle.std.proofs.Common.{◌≡◌, ◌≤◌, ℕ, ◌+◌, ◌*◌, ◌/◌, ◌%◌, ◌^◌, List, [], ◌∷◌, ◌++◌, All, arith, refl}
 use Rattle.std.specs.List.{range_with_len}
 use Rattle.std.proofs.lemmas.Bool.{leb-true}
@@ -14,16 +14,16 @@ use Rattle.crypt_core.proofs.EachMethod.{each_method}
 
 -- character i of a made salt
 abbrev made_character : List ℕ → ℕ → ℕ
-made_character words i = character_of (slice_index words (i / 10) / 2 ^ (6 * (i % 10)) % 64)
+made_character numbers i = character_of (slice_index numbers (i / 10) / 2 ^ (6 * (i % 10)) % 64)
 
 -- one character more
-pub made_salt-more : (words : List ℕ) (n : ℕ) → made_salt words (n + 1) ≡ made_salt words n ++ made_character words n ∷ []
+pub made_salt-more : (numbers : List ℕ) (n : ℕ) → made_salt numbers (n + 1) ≡ made_salt numbers n ++ made_character numbers n ∷ []
 unfolding made_salt
-made_salt-more words n = map-range_with_len_more (made_character words) 0 n n (omega arith)
+made_salt-more numbers n = map-range_with_len_more (made_character numbers) 0 n n (omega arith)
 
-pub all_made_salt : (words : List ℕ) (n : ℕ) → All (Contains alphabet) (made_salt words n)
+pub all_made_salt : (numbers : List ℕ) (n : ℕ) → All (Contains alphabet) (made_salt numbers n)
 unfolding made_salt
-all_made_salt words n = All-map (Contains alphabet) (made_character words) (range_with_len 0 n) (λ k d h. Contains-character_of _ _ (omega arith) refl)
+all_made_salt numbers n = All-map (Contains alphabet) (made_character numbers) (range_with_len 0 n) (λ k d h. Contains-character_of _ _ (omega arith) refl)
 
 -- as many characters as a made salt has, the method keeps
 pub made_short : (m : Method) → made_salt_length m ≤ salt_limit m

@@ -14,7 +14,7 @@ use Rattle.crypt_core.specs.MethodLimits.{digest_len, packed_len}
 use Rattle.crypt_core.specs.Packing.{packed, packed_group, groups_of}
 use Rattle.crypt_core.proofs.EachMethod.{each_method}
 use Rattle.prims_core.proofs.NumeralFacts.{length-numerals}
-use Rattle.crypt_core.proofs.Numerals.{all_numerals}
+use Rattle.crypt_core.proofs.DistinctNumerals.{all_numerals}
 use Rattle.crypt_core.specs.Private.Tables.{groups_in, is_group, AreGroups, IsGroup, group_number}
 
 -- packed_by groups digest: the text of a digest, packed by these groups.

@@ -12,9 +12,9 @@ use Rattle.crypt_core.specs.Readings.{IsReadOneWay, IsReading}
 use Rattle.crypt_core.specs.Refusals.{FailsStage, IsRefused, LacksCost, setting_faults}
 use Rattle.crypt_core.specs.Settings.{SettingValue, IsScryptSalt, KeepsSalt, SpellsScheme, Spells}
 use Rattle.crypt_core.specs.Schemes.{method_of, sha_method}
-use Rattle.crypt_core.proofs.Fields.{field_unique}
-use Rattle.crypt_core.proofs.Readings.{prefix_unique, scheme_unique, setting_unique}
-use Rattle.crypt_core.proofs.Rules.{first_breaks, first_unique}
+use Rattle.crypt_core.proofs.DollarFields.{field_unique}
+use Rattle.crypt_core.proofs.OneSetting.{prefix_unique, scheme_unique, setting_unique}
+use Rattle.crypt_core.proofs.FirstBroken.{first_breaks, first_unique}
 
 -- a text whose front is spelled lacks no cost
 pub lacks_none : (text : List ℕ) (scheme : Scheme) (after : List ℕ) (m : Method) → SpellsScheme text scheme after → LacksCost m text → ⊥

@@ -17,7 +17,7 @@ use Rattle.crypt_core.specs.declared.scheme.Scheme.TheVariants.{Md5crypt, Shacry
 abbrev pub digest_by : Scheme → List ℕ → List ℕ → List ℕ
 digest_by Md5crypt password salt = md5crypt_digest password salt
 digest_by (Shacrypt sha rounds) password salt = shacrypt_digest (digest_function sha) password salt rounds.count
-digest_by (Scrypt cost) password salt = scrypt password salt cost (method_row methods.Scrypt).digest_len
+digest_by (Scrypt params) password salt = scrypt password salt params (method_row methods.Scrypt).digest_len
 
 -- crypt password kept: the hash, which is the setting in canonical form, a `$`, and the packed digest.
 unfoldable pub crypt : List ℕ → SettingValue → List ℕ
@@ -26,11 +26,11 @@ crypt password kept =
 
 -- allocates scheme: whether a hash with the scheme allocates, as scrypt's alone does.
 abbrev pub allocates : Scheme → Bool
-allocates (Scrypt cost) = true
+allocates (Scrypt params) = true
 allocates scheme = false
 
 -- IsAfterRefusedGrowth before scheme after: these are the counts after a failed allocation of scrypt. No other scheme
 -- allocates.
 abbrev pub IsAfterRefusedGrowth : Work → Scheme → Work → Type 0
-IsAfterRefusedGrowth before (Scrypt cost) after = IsAfterRefusal before cost after
+IsAfterRefusedGrowth before (Scrypt params) after = IsAfterRefusal before params after
 IsAfterRefusedGrowth before scheme after = ⊥

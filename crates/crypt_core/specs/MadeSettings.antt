@@ -1,5 +1,5 @@
--- Settings made of a method, a cost and a salt, and the refusal if one can't be made. The cost is the one number that
--- the command takes as `-R`.
+-- Settings made of a method, rounds and a salt, and the refusal if one can't be made. The rounds are the number that the
+-- command takes as `-R`: for SHA-crypt its rounds, and for scrypt the logarithm of N, less 7.
 use Rattle.std.specs.Prelude.{◌≡◌, ℕ, ◌+◌, ◌<◌, ◌≤◌, ◌⊎◌, ◌==◌, if◌then◌else◌, true, false, List, [], ◌∷◌, length, All, Contains, Option, Some, None}
 use Rattle.prims_core.specs.Alphabet.{alphabet}
 use Rattle.kdf_core.specs.Params.{ScryptCost}
@@ -17,45 +17,44 @@ use Rattle.crypt_core.specs.MadeSalts.{made_salt}
 use Rattle.crypt_core.specs.Methods.{method_row}
 use Rattle.crypt_core.specs.Settings.{SettingValue}
 
--- made_rounds cost: the default without a field for cost 0, and otherwise a field with the cost, clamped.
+-- made_rounds rounds: the default without a field for 0, and otherwise a field with the rounds, clamped.
 abbrev pub made_rounds : ℕ → Rounds
-made_rounds cost = if cost == 0 then record { count = default_rounds; is_written = false } else record { count = clamped cost; is_written = true }
+made_rounds rounds = if rounds == 0 then record { count = default_rounds; is_written = false } else record { count = clamped rounds; is_written = true }
 
--- made_cost cost: N = 2 ^ (cost + 7), r = 32 and p = 1. Cost 0 stands for 7.
-abbrev pub made_cost : ℕ → ScryptCost
-made_cost cost = record { log_n = (if cost == 0 then 7 else cost) + 7; r = 32; p = 1 }
+-- made_params rounds: N = 2 ^ (rounds + 7), r = 32 and p = 1. 0 stands for 7.
+abbrev pub made_params : ℕ → ScryptCost
+made_params rounds = record { log_n = (if rounds == 0 then 7 else rounds) + 7; r = 32; p = 1 }
 
--- made_scheme method cost: the scheme of a method with a cost. md5crypt has no cost, SHA-crypt a number of rounds, and
--- scrypt N, r and p.
+-- made_scheme method rounds: the scheme of a method with these rounds. md5crypt has a fixed number, and scrypt N, r and p.
 abbrev pub made_scheme : Method → ℕ → Scheme
-made_scheme methods.Md5crypt cost = Md5crypt
-made_scheme methods.Sha256crypt cost = Shacrypt Sha256 (made_rounds cost)
-made_scheme methods.Sha512crypt cost = Shacrypt Sha512 (made_rounds cost)
-made_scheme methods.Scrypt cost = Scrypt (made_cost cost)
+made_scheme methods.Md5crypt rounds = Md5crypt
+made_scheme methods.Sha256crypt rounds = Shacrypt Sha256 (made_rounds rounds)
+made_scheme methods.Sha512crypt rounds = Shacrypt Sha512 (made_rounds rounds)
+made_scheme methods.Scrypt rounds = Scrypt (made_params rounds)
 
--- salted scheme words: a scheme with a new salt, which three random numbers make.
+-- salted scheme numbers: a scheme with a new salt, which three random numbers make.
 abbrev pub salted : Scheme → List ℕ → SettingValue
-salted scheme words = record { scheme = scheme; salt = made_salt words (method_row (method_of scheme)).made_salt_length }
+salted scheme numbers = record { scheme = scheme; salt = made_salt numbers (method_row (method_of scheme)).made_salt_length }
 
--- TakesRounds method cost: scrypt takes the costs 0 and 6 to 11, and the other methods take any.
+-- TakesRounds method rounds: scrypt takes 0 and 6 to 11, and the other methods take any.
 abbrev pub TakesRounds : Method → ℕ → Type 0
-TakesRounds methods.Scrypt cost = (cost ≡ 0) ⊎ ((6 ≤ cost) × (cost ≤ 11))
-TakesRounds method cost = Unit {0}
+TakesRounds methods.Scrypt rounds = (rounds ≡ 0) ⊎ ((6 ≤ rounds) × (rounds ≤ 11))
+TakesRounds method rounds = Unit {0}
 
 -- The refusals in the order of their rules.
 abbrev pub make_faults : List MakeFault
 make_faults = SaltLength ∷ SaltCharacter ∷ Cost ∷ []
 
--- BreaksMake method cost given fault: a method, a cost, and the salt if one is given, break the rule of this refusal.
---   Cost            the method takes the cost
+-- BreaksMake method rounds given fault: a method, rounds, and the salt if one is given, break the rule of this refusal.
+--   Cost            the method takes the rounds
 --   SaltLength      the salt has at least one character, and no more than the method keeps
 --   SaltCharacter   all characters of the salt are of crypt's alphabet
 abbrev pub BreaksMake : Method → ℕ → Option (List ℕ) → MakeFault → Type 0
-BreaksMake method cost given Cost = ¬ TakesRounds method cost
-BreaksMake method cost None fault = ⊥
-BreaksMake method cost (Some salt) SaltLength = (length salt ≡ 0) ⊎ ((method_row method).salt_limit < length salt)
-BreaksMake method cost (Some salt) SaltCharacter = ¬ All (Contains alphabet) salt
+BreaksMake method rounds given Cost = ¬ TakesRounds method rounds
+BreaksMake method rounds None fault = ⊥
+BreaksMake method rounds (Some salt) SaltLength = (length salt ≡ 0) ⊎ ((method_row method).salt_limit < length salt)
+BreaksMake method rounds (Some salt) SaltCharacter = ¬ All (Contains alphabet) salt
 
--- IsMakeRefused method cost given fault: this is the refusal of the first rule that they break.
+-- IsMakeRefused method rounds given fault: this is the refusal of the first rule that they break.
 unfoldable pub IsMakeRefused : Method → ℕ → Option (List ℕ) → MakeFault → Type 0
-IsMakeRefused method cost given = IsFirstBroken make_faults (BreaksMake method cost given)
+IsMakeRefused method rounds given = IsFirstBroken make_faults (BreaksMake method rounds given)

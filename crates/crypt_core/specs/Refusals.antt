@@ -30,10 +30,10 @@ FailsStage text BadCharacter = ¬ All IsSettingByte text
 FailsStage text UnknownScheme = (method : Method) → ¬ BeginsWith text (method_row method).prefix
 FailsStage text BadRounds = (sha : Sha) × LacksCost (sha_method sha) text
 FailsStage text BadCost = LacksCost methods.Scrypt text
-FailsStage text ScryptRange = (cost : ScryptCost) × (after : List ℕ) × SpellsScheme text (Scrypt cost) after × (¬ IsInRange cost)
-FailsStage text AboveCeiling = (cost : ScryptCost) × (after : List ℕ) × SpellsScheme text (Scrypt cost) after × (¬ IsWithinCeiling cost)
+FailsStage text ScryptRange = (params : ScryptCost) × (after : List ℕ) × SpellsScheme text (Scrypt params) after × (¬ IsInRange params)
+FailsStage text AboveCeiling = (params : ScryptCost) × (after : List ℕ) × SpellsScheme text (Scrypt params) after × (¬ IsWithinCeiling params)
 FailsStage text BadSalt =
-    (cost : ScryptCost) × (field rest : List ℕ) × SpellsScheme text (Scrypt cost) (field ++ rest) × IsField field rest × (¬ IsScryptSalt field)
+    (params : ScryptCost) × (field rest : List ℕ) × SpellsScheme text (Scrypt params) (field ++ rest) × IsField field rest × (¬ IsScryptSalt field)
 
 -- IsRefused text fault: the text gets the refusal of the first stage that fails.
 unfoldable pub IsRefused : List ℕ → SettingFault → Type 0

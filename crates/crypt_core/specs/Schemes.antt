@@ -17,10 +17,10 @@ sha_method Sha512 = methods.Sha512crypt
 abbrev pub method_of : Scheme → Method
 method_of Md5crypt = methods.Md5crypt
 method_of (Shacrypt sha rounds) = sha_method sha
-method_of (Scrypt cost) = methods.Scrypt
+method_of (Scrypt params) = methods.Scrypt
 
 -- IsScheme scheme: a setting can have its cost. SHA-crypt's rounds are in range, and scrypt's numbers are accepted.
 abbrev pub IsScheme : Scheme → Type 0
 IsScheme Md5crypt = Unit {0}
 IsScheme (Shacrypt sha rounds) = IsRounds rounds
-IsScheme (Scrypt cost) = IsAccepted cost
+IsScheme (Scrypt params) = IsAccepted params

@@ -67,7 +67,7 @@ scrypt_part cost = numerals 1 cost.log_n ++ (numerals 5 cost.r ++ numerals 5 cos
 abbrev pub SpellsCost : Scheme → List ℕ → List ℕ → Type 0
 SpellsCost Md5crypt part after = part ≡ []
 SpellsCost (Shacrypt sha rounds) part after = SpellsRounds rounds part after
-SpellsCost (Scrypt cost) part after = (part ≡ scrypt_part cost) × (cost.log_n < 64) × (cost.r < 2 ^ 30) × (cost.p < 2 ^ 30)
+SpellsCost (Scrypt params) part after = (part ≡ scrypt_part params) × (params.log_n < 64) × (params.r < 2 ^ 30) × (params.p < 2 ^ 30)
 
 -- ---- the whole string
 
@@ -84,7 +84,7 @@ IsScryptSalt salt = (length salt ≤ (method_row methods.Scrypt).salt_limit) × 
 --   scrypt      its numbers are accepted, and the whole field is kept, which is a salt of scrypt
 --   otherwise   as many bytes as the method keeps, or the whole field if it has fewer
 abbrev pub KeepsSalt : Scheme → List ℕ → List ℕ → Type 0
-KeepsSalt (Scrypt cost) field salt = IsAccepted cost × (salt ≡ field) × IsScryptSalt field
+KeepsSalt (Scrypt params) field salt = IsAccepted params × (salt ≡ field) × IsScryptSalt field
 KeepsSalt scheme field salt = salt ≡ take (method_row (method_of scheme)).salt_limit field
 
 -- Spells text kept: the text spells this setting. It has no more bytes than the limit, all of them setting bytes. It
@@ -104,7 +104,7 @@ pub record Spells (text : List ℕ) (kept : SettingValue) : Type 0 where
 abbrev pub cost_part : Scheme → List ℕ
 cost_part Md5crypt = []
 cost_part (Shacrypt sha rounds) = if rounds.is_written then rounds_field (decimal rounds.count) else []
-cost_part (Scrypt cost) = scrypt_part cost
+cost_part (Scrypt params) = scrypt_part params
 
 -- canonical_text kept: the setting in canonical form, which ends with its salt.
 abbrev pub canonical_text : SettingValue → List ℕ

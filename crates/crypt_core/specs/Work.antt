@@ -53,7 +53,7 @@ abbrev pub work_by : Scheme → ℕ → ℕ → ℕ → Work
 work_by Md5crypt a password_length salt_length = md5crypt_work password_length salt_length
 work_by (Shacrypt sha rounds) a password_length salt_length =
     shacrypt_work (method_row (sha_method sha)).digest_len a rounds.count password_length salt_length
-work_by (Scrypt cost) a password_length salt_length = scrypt_work cost password_length salt_length 32
+work_by (Scrypt params) a password_length salt_length = scrypt_work params password_length salt_length 32
 
 -- ---- the work, the bound and the cost
 
@@ -74,8 +74,8 @@ work_bound kept password_length = work_by kept.scheme 255 password_length (lengt
 -- cost_by scheme password_length salt_length: the bound as one number, which is compared with a budget. It is the
 -- greatest number of digested bytes, and scrypt adds the number of mixed bytes, one part in each mixing.
 abbrev pub cost_by : Scheme → ℕ → ℕ → ℕ
-cost_by (Scrypt cost) password_length salt_length =
-    let most = work_by (Scrypt cost) 255 password_length salt_length in most.bytes + most.mixes * part_bytes cost
+cost_by (Scrypt params) password_length salt_length =
+    let most = work_by (Scrypt params) 255 password_length salt_length in most.bytes + most.mixes * part_bytes params
 cost_by scheme password_length salt_length = (work_by scheme 255 password_length salt_length).bytes
 
 -- cost kept password_length: the cost of a hash with a setting. It is neither the cost of the setting (its rounds, or

@@ -22,17 +22,17 @@ pub const MIN_ROUNDS: u64 = 1000;
 /// The rounds of SHA-crypt if the setting has no `rounds=` field (Drepper's specification).
 pub const DEFAULT_ROUNDS: u32 = 5000;
 
-/// The least cost of a made scheme of scrypt, apart from 0.
-const MIN_COST: u32 = 6;
+/// The least rounds of a made scheme of scrypt, apart from 0.
+const MIN_SCRYPT_ROUNDS: u32 = 6;
 
-/// The greatest cost of a made scheme of scrypt.
-const MAX_COST: u32 = 11;
+/// The greatest rounds of a made scheme of scrypt.
+const MAX_SCRYPT_ROUNDS: u32 = 11;
 
-/// The cost of scrypt that 0 stands for.
-const DEFAULT_COST: u32 = 7;
+/// The rounds of scrypt that 0 stands for.
+const DEFAULT_SCRYPT_ROUNDS: u32 = 7;
 
-/// log2 N minus the cost.
-const LOG_ABOVE_COST: u32 = 7;
+/// log2 N minus the rounds.
+const LOG_ABOVE_ROUNDS: u32 = 7;
 
 /// The block size r of every made scheme of scrypt.
 const BLOCK_SIZE: u32 = 32;
@@ -120,32 +120,33 @@ pub enum Scheme {
 }
 
 impl Scheme {
-    /// Returns the scheme of a method with a cost.
+    /// Returns the scheme of a method with rounds.
     ///
-    /// Cost 0 is the method's default. For SHA-crypt any other cost is a number of rounds, clamped to 1000 to
-    /// 999999999, with a `rounds=` field. For scrypt it is 6 to 11 (`N = 2^(cost + 7)`, r = 32, p = 1). md5crypt
-    /// ignores it.
+    /// 0 is the method's default. SHA-crypt takes any other number, clamped to 1000 to 999999999, with a `rounds=` field.
+    /// scrypt takes 6 to 11 (`N = 2^(rounds + 7)`, r = 32, p = 1). md5crypt ignores them.
     ///
     /// # Errors
     ///
-    /// - `Cost`: the method is scrypt, and the cost is neither 0 nor from 6 to 11.
-    pub fn made(method: Method, cost: u32) -> Result<Scheme, MakeFault>
-        ensures made { IfOk result (λ scheme. scheme ≡ made_scheme method cost) }
+    /// - `Cost`: the method is scrypt, and the number is neither 0 nor from 6 to 11.
+    pub fn made(method: Method, rounds: u32) -> Result<Scheme, MakeFault>
+        ensures made { IfOk result (λ scheme. scheme ≡ made_scheme method rounds) }
         ensures in_range { IfOk result IsScheme }
-        ensures accepted { IsOk result ↔ TakesRounds method cost }
+        ensures accepted { IsOk result ↔ TakesRounds method rounds }
         ensures refused { IfErr result (λ fault. fault ≡ MakeFault.Cost) }
     {
-        let rounds = if cost == 0 {
+        let field = if rounds == 0 {
             Rounds::unwritten()
         } else {
-            Rounds::written(u64::from(cost))
+            Rounds::written(u64::from(rounds))
         };
-        match (method, cost) {
+        match (method, rounds) {
             (Method::Md5crypt, _) => Ok(Scheme::Md5crypt),
-            (Method::Sha256crypt, _) => Ok(Scheme::Shacrypt(Sha::Sha256, rounds)),
-            (Method::Sha512crypt, _) => Ok(Scheme::Shacrypt(Sha::Sha512, rounds)),
-            (Method::Scrypt, 0) => Ok(Scheme::Scrypt(params_of(DEFAULT_COST))),
-            (Method::Scrypt, MIN_COST..=MAX_COST) => Ok(Scheme::Scrypt(params_of(cost))),
+            (Method::Sha256crypt, _) => Ok(Scheme::Shacrypt(Sha::Sha256, field)),
+            (Method::Sha512crypt, _) => Ok(Scheme::Shacrypt(Sha::Sha512, field)),
+            (Method::Scrypt, 0) => Ok(Scheme::Scrypt(params_of(DEFAULT_SCRYPT_ROUNDS))),
+            (Method::Scrypt, MIN_SCRYPT_ROUNDS..=MAX_SCRYPT_ROUNDS) => {
+                Ok(Scheme::Scrypt(params_of(rounds)))
+            }
             (Method::Scrypt, _) => Err(MakeFault::Cost),
         }
     }
@@ -190,12 +191,12 @@ impl Scheme {
     }
 }
 
-// Returns scrypt's parameters for a cost: N = 2^(cost + 7), r = 32 and p = 1.
-fn params_of(cost: u32) -> Params
-    requires from { 6 ≤ cost }
-    requires to { cost ≤ 11 }
-    ensures value { result ≡ record { log_n = cost + 7; r = 32; p = 1 } }
+// Returns scrypt's parameters for these rounds: N = 2^(rounds + 7), r = 32 and p = 1.
+fn params_of(rounds: u32) -> Params
+    requires from { 6 ≤ rounds }
+    requires to { rounds ≤ 11 }
+    ensures value { result ≡ record { log_n = rounds + 7; r = 32; p = 1 } }
     ensures accepted { IsAccepted result }
 {
-    Params::new((cost + LOG_ABOVE_COST) as u8, BLOCK_SIZE, PARTS).unwrap()
+    Params::new((rounds + LOG_ABOVE_ROUNDS) as u8, BLOCK_SIZE, PARTS).unwrap()
 }

@@ -1,9 +1,9 @@
-pub mod Ceiling
+pub mod CeilingTest
 pub mod HmacLemmas
 pub mod MessageCounts
-pub mod Metering
 pub mod MixedLengths
 pub mod Pbkdf2Lemmas
 pub mod ScryptBounds
 pub mod ScryptLemmas
 pub mod ScryptValue
+pub mod WorkSums

@@ -1,4 +1,4 @@
--- What the command is in the sense of `clap`, and what it makes of some words.
+-- What the command is in the sense of `clap`, and what it makes of some arguments.
 use Rattle.std.proofs.Common.{◌≡◌, true, false, refl, List, [], ◌∷◌, codes, Some, None}
 use Rattle.std.specs.List.{list_all}
 use Rattle.clap.specs.Simple.{is_ready, is_ready_leaf}
@@ -39,36 +39,36 @@ pub own_ids : have_own_ids command.top.rules ≡ true
 unfolding command
 own_ids = refl
 
--- ---- what it makes of some words
+-- ---- what it makes of some arguments
 
-abbrev words : List Text
-words =
+abbrev arguments : List Text
+arguments =
     codes "-m" ∷ codes "md5" ∷ codes "-R" ∷ codes "+07" ∷ codes "--work" ∷ codes "--budget" ∷ codes "+036" ∷ codes "--check" ∷ codes "--rehash" ∷ codes "x" ∷ codes "ab" ∷ []
 
-takes_words : takes command words ≡ true
+takes_arguments : takes command arguments ≡ true
 unfolding command clap_on_literals
-takes_words = refl
+takes_arguments = refl
 
-no_fault : fault_of command words ≡ []
+no_fault : fault_of command arguments ≡ []
 unfolding command clap_on_literals
 no_fault = refl
 
 -- what they give
-abbrev HasWords : List Row → Type 0
-HasWords rows =
+abbrev HasArguments : List Row → Type 0
+HasArguments rows =
     (type_of rows ≡ codes "md5") × (given_salt rows ≡ Some (codes "ab")) × (cost_of rows ≡ 7) × (number_in (codes "budget") rows ≡ Some 36)
     × (is_set (codes "check") rows ≡ true) × (is_set (codes "rehash") rows ≡ true) × (is_set (codes "work") rows ≡ true)
     × (first_of (codes "password") rows ≡ Some (codes "x")) × (mode_count rows ≡ 2)
 
-rows_of_words : HasWords (matches_of command words)
+rows_of_arguments : HasArguments (matches_of command arguments)
 unfolding command clap_on_literals
-rows_of_words = (refl, refl, refl, refl, refl, refl, refl, refl, refl)
+rows_of_arguments = (refl, refl, refl, refl, refl, refl, refl, refl, refl)
 
 no_words_taken : fault_of command [] ≡ []
 unfolding command clap_on_literals
 no_words_taken = refl
 
--- and what no words give
+-- and what no arguments give
 abbrev HasNoWords : List Row → Type 0
 HasNoWords rows =
     (type_of rows ≡ codes "sha512crypt") × (given_salt rows ≡ None) × (cost_of rows ≡ 0) × (number_in (codes "budget") rows ≡ None)

@@ -1,8 +1,8 @@
 pub mod CommandFacts
-pub mod GivenWords
-pub mod Numbers
+pub mod GivenArguments
 pub mod PassedValues
-pub mod Planning
-pub mod Prints
-pub mod Serving
-pub mod Wholes
+pub mod PlannedMeaning
+pub mod PrintedHash
+pub mod ReadNumbers
+pub mod ServedCommands
+pub mod WholeCommands

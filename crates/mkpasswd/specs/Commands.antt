@@ -83,5 +83,5 @@ module _ {I O E : Type 0} where
   -- The command plans the arguments, and runs the plan or reports the refusal. `Plans` allows that an allocation fails
   -- for any arguments.
   abbrev pub Serves : ℕ → Bool → List Text → RunState I O E → RunState I O E → ℕ → Type 0
-  Serves turns generates words old new status =
-      (planned : Result Plan UsageFault) × Plans words planned × Follows turns generates planned old new status
+  Serves turns generates arguments old new status =
+      (planned : Result Plan UsageFault) × Plans arguments planned × Follows turns generates planned old new status

@@ -63,14 +63,14 @@ module _ {I O E : Type 0} where
 
   -- The arguments ask for help or the version, and `out` took some text.
   abbrev pub IsHelped : List Text → RunState I O E → RunState I O E → Type 0
-  IsHelped words old new =
-      (error : Error) × Plans words (Err (Parse error)) × (parse_status (kind_of error) ≡ 0)
+  IsHelped arguments old new =
+      (error : Error) × Plans arguments (Err (Parse error)) × (parse_status (kind_of error) ≡ 0)
       × (text : List ℕ) × GivesOnly text old new
 
   -- The arguments have a plan, all of which was done; or they ask for help or the version, which was printed.
   abbrev pub IsWhole : List Text → RunState I O E → RunState I O E → Type 0
-  IsWhole words old new =
-      ((plan : Plan) × Plans words (Ok plan) × IsDone plan old new) ⊎ IsHelped words old new
+  IsWhole arguments old new =
+      ((plan : Plan) × Plans arguments (Ok plan) × IsDone plan old new) ⊎ IsHelped arguments old new
 
 -- ---- one hash
 

@@ -136,14 +136,14 @@ Means rows (Ok plan) = (type_of rows ≢ codes "help") × ((fault : UsageFault) 
 Means rows (Err fault) = (type_of rows ≢ codes "help") × IsFirstBroken usage_faults (BreaksUsage rows) fault
 
 -- The command refuses the arguments. They call for an error of this kind, or for help or the version.
-pub record Refuses (words : List Text) (error : Error) : Type 0 where
-  pub called_for : IsAmong (kind_of error) (fault_of command words)
-  pub not_taken : takes command words ≢ true
+pub record Refuses (arguments : List Text) (error : Error) : Type 0 where
+  pub called_for : IsAmong (kind_of error) (fault_of command arguments)
+  pub not_taken : takes command arguments ≢ true
   pub not_memory : kind_of error ≢ kind.OutOfMemory
 
 -- `plan` may return this result. The command refuses the arguments, or it accepts them and they mean this. An
 -- allocation may fail for any arguments.
 abbrev pub Plans : List Text → Result Plan UsageFault → Type 0
-Plans words (Err (Parse error)) = Refuses words error
-Plans words (Err OutOfMemory) = ⊤
-Plans words answer = (fault_of command words ≡ []) × Means (matches_of command words) answer
+Plans arguments (Err (Parse error)) = Refuses arguments error
+Plans arguments (Err OutOfMemory) = ⊤
+Plans arguments answer = (fault_of command arguments ≡ []) × Means (matches_of command arguments) answer

@@ -52,7 +52,7 @@ const FAULT_LINE_ROOM: usize = 80;
 /// 2^62.
 pub fn run_command<I: Read, O: Write, E: Write, R: Rng>(
     alloc: Global,
-    words: &[String],
+    arguments: &[String],
     input: &mut Input<I>,
     out: &mut Output<O>,
     faults: &mut Output<E>,
@@ -61,20 +61,20 @@ pub fn run_command<I: Read, O: Write, E: Write, R: Rng>(
     turns: u64,
 ) -> u8
     requires { IsReady turns input.old out.old faults.old meter.old }
-    ensures serves { Serves turns (is_some generator.old) (map string_bytes words.now)
+    ensures serves { Serves turns (is_some generator.old) (map string_bytes arguments.now)
         (run_state input.old out.old faults.old (stream_in R.stream generator.old) meter.old)
         (run_state input.new out.new faults.new (stream_in R.stream generator.new) meter.new) result }
-    ensures whole { result ≡ 0 → IsWhole (map string_bytes words.now)
+    ensures whole { result ≡ 0 → IsWhole (map string_bytes arguments.now)
         (run_state input.old out.old faults.old (stream_in R.stream generator.old) meter.old)
         (run_state input.new out.new faults.new (stream_in R.stream generator.new) meter.new) }
     ensures prints { (name salt password : List ℕ) → (method : Method) → method_named name ≡ Some method
-        → IsNoOption salt → IsNoOption password → map string_bytes words.now ≡ hash_arguments name salt password → result ≡ 0
+        → IsNoOption salt → IsNoOption password → map string_bytes arguments.now ≡ hash_arguments name salt password → result ≡ 0
         → PrintsHash method salt password
         (run_state input.old out.old faults.old (stream_in R.stream generator.old) meter.old)
         (run_state input.new out.new faults.new (stream_in R.stream generator.new) meter.new) }
     ensures generator { is_some generator.new ≡ is_some generator.old }
 {
-    match plan(alloc, words) {
+    match plan(alloc, arguments) {
         Ok(plan) => {
             match run_plan(alloc, &plan, input, out, faults, generator, meter, turns) {
                 Ok(tally) => tally.status(),

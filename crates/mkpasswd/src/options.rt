@@ -20,7 +20,7 @@ use std::marker::Model;
 // The TYPE of arguments without `-m`.
 const DEFAULT_TYPE: &str = "sha512crypt";
 
-// The words of help: its first line, those of each argument, and its last line.
+// The texts of help: its first line, those of each argument, and its last line.
 const ABOUT: &str =
     "Prints a password's crypt(5) hash, and hashes, checks or audits lines of a file";
 
@@ -143,19 +143,19 @@ pub fn plan(alloc: Global, words: &[String]) -> Result<Plan, UsageFault>
     let method = known_method(&given)?;
     let salt = one_salt(&given)?;
     one_mode(&given)?;
-    let cost = given.number32("rounds").unwrap_or(0);
-    let maker = Maker::new(method, cost, salt)?;
+    let rounds = given.number32("rounds").unwrap_or(0);
+    let maker = Maker::new(method, rounds, salt)?;
     Ok(planned(alloc, &given, maker)?)
 }
 
 // Parses the arguments with the command. The error is `clap`'s own. If an allocation failed, its kind is `OutOfMemory`.
-fn parse<'a>(alloc: Global, words: &'a [String]) -> Result<Arguments<'a>, clap::Error>
-    ensures ok { IfOk result (λ given. (fault_of command (map string_bytes words.entry.now) ≡ [])
-        × (given ≡ matches_of command (map string_bytes words.entry.now))) }
+fn parse<'a>(alloc: Global, arguments: &'a [String]) -> Result<Arguments<'a>, clap::Error>
+    ensures ok { IfOk result (λ given. (fault_of command (map string_bytes arguments.entry.now) ≡ [])
+        × (given ≡ matches_of command (map string_bytes arguments.entry.now))) }
     ensures err { IfErr result (λ error. kind_of error ≢ ErrorKind.OutOfMemory
-        → Refuses (map string_bytes words.entry.now) error) }
+        → Refuses (map string_bytes arguments.entry.now) error) }
 {
-    let matches = command(alloc)?.try_get_matches_from(words)?;
+    let matches = command(alloc)?.try_get_matches_from(arguments)?;
     Ok(Arguments { matches })
 }
 

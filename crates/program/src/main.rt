@@ -17,21 +17,21 @@ const TURNS: u64 = 1 << 40;
 fn main(rt: HostRuntime) -> ExitCode {
     let mut faults = Output::new(rt.stderr());
     // The arguments after the program's name.
-    let words: Result<Vec<String>, Fault> = match env::args(&rt) {
-        Ok(mut words) => {
-            let _ = words.next();
-            words
+    let arguments: Result<Vec<String>, Fault> = match env::args(&rt) {
+        Ok(mut given) => {
+            let _ = given.next();
+            given
                 .collect(rt.alloc())
                 .map_err(|error| Fault::from(error))
         }
         Err(error) => Err(Fault::from(error)),
     };
-    let status = match words {
-        Ok(words) => {
+    let status = match arguments {
+        Ok(arguments) => {
             let mut generator: Option<StdRng> = make_rng(&rt).ok();
             run_command(
                 rt.alloc(),
-                words.as_slice(),
+                arguments.as_slice(),
                 &mut Input::new(rt.stdin()),
                 &mut Output::new(rt.stdout()),
                 &mut faults,

@@ -29,8 +29,8 @@ use Rattle.run_core.specs.declared.line.Kind.{Kind}
 use Rattle.run_core.specs.declared.line.Kind.TheVariants.{Batch, Check, Audit}
 use Rattle.run_core.specs.declared.line.LineFault.TheVariants.{OverBudget}
 use Rattle.run_core.specs.declared.tally.Tally.{Tally}
-use Rattle.run_core.proofs.Cuts.{parts_unique}
-use Rattle.run_core.proofs.Deciding.{one_setting, unstored-cheap}
+use Rattle.run_core.proofs.OneCut.{parts_unique}
+use Rattle.run_core.proofs.LineOutcomes.{one_setting, unstored-cheap}
 use Rattle.run_core.proofs.LineRules.{sound_not_refused, sound_short}
 
 -- ---- lines

@@ -16,8 +16,8 @@ use Rattle.run_core.specs.declared.fault.RunFault.{RunFault}
 use Rattle.run_core.specs.declared.reader.LineReader.{LineReader}
 use Rattle.run_core.specs.declared.reader.buffer.LineBuffer.{LineBuffer}
 use Rattle.run_core.proofs.LinesOf.{AllByRecursion-push, HasNoLineFeed-append, HasNoLineFeed-nil, HasNoLineFeed-position, cut-at_feed, lines_of-last, lines_of-nil, lines_of-with_line_feeds, with_line_feeds, with_line_feeds-behind_line}
-use Rattle.run_core.proofs.Moving.{moves-none, moves-trans}
-use Rattle.run_core.proofs.Reading.{Reads-trans, stops-later}
+use Rattle.run_core.proofs.MovedBytes.{moves-none, moves-trans}
+use Rattle.run_core.proofs.FirstLineReading.{Reads-trans, stops-later}
 
 -- ---- a piece
 

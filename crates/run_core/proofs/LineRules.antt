@@ -23,8 +23,8 @@ use Rattle.run_core.specs.declared.line.LineFault.{LineFault}
 use Rattle.run_core.specs.declared.line.LineFault.TheVariants.{LineTooLong, NoName, NameTooLong, NoPassword, Password, Setting, OverBudget}
 use Rattle.run_core.specs.declared.line.Task.{Task}
 use Rattle.run_core.specs.declared.line.Task.TheVariants as tasks
-use Rattle.crypt_core.proofs.Rules.{first_breaks, first_mapped, first_unique}
-use Rattle.run_core.proofs.Cuts.{cut_unique, cut_has_colon, name_unique, parts_unique}
+use Rattle.crypt_core.proofs.FirstBroken.{first_breaks, first_mapped, first_unique}
+use Rattle.run_core.proofs.OneCut.{cut_unique, cut_has_colon, name_unique, parts_unique}
 
 -- ---- names
 

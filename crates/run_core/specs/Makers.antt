@@ -28,9 +28,9 @@ recipe_of (Scheme scheme) = record { scheme = scheme; salt = None }
 abbrev pub bytes_of : Option (Bor (List ℕ)) → Option (List ℕ)
 bytes_of = option_map (λ bytes. bytes.now)
 
--- setting_by recipe words is the setting with the given salt, or with a new one that these random numbers make.
+-- setting_by recipe numbers is the setting with the given salt, or with a new one that these random numbers make.
 abbrev pub setting_by : Recipe → List ℕ → SettingValue
-setting_by recipe words = option_map_or (λ salt. record { scheme = recipe.scheme; salt = salt }) recipe.salt (salted recipe.scheme words)
+setting_by recipe numbers = option_map_or (λ salt. record { scheme = recipe.scheme; salt = salt }) recipe.salt (salted recipe.scheme numbers)
 
 -- next_setting recipe stream is the setting of the next hash. If no salt is given, the next three random numbers make
 -- one.

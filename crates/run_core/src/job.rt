@@ -167,7 +167,7 @@ impl Maker {
     pub fn cost(&self, password_len: usize) -> u64
         requires { password_len ≤ password_limit }
         ensures number { result ≡ made_cost_by self.now password_len }
-        ensures each { (words : List ℕ) → cost (setting_by self.now words) password_len ≡ result }
+        ensures each { (numbers : List ℕ) → cost (setting_by self.now numbers) password_len ≡ result }
         ensures below { result < 2 ^ 42 }
     {
         let (scheme, salt_len) = match &self.source {

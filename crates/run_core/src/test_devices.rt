@@ -183,15 +183,15 @@ impl<'a> Model for ListedWords<'a> {
 
 impl<'a> ListedWords<'a> {
     /// Returns a generator of these numbers.
-    pub fn new(words: &'a [u64]) -> ListedWords<'a>
-        ensures { result ≡ words.now }
+    pub fn new(numbers: &'a [u64]) -> ListedWords<'a>
+        ensures { result ≡ numbers.now }
     {
-        ListedWords { left: words }
+        ListedWords { left: numbers }
     }
 }
 
 impl NextWord<u64> for ListedWords<'_> {
-    ghost step = { λ words. (slice_index words 0, drop 1 words) };
+    ghost step = { λ numbers. (slice_index numbers 0, drop 1 numbers) };
 
     fn next_word(&mut self) -> u64 {
         match self.left.split_first() {
@@ -205,7 +205,7 @@ impl NextWord<u64> for ListedWords<'_> {
 }
 
 impl Rng for ListedWords<'_> {
-    ghost stream = { stream_of (steps_u64_low (λ words. (slice_index words 0, drop 1 words))) };
+    ghost stream = { stream_of (steps_u64_low (λ numbers. (slice_index numbers 0, drop 1 numbers))) };
 
     fn next_u32(&mut self) -> u32 {
         (self.next_word() % (1 << 32)) as u32

@@ -1,5 +1,5 @@
 use Rattle.std.proofs.Common.{inl, inr, rules}
-use Rattle.call_core.proofs.Logins.{agrees, alike, alike_cost, one_hash, pretends}
+use Rattle.call_core.proofs.LoginReports.{agrees, alike, alike_rounds, one_hash, pretends}
 use Rattle.crypt_c.proofs.mkpasswd_login.Goals as goal
 
 pub returns-clause-opens : goal.returns-clause-opens
@@ -21,9 +21,9 @@ pub returns-clause-alike : goal.returns-clause-alike
 returns-clause-alike c = λ fault broken.
     rw c.tell.ensures.told (alike c.args.password.now c.args.field.now c.args.method c.args.rounds c.args.budget fault _ broken c.log_in.ensures.logs_in)
 
-pub returns-clause-alike_cost : goal.returns-clause-alike_cost
-returns-clause-alike_cost c = λ refusal is reading.
-    rw c.tell.ensures.told (alike_cost c.args.password.now c.args.field.now c.args.method c.args.rounds c.args.budget refusal _ is reading
+pub returns-clause-alike_rounds : goal.returns-clause-alike_rounds
+returns-clause-alike_rounds c = λ refusal is reading.
+    rw c.tell.ensures.told (alike_rounds c.args.password.now c.args.field.now c.args.method c.args.rounds c.args.budget refusal _ is reading
     c.log_in.ensures.logs_in)
 
 pub returns-clause-one_hash : goal.returns-clause-one_hash

@@ -49,10 +49,10 @@ impl Setting {
     /// Returns the setting of a scheme with a new salt, which three random numbers make.
     ///
     /// The salt has [`made_salt_length`] characters.
-    pub fn salted(scheme: Scheme, words: [u64; 3]) -> Setting
-        ensures { result ≡ salted scheme words }
+    pub fn salted(scheme: Scheme, numbers: [u64; 3]) -> Setting
+        ensures { result ≡ salted scheme numbers }
     {
-        let salt = salt_of(words, made_salt_length(scheme.method()));
+        let salt = salt_of(numbers, made_salt_length(scheme.method()));
         Setting {
             scheme,
             salt: ArrayVec::try_from(salt.as_slice()).unwrap(),

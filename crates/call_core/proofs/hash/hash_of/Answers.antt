@@ -8,7 +8,7 @@ returns-clause-opens g c =
     IfOk-weaker c.hash_within.result _ _
     (λ made is. (
       (c.in_ok-password.ensures.ok.1, (kept, is.0, is.1, is.2)),
-      elim is.3 [ | inl free ↦ inl (kept, is.0, free) | inr some ↦ inr some ],
+      elim is.3 [ inl free ↦ inl (kept, is.0, free) | inr some ↦ inr some ],
     ))
     (rw c.in_ok-password.ensures.ok.0 at c.hash_within.ensures.spells)
 

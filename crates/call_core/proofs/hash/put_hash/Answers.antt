@@ -1,6 +1,6 @@
 use Rattle.std.proofs.Common.{◌⊎◌, ℕ, List}
 use Rattle.call_core.specs.Checks.{NeedsNoMemory, Opens}
-use Rattle.call_core.proofs.Hashes.{put_whole, puts_hash}
+use Rattle.call_core.proofs.PutHashes.{put_whole, puts_hash}
 use Rattle.call_core.proofs.hash.put_hash.Goals as goal
 
 pub returns-clause-hashes : goal.returns-clause-hashes

@@ -5,8 +5,8 @@ use Rattle.call_core.specs.Arguments.{TakesNewRounds}
 use Rattle.call_core.specs.Reasons.{reason_row}
 use Rattle.call_core.specs.declared.reason.Reason.{Reason}
 use Rattle.call_core.specs.declared.reason.Reason.TheVariants.{Fits, Outdated}
-use Rattle.call_core.proofs.Logins.{compared, declined, outdated_fits}
-use Rattle.call_core.proofs.Schemes.{made_once}
+use Rattle.call_core.proofs.LoginReports.{compared, declined, outdated_fits}
+use Rattle.call_core.proofs.MadeSchemes.{made_once}
 use Rattle.call_core.proofs.login.log_in.Goals as goal
 use Rattle.call_core.proofs.login.log_in.Goals.{then-is_replaced_by, else-is_replaced_by}
 

@@ -1,7 +1,7 @@
 use Rattle.std.proofs.Common.{◌≡◌, ◌==◌, length, false, inl, refl, rules, Ok, Err}
 use Rattle.std.proofs.lemmas.Result.{IfOk-weaker}
-use Rattle.call_core.proofs.NewHashes.{no_three, without_numbers}
-use Rattle.call_core.proofs.Schemes.{never_replaced, new_made}
+use Rattle.call_core.proofs.PutNewHashes.{no_three, without_numbers}
+use Rattle.call_core.proofs.MadeSchemes.{never_replaced, new_made}
 use Rattle.call_core.proofs.new_hash.new_hash_of.Goals as goal
 
 pub returns-then-numbers-eq3-clause-opens : goal.returns-then-numbers-eq3-clause-opens

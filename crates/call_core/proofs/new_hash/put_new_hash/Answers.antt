@@ -2,9 +2,9 @@ use Rattle.std.proofs.Common.{ℕ, List}
 use Rattle.call_core.specs.Checks.{Opens}
 use Rattle.call_core.specs.Reports.{refused}
 use Rattle.call_core.specs.declared.reason.Refusal.TheVariants.{Current}
-use Rattle.call_core.proofs.Hashes.{put_whole}
+use Rattle.call_core.proofs.PutHashes.{put_whole}
 use Rattle.call_core.specs.Rehashes.{Rehashes}
-use Rattle.call_core.proofs.NewHashes.{puts_new_hash}
+use Rattle.call_core.proofs.PutNewHashes.{puts_new_hash}
 use Rattle.call_core.proofs.new_hash.put_new_hash.Goals as goal
 
 pub returns-clause-hashes : goal.returns-clause-hashes

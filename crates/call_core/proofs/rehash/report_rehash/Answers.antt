@@ -1,7 +1,7 @@
 use Rattle.std.proofs.Common.{◌≡◌, false}
 use Rattle.crypt_core.specs.MadeSettings.{TakesRounds}
 use Rattle.crypt_core.specs.Replacements.{is_replaced_by}
-use Rattle.call_core.proofs.Schemes.{made_once, not_replaced}
+use Rattle.call_core.proofs.MadeSchemes.{made_once, not_replaced}
 use Rattle.call_core.proofs.rehash.report_rehash.Goals as goal
 
 pub returns-in-Err-clause-replaced : goal.returns-in-Err-clause-replaced

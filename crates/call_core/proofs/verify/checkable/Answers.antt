@@ -1,4 +1,4 @@
-use Rattle.call_core.proofs.Verdicts.{never_above}
+use Rattle.call_core.proofs.CheckReports.{never_above}
 use Rattle.call_core.proofs.verify.checkable.Goals as goal
 
 pub returns-in_err-stored-clause-admits : goal.returns-in_err-stored-clause-admits

@@ -1,7 +1,7 @@
 use Rattle.std.proofs.Common.{◌≡◌, ◌∙◌, inl, inr, sym, ap, arith}
 use Rattle.crypt_core.specs.Crypt.{allocates}
 use Rattle.crypt_core.specs.Settings.{SettingValue}
-use Rattle.call_core.proofs.Verdicts.{compared, declined}
+use Rattle.call_core.proofs.CheckReports.{compared, declined}
 use Rattle.call_core.proofs.verify.verify.Goals as goal
 
 pub returns-in-Err-checkable-clause-verifies : goal.returns-in-Err-checkable-clause-verifies
@@ -32,9 +32,12 @@ returns-in-Ok-checkable-clause-opens g c = λ opens.
     let same : kept ≡ opens.1.0 = only opens.1.0 opens.1.1 in
     elim (c.compare.ensures.opens (rw (c.in-Ok.ensures.ok.0, same, found.is_text) opens.1.2)) [
       | inl positive ↦ inl positive
-      | inr lacks ↦ inr (lacks.0, λ free.
-          let also : kept ≡ free.0 = only free.0 free.1 in
-          cc (sym (ap (λ (k : SettingValue). allocates k.scheme) also) ∙ lacks.1, free.2))
+      | inr lacks ↦ inr (
+        lacks.0,
+        λ free.
+            let also : kept ≡ free.0 = only free.0 free.1 in
+            cc (sym (ap (λ (k : SettingValue). allocates k.scheme) also) ∙ lacks.1, free.2),
+      )
     ]
 
 pub returns-in-Ok-checkable-clause-granted : goal.returns-in-Ok-checkable-clause-granted

@@ -1,4 +1,4 @@
-use Rattle.crypt_core.proofs.Readings.{setting_unique}
+use Rattle.crypt_core.proofs.OneSetting.{setting_unique}
 use Rattle.crypt_core.proofs.Refusals.{spelled_not_refused}
 use Rattle.crypt_core.proofs.fits.fits.Goals as goal
 

@@ -1,6 +1,6 @@
 use Rattle.std.proofs.Common.{rules, ◌≡◌, inl, arith}
 use Rattle.crypt_core.specs.Work.{raised_by, work}
-use Rattle.crypt_core.proofs.Within.{bytes_within}
+use Rattle.crypt_core.proofs.BytesWithinCost.{bytes_within}
 use Rattle.crypt_core.proofs.hash.digest_of.Goals as goal
 
 pub returns-after-sha-clause-metered : goal.returns-after-sha-clause-metered

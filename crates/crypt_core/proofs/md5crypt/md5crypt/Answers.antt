@@ -7,7 +7,7 @@ use Rattle.crypt_core.specs.Private.Messages.{Strings, with_digest}
 use Rattle.crypt_core.proofs.CycleLemmas.{digit_bytes-few}
 use Rattle.crypt_core.proofs.Md5cryptLemmas.{are_messages, length-message_round, length-opening, message-round, messages-all, messages-in_all, messages-two}
 use Rattle.crypt_core.proofs.MessageLists.{digest_after-more, digest_after-none, length-messages_to, length-alternate, messages-more, round_length-small}
-use Rattle.crypt_core.proofs.Metering.{digests_in_all, digests_more, two_digests}
+use Rattle.crypt_core.proofs.CountSums.{digests_in_all, digests_more, two_digests}
 use Rattle.crypt_core.proofs.md5crypt.md5crypt.Goals as goal
 
 pub parts-init : goal.parts-init

@@ -5,7 +5,7 @@ use Rattle.prims_core.specs.declared.meter.Work.{Work}
 use Rattle.crypt_core.specs.Md5crypt.{md5crypt_opening}
 use Rattle.crypt_core.specs.Messages.{md5crypt_message}
 use Rattle.crypt_core.specs.RoundMessage.{digest_after}
-use Rattle.crypt_core.proofs.Metering.{with_digests}
+use Rattle.crypt_core.proofs.CountSums.{with_digests}
 use Rattle.crypt_core.proofs.MessageLists.{messages_to}
 use Rattle.crypt_core.proofs.md5crypt.md5crypt.Given as goal
 

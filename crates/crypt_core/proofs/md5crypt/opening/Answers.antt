@@ -8,7 +8,7 @@ use Rattle.crypt_core.specs.Private.Messages.{with_digest}
 use Rattle.crypt_core.proofs.CycleLemmas.{digit_bytes-few}
 use Rattle.crypt_core.proofs.Md5cryptLemmas.{length-digits, length-opening}
 use Rattle.crypt_core.proofs.MessageLists.{length-alternate}
-use Rattle.crypt_core.proofs.Metering.{bytes_more, digest_counted}
+use Rattle.crypt_core.proofs.CountSums.{bytes_more, digest_counted}
 use Rattle.crypt_core.proofs.md5crypt.opening.Goals as goal
 
 -- the first byte of the password, as the code takes it

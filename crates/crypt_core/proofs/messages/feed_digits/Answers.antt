@@ -2,7 +2,7 @@ use Rattle.std.proofs.Common.{◌≡◌, ℕ, ◌/◌, ◌%◌, List, [], ◌++�
 use Rattle.std.proofs.lemmas.List.{append-nil, length-append}
 use Rattle.crypt_core.specs.Cycle.{by_digit, digit_pieces}
 use Rattle.crypt_core.proofs.CycleLemmas.{digit_pieces-step, no_pieces}
-use Rattle.crypt_core.proofs.Metering.{bytes_more, bytes_none}
+use Rattle.crypt_core.proofs.CountSums.{bytes_more, bytes_none}
 use Rattle.crypt_core.proofs.messages.feed_digits.Goals.{then-rest-eq1, else-rest-eq1}
 use Rattle.crypt_core.proofs.messages.feed_digits.Goals as goal
 

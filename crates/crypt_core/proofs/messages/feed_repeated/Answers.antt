@@ -1,7 +1,7 @@
 use Rattle.std.proofs.Common.{◌≡◌, ◌+◌, ◌*◌, length, arith, append_assoc}
 use Rattle.std.proofs.lemmas.List.{append-nil}
 use Rattle.crypt_core.proofs.CycleLemmas.{repeat-more}
-use Rattle.crypt_core.proofs.Metering.{bytes_more, bytes_none}
+use Rattle.crypt_core.proofs.CountSums.{bytes_more, bytes_none}
 use Rattle.crypt_core.proofs.messages.feed_repeated.Goals as goal
 
 pub turns-init : goal.turns-init

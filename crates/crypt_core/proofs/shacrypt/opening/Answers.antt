@@ -5,7 +5,7 @@ use Rattle.crypt_core.specs.ShaCrypt.{sha_opening_message}
 use Rattle.crypt_core.specs.Private.Messages.{with_digest}
 use Rattle.crypt_core.proofs.CycleLemmas.{digit_bytes-few, length-digit_pieces}
 use Rattle.crypt_core.proofs.MessageLists.{length-alternate}
-use Rattle.crypt_core.proofs.Metering.{bytes_more, digest_counted}
+use Rattle.crypt_core.proofs.CountSums.{bytes_more, digest_counted}
 use Rattle.crypt_core.proofs.ShaCryptLemmas.{length-sha_opening}
 use Rattle.crypt_core.proofs.shacrypt.opening.Goals as goal
 

@@ -9,7 +9,7 @@ use Rattle.crypt_core.specs.ShaCrypt.{password_repeated, password_string, salt_r
 use Rattle.crypt_core.specs.Private.Messages.{Strings, with_digest}
 use Rattle.crypt_core.proofs.CycleLemmas.{length-cycle, length-repeat}
 use Rattle.crypt_core.proofs.MessageLists.{digest_after-more, digest_after-none, length-messages_to, messages-more, round_length-small}
-use Rattle.crypt_core.proofs.Metering.{digests_in_all, digests_more, four_digests}
+use Rattle.crypt_core.proofs.CountSums.{digests_in_all, digests_more, four_digests}
 use Rattle.crypt_core.proofs.ShaCryptLemmas.{are_messages, sha_opening_byte-below, length-message_round, message-number, messages-all, messages-four, messages-in_all, round_is, start_bytes}
 use Rattle.crypt_core.proofs.shacrypt.shacrypt.Goals as goal
 

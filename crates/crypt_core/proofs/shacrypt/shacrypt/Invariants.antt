@@ -1,6 +1,6 @@
 use Rattle.std.proofs.Common.{◌≡◌, ◌+◌, ◌*◌, ◌≤◌, length}
 use Rattle.crypt_core.specs.Messages.{sha_digest_before, shacrypt_message}
-use Rattle.crypt_core.proofs.Metering.{with_digests}
+use Rattle.crypt_core.proofs.CountSums.{with_digests}
 use Rattle.crypt_core.proofs.MessageLists.{messages_to, round_limit}
 use Rattle.crypt_core.proofs.ShaCryptLemmas.{start_limit}
 use Rattle.crypt_core.proofs.shacrypt.shacrypt.Given as goal

@@ -1,6 +1,6 @@
 use Rattle.std.proofs.Common.{sym}
 use Rattle.crypt_core.proofs.CycleLemmas.{length-repeat}
-use Rattle.crypt_core.proofs.Metering.{digest_counted}
+use Rattle.crypt_core.proofs.CountSums.{digest_counted}
 use Rattle.crypt_core.proofs.shacrypt.string_of.Goals as goal
 
 pub returns-clause-count : goal.returns-clause-count

@@ -1,5 +1,5 @@
 use Rattle.std.proofs.Common.{◌∙◌, ap, length, sym}
-use Rattle.mkpasswd.proofs.Serving.{is_told}
+use Rattle.mkpasswd.proofs.ServedCommands.{is_told}
 use Rattle.mkpasswd.proofs.command.report_fault.Goals as goal
 
 pub returns-clause-told : goal.returns-clause-told

@@ -1,6 +1,6 @@
-use Rattle.mkpasswd.proofs.Prints.{prints_hash}
-use Rattle.mkpasswd.proofs.Serving.{serves_fault, serves_refusal, serves_run}
-use Rattle.mkpasswd.proofs.Wholes.{is_whole}
+use Rattle.mkpasswd.proofs.PrintedHash.{prints_hash}
+use Rattle.mkpasswd.proofs.ServedCommands.{serves_fault, serves_refusal, serves_run}
+use Rattle.mkpasswd.proofs.WholeCommands.{is_whole}
 use Rattle.mkpasswd.proofs.command.run_command.Goals as goal
 
 pub returns-in-Ok-run_plan-clause-serves : goal.returns-in-Ok-run_plan-clause-serves

@@ -2,8 +2,8 @@ use Rattle.std.proofs.Common.{◌≢◌, ◌∙◌, true≢false, Ok, Err, refl,
 use Rattle.clap.specs.Words.{kind_of}
 use Rattle.clap.specs.declared.error.kind.ErrorKind.TheVariants as kind
 use Rattle.mkpasswd.specs.Private.Commands.{front, help, mistake}
-use Rattle.run_core.proofs.Sending.{as_tally, shows-tally}
-use Rattle.mkpasswd.proofs.Serving.{status_of_help, status_of_mistake}
+use Rattle.run_core.proofs.SentTexts.{as_tally, shows-tally}
+use Rattle.mkpasswd.proofs.ServedCommands.{status_of_help, status_of_mistake}
 use Rattle.mkpasswd.proofs.command.show_error.Goals as goal
 
 pub returns-then-use_stderr : goal.returns-then-use_stderr

@@ -1,4 +1,4 @@
-use Rattle.mkpasswd.proofs.Serving.{refusal_shown}
+use Rattle.mkpasswd.proofs.ServedCommands.{refusal_shown}
 use Rattle.mkpasswd.proofs.command.show_refusal.Goals as goal
 
 pub returns-in-Parse : goal.returns-in-Parse

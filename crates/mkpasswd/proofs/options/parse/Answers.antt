@@ -1,4 +1,4 @@
--- `clap`'s clauses at the command: what it gives where it takes the words, and why it refuses them.
+-- `clap`'s clauses at the command: what it gives where it takes the arguments, and why it refuses them.
 use Rattle.std.proofs.Common.{◌≡◌, ◌≢◌, ◌∙◌, List, [], true, map, string_bytes, ap, subst, sym, inl, inr}
 use Rattle.std.specs.List.{list_all}
 use Rattle.std.proofs.lemmas.Result.{err_from_is_err_and}
@@ -17,12 +17,12 @@ use Rattle.mkpasswd.proofs.options.parse.Goals as goal
 
 -- ---- refusals
 
--- an error that is not want of memory is one that the words call for
-refused : (a : App) (words : List Text) (e : Error) → a ≡ command → (takes a words ≡ true → kind_of e ≡ kind.OutOfMemory)
-    → (is_simple_and_free a ≡ true → HasKind (fault_of a words) e) → kind_of e ≢ kind.OutOfMemory → Refuses words e
-refused a words e is passes kinds other = record {
-  called_for = elim (kinds (ap is_simple_and_free is ∙ facts.simple_and_free)) [ inl memory ↦ absurd (other memory) | inr among ↦ subst (λ (x : App). IsAmong (kind_of e) (fault_of x words)) is among ];
-  not_taken = λ taken. other (passes (ap (λ (x : App). takes x words) is ∙ taken));
+-- an error that is not want of memory is one that the arguments call for
+refused : (a : App) (arguments : List Text) (e : Error) → a ≡ command → (takes a arguments ≡ true → kind_of e ≡ kind.OutOfMemory)
+    → (is_simple_and_free a ≡ true → HasKind (fault_of a arguments) e) → kind_of e ≢ kind.OutOfMemory → Refuses arguments e
+refused a arguments e is passes kinds other = record {
+  called_for = elim (kinds (ap is_simple_and_free is ∙ facts.simple_and_free)) [ inl memory ↦ absurd (other memory) | inr among ↦ subst (λ (x : App). IsAmong (kind_of e) (fault_of x arguments)) is among ];
+  not_taken = λ taken. other (passes (ap (λ (x : App). takes x arguments) is ∙ taken));
   not_memory = other;
 }
 
@@ -35,9 +35,9 @@ returns-in_err-matches-clause-err c =
 
 -- ---- values
 
--- the rows of the matches are those that the words give
-rows_read : (a : App) (words : List Text) (m : ArgMatches) → a ≡ command → HasMatchesOf a words m → rows_of (found_of m) ≡ matches_of command words
-rows_read a words m is matches = (subst (λ (x : App). HasMatchesOf x words m) is matches facts.simple).0
+-- the rows of the matches are those that the arguments give
+rows_read : (a : App) (arguments : List Text) (m : ArgMatches) → a ≡ command → HasMatchesOf a arguments m → rows_of (found_of m) ≡ matches_of command arguments
+rows_read a arguments m is matches = (subst (λ (x : App). HasMatchesOf x arguments m) is matches facts.simple).0
 
 -- and each value is one that the parser of its option takes
 have_passed : (c : Command) (m : ArgMatches) → app_of c ≡ command → IsParsedFrom c m → HavePassed m
@@ -58,7 +58,7 @@ pub returns-clause-ok : goal.returns-clause-ok
 returns-clause-ok c =
     let is = c.in_ok-command.ensures in
     let clauses = c.in_ok-matches.ensures in
-    let words = map string_bytes c.args.words.now in (
-      subst (λ (a : App). fault_of a words ≡ []) is (clauses.kinds (ap is_simple_and_free is ∙ facts.simple_and_free)),
-      rows_read _ words c.in_ok-matches.matches is clauses.matches,
+    let arguments = map string_bytes c.args.arguments.now in (
+      subst (λ (a : App). fault_of a arguments ≡ []) is (clauses.kinds (ap is_simple_and_free is ∙ facts.simple_and_free)),
+      rows_read _ arguments c.in_ok-matches.matches is clauses.matches,
     )

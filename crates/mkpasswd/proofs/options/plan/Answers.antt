@@ -7,18 +7,18 @@ use Rattle.clap.specs.declared.error.kind.ErrorKind.TheVariants as kind
 use Rattle.mkpasswd.specs.Options.{Means, Plans, Refuses}
 use Rattle.mkpasswd.specs.declared.fault.UsageFault.{UsageFault}
 use Rattle.mkpasswd.specs.declared.fault.UsageFault.TheVariants.{Parse, Make, OutOfMemory}
-use Rattle.mkpasswd.proofs.Planning.{refused_make}
+use Rattle.mkpasswd.proofs.PlannedMeaning.{refused_make}
 use Rattle.mkpasswd.proofs.options.plan.Goals as goal
 
--- `clap`'s error is a refusal of the words, or want of memory
-planned_error : (words : List Text) (error : Error) (fault : UsageFault) → (kind_of error ≡ kind.OutOfMemory → fault ≡ OutOfMemory) → (kind_of error ≢ kind.OutOfMemory → fault ≡ Parse error)
-    → (kind_of error ≢ kind.OutOfMemory → Refuses words error) → Plans words (Err fault)
-planned_error words error OutOfMemory memory other refuses = tt
-planned_error words error (Parse e) memory other refuses =
+-- `clap`'s error is a refusal of the arguments, or want of memory
+planned_error : (arguments : List Text) (error : Error) (fault : UsageFault) → (kind_of error ≡ kind.OutOfMemory → fault ≡ OutOfMemory) → (kind_of error ≢ kind.OutOfMemory → fault ≡ Parse error)
+    → (kind_of error ≢ kind.OutOfMemory → Refuses arguments error) → Plans arguments (Err fault)
+planned_error arguments error OutOfMemory memory other refuses = tt
+planned_error arguments error (Parse e) memory other refuses =
     let not_memory : kind_of error ≢ kind.OutOfMemory = λ is. let bad = memory is in cc in
     let same : error ≡ e = let is = other not_memory in cc in
-    subst (λ (x : Error). Refuses words x) same (refuses not_memory)
-planned_error words error fault memory other refuses = let is = other (λ is. let bad = memory is in cc) in cc
+    subst (λ (x : Error). Refuses arguments x) same (refuses not_memory)
+planned_error arguments error fault memory other refuses = let is = other (λ is. let bad = memory is in cc) in cc
 
 pub returns-in_err-given : goal.returns-in_err-given
 returns-in_err-given c =
@@ -29,7 +29,7 @@ pub returns-in_err-maker : goal.returns-in_err-maker
 returns-in_err-maker c =
     let p = err_from_is_err_and c.from_residual-in_err-maker.result c.from_residual-in_err-maker.ensures.1 in
     let rows = c.in_ok-given.given in
-    let refused = rw (c.unwrap_or-cost.ensures, c.number32.ensures, c.in_ok-salt.ensures.once) at c.in_err-maker.ensures.refused in
+    let refused = rw (c.unwrap_or-rounds.ensures, c.number32.ensures, c.in_ok-salt.ensures.once) at c.in_err-maker.ensures.refused in
     let means : Means rows (Err (Make c.in_err-maker.field-0.0)) = (
       λ asks. true≢false (sym ((bytes_eq-Decides _ (codes "help")).1 (c.type_name.ensures ∙ asks)) ∙ sym c.if-eq.ensures),
       inr (

@@ -12,8 +12,8 @@ use Rattle.run_core.specs.declared.answer.Outcome.{Outcome}
 use Rattle.run_core.specs.declared.answer.Outcome.TheVariants.{Audited}
 use Rattle.run_core.specs.Private.Lines.{HasTask}
 use Rattle.run_core.specs.declared.line.LineFault.TheVariants.{OverBudget}
-use Rattle.run_core.proofs.Counting.{after_hashings, small_rise}
-use Rattle.run_core.proofs.Deciding.{audit_answer, costly, decided, password_answer, refused_answer}
+use Rattle.run_core.proofs.ToldCounts.{after_hashings, small_rise}
+use Rattle.run_core.proofs.LineOutcomes.{audit_answer, costly, decided, password_answer, refused_answer}
 use Rattle.run_core.proofs.answer.answer_line.Goals as goal
 
 pub returns-in-Err-clause-decides : goal.returns-in-Err-clause-decides

@@ -9,7 +9,7 @@ use Rattle.run_core.specs.Answers.{hashing, new_hash, new_hashing}
 use Rattle.run_core.specs.JobOptions.{is_outdated}
 use Rattle.run_core.specs.Makers.{next_setting}
 use Rattle.run_core.specs.declared.answer.Outcome.TheVariants.{Hashed, Match, Misfit, Rehashed}
-use Rattle.run_core.proofs.Deciding.{would_check}
+use Rattle.run_core.proofs.LineOutcomes.{would_check}
 use Rattle.run_core.proofs.answer.outcome_of.Goals as goal
 
 -- ---- a password to hash

@@ -1,7 +1,7 @@
 use Rattle.std.proofs.Common.{◌+◌, arith}
 use Rattle.std.proofs.lemmas.Result.{err_from_is_err_and}
 use Rattle.run_core.specs.Runs.{run_state}
-use Rattle.run_core.proofs.Running.{ends-flushed, ends-reading, ends-unanswered, ends-unflushed, ends-unsent, given-line, renders-outcome, room-less, running-answered, running-start}
+use Rattle.run_core.proofs.LinesRunning.{ends-flushed, ends-reading, ends-unanswered, ends-unflushed, ends-unsent, given-line, renders-outcome, room-less, running-answered, running-start}
 use Rattle.run_core.proofs.lines.answer_lines.Goals as goal
 
 pub lines-init : goal.lines-init

@@ -1,6 +1,6 @@
 use Rattle.run_core.specs.Runs.{run_state}
 use Rattle.run_core.specs.Private.Headroom.{to_read}
-use Rattle.run_core.proofs.Running.{IsRunning}
+use Rattle.run_core.proofs.LinesRunning.{IsRunning}
 use Rattle.run_core.proofs.lines.answer_lines.Given as goal
 
 abbrev pub invariant-lines : goal.invariant-lines

@@ -1,4 +1,4 @@
-use Rattle.run_core.proofs.Auditing.{spares}
+use Rattle.run_core.proofs.AuditsSpare.{spares}
 use Rattle.run_core.proofs.LineOptions.{foresees}
 use Rattle.crypt_core.proofs.WorkBounds.{longest}
 use Rattle.run_core.proofs.lines.run_audit.Goals as goal

@@ -2,7 +2,7 @@ use Rattle.std.proofs.Common.{ℕ, List, Ok, Err, subst}
 use Rattle.std.proofs.lemmas.Result.{err_from_is_err_and}
 use Rattle.run_core.specs.Methods.{methods_text}
 use Rattle.run_core.specs.Output.{Shows}
-use Rattle.run_core.proofs.Sending.{shows-tally}
+use Rattle.run_core.proofs.SentTexts.{shows-tally}
 use Rattle.run_core.proofs.methods.run_methods.Goals as goal
 
 pub returns-in_err-show-clause-shows : goal.returns-in_err-show-clause-shows

@@ -12,8 +12,8 @@ use Rattle.run_core.specs.declared.job.Job.{Job}
 use Rattle.std.proofs.lemmas.Result.{err_from_is_err_and}
 use Rattle.run_core.specs.Runs.{run_state}
 use Rattle.run_core.proofs.LineOptions.{runs_one}
-use Rattle.run_core.proofs.Ending as ending
-use Rattle.run_core.proofs.Counting.{after_hashings, small_rise}
+use Rattle.run_core.proofs.OneEnds as ending
+use Rattle.run_core.proofs.ToldCounts.{after_hashings, small_rise}
 use Rattle.run_core.proofs.one.run_one.Goals as goal
 
 -- the line that is rendered is the one of the hash

@@ -1,7 +1,7 @@
 use Rattle.std.proofs.Common.{◌≡◌, arith, ap, length, inl, inr, sym, ◌∙◌}
 use Rattle.std.proofs.lemmas.Bool.{cases_lt, eqb-true}
 use Rattle.std.proofs.lemmas.List.{take_rest}
-use Rattle.run_core.proofs.Sending.{under_way-start, under_way-step}
+use Rattle.run_core.proofs.SentTexts.{under_way-start, under_way-step}
 use Rattle.run_core.proofs.transfer.send.Goals as goal
 
 pub pieces-init : goal.pieces-init

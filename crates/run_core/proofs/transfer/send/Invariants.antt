@@ -1,5 +1,5 @@
 use Rattle.std.proofs.Common.{length}
-use Rattle.run_core.proofs.Sending.{IsUnderWay}
+use Rattle.run_core.proofs.SentTexts.{IsUnderWay}
 use Rattle.run_core.proofs.transfer.send.Given as goal
 
 abbrev pub invariant-pieces : goal.invariant-pieces

@@ -6,7 +6,7 @@ use Rattle.crypt_core.specs.MadeSettings.{IsMakeRefused, TakesRounds}
 use Rattle.crypt_core.specs.Private.Parts.{TakesSalt}
 use Rattle.crypt_core.specs.Schemes.{method_of}
 use Rattle.crypt_core.specs.declared.method.Method.{Method}
-use Rattle.crypt_core.proofs.Making.{accepted, given, made_method, make_refused_cost, make_refusal_unique, not_accepted, only_make_refusal, taken}
+use Rattle.crypt_core.proofs.MadeSettings.{accepted, given, made_method, make_refused_cost, make_refusal_unique, not_accepted, only_make_refusal, taken}
 use Rattle.crypt_core.proofs.setting.Setting.make.Goals as goal
 
 pub invariant_of-result : goal.invariant_of-result

@@ -5,7 +5,7 @@ use Rattle.crypt_core.specs.Schemes.{method_of}
 use Rattle.crypt_core.specs.Settings.{SpellsScheme}
 use Rattle.crypt_core.specs.declared.method.Method.{Method}
 use Rattle.crypt_core.specs.declared.setting.fault.SettingFault.TheVariants.{BadSalt}
-use Rattle.crypt_core.proofs.First.{refused_salt, spelled}
+use Rattle.crypt_core.proofs.FirstRefusal.{refused_salt, spelled}
 use Rattle.crypt_core.proofs.Refusals.{only_refusal, only_setting}
 use Rattle.crypt_core.proofs.setting.Setting.read.Goals as goal
 

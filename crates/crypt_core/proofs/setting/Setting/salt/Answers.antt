@@ -2,7 +2,7 @@ use Rattle.std.proofs.Common.{◌≤◌, ap, arith, length, subst}
 use Rattle.crypt_core.specs.MethodLimits.{salt_limit}
 use Rattle.crypt_core.specs.Schemes.{method_of}
 use Rattle.crypt_core.specs.Settings.{SettingValue}
-use Rattle.crypt_core.proofs.Canonical.{setting_bounded}
+use Rattle.crypt_core.proofs.CanonicalSpells.{setting_bounded}
 use Rattle.crypt_core.proofs.setting.Setting.salt.Goals as goal
 
 pub returns-clause-short : goal.returns-clause-short

@@ -4,7 +4,7 @@ use Rattle.crypt_core.specs.MethodLimits.{made_salt_length, salt_limit}
 use Rattle.crypt_core.specs.Schemes.{method_of}
 use Rattle.crypt_core.specs.declared.method.Method.{Method}
 use Rattle.crypt_core.proofs.MadeSaltLemmas.{made_short}
-use Rattle.crypt_core.proofs.Making.{spelled}
+use Rattle.crypt_core.proofs.MadeSettings.{spelled}
 use Rattle.crypt_core.proofs.setting.Setting.salted.Goals as goal
 
 pub invariant_of-result : goal.invariant_of-result

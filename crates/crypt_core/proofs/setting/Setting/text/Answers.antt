@@ -3,7 +3,7 @@ use Rattle.std.proofs.Common.{◌≡◌, ◌+◌, ◌<◌, List, ℕ, ◌++◌, 
 use Rattle.crypt_core.specs.MethodLimits.{packed_len}
 use Rattle.crypt_core.specs.Settings.{SettingValue, Spells, canonical_text, cost_part}
 use Rattle.crypt_core.specs.Schemes.{method_of}
-use Rattle.crypt_core.proofs.Canonical.{canonical_spells, setting_short}
+use Rattle.crypt_core.proofs.CanonicalSpells.{canonical_spells, setting_short}
 use Rattle.crypt_core.proofs.EachMethod.{length-prefix}
 use Rattle.crypt_core.proofs.setting.Setting.text.Goals as goal
 

@@ -1,7 +1,7 @@
 use Rattle.std.proofs.Common.{◌≤◌, ◌<◌, inl, inr, length, All, Contains, arith, rules}
 use Rattle.prims_core.specs.Alphabet.{alphabet}
 use Rattle.crypt_core.specs.MethodLimits.{salt_limit}
-use Rattle.crypt_core.proofs.Making.{make_refused_character, make_refused_length}
+use Rattle.crypt_core.proofs.MadeSettings.{make_refused_character, make_refused_length}
 use Rattle.crypt_core.proofs.setting.make.given_salt.Goals.{then-is_empty-via-then-is_empty, then-is_empty-via-else-is_empty+then-salt-row}
 use Rattle.crypt_core.proofs.setting.make.given_salt.Goals as goal
 

@@ -1,7 +1,7 @@
 use Rattle.crypt_core.specs.Rounds.{max_rounds}
 use Rattle.std.proofs.Common.{ℕ, ◌+◌, ◌*◌, get_or, refl, ap, ◌∙◌}
 use Rattle.std.specs.Prelude.{min}
-use Rattle.crypt_core.proofs.Steps.{capped_more}
+use Rattle.crypt_core.proofs.ParsedParts.{capped_more}
 use Rattle.crypt_core.proofs.setting.read.capped_number.Goals as goal
 
 pub loop-digit-preserved : goal.loop-digit-preserved

@@ -1,6 +1,6 @@
 use Rattle.std.proofs.Common.{All, arith, rules}
 use Rattle.crypt_core.specs.Settings.{IsSettingByte}
-use Rattle.crypt_core.proofs.First.{refused_character, refused_long}
+use Rattle.crypt_core.proofs.FirstRefusal.{refused_character, refused_long}
 use Rattle.crypt_core.proofs.setting.read.check_bytes.Goals as goal
 
 pub returns-then-text-gt-SETTING_LIMIT-clause-err : goal.returns-then-text-gt-SETTING_LIMIT-clause-err

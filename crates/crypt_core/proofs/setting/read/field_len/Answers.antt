@@ -3,7 +3,7 @@ use Rattle.std.specs.List.{position}
 use Rattle.std.specs.Option.{unwrap_or}
 use Rattle.std.proofs.lemmas.Iterator.{YieldsList-from_slice}
 use Rattle.std.proofs.lemmas.Iterator.Search.{position_from_yields_List}
-use Rattle.crypt_core.proofs.Steps.{field_to, is_dollar}
+use Rattle.crypt_core.proofs.ParsedParts.{field_to, is_dollar}
 use Rattle.crypt_core.proofs.setting.read.field_len.Goals as goal
 
 pub returns-clause-field : goal.returns-clause-field

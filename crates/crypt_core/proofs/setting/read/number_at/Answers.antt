@@ -1,5 +1,5 @@
 use Rattle.std.proofs.Common.{◌≡◌, true, take, arith, rules}
-use Rattle.crypt_core.proofs.Steps.{no_number, only_number, number_parts}
+use Rattle.crypt_core.proofs.ParsedParts.{no_number, only_number, number_parts}
 use Rattle.crypt_core.proofs.setting.read.number_at.Goals.{then-end-field-via-then-end-field, then-end-field-via-else-end-field+then-not-is_rounds_number}
 use Rattle.crypt_core.proofs.setting.read.number_at.Goals as goal
 

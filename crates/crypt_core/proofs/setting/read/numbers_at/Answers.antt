@@ -1,5 +1,5 @@
 use Rattle.std.proofs.Common.{arith}
-use Rattle.crypt_core.proofs.Steps.{on_none, lacks_first, lacks_group, numbers_parts}
+use Rattle.crypt_core.proofs.ParsedParts.{on_none, lacks_first, lacks_group, numbers_parts}
 use Rattle.crypt_core.proofs.setting.read.numbers_at.Goals as goal
 
 pub returns-in_err-log_n-clause-none : goal.returns-in_err-log_n-clause-none

@@ -1,5 +1,5 @@
 use Rattle.kdf_core.specs.Params.{cost_of}
-use Rattle.crypt_core.proofs.First.{refused_cost, refused_range, refused_ceiling, spelled_numbers}
+use Rattle.crypt_core.proofs.FirstRefusal.{refused_cost, refused_range, refused_ceiling, spelled_numbers}
 use Rattle.crypt_core.proofs.setting.read.params_at.Goals as goal
 
 pub returns-in_default-clause-err : goal.returns-in_default-clause-err

@@ -2,8 +2,8 @@ use Rattle.std.proofs.Common.{sym, subst, ◌∙◌}
 use Rattle.crypt_core.specs.declared.scheme.Scheme.TheVariants.{Scrypt}
 use Rattle.crypt_core.specs.Settings.{SpellsScheme}
 use Rattle.crypt_core.specs.TextLimits.{scrypt_part_len}
-use Rattle.crypt_core.proofs.First.{after_numbers, refused_unknown, spelled_numbers, unknown}
-use Rattle.crypt_core.proofs.Steps.{rest_all}
+use Rattle.crypt_core.proofs.FirstRefusal.{after_numbers, refused_unknown, spelled_numbers, unknown}
+use Rattle.crypt_core.proofs.ParsedParts.{rest_all}
 use Rattle.crypt_core.proofs.setting.read.scheme_at.Goals as goal
 
 pub returns-in-Some-after_prefix-3-clause-ok : goal.returns-in-Some-after_prefix-3-clause-ok

@@ -1,8 +1,8 @@
 use Rattle.crypt_core.specs.Settings.{rounds_word}
 use Rattle.crypt_core.specs.declared.scheme.Scheme.TheVariants.{Shacrypt}
-use Rattle.crypt_core.proofs.AfterFront.{begins}
-use Rattle.crypt_core.proofs.First.{refused_rounds, spelled_front}
-use Rattle.crypt_core.proofs.Rounds.{written_rounds}
+use Rattle.crypt_core.proofs.StrippedPrefix.{begins}
+use Rattle.crypt_core.proofs.FirstRefusal.{refused_rounds, spelled_front}
+use Rattle.crypt_core.proofs.RoundsTexts.{written_rounds}
 use Rattle.crypt_core.proofs.setting.read.shacrypt_at.Goals as goal
 
 pub returns-in_default-number_at-clause-err : goal.returns-in_default-number_at-clause-err

@@ -1,6 +1,6 @@
 use Rattle.std.proofs.Common.{◌/◌, length, ap, length-append, arith}
 use Rattle.std.specs.Prelude.{decimal}
-use Rattle.crypt_core.proofs.Writing.{length-decimal_digit, length-decimal_step, digit_written, step_written}
+use Rattle.crypt_core.proofs.DecimalDigits.{length-decimal_digit, length-decimal_step, digit_written, step_written}
 use Rattle.crypt_core.proofs.setting.text.+append_decimal.Goals as goal
 
 pub push-requires : goal.push-requires

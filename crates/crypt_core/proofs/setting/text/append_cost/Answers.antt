@@ -2,8 +2,8 @@ use Rattle.std.proofs.Common.{◌≡◌, length, ap, ◌∙◌, arith}
 use Rattle.crypt_core.specs.declared.scheme.Scheme.{Scheme}
 use Rattle.crypt_core.specs.Settings.{cost_part}
 use Rattle.crypt_core.specs.TextLimits.{scrypt_part_len}
-use Rattle.crypt_core.proofs.Numerals.{length-scrypt_part}
-use Rattle.crypt_core.proofs.Making.{accepted_numerals}
+use Rattle.crypt_core.proofs.DistinctNumerals.{length-scrypt_part}
+use Rattle.crypt_core.proofs.MadeSettings.{accepted_numerals}
 use Rattle.crypt_core.proofs.setting.text.append_cost.Goals as goal
 
 pub put_group-requires-clause-room : goal.put_group-requires-clause-room

@@ -3,7 +3,7 @@ use Rattle.std.specs.Option.{option_map}
 use Rattle.clap.specs.Words.{found_of}
 use Rattle.clap.proofs.WalkLemmas.{one_text-rows}
 use Rattle.mkpasswd.specs.Options.{number_in}
-use Rattle.mkpasswd.proofs.Numbers.{number_of, number_read}
+use Rattle.mkpasswd.proofs.ReadNumbers.{number_of, number_read}
 use Rattle.mkpasswd.proofs.options.Arguments.number32.Goals as goal
 
 pub returns : goal.returns

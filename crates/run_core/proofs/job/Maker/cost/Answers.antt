@@ -1,9 +1,9 @@
 use Rattle.std.proofs.Common.{sym, ◌∙◌, rules}
-use Rattle.run_core.proofs.Recipes.{made_cost}
+use Rattle.run_core.proofs.MakerCosts.{made_cost}
 use Rattle.run_core.proofs.job.Maker.cost.Goals as goal
 
 pub returns-clause-number : goal.returns-clause-number
 returns-clause-number c = search rules
 
 pub returns-clause-each : goal.returns-clause-each
-returns-clause-each c = λ words. made_cost c.args.self.now words c.args.password_len ∙ sym (returns-clause-number c)
+returns-clause-each c = λ numbers. made_cost c.args.self.now numbers c.args.password_len ∙ sym (returns-clause-number c)

@@ -4,7 +4,7 @@ use Rattle.crypt_core.specs.MadeSettings.{BreaksMake, IsMakeRefused}
 use Rattle.crypt_core.specs.declared.method.Method.{Method}
 use Rattle.crypt_core.specs.declared.setting.fault.MakeFault.{MakeFault}
 use Rattle.run_core.specs.Makers.{bytes_of}
-use Rattle.run_core.proofs.Recipes.{only_cost, refused_for_cost, refused_made}
+use Rattle.run_core.proofs.MakerCosts.{only_cost, refused_for_cost, refused_made}
 use Rattle.run_core.proofs.job.Maker.new.Goals as goal
 
 -- what is said of a salt that was given, is of the argument

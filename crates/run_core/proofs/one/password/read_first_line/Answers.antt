@@ -1,6 +1,6 @@
 use Rattle.std.proofs.Common.{arith, sym, ◌∙◌}
 use Rattle.std.proofs.lemmas.Result.{err_from_is_err_and}
-use Rattle.run_core.proofs.Reading.{reading-cut, reading-end, reading-found, reading-full, reading-more}
+use Rattle.run_core.proofs.FirstLineReading.{reading-cut, reading-end, reading-found, reading-full, reading-more}
 use Rattle.run_core.proofs.one.password.read_first_line.Goals as goal
 
 pub returns-in_err-count-clause-read : goal.returns-in_err-count-clause-read

@@ -1,5 +1,5 @@
 use Rattle.std.proofs.Common.{length, ◌-◌}
-use Rattle.run_core.proofs.Reading.{IsReading}
+use Rattle.run_core.proofs.FirstLineReading.{IsReading}
 use Rattle.run_core.proofs.one.password.read_first_line.Given as goal
 
 abbrev pub invariant-fetches : goal.invariant-fetches

@@ -24,7 +24,7 @@ use Rattle.call_core.specs.declared.reason.Reason.TheVariants.{Fits, Outdated, R
 use Rattle.call_core.specs.declared.reason.Refusal.{Refusal}
 use Rattle.call_core.specs.declared.reason.Refusal.TheVariants.{Differs, OverBudget, Password}
 use Rattle.call_core.specs.declared.report.Report.{Report}
-use Rattle.call_core.proofs.Schemes.{made_once}
+use Rattle.call_core.proofs.MadeSchemes.{made_once}
 use Rattle.call_core.specs.Logins.{Agrees, Declines, IsHashWork, IsLoginWork, IsUncheckable, LogsIn, decoy}
 
 -- ---- The report, by the branches of a login
@@ -168,17 +168,17 @@ alike password field number rounds budget TooLong report broken (inr (HasNul, al
 alike password field number rounds budget HasNul report broken (inr (TooLong, also, e)) = absurd (omega (arith, broken.0, also))
 
 -- a method and a cost that no new hash has are refused alike for every field
-pub alike_cost : (password field : List ℕ) (number rounds budget : ℕ) (refusal : Refusal) (report : Report) → IsPassword password
+pub alike_rounds : (password field : List ℕ) (number rounds budget : ℕ) (refusal : Refusal) (report : Report) → IsPassword password
     → IsSchemeReading TakesNewRounds number rounds (Err refusal) → LogsIn password field number rounds budget report → report ≡ refused refusal 0
-alike_cost password field number rounds budget refusal report is reading (inr (TooLong, broken, e)) = absurd (omega (arith, is.0, broken))
-alike_cost password field number rounds budget refusal report is reading (inr (HasNul, broken, e)) = absurd (is.1 broken.1)
-alike_cost password field number rounds budget refusal report is (inl (kind, none)) (inl (also, inr (inl (nobody, e)))) = rw kind e
-alike_cost password field number rounds budget refusal report is (inr (kind, rest)) (inl (also, inr (inr (method, named, never, e)))) = rw kind e
-alike_cost password field number rounds budget refusal report is (inl (kind, none)) (inl (also, inr (inr (method, named, never, e)))) =
+alike_rounds password field number rounds budget refusal report is reading (inr (TooLong, broken, e)) = absurd (omega (arith, is.0, broken))
+alike_rounds password field number rounds budget refusal report is reading (inr (HasNul, broken, e)) = absurd (is.1 broken.1)
+alike_rounds password field number rounds budget refusal report is (inl (kind, none)) (inl (also, inr (inl (nobody, e)))) = rw kind e
+alike_rounds password field number rounds budget refusal report is (inr (kind, rest)) (inl (also, inr (inr (method, named, never, e)))) = rw kind e
+alike_rounds password field number rounds budget refusal report is (inl (kind, none)) (inl (also, inr (inr (method, named, never, e)))) =
     absurd (cc (none, named))
-alike_cost password field number rounds budget refusal report is (inr (kind, (method, named, never))) (inl (also, inr (inl (none, e)))) =
+alike_rounds password field number rounds budget refusal report is (inr (kind, (method, named, never))) (inl (also, inr (inl (none, e)))) =
     absurd (cc (none, named))
-alike_cost password field number rounds budget refusal report is (inl (kind, none)) (inl (also, inl (scheme, makes, rest))) =
+alike_rounds password field number rounds budget refusal report is (inl (kind, none)) (inl (also, inl (scheme, makes, rest))) =
     absurd (cc (none, makes.1))
-alike_cost password field number rounds budget refusal report is (inr (kind, (method, named, never))) (inl (also, inl (scheme, makes, rest))) =
+alike_rounds password field number rounds budget refusal report is (inr (kind, (method, named, never))) (inl (also, inl (scheme, makes, rest))) =
     never_refused number rounds scheme _ makes method named never

@@ -17,8 +17,8 @@ use Rattle.crypt_core.specs.Private.Parts.{HasField, HasNumerals, LacksCharacter
 use Rattle.crypt_core.specs.Settings.{dollar, IsRoundsNumber, scrypt_part}
 use Rattle.crypt_core.specs.Rounds.{max_rounds}
 use Rattle.crypt_core.specs.TextLimits.{scrypt_part_len}
-use Rattle.crypt_core.proofs.Fields.{IsEndOfField, end_of, ended_by, field_unique}
-use Rattle.crypt_core.proofs.Rounds.{digits_are_field}
+use Rattle.crypt_core.proofs.DollarFields.{IsEndOfField, end_of, ended_by, field_unique}
+use Rattle.crypt_core.proofs.RoundsTexts.{digits_are_field}
 
 pub on_none : {A : Type 0} (r : Option A) (P : Type 0) → P → IfNone r P
 on_none None P h = h

@@ -26,11 +26,11 @@ use Rattle.run_core.specs.declared.line.Kind.{Kind}
 use Rattle.run_core.specs.declared.line.LineFault.{LineFault}
 use Rattle.run_core.specs.declared.reader.LineReader.{LineReader}
 use Rattle.run_core.specs.declared.tally.Tally.{Tally}
-use Rattle.run_core.proofs.Finishing.{HasAnswered, finishes, finishes-with_fault}
+use Rattle.run_core.proofs.Flushes.{HasAnswered, finishes, finishes-with_fault}
 use Rattle.run_core.proofs.LineAnswering.{AreAnswers-push, counts-push, fault_texts-push, same-length, stream-push, tally-push, texts-push}
 use Rattle.run_core.proofs.LineReading.{given-none}
-use Rattle.run_core.proofs.Moving.{moves-none, moves-trans}
-use Rattle.run_core.proofs.Sending.{Takes-trans, TakesFront-behind, takes-nothing}
+use Rattle.run_core.proofs.MovedBytes.{moves-none, moves-trans}
+use Rattle.run_core.proofs.SentTexts.{Takes-trans, TakesFront-behind, takes-nothing}
 
 -- ---- room
 

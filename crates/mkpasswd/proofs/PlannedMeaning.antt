@@ -1,4 +1,4 @@
--- From what the steps of `plan` find to what the words mean.
+-- From what the steps of `plan` find to what the arguments mean.
 use Rattle.std.proofs.Common.{◌≡◌, List, [], ◌∷◌, map, Some, ap, subst, inl, inr}
 use Rattle.clap.specs.Words.{Row}
 use Rattle.crypt_core.specs.MadeSettings.{BreaksMake, IsMakeRefused, make_faults}
@@ -9,7 +9,7 @@ use Rattle.crypt_core.specs.declared.setting.fault.MakeFault.{MakeFault}
 use Rattle.mkpasswd.specs.Options.{BreaksUsage, cost_of, given_salt, type_of}
 use Rattle.mkpasswd.specs.declared.fault.UsageFault.TheVariants.{Make}
 
--- ---- the rules of the words, in their order
+-- ---- the rules of the arguments, in their order
 
 module _ (rows : List Row) (method : Method) (named : method_named (type_of rows) ≡ Some method) where
   unbroken_make : (fault : MakeFault) → ¬ BreaksMake method (cost_of rows) (given_salt rows) fault → ¬ BreaksUsage rows (Make fault)

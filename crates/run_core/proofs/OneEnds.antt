@@ -22,8 +22,8 @@ use Rattle.run_core.specs.declared.job.Job.{Job}
 use Rattle.run_core.specs.declared.job.PasswordFrom.{PasswordFrom}
 use Rattle.run_core.specs.declared.job.PasswordFrom.TheVariants.{Word, Input}
 use Rattle.run_core.specs.declared.tally.Tally.{Tally}
-use Rattle.run_core.proofs.Finishing.{HasAnswered, finishes, finishes-with_fault}
-use Rattle.run_core.proofs.Sending.{takes-nothing}
+use Rattle.run_core.proofs.Flushes.{HasAnswered, finishes, finishes-with_fault}
+use Rattle.run_core.proofs.SentTexts.{takes-nothing}
 
 -- the password is known, and was one
 is_password : {I : Type 0} (from : PasswordFrom) (old input : Device I) (left : ℕ) (password : List ℕ)
@@ -122,7 +122,7 @@ module _ {I O E : Type 0} (turns : ℕ) (job : Job) where
         )),
       ))))
 
-  -- it is made: the words are drawn, and its work is counted
+  -- it is made: the numbers are drawn, and its work is counted
   pub record HasHash (from : PasswordFrom) (password line : List ℕ) (old : RunState I O E) (input : Device I) (stream : Stream) (counts : Work) (left : ℕ) : Type 0 where
     pub obtains : ObtainsFrom from old.input input left (Ok password)
     pub calls : input.calls + left ≡ old.input.calls + turns

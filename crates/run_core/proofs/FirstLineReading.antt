@@ -10,7 +10,7 @@ use Rattle.run_core.specs.Private.Deliveries.{IsUnfailed}
 use Rattle.run_core.specs.Private.Fetching.{Fetches, FindsLine, IsUndecided, StopsFetching, buffer_size}
 use Rattle.run_core.specs.declared.fault.RunFault.{RunFault}
 use Rattle.run_core.proofs.LineFeeds.{feed_at, feed_at-append, first_line-is, first_line-whole, has_feed, lacks_feed, position-feed, position-none}
-use Rattle.run_core.proofs.Moving.{moves-trans}
+use Rattle.run_core.proofs.MovedBytes.{moves-trans}
 
 piece_is : (next : List ℕ) (filled count : ℕ) → slice_range next filled (filled + count) ≡ take count (drop filled next)
 piece_is next filled count = ap (λ n. take n (drop filled next)) (omega arith)

@@ -19,10 +19,10 @@ use Rattle.crypt_core.specs.declared.setting.fault.SettingFault.{SettingFault}
 use Rattle.crypt_core.specs.Schemes.{IsScheme, method_of, sha_method}
 use Rattle.crypt_core.specs.Settings.{IsSettingByte, IsField, BeginsWith, rounds_word, scrypt_part, IsScryptSalt, KeepsSalt, SpellsCost, Spells, SpellsRounds, SpellsScheme, setting_limit}
 use Rattle.crypt_core.specs.TextLimits.{scrypt_part_len}
-use Rattle.crypt_core.proofs.Numerals.{length-scrypt_part, all_scrypt_part}
-use Rattle.crypt_core.proofs.Readings.{prefix_unique, scheme_unique, sha_apart}
+use Rattle.crypt_core.proofs.DistinctNumerals.{length-scrypt_part, all_scrypt_part}
+use Rattle.crypt_core.proofs.OneSetting.{prefix_unique, scheme_unique, sha_apart}
 use Rattle.crypt_core.proofs.Refusals.{lacks_none}
-use Rattle.crypt_core.proofs.Rounds.{field_parts}
+use Rattle.crypt_core.proofs.RoundsTexts.{field_parts}
 
 -- ---- fronts that are spelled
 

@@ -22,8 +22,8 @@ use Rattle.crypt_core.specs.Settings.{SettingValue, IsSettingByte, dollar, IsFie
 use Rattle.crypt_core.specs.Rounds.{IsRounds, clamped}
 use Rattle.crypt_core.specs.Rounds.{max_rounds, min_rounds}
 use Rattle.crypt_core.proofs.EachMethod.{each_method, length-prefix, sha_salt_limit}
-use Rattle.crypt_core.proofs.Fields.{IsEndOfField, ended_by}
-use Rattle.crypt_core.proofs.Numerals.{all_scrypt_part, length-scrypt_part}
+use Rattle.crypt_core.proofs.DollarFields.{IsEndOfField, ended_by}
+use Rattle.crypt_core.proofs.DistinctNumerals.{all_scrypt_part, length-scrypt_part}
 use Rattle.crypt_core.proofs.PackingLemmas.{packed_len-small}
 
 -- What a setting keeps is bounded

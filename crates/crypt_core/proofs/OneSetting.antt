@@ -11,9 +11,9 @@ use Rattle.crypt_core.specs.MethodLimits.{prefix}
 use Rattle.crypt_core.specs.Settings.{SettingValue, scrypt_part, SpellsCost, KeepsSalt, SpellsScheme, Spells}
 use Rattle.crypt_core.specs.Schemes.{method_of, sha_method}
 use Rattle.crypt_core.proofs.EachMethod.{length-prefix}
-use Rattle.crypt_core.proofs.Fields.{field_unique, same_front}
-use Rattle.crypt_core.proofs.Numerals.{scrypt_part_unique}
-use Rattle.crypt_core.proofs.Rounds.{rounds_unique}
+use Rattle.crypt_core.proofs.DollarFields.{field_unique, same_front}
+use Rattle.crypt_core.proofs.DistinctNumerals.{scrypt_part_unique}
+use Rattle.crypt_core.proofs.RoundsTexts.{rounds_unique}
 
 -- the second byte of a prefix tells the method
 marks_differ : (a b : Method) → get_or (prefix a) 1 0 ≡ get_or (prefix b) 1 0 → a ≡ b

@@ -10,7 +10,7 @@ use Rattle.call_core.specs.Private.Hashes.{IsPut, MakesHash}
 use Rattle.call_core.specs.Reports.{Leaves, put, refused, token}
 use Rattle.call_core.specs.declared.reason.Refusal.TheVariants.{NoRandomNumbers}
 use Rattle.call_core.specs.declared.report.Report.{Report}
-use Rattle.call_core.proofs.Hashes.{puts}
+use Rattle.call_core.proofs.PutHashes.{puts}
 use Rattle.call_core.specs.Hashes.{HashesAnew}
 use Rattle.call_core.specs.Private.Hashes.{MakesHashAnew}
 

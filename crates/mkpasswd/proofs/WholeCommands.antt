@@ -1,4 +1,4 @@
--- Status 0: all that the words ask for was done, and told nowhere else.
+-- Status 0: all that the arguments ask for was done, and told nowhere else.
 use Rattle.std.proofs.Common.{◌≡◌, ℕ, Bool, true, false, not, ◌&&◌, Result, List, [], Option, Some, None, Ok, Err, refl, zero, suc, inl, inr, subst, sym, ◌∙◌, arith}
 use Rattle.std.specs.Prelude.{MatchBool}
 use Rattle.std.specs.Io.KnownBytes.{Consumes}
@@ -80,32 +80,32 @@ module _ {I O E : Type 0} where
   is_done turns (Check job) old new tally well runs = by_lines turns kinds.Check job old new tally well runs.ends
   is_done turns (Audit job) old new tally well runs = by_lines turns kinds.Audit job old new tally well runs.ends
 
-  of_plan : (lacks : Bool) (turns : ℕ) (plan : Plan) (words : List Text) (old new : RunState I O E) (status : ℕ) → status ≡ 0 → Plans words (Ok plan)
+  of_plan : (lacks : Bool) (turns : ℕ) (plan : Plan) (arguments : List Text) (old new : RunState I O E) (status : ℕ) → status ≡ 0 → Plans arguments (Ok plan)
       → MatchBool lacks (Tells Start old new status)
       ((mid : RunState I O E) × (result : Result Tally RunFault) × Ends turns plan old mid result × Concludes result mid new status)
-      → IsWhole words old new
-  of_plan true turns plan words old new status well planned (result, shows, same, is) = absurd (omega (arith, is, well))
-  of_plan false turns plan words old new status well planned (mid, Ok tally, ends, (same, is)) =
+      → IsWhole arguments old new
+  of_plan true turns plan arguments old new status well planned (result, shows, same, is) = absurd (omega (arith, is, well))
+  of_plan false turns plan arguments old new status well planned (mid, Ok tally, ends, (same, is)) =
       rw same (inl (plan, planned, is_done turns plan old mid tally (sym is ∙ well) ends))
-  of_plan false turns plan words old new status well planned (mid, Err fault, ends, (result, shows, same, is)) =
+  of_plan false turns plan arguments old new status well planned (mid, Err fault, ends, (result, shows, same, is)) =
       absurd (fault_of_run fault (sym is ∙ well))
 
-  -- ---- words that are refused
+  -- ---- arguments that are refused
 
-  of_error : (kept : ℕ) (turns : ℕ) (words : List Text) (error : Error) (old new : RunState I O E) (status : ℕ) → status ≡ 0
-      → Plans words (Err (Parse error)) → parse_status (kind_of error) ≡ kept
-      → ShowsError kept turns old new status → IsWhole words old new
-  of_error zero turns words error old new status well planned by (text, mid, Ok tally, (shows, rest, none), (same, is)) =
+  of_error : (kept : ℕ) (turns : ℕ) (arguments : List Text) (error : Error) (old new : RunState I O E) (status : ℕ) → status ≡ 0
+      → Plans arguments (Err (Parse error)) → parse_status (kind_of error) ≡ kept
+      → ShowsError kept turns old new status → IsWhole arguments old new
+  of_error zero turns arguments error old new status well planned by (text, mid, Ok tally, (shows, rest, none), (same, is)) =
       inr (error, planned, by, text, rw same (record { others = rest; gives = shows.0 }))
-  of_error zero turns words error old new status well planned by (text, mid, Err fault, prints, (result, shows, same, is)) =
+  of_error zero turns arguments error old new status well planned by (text, mid, Err fault, prints, (result, shows, same, is)) =
       absurd (fault_of_run fault (sym is ∙ well))
-  of_error (suc n) turns words error old new status well planned by (text, result, shows, same, is) =
+  of_error (suc n) turns arguments error old new status well planned by (text, result, shows, same, is) =
       absurd (omega (arith, is, well))
 
-  pub is_whole : (turns : ℕ) (generates : Bool) (words : List Text) (old new : RunState I O E) (status : ℕ) → status ≡ 0
-      → Serves turns generates words old new status → IsWhole words old new
-  is_whole turns generates words old new status well (Ok plan, planned, follows) =
-      of_plan (wants_generator plan && not generates) turns plan words old new status well planned follows
-  is_whole turns generates words old new status well (Err (Parse error), planned, follows) =
-      of_error (parse_status (kind_of error)) turns words error old new status well planned refl follows
-  is_whole turns generates words old new status well (Err fault, planned, (result, shows, same, is)) = absurd (omega (arith, is, well))
+  pub is_whole : (turns : ℕ) (generates : Bool) (arguments : List Text) (old new : RunState I O E) (status : ℕ) → status ≡ 0
+      → Serves turns generates arguments old new status → IsWhole arguments old new
+  is_whole turns generates arguments old new status well (Ok plan, planned, follows) =
+      of_plan (wants_generator plan && not generates) turns plan arguments old new status well planned follows
+  is_whole turns generates arguments old new status well (Err (Parse error), planned, follows) =
+      of_error (parse_status (kind_of error)) turns arguments error old new status well planned refl follows
+  is_whole turns generates arguments old new status well (Err fault, planned, (result, shows, same, is)) = absurd (omega (arith, is, well))

@@ -7,7 +7,7 @@ use Rattle.kdf_core.specs.Params.{ScryptCost, cost_of}
 use Rattle.crypt_core.specs.Settings.{scrypt_part}
 use Rattle.crypt_core.specs.TextLimits.{scrypt_part_len}
 use Rattle.crypt_core.specs.Private.Parts.{HasNumerals}
-use Rattle.crypt_core.proofs.Fields.{same_front}
+use Rattle.crypt_core.proofs.DollarFields.{same_front}
 
 pub length-scrypt_part : (cost : ScryptCost) → length (scrypt_part cost) ≡ scrypt_part_len
 length-scrypt_part cost =

@@ -17,7 +17,7 @@ use Rattle.mkpasswd.specs.declared.fault.Fault.TheVariants.{Start, Usage, Run}
 use Rattle.run_core.specs.declared.fault.RunFault.{RunFault}
 use Rattle.mkpasswd.specs.declared.fault.UsageFault.{UsageFault}
 use Rattle.mkpasswd.specs.declared.fault.UsageFault.TheVariants.{Parse, OutOfMemory as NoMemory}
-use Rattle.run_core.proofs.Sending.{as_tally, shows-tally}
+use Rattle.run_core.proofs.SentTexts.{as_tally, shows-tally}
 use Rattle.mkpasswd.specs.declared.plan.Plan.{Plan}
 use Rattle.run_core.specs.declared.tally.Tally.{Tally}
 
@@ -56,7 +56,7 @@ status_of_mistake which other = elim (status_by_kind which) [
 ]
 
 module _ {O E : Type 0} where
-  -- any other refusal of the words has a line of its own
+  -- any other refusal of the arguments has a line of its own
   pub refusal_shown : (fault : UsageFault) (turns : ℕ) (out : Device O) (faults : Device E) (new_faults : Device E) (status : ℕ)
       → ((error : Error) → fault ≢ Parse error) → IsTold (Usage fault) faults new_faults → status ≡ (fault_row (Usage fault)).0
       → RefusalShown fault turns out faults out new_faults status
@@ -73,31 +73,31 @@ module _ {I O E : Type 0} where
   abbrev pub with_outs : RunState I O E → Device O → Device E → RunState I O E
   with_outs old out faults = record old { out = out; faults = faults }
 
-  pub serves_run : (turns : ℕ) (generates : Bool) (words : List Text) (plan : Plan) (old new : RunState I O E) (tally : Tally) (status : ℕ)
-      → Plans words (Ok plan) → RunsOrLacks turns generates plan old new (Ok tally) → status ≡ tally_status tally
-      → Serves turns generates words old new status
-  serves_run turns generates words plan old new tally status planned runs status_is =
+  pub serves_run : (turns : ℕ) (generates : Bool) (arguments : List Text) (plan : Plan) (old new : RunState I O E) (tally : Tally) (status : ℕ)
+      → Plans arguments (Ok plan) → RunsOrLacks turns generates plan old new (Ok tally) → status ≡ tally_status tally
+      → Serves turns generates arguments old new status
+  serves_run turns generates arguments plan old new tally status planned runs status_is =
       (Ok plan, planned, rw runs.0 (new, Ok tally, runs.1, (refl, status_is)))
 
   tells : (fault : Fault) (old : RunState I O E) (faults : Device E) (status : ℕ) → IsTold fault old.faults faults → status ≡ (fault_row fault).0
       → Tells fault old (with_faults old faults) status
   tells fault old faults status (result, shows) status_is = (result, shows, refl, status_is)
 
-  pub serves_fault : (turns : ℕ) (generates : Bool) (words : List Text) (plan : Plan) (old mid : RunState I O E) (faults : Device E) (fault : Fault) (status : ℕ)
-      → Plans words (Ok plan) → RunsOrLacks turns generates plan old mid (Err fault) → IsTold fault mid.faults faults
-      → status ≡ (fault_row fault).0 → Serves turns generates words old (with_faults mid faults) status
-  serves_fault turns generates words plan old mid faults Start status planned runs is_told status_is =
+  pub serves_fault : (turns : ℕ) (generates : Bool) (arguments : List Text) (plan : Plan) (old mid : RunState I O E) (faults : Device E) (fault : Fault) (status : ℕ)
+      → Plans arguments (Ok plan) → RunsOrLacks turns generates plan old mid (Err fault) → IsTold fault mid.faults faults
+      → status ≡ (fault_row fault).0 → Serves turns generates arguments old (with_faults mid faults) status
+  serves_fault turns generates arguments plan old mid faults Start status planned runs is_told status_is =
       (Ok plan, planned, rw (runs.0, ← runs.1) (tells Start mid faults status is_told status_is))
-  serves_fault turns generates words plan old mid faults (Run fault) status planned runs is_told status_is =
+  serves_fault turns generates arguments plan old mid faults (Run fault) status planned runs is_told status_is =
       (Ok plan, planned, rw runs.0 (mid, Err fault, runs.1, tells (Run fault) mid faults status is_told status_is))
-  serves_fault turns generates words plan old mid faults (Usage fault) status planned runs is_told status_is = absurd runs
+  serves_fault turns generates arguments plan old mid faults (Usage fault) status planned runs is_told status_is = absurd runs
 
-  pub serves_error : (turns : ℕ) (generates : Bool) (words : List Text) (error : Error) (old : RunState I O E) (out : Device O) (faults : Device E) (status : ℕ)
-      → Plans words (Err (Parse error)) → ErrorShown error turns old.out old.faults out faults status
-      → Serves turns generates words old (with_outs old out faults) status
-  serves_error turns generates words error old out faults status planned (mistake text result by shows same status_is) =
+  pub serves_error : (turns : ℕ) (generates : Bool) (arguments : List Text) (error : Error) (old : RunState I O E) (out : Device O) (faults : Device E) (status : ℕ)
+      → Plans arguments (Err (Parse error)) → ErrorShown error turns old.out old.faults out faults status
+      → Serves turns generates arguments old (with_outs old out faults) status
+  serves_error turns generates arguments error old out faults status planned (mistake text result by shows same status_is) =
       (Err (Parse error), planned, rw by (text, result, shows, ap (λ (o : Device O). with_outs old o faults) same, status_is))
-  serves_error turns generates words error old out faults status planned (help text by shows same status_is) = (
+  serves_error turns generates arguments error old out faults status planned (help text by shows same status_is) = (
     Err (Parse error),
     planned,
     rw by (
@@ -108,7 +108,7 @@ module _ {I O E : Type 0} where
       (ap (λ (f : Device E). with_outs old out f) same, status_is),
     ),
   )
-  serves_error turns generates words error old out faults status planned (front text fault by shows told status_is) = (
+  serves_error turns generates arguments error old out faults status planned (front text fault by shows told status_is) = (
     Err (Parse error),
     planned,
     rw by (
@@ -119,13 +119,13 @@ module _ {I O E : Type 0} where
       tells (Run fault) (with_outs old out old.faults) faults status told status_is,
     ),
   )
-  serves_error turns generates words error old out faults status planned (no_text told same status_is) =
+  serves_error turns generates arguments error old out faults status planned (no_text told same status_is) =
       (Err NoMemory, tt, rw same (tells (Usage NoMemory) old faults status told status_is))
 
-  pub serves_refusal : (turns : ℕ) (generates : Bool) (words : List Text) (fault : UsageFault) (old : RunState I O E) (out : Device O) (faults : Device E) (status : ℕ)
-      → Plans words (Err fault) → RefusalShown fault turns old.out old.faults out faults status
-      → Serves turns generates words old (with_outs old out faults) status
-  serves_refusal turns generates words (Parse error) old out faults status planned shown =
-      serves_error turns generates words error old out faults status planned shown
-  serves_refusal turns generates words fault old out faults status planned (told, same, status_is) =
+  pub serves_refusal : (turns : ℕ) (generates : Bool) (arguments : List Text) (fault : UsageFault) (old : RunState I O E) (out : Device O) (faults : Device E) (status : ℕ)
+      → Plans arguments (Err fault) → RefusalShown fault turns old.out old.faults out faults status
+      → Serves turns generates arguments old (with_outs old out faults) status
+  serves_refusal turns generates arguments (Parse error) old out faults status planned shown =
+      serves_error turns generates arguments error old out faults status planned shown
+  serves_refusal turns generates arguments fault old out faults status planned (told, same, status_is) =
       (Err fault, planned, rw same (tells (Usage fault) old faults status told status_is))

@@ -7,7 +7,7 @@ use Rattle.std.proofs.lemmas.List.Elements.{All-cons, All-weaker}
 use Rattle.crypt_core.specs.Rounds.{Rounds, clamped}
 use Rattle.crypt_core.specs.Rounds.{max_rounds}
 use Rattle.crypt_core.specs.Settings.{dollar, IsField, rounds_word, rounds_field, IsRoundsNumber, SpellsRounds}
-use Rattle.crypt_core.proofs.Fields.{ended_by, field_unique}
+use Rattle.crypt_core.proofs.DollarFields.{ended_by, field_unique}
 
 -- the digits of a proper field go up to its `$`
 pub digits_are_field : (digits rest : List ℕ) → IsRoundsNumber digits → IsField digits (dollar ∷ rest)

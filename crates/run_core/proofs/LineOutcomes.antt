@@ -31,7 +31,7 @@ use Rattle.run_core.specs.declared.job.Job.{Job}
 use Rattle.run_core.specs.declared.line.Kind.{Kind}
 use Rattle.run_core.specs.declared.line.Kind.TheVariants.{Batch, Check, Audit}
 use Rattle.run_core.specs.declared.line.LineFault.{LineFault}
-use Rattle.run_core.proofs.Cuts.{parts_unique}
+use Rattle.run_core.proofs.OneCut.{parts_unique}
 
 -- ---- what a line costs
 

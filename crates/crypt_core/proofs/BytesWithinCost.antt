@@ -22,14 +22,14 @@ by_scheme (Shacrypt Sha256 rounds) password salt =
 by_scheme (Shacrypt Sha512 rounds) password salt =
     (shacrypt-within 64 (sha_opening_byte sha512 password salt) rounds.count (length password) (length salt)
     (sha_opening_byte-below sha512 64 length-sha512 password salt (omega arith) sha512_bytes)).bytes
-by_scheme (Scrypt cost) password salt = omega arith
+by_scheme (Scrypt params) password salt = omega arith
 
 pub bytes_within : (password : List ℕ) (kept : SettingValue) → (work password kept).bytes ≤ cost kept (length password)
 bytes_within password kept = by_scheme kept.scheme password kept.salt
 
 pub refused_bytes : (before : Work) (scheme : Scheme) (after : Work) → IsAfterRefusedGrowth before scheme after → after.bytes ≡ before.bytes
-refused_bytes before (Scrypt cost) after (inl e) = ap (λ (w : Work). w.bytes) e
-refused_bytes before (Scrypt cost) after (inr (inl e)) = ap (λ (w : Work). w.bytes) e
-refused_bytes before (Scrypt cost) after (inr (inr e)) = ap (λ (w : Work). w.bytes) e
+refused_bytes before (Scrypt params) after (inl e) = ap (λ (w : Work). w.bytes) e
+refused_bytes before (Scrypt params) after (inr (inl e)) = ap (λ (w : Work). w.bytes) e
+refused_bytes before (Scrypt params) after (inr (inr e)) = ap (λ (w : Work). w.bytes) e
 refused_bytes before Md5crypt after never = absurd never
 refused_bytes before (Shacrypt sha rounds) after never = absurd never

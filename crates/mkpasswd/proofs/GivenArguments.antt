@@ -1,4 +1,4 @@
--- The words `-m TYPE -S SALT PASSWORD`, for any texts that are no options.
+-- The arguments `-m TYPE -S SALT PASSWORD`, for any texts that are no options.
 use Rattle.std.proofs.Common.{◌≡◌, ◌==◌, ℕ, false, refl, ap, List, [], ◌∷◌, codes, Some, None, inl, inr}
 use Rattle.std.proofs.lemmas.Bool.{ne_eqb}
 use Rattle.std.specs.List.{fold}
@@ -14,7 +14,7 @@ use Rattle.mkpasswd.specs.Options.{command, cost_of, given_salt, is_set, mode_co
 
 -- ---- a word that is no option
 
--- the tests by which `clap` tells options from other words
+-- the tests by which `clap` tells options from other arguments
 record IsPlain (word : Text) : Type 0 where
   pub no_end : bytes_eq word (45 ∷ 45 ∷ []) ≡ false
   pub no_long : long_of word ≡ None
@@ -43,16 +43,16 @@ data GoesOn : Walk → List Text → Walk → Type 0 where
   stays : {w : Walk} → GoesOn w [] w
   first : {w v u : Walk} {word : Text} {rest : List Text} → Goes w word v → GoesOn v rest u → GoesOn w (word ∷ rest) u
 
-goes-fold : (w u : Walk) (words : List Text) → GoesOn w words u → fold (walked shape.rules []) w words ≡ u
-goes-fold w u words stays = refl
-goes-fold w u words (first one others) = rw one.goes (goes-fold _ u _ others)
+goes-fold : (w u : Walk) (arguments : List Text) → GoesOn w arguments u → fold (walked shape.rules []) w arguments ≡ u
+goes-fold w u arguments stays = refl
+goes-fold w u arguments (first one others) = rw one.goes (goes-fold _ u _ others)
 
-goes-faultless : (w u : Walk) (words : List Text) → GoesOn w words u → walk_fault shape [] w words ≡ []
+goes-faultless : (w u : Walk) (arguments : List Text) → GoesOn w arguments u → walk_fault shape [] w arguments ≡ []
 unfolding walk_fault
-goes-faultless w u words stays = refl
-goes-faultless w u words (first one others) = rw (one.faultless, one.goes) (goes-faultless _ u _ others)
+goes-faultless w u arguments stays = refl
+goes-faultless w u arguments (first one others) = rw (one.faultless, one.goes) (goes-faultless _ u _ others)
 
--- ---- the words
+-- ---- the arguments
 
 -- where the walk is between two of them: these values of the argument have been read, and are to be used
 abbrev at : List Row → Text → List Text → Waiting → ℕ → Walk
@@ -160,7 +160,7 @@ unfolding shape command
 given_rows name salt password n s p =
     ap (λ (w : Walk). finished shape.rules w.held) (goes-fold _ _ _ (all_words name salt password n s p))
 
-pub is_given : (name salt password : Text) (words : List Text) → words ≡ hash_arguments name salt password
-    → IsNoOption name → IsNoOption salt → IsNoOption password → IsGiven name salt password (matches_of command words)
-is_given name salt password words are n s p =
+pub is_given : (name salt password : Text) (arguments : List Text) → arguments ≡ hash_arguments name salt password
+    → IsNoOption name → IsNoOption salt → IsNoOption password → IsGiven name salt password (matches_of command arguments)
+is_given name salt password arguments are n s p =
     rw (are, given_rows name salt password n s p) (finds name salt password)

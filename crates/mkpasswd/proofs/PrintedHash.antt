@@ -1,4 +1,4 @@
--- One hash by words that are written out.
+-- One hash by arguments that are written out.
 use Rattle.std.proofs.Common.{◌≡◌, Bool, List, Some, true, false, true≢false, codes, ap, subst, sym, ◌∙◌, inl, inr, append-nil, arith}
 use Rattle.std.proofs.lemmas.Option.{none-some}
 use Rattle.clap.specs.Words.{Row, Text, matches_of}
@@ -16,7 +16,7 @@ use Rattle.run_core.specs.Texts.{as_line}
 use Rattle.run_core.specs.declared.job.Job.{Job}
 use Rattle.run_core.specs.declared.job.PasswordFrom.TheVariants.{Word, Input}
 use Rattle.mkpasswd.specs.declared.plan.Plan.TheVariants.{Methods, One, Batch, Check, Audit}
-use Rattle.mkpasswd.proofs.GivenWords.{IsGiven, given_fault, is_given}
+use Rattle.mkpasswd.proofs.GivenArguments.{IsGiven, given_fault, is_given}
 
 -- ---- a name is no option
 
@@ -41,8 +41,8 @@ module _ (name salt password : Text) (method : Method) (named : method_named nam
   name_is : IsNoOption name
   name_is = inr (no_hyphen name method named)
 
-  finds : (words : List Text) → words ≡ hash_arguments name salt password → IsGiven name salt password (matches_of command words)
-  finds words are = is_given name salt password words are name_is salt_is password_is
+  finds : (arguments : List Text) → arguments ≡ hash_arguments name salt password → IsGiven name salt password (matches_of command arguments)
+  finds arguments are = is_given name salt password arguments are name_is salt_is password_is
 
   same_method : (own : Method) → method_named name ≡ Some own → own ≡ method
   same_method own own_named = let own_here = own_named in let named_here = named in cc
@@ -56,22 +56,22 @@ module _ (name salt password : Text) (method : Method) (named : method_named nam
   not_set : {set : Bool} → set ≡ false → set ≡ true → ⊥
   not_set off on = true≢false (sym on ∙ off)
 
-  pub prints_hash : {I O E : Type 0} (words : List Text) (old new : RunState I O E) → words ≡ hash_arguments name salt password
-      → IsWhole words old new → PrintsHash method salt password old new
-  prints_hash words old new are (inr (error, refuses, by, text, gives)) =
+  pub prints_hash : {I O E : Type 0} (arguments : List Text) (old new : RunState I O E) → arguments ≡ hash_arguments name salt password
+      → IsWhole arguments old new → PrintsHash method salt password old new
+  prints_hash arguments old new are (inr (error, refuses, by, text, gives)) =
       absurd (rw (are, given_fault name salt password name_is salt_is password_is) at refuses.called_for)
-  prints_hash words old new are (inl (Methods, (taken, asks), done)) = absurd (not_help name method named (rw (finds words are).type at asks))
-  prints_hash words old new are (inl (One job (Word typed), (taken, (other, unbroken, (is_job, is))), done)) =
-      let found = finds words are in
+  prints_hash arguments old new are (inl (Methods, (taken, asks), done)) = absurd (not_help name method named (rw (finds arguments are).type at asks))
+  prints_hash arguments old new are (inl (One job (Word typed), (taken, (other, unbroken, (is_job, is))), done)) =
+      let found = finds arguments are in
       let same : Some typed.items ≡ Some password = sym is ∙ found.word in
-      rw (prints_job (matches_of command words) job typed.items old.stream found is_job cc, append-nil) at done.2.run.1.text.shown
-  prints_hash words old new are (inl (One job Input, (taken, (other, unbroken, (is_job, inl is))), done)) =
-      absurd (not_set (finds words are).stdin is)
-  prints_hash words old new are (inl (One job Input, (taken, (other, unbroken, (is_job, inr none))), done)) =
-      absurd (omega (arith, (finds words are).modes))
-  prints_hash words old new are (inl (Batch job, (taken, (other, unbroken, (is_job, is))), done)) =
-      absurd (not_set (finds words are).batch is)
-  prints_hash words old new are (inl (Check job, (taken, (other, unbroken, (is_job, is))), done)) =
-      absurd (not_set (finds words are).check is)
-  prints_hash words old new are (inl (Audit job, (taken, (other, unbroken, (is_job, is))), done)) =
-      absurd (not_set (finds words are).audit is)
+      rw (prints_job (matches_of command arguments) job typed.items old.stream found is_job cc, append-nil) at done.2.run.1.text.shown
+  prints_hash arguments old new are (inl (One job Input, (taken, (other, unbroken, (is_job, inl is))), done)) =
+      absurd (not_set (finds arguments are).stdin is)
+  prints_hash arguments old new are (inl (One job Input, (taken, (other, unbroken, (is_job, inr none))), done)) =
+      absurd (omega (arith, (finds arguments are).modes))
+  prints_hash arguments old new are (inl (Batch job, (taken, (other, unbroken, (is_job, is))), done)) =
+      absurd (not_set (finds arguments are).batch is)
+  prints_hash arguments old new are (inl (Check job, (taken, (other, unbroken, (is_job, is))), done)) =
+      absurd (not_set (finds arguments are).check is)
+  prints_hash arguments old new are (inl (Audit job, (taken, (other, unbroken, (is_job, is))), done)) =
+      absurd (not_set (finds arguments are).audit is)

@@ -10,7 +10,7 @@ use Rattle.run_core.specs.Devices.{Device, MovesBytes}
 use Rattle.run_core.specs.Output.{Shows, Takes, TakesFront}
 use Rattle.run_core.specs.declared.fault.RunFault.{RunFault}
 use Rattle.run_core.specs.declared.tally.Tally.{Tally}
-use Rattle.run_core.proofs.Moving.{moves-none, moves-trans}
+use Rattle.run_core.proofs.MovedBytes.{moves-none, moves-trans}
 
 module _ {T : Type 0} where
   -- ---- what an output has taken

@@ -1,0 +1,131 @@
+-- What a method, rounds and a salt make is a setting.
+use Rattle.std.proofs.Common.{◌≡◌, ◌≢◌, ℕ, ◌+◌, ◌≤◌, ◌<◌, ◌^◌, ◌*◌, true, false, inl, inr, ◌⊎◌, List, [], ◌++◌, length, get_or, All, append-nil, refl, sym, ap, subst, ◌∙◌, arith}
+use Rattle.std.specs.Prelude.{◌↔◌, Contains, Result, Ok, Err, OnOk, IfErr, IsOk, Option, Some}
+use Rattle.std.proofs.Math.Nat.{le-mul_of_pos_right, lt_of_not-le, mul-le-mul_right, one-le-mul}
+use Rattle.std.proofs.Math.Pow.{pow_mono}
+use Rattle.kdf_core.specs.Params.{ScryptCost, row_count, IsAccepted}
+use Rattle.std.proofs.lemmas.List.{take_all}
+use Rattle.std.proofs.lemmas.List.Elements.{All-nil, All-weaker, All-get_or}
+use Rattle.prims_core.specs.Alphabet.{alphabet}
+use Rattle.crypt_core.specs.declared.method.Method.{Method}
+use Rattle.crypt_core.specs.declared.method.Method.TheVariants as methods
+use Rattle.crypt_core.specs.declared.scheme.Scheme.{Scheme}
+use Rattle.crypt_core.specs.declared.scheme.Scheme.TheVariants.{Md5crypt, Shacrypt, Scrypt}
+use Rattle.crypt_core.specs.declared.setting.fault.MakeFault.{MakeFault}
+use Rattle.crypt_core.specs.declared.setting.fault.MakeFault.TheVariants.{SaltLength, SaltCharacter, Cost}
+use Rattle.crypt_core.specs.MethodLimits.{salt_limit}
+use Rattle.crypt_core.specs.MadeSettings.{made_scheme, TakesRounds, BreaksMake, IsMakeRefused, make_faults}
+use Rattle.crypt_core.specs.Private.Parts.{HasNumerals, TakesSalt}
+use Rattle.crypt_core.specs.Schemes.{IsScheme, method_of}
+use Rattle.crypt_core.specs.Settings.{SettingValue, IsSettingByte, dollar, BeginsWith, rounds_word, SpellsCost, KeepsSalt, cost_part, canonical_text}
+use Rattle.crypt_core.proofs.CanonicalSpells.{character_is_byte, IsSetting, not_dollar, not_equals, rounds_spelled, spelled_parts}
+use Rattle.crypt_core.proofs.DollarFields.{ended_by}
+use Rattle.crypt_core.proofs.FirstBroken.{first_breaks, first_unique}
+
+-- The cost part
+
+-- no salt of characters begins with `rounds=`
+no_rounds : (salt : List ℕ) → All (Contains alphabet) salt → BeginsWith (salt ++ []) rounds_word → ⊥
+no_rounds salt all (more, e) =
+    let begins : salt ≡ rounds_word ++ more = sym (append-nil salt) ∙ e in
+    let long : 6 < length salt = omega (arith, ap length begins) in
+    not_equals (get_or salt 6 0) (All-get_or (Contains alphabet) salt 6 0 long all) (ap (λ (xs : List ℕ). get_or xs 6 0) begins)
+
+-- so many characters say the numbers that scrypt takes
+pub accepted_numerals : (params : ScryptCost) → IsAccepted params → HasNumerals params
+accepted_numerals params accepted =
+    let n = row_count params in
+    let some_n : 1 ≤ n = let above : 0 ≤ params.log_n = omega arith in let mono : 2 ^ 0 ≤ 2 ^ params.log_n = pow_mono above in omega (arith, mono) in
+    let some_nr : 0 < n * params.r = one-le-mul some_n accepted.0.2 in
+    let within : n * params.r * params.p ≤ 2 ^ 23 = accepted.1 in
+    let table : n * params.r ≤ n * params.r * params.p = le-mul_of_pos_right (n * params.r) accepted.0.3 in
+    let rows : n ≤ n * params.r = le-mul_of_pos_right n accepted.0.2 in
+    let blocks : 1 * params.r ≤ n * params.r = mul-le-mul_right params.r some_n in
+    let parts : 1 * params.p ≤ n * params.r * params.p = mul-le-mul_right params.p some_nr in
+    let low : params.log_n < 24 = lt_of_not-le (λ high. let power : 2 ^ 24 ≤ n = pow_mono high in omega arith) in
+    (omega (arith, low), omega (arith, blocks, table, within), omega (arith, parts, within))
+
+cost_spelled : (scheme : Scheme) (salt : List ℕ) → IsScheme scheme → All (Contains alphabet) salt → SpellsCost scheme (cost_part scheme) (salt ++ [])
+cost_spelled Md5crypt salt c all = refl
+cost_spelled (Shacrypt sha r) salt c all = rounds_spelled sha r.count r.is_written (salt ++ []) c (λ flag. no_rounds salt all)
+cost_spelled (Scrypt n) salt c all = let says = accepted_numerals n c in (refl, says.0, says.1, says.2)
+
+salt_kept : (scheme : Scheme) (salt : List ℕ) → IsScheme scheme → length salt ≤ salt_limit (method_of scheme) → All (Contains alphabet) salt → KeepsSalt scheme salt salt
+salt_kept (Scrypt n) salt c short all = (c, refl, (short, all))
+salt_kept scheme salt c short all = sym (take_all (salt_limit (method_of scheme)) salt short)
+
+pub spelled : (scheme : Scheme) (salt : List ℕ) → IsScheme scheme → length salt ≤ salt_limit (method_of scheme) → All (Contains alphabet) salt → IsSetting (record { scheme = scheme; salt = salt })
+spelled scheme salt c short all =
+    let kept : SettingValue = record { scheme = scheme; salt = salt } in (
+      canonical_text kept ++ [],
+      spelled_parts kept [] c short (All-weaker (Contains alphabet) IsSettingByte character_is_byte salt all)
+          (All-weaker (Contains alphabet) (λ b. b ≢ dollar) not_dollar salt all, ended_by [] tt) (cost_spelled scheme salt c all) (salt_kept scheme salt c short all)
+          (All-nil IsSettingByte) (omega arith),
+    )
+
+-- what is kept of a salt that the scheme's method takes
+pub given : (scheme : Scheme) (kept salt : List ℕ) → IsScheme scheme → TakesSalt (method_of scheme) salt → kept ≡ salt → IsSetting (record { scheme = scheme; salt = kept })
+given scheme kept salt c takes is =
+    subst (λ (xs : List ℕ). IsSetting (record { scheme = scheme; salt = xs })) (sym is) (spelled scheme salt c takes.short takes.characters)
+
+-- What is made
+
+pub accepted_at : (rounds : ℕ) → rounds ≤ 11 → IsAccepted (record { log_n = rounds + 7; r = 32; p = 1 })
+accepted_at rounds high =
+    let log_high : rounds + 7 ≤ 11 + 7 = omega arith in
+    let power : 2 ^ (rounds + 7) ≤ 2 ^ (11 + 7) = pow_mono log_high in
+    ((omega arith, omega arith, omega arith, omega arith), omega (arith, power))
+
+pub made_method : (m : Method) (rounds : ℕ) → method_of (made_scheme m rounds) ≡ m
+made_method methods.Md5crypt rounds = refl
+made_method m rounds = refl
+
+-- Refusals
+
+-- whatever the rounds, a salt of no character or of too many is refused for its length
+pub make_refused_length : (m : Method) (rounds : ℕ) (salt : List ℕ) → (length salt ≡ 0) ⊎ (salt_limit m < length salt) → IsMakeRefused m rounds (Some salt) SaltLength
+unfolding IsMakeRefused
+make_refused_length m rounds salt bad = inl (refl, bad)
+
+right_length : (m : Method) (salt : List ℕ) → 0 < length salt → length salt ≤ salt_limit m → (length salt ≡ 0) ⊎ (salt_limit m < length salt) → ⊥
+right_length m salt some short (inl none) = omega arith
+right_length m salt some short (inr long) = omega (arith, short, long)
+
+-- one of the right length is for its characters
+pub make_refused_character : (m : Method) (rounds : ℕ) (salt : List ℕ) → 0 < length salt → length salt ≤ salt_limit m → (All (Contains alphabet) salt → ⊥) → IsMakeRefused m rounds (Some salt) SaltCharacter
+unfolding IsMakeRefused
+make_refused_character m rounds salt some short bad = inr (right_length m salt some short, inl (refl, bad))
+
+-- where the method takes the salt, the rounds is
+pub make_refused_cost : (m : Method) (rounds : ℕ) (salt : List ℕ) → TakesSalt m salt → (TakesRounds m rounds → ⊥) → IsMakeRefused m rounds (Some salt) Cost
+unfolding IsMakeRefused
+make_refused_cost m rounds salt h bad = inr (right_length m salt h.some h.short, inr (λ b. b h.characters, inl (refl, bad)))
+
+-- a salt and a rounds that the method takes break no rule
+pub taken : (m : Method) (rounds : ℕ) (salt : List ℕ) → TakesSalt m salt → TakesRounds m rounds → (f : MakeFault) → ¬ BreaksMake m rounds (Some salt) f
+taken m rounds salt h takes SaltLength = right_length m salt h.some h.short
+taken m rounds salt h takes SaltCharacter = λ b. b h.characters
+taken m rounds salt h takes Cost = λ b. b takes
+
+-- what is refused breaks a rule
+pub refused_breaks : (m : Method) (rounds : ℕ) (given : Option (List ℕ)) (fault : MakeFault) → IsMakeRefused m rounds given fault → ((f : MakeFault) → ¬ BreaksMake m rounds given f) → ⊥
+unfolding IsMakeRefused
+refused_breaks m rounds given fault refused none = none fault (first_breaks make_faults (BreaksMake m rounds given) fault refused)
+
+-- and gets one refusal at most
+pub make_refusal_unique : (m : Method) (rounds : ℕ) (given : Option (List ℕ)) (f g : MakeFault) → IsMakeRefused m rounds given f → IsMakeRefused m rounds given g → f ≡ g
+unfolding IsMakeRefused
+make_refusal_unique m rounds given f g rf rg = first_unique make_faults (BreaksMake m rounds given) f g rf rg
+
+-- so an answer that is right is the only right one
+pub only_make_refusal : {T : Type 0} (m : Method) (rounds : ℕ) (given : Option (List ℕ)) (r : Result T MakeFault) → OnOk r ((f : MakeFault) → ¬ BreaksMake m rounds given f) → IfErr r (IsMakeRefused m rounds given) → (fault : MakeFault) → IsMakeRefused m rounds given fault → r ≡ Err fault
+only_make_refusal m rounds given (Ok x) ok err fault refused = absurd (refused_breaks m rounds given fault refused ok)
+only_make_refusal m rounds given (Err f) ok err fault refused = ap (λ (g : MakeFault). Err g) (make_refusal_unique m rounds given f fault err refused)
+
+pub accepted : {T : Type 0} (m : Method) (rounds : ℕ) (given : Option (List ℕ)) (r : Result T MakeFault) → OnOk r ((f : MakeFault) → ¬ BreaksMake m rounds given f) → IfErr r (IsMakeRefused m rounds given) → IsOk r ↔ ((f : MakeFault) → ¬ BreaksMake m rounds given f)
+accepted m rounds given (Ok x) ok err = (λ e. ok, λ none. refl)
+accepted m rounds given (Err f) ok err = (λ e. absurd (cc e), λ none. absurd (refused_breaks m rounds given f err none))
+
+pub not_accepted : (m : Method) (rounds : ℕ) (given : Option (List ℕ)) (fault : MakeFault) → IsMakeRefused m rounds given fault
+    → (false ≡ true → (f : MakeFault) → ¬ BreaksMake m rounds given f) × (((f : MakeFault) → ¬ BreaksMake m rounds given f) → false ≡ true)
+not_accepted m rounds given fault refused = (λ e. absurd (cc e), λ none. absurd (refused_breaks m rounds given fault refused none))

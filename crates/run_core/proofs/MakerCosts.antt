@@ -1,0 +1,45 @@
+-- What a method and rounds break without a salt, and what a setting costs before random numbers are drawn for its salt,
+-- since those make salts of one length.
+use Rattle.std.specs.Prelude.{◌↔◌}
+use Rattle.std.proofs.Common.{◌≡◌, ℕ, true, false, List, length, Option, Some, None, inl, inr, refl, sym, ap, subst}
+use Rattle.std.proofs.lemmas.List.FromFn.{length-map-range_with_len}
+use Rattle.crypt_core.specs.MadeSalts.{made_salt}
+use Rattle.crypt_core.specs.MadeSettings.{BreaksMake, IsMakeRefused, TakesRounds}
+use Rattle.crypt_core.specs.MethodLimits.{made_salt_length}
+use Rattle.crypt_core.specs.Schemes.{method_of}
+use Rattle.crypt_core.specs.Work.{cost, cost_by}
+use Rattle.crypt_core.specs.declared.method.Method.{Method}
+use Rattle.crypt_core.specs.declared.setting.fault.MakeFault.{MakeFault}
+use Rattle.crypt_core.specs.declared.setting.fault.MakeFault.TheVariants.{Cost}
+use Rattle.run_core.specs.Makers.{Recipe, made_cost_by, setting_by}
+
+-- without a salt, rounds that the method does not take are refused for themselves alone
+pub refused_alone : (m : Method) (rounds : ℕ) → ¬ TakesRounds m rounds → IsMakeRefused m rounds None Cost
+unfolding IsMakeRefused
+refused_alone m rounds bad = inr (λ b. b, inr (λ b. b, inl (refl, bad)))
+
+pub only_cost : (m : Method) (rounds : ℕ) (f : MakeFault) → IsMakeRefused m rounds None f → (f ≡ Cost) × ¬ TakesRounds m rounds
+unfolding IsMakeRefused
+only_cost m rounds f (inl broken) = absurd broken.1
+only_cost m rounds f (inr (_, inl broken)) = absurd broken.1
+only_cost m rounds f (inr (_, inr (_, inl broken))) = broken
+only_cost m rounds f (inr (_, inr (_, inr (_, none)))) = absurd none
+
+-- the answers for rounds alone
+pub refused_made : (m : Method) (rounds : ℕ) → (false ≡ true ↔ TakesRounds m rounds) → false ≡ true ↔ ((f : MakeFault) → ¬ BreaksMake m rounds None f)
+refused_made m rounds takes = (λ e. absurd (cc e), λ none. absurd (none Cost (λ t. cc (takes.1 t))))
+
+pub refused_for_cost : (m : Method) (rounds : ℕ) (f : MakeFault) → f ≡ Cost → (false ≡ true ↔ TakesRounds m rounds) → IsMakeRefused m rounds None f
+refused_for_cost m rounds f is takes = subst (IsMakeRefused m rounds None) (sym is) (refused_alone m rounds (λ t. cc (takes.1 t)))
+
+-- ---- the cost of a made setting
+
+made_salt-length : (numbers : List ℕ) (n : ℕ) → length (made_salt numbers n) ≡ n
+unfolding made_salt
+made_salt-length numbers n = length-map-range_with_len _ 0 n
+
+pub made_cost : (recipe : Recipe) (numbers : List ℕ) (password : ℕ) → cost (setting_by recipe numbers) password ≡ made_cost_by recipe password
+made_cost recipe numbers password = go recipe.salt where
+  go : (salt : Option (List ℕ)) → cost (setting_by (record recipe { salt = salt }) numbers) password ≡ made_cost_by (record recipe { salt = salt }) password
+  go None = ap (cost_by recipe.scheme password) (made_salt-length numbers (made_salt_length (method_of recipe.scheme)))
+  go (Some salt) = refl
