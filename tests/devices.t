@@ -1,5 +1,5 @@
 #!/usr/bin/env perl
-# Lets each read, each write, each call for memory and each call for random words of the program fail in turn,
+# Lets each read, each write, each call for memory and each call for random numbers of the program fail in turn,
 # in each of its modes. Each run has to end with the status 3, to tell the fault, and to have printed nothing
 # but answers of a run that goes well, those of all lines before in full. Where words are refused the status
 # stays 2, whatever becomes of the text. Then reads and writes handle one byte each.
@@ -66,16 +66,12 @@ for (
         $calls{ $_->[0] }++ for @{ $right->{calls} };
         ok($calls{memory} && $calls{write}, 'it asks for memory, and writes');
         is(!$calls{read}, $input eq '', 'it reads where there is an input');
+        is($calls{random} // 0, $mode =~ /methods|version|help|refusal|audit/ ? 0 : 1, 'it asks for a seed once, and only to hash or to check');
         my ($unheard, $answered) = (0, 0);
         for my $kind (sort keys %told) {
             for my $number (1 .. $calls{$kind} // 0) {
                 my $run = with_fault("$kind $number", $input, @$words);
                 my ($failed) = grep { $_->[3] } @{ $run->{calls} };
-                # Random words are missed only where something is hashed.
-                if ($kind eq 'random' && $mode =~ /methods|version|help|refusal/) {
-                    is_run($run, $status, $right->{out}, $err, "$kind $number fails, and is not missed");
-                    next;
-                }
                 if ($kind eq 'memory' && $run->{status} == $status && $run->{err} eq $err && @$words && !$unheard++) {
                     ok(length $run->{out} == length $right->{out}, "$kind $number fails unheard");
                     next;

@@ -56,22 +56,22 @@ module _ (name salt password : Text) (method : Method) (named : method_named nam
   not_set : {set : Bool} → set ≡ false → set ≡ true → ⊥
   not_set off on = true≢false (sym on ∙ off)
 
-  pub prints_hash : {I O E : Type 0} (arguments : List Text) (old new : RunState I O E) → arguments ≡ hash_arguments name salt password
-      → IsWhole arguments old new → PrintsHash method salt password old new
-  prints_hash arguments old new are (inr (error, refuses, by, text, gives)) =
+  pub prints_hash : {I O E : Type 0} (Made IsKept : Type 0) (arguments : List Text) (old new : RunState I O E) → arguments ≡ hash_arguments name salt password
+      → IsWhole Made IsKept arguments old new → PrintsHash method salt password old.out new.out
+  prints_hash Made IsKept arguments old new are (inr (asked, (error, refuses, by, text, gives))) =
       absurd (rw (are, given_fault name salt password name_is salt_is password_is) at refuses.called_for)
-  prints_hash arguments old new are (inl (Methods, (taken, asks), done)) = absurd (not_help name method named (rw (finds arguments are).type at asks))
-  prints_hash arguments old new are (inl (One job (Word typed), (taken, (other, unbroken, (is_job, is))), done)) =
+  prints_hash Made IsKept arguments old new are (inl (Methods, (taken, asks), asked, done)) = absurd (not_help name method named (rw (finds arguments are).type at asks))
+  prints_hash Made IsKept arguments old new are (inl (One job (Word typed), (taken, (other, unbroken, (is_job, is))), asked, done)) =
       let found = finds arguments are in
       let same : Some typed.items ≡ Some password = sym is ∙ found.word in
       rw (prints_job (matches_of command arguments) job typed.items old.stream found is_job cc, append-nil) at done.2.run.1.text.shown
-  prints_hash arguments old new are (inl (One job Input, (taken, (other, unbroken, (is_job, inl is))), done)) =
+  prints_hash Made IsKept arguments old new are (inl (One job Input, (taken, (other, unbroken, (is_job, inl is))), asked, done)) =
       absurd (not_set (finds arguments are).stdin is)
-  prints_hash arguments old new are (inl (One job Input, (taken, (other, unbroken, (is_job, inr none))), done)) =
+  prints_hash Made IsKept arguments old new are (inl (One job Input, (taken, (other, unbroken, (is_job, inr none))), asked, done)) =
       absurd (omega (arith, (finds arguments are).modes))
-  prints_hash arguments old new are (inl (Batch job, (taken, (other, unbroken, (is_job, is))), done)) =
+  prints_hash Made IsKept arguments old new are (inl (Batch job, (taken, (other, unbroken, (is_job, is))), asked, done)) =
       absurd (not_set (finds arguments are).batch is)
-  prints_hash arguments old new are (inl (Check job, (taken, (other, unbroken, (is_job, is))), done)) =
+  prints_hash Made IsKept arguments old new are (inl (Check job, (taken, (other, unbroken, (is_job, is))), asked, done)) =
       absurd (not_set (finds arguments are).check is)
-  prints_hash arguments old new are (inl (Audit job, (taken, (other, unbroken, (is_job, is))), done)) =
+  prints_hash Made IsKept arguments old new are (inl (Audit job, (taken, (other, unbroken, (is_job, is))), asked, done)) =
       absurd (not_set (finds arguments are).audit is)

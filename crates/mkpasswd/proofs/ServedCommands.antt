@@ -1,10 +1,10 @@
 -- The command: from what its steps leave to what it leaves.
-use Rattle.std.proofs.Common.{◌≡◌, ◌≢◌, ◌⊎◌, ℕ, List, [], length, Bool, Result, Ok, Err, ap, refl, inl, inr}
+use Rattle.std.proofs.Common.{◌≡◌, ◌≢◌, ◌⊎◌, ℕ, List, [], length, Bool, false, Result, Ok, Err, ap, refl, inl, inr}
 use Rattle.clap.specs.Words.{Text}
 use Rattle.clap.specs.declared.error.kind.ErrorKind.{ErrorKind}
 use Rattle.clap.specs.declared.error.kind.ErrorKind.TheVariants as kind
 use Rattle.clap.specs.declared.error.Error.{Error}
-use Rattle.mkpasswd.specs.Commands.{Serves, Tells}
+use Rattle.mkpasswd.specs.Commands.{IsAsked, Serves, Tells, wants_generator}
 use Rattle.mkpasswd.specs.Faults.{IsTold, fault_line, fault_row, parse_status}
 use Rattle.mkpasswd.specs.Private.Commands.{ErrorShown, RefusalShown, RunsOrLacks, front, help, mistake, no_text}
 use Rattle.run_core.specs.Devices.{Device}
@@ -73,33 +73,34 @@ module _ {I O E : Type 0} where
   abbrev pub with_outs : RunState I O E → Device O → Device E → RunState I O E
   with_outs old out faults = record old { out = out; faults = faults }
 
-  pub serves_run : (turns : ℕ) (generates : Bool) (arguments : List Text) (plan : Plan) (old new : RunState I O E) (tally : Tally) (status : ℕ)
-      → Plans arguments (Ok plan) → RunsOrLacks turns generates plan old new (Ok tally) → status ≡ tally_status tally
-      → Serves turns generates arguments old new status
-  serves_run turns generates arguments plan old new tally status planned runs status_is =
-      (Ok plan, planned, rw runs.0 (new, Ok tally, runs.1, (refl, status_is)))
+  pub serves_run : (turns : ℕ) (Made IsKept : Type 0) (generates : Bool) (arguments : List Text) (plan : Plan) (old new : RunState I O E) (tally : Tally) (status : ℕ)
+      → Plans arguments (Ok plan) → IsAsked Made IsKept (wants_generator plan) → RunsOrLacks turns generates plan old new (Ok tally) → status ≡ tally_status tally
+      → Serves turns Made IsKept generates arguments old new status
+  serves_run turns Made IsKept generates arguments plan old new tally status planned asks runs status_is =
+      (Ok plan, planned, asks, rw runs.0 (new, Ok tally, runs.1, (refl, status_is)))
 
   tells : (fault : Fault) (old : RunState I O E) (faults : Device E) (status : ℕ) → IsTold fault old.faults faults → status ≡ (fault_row fault).0
       → Tells fault old (with_faults old faults) status
   tells fault old faults status (result, shows) status_is = (result, shows, refl, status_is)
 
-  pub serves_fault : (turns : ℕ) (generates : Bool) (arguments : List Text) (plan : Plan) (old mid : RunState I O E) (faults : Device E) (fault : Fault) (status : ℕ)
-      → Plans arguments (Ok plan) → RunsOrLacks turns generates plan old mid (Err fault) → IsTold fault mid.faults faults
-      → status ≡ (fault_row fault).0 → Serves turns generates arguments old (with_faults mid faults) status
-  serves_fault turns generates arguments plan old mid faults Start status planned runs is_told status_is =
-      (Ok plan, planned, rw (runs.0, ← runs.1) (tells Start mid faults status is_told status_is))
-  serves_fault turns generates arguments plan old mid faults (Run fault) status planned runs is_told status_is =
-      (Ok plan, planned, rw runs.0 (mid, Err fault, runs.1, tells (Run fault) mid faults status is_told status_is))
-  serves_fault turns generates arguments plan old mid faults (Usage fault) status planned runs is_told status_is = absurd runs
+  pub serves_fault : (turns : ℕ) (Made IsKept : Type 0) (generates : Bool) (arguments : List Text) (plan : Plan) (old mid : RunState I O E) (faults : Device E) (fault : Fault) (status : ℕ)
+      → Plans arguments (Ok plan) → IsAsked Made IsKept (wants_generator plan) → RunsOrLacks turns generates plan old mid (Err fault) → IsTold fault mid.faults faults
+      → status ≡ (fault_row fault).0 → Serves turns Made IsKept generates arguments old (with_faults mid faults) status
+  serves_fault turns Made IsKept generates arguments plan old mid faults Start status planned asks runs is_told status_is =
+      (Ok plan, planned, asks, rw (runs.0, ← runs.1) (tells Start mid faults status is_told status_is))
+  serves_fault turns Made IsKept generates arguments plan old mid faults (Run fault) status planned asks runs is_told status_is =
+      (Ok plan, planned, asks, rw runs.0 (mid, Err fault, runs.1, tells (Run fault) mid faults status is_told status_is))
+  serves_fault turns Made IsKept generates arguments plan old mid faults (Usage fault) status planned asks runs is_told status_is = absurd runs
 
-  pub serves_error : (turns : ℕ) (generates : Bool) (arguments : List Text) (error : Error) (old : RunState I O E) (out : Device O) (faults : Device E) (status : ℕ)
-      → Plans arguments (Err (Parse error)) → ErrorShown error turns old.out old.faults out faults status
-      → Serves turns generates arguments old (with_outs old out faults) status
-  serves_error turns generates arguments error old out faults status planned (mistake text result by shows same status_is) =
-      (Err (Parse error), planned, rw by (text, result, shows, ap (λ (o : Device O). with_outs old o faults) same, status_is))
-  serves_error turns generates arguments error old out faults status planned (help text by shows same status_is) = (
+  pub serves_error : (turns : ℕ) (Made IsKept : Type 0) (generates : Bool) (arguments : List Text) (error : Error) (old : RunState I O E) (out : Device O) (faults : Device E) (status : ℕ)
+      → Plans arguments (Err (Parse error)) → IsAsked Made IsKept false → ErrorShown error turns old.out old.faults out faults status
+      → Serves turns Made IsKept generates arguments old (with_outs old out faults) status
+  serves_error turns Made IsKept generates arguments error old out faults status planned asks (mistake text result by shows same status_is) =
+      (Err (Parse error), planned, asks, rw by (text, result, shows, ap (λ (o : Device O). with_outs old o faults) same, status_is))
+  serves_error turns Made IsKept generates arguments error old out faults status planned asks (help text by shows same status_is) = (
     Err (Parse error),
     planned,
+    asks,
     rw by (
       text,
       with_outs old out old.faults,
@@ -108,9 +109,10 @@ module _ {I O E : Type 0} where
       (ap (λ (f : Device E). with_outs old out f) same, status_is),
     ),
   )
-  serves_error turns generates arguments error old out faults status planned (front text fault by shows told status_is) = (
+  serves_error turns Made IsKept generates arguments error old out faults status planned asks (front text fault by shows told status_is) = (
     Err (Parse error),
     planned,
+    asks,
     rw by (
       text,
       with_outs old out old.faults,
@@ -119,13 +121,13 @@ module _ {I O E : Type 0} where
       tells (Run fault) (with_outs old out old.faults) faults status told status_is,
     ),
   )
-  serves_error turns generates arguments error old out faults status planned (no_text told same status_is) =
-      (Err NoMemory, tt, rw same (tells (Usage NoMemory) old faults status told status_is))
+  serves_error turns Made IsKept generates arguments error old out faults status planned asks (no_text told same status_is) =
+      (Err NoMemory, tt, asks, rw same (tells (Usage NoMemory) old faults status told status_is))
 
-  pub serves_refusal : (turns : ℕ) (generates : Bool) (arguments : List Text) (fault : UsageFault) (old : RunState I O E) (out : Device O) (faults : Device E) (status : ℕ)
-      → Plans arguments (Err fault) → RefusalShown fault turns old.out old.faults out faults status
-      → Serves turns generates arguments old (with_outs old out faults) status
-  serves_refusal turns generates arguments (Parse error) old out faults status planned shown =
-      serves_error turns generates arguments error old out faults status planned shown
-  serves_refusal turns generates arguments fault old out faults status planned (told, same, status_is) =
-      (Err fault, planned, rw same (tells (Usage fault) old faults status told status_is))
+  pub serves_refusal : (turns : ℕ) (Made IsKept : Type 0) (generates : Bool) (arguments : List Text) (fault : UsageFault) (old : RunState I O E) (out : Device O) (faults : Device E) (status : ℕ)
+      → Plans arguments (Err fault) → IsAsked Made IsKept false → RefusalShown fault turns old.out old.faults out faults status
+      → Serves turns Made IsKept generates arguments old (with_outs old out faults) status
+  serves_refusal turns Made IsKept generates arguments (Parse error) old out faults status planned asks shown =
+      serves_error turns Made IsKept generates arguments error old out faults status planned asks shown
+  serves_refusal turns Made IsKept generates arguments fault old out faults status planned asks (told, same, status_is) =
+      (Err fault, planned, asks, rw same (tells (Usage fault) old faults status told status_is))

@@ -5,7 +5,7 @@ use Rattle.std.specs.Io.KnownBytes.{Consumes}
 use Rattle.clap.specs.Words.{Text, kind_of}
 use Rattle.clap.specs.declared.error.Error.{Error}
 use Rattle.run_core.specs.Answers.{Answer, tally_status}
-use Rattle.mkpasswd.specs.Commands.{Concludes, Ends, Serves, ShowsError, Tells, wants_generator}
+use Rattle.mkpasswd.specs.Commands.{Concludes, Ends, IsAsked, Serves, ShowsError, Tells, wants_generator}
 use Rattle.mkpasswd.specs.Corollaries.{IsDone, IsWhole, Succeeds, SucceedsByLines}
 use Rattle.mkpasswd.specs.declared.fault.Fault.TheVariants.{Start}
 use Rattle.run_core.specs.Devices.{Device}
@@ -80,32 +80,33 @@ module _ {I O E : Type 0} where
   is_done turns (Check job) old new tally well runs = by_lines turns kinds.Check job old new tally well runs.ends
   is_done turns (Audit job) old new tally well runs = by_lines turns kinds.Audit job old new tally well runs.ends
 
-  of_plan : (lacks : Bool) (turns : ℕ) (plan : Plan) (arguments : List Text) (old new : RunState I O E) (status : ℕ) → status ≡ 0 → Plans arguments (Ok plan)
+  of_plan : (lacks : Bool) (turns : ℕ) (Made IsKept : Type 0) (plan : Plan) (arguments : List Text) (old new : RunState I O E) (status : ℕ) → status ≡ 0 → Plans arguments (Ok plan)
+      → IsAsked Made IsKept (wants_generator plan)
       → MatchBool lacks (Tells Start old new status)
       ((mid : RunState I O E) × (result : Result Tally RunFault) × Ends turns plan old mid result × Concludes result mid new status)
-      → IsWhole arguments old new
-  of_plan true turns plan arguments old new status well planned (result, shows, same, is) = absurd (omega (arith, is, well))
-  of_plan false turns plan arguments old new status well planned (mid, Ok tally, ends, (same, is)) =
-      rw same (inl (plan, planned, is_done turns plan old mid tally (sym is ∙ well) ends))
-  of_plan false turns plan arguments old new status well planned (mid, Err fault, ends, (result, shows, same, is)) =
+      → IsWhole Made IsKept arguments old new
+  of_plan true turns Made IsKept plan arguments old new status well planned asks (result, shows, same, is) = absurd (omega (arith, is, well))
+  of_plan false turns Made IsKept plan arguments old new status well planned asks (mid, Ok tally, ends, (same, is)) =
+      rw same (inl (plan, planned, asks, is_done turns plan old mid tally (sym is ∙ well) ends))
+  of_plan false turns Made IsKept plan arguments old new status well planned asks (mid, Err fault, ends, (result, shows, same, is)) =
       absurd (fault_of_run fault (sym is ∙ well))
 
   -- ---- arguments that are refused
 
-  of_error : (kept : ℕ) (turns : ℕ) (arguments : List Text) (error : Error) (old new : RunState I O E) (status : ℕ) → status ≡ 0
-      → Plans arguments (Err (Parse error)) → parse_status (kind_of error) ≡ kept
-      → ShowsError kept turns old new status → IsWhole arguments old new
-  of_error zero turns arguments error old new status well planned by (text, mid, Ok tally, (shows, rest, none), (same, is)) =
-      inr (error, planned, by, text, rw same (record { others = rest; gives = shows.0 }))
-  of_error zero turns arguments error old new status well planned by (text, mid, Err fault, prints, (result, shows, same, is)) =
+  of_error : (kept : ℕ) (turns : ℕ) (Made IsKept : Type 0) (arguments : List Text) (error : Error) (old new : RunState I O E) (status : ℕ) → status ≡ 0
+      → Plans arguments (Err (Parse error)) → IsAsked Made IsKept false → parse_status (kind_of error) ≡ kept
+      → ShowsError kept turns old new status → IsWhole Made IsKept arguments old new
+  of_error zero turns Made IsKept arguments error old new status well planned asks by (text, mid, Ok tally, (shows, rest, none), (same, is)) =
+      inr (asks, (error, planned, by, text, rw same (record { others = rest; gives = shows.0 })))
+  of_error zero turns Made IsKept arguments error old new status well planned asks by (text, mid, Err fault, prints, (result, shows, same, is)) =
       absurd (fault_of_run fault (sym is ∙ well))
-  of_error (suc n) turns arguments error old new status well planned by (text, result, shows, same, is) =
+  of_error (suc n) turns Made IsKept arguments error old new status well planned asks by (text, result, shows, same, is) =
       absurd (omega (arith, is, well))
 
-  pub is_whole : (turns : ℕ) (generates : Bool) (arguments : List Text) (old new : RunState I O E) (status : ℕ) → status ≡ 0
-      → Serves turns generates arguments old new status → IsWhole arguments old new
-  is_whole turns generates arguments old new status well (Ok plan, planned, follows) =
-      of_plan (wants_generator plan && not generates) turns plan arguments old new status well planned follows
-  is_whole turns generates arguments old new status well (Err (Parse error), planned, follows) =
-      of_error (parse_status (kind_of error)) turns arguments error old new status well planned refl follows
-  is_whole turns generates arguments old new status well (Err fault, planned, (result, shows, same, is)) = absurd (omega (arith, is, well))
+  pub is_whole : (turns : ℕ) (Made IsKept : Type 0) (generates : Bool) (arguments : List Text) (old new : RunState I O E) (status : ℕ) → status ≡ 0
+      → Serves turns Made IsKept generates arguments old new status → IsWhole Made IsKept arguments old new
+  is_whole turns Made IsKept generates arguments old new status well (Ok plan, planned, asks, follows) =
+      of_plan (wants_generator plan && not generates) turns Made IsKept plan arguments old new status well planned asks follows
+  is_whole turns Made IsKept generates arguments old new status well (Err (Parse error), planned, asks, follows) =
+      of_error (parse_status (kind_of error)) turns Made IsKept arguments error old new status well planned asks refl follows
+  is_whole turns Made IsKept generates arguments old new status well (Err fault, planned, asks, (result, shows, same, is)) = absurd (omega (arith, is, well))

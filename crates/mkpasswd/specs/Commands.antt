@@ -10,7 +10,7 @@ use Rattle.run_core.specs.Methods.{methods_text}
 use Rattle.run_core.specs.One.{RunsOne}
 use Rattle.mkpasswd.specs.Options.{Plans}
 use Rattle.run_core.specs.Output.{Shows}
-use Rattle.run_core.specs.Runs.{RunState}
+use Rattle.run_core.specs.Runs.{RunState, no_numbers}
 use Rattle.run_core.specs.Texts.{as_line}
 use Rattle.mkpasswd.specs.declared.fault.Fault.{Fault}
 use Rattle.mkpasswd.specs.declared.fault.Fault.TheVariants.{Start, Usage, Run}
@@ -22,14 +22,25 @@ use Rattle.mkpasswd.specs.declared.plan.Plan.TheVariants.{Methods, One, Batch, C
 use Rattle.run_core.specs.declared.line.Kind.TheVariants as kinds
 use Rattle.run_core.specs.declared.tally.Tally.{Tally}
 
--- A plan needs a generator unless it lists the methods.
+-- A plan that hashes or checks passwords wants a generator. The list of the methods and an audit take none.
 abbrev pub wants_generator : Plan → Bool
 wants_generator Methods = false
+wants_generator (Audit job) = false
 wants_generator plan = true
+
+-- Refused arguments, help and the version want none.
+abbrev pub wants_by : Result Plan UsageFault → Bool
+wants_by (Ok plan) = wants_generator plan
+wants_by (Err fault) = false
+
+-- IsAsked Made IsKept wants: if a generator is wanted, the command asks for one, once, and `Made` says what it gets.
+-- Otherwise it does not ask, as `IsKept` says.
+abbrev pub IsAsked : Type 0 → Type 0 → Bool → Type 0
+IsAsked Made IsKept wants = MatchBool wants Made IsKept
 
 -- The random numbers are those of the generator. Without a generator nothing draws from the stream.
 abbrev pub stream_in : {R : Type 0} → (R → Stream) → Option R → Stream
-stream_in stream generator = option_map_or stream generator (record { u32_after = λ calls. 0; u64_after = λ calls. 0; bytes_after = λ calls count. [] })
+stream_in stream generator = option_map_or stream generator no_numbers
 
 module _ {I O E : Type 0} where
   -- The command writes a text to `out` and flushes it. If that fails, `result` is the error, and a prefix of the text
@@ -80,8 +91,9 @@ module _ {I O E : Type 0} where
   Follows turns generates (Err (Parse error)) old new status = ShowsError (parse_status (kind_of error)) turns old new status
   Follows turns generates (Err fault) old new status = Tells (Usage fault) old new status
 
-  -- The command plans the arguments, and runs the plan or reports the refusal. `Plans` allows that an allocation fails
-  -- for any arguments.
-  abbrev pub Serves : ℕ → Bool → List Text → RunState I O E → RunState I O E → ℕ → Type 0
-  Serves turns generates arguments old new status =
-      (planned : Result Plan UsageFault) × Plans arguments planned × Follows turns generates planned old new status
+  -- The command plans the arguments, asks for a generator if the plan wants one, and runs the plan or reports the refusal.
+  -- `Plans` allows that an allocation fails for any arguments.
+  abbrev pub Serves : ℕ → Type 0 → Type 0 → Bool → List Text → RunState I O E → RunState I O E → ℕ → Type 0
+  Serves turns Made IsKept generates arguments old new status =
+      (planned : Result Plan UsageFault) × Plans arguments planned × IsAsked Made IsKept (wants_by planned)
+      × Follows turns generates planned old new status

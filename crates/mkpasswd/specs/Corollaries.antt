@@ -1,5 +1,5 @@
 -- Consequences of the clauses of `run_command`: what status 0 means, and what the arguments for one hash print.
-use Rattle.std.specs.Prelude.{◌≡◌, ℕ, ◌⊎◌, List, [], ◌∷◌, codes, Ok, Err}
+use Rattle.std.specs.Prelude.{◌≡◌, ℕ, ◌⊎◌, false, List, [], ◌∷◌, codes, Ok, Err}
 use Rattle.std.specs.Io.KnownBytes.{Appends, IsAtEnd}
 use Rattle.clap.specs.Words.{Text, kind_of}
 use Rattle.clap.specs.declared.error.Error.{Error}
@@ -9,7 +9,9 @@ use Rattle.crypt_core.specs.Passwords.{IsPassword}
 use Rattle.crypt_core.specs.Settings.{BeginsWith}
 use Rattle.crypt_core.specs.declared.method.Method.{Method}
 use Rattle.run_core.specs.Answers.{Answer, password_answer, tally_of, tally_status}
+use Rattle.mkpasswd.specs.Commands.{IsAsked, wants_generator}
 use Rattle.mkpasswd.specs.Faults.{parse_status}
+use Rattle.run_core.specs.Devices.{Device}
 use Rattle.run_core.specs.Input.{IsDecided, Reads, first_line}
 use Rattle.run_core.specs.LineAnswers.{AreAnswers}
 use Rattle.run_core.specs.LineRuns.{lines_of}
@@ -67,10 +69,12 @@ module _ {I O E : Type 0} where
       (error : Error) × Plans arguments (Err (Parse error)) × (parse_status (kind_of error) ≡ 0)
       × (text : List ℕ) × GivesOnly text old new
 
-  -- The arguments have a plan, all of which was done; or they ask for help or the version, which was printed.
-  abbrev pub IsWhole : List Text → RunState I O E → RunState I O E → Type 0
-  IsWhole arguments old new =
-      ((plan : Plan) × Plans arguments (Ok plan) × IsDone plan old new) ⊎ IsHelped arguments old new
+  -- The arguments have a plan, all of which was done; or they ask for help or the version, which was printed. `Made` and
+  -- `IsKept` are as in `IsAsked`.
+  abbrev pub IsWhole : Type 0 → Type 0 → List Text → RunState I O E → RunState I O E → Type 0
+  IsWhole Made IsKept arguments old new =
+      ((plan : Plan) × Plans arguments (Ok plan) × IsAsked Made IsKept (wants_generator plan) × IsDone plan old new)
+      ⊎ (IsAsked Made IsKept false × IsHelped arguments old new)
 
 -- ---- one hash
 
@@ -82,7 +86,8 @@ hash_arguments method salt password = codes "-m" ∷ method ∷ codes "-S" ∷ s
 abbrev pub IsNoOption : Text → Type 0
 IsNoOption word = (word ≡ codes "-") ⊎ ¬ BeginsWith word (codes "-")
 
--- `out` took the hash of the password and a line feed. The setting of the hash has the method, cost 0 and the salt.
-abbrev pub PrintsHash : {I O E : Type 0} → Method → Text → Text → RunState I O E → RunState I O E → Type 0
+-- The output took the hash of the password and a line feed. The setting of the hash has the method, its default rounds
+-- and the salt.
+abbrev pub PrintsHash : {O : Type 0} → Method → Text → Text → Device O → Device O → Type 0
 PrintsHash method salt password old new =
-    Appends old.out.shown new.out.shown (as_line (crypt password (record { scheme = made_scheme method 0; salt = salt })))
+    Appends old.shown new.shown (as_line (crypt password (record { scheme = made_scheme method 0; salt = salt })))

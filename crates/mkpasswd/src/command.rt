@@ -1,8 +1,8 @@
 //! The whole command: it plans the arguments, runs the plan, and reports errors.
-ghost use Rattle.std.specs.Prelude.{◌≡◌, ℕ, ◌<◌, ◌≤◌, List, Some, is_some, map, string_bytes};
+ghost use Rattle.std.specs.Prelude.{◌≡◌, ℕ, ◌<◌, ◌≤◌, false, List, Option, Some, None, is_some, map, string_bytes};
 ghost use Rattle.crypt_core.specs.Methods.{method_named};
 ghost use Rattle.crypt_core.specs.declared.method.Method.{Method};
-ghost use Rattle.mkpasswd.specs.Commands.{Serves, stream_in};
+ghost use Rattle.mkpasswd.specs.Commands.{IsAsked, Serves, stream_in, wants_generator};
 ghost use Rattle.mkpasswd.specs.Corollaries.{IsNoOption, IsWhole, PrintsHash, hash_arguments};
 ghost use Rattle.mkpasswd.specs.Faults.{IsTold, fault_line, fault_row};
 ghost use Rattle.mkpasswd.specs.Private.Commands.{ErrorShown, RefusalShown, RunsOrLacks};
@@ -38,9 +38,10 @@ const FAULT_LINE_ROOM: usize = 80;
 /// the plan. After an error `faults` gets `mkpasswd: MESSAGE` and a line feed. If `clap` refuses the arguments, `faults`
 /// gets `clap`'s message instead, without a tip to pass an option as a value. Help and the version go to `out`.
 ///
-/// Without a generator a plan that hashes or audits is not run, and the message is `start fault`. The list of the
-/// methods, help, the version and invalid arguments need no generator. If the message about an error cannot be written,
-/// the status alone reports the error. If help or the version cannot be written in full, that is an error with status 3.
+/// If the plan hashes or checks passwords, the command calls `make` once, and `generator` gets what that returns. If it is
+/// `None`, the plan is not run, and the message is `start fault`. For audits, the list of the methods, help, the version
+/// and invalid arguments it makes no generator. If the message about an error cannot be written, the status alone reports
+/// the error. If help or the version cannot be written in full, that is an error with status 3.
 ///
 /// The run, or `clap`'s message, takes at most `turns` I/O calls. The line of an error is not among them, and takes at
 /// most as many calls as it has bytes.
@@ -48,34 +49,37 @@ const FAULT_LINE_ROOM: usize = 80;
 /// For example, the arguments `-m md5crypt -S xxxxxxxx password` write `$1$xxxxxxxx$UYCIxa628.9qXjpQCjM4a.` and a line
 /// feed to `out`, and the status is 0.
 ///
-/// Preconditions: `turns` is at most 2^40, each count of the meter at most 2^100, and each count of the devices at most
-/// 2^62.
-pub fn run_command<I: Read, O: Write, E: Write, R: Rng>(
+/// Preconditions: `generator` is `None`, `make` can be called, `turns` is at most 2^40, each count of the meter at most
+/// 2^100, and each count of the devices at most 2^62.
+pub fn run_command<I: Read, O: Write, E: Write, R: Rng + Drop, M: FnMut() -> Option<R>>(
     alloc: Global,
     arguments: &[String],
     input: &mut Input<I>,
     out: &mut Output<O>,
     faults: &mut Output<E>,
     generator: &mut Option<R>,
+    make: &mut M,
     meter: &mut Meter,
     turns: u64,
 ) -> u8
-    requires { IsReady turns input.old out.old faults.old meter.old }
-    ensures serves { Serves turns (is_some generator.old) (map string_bytes arguments.now)
-        (run_state input.old out.old faults.old (stream_in R.stream generator.old) meter.old)
+    requires ready { IsReady turns input.old out.old faults.old meter.old }
+    requires none_yet { generator.old ≡ None }
+    requires make { M.pre make.old }
+    ensures serves { (made : Option R) × Serves turns (M.step make.old made make.new) ((make.new ≡ make.old) × (made ≡ None))
+        (is_some made) (map string_bytes arguments.now)
+        (run_state input.old out.old faults.old (stream_in R.stream made) meter.old)
         (run_state input.new out.new faults.new (stream_in R.stream generator.new) meter.new) result }
-    ensures whole { result ≡ 0 → IsWhole (map string_bytes arguments.now)
-        (run_state input.old out.old faults.old (stream_in R.stream generator.old) meter.old)
+    ensures whole { result ≡ 0 → (made : Option R)
+        × IsWhole (M.step make.old made make.new) ((make.new ≡ make.old) × (made ≡ None)) (map string_bytes arguments.now)
+        (run_state input.old out.old faults.old (stream_in R.stream made) meter.old)
         (run_state input.new out.new faults.new (stream_in R.stream generator.new) meter.new) }
     ensures prints { (name salt password : List ℕ) → (method : Method) → method_named name ≡ Some method
         → IsNoOption salt → IsNoOption password → map string_bytes arguments.now ≡ hash_arguments name salt password → result ≡ 0
-        → PrintsHash method salt password
-        (run_state input.old out.old faults.old (stream_in R.stream generator.old) meter.old)
-        (run_state input.new out.new faults.new (stream_in R.stream generator.new) meter.new) }
-    ensures generator { is_some generator.new ≡ is_some generator.old }
+        → PrintsHash method salt password out.old out.new }
 {
     match plan(alloc, arguments) {
         Ok(plan) => {
+            *generator = generator_for(&plan, make);
             match run_plan(alloc, &plan, input, out, faults, generator, meter, turns) {
                 Ok(tally) => tally.status(),
                 Err(fault) => report_fault(&fault, faults),
@@ -85,7 +89,18 @@ pub fn run_command<I: Read, O: Write, E: Write, R: Rng>(
     }
 }
 
-// Runs a plan. If it needs a generator and there is none, the error is `Start`, and nothing is done.
+// Makes the generator for a plan, if that wants one.
+fn generator_for<R: Rng, M: FnMut() -> Option<R>>(plan: &Plan, make: &mut M) -> Option<R>
+    requires { M.pre make.old }
+    ensures { IsAsked (M.step make.old result make.new) ((make.new ≡ make.old) × (result ≡ None)) (wants_generator plan.now) }
+{
+    match plan {
+        Plan::Methods | Plan::Audit(_) => None,
+        Plan::One(..) | Plan::Batch(_) | Plan::Check(_) => make(),
+    }
+}
+
+// Runs a plan. If it wants a generator and there is none, the error is `Start`, and nothing is done.
 fn run_plan<I: Read, O: Write, E: Write, R: Rng>(
     alloc: Global,
     plan: &Plan,
@@ -96,15 +111,16 @@ fn run_plan<I: Read, O: Write, E: Write, R: Rng>(
     meter: &mut Meter,
     turns: u64,
 ) -> Result<Tally, Fault>
-    requires { IsReady turns input.old out.old faults.old meter.old }
+    requires ready { IsReady turns input.old out.old faults.old meter.old }
+    requires unwanted { wants_generator plan.now ≡ false → generator.old ≡ None }
     ensures runs { RunsOrLacks turns (is_some generator.old) plan.now
         (run_state input.old out.old faults.old (stream_in R.stream generator.old) meter.old)
         (run_state input.new out.new faults.new (stream_in R.stream generator.new) meter.new) result }
     ensures fault_room { HasRoomWithinRun faults.new }
-    ensures generator { is_some generator.new ≡ is_some generator.old }
 {
     match (plan, generator) {
         (Plan::Methods, _) => Ok(run_methods(out, turns)?),
+        (Plan::Audit(job), _) => Ok(run_audit(alloc, job, input, out, faults, meter, turns)?),
         (_, None) => Err(Fault::Start),
         (Plan::One(job, from), Some(rng)) => {
             Ok(run_one(alloc, job, from, input, out, faults, rng, meter, turns)?)
@@ -114,9 +130,6 @@ fn run_plan<I: Read, O: Write, E: Write, R: Rng>(
         }
         (Plan::Check(job), Some(rng)) => {
             Ok(run_check(alloc, job, input, out, faults, rng, meter, turns)?)
-        }
-        (Plan::Audit(job), Some(rng)) => {
-            Ok(run_audit(alloc, job, input, out, faults, rng, meter, turns)?)
         }
     }
 }

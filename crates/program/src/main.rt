@@ -28,7 +28,8 @@ fn main(rt: HostRuntime) -> ExitCode {
     };
     let status = match arguments {
         Ok(arguments) => {
-            let mut generator: Option<StdRng> = make_rng(&rt).ok();
+            let mut generator: Option<StdRng> = None;
+            let mut make = || make_rng::<StdRng, HostRuntime>(&rt).ok();
             run_command(
                 rt.alloc(),
                 arguments.as_slice(),
@@ -36,6 +37,7 @@ fn main(rt: HostRuntime) -> ExitCode {
                 &mut Output::new(rt.stdout()),
                 &mut faults,
                 &mut generator,
+                &mut make,
                 &mut Meter::new(),
                 TURNS,
             )

@@ -1,4 +1,4 @@
--- A run of audits makes no hash, so it draws nothing, counts nothing and lacks no memory.
+-- A run of audits makes no hash, so it counts nothing and lacks no memory.
 use Rattle.std.specs.Prelude.{◌≢◌}
 use Rattle.std.proofs.Common.{◌≡◌, ℕ, ◌+◌, List, [], ◌∷◌, ◌++◌, Result, Ok, Err, inl, inr, refl, sym, ap, ◌∙◌}
 use Rattle.std.proofs.lemmas.List.Concat.{flat_map-append}
@@ -49,14 +49,12 @@ none_refused before after hashings stream none (made, next, others, are, growth,
 
 module _ {I O E : Type 0} where
   pub record Spares (old new : RunState I O E) (result : Result Tally RunFault) : Type 0 where
-    pub draws_none : new.stream ≡ old.stream
     pub hashes_none : new.counts ≡ old.counts
     pub allocates_none : result ≢ Err OutOfMemory
 
   spares_by : (made : List Hashing) (old new : RunState I O E) (result : Result Tally RunFault) → made ≡ [] → IsAfter made old new → result ≢ Err OutOfMemory
       → Spares old new result
   spares_by made old new result none after other = record {
-    draws_none = rw none at after.stream;
     hashes_none = rw none at after.counts;
     allocates_none = other;
   }

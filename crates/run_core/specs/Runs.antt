@@ -1,6 +1,6 @@
 -- The effect of a run on its three devices, the random numbers of its generator and its meter. The answers are
 -- arguments: those that the run wrote in full, and the one at which it stopped.
-use Rattle.std.specs.Prelude.{◌≡◌, ℕ, ◌+◌, ◌^◌, ◌≤◌, ◌⊎◌, List, [], ◌∷◌, ◌++◌, MatchBool, Result, Ok, Err}
+use Rattle.std.specs.Prelude.{◌≡◌, ℕ, ◌+◌, ◌^◌, ◌≤◌, ◌⊎◌, List, [], ◌∷◌, ◌++◌, replicate, MatchBool, Result, Ok, Err}
 use Rattle.rand_core.specs.Stream.{Stream}
 use Rattle.prims_core.specs.Work.{IsAtMost}
 use Rattle.prims_core.specs.declared.meter.Work.{Work}
@@ -20,6 +20,10 @@ pub record RunState (I O E : Type 0) : Type 0 where
   pub faults : Device E
   pub stream : Stream
   pub counts : Work
+
+-- no_numbers is the stream of a run without a generator: zeros, of which it draws none.
+abbrev pub no_numbers : Stream
+no_numbers = record { u32_after = λ calls. 0; u64_after = λ calls. 0; bytes_after = λ calls count. replicate count 0 }
 
 -- run_state input out faults stream counts is the `RunState` with these parts.
 abbrev pub run_state : {I O E : Type 0} → Device I → Device O → Device E → Stream → Work → RunState I O E

@@ -1,6 +1,7 @@
 //! Audits of stored fields, without any password.
 ghost use Rattle.std.specs.Prelude.{◌≡◌};
 ghost use Rattle.run_core.specs.Audits.{Finds, needs_care, standing_text};
+ghost use Rattle.run_core.specs.Runs.{no_numbers};
 
 use crate::job::Job;
 use crypt_core::method::Method;
@@ -8,6 +9,7 @@ use crypt_core::password::PASSWORD_LIMIT;
 use crypt_core::setting::SettingFault;
 use crypt_core::stored::{StoredField, StoredHash};
 use crypt_core::work::cost;
+use rand_core::Rng;
 
 /// What an audit finds in a field.
 #[derive(Clone, Copy)]
@@ -99,5 +101,25 @@ fn audit_hash(job: &Job, stored: &StoredHash<'_>) -> Finding
         method: setting.method(),
         most,
         standing,
+    }
+}
+
+/// The generator of an audit, which draws nothing: it gives zeros.
+#[derive(Drop)]
+pub(crate) struct NoNumbers;
+
+impl Rng for NoNumbers {
+    ghost stream = { λ _. no_numbers };
+
+    fn next_u32(&mut self) -> u32 {
+        0
+    }
+
+    fn next_u64(&mut self) -> u64 {
+        0
+    }
+
+    fn fill_bytes(&mut self, dst: &mut [u8]) {
+        dst.fill(0)
     }
 }

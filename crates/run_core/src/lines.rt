@@ -13,11 +13,12 @@ ghost use Rattle.run_core.specs.Lines.{name_limit};
 ghost use Rattle.run_core.specs.Private.Answers.{Renders, counted, outcome_of};
 ghost use Rattle.run_core.specs.Private.Deliveries.{Sends};
 ghost use Rattle.run_core.specs.Private.Headroom.{HasRoomFor, answer_limit, lines_limit};
-ghost use Rattle.run_core.specs.Runs.{IsReady, run_state};
+ghost use Rattle.run_core.specs.Runs.{IsReady, no_numbers, run_state};
 ghost use Rattle.run_core.specs.declared.fault.RunFault.TheVariants.{OutOfMemory};
 ghost use Rattle.run_core.specs.declared.line.Kind.TheVariants.{Batch, Check, Audit};
 
 use crate::answer::{Answered, answer_line, render, render_refusal};
+use crate::audit::NoNumbers;
 use crate::device::{Input, Output};
 use crate::fault::RunFault;
 use crate::job::Job;
@@ -165,7 +166,7 @@ pub fn run_check<I: Read, O: Write, E: Write, R: Rng>(
 /// cost of hashing a password of 1,024 bytes with it ([`cost`](crypt_core::work::cost)), and no password costs more. A
 /// line that is too long, or has no valid name or no field, is refused as by [`run_batch`].
 ///
-/// The run hashes, allocates and draws nothing. The job's `rehash` and `work` have no effect. The tally's `misfits` are
+/// The run takes no generator, and hashes and allocates nothing. The job's `rehash` and `work` have no effect. The tally's `misfits` are
 /// the findings `outdated`, `over budget`, `none` and `malformed`. Everything else is as for [`run_batch`], including
 /// the preconditions.
 ///
@@ -178,22 +179,20 @@ pub fn run_check<I: Read, O: Write, E: Write, R: Rng>(
 ///
 /// [`Setting::replaced_by`]: crypt_core::setting::Setting::replaced_by
 /// [`SettingFault`]: crypt_core::setting::SettingFault
-pub fn run_audit<I: Read, O: Write, E: Write, R: Rng>(
+pub fn run_audit<I: Read, O: Write, E: Write>(
     alloc: Global,
     job: &Job,
     input: &mut Input<I>,
     out: &mut Output<O>,
     faults: &mut Output<E>,
-    rng: &mut R,
     meter: &mut Meter,
     turns: u64,
 ) -> Result<Tally, RunFault>
     requires { IsReady turns input.old out.old faults.old meter.old }
     ensures runs { RunsLines turns Audit job.now
-        (run_state input.old out.old faults.old (R.stream rng.old) meter.old)
-        (run_state input.new out.new faults.new (R.stream rng.new) meter.new) result }
+        (run_state input.old out.old faults.old no_numbers meter.old)
+        (run_state input.new out.new faults.new no_numbers meter.new) result }
     ensures fault_room { HasRoomWithinRun faults.new }
-    ensures draws_none { R.stream rng.new ≡ R.stream rng.old }
     ensures hashes_none { meter.new ≡ meter.old }
     ensures allocates_none { result ≢ Err OutOfMemory }
     ensures longest { (kept : SettingValue) → (password_length : ℕ) → password_length ≤ password_limit
@@ -201,6 +200,7 @@ pub fn run_audit<I: Read, O: Write, E: Write, R: Rng>(
     ensures foresees { Foresees job.now }
     ensures rehash { RenewsNone Audit job.now }
 {
+    let mut numbers = NoNumbers;
     answer_lines(
         alloc,
         Kind::Audit,
@@ -208,7 +208,7 @@ pub fn run_audit<I: Read, O: Write, E: Write, R: Rng>(
         input,
         out,
         faults,
-        rng,
+        &mut numbers,
         meter,
         turns,
     )

@@ -3,9 +3,6 @@ use Rattle.run_core.proofs.LineOptions.{foresees}
 use Rattle.crypt_core.proofs.WorkBounds.{longest}
 use Rattle.run_core.proofs.lines.run_audit.Goals as goal
 
-pub returns-clause-draws_none : goal.returns-clause-draws_none
-returns-clause-draws_none g c = (spares c.args.turns c.args.job.now _ _ _ c.answer_lines.ensures.runs.ends).draws_none
-
 pub returns-clause-hashes_none : goal.returns-clause-hashes_none
 returns-clause-hashes_none g c = (spares c.args.turns c.args.job.now _ _ _ c.answer_lines.ensures.runs.ends).hashes_none
 
