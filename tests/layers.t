@@ -42,6 +42,17 @@ my @offered = grep { /\bpub\b(?! struct Counted)/ } map { s{//.*}{}r } search('-
 is("@offered", '', 'they offer nothing but their types');
 stands_only_in('only what counts mixes blocks', '\bsalsa\b', map { "prims_core/src/$_.rt" } qw(lib salsa mix));
 
+# Each function that counts a mixing does one, and one that counts none is a step of those. A clause sees neither a mixing whose
+# result is dropped nor one that is done twice.
+my $mix = slurp("$root/crates/prims_core/src/mix.rt") =~ s{//.*}{}gr =~ s/^ *(?:requires|ensures) .*(?:\n {8,}.*)*//gmr =~ s/^mod tests.*//msr;
+my %steps = map { $_ => 1 } qw(mix_blocks mixed_block);
+while ($mix =~ /\bfn (\w+)(.*?)(?=\bfn |\z)/gs) {
+    my ($name, $body) = ($1, $2);
+    my $mixed = () = $body =~ /\b(?:block_mix|mix_\w+|mixed_block|salsa8\w*)\(/g;
+    my $counted = () = $body =~ /\bcount_mix\(/g;
+    is("$mixed, $counted", $steps{$name} ? '1, 0' : $body =~ /\bMeter\b/ ? '1, 1' : '0, 0', "$name in mix: mixings, and counted ones");
+}
+
 # Meters. Each call for C or for a page that hashes makes its own.
 my @calls = search('-l', 'extern "C" fn', 'crypt_c/src', 'crypt_web/src');
 stands_only_in('only the program and the calls make a meter', '\bMeter::new\b', 'program/src/main.rt', @calls);

@@ -16,12 +16,20 @@ for (['mandoc', 'mandoc', qw(-T lint -W warning)], ['groff', 'groff-base', qw(-m
 }
 needs(mandoc => 'mandoc') or do { done_testing; exit };
 
-# The options with which lines of a help or of a shown manual begin.
-sub options_in { return { map { $_ => 1 } grep { defined } $_[0] =~ /^ *(?:(-\w), )?(--[a-z][\w-]*)/mg } }
+# What a help or a shown manual says of each option, by the option's long name: the words up to the next option or an empty line,
+# in one line and without quotes.
+sub options_in {
+    my ($text) = @_;
+    my %said = $text =~ /^ *(?:-\w, )?(--[a-z][\w-]*)(?: <?[A-Z]+>?)?(?: {2,}|\n)(.*?)(?=^ *(?:-\w, )?--[a-z]|^\n|\z)/gms;
+    s/[‘’']//g, s/\s+/ /g, s/^ | $//g for values %said;
+    return \%said;
+}
 
 for (['mkpasswd', program()], ['mkpasswd-parallel', "$root/bin/mkpasswd-parallel"]) {
     my ($name, $command) = @$_;
-    is_deeply(options_in(shown_manual("$root/man/$name.1")), options_in(run($command, '--help')->{out}), "manual: options of $name");
+    my ($manual, $help) = (options_in(shown_manual("$root/man/$name.1")), options_in(run($command, '--help')->{out}));
+    is_deeply([sort keys %$manual], [sort keys %$help], "manual: options of $name");
+    is(substr($manual->{$_} // '', 0, length $help->{$_}), $help->{$_}, "manual: it begins with the help's words for $_ of $name") for sort keys %$help;
 }
 
 my $manual = shown_manual("$root/man/mkpasswd.1");
