@@ -3,18 +3,18 @@ use Rattle.std.proofs.Common.{◌≡◌, ℕ, List, ◌++◌, length, length-app
 use Rattle.std.proofs.lemmas.List.Elements.{All-append}
 use Rattle.prims_core.specs.Alphabet.{alphabet, numerals}
 use Rattle.prims_core.proofs.NumeralFacts.{All-numerals, length-numerals, numerals-injective}
-use Rattle.kdf_core.specs.Params.{ScryptCost, cost_of}
+use Rattle.kdf_core.specs.Params.{ScryptParams, scrypt_params}
 use Rattle.crypt_core.specs.Settings.{scrypt_part}
 use Rattle.crypt_core.specs.TextLimits.{scrypt_part_len}
 use Rattle.crypt_core.specs.Private.Parts.{HasNumerals}
 use Rattle.crypt_core.proofs.DollarFields.{same_front}
 
-pub length-scrypt_part : (cost : ScryptCost) → length (scrypt_part cost) ≡ scrypt_part_len
-length-scrypt_part cost =
+pub length-scrypt_part : (params : ScryptParams) → length (scrypt_part params) ≡ scrypt_part_len
+length-scrypt_part params =
     rw (length-append, length-append, length-numerals, length-numerals, length-numerals) refl
 
 -- a cost part says three numbers, and no others
-pub scrypt_part_unique : (a b : ScryptCost) (x y : List ℕ) → HasNumerals a → HasNumerals b → scrypt_part a ++ x ≡ scrypt_part b ++ y → (a ≡ b) × (x ≡ y)
+pub scrypt_part_unique : (a b : ScryptParams) (x y : List ℕ) → HasNumerals a → HasNumerals b → scrypt_part a ++ x ≡ scrypt_part b ++ y → (a ≡ b) × (x ≡ y)
 scrypt_part_unique a b x y fits_a fits_b e =
     let whole = same_front (scrypt_part a) (scrypt_part b) x y (length-scrypt_part a ∙ sym (length-scrypt_part b)) e in
     let first = same_front (numerals 1 a.log_n) (numerals 1 b.log_n) (numerals 5 a.r ++ numerals 5 a.p) (numerals 5 b.r ++ numerals 5 b.p) (length-numerals 1 a.log_n ∙ sym (length-numerals 1 b.log_n)) whole.0 in
@@ -22,12 +22,12 @@ scrypt_part_unique a b x y fits_a fits_b e =
     let log_n : a.log_n ≡ b.log_n = numerals-injective 1 a.log_n b.log_n fits_a.0 fits_b.0 first.0 in
     let r : a.r ≡ b.r = numerals-injective 5 a.r b.r fits_a.1 fits_b.1 second.0 in
     let p : a.p ≡ b.p = numerals-injective 5 a.p b.p fits_a.2 fits_b.2 second.1 in
-    (ap (λ (n : ℕ). cost_of n a.r a.p) log_n ∙ ap (λ (n : ℕ). cost_of b.log_n n a.p) r ∙ ap (cost_of b.log_n b.r) p, whole.1)
+    (ap (λ (n : ℕ). scrypt_params n a.r a.p) log_n ∙ ap (λ (n : ℕ). scrypt_params b.log_n n a.p) r ∙ ap (scrypt_params b.log_n b.r) p, whole.1)
 
 pub all_numerals : (n value : ℕ) → All (Contains alphabet) (numerals n value)
 all_numerals n value = All-numerals n value (numerals n value) refl
 
-pub all_scrypt_part : (cost : ScryptCost) → All (Contains alphabet) (scrypt_part cost)
-all_scrypt_part cost =
-    All-append (Contains alphabet) (numerals 1 cost.log_n) (numerals 5 cost.r ++ numerals 5 cost.p) (all_numerals 1 cost.log_n)
-    (All-append (Contains alphabet) (numerals 5 cost.r) (numerals 5 cost.p) (all_numerals 5 cost.r) (all_numerals 5 cost.p))
+pub all_scrypt_part : (params : ScryptParams) → All (Contains alphabet) (scrypt_part params)
+all_scrypt_part params =
+    All-append (Contains alphabet) (numerals 1 params.log_n) (numerals 5 params.r ++ numerals 5 params.p) (all_numerals 1 params.log_n)
+    (All-append (Contains alphabet) (numerals 5 params.r) (numerals 5 params.p) (all_numerals 5 params.r) (all_numerals 5 params.p))

@@ -2,7 +2,7 @@
 use Rattle.std.proofs.Common.{◌≡◌, ℕ, ◌≤◌, ◌<◌, Bool, true, false, inl, inr, List, ◌++◌, length, drop, All, refl, sym, ap, subst, ◌∙◌, arith}
 use Rattle.std.proofs.Math.Seq.{drop-append_seam}
 use Rattle.std.proofs.lemmas.List.{append_cancel_left}
-use Rattle.kdf_core.specs.Params.{ScryptCost, IsAccepted, IsInRange, IsWithinCeiling}
+use Rattle.kdf_core.specs.Params.{ScryptParams, IsAccepted, IsInRange, IsWithinCeiling}
 use Rattle.crypt_core.specs.declared.method.Method.{Method}
 use Rattle.crypt_core.specs.declared.method.Method.TheVariants as methods
 use Rattle.crypt_core.specs.Rounds.{Rounds}
@@ -32,12 +32,12 @@ spelled_front text scheme after part rest begins parts cost =
     (part, begins ∙ ap (λ (x : List ℕ). prefix (method_of scheme) ++ x) parts, cost)
 
 -- a prefix and scrypt's numbers
-pub spelled_numbers : (text : List ℕ) (n : ScryptCost) (after rest : List ℕ) → text ≡ prefix methods.Scrypt ++ after → after ≡ scrypt_part n ++ rest → HasNumerals n → SpellsScheme text (Scrypt n) rest
+pub spelled_numbers : (text : List ℕ) (n : ScryptParams) (after rest : List ℕ) → text ≡ prefix methods.Scrypt ++ after → after ≡ scrypt_part n ++ rest → HasNumerals n → SpellsScheme text (Scrypt n) rest
 spelled_numbers text n after rest begins parts numbers =
     spelled_front text (Scrypt n) after (scrypt_part n) rest begins parts (refl, numbers.0, numbers.1, numbers.2)
 
 -- what follows the characters of scrypt's numbers
-pub after_numbers : (after rest : List ℕ) (n : ScryptCost) → after ≡ scrypt_part n ++ rest → drop scrypt_part_len after ≡ rest
+pub after_numbers : (after rest : List ℕ) (n : ScryptParams) → after ≡ scrypt_part n ++ rest → drop scrypt_part_len after ≡ rest
 after_numbers after rest n parts =
     ap (λ (k : ℕ). drop k after) (sym (length-scrypt_part n)) ∙ ap (λ (t : List ℕ). drop (length (scrypt_part n)) t) parts ∙ drop-append_seam (scrypt_part n) rest
 
@@ -141,7 +141,7 @@ module _ (text : List ℕ) (is_text : IsSettingText text) where
   refused_cost after e lacks = from_scrypt_cost after BadCost e (inl (refl, scrypt_lacks text after e lacks))
 
   -- but numbers
-  module _ (n : ScryptCost) (rest : List ℕ) (spelled : SpellsScheme text (Scrypt n) rest) where
+  module _ (n : ScryptParams) (rest : List ℕ) (spelled : SpellsScheme text (Scrypt n) rest) where
     from_range : (fault : SettingFault) → FirstFrom 5 fault → IsRefused text fault
     from_range fault first = from_scrypt_cost (spelled.0 ++ rest) fault spelled.1 (inr (lacks_none text (Scrypt n) rest methods.Scrypt spelled, first))
 
@@ -149,7 +149,7 @@ module _ (text : List ℕ) (is_text : IsSettingText text) where
     refused_range outside = from_range ScryptRange (inl (refl, (n, rest, spelled, outside)))
 
     -- which are the only ones
-    same_numbers : (m : ScryptCost) (after : List ℕ) → SpellsScheme text (Scrypt m) after → n ≡ m
+    same_numbers : (m : ScryptParams) (after : List ℕ) → SpellsScheme text (Scrypt m) after → n ≡ m
     same_numbers m after s = let same : Scrypt n ≡ Scrypt m = (scheme_unique text (Scrypt n) (Scrypt m) rest after spelled s).0 in cc
 
     from_ceiling : IsInRange n → (fault : SettingFault) → FirstFrom 6 fault → IsRefused text fault

@@ -3,7 +3,7 @@ use Rattle.std.proofs.Common.{◌≡◌, ◌≢◌, ℕ, ◌+◌, ◌≤◌, ◌
 use Rattle.std.specs.Prelude.{◌↔◌, Contains, Result, Ok, Err, OnOk, IfErr, IsOk, Option, Some}
 use Rattle.std.proofs.Math.Nat.{le-mul_of_pos_right, lt_of_not-le, mul-le-mul_right, one-le-mul}
 use Rattle.std.proofs.Math.Pow.{pow_mono}
-use Rattle.kdf_core.specs.Params.{ScryptCost, row_count, IsAccepted}
+use Rattle.kdf_core.specs.Params.{ScryptParams, row_count, IsAccepted}
 use Rattle.std.proofs.lemmas.List.{take_all}
 use Rattle.std.proofs.lemmas.List.Elements.{All-nil, All-weaker, All-get_or}
 use Rattle.prims_core.specs.Alphabet.{alphabet}
@@ -32,7 +32,7 @@ no_rounds salt all (more, e) =
     not_equals (get_or salt 6 0) (All-get_or (Contains alphabet) salt 6 0 long all) (ap (λ (xs : List ℕ). get_or xs 6 0) begins)
 
 -- so many characters say the numbers that scrypt takes
-pub accepted_numerals : (params : ScryptCost) → IsAccepted params → HasNumerals params
+pub accepted_numerals : (params : ScryptParams) → IsAccepted params → HasNumerals params
 accepted_numerals params accepted =
     let n = row_count params in
     let some_n : 1 ≤ n = let above : 0 ≤ params.log_n = omega arith in let mono : 2 ^ 0 ≤ 2 ^ params.log_n = pow_mono above in omega (arith, mono) in

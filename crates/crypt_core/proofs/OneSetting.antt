@@ -1,6 +1,6 @@
 -- A text spells one setting at most.
 use Rattle.std.proofs.Common.{◌≡◌, ◌≢◌, ℕ, List, ◌++◌, get_or, refl, sym, ap, ap₂, ◌∙◌, arith}
-use Rattle.kdf_core.specs.Params.{ScryptCost}
+use Rattle.kdf_core.specs.Params.{ScryptParams}
 use Rattle.crypt_core.specs.declared.method.Method.{Method}
 use Rattle.crypt_core.specs.declared.method.Method.TheVariants as methods
 use Rattle.crypt_core.specs.declared.scheme.Scheme.{Scheme}
@@ -46,7 +46,7 @@ cost_unique (Shacrypt a r) (Shacrypt b s) p q x y m ca cb e =
     let both = rounds_unique r s p q x y ca cb e in (ap₂ Shacrypt (sha_unique a b m) both.0, both.1)
 cost_unique (Scrypt r) (Scrypt s) p q x y m ca cb e =
     let same : scrypt_part r ++ x ≡ scrypt_part s ++ y = sym (ap (λ (z : List ℕ). z ++ x) ca.0) ∙ e ∙ ap (λ (z : List ℕ). z ++ y) cb.0 in
-    let both = scrypt_part_unique r s x y (ca.1, ca.2, ca.3) (cb.1, cb.2, cb.3) same in (ap (λ (t : ScryptCost). Scrypt t) both.0, both.1)
+    let both = scrypt_part_unique r s x y (ca.1, ca.2, ca.3) (cb.1, cb.2, cb.3) same in (ap (λ (t : ScryptParams). Scrypt t) both.0, both.1)
 cost_unique Md5crypt (Shacrypt sha s) p q x y m ca cb e = absurd ((sha_apart sha).0 (sym m))
 cost_unique Md5crypt (Scrypt s) p q x y m ca cb e = absurd (cc m)
 cost_unique (Shacrypt sha r) Md5crypt p q x y m ca cb e = absurd ((sha_apart sha).0 m)

@@ -12,7 +12,7 @@ use Rattle.std.proofs.lemmas.List.Elements.{All-from_get_or, All-get_or, All-tak
 use Rattle.std.proofs.lemmas.Int.Digits.{digits_value_more}
 use Rattle.std.proofs.lemmas.Str.{digit_value_digit}
 use Rattle.prims_core.specs.Alphabet.{alphabet, character_of, numerals}
-use Rattle.kdf_core.specs.Params.{cost_of}
+use Rattle.kdf_core.specs.Params.{scrypt_params}
 use Rattle.crypt_core.specs.Private.Parts.{HasField, HasNumerals, LacksCharacters, LacksNumber}
 use Rattle.crypt_core.specs.Settings.{dollar, IsRoundsNumber, scrypt_part}
 use Rattle.crypt_core.specs.Rounds.{max_rounds}
@@ -119,7 +119,7 @@ unfolding numerals
 one_numeral v below = ap (λ (w : ℕ). character_of w ∷ []) (omega arith)
 
 -- the three numbers of the characters
-pub numbers_parts : (after : List ℕ) (v r p : ℕ) → scrypt_part_len ≤ length after → v < 64 → character_of v ≡ get_or after 0 0 → r < 2 ^ 30 → numerals 5 r ≡ take 5 (drop 1 after) → p < 2 ^ 30 → numerals 5 p ≡ take 5 (drop 6 after) → (rest : List ℕ) × (after ≡ scrypt_part (cost_of v r p) ++ rest) × HasNumerals (cost_of v r p)
+pub numbers_parts : (after : List ℕ) (v r p : ℕ) → scrypt_part_len ≤ length after → v < 64 → character_of v ≡ get_or after 0 0 → r < 2 ^ 30 → numerals 5 r ≡ take 5 (drop 1 after) → p < 2 ^ 30 → numerals 5 p ≡ take 5 (drop 6 after) → (rest : List ℕ) × (after ≡ scrypt_part (scrypt_params v r p) ++ rest) × HasNumerals (scrypt_params v r p)
 numbers_parts [] v r p long vs v_is rs r_is ps p_is = absurd (omega arith)
 numbers_parts (x ∷ xs) v r p long vs v_is rs r_is ps p_is =
     let first : numerals 1 v ≡ x ∷ [] = one_numeral v vs ∙ ap (λ (c : ℕ). c ∷ []) v_is in
@@ -130,6 +130,6 @@ numbers_parts (x ∷ xs) v r p long vs v_is rs r_is ps p_is =
     ap (λ (t : List ℕ). t ++ (take 5 xs ++ (take 5 (drop 5 xs) ++ drop 5 (drop 5 xs)))) (sym first)
     ∙ ap (λ (t : List ℕ). numerals 1 v ++ (t ++ (take 5 (drop 5 xs) ++ drop 5 (drop 5 xs)))) (sym r_is)
     ∙ ap (λ (t : List ℕ). numerals 1 v ++ (numerals 5 r ++ (t ++ drop 5 (drop 5 xs)))) (sym p_is) in
-    let joined : numerals 1 v ++ (numerals 5 r ++ (numerals 5 p ++ drop 5 (drop 5 xs))) ≡ scrypt_part (cost_of v r p) ++ drop 5 (drop 5 xs) =
+    let joined : numerals 1 v ++ (numerals 5 r ++ (numerals 5 p ++ drop 5 (drop 5 xs))) ≡ scrypt_part (scrypt_params v r p) ++ drop 5 (drop 5 xs) =
     sym (append_assoc (numerals 1 v) (numerals 5 r ++ numerals 5 p) (drop 5 (drop 5 xs)) ∙ ap (λ (t : List ℕ). numerals 1 v ++ t) (append_assoc (numerals 5 r) (numerals 5 p) (drop 5 (drop 5 xs)))) in
     (drop 5 (drop 5 xs), parts ∙ named ∙ joined, (vs, rs, ps))

@@ -1,7 +1,7 @@
 -- What a text spells gets no refusal, and a text gets one refusal at most.
 use Rattle.std.proofs.Common.{◌≡◌, ℕ, List, ◌++◌, sym, ap, subst, ◌∙◌, arith}
 use Rattle.std.specs.Prelude.{Result, Ok, Err, IfOk, IfErr}
-use Rattle.kdf_core.specs.Params.{ScryptCost, IsAccepted}
+use Rattle.kdf_core.specs.Params.{ScryptParams, IsAccepted}
 use Rattle.crypt_core.specs.declared.method.Method.{Method}
 use Rattle.crypt_core.specs.declared.method.Method.TheVariants as methods
 use Rattle.crypt_core.specs.declared.scheme.Scheme.{Scheme}
@@ -23,7 +23,7 @@ lacks_none text scheme after m s lacks =
     lacks.1 scheme after same.0 s
 
 -- what is kept of a text of scrypt: its numbers are accepted, and its salt is one
-scrypt_kept : (scheme : Scheme) (n : ScryptCost) (field salt : List ℕ) → scheme ≡ Scrypt n → KeepsSalt scheme field salt → IsAccepted n × IsScryptSalt field
+scrypt_kept : (scheme : Scheme) (n : ScryptParams) (field salt : List ℕ) → scheme ≡ Scrypt n → KeepsSalt scheme field salt → IsAccepted n × IsScryptSalt field
 scrypt_kept (Scrypt m) n field salt e k = let same : m ≡ n = cc in (subst IsAccepted same k.0, k.2)
 scrypt_kept Md5crypt n field salt e k = absurd cc
 scrypt_kept (Shacrypt sha r) n field salt e k = absurd cc

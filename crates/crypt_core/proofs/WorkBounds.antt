@@ -6,7 +6,7 @@ use Rattle.std.proofs.lemmas.Bool.{cases_order}
 use Rattle.std.proofs.lemmas.Bool.Decides.{nat_tests}
 use Rattle.std.proofs.Math.Nat.{mul-le-mul, mul-le-mul_left, mul-le-mul_right}
 use Rattle.kdf_core.specs.Hmac.{key_digests}
-use Rattle.kdf_core.specs.Params.{ScryptCost, IsBounded}
+use Rattle.kdf_core.specs.Params.{ScryptParams, IsBounded}
 use Rattle.crypt_core.specs.Cycle.{digit_bytes}
 use Rattle.crypt_core.specs.MethodLimits.{scrypt_salt_limit}
 use Rattle.crypt_core.specs.Passwords.{password_limit}
@@ -27,12 +27,12 @@ shacrypt-within digest a rounds password salt byte =
     record { digests = omega arith; bytes = omega arith; mixes = omega arith; table = omega arith; scratch = omega arith }
 
 -- each count of a hash by scrypt is below the limit
-pub scrypt-small : (cost : ScryptCost) (a password salt : ℕ) → IsBounded cost → password ≤ password_limit → salt ≤ scrypt_salt_limit
-    → IsBelow (work_by (Scrypt cost) a password salt) work_limit
-scrypt-small cost a password salt most password_short salt_short =
+pub scrypt-small : (params : ScryptParams) (a password salt : ℕ) → IsBounded params → password ≤ password_limit → salt ≤ scrypt_salt_limit
+    → IsBelow (work_by (Scrypt params) a password salt) work_limit
+scrypt-small params a password salt most password_short salt_short =
     let digest : key_digests password ≤ 1 = grind (arith, nat_tests) in
     let key : key_digests password * password ≤ 1 * password_limit = mul-le-mul digest password_short in
-    let salted : cost.r * cost.p * salt ≤ 2 ^ 22 * scrypt_salt_limit = mul-le-mul most.parts salt_short in
+    let salted : params.r * params.p * salt ≤ 2 ^ 22 * scrypt_salt_limit = mul-le-mul most.parts salt_short in
     record { digests = omega arith; bytes = omega arith; mixes = omega arith; table = omega arith; scratch = omega arith }
 
 -- ---- the digested bytes: those for the binary digits of the length

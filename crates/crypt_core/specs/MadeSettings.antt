@@ -2,7 +2,7 @@
 -- command takes as `-R`: for SHA-crypt its rounds, and for scrypt the logarithm of N, less 7.
 use Rattle.std.specs.Prelude.{◌≡◌, ℕ, ◌+◌, ◌<◌, ◌≤◌, ◌⊎◌, ◌==◌, if◌then◌else◌, true, false, List, [], ◌∷◌, length, All, Contains, Option, Some, None}
 use Rattle.prims_core.specs.Alphabet.{alphabet}
-use Rattle.kdf_core.specs.Params.{ScryptCost}
+use Rattle.kdf_core.specs.Params.{ScryptParams}
 use Rattle.crypt_core.specs.declared.method.Method.{Method}
 use Rattle.crypt_core.specs.declared.method.Method.TheVariants as methods
 use Rattle.crypt_core.specs.Rounds.{Rounds, default_rounds, clamped}
@@ -22,7 +22,7 @@ abbrev pub made_rounds : ℕ → Rounds
 made_rounds rounds = if rounds == 0 then record { count = default_rounds; is_written = false } else record { count = clamped rounds; is_written = true }
 
 -- made_params rounds: N = 2 ^ (rounds + 7), r = 32 and p = 1. 0 stands for 7.
-abbrev pub made_params : ℕ → ScryptCost
+abbrev pub made_params : ℕ → ScryptParams
 made_params rounds = record { log_n = (if rounds == 0 then 7 else rounds) + 7; r = 32; p = 1 }
 
 -- made_scheme method rounds: the scheme of a method with these rounds. md5crypt has a fixed number, and scrypt N, r and p.

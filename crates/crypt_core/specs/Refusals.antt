@@ -1,6 +1,6 @@
 -- The refusal of a string that is no setting: that of the first stage at which reading fails.
 use Rattle.std.specs.Prelude.{◌≡◌, ℕ, ◌<◌, List, [], ◌∷◌, ◌++◌, length, All}
-use Rattle.kdf_core.specs.Params.{ScryptCost, IsInRange, IsWithinCeiling}
+use Rattle.kdf_core.specs.Params.{ScryptParams, IsInRange, IsWithinCeiling}
 use Rattle.crypt_core.specs.Methods.{method_row}
 use Rattle.crypt_core.specs.Rules.{IsFirstBroken}
 use Rattle.crypt_core.specs.Schemes.{method_of, sha_method}
@@ -30,10 +30,10 @@ FailsStage text BadCharacter = ¬ All IsSettingByte text
 FailsStage text UnknownScheme = (method : Method) → ¬ BeginsWith text (method_row method).prefix
 FailsStage text BadRounds = (sha : Sha) × LacksCost (sha_method sha) text
 FailsStage text BadCost = LacksCost methods.Scrypt text
-FailsStage text ScryptRange = (params : ScryptCost) × (after : List ℕ) × SpellsScheme text (Scrypt params) after × (¬ IsInRange params)
-FailsStage text AboveCeiling = (params : ScryptCost) × (after : List ℕ) × SpellsScheme text (Scrypt params) after × (¬ IsWithinCeiling params)
+FailsStage text ScryptRange = (params : ScryptParams) × (after : List ℕ) × SpellsScheme text (Scrypt params) after × (¬ IsInRange params)
+FailsStage text AboveCeiling = (params : ScryptParams) × (after : List ℕ) × SpellsScheme text (Scrypt params) after × (¬ IsWithinCeiling params)
 FailsStage text BadSalt =
-    (params : ScryptCost) × (field rest : List ℕ) × SpellsScheme text (Scrypt params) (field ++ rest) × IsField field rest × (¬ IsScryptSalt field)
+    (params : ScryptParams) × (field rest : List ℕ) × SpellsScheme text (Scrypt params) (field ++ rest) × IsField field rest × (¬ IsScryptSalt field)
 
 -- IsRefused text fault: the text gets the refusal of the first stage that fails.
 unfoldable pub IsRefused : List ℕ → SettingFault → Type 0

@@ -2,7 +2,7 @@
 use Rattle.std.specs.Prelude.{◌≡◌, ◌≢◌, ◌⊎◌, ℕ, ◌^◌, ◌<◌, ◌≤◌, if◌then◌else◌, List, [], ◌∷◌, ◌++◌, length, take, All, Contains, MatchBool, decimal, codes}
 use Rattle.std.specs.Str.Parse.{digits_value}
 use Rattle.prims_core.specs.Alphabet.{alphabet, numerals}
-use Rattle.kdf_core.specs.Params.{ScryptCost, IsAccepted}
+use Rattle.kdf_core.specs.Params.{ScryptParams, IsAccepted}
 use Rattle.crypt_core.specs.declared.method.Method.TheVariants as methods
 use Rattle.crypt_core.specs.Rounds.{Rounds, clamped, default_rounds}
 use Rattle.crypt_core.specs.Schemes.{method_of}
@@ -59,7 +59,7 @@ SpellsRounds rounds part after = MatchBool rounds.is_written
     ((part ≡ []) × (rounds.count ≡ default_rounds) × ¬ BeginsWith after rounds_word)
 
 -- scrypt_part cost: one character of log2 N, five of r and five of p. Each number has its lowest six bits first.
-abbrev pub scrypt_part : ScryptCost → List ℕ
+abbrev pub scrypt_part : ScryptParams → List ℕ
 scrypt_part cost = numerals 1 cost.log_n ++ (numerals 5 cost.r ++ numerals 5 cost.p)
 
 -- SpellsCost scheme part after: this part, if `after` follows it, spells the cost of the scheme. The characters of

@@ -14,7 +14,7 @@ use Rattle.prims_core.specs.Words.{big_bytes, xor_lists}
 use Rattle.prims_core.specs.contracts.counted.counted_sha256.CountedSha256Counted.TheImpl.Laws as sha256_laws
 use Rattle.kdf_core.specs.Hmac.{hmac_sha256, key_block, padded_key, key_digests, tag_bytes}
 use Rattle.kdf_core.specs.HmacMessages.{key_messages, tag_messages, key_bytes}
-use Rattle.kdf_core.specs.Params.{ScryptCost, row_count}
+use Rattle.kdf_core.specs.Params.{ScryptParams, row_count}
 use Rattle.kdf_core.specs.Pbkdf2.{chain, block, pbkdf2_sha256}
 use Rattle.kdf_core.specs.Pbkdf2Messages.{block_messages, pbkdf2_messages, block_bytes, pbkdf2_digests, pbkdf2_bytes}
 use Rattle.kdf_core.specs.Scrypt.{part_bytes, parts_bytes}
@@ -141,23 +141,23 @@ length-pbkdf2_sha256 password salt count =
     length-take-le count derived (omega (arith, whole, (div_ceil_times count 32 (omega arith)).0))
 
 -- the password's message, and those of the two derivations, the second of which has all parts for its salt
-pub scrypt-in_all : (password salt : List ℕ) (cost : ScryptCost) (count : ℕ)
-    → HaveCountAndSum (scrypt_messages password salt cost count) (scrypt_work cost (length password) (length salt) count).digests
-    (scrypt_work cost (length password) (length salt) count).bytes
+pub scrypt-in_all : (password salt : List ℕ) (params : ScryptParams) (count : ℕ)
+    → HaveCountAndSum (scrypt_messages password salt params count) (scrypt_work params (length password) (length salt) count).digests
+    (scrypt_work params (length password) (length salt) count).bytes
 unfolding scrypt_messages
-scrypt-in_all password salt cost count =
-    let first = parts_bytes cost in
+scrypt-in_all password salt params count =
+    let first = parts_bytes params in
     let derived = pbkdf2_sha256 password salt 1 first in
-    let last = mixed_parts (row_count cost) (part_bytes cost) derived in
+    let last = mixed_parts (row_count params) (part_bytes params) derived in
     let derived_length : length derived ≡ first = length-pbkdf2_sha256 password salt first in
     let last_length : length last ≡ first =
-    length-mixed_parts (row_count cost) (part_bytes cost) cost.r cost.p derived (omega arith) derived_length ∙ derived_length in
+    length-mixed_parts (row_count params) (part_bytes params) params.r params.p derived (omega arith) derived_length ∙ derived_length in
     let key = key-in_all password in
     let firsts = pbkdf2-in_all password salt 1 first (omega arith) in
     let lasts = pbkdf2-in_all password last 1 count (omega arith) in
     let all = both-in_all (key_messages password ++ pbkdf2_messages password salt 1 first) (pbkdf2_messages password last 1 count) _ _ _ _
     (both-in_all (key_messages password) (pbkdf2_messages password salt 1 first) _ _ _ _ key firsts) lasts in
     record {
-      count = all.count ∙ digests-are cost (length password) (length salt) count first refl;
-      sum = all.sum ∙ bytes-are cost (length password) (length salt) count first (length last) refl last_length;
+      count = all.count ∙ digests-are params (length password) (length salt) count first refl;
+      sum = all.sum ∙ bytes-are params (length password) (length salt) count first (length last) refl last_length;
     }

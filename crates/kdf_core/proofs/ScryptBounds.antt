@@ -2,7 +2,7 @@
 use Rattle.std.proofs.Common.{◌≡◌, ℕ, ◌+◌, ◌-◌, ◌*◌, ◌^◌, ◌<◌, ◌≤◌, ap, ◌∙◌, true, false, nat_lt, if◌then◌else◌, arith}
 use Rattle.std.proofs.Math.Nat.{le-mul_of_pos_right, mul-le-mul_left, mul-le-mul_right, lt_of_not-le}
 use Rattle.std.proofs.Math.Pow.{pow_mono}
-use Rattle.kdf_core.specs.Params.{ScryptCost, row_count, IsAccepted, IsBounded}
+use Rattle.kdf_core.specs.Params.{ScryptParams, row_count, IsAccepted, IsBounded}
 use Rattle.kdf_core.specs.Private.Mixing.{IsPower}
 use Rattle.kdf_core.specs.HmacMessages.{key_bytes}
 use Rattle.kdf_core.specs.Pbkdf2Messages.{block_bytes, pbkdf2_bytes}
@@ -10,20 +10,20 @@ use Rattle.kdf_core.specs.Scrypt.{parts_bytes}
 use Rattle.kdf_core.specs.ScryptWork.{table_bytes}
 use Rattle.std.specs.Int.{div_ceil}
 
-pub bounded : (cost : ScryptCost) → IsAccepted cost → IsBounded cost
-bounded cost accepted =
-    let n = row_count cost in
-    let r = cost.r in
-    let p = cost.p in
+pub bounded : (params : ScryptParams) → IsAccepted params → IsBounded params
+bounded params accepted =
+    let n = row_count params in
+    let r = params.r in
+    let p = params.p in
     let some_r : 0 < r = accepted.0.2 in
     let some_p : 0 < p = accepted.0.3 in
-    let two : 2 ≤ n = let mono : 2 ^ 1 ≤ 2 ^ cost.log_n = pow_mono accepted.0.0 in omega (arith, mono) in
+    let two : 2 ≤ n = let mono : 2 ^ 1 ≤ 2 ^ params.log_n = pow_mono accepted.0.0 in omega (arith, mono) in
     let within : n * r * p ≤ 8388608 = accepted.1 in
     let table : n * r ≤ n * r * p = le-mul_of_pos_right (n * r) some_p in
     let mixes : n * p ≤ n * p * r = le-mul_of_pos_right (n * p) some_r in
     let parts : 2 * (r * p) ≤ n * (r * p) = mul-le-mul_right (r * p) two in
     let blocks : r ≤ r * p = le-mul_of_pos_right r some_p in
-    let low : cost.log_n < 23 = lt_of_not-le (λ high.
+    let low : params.log_n < 23 = lt_of_not-le (λ high.
     let power : 2 ^ 23 ≤ n = pow_mono high in
     let two_r : 2 ≤ r = omega (arith, accepted.0.1) in
     let twice : n * 2 ≤ n * r = mul-le-mul_left n two_r in
@@ -39,22 +39,22 @@ bounded cost accepted =
     }
 
 -- N as a power
-pub rows_power : (cost : ScryptCost) (n : ℕ) → IsAccepted cost → n ≡ row_count cost → IsPower n cost.log_n
-rows_power cost n accepted is =
-    let log = (bounded cost accepted).log in
+pub rows_power : (params : ScryptParams) (n : ℕ) → IsAccepted params → n ≡ row_count params → IsPower n params.log_n
+rows_power params n accepted is =
+    let log = (bounded params accepted).log in
     record { power = is; above_one = accepted.0.0; most = omega arith }
 
 -- the bytes of all parts, by the numbers as they are read
-pub parts-product : (cost : ScryptCost) (r p : ℕ) → r ≡ cost.r → p ≡ cost.p → 128 * r * p ≡ parts_bytes cost
-parts-product cost r p r_is p_is = ap (λ n. 128 * n * p) r_is ∙ ap (λ n. 128 * cost.r * n) p_is
+pub parts-product : (params : ScryptParams) (r p : ℕ) → r ≡ params.r → p ≡ params.p → 128 * r * p ≡ parts_bytes params
+parts-product params r p r_is p_is = ap (λ n. 128 * n * p) r_is ∙ ap (λ n. 128 * params.r * n) p_is
 
-pub parts-fit : (cost : ScryptCost) → IsAccepted cost → parts_bytes cost ≤ 2 ^ 29
-parts-fit cost accepted = omega (arith, (bounded cost accepted).parts)
+pub parts-fit : (params : ScryptParams) → IsAccepted params → parts_bytes params ≤ 2 ^ 29
+parts-fit params accepted = omega (arith, (bounded params accepted).parts)
 
 -- and the blocks of a digest in them
-pub parts-blocks : (cost : ScryptCost) → div_ceil (parts_bytes cost) 32 ≡ 4 * (cost.r * cost.p)
-parts-blocks cost =
-    let product : parts_bytes cost ≡ 32 * (4 * (cost.r * cost.p)) = omega arith in
+pub parts-blocks : (params : ScryptParams) → div_ceil (parts_bytes params) 32 ≡ 4 * (params.r * params.p)
+parts-blocks params =
+    let product : parts_bytes params ≡ 32 * (4 * (params.r * params.p)) = omega arith in
     ap (λ n. div_ceil n 32) product ∙ omega arith
 
 pub key_bytes-le : (length : ℕ) → key_bytes length ≤ length
@@ -69,16 +69,16 @@ bytes-fit before key blocks each more last a b c d e f =
     let answer : more * last ≤ 2 ^ 33 * last = mul-le-mul_right last e in
     omega arith
 
-pub table-product : (cost : ScryptCost) (n r : ℕ) → n ≡ row_count cost → r ≡ cost.r → 4 * (n * (32 * r)) ≡ table_bytes cost
-table-product cost n r n_is r_is =
-    ap (λ k. 4 * (k * (32 * r))) n_is ∙ (ap (λ k. 4 * (row_count cost * (32 * k))) r_is ∙ omega arith)
+pub table-product : (params : ScryptParams) (n r : ℕ) → n ≡ row_count params → r ≡ params.r → 4 * (n * (32 * r)) ≡ table_bytes params
+table-product params n r n_is r_is =
+    ap (λ k. 4 * (k * (32 * r))) n_is ∙ (ap (λ k. 4 * (row_count params * (32 * k))) r_is ∙ omega arith)
 
 -- so there is room for all bytes
-pub all_bytes-fit : (before password_length salt_length count first last : ℕ) (cost : ScryptCost) → IsAccepted cost → before ≤ 2 ^ 120
-    → password_length < 2 ^ 64 → salt_length < 2 ^ 64 → count ≤ 32 * (2 ^ 32 - 1) → first ≡ parts_bytes cost → last ≡ parts_bytes cost
+pub all_bytes-fit : (before password_length salt_length count first last : ℕ) (params : ScryptParams) → IsAccepted params → before ≤ 2 ^ 120
+    → password_length < 2 ^ 64 → salt_length < 2 ^ 64 → count ≤ 32 * (2 ^ 32 - 1) → first ≡ parts_bytes params → last ≡ parts_bytes params
     → before + key_bytes password_length + pbkdf2_bytes salt_length 1 first + pbkdf2_bytes last 1 count < 2 ^ 128
-all_bytes-fit before password_length salt_length count first last cost accepted a b c d first_is last_is =
-    let fit : parts_bytes cost ≤ 2 ^ 29 = parts-fit cost accepted in
+all_bytes-fit before password_length salt_length count first last params accepted a b c d first_is last_is =
+    let fit : parts_bytes params ≤ 2 ^ 29 = parts-fit params accepted in
     bytes-fit before (key_bytes password_length) (div_ceil first 32) (block_bytes salt_length 1) (div_ceil count 32) (block_bytes last 1) a
     (omega (arith, key_bytes-le password_length)) (omega arith) (omega arith) (omega arith) (omega arith)
 

@@ -1,8 +1,7 @@
--- Integerify by one word, mixings one by one, and what a table holds while it is filled.
-use Rattle.std.proofs.Common.{◌≡◌, ℕ, zero, suc, ◌+◌, ◌-◌, ◌*◌, ◌^◌, ◌%◌, ◌<◌, ◌≤◌, ◌≢◌, List, [], ◌∷◌, ◌++◌, length, get_or, set, take, drop, refl, sym, ap, ◌∙◌, arith, below_more, get_or-set_other, get_or-set_same, length-set, subst, ◌/◌}
-use Rattle.std.specs.Fn.{iterate}
+-- Integerify by one word, the number of rows, and parts that are mixed one by one.
+use Rattle.std.proofs.Common.{◌≡◌, ℕ, suc, ◌+◌, ◌-◌, ◌*◌, ◌^◌, ◌%◌, ◌<◌, ◌≤◌, List, [], ◌∷◌, ◌++◌, length, get_or, take, drop, sym, ap, ◌∙◌, arith, ◌/◌}
 use Rattle.std.specs.List.{flat_map, range_with_len}
-use Rattle.std.proofs.lemmas.Grind.{common_steps, flat_map-append}
+use Rattle.std.proofs.lemmas.Grind.{flat_map-append}
 use Rattle.std.proofs.lemmas.List.{append-nil, drop-drop, get_or-drop, get_or-take, take_all}
 use Rattle.std.proofs.lemmas.List.Folds.{flat_map-map}
 use borrow.Rule.Slice.PartMut.{put_mid}
@@ -10,23 +9,15 @@ use Rattle.std.proofs.lemmas.Slice.{take-put_mid, drop-put_mid}
 use Rattle.std.proofs.lemmas.Nat.{pow-add, pow_pos}
 use Rattle.std.proofs.Math.Nat.{add-mul-mod_self_left, mul-div_cancel, mul_assoc}
 use Rattle.std.proofs.Math.Seq.{drop-cons}
-use Rattle.prims_core.specs.BlockMix.{block_mix}
 use Rattle.prims_core.specs.Diagonals.{block_in_rows, in_rows}
 use Rattle.prims_core.specs.declared.meter.Work.{Work}
 use Rattle.prims_core.specs.Words.{bytes_of_words, chunks_exact, little_number}
 use Rattle.prims_core.proofs.InRowsFacts.{length-in_rows, block_at-in_rows}
 use Rattle.prims_core.proofs.WordFacts.{number-from_word}
 use Rattle.kdf_core.proofs.Pbkdf2Lemmas.{range-more}
-use Rattle.kdf_core.specs.Private.Mixing.{HasShape, HoldsMixings, IsPower}
+use Rattle.kdf_core.specs.Private.Mixing.{IsPower}
 use Rattle.kdf_core.specs.Scrypt.{integerify, mixed_part}
 use Rattle.kdf_core.specs.ScryptMessages.{mixed_parts}
-
--- one application more
-pub iterate-more : (h : List ℕ → List ℕ) (n : ℕ) (x : List ℕ) → iterate h (n + 1) x ≡ h (iterate h n x)
-iterate-more h zero x = refl
-iterate-more h (suc n) x =
-    let next : suc n + 1 ≡ suc (n + 1) = omega arith in
-    ap (λ k. iterate h k x) next ∙ iterate-more h n (h x)
 
 -- the last block's number modulo a power of two is that of its first word
 pub integerify-mod : (words : List ℕ) (k : ℕ) → 16 ≤ length words → k ≤ 32
@@ -66,19 +57,6 @@ first_word-in_rows words r some whole =
     ∙ ap (λ (block : List ℕ). get_or block 0 0) (block_at-in_rows words last (omega (arith, whole)))
     ∙ sym (first words))
 
--- the length of a row, where one is set
-length-row : (table : List (List ℕ)) (i : ℕ) (row : List ℕ) (k words : ℕ) → length row ≡ words → length (get_or table k []) ≡ words → i < length table
-    → length (get_or (set table i row) k []) ≡ words
-length-row table i row k words same before inside = grind (arith, common_steps)
-
--- two applications more
-pub iterate-two_more : (h : List ℕ → List ℕ) (n : ℕ) (x a b c : List ℕ) → a ≡ iterate h (2 * n) x → b ≡ h a → c ≡ h b
-    → c ≡ iterate h (2 * (n + 1)) x
-iterate-two_more h n x a b c is first second =
-    let all : 2 * n + 1 + 1 ≡ 2 * (n + 1) = omega arith in
-    let once : b ≡ iterate h (2 * n + 1) x = first ∙ (ap h is ∙ sym (iterate-more h (2 * n) x)) in
-    second ∙ (ap h once ∙ (sym (iterate-more h (2 * n + 1) x) ∙ ap (λ k. iterate h k x) all))
-
 -- N is even
 pub even : (rows k : ℕ) → IsPower rows k → 2 * (rows / 2) ≡ rows
 even rows k is =
@@ -89,38 +67,9 @@ even rows k is =
 pub some_row : (rows k : ℕ) → IsPower rows k → 0 < rows
 some_row rows k is = omega (arith, is.power, pow_pos k)
 
--- a table of which the first rows hold B at `start` and what is mixed of it
-pub record IsFilled (table : List (List ℕ)) (rows words count : ℕ) (start : List ℕ) : Type 0 where
-  pub shape : HasShape table rows words
-  pub held : HoldsMixings table count start
-
--- a row more
-pub filled-more : (old new : List (List ℕ)) (rows words count : ℕ) (start row : List ℕ) → IsFilled old rows words count start
-    → length row ≡ words → count < rows → new ≡ set old count row → in_rows row ≡ iterate block_mix count start
-    → IsFilled new rows words (count + 1) start
-filled-more old new rows words count start row before same inside is mixed =
-    let within : count < length old = omega (arith, before.shape.row_count) in
-    let after : IsFilled (set old count row) rows words (count + 1) start = record {
-      shape = record {
-        row_count = length-set old count row ∙ before.shape.row_count;
-        row_words = λ k h. length-row old count row k words same (before.shape.row_words k h) within;
-      };
-      held = below_more _ _
-          (λ k h. let other : k ≢ count = omega arith in rw get_or-set_other (before.held k h))
-          (rw get_or-set_same mixed);
-    } in
-    subst (λ (t : List (List ℕ)). IsFilled t rows words (count + 1) start) (sym is) after
-
 -- no mixing at first
 pub mixes-none : (m : Work) (n : ℕ) → m ≡ record m { mixes = m.mixes + n * 0 }
 mixes-none m n = let none : m.mixes ≡ m.mixes + n * 0 = omega arith in ap (λ k. record m { mixes = k }) none
-
--- the mixings of two calls
-pub mixes-more : (a b c : Work) (m n all : ℕ) → b ≡ record a { mixes = a.mixes + m } → c ≡ record b { mixes = b.mixes + n } → m + n ≡ all
-    → c ≡ record a { mixes = a.mixes + all }
-mixes-more a b c m n all first then sum =
-    let whole : a.mixes + m + n ≡ a.mixes + all = omega arith in
-    then ∙ (ap (λ (x : Work). record x { mixes = x.mixes + n }) first ∙ ap (λ k. record a { mixes = k }) whole)
 
 -- the first parts, each of `size` bytes, under ROMix
 unfoldable pub first_parts : ℕ → ℕ → List ℕ → ℕ → List ℕ

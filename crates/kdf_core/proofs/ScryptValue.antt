@@ -7,7 +7,7 @@ use Rattle.prims_core.specs.Meter.{with_work}
 use Rattle.prims_core.specs.declared.meter.Work.{Work}
 use Rattle.kdf_core.specs.Hmac.{key_digests, tag_bytes}
 use Rattle.kdf_core.specs.HmacMessages.{key_bytes}
-use Rattle.kdf_core.specs.Params.{ScryptCost, row_count}
+use Rattle.kdf_core.specs.Params.{ScryptParams, row_count}
 use Rattle.kdf_core.specs.Pbkdf2.{pbkdf2_sha256}
 use Rattle.kdf_core.specs.Pbkdf2Messages.{block_bytes, pbkdf2_digests, pbkdf2_bytes}
 use Rattle.kdf_core.specs.Scrypt.{part_bytes, parts_bytes, scrypt}
@@ -29,19 +29,19 @@ same_length zeros derived parts mixed last same parts_are same_mixed lasting =
     ∙ (over ∙ (ap length (written_over-same zeros derived same) ∙ same))
 
 -- the two derivations, and the mixing of the parts between them
-pub value-is : (password salt : List ℕ) (cost : ScryptCost) (count n : ℕ) (zeros derived parts halves mixed last out : List ℕ)
-    → n ≡ row_count cost → length zeros ≡ parts_bytes cost → length halves ≡ 64 * cost.r
+pub value-is : (password salt : List ℕ) (params : ScryptParams) (count n : ℕ) (zeros derived parts halves mixed last out : List ℕ)
+    → n ≡ row_count params → length zeros ≡ parts_bytes params → length halves ≡ 64 * params.r
     → derived ≡ pbkdf2_sha256 password salt 1 (length zeros) → length derived ≡ length zeros → parts ≡ written_over zeros derived
     → mixed ≡ mixed_parts n (2 * length halves) parts → length mixed ≡ length parts → last ≡ written_over (written_over zeros derived) mixed
-    → out ≡ pbkdf2_sha256 password last 1 count → out ≡ scrypt password salt cost count
+    → out ≡ pbkdf2_sha256 password last 1 count → out ≡ scrypt password salt params count
 unfolding scrypt mixed_parts
-value-is password salt cost count n zeros derived parts halves mixed last out n_is whole blocks first same parts_are mixing same_mixed lasting second =
-    let size : 2 * length halves ≡ part_bytes cost = omega arith in
+value-is password salt params count n zeros derived parts halves mixed last out n_is whole blocks first same parts_are mixing same_mixed lasting second =
+    let size : 2 * length halves ≡ part_bytes params = omega arith in
     let parts_derived : parts ≡ derived = parts_are ∙ written_over-same zeros derived same in
-    let derived_is : derived ≡ pbkdf2_sha256 password salt 1 (parts_bytes cost) = first ∙ ap (pbkdf2_sha256 password salt 1) whole in
-    let mixed_is : mixed ≡ mixed_parts (row_count cost) (part_bytes cost) (pbkdf2_sha256 password salt 1 (parts_bytes cost)) =
+    let derived_is : derived ≡ pbkdf2_sha256 password salt 1 (parts_bytes params) = first ∙ ap (pbkdf2_sha256 password salt 1) whole in
+    let mixed_is : mixed ≡ mixed_parts (row_count params) (part_bytes params) (pbkdf2_sha256 password salt 1 (parts_bytes params)) =
     mixing ∙ (ap (λ k. mixed_parts k (2 * length halves) parts) n_is
-    ∙ (ap (λ k. mixed_parts (row_count cost) k parts) size ∙ ap (mixed_parts (row_count cost) (part_bytes cost)) (parts_derived ∙ derived_is))) in
+    ∙ (ap (λ k. mixed_parts (row_count params) k parts) size ∙ ap (mixed_parts (row_count params) (part_bytes params)) (parts_derived ∙ derived_is))) in
     let same_length : length mixed ≡ length (written_over zeros derived) = same_mixed ∙ ap length parts_are in
     let last_is : last ≡ mixed = lasting ∙ written_over-same (written_over zeros derived) mixed same_length in
     second ∙ ap (λ (s : List ℕ). pbkdf2_sha256 password s 1 count) (last_is ∙ mixed_is)
@@ -77,24 +77,24 @@ same_counts a b d y m t s =
     ∙ ap (λ n. record b { scratch = n }) s)))
 
 -- the digests of the two derivations, in closed form
-pub digests-are : (cost : ScryptCost) (password_length salt_length count first : ℕ) → first ≡ parts_bytes cost
-    → key_digests password_length + pbkdf2_digests 1 first + pbkdf2_digests 1 count ≡ (scrypt_work cost password_length salt_length count).digests
-digests-are cost password_length salt_length count first is =
-    let blocks : div_ceil first 32 ≡ 4 * (cost.r * cost.p) = ap (λ n. div_ceil n 32) is ∙ parts-blocks cost in
+pub digests-are : (params : ScryptParams) (password_length salt_length count first : ℕ) → first ≡ parts_bytes params
+    → key_digests password_length + pbkdf2_digests 1 first + pbkdf2_digests 1 count ≡ (scrypt_work params password_length salt_length count).digests
+digests-are params password_length salt_length count first is =
+    let blocks : div_ceil first 32 ≡ 4 * (params.r * params.p) = ap (λ n. div_ceil n 32) is ∙ parts-blocks params in
     omega (arith, blocks)
 
 -- and their bytes
-pub bytes-are : (cost : ScryptCost) (password_length salt_length count first last : ℕ) → first ≡ parts_bytes cost → last ≡ parts_bytes cost
+pub bytes-are : (params : ScryptParams) (password_length salt_length count first last : ℕ) → first ≡ parts_bytes params → last ≡ parts_bytes params
     → key_bytes password_length + pbkdf2_bytes salt_length 1 first + pbkdf2_bytes last 1 count
-    ≡ (scrypt_work cost password_length salt_length count).bytes
-bytes-are cost password_length salt_length count first last is last_is =
-    let blocks : div_ceil first 32 ≡ 4 * (cost.r * cost.p) = ap (λ n. div_ceil n 32) is ∙ parts-blocks cost in
-    let derived : pbkdf2_bytes salt_length 1 first ≡ 4 * (cost.r * cost.p) * tag_bytes (salt_length + 4) =
+    ≡ (scrypt_work params password_length salt_length count).bytes
+bytes-are params password_length salt_length count first last is last_is =
+    let blocks : div_ceil first 32 ≡ 4 * (params.r * params.p) = ap (λ n. div_ceil n 32) is ∙ parts-blocks params in
+    let derived : pbkdf2_bytes salt_length 1 first ≡ 4 * (params.r * params.p) * tag_bytes (salt_length + 4) =
     ap (λ n. n * block_bytes salt_length 1) blocks ∙ omega arith in
-    let answer : pbkdf2_bytes last 1 count ≡ div_ceil count 32 * tag_bytes (parts_bytes cost + 4) =
+    let answer : pbkdf2_bytes last 1 count ≡ div_ceil count 32 * tag_bytes (parts_bytes params + 4) =
     ap (λ n. div_ceil count 32 * block_bytes n 1) last_is ∙ omega arith in
     ap (λ n. key_bytes password_length + n + pbkdf2_bytes last 1 count) derived
-    ∙ ap (λ n. key_bytes password_length + 4 * (cost.r * cost.p) * tag_bytes (salt_length + 4) + n) answer
+    ∙ ap (λ n. key_bytes password_length + 4 * (params.r * params.p) * tag_bytes (salt_length + 4) + n) answer
 
 -- the counts where the third growth is refused
 pub after_two_growths : (m0 m1 m2 m3 : Work) (t s table parts : ℕ) → m1 ≡ record m0 { table = m0.table + t }

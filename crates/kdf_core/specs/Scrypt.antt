@@ -4,7 +4,7 @@ use Rattle.std.specs.Fn.{iterate}
 use Rattle.std.specs.List.{flat_map}
 use Rattle.prims_core.specs.BlockMix.{block_mix}
 use Rattle.prims_core.specs.Words.{words_of, bytes_of_words, little_number, xor_lists, chunks_exact}
-use Rattle.kdf_core.specs.Params.{ScryptCost, row_count}
+use Rattle.kdf_core.specs.Params.{ScryptParams, row_count}
 use Rattle.kdf_core.specs.Pbkdf2.{pbkdf2_sha256}
 
 -- integerify words: Integerify (X), the last 64-byte block of X as a little-endian number (section 5). The block is
@@ -21,21 +21,21 @@ mixed_back n start words = block_mix (xor_lists words (iterate block_mix (intege
 unfoldable pub romix : ℕ → List ℕ → List ℕ
 romix n start = iterate (mixed_back n start) n (iterate block_mix n start)
 
--- part_bytes cost: the number of bytes of a part, which is 2r blocks of 64 bytes.
-abbrev pub part_bytes : ScryptCost → ℕ
-part_bytes cost = 128 * cost.r
+-- part_bytes params: the number of bytes of a part, which is 2r blocks of 64 bytes.
+abbrev pub part_bytes : ScryptParams → ℕ
+part_bytes params = 128 * params.r
 
--- parts_bytes cost: the number of bytes of all p parts.
-abbrev pub parts_bytes : ScryptCost → ℕ
-parts_bytes cost = part_bytes cost * cost.p
+-- parts_bytes params: the number of bytes of all p parts.
+abbrev pub parts_bytes : ScryptParams → ℕ
+parts_bytes params = part_bytes params * params.p
 
 -- mixed_part n bytes: ROMix of a part, as bytes.
 unfoldable pub mixed_part : ℕ → List ℕ → List ℕ
 mixed_part n bytes = bytes_of_words (romix n (words_of bytes))
 
--- scrypt password salt cost count: scrypt (P, S, N, r, p, dkLen) with dkLen = count (section 6). B is PBKDF2 (P, S, 1,
+-- scrypt password salt params count: scrypt (P, S, N, r, p, dkLen) with dkLen = count (section 6). B is PBKDF2 (P, S, 1,
 -- 128rp), its p parts go through ROMix, and the result is PBKDF2 (P, B, 1, dkLen).
-unfoldable pub scrypt : List ℕ → List ℕ → ScryptCost → ℕ → List ℕ
-scrypt password salt cost count =
-    let derived = pbkdf2_sha256 password salt 1 (parts_bytes cost) in
-    pbkdf2_sha256 password (flat_map (mixed_part (row_count cost)) (chunks_exact derived (part_bytes cost))) 1 count
+unfoldable pub scrypt : List ℕ → List ℕ → ScryptParams → ℕ → List ℕ
+scrypt password salt params count =
+    let derived = pbkdf2_sha256 password salt 1 (parts_bytes params) in
+    pbkdf2_sha256 password (flat_map (mixed_part (row_count params)) (chunks_exact derived (part_bytes params))) 1 count

@@ -5,7 +5,7 @@ use Rattle.prims_core.specs.Words.{chunks_exact}
 use Rattle.prims_core.specs.Work.{raised_by}
 use Rattle.prims_core.specs.declared.meter.Work.{Work}
 use Rattle.kdf_core.specs.HmacMessages.{key_messages}
-use Rattle.kdf_core.specs.Params.{ScryptCost, row_count}
+use Rattle.kdf_core.specs.Params.{ScryptParams, row_count}
 use Rattle.kdf_core.specs.Pbkdf2.{pbkdf2_sha256}
 use Rattle.kdf_core.specs.Pbkdf2Messages.{pbkdf2_messages}
 use Rattle.kdf_core.specs.Scrypt.{mixed_part, part_bytes, parts_bytes}
@@ -15,15 +15,15 @@ use Rattle.kdf_core.specs.ScryptWork.{scrypt_work}
 unfoldable pub mixed_parts : ℕ → ℕ → List ℕ → List ℕ
 mixed_parts n size bytes = flat_map (mixed_part n) (chunks_exact bytes size)
 
--- scrypt_messages password salt cost count: the password if it is longer than a block of SHA-256, and then the messages
+-- scrypt_messages password salt params count: the password if it is longer than a block of SHA-256, and then the messages
 -- of both derivations.
-unfoldable pub scrypt_messages : List ℕ → List ℕ → ScryptCost → ℕ → List (List ℕ)
-scrypt_messages password salt cost count =
-    let derived = pbkdf2_sha256 password salt 1 (parts_bytes cost) in
-    key_messages password ++ pbkdf2_messages password salt 1 (parts_bytes cost)
-    ++ pbkdf2_messages password (mixed_parts (row_count cost) (part_bytes cost) derived) 1 count
+unfoldable pub scrypt_messages : List ℕ → List ℕ → ScryptParams → ℕ → List (List ℕ)
+scrypt_messages password salt params count =
+    let derived = pbkdf2_sha256 password salt 1 (parts_bytes params) in
+    key_messages password ++ pbkdf2_messages password salt 1 (parts_bytes params)
+    ++ pbkdf2_messages password (mixed_parts (row_count params) (part_bytes params) derived) 1 count
 
--- with_scrypt counts cost password_length salt_length count: the counts of a meter after scrypt.
-abbrev pub with_scrypt : Work → ScryptCost → ℕ → ℕ → ℕ → Work
-with_scrypt counts cost password_length salt_length count =
-    raised_by counts (scrypt_work cost password_length salt_length count)
+-- with_scrypt counts params password_length salt_length count: the counts of a meter after scrypt.
+abbrev pub with_scrypt : Work → ScryptParams → ℕ → ℕ → ℕ → Work
+with_scrypt counts params password_length salt_length count =
+    raised_by counts (scrypt_work params password_length salt_length count)

@@ -3,14 +3,14 @@ use Rattle.std.specs.Prelude.{◌≡◌, ℕ, ◌+◌, ◌*◌, ◌⊎◌}
 use Rattle.std.specs.Int.{div_ceil}
 use Rattle.prims_core.specs.declared.meter.Work.{Work}
 use Rattle.kdf_core.specs.Hmac.{sha256_length, key_digests, tag_bytes}
-use Rattle.kdf_core.specs.Params.{ScryptCost, row_count}
+use Rattle.kdf_core.specs.Params.{ScryptParams, row_count}
 use Rattle.kdf_core.specs.Scrypt.{part_bytes, parts_bytes}
 
--- table_bytes cost: the number of bytes of the one table, whose N rows are as long as a part.
-abbrev pub table_bytes : ScryptCost → ℕ
-table_bytes cost = row_count cost * part_bytes cost
+-- table_bytes params: the number of bytes of the one table, whose N rows are as long as a part.
+abbrev pub table_bytes : ScryptParams → ℕ
+table_bytes params = row_count params * part_bytes params
 
--- scrypt_work cost password_length salt_length count: all five counts, for a password and a salt of these lengths and a
+-- scrypt_work params password_length salt_length count: all five counts, for a password and a salt of these lengths and a
 -- result of count bytes.
 --   digests  two for each tag of 32 bytes, of all parts and of the result; one more for a password longer than a block
 --   bytes    that password, and the `tag_bytes` of each tag, whose text is a salt and the number of a block in 4 bytes.
@@ -18,24 +18,24 @@ table_bytes cost = row_count cost * part_bytes cost
 --   mixes    N to make the rows and N to mix with them, for each part
 --   table    the N rows
 --   scratch  all parts, and two halves in which a part is mixed
-abbrev pub scrypt_work : ScryptCost → ℕ → ℕ → ℕ → Work
-scrypt_work cost password_length salt_length count = record {
-  digests = 8 * (cost.r * cost.p) + 2 * div_ceil count sha256_length + key_digests password_length;
-  bytes = key_digests password_length * password_length + 4 * (cost.r * cost.p) * tag_bytes (salt_length + 4)
-      + div_ceil count sha256_length * tag_bytes (parts_bytes cost + 4);
-  mixes = 2 * row_count cost * cost.p;
-  table = table_bytes cost;
-  scratch = parts_bytes cost + 2 * part_bytes cost;
+abbrev pub scrypt_work : ScryptParams → ℕ → ℕ → ℕ → Work
+scrypt_work params password_length salt_length count = record {
+  digests = 8 * (params.r * params.p) + 2 * div_ceil count sha256_length + key_digests password_length;
+  bytes = key_digests password_length * password_length + 4 * (params.r * params.p) * tag_bytes (salt_length + 4)
+      + div_ceil count sha256_length * tag_bytes (parts_bytes params + 4);
+  mixes = 2 * row_count params * params.p;
+  table = table_bytes params;
+  scratch = parts_bytes params + 2 * part_bytes params;
 }
 
--- mixed_bytes cost: the number of mixed bytes, one part in each mixing.
-abbrev pub mixed_bytes : ScryptCost → ℕ
-mixed_bytes cost = 2 * row_count cost * cost.p * part_bytes cost
+-- mixed_bytes params: the number of mixed bytes, one part in each mixing.
+abbrev pub mixed_bytes : ScryptParams → ℕ
+mixed_bytes params = 2 * row_count params * params.p * part_bytes params
 
--- IsAfterRefusal before cost after: these are the counts after scrypt failed to allocate the table, the parts, or the
+-- IsAfterRefusal before params after: these are the counts after scrypt failed to allocate the table, the parts, or the
 -- halves. They include each allocation before the failed one.
-abbrev pub IsAfterRefusal : Work → ScryptCost → Work → Type 0
-IsAfterRefusal before cost after =
+abbrev pub IsAfterRefusal : Work → ScryptParams → Work → Type 0
+IsAfterRefusal before params after =
     (after ≡ before)
-    ⊎ ((after ≡ record before { table = before.table + table_bytes cost })
-    ⊎ (after ≡ record before { table = before.table + table_bytes cost; scratch = before.scratch + parts_bytes cost }))
+    ⊎ ((after ≡ record before { table = before.table + table_bytes params })
+    ⊎ (after ≡ record before { table = before.table + table_bytes params; scratch = before.scratch + parts_bytes params }))

@@ -3,7 +3,7 @@
 //! The invariant of [`Params`] says that they are in range and within the ceiling, so their memory is bounded.
 
 ghost use Rattle.std.specs.Prelude.{◌≡◌, ◌↔◌, ◌≤◌, IfOk, IsOk, IsTrue};
-ghost use Rattle.kdf_core.specs.Params.{cost_of, product, row_count, IsInRange, IsWithinCeiling, IsAccepted, IsBounded};
+ghost use Rattle.kdf_core.specs.Params.{scrypt_params, product, row_count, IsInRange, IsWithinCeiling, IsAccepted, IsBounded};
 
 use std::marker::Model;
 use thiserror::Error;
@@ -44,9 +44,9 @@ pub struct Params {
 }
 
 impl Model for Params {
-    ghost use Rattle.kdf_core.specs.Params.{ScryptCost, IsAccepted};
+    ghost use Rattle.kdf_core.specs.Params.{ScryptParams, IsAccepted};
 
-    ghost Value = { ScryptCost };
+    ghost Value = { ScryptParams };
 
     ghost view = { λ a. record { log_n = a.log_n; r = a.r; p = a.p } };
 
@@ -65,12 +65,12 @@ impl Params {
     /// - `Range`: `log_n`, `r` or `p` is 0, or `log_n` is `16 * r` or more.
     /// - `AboveCeiling`: `N * r * p` is above 8388608.
     pub fn new(log_n: u8, r: u32, p: u32) -> Result<Params, ParamFault>
-        ensures numbers { IfOk result (λ params. params ≡ cost_of log_n r p) }
+        ensures numbers { IfOk result (λ params. params ≡ scrypt_params log_n r p) }
 
-        ensures accepted { IsOk result ↔ IsAccepted (cost_of log_n r p) }
-        ensures range { (result ≡ Err ParamFault.Range) ↔ ¬ IsInRange (cost_of log_n r p) }
+        ensures accepted { IsOk result ↔ IsAccepted (scrypt_params log_n r p) }
+        ensures range { (result ≡ Err ParamFault.Range) ↔ ¬ IsInRange (scrypt_params log_n r p) }
         ensures ceiling { (result ≡ Err ParamFault.AboveCeiling)
-            ↔ (IsInRange (cost_of log_n r p) × ¬ IsWithinCeiling (cost_of log_n r p)) }
+            ↔ (IsInRange (scrypt_params log_n r p) × ¬ IsWithinCeiling (scrypt_params log_n r p)) }
     {
         if !is_in_range(log_n, r, p) {
             return Err(ParamFault::Range);
@@ -124,7 +124,7 @@ impl Params {
 
 // Returns whether none of the three is 0 and log2 N is below 16 r.
 fn is_in_range(log_n: u8, r: u32, p: u32) -> bool
-    ensures { IsTrue result ↔ IsInRange (cost_of log_n r p) }
+    ensures { IsTrue result ↔ IsInRange (scrypt_params log_n r p) }
 {
     log_n > 0 && r > 0 && p > 0 && u64::from(log_n) < 16 * u64::from(r)
 }
@@ -132,8 +132,8 @@ fn is_in_range(log_n: u8, r: u32, p: u32) -> bool
 // Returns whether `2^log_n * r * p` is at most 2^23. The product of any `r` and `p` has at most 64 bits. It is compared
 // with the ceiling divided by N, so that nothing overflows.
 fn is_within_ceiling(log_n: u8, r: u32, p: u32) -> bool
-    requires in_range { IsInRange (cost_of log_n r p) }
-    ensures { IsTrue result ↔ IsWithinCeiling (cost_of log_n r p) }
+    requires in_range { IsInRange (scrypt_params log_n r p) }
+    ensures { IsTrue result ↔ IsWithinCeiling (scrypt_params log_n r p) }
 {
     // From N = 2^24 on, N alone is above the ceiling.
     log_n < 24 && u64::from(r) * u64::from(p) <= CEILING >> log_n

@@ -8,9 +8,10 @@ ghost use Rattle.std.specs.Prelude.{◌≡◌, ℕ, ◌+◌, ◌-◌, ◌*◌, �
 ghost use Rattle.std.specs.Fn.{iterate};
 ghost use Rattle.prims_core.specs.BlockMix.{block_mix};
 ghost use Rattle.prims_core.specs.Diagonals.{in_rows};
+ghost use Rattle.prims_core.specs.Memory.{HasShape, HoldsMixings};
 ghost use Rattle.prims_core.specs.Meter.{HaveCountAndSum, HasRoom};
 ghost use Rattle.kdf_core.specs.Params.{IsBounded};
-ghost use Rattle.kdf_core.specs.Private.Mixing.{HasShape, HoldsMixings, AreHalves, IsPower, part_words};
+ghost use Rattle.kdf_core.specs.Private.Mixing.{AreHalves, IsPower, part_words};
 ghost use Rattle.kdf_core.specs.Scrypt.{scrypt, integerify, mixed_back, mixed_part};
 ghost use Rattle.kdf_core.specs.ScryptMessages.{mixed_parts, scrypt_messages, with_scrypt};
 ghost use Rattle.kdf_core.specs.ScryptWork.{scrypt_work, IsAfterRefusal};
@@ -131,28 +132,10 @@ fn mix_part(part: &mut [u8], rows: usize, table: &mut Table, halves: &mut [u32],
     let (x, y) = halves.split_at_mut(part_words);
     load_words(part, x);
     to_diagonals(x);
-    fill_table(table, rows, x, y, meter);
+    table.fill_by_mixing(x, y, meter);
     mix_with_rows(table, rows, x, y, meter);
     from_diagonals(x);
     store_words(x, part);
-}
-
-// Begins with the part in `x`, RFC 7914's B. Writes it after 0, 1, .. N - 1 mixings to the rows, and after N mixings to
-// `x`. Each mixing goes from one half to the other; N is even, so the last one writes to `x`.
-fn fill_table(table: &mut Table, rows: usize, x: &mut [u32], y: &mut [u32], meter: &mut Meter)
-    requires power { (k : ℕ) × IsPower rows k }
-    requires halves { (r : ℕ) × AreHalves r x.old y.old }
-    requires shape { HasShape table.old rows (length x.old) }
-    requires room { meter.old.mixes + rows < 2 ^ 128 }
-    ensures shape { HasShape table.new rows (length x.old) }
-    ensures rows { HoldsMixings table.new rows (in_rows x.old) }
-    ensures mixed { in_rows x.new ≡ iterate block_mix rows (in_rows x.old) }
-    ensures count { meter.new ≡ record meter.old { mixes = meter.old.mixes + rows } }
-{
-    'filling: for i in 0..rows / 2 {
-        table.set_row_and_mix(2 * i, x, y, meter);
-        table.set_row_and_mix(2 * i + 1, y, x, meter);
-    }
 }
 
 // Makes the N steps of ROMix's second loop from `x` on. They write to `y` and to `x` in turn, so that no block is

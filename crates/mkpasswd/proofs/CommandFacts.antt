@@ -5,7 +5,7 @@ use Rattle.clap.specs.Simple.{is_ready, is_ready_leaf}
 use Rattle.clap.specs.Words.{Row, Text, fault_of, first_of, is_simple, is_simple_and_free, matches_of, takes}
 use Rattle.clap.specs.declared.builder.value_parser.ValueParser.{ValueParser}
 use Rattle.clap.proofs.OnLiterals.{clap_on_literals}
-use Rattle.mkpasswd.specs.Options.{command, command_rules, cost_of, given_salt, is_set, mode_count, number_in, type_of}
+use Rattle.mkpasswd.specs.Options.{command, command_rules, rounds_of, given_salt, is_set, mode_count, number_in, type_of}
 use Rattle.mkpasswd.specs.Private.Options.{parser_by_id}
 use Rattle.mkpasswd.proofs.PassedValues.{all_free, have_own_ids}
 
@@ -56,7 +56,7 @@ no_fault = refl
 -- what they give
 abbrev HasArguments : List Row → Type 0
 HasArguments rows =
-    (type_of rows ≡ codes "md5") × (given_salt rows ≡ Some (codes "ab")) × (cost_of rows ≡ 7) × (number_in (codes "budget") rows ≡ Some 36)
+    (type_of rows ≡ codes "md5") × (given_salt rows ≡ Some (codes "ab")) × (rounds_of rows ≡ 7) × (number_in (codes "budget") rows ≡ Some 36)
     × (is_set (codes "check") rows ≡ true) × (is_set (codes "rehash") rows ≡ true) × (is_set (codes "work") rows ≡ true)
     × (first_of (codes "password") rows ≡ Some (codes "x")) × (mode_count rows ≡ 2)
 
@@ -71,7 +71,7 @@ no_words_taken = refl
 -- and what no arguments give
 abbrev HasNoWords : List Row → Type 0
 HasNoWords rows =
-    (type_of rows ≡ codes "sha512crypt") × (given_salt rows ≡ None) × (cost_of rows ≡ 0) × (number_in (codes "budget") rows ≡ None)
+    (type_of rows ≡ codes "sha512crypt") × (given_salt rows ≡ None) × (rounds_of rows ≡ 0) × (number_in (codes "budget") rows ≡ None)
     × (is_set (codes "rehash") rows ≡ false) × (is_set (codes "work") rows ≡ false) × (mode_count rows ≡ 0)
 
 rows_of_no_words : HasNoWords (matches_of command [])

@@ -10,7 +10,7 @@ use Rattle.clap.specs.Walk.{Row, Walk, Waiting, finished, idle, nothing_held, op
 use Rattle.clap.specs.Words.{Shape, Text, fault_of, first_of, matches_of}
 use Rattle.clap.proofs.OnLiterals.{clap_on_literals}
 use Rattle.mkpasswd.specs.Corollaries.{IsNoOption, hash_arguments}
-use Rattle.mkpasswd.specs.Options.{command, cost_of, given_salt, is_set, mode_count, option_rule, type_of}
+use Rattle.mkpasswd.specs.Options.{command, rounds_of, given_salt, is_set, mode_count, option_rule, type_of}
 
 -- ---- a word that is no option
 
@@ -138,7 +138,7 @@ given_fault name salt password n s p =
 pub record IsGiven (name salt password : Text) (rows : List Row) : Type 0 where
   pub type : type_of rows ≡ name
   pub salt_is : given_salt rows ≡ Some salt
-  pub cost : cost_of rows ≡ 0
+  pub cost : rounds_of rows ≡ 0
   pub word : first_of (codes "password") rows ≡ Some password
   pub stdin : is_set (codes "stdin") rows ≡ false
   pub batch : is_set (codes "batch") rows ≡ false

@@ -67,9 +67,9 @@ number_in id rows = option_map (λ text. digits_value 10 (without_leading_plus t
 abbrev pub type_of : List Row → Text
 type_of rows = unwrap_or (first_of (codes "method") rows) (codes "sha512crypt")
 
--- The cost is the number of `-R`, and by default 0.
-abbrev pub cost_of : List Row → ℕ
-cost_of rows = unwrap_or (number_in (codes "rounds") rows) 0
+-- The rounds are the number of `-R`, and by default 0.
+abbrev pub rounds_of : List Row → ℕ
+rounds_of rows = unwrap_or (number_in (codes "rounds") rows) 0
 
 -- Lines are numbered from the number of `--first-line`, and by default from 1.
 abbrev pub first_line_of : List Row → ℕ
@@ -101,13 +101,13 @@ BreaksUsage rows UnknownMethod = method_named (type_of rows) ≡ None
 BreaksUsage rows TwoSalts = IsSome (first_of (codes "salt") rows) × IsSome (first_of (codes "salt-word") rows)
 BreaksUsage rows TwoModes = 1 < mode_count rows
 BreaksUsage rows (Make fault) =
-    (method : Method) × (method_named (type_of rows) ≡ Some method) × BreaksMake method (cost_of rows) (given_salt rows) fault
+    (method : Method) × (method_named (type_of rows) ≡ Some method) × BreaksMake method (rounds_of rows) (given_salt rows) fault
 BreaksUsage rows fault = ⊥
 
 -- The maker of settings has the method, the cost and the salt.
 abbrev pub IsMaker : List Row → Recipe → Type 0
 IsMaker rows maker = (method : Method) × (method_named (type_of rows) ≡ Some method)
-    × (maker ≡ record { scheme = made_scheme method (cost_of rows); salt = given_salt rows })
+    × (maker ≡ record { scheme = made_scheme method (rounds_of rows); salt = given_salt rows })
 
 -- The arguments ask for this job. `--rehash` asks for rehashes and `--work` for counts, and the budget is the number of
 -- `--budget`.

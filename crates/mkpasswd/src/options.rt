@@ -4,7 +4,7 @@ ghost use Rattle.std.specs.Prelude.{◌^◌, ◌≡◌, ◌≢◌, List, [], Non
 ghost use Rattle.clap.specs.Words.{app_of, fault_of, first_of, kind_of, matches_of, rule_of};
 ghost use Rattle.run_core.specs.Makers.{bytes_of};
 ghost use Rattle.crypt_core.specs.Methods.{method_named};
-ghost use Rattle.mkpasswd.specs.Options.{IsMaker, IsPlan, Plans, Refuses, command, cost_of, flag_rule, given_salt, is_set, number_in, option_rule, type_of, value_rule};
+ghost use Rattle.mkpasswd.specs.Options.{IsMaker, IsPlan, Plans, Refuses, command, rounds_of, flag_rule, given_salt, is_set, number_in, option_rule, type_of, value_rule};
 ghost use Rattle.mkpasswd.specs.Private.Options.{ChecksRule, HasRule, IsNumber};
 
 use crate::fault::UsageFault;

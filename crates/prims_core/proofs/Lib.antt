@@ -1,6 +1,7 @@
 pub mod AlphabetFacts
 pub mod ChunkFacts
 pub mod DiagonalFacts
+pub mod FillFacts
 pub mod InRowsFacts
 pub mod LaneFacts
 pub mod MatrixFacts

@@ -1,10 +1,10 @@
 -- Block mixing: X from block to block, blocks that are written, and the order of the results.
-use Rattle.std.proofs.Common.{◌≡◌, ℕ, ◌+◌, ◌-◌, ◌*◌, ◌/◌, ◌%◌, ◌<◌, ◌≤◌, ◌⊎◌, inl, inr, List, [], ◌++◌, length, take, drop, map, refl, sym, ◌∙◌, ap, ap₂, add-one, arith, append_assoc, length-take, length-drop}
+use Rattle.std.proofs.Common.{◌≡◌, ℕ, ◌+◌, ◌-◌, ◌*◌, ◌/◌, ◌%◌, ◌<◌, ◌⊎◌, inl, inr, List, [], ◌++◌, length, take, map, refl, sym, ◌∙◌, ap, add-one, arith}
 use borrow.Rule.Slice.PartMut.{put_mid}
 use Rattle.std.specs.List.{concat, range_with_len}
 use Rattle.std.proofs.lemmas.Bool.{cases_lt}
 use Rattle.std.proofs.lemmas.List.FromFn.{get_or-map-range_with_len, length-map-range_with_len}
-use Rattle.std.proofs.lemmas.List.{get_or_append_left, get_or-append_right, length-append, take_at}
+use Rattle.std.proofs.lemmas.List.{get_or_append_left, get_or-append_right, length-append}
 use Rattle.std.proofs.Math.Seq.{take-add}
 use Rattle.prims_core.specs.Private.Mixing.{mixed_block, place_of, ArePlaced}
 use Rattle.prims_core.specs.BlockMix.{block_at, x_after}
@@ -80,14 +80,3 @@ pub block_more : (i : ℕ) (src : List ℕ) → take (16 * i) src ++ block_at i 
 block_more i src =
     let more : 16 * (i + 1) ≡ 16 * i + 16 = omega arith in
     rw more (sym (take-add (16 * i) 16 src))
-
--- a copy of so many blocks, and of the next one, which is written over a part of it
-pub copied_more : (i width : ℕ) (src copy block : List ℕ) → 16 * i + 16 ≤ length src → 16 * i + 16 ≤ length copy → width ≡ 16
-    → block ≡ block_at i src → take (16 * i) copy ≡ take (16 * i) src
-    → take (16 * (i + 1)) (put_mid (16 * i) width copy block) ≡ take (16 * (i + 1)) src
-copied_more i width src copy block inside fits sixteen is before =
-    let long : length (take (16 * i) copy ++ block) ≡ 16 * (i + 1) =
-    simp (length-append, length-take, is, length-drop) (omega (arith, inside, fits)) in
-    ap (take (16 * (i + 1))) (sym (append_assoc (take (16 * i) copy) block (drop width (drop (16 * i) copy))))
-    ∙ take_at (take (16 * i) copy ++ block) (drop width (drop (16 * i) copy)) (16 * (i + 1)) long
-    ∙ ap₂ (λ (done next : List ℕ). done ++ next) before is ∙ block_more i src

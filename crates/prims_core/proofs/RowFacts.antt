@@ -22,6 +22,9 @@ get_or-rows_of (suc n) w xs (suc i) d inside =
     get_or-rows_of n w (drop w xs) i d (omega arith)
     ∙ ap (take w) (drop-drop (i * w) w xs ∙ ap (λ (k : ℕ). drop k xs) (omega (arith, suc-mul i w)))
 
+pub row_count : (n w : ℕ) (xs : List ℕ) (table : List (List ℕ)) → rows_of n w xs ≡ table → length table ≡ n
+row_count n w xs table is = sym (ap length is) ∙ length-rows_of n w xs
+
 -- a place in the table is that of a row, which ends within the list
 pub row_inside : (n w : ℕ) (xs : List ℕ) (table : List (List ℕ)) (i : ℕ) → rows_of n w xs ≡ table
     → i < length table → i < n
@@ -193,27 +196,5 @@ row_written n w xs table i size items row is inside written within counted long 
       drop-drop w (i * w) (padded (n * w) xs),
       rows_of-written n w i (padded (n * w) xs) row (row_inside n w (padded (n * w) xs) table i is inside) long
           (omega (arith, length-padded (n * w) xs within)),
-    )
-    (ap (λ (rows : List (List ℕ)). set rows i row) is)
-
--- that row as appending it to the rows before it leaves it
-pub row_appended : (n w : ℕ) (xs : List ℕ) (table : List (List ℕ)) (i : ℕ) (row : List ℕ)
-    → rows_of n w (padded (n * w) xs) ≡ table → i < length table → length xs ≡ i * w → length row ≡ w
-    → rows_of n w (padded (n * w) (xs ++ row)) ≡ set table i row
-row_appended n w xs table i row is inside reached long =
-    let all : List ℕ = padded (n * w) xs in
-    let zeros : List ℕ = replicate (n * w - length xs) zero in
-    let ends : i * w + w ≤ n * w = row_end n w all table i is inside in
-    let place : i * w + w ≡ length xs + w = omega (arith, reached) in
-    let front : take (i * w) all ≡ xs = take_at xs zeros (i * w) reached in
-    let behind : drop (i * w + w) all ≡ replicate (n * w - length xs - w) zero =
-    ap (λ (k : ℕ). drop k all) place ∙ drop-append-add xs zeros w ∙ drop-replicate w (n * w - length xs) zero in
-    let whole : padded (n * w) (xs ++ row) ≡ take (i * w) all ++ (row ++ drop (i * w + w) all) =
-    rw (append_assoc xs row (replicate (n * w - length (xs ++ row)) zero), front, behind)
-    (ap (λ (k : ℕ). xs ++ (row ++ replicate k zero)) (omega (arith, length-append xs row, long, reached))) in
-    rw (
-      whole,
-      rows_of-written n w i all row (row_inside n w all table i is inside) long
-          (omega (arith, length-padded (n * w) xs (omega (arith, reached, ends)))),
     )
     (ap (λ (rows : List (List ℕ)). set rows i row) is)

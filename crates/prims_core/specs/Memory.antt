@@ -1,6 +1,9 @@
--- The memory of scrypt: how a table lies in one list, and what is lent of a scratch.
-use Rattle.std.specs.Prelude.{◌≡◌, ℕ, zero, suc, ◌-◌, ◌*◌, ◌<◌, ◌≤◌, List, [], ◌∷◌, ◌++◌, length, take, drop, replicate}
+-- The memory of scrypt: how a table lies in one list and what it holds, and what is lent of a scratch.
+use Rattle.std.specs.Prelude.{◌≡◌, ℕ, zero, suc, ◌-◌, ◌*◌, ◌<◌, ◌≤◌, List, [], ◌∷◌, ◌++◌, length, take, drop, replicate, slice_index_or}
+use Rattle.std.specs.Fn.{iterate}
 use Rattle.std.specs.Borrow.{Lends, MutBor, Fml, Array, u8, u32}
+use Rattle.prims_core.specs.BlockMix.{block_mix}
+use Rattle.prims_core.specs.Diagonals.{in_rows}
 use Rattle.prims_core.specs.contracts.scratch.ByteScratch as bytes
 use Rattle.prims_core.specs.contracts.scratch.WordScratch as words
 
@@ -20,6 +23,16 @@ pub record IsLaidOut (rows row_words size room : ℕ) : Type 0 where
   pub inside : size ≤ rows * row_words
   pub fits : rows * row_words ≤ room
   pub short : size < rows * row_words → row_words ≤ 1024
+
+-- HasShape table rows words: the table has this number of rows, and each row this number of words.
+pub record HasShape (table : List (List ℕ)) (rows words : ℕ) : Type 0 where
+  pub row_count : length table ≡ rows
+  pub row_words : (i : ℕ) → i < rows → length (slice_index_or table i []) ≡ words
+
+-- HoldsMixings table count start: row i, diagonal by diagonal, holds `start` after i mixings, for each of the first count
+-- rows.
+abbrev pub HoldsMixings : List (List ℕ) → ℕ → List ℕ → Type 0
+HoldsMixings table count start = (i : ℕ) → i < count → in_rows (slice_index_or table i []) ≡ iterate block_mix i start
 
 -- written_over old new: a list with new items in place of the old ones, as many as there were, since a slice keeps its
 -- length.

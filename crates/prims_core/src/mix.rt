@@ -7,7 +7,7 @@
 //! During the whole of ROMix a block's words stand diagonal by diagonal, as Salsa20/8 in lanes takes them:
 //! words 0, 5, 10, 15, then 4, 9, 14, 3, then 8, 13, 2, 7, then 12, 1, 6, 11. So no mixing has to rearrange
 //! any. [`to_diagonals`] and [`from_diagonals`] convert blocks before and after it. ROMix's first loop copies blocks to
-//! the table while it mixes them ([`Table::set_row_and_mix`](crate::table::Table::set_row_and_mix)): rows that are
+//! the table while it mixes them ([`Table::fill_by_mixing`](crate::table::Table::fill_by_mixing)): rows that are
 //! written before that keep the processor waiting for memory.
 
 ghost use Rattle.std.specs.Prelude.{◌≡◌, ℕ, ◌+◌, ◌*◌, ◌%◌, ◌^◌, ◌<◌, ◌≤◌, List, ◌++◌, length, vec_len, vec_capacity};
@@ -41,43 +41,20 @@ pub fn block_mix(src: &[u32], dst: &mut [u32], meter: &mut Meter)
     meter.count_mix();
 }
 
-/// Mixes the 2r blocks of `src` into `dst`, where both stand diagonal by diagonal (RFC 7914, section 4), makes `copy` a
-/// copy of `src`, and counts one mixing.
-///
-/// Preconditions: all three have the 32r words of 2r blocks, for one r of at least 1, and the meter has room.
-pub(crate) fn mix_and_copy(src: &[u32], dst: &mut [u32], copy: &mut [u32], meter: &mut Meter)
-    requires blocks { (r : ℕ) × (1 ≤ r) × (length src.now ≡ 32 * r) × (length dst.old ≡ 32 * r)
-        × (length copy.old ≡ 32 * r) }
-    requires room { meter.old.mixes + 1 < 2 ^ 128 }
-    ensures mixed { in_rows dst.new ≡ block_mix (in_rows src.now) }
-    ensures copied { copy.new ≡ src.now }
-    ensures count { meter.new ≡ record meter.old { mixes = meter.old.mixes + 1 } }
-{
-    let r = src.len() / (2 * BLOCK_WORDS);
-    let mut x = block_on_diagonals(src, 2 * r - 1);
-    'mixing: for i in 0..2 * r {
-        x = mixed_block(&x, &block_on_diagonals(src, i));
-        copy_block(
-            block_words(src, i),
-            &mut copy[BLOCK_WORDS * i..BLOCK_WORDS * i + BLOCK_WORDS],
-        );
-        put_result(&x, dst, i, r);
-    }
-    meter.count_mix();
-}
-
 /// Mixes the 2r blocks of `src` into `dst`, where both stand diagonal by diagonal (RFC 7914, section 4), appends `src` to
 /// `copies`, and counts one mixing.
 ///
 /// Preconditions: both have the 32r words of 2r blocks, for one r of at least 1, `copies` has room for 32r words more,
 /// and the meter has room.
+// It is inlined so that the length of `copies` stays in a register.
+#[inline(always)]
 pub(crate) fn mix_and_append(src: &[u32], dst: &mut [u32], copies: &mut Vec<u32>, meter: &mut Meter)
     requires blocks { (r : ℕ) × (1 ≤ r) × (length src.now ≡ 32 * r) × (length dst.old ≡ 32 * r) }
     requires fits { vec_len copies.old + length src.now ≤ vec_capacity copies.old }
     requires room { meter.old.mixes + 1 < 2 ^ 128 }
     ensures mixed { in_rows dst.new ≡ block_mix (in_rows src.now) }
     ensures copied { copies.new.items ≡ copies.old.items ++ src.now }
-    ensures kept { vec_capacity copies.old ≤ vec_capacity copies.new }
+    ensures kept { vec_capacity copies.new ≡ vec_capacity copies.old }
     ensures count { meter.new ≡ record meter.old { mixes = meter.old.mixes + 1 } }
 {
     let r = src.len() / (2 * BLOCK_WORDS);
@@ -197,23 +174,18 @@ fn block_words(words: &[u32], i: usize) -> &[u32]
     &words[BLOCK_WORDS * i..BLOCK_WORDS * i + BLOCK_WORDS]
 }
 
-// Copies a block as one vector, as it is read for the mixing: so it is read once.
-#[inline(always)]
-fn copy_block(block: &[u32], copy: &mut [u32])
-    requires { (length block.now ≡ 16) × (length copy.old ≡ 16) }
-    ensures { copy.new ≡ block.now }
-{
-    u32x16::from_slice(block).copy_to_slice(copy);
-}
-
-// Appends a block.
+// Appends a block. It is read as one vector, as for the mixing: so it is read once. Since there is room, nothing is
+// tested, and the loop of a mixing has no branch.
 #[inline(always)]
 fn append_block(block: &[u32], copies: &mut Vec<u32>)
-    requires fits { vec_len copies.old + length block.now ≤ vec_capacity copies.old }
+    requires whole { length block.now ≡ 16 }
+    requires fits { vec_len copies.old + 16 ≤ vec_capacity copies.old }
     ensures appended { copies.new.items ≡ copies.old.items ++ block.now }
-    ensures kept { vec_capacity copies.old ≤ vec_capacity copies.new }
+    ensures kept { vec_capacity copies.new ≡ vec_capacity copies.old }
 {
-    copies.extend_from_slice(block).unwrap();
+    'appending: for word in u32x16::from_slice(block).to_array() {
+        copies.push_reserved(word);
+    }
 }
 
 // Mixes 2r blocks, and writes the results to `dst` diagonal by diagonal.

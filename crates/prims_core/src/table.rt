@@ -4,12 +4,14 @@
 //! size. The vector holds whole rows. Rows of at most 1,024 words behind the last one that was set are not written yet
 //! and are read as zeros: writing these first would take as long as wiping them.
 
-ghost use Rattle.std.specs.Prelude.{◌≡◌, ℕ, ◌+◌, ◌-◌, ◌*◌, ◌^◌, ◌<◌, ◌≤◌, [], ◌++◌, length, replicate, slice_index_or, slice_set, vec_len, vec_capacity, IfOk, OnOk, OnErr};
+ghost use Rattle.std.specs.Prelude.{◌≡◌, ℕ, ◌+◌, ◌-◌, ◌*◌, ◌%◌, ◌^◌, ◌<◌, ◌≤◌, [], ◌++◌, length, replicate, slice_index_or, slice_set, vec_len, vec_capacity, IfOk, OnOk, OnErr};
+ghost use Rattle.std.specs.Fn.{iterate};
 ghost use Rattle.prims_core.specs.BlockMix.{block_mix};
 ghost use Rattle.prims_core.specs.Diagonals.{in_rows};
+ghost use Rattle.prims_core.specs.Memory.{HasShape, HoldsMixings};
 
 use crate::meter::Meter;
-use crate::mix::{mix_and_append, mix_and_copy};
+use crate::mix::mix_and_append;
 use std::alloc::{AllocError, Global};
 use std::marker::Model;
 use std::mem::size_of;
@@ -101,28 +103,27 @@ impl Table {
         self.words[start..end].copy_from_slice(row);
     }
 
-    /// Makes row `i` a copy of `row`, mixes the blocks of `row` into `mixed`, where both stand diagonal by diagonal
-    /// (scryptBlockMix of RFC 7914, section 4), and counts that mixing. The other rows stay.
+    /// Fills all rows anew, as the first loop of scryptROMix does (RFC 7914, section 5): row `i` becomes `x` after `i`
+    /// mixings, and `x` is mixed as often as there are rows, which is counted. In `x` and the rows blocks stand diagonal
+    /// by diagonal. The mixings go from `x` to `y` and back in turn.
     ///
-    /// Preconditions: `i` is below the number of rows, `row` has the length of a row, `row` and `mixed` have the 32r
-    /// words of 2r blocks, for one r of at least 1, and the meter has room.
-    #[tactic(auto, using(crate::proofs::RowFacts::row_end))]
-    pub fn set_row_and_mix(&mut self, i: usize, row: &[u32], mixed: &mut [u32], meter: &mut Meter)
-        requires inside { i < length self.old }
-        requires same_length { length row.now ≡ length (slice_index_or self.old i []) }
-        requires blocks { (r : ℕ) × (1 ≤ r) × (length row.now ≡ 32 * r) × (length mixed.old ≡ 32 * r) }
-        requires room { meter.old.mixes + 1 < 2 ^ 128 }
-        ensures row { self.new ≡ slice_set self.old i row.now }
-        ensures mixed { in_rows mixed.new ≡ block_mix (in_rows row.now) }
-        ensures count { meter.new ≡ record meter.old { mixes = meter.old.mixes + 1 } }
+    /// Preconditions: the number of rows is even and not 0, `x` and `y` have the length of a row, which is the 32r words
+    /// of 2r blocks, for one r of at least 1, and the meter has room.
+    #[tactic(auto, using(crate::proofs::RowFacts::row_count))]
+    pub fn fill_by_mixing(&mut self, x: &mut [u32], y: &mut [u32], meter: &mut Meter)
+        requires even { (1 ≤ length self.old) × (length self.old % 2 ≡ 0) }
+        requires blocks { (r : ℕ) × (1 ≤ r) × (length x.old ≡ 32 * r) × (length y.old ≡ 32 * r) }
+        requires shape { HasShape self.old (length self.old) (length x.old) }
+        requires room { meter.old.mixes + length self.old < 2 ^ 128 }
+        ensures shape { HasShape self.new (length self.old) (length x.old) }
+        ensures rows { HoldsMixings self.new (length self.old) (in_rows x.old) }
+        ensures mixed { in_rows x.new ≡ iterate block_mix (length self.old) (in_rows x.old) }
+        ensures count { meter.new ≡ record meter.old { mixes = meter.old.mixes + length self.old } }
     {
-        let start = i * self.row_words;
-        let end = start + self.row_words;
-        if end <= self.words.len() {
-            mix_and_copy(row, mixed, &mut self.words[start..end], meter);
-        } else {
-            fill(&mut self.words, start);
-            mix_and_append(row, mixed, &mut self.words, meter);
+        self.words.clear();
+        'filling: for _ in 0..self.rows / 2 {
+            mix_and_append(x, y, &mut self.words, meter);
+            mix_and_append(y, x, &mut self.words, meter);
         }
     }
 }
@@ -143,7 +144,7 @@ fn fill(words: &mut Vec<u32>, len: usize)
 mod tests {
     use super::*;
     use crate::mix::tests::{BLOCKS, MIXED, counts};
-    use crate::mix::to_diagonals;
+    use crate::mix::{block_mix, to_diagonals};
     use crate::words::load_words;
     use std::test::Fail;
 
@@ -178,39 +179,39 @@ mod tests {
     }
 
     #[test]
-    fn sets_a_row_and_mixes_it(rt: HostRuntime) -> Result<(), Fail> {
-        let (mut words, mut expected) = ([0; 32], [0; 32]);
-        load_words(&BLOCKS, &mut words);
-        to_diagonals(&mut words);
-        load_words(&MIXED, &mut expected);
-        to_diagonals(&mut expected);
+    fn fills_by_mixing(rt: HostRuntime) -> Result<(), Fail> {
+        let (mut first, mut second) = ([0; 32], [0; 32]);
+        load_words(&BLOCKS, &mut first);
+        load_words(&MIXED, &mut second);
+        let mut third = [0; 32];
+        block_mix(&second, &mut third, &mut Meter::new());
+        to_diagonals(&mut first);
+        to_diagonals(&mut second);
+        to_diagonals(&mut third);
         let mut meter = Meter::new();
-        let mut table = Table::new(rt.alloc(), 3, 32, &mut meter)?;
-        let (zeros, mut mixed, mut other) = ([0; 32], [7; 32], [7; 32]);
-        table.set_row_and_mix(1, &words, &mut mixed, &mut meter);
+        let mut table = Table::new(rt.alloc(), 2, 32, &mut meter)?;
+        let (mut x, mut y) = (first, [7; 32]);
+        table.fill_by_mixing(&mut x, &mut y, &mut meter);
         assert_eq!(rt;
-            (table.row(0), table.row(1), table.row(2), mixed.as_slice()),
-            (
-                zeros.as_slice(),
-                words.as_slice(),
-                zeros.as_slice(),
-                expected.as_slice()
-            ),
-            "RFC 7914, section 9, with a row that nobody had set"
+            (table.row(0), table.row(1), x),
+            (first.as_slice(), second.as_slice(), third),
+            "RFC 7914, section 9"
         );
-        table.set_row_and_mix(1, &mixed, &mut other, &mut meter);
-        table.set_row_and_mix(0, &words, &mut mixed, &mut meter);
+        table.set_row(1, &third);
+        let mut x = second;
+        table.fill_by_mixing(&mut x, &mut y, &mut meter);
         assert_eq!(rt;
-            (table.row(0), table.row(1), table.row(2), mixed.as_slice()),
-            (
-                words.as_slice(),
-                expected.as_slice(),
-                zeros.as_slice(),
-                expected.as_slice()
-            ),
-            "with rows that are written already"
+            (table.row(0), table.row(1)),
+            (second.as_slice(), third.as_slice()),
+            "filled already, and with a row that was set"
         );
-        assert_eq!(rt; counts(&meter), [0, 0, 3, 384, 0]);
+        table.set_row(0, &first);
+        assert_eq!(rt;
+            (table.row(0), table.row(1)),
+            (first.as_slice(), third.as_slice()),
+            "a row that is set then"
+        );
+        assert_eq!(rt; counts(&meter), [0, 0, 4, 256, 0]);
         Ok(())
     }
 

@@ -2,7 +2,7 @@
 use Rattle.std.specs.Prelude.{◌≡◌, ℕ, ◌^◌, ◌<◌, ◌≤◌, min, List, ◌∷◌, ◌++◌, length, take, All, Contains}
 use Rattle.std.specs.Str.Parse.{digits_value}
 use Rattle.prims_core.specs.Alphabet.{alphabet}
-use Rattle.kdf_core.specs.Params.{ScryptCost}
+use Rattle.kdf_core.specs.Params.{ScryptParams}
 use Rattle.crypt_core.specs.declared.method.Method.{Method}
 use Rattle.crypt_core.specs.declared.method.Method.TheVariants as methods
 use Rattle.crypt_core.specs.MethodLimits.{salt_limit}
@@ -36,11 +36,11 @@ abbrev pub LacksRounds : List ℕ → Type 0
 LacksRounds after = (field : List ℕ) × (after ≡ rounds_word ++ field) × LacksNumber field
 
 -- HasNumerals cost: the characters of scrypt's cost part can express its numbers.
-abbrev pub HasNumerals : ScryptCost → Type 0
+abbrev pub HasNumerals : ScryptParams → Type 0
 HasNumerals cost = (cost.log_n < 64) × (cost.r < 2 ^ 30) × (cost.p < 2 ^ 30)
 
 -- HasNumbers after cost: `after` begins with scrypt's cost part for this cost.
-abbrev pub HasNumbers : List ℕ → ScryptCost → Type 0
+abbrev pub HasNumbers : List ℕ → ScryptParams → Type 0
 HasNumbers after cost = (rest : List ℕ) × (after ≡ scrypt_part cost ++ rest) × HasNumerals cost
 
 -- LacksCharacters after: it begins with fewer characters of crypt's alphabet than scrypt's cost part has.

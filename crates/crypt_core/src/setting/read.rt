@@ -5,7 +5,7 @@
 
 ghost use Rattle.std.specs.Prelude.{◌≡◌, ◌≤◌, ◌↔◌, ℕ, List, length, ◌++◌, min, take, IsTrue, IfOk, IfErr, OnOk, OnSome, IfSome, IfNone};
 ghost use Rattle.std.specs.Str.Parse.{digits_value};
-ghost use Rattle.kdf_core.specs.Params.{cost_of, IsAccepted};
+ghost use Rattle.kdf_core.specs.Params.{scrypt_params, IsAccepted};
 ghost use Rattle.crypt_core.specs.declared.setting.fault.SettingFault.{SettingFault as Refusal};
 ghost use Rattle.crypt_core.specs.MethodLimits.{prefix};
 ghost use Rattle.crypt_core.specs.Private.Parts.{AllRefused, HasField, HasNumber, HasNumbers, IsSettingText, LacksCharacters, LacksNumber, LacksSalt, SpellsSalt};
@@ -177,7 +177,7 @@ fn params_at(after: &[u8]) -> Result<Params, SettingFault>
 fn numbers_at(after: &[u8]) -> Option<(u8, u32, u32)>
     ensures none { IfNone result (LacksCharacters after.now) }
     ensures long { OnSome result (scrypt_part_len ≤ length after.now) }
-    ensures some { IfSome result (λ x. HasNumbers after.now (cost_of x.0 x.1 x.2)) }
+    ensures some { IfSome result (λ x. HasNumbers after.now (scrypt_params x.0 x.1 x.2)) }
 {
     if after.len() < COST_CHARACTERS {
         return None;

@@ -1,5 +1,5 @@
 use Rattle.std.proofs.Common.{◌≡◌, ◌+◌, ◌*◌, ◌/◌, length, take, drop}
-use Rattle.kdf_core.specs.Private.Mixing.{HasShape}
+use Rattle.prims_core.specs.Memory.{HasShape}
 use Rattle.kdf_core.proofs.ScryptLemmas.{first_parts}
 use Rattle.kdf_core.proofs.scrypt.mix_parts.Given as goal
 

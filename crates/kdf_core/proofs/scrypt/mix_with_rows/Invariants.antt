@@ -1,7 +1,7 @@
 use Rattle.std.proofs.Common.{◌≡◌, ℕ, ◌+◌, ◌*◌, List}
 use Rattle.std.specs.Fn.{iterate}
 use Rattle.prims_core.specs.Diagonals.{in_rows}
-use Rattle.kdf_core.specs.Private.Mixing.{HoldsMixings}
+use Rattle.prims_core.specs.Memory.{HoldsMixings}
 use Rattle.kdf_core.specs.Scrypt.{mixed_back}
 use Rattle.kdf_core.proofs.scrypt.mix_with_rows.Given as goal
 

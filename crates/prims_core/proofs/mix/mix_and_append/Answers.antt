@@ -1,4 +1,4 @@
-use Rattle.std.proofs.Common.{◌≡◌, ℕ, ◌+◌, ◌*◌, ◌/◌, List, ◌++◌, length, take, sym, ap, ap₂, ◌∙◌, arith, append_assoc, append-nil}
+use Rattle.std.proofs.Common.{◌≡◌, ℕ, ◌+◌, ◌*◌, ◌/◌, ◌≤◌, List, ◌++◌, length, take, sym, ap, ap₂, ◌∙◌, arith, length-take, length-drop, append_assoc, append-nil}
 use Rattle.prims_core.specs.BlockMix.{block_at, x_after, block_mix}
 use Rattle.prims_core.specs.Diagonals.{in_rows}
 use Rattle.prims_core.specs.Private.Mixing.{mixed_block, y_at}
@@ -19,6 +19,11 @@ mixing-init c = record {
 
 pub block_on_diagonals-requires : goal.block_on_diagonals-requires
 block_on_diagonals-requires c = omega (arith, c.requires.blocks, c.mixing-test.true)
+
+pub append_block-requires-clause-whole : goal.append_block-requires-clause-whole
+append_block-requires-clause-whole c =
+    let inside : 16 * c.mixing.i + 16 ≤ length c.args.src.now = omega (arith, c.requires.blocks, c.mixing-test.true) in
+    ap length c.block_words.ensures ∙ simp (length-take, length-drop) (omega (arith, inside))
 
 pub mixing-preserved : goal.mixing-preserved
 mixing-preserved c =

@@ -1,4 +1,4 @@
-use Rattle.std.proofs.Common.{◌≡◌, ◌*◌, ◌≤◌, ◌++◌, take, vec_capacity}
+use Rattle.std.proofs.Common.{◌≡◌, ◌*◌, ◌++◌, take, vec_capacity}
 use Rattle.prims_core.specs.BlockMix.{x_after}
 use Rattle.prims_core.specs.Diagonals.{in_rows}
 use Rattle.prims_core.specs.Private.Mixing.{y_at, ArePlaced}
@@ -10,5 +10,5 @@ invariant-mixing l = record {
   before : l.x ≡ x_after l.r (in_rows l.src) l.i;
   placed : ArePlaced (y_at l.r (in_rows l.src)) l.r l.i l.dst;
   copied : l.copies.items ≡ l.fn.copies.items ++ take (16 * l.i) l.src;
-  kept : vec_capacity l.fn.copies ≤ vec_capacity l.copies;
+  kept : vec_capacity l.copies ≡ vec_capacity l.fn.copies;
 }

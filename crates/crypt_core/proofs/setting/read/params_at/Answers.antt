@@ -1,4 +1,4 @@
-use Rattle.kdf_core.specs.Params.{cost_of}
+use Rattle.kdf_core.specs.Params.{scrypt_params}
 use Rattle.crypt_core.proofs.FirstRefusal.{refused_cost, refused_range, refused_ceiling, spelled_numbers}
 use Rattle.crypt_core.proofs.setting.read.params_at.Goals as goal
 
@@ -7,14 +7,14 @@ returns-in_default-clause-err c = λ text t e. refused_cost text t c.args.after.
 
 pub returns-in-Err-Range-clause-err : goal.returns-in-Err-Range-clause-err
 returns-in-Err-Range-clause-err c = λ text t e.
-    let n = cost_of c.in-Some.log_n c.in-Some.r c.in-Some.p in
+    let n = scrypt_params c.in-Some.log_n c.in-Some.r c.in-Some.p in
     let found = c.in-Some.ensures.some in
     refused_range text t n found.0 (spelled_numbers text n c.args.after.now found.0 e found.1 found.2)
     (c.in-Err-Range.ensures.range.0 (cc c.in-Err-Range.field-0-is))
 
 pub returns-in-Err-AboveCeiling-clause-err : goal.returns-in-Err-AboveCeiling-clause-err
 returns-in-Err-AboveCeiling-clause-err c = λ text t e.
-    let n = cost_of c.in-Some.log_n c.in-Some.r c.in-Some.p in
+    let n = scrypt_params c.in-Some.log_n c.in-Some.r c.in-Some.p in
     let found = c.in-Some.ensures.some in
     let above = c.in-Err-AboveCeiling.ensures.ceiling.0 (cc c.in-Err-AboveCeiling.field-0-is) in
     refused_ceiling text t n found.0 (spelled_numbers text n c.args.after.now found.0 e found.1 found.2) above.0 above.1
