@@ -17,7 +17,7 @@ const initial = memory.slice();
 const START = Math.ceil(Number(exports.__heap_base.value) / 16) * 16;
 const [OUT, OUT_SIZE, PASSED, MOST_BYTES] = [START + 64, 145, START + 256, 1025];
 const METHODS = { __proto__: null, md5crypt: 1, sha256crypt: 5, sha512crypt: 6 };
-const BUDGET = 150000000;
+const BUDGET = @BUDGET@;
 const [REFUSED_COST, DIFFERS] = [-14, -17];
 const REFUSALS = { @REFUSALS@ };
 

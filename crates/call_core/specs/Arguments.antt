@@ -1,6 +1,6 @@
 -- The arguments of a call: what holds of a valid one, and what of the first refusal of another.
 --
--- A password is the list of its bytes, `kept` is the setting that a text spells, and `rounds` is the cost that makes a
+-- A password is the list of its bytes, `kept` is the setting that a text spells, and `rounds` is the number that makes a
 -- scheme.
 use Rattle.std.specs.Prelude.{◌≡◌, ◌⊎◌, ◌<◌, ◌≤◌, ℕ, List, [], Some, None, Result, Ok, Err}
 use Rattle.crypt_core.specs.MadeSettings.{TakesRounds, made_scheme}
@@ -47,26 +47,26 @@ abbrev pub OnField : List ℕ → (Refusal → Type 0) → (SettingValue → Typ
 OnField field Refuses Then =
     ((kept : SettingValue) × Spells field kept × Then kept) ⊎ ((refusal : Refusal) × IsFieldRefusal field refusal × Refuses refusal)
 
--- The costs of new hashes: those that a method takes without clamping them.
+-- The rounds of new hashes: those that a method takes without clamping them.
 abbrev pub TakesNewRounds : Method → ℕ → Type 0
 TakesNewRounds methods.Sha256crypt rounds = (rounds ≡ 0) ⊎ (clamped rounds ≡ rounds)
 TakesNewRounds methods.Sha512crypt rounds = (rounds ≡ 0) ⊎ (clamped rounds ≡ rounds)
 TakesNewRounds method rounds = TakesRounds method rounds
 
--- The scheme that the method with this number has at a cost that it takes.
+-- The scheme that the method with this number has with rounds that it takes.
 abbrev pub IsSchemeMade : (Method → ℕ → Type 0) → ℕ → ℕ → Scheme → Type 0
 IsSchemeMade Takes number rounds scheme =
     (method : Method) × (method_numbered number ≡ Some method) × Takes method rounds × (scheme ≡ made_scheme method rounds)
 
--- A method's number and a cost make a scheme, of which `Then` holds; or `Refuses` holds of the refusal: no method has the
--- number, or its method does not take the cost.
+-- A method's number and rounds make a scheme, of which `Then` holds; or `Refuses` holds of the refusal: no method has the
+-- number, or its method does not take the rounds.
 abbrev pub OnScheme : (Method → ℕ → Type 0) → ℕ → ℕ → (Refusal → Type 0) → (Scheme → Type 0) → Type 0
 OnScheme Takes number rounds Refuses Then =
     ((scheme : Scheme) × IsSchemeMade Takes number rounds scheme × Then scheme)
     ⊎ (((method_numbered number ≡ None) × Refuses UnknownMethod)
     ⊎ ((method : Method) × (method_numbered number ≡ Some method) × (¬ Takes method rounds) × Refuses Cost))
 
--- The scheme that a method's number and a cost make, or the refusal.
+-- The scheme that a method's number and rounds make, or the refusal.
 abbrev pub IsSchemeReading : (Method → ℕ → Type 0) → ℕ → ℕ → Result Scheme Refusal → Type 0
 IsSchemeReading Takes number rounds (Ok scheme) = IsSchemeMade Takes number rounds scheme
 IsSchemeReading Takes number rounds (Err refusal) =

@@ -1,8 +1,7 @@
 -- The hash of a password with a setting, or with a new one, for C and for a web page alike.
 --
 -- A password is the list of its bytes, `kept` is the setting that a text spells, and `most` is the cost of a hash: the most
--- bytes that it digests and mixes. `out` has the bytes
--- `old` before a call, and `new` after it.
+-- bytes that it digests and mixes. `out` has the bytes `old` before a call, and `new` after it.
 use Rattle.std.specs.Prelude.{◌⊎◌, ◌==◌, if◌then◌else◌, ℕ, nat_lt, MatchBool, MatchResult, List, [], ◌∷◌, length, Result, Ok, Err}
 use Rattle.crypt_core.specs.Crypt.{crypt}
 use Rattle.crypt_core.specs.MadeSettings.{salted}

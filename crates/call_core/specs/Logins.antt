@@ -37,7 +37,7 @@ Declines password scheme budget refusal report =
     (report ≡ record refusal { work = report.work }) × IsHashWork password (decoy scheme) budget report.work
 
 -- The report of mkpasswd_login.
---   a refused password, method or cost   that refusal, without work
+--   a refused password, method or rounds that refusal, without work
 --   a stored hash that can't be checked  the report of mkpasswd_verify with the work of the decoy
 --   otherwise                            the report of mkpasswd_verify, with Outdated in place of Fits if the scheme
 --                                        replaces the setting

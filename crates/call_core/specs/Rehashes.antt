@@ -11,7 +11,7 @@ use Rattle.call_core.specs.declared.reason.Reason.TheVariants.{Outdated}
 use Rattle.call_core.specs.declared.reason.Refusal.TheVariants.{Current}
 use Rattle.call_core.specs.declared.report.Report.{Report}
 
--- A stored hash that is out of date: it spells a setting that the scheme of the method and the cost replaces.
+-- A stored hash that is out of date: it spells a setting that the scheme of the method and the rounds replaces.
 abbrev pub IsOutdated : List ℕ → ℕ → ℕ → Type 0
 IsOutdated stored number rounds =
     (kept : SettingValue) × (scheme : Scheme) × Spells stored kept × IsSchemeMade TakesRounds number rounds scheme

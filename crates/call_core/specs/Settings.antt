@@ -17,7 +17,7 @@ Bounds len stored report =
     report ≡ reported Done 0 (cost kept len) (work_bound kept len)))
 
 -- The effect of mkpasswd_setting and web_setting: the setting that the random numbers make; or the token, if the method or
--- the cost is refused, or the capacity is too small.
+-- the rounds are refused, or the capacity is too small.
 abbrev pub PutsSetting : ℕ → ℕ → List ℕ → List ℕ → Report → List ℕ → Type 0
 PutsSetting number rounds numbers old report new =
     OnScheme TakesRounds number rounds (λ refusal. Leaves (refused refusal 0) (token []) old report new) (λ scheme.

@@ -164,6 +164,7 @@ fn digest_of<M: Memory>(
             Sha::Sha512 => shacrypt::<CountedSha512>(password, salt, rounds.count(), meter),
         }),
         Scheme::Scrypt(params) => {
+            // It makes the facts of accepted parameters known to the checker, for the call below.
             prove!(params.row_count() > 1);
             memory.scrypt(password.bytes(), salt, &params, meter)
         }

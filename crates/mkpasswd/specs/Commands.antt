@@ -92,7 +92,8 @@ module _ {I O E : Type 0} where
   Follows turns generates (Err fault) old new status = Tells (Usage fault) old new status
 
   -- The command plans the arguments, asks for a generator if the plan wants one, and runs the plan or reports the refusal.
-  -- `Plans` allows that an allocation fails for any arguments.
+  -- `Plans` allows that an allocation fails for any arguments. `Made` says that the call which makes the generator was made
+  -- once, `IsKept` that it was not, and `generates` that there is a generator.
   abbrev pub Serves : ℕ → Type 0 → Type 0 → Bool → List Text → RunState I O E → RunState I O E → ℕ → Type 0
   Serves turns Made IsKept generates arguments old new status =
       (planned : Result Plan UsageFault) × Plans arguments planned × IsAsked Made IsKept (wants_by planned)

@@ -95,7 +95,7 @@ usage_faults = UnknownMethod ∷ TwoSalts ∷ TwoModes ∷ map Make make_faults
 --   UnknownMethod  TYPE names no method
 --   TwoSalts       the salt is given in both ways
 --   TwoModes       more than one mode is given
---   Make           the method, the cost and the salt make no setting
+--   Make           the method, the rounds and the salt make no setting
 abbrev pub BreaksUsage : List Row → UsageFault → Type 0
 BreaksUsage rows UnknownMethod = method_named (type_of rows) ≡ None
 BreaksUsage rows TwoSalts = IsSome (first_of (codes "salt") rows) × IsSome (first_of (codes "salt-word") rows)
@@ -104,7 +104,7 @@ BreaksUsage rows (Make fault) =
     (method : Method) × (method_named (type_of rows) ≡ Some method) × BreaksMake method (rounds_of rows) (given_salt rows) fault
 BreaksUsage rows fault = ⊥
 
--- The maker of settings has the method, the cost and the salt.
+-- The maker of settings has the method, the rounds and the salt.
 abbrev pub IsMaker : List Row → Recipe → Type 0
 IsMaker rows maker = (method : Method) × (method_named (type_of rows) ≡ Some method)
     × (maker ≡ record { scheme = made_scheme method (rounds_of rows); salt = given_salt rows })

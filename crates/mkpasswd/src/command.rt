@@ -46,6 +46,9 @@ const FAULT_LINE_ROOM: usize = 80;
 /// The run, or `clap`'s message, takes at most `turns` I/O calls. The line of an error is not among them, and takes at
 /// most as many calls as it has bytes.
 ///
+/// `make` is called at most once, and only for arguments that ask to hash or to check. The generator stays in `generator`,
+/// and `make` with the caller, so that the clauses can say how both were used.
+///
 /// For example, the arguments `-m md5crypt -S xxxxxxxx password` write `$1$xxxxxxxx$UYCIxa628.9qXjpQCjM4a.` and a line
 /// feed to `out`, and the status is 0.
 ///

@@ -130,7 +130,7 @@ impl<'a> Arguments<'a> {
 /// - `Method`: TYPE names no method, and is not `help`.
 /// - `TwoSalts`: the salt is given with `-S` and as an argument.
 /// - `TwoModes`: more than one of PASSWORD, `-s`, `--batch`, `--check` and `--audit` is given.
-/// - `Make`: [`Maker::new`] refuses the method, the cost and the salt.
+/// - `Make`: [`Maker::new`] refuses the method, the rounds and the salt.
 ///
 /// If an allocation fails, the error is `OutOfMemory` instead of any later check.
 pub fn plan(alloc: Global, words: &[String]) -> Result<Plan, UsageFault>

@@ -166,9 +166,9 @@ pub fn run_check<I: Read, O: Write, E: Write, R: Rng>(
 /// cost of hashing a password of 1,024 bytes with it ([`cost`](crypt_core::work::cost)), and no password costs more. A
 /// line that is too long, or has no valid name or no field, is refused as by [`run_batch`].
 ///
-/// The run takes no generator, and hashes and allocates nothing. The job's `rehash` and `work` have no effect. The tally's `misfits` are
-/// the findings `outdated`, `over budget`, `none` and `malformed`. Everything else is as for [`run_batch`], including
-/// the preconditions.
+/// The run takes no generator, and hashes and allocates nothing. The job's `rehash` and `work` have no effect. The
+/// tally's `misfits` are the findings `outdated`, `over budget`, `none` and `malformed`. Everything else is as for
+/// [`run_batch`], including the preconditions.
 ///
 /// For example, with sha512crypt the line `ann:$1$xxxxxxxx$UYCIxa628.9qXjpQCjM4a.:19000:0` gives
 /// `ann:md5crypt:1927022:outdated`.

@@ -199,7 +199,7 @@ fn run_on<'a>(
         match run {
             Run::Methods => run_methods(out, turns),
             Run::Check => run_check(alloc, job, input, out, faults, rng, meter, turns),
-            Run::Audit => run_audit(alloc, job, input, out, faults, rng, meter, turns),
+            Run::Audit => run_audit(alloc, job, input, out, faults, meter, turns),
             _ => run_one(alloc, job, &from, input, out, faults, rng, meter, turns),
         }
     };
