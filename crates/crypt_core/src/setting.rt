@@ -98,7 +98,7 @@ impl Setting {
 }
 
 /// Returns whether each byte is a character of crypt's alphabet.
-pub(crate) fn in_alphabet(bytes: &[u8]) -> bool
+pub fn in_alphabet(bytes: &[u8]) -> bool
     ensures { IsTrue result ↔ All (Contains alphabet) bytes.now }
 {
     for byte in bytes {
