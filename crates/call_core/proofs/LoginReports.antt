@@ -22,10 +22,10 @@ use Rattle.call_core.specs.Reports.{LacksMemory, refused, reported}
 use Rattle.call_core.specs.declared.reason.Reason.{Reason}
 use Rattle.call_core.specs.declared.reason.Reason.TheVariants.{Fits, Outdated, Refused}
 use Rattle.call_core.specs.declared.reason.Refusal.{Refusal}
-use Rattle.call_core.specs.declared.reason.Refusal.TheVariants.{Differs, OverBudget, Password}
+use Rattle.call_core.specs.declared.reason.Refusal.TheVariants.{Dead, Differs, OverBudget, Password}
 use Rattle.call_core.specs.declared.report.Report.{Report}
 use Rattle.call_core.proofs.MadeSchemes.{made_once}
-use Rattle.call_core.specs.Logins.{Agrees, Declines, IsHashWork, IsLoginWork, IsUncheckable, LogsIn, decoy}
+use Rattle.call_core.specs.Logins.{Agrees, Declines, IsHashWork, IsLoginWork, IsMiss, IsUncheckable, LogsIn, decoy}
 
 -- ---- The report, by the branches of a login
 
@@ -44,13 +44,13 @@ declined password field number rounds budget scheme refusal report is makes (inr
     let test : nat_lt budget (cost kept (length password)) ≡ true = grind arith in
     inl (is, inl (scheme, makes, inl (kept, spells, rw test (rw e at declines))))
 
-pub compared : (password field : List ℕ) (number rounds budget : ℕ) (scheme : Scheme) (kept : SettingValue) (report : Report)
+pub compared : (password field : List ℕ) (number rounds budget : ℕ) (scheme : Scheme) (kept : SettingValue) (misses : Refusal) (report : Report)
     → IsPassword password → IsSchemeMade TakesNewRounds number rounds scheme → Spells field kept → cost kept (length password) ≤ budget
-    → Compares password kept field (if is_replaced_by kept.scheme scheme then Outdated else Fits) report
+    → IsMiss field kept misses → Compares password kept field (if is_replaced_by kept.scheme scheme then Outdated else Fits) misses report
     → LogsIn password field number rounds budget report
-compared password field number rounds budget scheme kept report is makes spells low compares =
+compared password field number rounds budget scheme kept misses report is makes spells low miss compares =
     let test : nat_lt budget (cost kept (length password)) ≡ false = grind arith in
-    inl (is, inl (scheme, makes, inl (kept, spells, rw test compares)))
+    inl (is, inl (scheme, makes, inl (kept, spells, rw test (misses, miss, compares))))
 
 pub outdated_fits : (kept other : SettingValue) (scheme also : Scheme) (reason : Reason)
     → reason ≡ (if is_replaced_by kept.scheme scheme then Outdated else Fits) → kept ≡ other → scheme ≡ also
@@ -74,28 +74,35 @@ declined_agrees : (password : List ℕ) (scheme : Scheme) (budget : ℕ) (refusa
 declined_agrees password scheme budget refusal report declines =
     (ap (λ (r : Report). r.cost) declines.0, inl (ap (λ (r : Report). r.reason) declines.0))
 
-told_agrees : (equal replaced : Bool) (most : ℕ) (counts : Work) (report : Report)
-    → report ≡ reported (if equal then (if replaced then Outdated else Fits) else Refused Differs) 0 most counts
-    → Agrees report (reported (if equal then Fits else Refused Differs) 0 most counts)
-told_agrees false replaced most counts report e = rw e (refl, inl refl)
-told_agrees true false most counts report e = rw e (refl, inl refl)
-told_agrees true true most counts report e = rw e (refl, inr (refl, refl))
+miss_is : (field : List ℕ) (kept : SettingValue) (misses : Refusal) → IsMiss field kept misses → (misses ≡ Differs) ⊎ (misses ≡ Dead)
+miss_is field kept Differs miss = inl refl
+miss_is field kept Dead miss = inr refl
+miss_is field kept misses miss = absurd miss
 
-checked_agrees : (over equal replaced : Bool) (password : List ℕ) (budget most : ℕ) (scheme : Scheme) (kept : SettingValue) (report : Report)
+told_agrees : (equal replaced : Bool) (misses : Refusal) (most : ℕ) (counts : Work) (report : Report) → (misses ≡ Differs) ⊎ (misses ≡ Dead)
+    → report ≡ reported (if equal then (if replaced then Outdated else Fits) else Refused misses) 0 most counts
+    → Agrees report (reported (if equal then Fits else Refused Differs) 0 most counts)
+told_agrees false replaced misses most counts report (inl differs) e = rw (e, differs) (refl, inl refl)
+told_agrees false replaced misses most counts report (inr dead) e = rw (e, dead) (refl, inr (inr (refl, refl)))
+told_agrees true false misses most counts report miss e = rw e (refl, inl refl)
+told_agrees true true misses most counts report miss e = rw e (refl, inr (inl (refl, refl)))
+
+checked_agrees : (over equal replaced : Bool) (password field : List ℕ) (budget most : ℕ) (scheme : Scheme) (kept : SettingValue) (report : Report)
     → MatchBool over (Declines password scheme budget (refused OverBudget most) report)
-    ((report ≡ reported (if equal then (if replaced then Outdated else Fits) else Refused Differs) 0 most (work password kept))
-    ⊎ LacksMemory kept most report)
+    ((misses : Refusal) × IsMiss field kept misses
+    × ((report ≡ reported (if equal then (if replaced then Outdated else Fits) else Refused misses) 0 most (work password kept))
+    ⊎ LacksMemory kept most report))
     → (verified : Report) × MatchBool over (verified ≡ refused OverBudget most)
     ((verified ≡ reported (if equal then Fits else Refused Differs) 0 most (work password kept)) ⊎ LacksMemory kept most verified)
     × Agrees report verified
-checked_agrees true equal replaced password budget most scheme kept report declines =
+checked_agrees true equal replaced password field budget most scheme kept report declines =
     (refused OverBudget most, refl, declined_agrees password scheme budget (refused OverBudget most) report declines)
-checked_agrees false equal replaced password budget most scheme kept report (inl told) = (
+checked_agrees false equal replaced password field budget most scheme kept report (misses, miss, inl told) = (
   reported (if equal then Fits else Refused Differs) 0 most (work password kept),
   inl refl,
-  told_agrees equal replaced most (work password kept) report told,
+  told_agrees equal replaced misses most (work password kept) report (miss_is field kept misses miss) told,
 )
-checked_agrees false equal replaced password budget most scheme kept report (inr lacks) = (report, inr lacks, (refl, inl refl))
+checked_agrees false equal replaced password field budget most scheme kept report (misses, miss, inr lacks) = (report, inr lacks, (refl, inl refl))
 
 pub agrees : (password field : List ℕ) (number rounds budget : ℕ) (scheme : Scheme) (report : Report)
     → IsSchemeMade TakesNewRounds number rounds scheme → LogsIn password field number rounds budget report
@@ -110,18 +117,19 @@ agrees password field number rounds budget scheme report makes (inl (is, inl (ot
 agrees password field number rounds budget scheme report makes (inl (is, inl (other, also, inl (kept, spells, checked)))) =
     let most = cost kept (length password) in
     let agree = checked_agrees (nat_lt budget most) (bytes_eq (crypt password kept) field) (is_replaced_by kept.scheme other)
-    password budget most other kept report checked in
+    password field budget most other kept report checked in
     (agree.0, inl (is, inl (kept, spells, agree.1)), agree.2)
 
 -- ---- Its work
 
 checked_work : (above : Bool) (password field : List ℕ) (budget : ℕ) (scheme : Scheme) (kept : SettingValue) (reason : Reason) (report : Report)
     → nat_lt budget (cost kept (length password)) ≡ above
-    → MatchBool above (Declines password scheme budget (refused OverBudget (cost kept (length password))) report) (Compares password kept field reason report)
+    → MatchBool above (Declines password scheme budget (refused OverBudget (cost kept (length password))) report)
+    ((misses : Refusal) × IsMiss field kept misses × Compares password kept field reason misses report)
     → IsHashWork password (decoy scheme) budget report.work ⊎ IsHashWork password kept budget report.work
 checked_work true password field budget scheme kept reason report e declines = inl declines.1
-checked_work false password field budget scheme kept reason report e (inl told) = inr (rw e (inl (ap (λ (r : Report). r.work) told)))
-checked_work false password field budget scheme kept reason report e (inr (done, failed, told)) =
+checked_work false password field budget scheme kept reason report e (misses, miss, inl told) = inr (rw e (inl (ap (λ (r : Report). r.work) told)))
+checked_work false password field budget scheme kept reason report e (misses, miss, inr (done, failed, told)) =
     let same : report.work ≡ done = ap (λ (r : Report). r.work) told in
     inr (rw e (inr (subst (λ (w : Work). IsAfterRefusedGrowth no_work kept.scheme w) (sym same) failed)))
 

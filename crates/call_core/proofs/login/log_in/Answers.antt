@@ -5,6 +5,7 @@ use Rattle.call_core.specs.Arguments.{TakesNewRounds}
 use Rattle.call_core.specs.Reasons.{reason_row}
 use Rattle.call_core.specs.declared.reason.Reason.{Reason}
 use Rattle.call_core.specs.declared.reason.Reason.TheVariants.{Fits, Outdated}
+use Rattle.call_core.proofs.CheckReports.{dead_fits}
 use Rattle.call_core.proofs.LoginReports.{compared, declined, outdated_fits}
 use Rattle.call_core.proofs.MadeSchemes.{made_once}
 use Rattle.call_core.proofs.login.log_in.Goals as goal
@@ -28,8 +29,8 @@ returns-after-is_replaced_by-clause-logs_in g c =
       | then-is_replaced_by w ↦ let e : is_replaced_by kept.scheme scheme ≡ true = cc in rw e w.fits-is
       | else-is_replaced_by w ↦ let e : is_replaced_by kept.scheme scheme ≡ false = cc in rw e w.fits-is
     ] in
-    compared c.args.password.now c.args.field.now c.args.method c.args.rounds c.args.budget scheme kept _ password.1 c.in-Ok.ensures.scheme
-    found.spells (omega (arith, within)) (rw (password.0, found.is_text, fits) at c.compare.ensures.compares)
+    compared c.args.password.now c.args.field.now c.args.method c.args.rounds c.args.budget scheme kept c.miss_of.result _ password.1 c.in-Ok.ensures.scheme
+    found.spells (omega (arith, within)) (rw found.is_text at c.miss_of.ensures.miss) (rw (password.0, found.is_text, fits) at c.compare.ensures.compares)
 
 pub returns-after-is_replaced_by-clause-replaced : goal.returns-after-is_replaced_by-clause-replaced
 returns-after-is_replaced_by-clause-replaced g c = λ positive is.
@@ -44,3 +45,9 @@ returns-after-is_replaced_by-clause-replaced g c = λ positive is.
     ] in
     let is_outdated = outdated_fits kept is.0 scheme is.1 c.if-is_replaced_by.fits fits same made is.4 in
     (c.compare.ensures.same positive).1 ∙ ap (λ (reason : Reason). (reason_row reason).0) is_outdated
+
+pub returns-after-is_replaced_by-clause-shut : goal.returns-after-is_replaced_by-clause-shut
+returns-after-is_replaced_by-clause-shut g c = λ dead positive.
+    let found = c.in-Ok-checkable.ensures.found in
+    dead_fits c.in-Ok.request.0 c.args.field.now (c.in-Ok-checkable.stored).setting found.spells
+    (rw found.is_text at (c.compare.ensures.same positive).0) dead
