@@ -1,5 +1,5 @@
 -- What the report of a login says of its password and the stored hash.
-use Rattle.std.proofs.Common.{◌≡◌, ◌≤◌, ◌⊎◌, ℕ, Bool, Some, List, Err, length, nat_lt, if◌then◌else◌, false, true, ap, inl, inr, refl, sym, subst, arith}
+use Rattle.std.proofs.Common.{◌≡◌, ◌≤◌, ◌⊎◌, ℕ, Bool, Some, List, Err, length, nat_lt, if◌then◌else◌, false, true, ap, inl, inr, refl, sym, subst, arith, ◌∙◌, ◌≢◌}
 use Rattle.std.specs.Prelude.{IsTrue, MatchBool}
 use Rattle.std.specs.Str.{bytes_eq}
 use Rattle.prims_core.specs.Work.{no_work}
@@ -14,17 +14,19 @@ use Rattle.crypt_core.specs.declared.method.Method.{Method}
 use Rattle.crypt_core.specs.declared.password.PasswordFault.{PasswordFault}
 use Rattle.crypt_core.specs.declared.password.PasswordFault.TheVariants.{TooLong, HasNul}
 use Rattle.crypt_core.specs.declared.scheme.Scheme.{Scheme}
-use Rattle.call_core.specs.Arguments.{IsSchemeMade, IsSchemeReading, TakesNewRounds}
-use Rattle.call_core.specs.Checks.{Compares, Verifies}
+use Rattle.call_core.specs.Arguments.{IsFieldRefusal, IsSchemeMade, IsSchemeReading, TakesNewRounds}
+use Rattle.call_core.specs.Checks.{Compares, IsDead, Verifies}
 use Rattle.call_core.specs.Private.Checks.{IsCheckRefused}
 use Rattle.call_core.specs.Private.Hashes.{IsRequestRefused}
+use Rattle.call_core.specs.Reasons.{reason_row}
 use Rattle.call_core.specs.Reports.{LacksMemory, refused, reported}
 use Rattle.call_core.specs.declared.reason.Reason.{Reason}
 use Rattle.call_core.specs.declared.reason.Reason.TheVariants.{Fits, Outdated, Refused}
 use Rattle.call_core.specs.declared.reason.Refusal.{Refusal}
-use Rattle.call_core.specs.declared.reason.Refusal.TheVariants.{Dead, Differs, OverBudget, Password}
+use Rattle.call_core.specs.declared.reason.Refusal.TheVariants.{Cost, Dead, Differs, OutOfMemory, OverBudget, Password, UnknownMethod}
 use Rattle.call_core.specs.declared.report.Report.{Report}
 use Rattle.call_core.proofs.MadeSchemes.{made_once}
+use Rattle.call_core.proofs.ReasonNumbers.{reason_once}
 use Rattle.call_core.specs.Logins.{Agrees, Declines, IsHashWork, IsLoginWork, IsMiss, IsUncheckable, LogsIn, decoy}
 
 -- ---- The report, by the branches of a login
@@ -190,3 +192,54 @@ alike_rounds password field number rounds budget refusal report is (inl (kind, n
     absurd (cc (none, makes.1))
 alike_rounds password field number rounds budget refusal report is (inr (kind, (method, named, never))) (inl (also, inl (scheme, makes, rest))) =
     never_refused number rounds scheme _ makes method named never
+
+-- ---- It tells a dead hash
+
+-- a reason's number is that of no other
+not_dead : (reason : Reason) (report : Report) → reason ≢ Refused Dead → report.reason ≡ (reason_row reason).0
+    → report.reason ≡ (reason_row (Refused Dead)).0 → ⊥
+not_dead reason report other is told = other (reason_once reason (Refused Dead) (sym is ∙ told))
+
+compared_dead : (equal replaced : Bool) (field : List ℕ) (kept : SettingValue) (misses : Refusal) (most : ℕ) (counts : Work) (report : Report)
+    → Spells field kept → IsMiss field kept misses
+    → report ≡ reported (if equal then (if replaced then Outdated else Fits) else Refused misses) 0 most counts
+    → report.reason ≡ (reason_row (Refused Dead)).0 → IsDead field
+compared_dead true true field kept misses most counts report spells miss e told =
+    absurd (not_dead Outdated report (λ same. cc) (ap (λ (r : Report). r.reason) e) told)
+compared_dead true false field kept misses most counts report spells miss e told =
+    absurd (not_dead Fits report (λ same. cc) (ap (λ (r : Report). r.reason) e) told)
+compared_dead false replaced field kept misses most counts report spells miss e told =
+    let same : Refused misses ≡ Refused Dead = reason_once (Refused misses) (Refused Dead) (sym (ap (λ (r : Report). r.reason) e) ∙ told) in
+    let dead : misses ≡ Dead = cc same in
+    (kept, spells, subst (IsMiss field kept) dead miss)
+
+checked_dead : (above equal replaced : Bool) (password field : List ℕ) (budget : ℕ) (scheme : Scheme) (kept : SettingValue) (report : Report)
+    → Spells field kept
+    → MatchBool above (Declines password scheme budget (refused OverBudget (cost kept (length password))) report)
+    ((misses : Refusal) × IsMiss field kept misses
+    × ((report ≡ reported (if equal then (if replaced then Outdated else Fits) else Refused misses) 0 (cost kept (length password)) (work password kept))
+    ⊎ LacksMemory kept (cost kept (length password)) report))
+    → report.reason ≡ (reason_row (Refused Dead)).0 → IsDead field
+checked_dead true equal replaced password field budget scheme kept report spells declines told =
+    absurd (not_dead (Refused OverBudget) report (λ same. cc) (ap (λ (r : Report). r.reason) declines.0) told)
+checked_dead false equal replaced password field budget scheme kept report spells (misses, miss, inl e) told =
+    compared_dead equal replaced field kept misses _ _ report spells miss e told
+checked_dead false equal replaced password field budget scheme kept report spells (misses, miss, inr (done, failed, e)) told =
+    absurd (not_dead (Refused OutOfMemory) report (λ same. cc) (ap (λ (r : Report). r.reason) e) told)
+
+pub told_dead : (password field : List ℕ) (number rounds budget : ℕ) (report : Report) → LogsIn password field number rounds budget report
+    → report.reason ≡ (reason_row (Refused Dead)).0 → IsDead field
+told_dead password field number rounds budget report (inr (fault, is, e)) told =
+    absurd (not_dead (Refused (Password fault)) report (λ same. cc) (ap (λ (r : Report). r.reason) e) told)
+told_dead password field number rounds budget report (inl (is, inr (inl (none, e)))) told =
+    absurd (not_dead (Refused UnknownMethod) report (λ same. cc) (ap (λ (r : Report). r.reason) e) told)
+told_dead password field number rounds budget report (inl (is, inr (inr (method, named, never, e)))) told =
+    absurd (not_dead (Refused Cost) report (λ same. cc) (ap (λ (r : Report). r.reason) e) told)
+told_dead password field number rounds budget report (inl (is, inl (scheme, makes, inr (refusal, broken, declines)))) told =
+    let same : Refused refusal ≡ Refused Dead =
+    reason_once (Refused refusal) (Refused Dead) (sym (ap (λ (r : Report). r.reason) declines.0) ∙ told) in
+    let dead : refusal ≡ Dead = cc same in
+    absurd (subst (IsFieldRefusal field) dead broken)
+told_dead password field number rounds budget report (inl (is, inl (scheme, makes, inl (kept, spells, checked)))) told =
+    checked_dead (nat_lt budget (cost kept (length password))) (bytes_eq (crypt password kept) field) (is_replaced_by kept.scheme scheme)
+    password field budget scheme kept report spells checked told

@@ -1,13 +1,14 @@
 //! A password against a stored hash.
-ghost use Rattle.std.specs.Prelude.{◌≡◌, ◌⊎◌, ◌≤◌, ◌<◌, ◌<ℤ◌, pos, length, false, true, IfOk, IfErr, IsOk};
+ghost use Rattle.std.specs.Prelude.{◌≡◌, ◌≢◌, ◌⊎◌, ◌≤◌, ◌<◌, ◌<ℤ◌, pos, length, false, true, IfOk, IfErr, IsOk};
 ghost use Rattle.prims_core.specs.Work.{no_work};
 ghost use Rattle.crypt_core.specs.Crypt.{allocates, crypt};
 ghost use Rattle.crypt_core.specs.Settings.{SettingValue, Spells};
 ghost use Rattle.crypt_core.specs.StoredFields.{IsHashOf};
-ghost use Rattle.crypt_core.specs.Work.{cost};
+ghost use Rattle.crypt_core.specs.Work.{cost, work};
 ghost use Rattle.call_core.specs.Checks.{Compares, IsDead, NeedsNoMemory, Opens, Verifies};
 ghost use Rattle.call_core.specs.Private.Checks.{IsCheckRefused};
 ghost use Rattle.call_core.specs.Reasons.{reason_row};
+ghost use Rattle.call_core.specs.Reports.{reported};
 
 use crate::budget::cost_within;
 use crate::reading::stored_hash;
@@ -95,6 +96,9 @@ pub(crate) fn compare<M: Memory>(
         → (crypt password.now stored.now.setting ≡ stored.now.text) × (result.reason ≡ (reason_row fits).0) }
     ensures opens { crypt password.now stored.now.setting ≡ stored.now.text → (pos 0 <ℤ result.reason)
         ⊎ ((result.reason ≡ (reason_row (Reason.Refused Refusal.OutOfMemory)).0) × (allocates stored.now.setting.scheme ≡ true)) }
+    ensures missed { crypt password.now stored.now.setting ≢ stored.now.text
+        → (result ≡ reported (Reason.Refused misses) 0 most (work password.now stored.now.setting))
+        ⊎ (result.reason ≡ (reason_row (Reason.Refused Refusal.OutOfMemory)).0) }
     ensures granted { (allocates stored.now.setting.scheme ≡ false)
         ⊎ (M.HasSome ⊎ ((¬ (pos 0 <ℤ result.reason)) × (result.work ≡ no_work))) }
     ensures bytes { result.work.bytes ≤ most }

@@ -1,4 +1,4 @@
-use Rattle.std.proofs.Common.{◌≡◌, ℕ, List, Some, ap, inl, rules, subst, sym}
+use Rattle.std.proofs.Common.{◌≡◌, Some, ap, inl, rules, subst, sym}
 use Rattle.std.specs.Prelude.{pos}
 use Rattle.crypt_core.specs.Policies.{chosen_budget}
 use Rattle.crypt_core.specs.Settings.{SettingValue}
