@@ -1,22 +1,16 @@
 -- The parts that are replaced by their ROMix one by one: those that are done, those to come, and all of them.
-use Rattle.std.proofs.Common.{◌≡◌, ℕ, suc, ◌+◌, ◌-◌, ◌*◌, ◌^◌, ◌%◌, ◌<◌, ◌≤◌, List, [], ◌∷◌, ◌++◌, length, get_or, take, drop, sym, ap, ◌∙◌, arith, ◌/◌}
+use Rattle.std.proofs.Common.{◌≡◌, ℕ, ◌+◌, ◌*◌, ◌<◌, ◌≤◌, List, [], ◌∷◌, ◌++◌, length, take, drop, sym, ap, ◌∙◌, arith, ◌/◌}
 use Rattle.std.specs.List.{flat_map, range_with_len}
 use Rattle.std.proofs.lemmas.Grind.{flat_map-append}
-use Rattle.std.proofs.lemmas.List.{append-nil, drop-drop, get_or-drop, get_or-take, take_all}
+use Rattle.std.proofs.lemmas.List.{append-nil, drop-drop, take_all}
 use Rattle.std.proofs.lemmas.List.Folds.{flat_map-map}
 use borrow.Rule.Slice.PartMut.{put_mid}
 use Rattle.std.proofs.lemmas.Slice.{take-put_mid, drop-put_mid}
-use Rattle.std.proofs.lemmas.Nat.{pow-add, pow_pos}
-use Rattle.std.proofs.Math.Nat.{add-mul-mod_self_left, mul-div_cancel, mul_assoc}
-use Rattle.std.proofs.Math.Seq.{drop-cons}
-use Rattle.prims_core.specs.Diagonals.{block_in_rows, in_rows}
+use Rattle.std.proofs.Math.Nat.{mul-div_cancel}
 use Rattle.prims_core.specs.declared.meter.Work.{Work}
-use Rattle.prims_core.specs.Words.{bytes_of_words, chunks_exact, little_number}
-use Rattle.prims_core.proofs.BlockFacts.{length-in_rows, block_at-in_rows}
-use Rattle.prims_core.proofs.WordFacts.{number-from_word}
+use Rattle.prims_core.specs.Words.{chunks_exact}
 use Rattle.kdf_core.proofs.Pbkdf2Lemmas.{range-more}
-use Rattle.kdf_core.specs.Private.Mixing.{IsPower}
-use Rattle.kdf_core.specs.Scrypt.{integerify, mixed_part}
+use Rattle.kdf_core.specs.Scrypt.{mixed_part}
 use Rattle.kdf_core.specs.ScryptMessages.{mixed_parts}
 
 -- no mixing at first
