@@ -74,7 +74,7 @@ impl Table {
     /// Returns row `i`.
     ///
     /// Precondition: `i` is below the number of rows.
-    #[tactic(auto, using(crate::proofs::RowFacts::row_end))]
+    #[tactic(auto, using(crate::proofs::TableFacts::row_end))]
     pub fn row(&self, i: usize) -> &[u32]
         requires { i < length self.now }
         ensures { result.now ≡ slice_index_or self.now i [] }
@@ -91,7 +91,7 @@ impl Table {
     /// Makes row `i` a copy of `row`. The other rows stay.
     ///
     /// Preconditions: `i` is below the number of rows, and `row` has the length of a row.
-    #[tactic(auto, using(crate::proofs::RowFacts::row_end))]
+    #[tactic(auto, using(crate::proofs::TableFacts::row_end))]
     pub fn set_row(&mut self, i: usize, row: &[u32])
         requires inside { i < length self.old }
         requires same_length { length row.now ≡ length (slice_index_or self.old i []) }
@@ -109,7 +109,7 @@ impl Table {
     ///
     /// Preconditions: the number of rows is even and not 0, `x` and `y` have the length of a row, which is the 32r words
     /// of 2r blocks, for one r of at least 1, and the meter has room.
-    #[tactic(auto, using(crate::proofs::RowFacts::row_count))]
+    #[tactic(auto, using(crate::proofs::TableFacts::row_count))]
     pub fn fill_by_mixing(&mut self, x: &mut [u32], y: &mut [u32], meter: &mut Meter)
         requires even { (1 ≤ length self.old) × (length self.old % 2 ≡ 0) }
         requires blocks { (r : ℕ) × (1 ≤ r) × (length x.old ≡ 32 * r) × (length y.old ≡ 32 * r) }

@@ -1,4 +1,5 @@
--- Rows that lie in one list, one behind another.
+-- The rows of a table in one list: where each begins and ends, what is read of it, and what a row that is written leaves.
+-- Behind the last row that is written, zeros count as written.
 use Rattle.std.proofs.Common.{◌≡◌, ℕ, zero, suc, ◌+◌, ◌-◌, ◌*◌, ◌<◌, ◌≤◌, List, [], ◌∷◌, ◌++◌, length, get_or, set, take, drop, replicate, refl, sym, ◌∙◌, ap, arith, length-take, length-drop, length-append, length-take-le, append_assoc, zero-add}
 use Rattle.std.proofs.Math.Nat.{suc-mul, zero-mul}
 use Rattle.std.proofs.Math.Seq.{take-add, drop-append-add}

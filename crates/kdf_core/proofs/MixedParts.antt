@@ -1,71 +1,17 @@
--- Integerify by one word, the number of rows, and parts that are mixed one by one.
-use Rattle.std.proofs.Common.{◌≡◌, ℕ, suc, ◌+◌, ◌-◌, ◌*◌, ◌^◌, ◌%◌, ◌<◌, ◌≤◌, List, [], ◌∷◌, ◌++◌, length, get_or, take, drop, sym, ap, ◌∙◌, arith, ◌/◌}
+-- The parts that are replaced by their ROMix one by one: those that are done, those to come, and all of them.
+use Rattle.std.proofs.Common.{◌≡◌, ℕ, ◌+◌, ◌*◌, ◌<◌, ◌≤◌, List, [], ◌∷◌, ◌++◌, length, take, drop, sym, ap, ◌∙◌, arith, ◌/◌}
 use Rattle.std.specs.List.{flat_map, range_with_len}
 use Rattle.std.proofs.lemmas.Grind.{flat_map-append}
-use Rattle.std.proofs.lemmas.List.{append-nil, drop-drop, get_or-drop, get_or-take, take_all}
+use Rattle.std.proofs.lemmas.List.{append-nil, drop-drop, take_all}
 use Rattle.std.proofs.lemmas.List.Folds.{flat_map-map}
 use borrow.Rule.Slice.PartMut.{put_mid}
 use Rattle.std.proofs.lemmas.Slice.{take-put_mid, drop-put_mid}
-use Rattle.std.proofs.lemmas.Nat.{pow-add, pow_pos}
-use Rattle.std.proofs.Math.Nat.{add-mul-mod_self_left, mul-div_cancel, mul_assoc}
-use Rattle.std.proofs.Math.Seq.{drop-cons}
-use Rattle.prims_core.specs.Diagonals.{block_in_rows, in_rows}
+use Rattle.std.proofs.Math.Nat.{mul-div_cancel}
 use Rattle.prims_core.specs.declared.meter.Work.{Work}
-use Rattle.prims_core.specs.Words.{bytes_of_words, chunks_exact, little_number}
-use Rattle.prims_core.proofs.InRowsFacts.{length-in_rows, block_at-in_rows}
-use Rattle.prims_core.proofs.WordFacts.{number-from_word}
+use Rattle.prims_core.specs.Words.{chunks_exact}
 use Rattle.kdf_core.proofs.Pbkdf2Lemmas.{range-more}
-use Rattle.kdf_core.specs.Private.Mixing.{IsPower}
-use Rattle.kdf_core.specs.Scrypt.{integerify, mixed_part}
+use Rattle.kdf_core.specs.Scrypt.{mixed_part}
 use Rattle.kdf_core.specs.ScryptMessages.{mixed_parts}
-
--- the last block's number modulo a power of two is that of its first word
-pub integerify-mod : (words : List ℕ) (k : ℕ) → 16 ≤ length words → k ≤ 32
-    → integerify words % 2 ^ k ≡ get_or words (length words - 16) 0 % 2 ^ k
-unfolding integerify
-integerify-mod words k some most =
-    let at = length words - 16 in
-    let inside : at < length words = omega arith in
-    let word = get_or words at 0 in
-    let split = number-from_word 60 word (drop (suc at) words) in
-    let above : ℕ = split.0 in
-    let bits : 32 ≡ k + (32 - k) = omega arith in
-    let power : 2 ^ 32 ≡ 2 ^ k * 2 ^ (32 - k) = ap (λ e. 2 ^ e) bits ∙ pow-add 2 k (32 - k) in
-    let multiple : (n : ℕ) → 2 ^ 32 * n ≡ 2 ^ k * (2 ^ (32 - k) * n) =
-    λ n. ap (λ q. q * n) power ∙ mul_assoc (2 ^ k) (2 ^ (32 - k)) n in
-    let drops : (n m : ℕ) → (n + 2 ^ 32 * m) % 2 ^ k ≡ n % 2 ^ k =
-    λ n m. ap (λ q. (n + q) % 2 ^ k) (multiple m) ∙ add-mul-mod_self_left n (2 ^ k) (2 ^ (32 - k) * m) in
-    let word_is : word ≡ word % 2 ^ 32 + 2 ^ 32 * (word / 2 ^ 32) = omega arith in
-    ap (λ ws. little_number 64 (bytes_of_words ws) % 2 ^ k) (drop-cons words at 0 inside)
-    ∙ (ap (λ n. n % 2 ^ k) split.1
-    ∙ (drops (word % 2 ^ 32) above
-    ∙ (sym (drops (word % 2 ^ 32) (word / 2 ^ 32)) ∙ ap (λ n. n % 2 ^ k) (sym word_is))))
-
--- the first word of the last block is the same one by its rows and by its diagonals
-pub first_word-in_rows : (words : List ℕ) (r : ℕ) → 1 ≤ r → length words ≡ 32 * r
-    → get_or (in_rows words) (length (in_rows words) - 16) 0 ≡ get_or words (length words - 16) 0
-unfolding block_in_rows
-first_word-in_rows words r some whole =
-    let last : ℕ = 2 * r - 1 in
-    let long : length (in_rows words) ≡ length words = omega (arith, length-in_rows words, whole) in
-    let place : length words - 16 ≡ 16 * last = omega (arith, whole) in
-    let none : 16 * last ≡ 16 * last + 0 = omega arith in
-    let first : (xs : List ℕ) → get_or xs (16 * last) 0 ≡ get_or (take 16 (drop (16 * last) xs)) 0 0 =
-    λ xs. ap (λ (k : ℕ). get_or xs k 0) none ∙ sym (get_or-take 16 (drop (16 * last) xs) 0 0 (omega arith) ∙ get_or-drop (16 * last) xs 0 0) in
-    rw (long, place)
-    (first (in_rows words)
-    ∙ ap (λ (block : List ℕ). get_or block 0 0) (block_at-in_rows words last (omega (arith, whole)))
-    ∙ sym (first words))
-
--- N is even
-pub even : (rows k : ℕ) → IsPower rows k → 2 * (rows / 2) ≡ rows
-even rows k is =
-    let next : k ≡ 1 + (k - 1) = omega (arith, is.above_one) in
-    let twice : rows ≡ 2 * 2 ^ (k - 1) = is.power ∙ (ap (λ e. 2 ^ e) next ∙ pow-add 2 1 (k - 1)) in
-    omega (arith, twice)
-
-pub some_row : (rows k : ℕ) → IsPower rows k → 0 < rows
-some_row rows k is = omega (arith, is.power, pow_pos k)
 
 -- no mixing at first
 pub mixes-none : (m : Work) (n : ℕ) → m ≡ record m { mixes = m.mixes + n * 0 }

@@ -1,12 +1,13 @@
--- Sixteen words on four diagonals.
-use Rattle.std.proofs.Common.{◌≡◌, ℕ, ◌<◌, List, [], ◌∷◌, ◌++◌, length, slice_index, refl, sym, ◌∙◌, ap, subst, arith}
+-- A block of sixteen words on four diagonals: how its words are loaded and stored, and an operator on them lane by lane.
+use Rattle.std.proofs.Common.{◌≡◌, ℕ, ◌+◌, ◌<◌, ◌≤◌, List, [], ◌∷◌, ◌++◌, length, take, drop, get_or, slice_index, refl, sym, ◌∙◌, ap, subst, arith}
 use Rattle.std.specs.List.{concat}
 use Rattle.std.specs.Simd.Lanes.{zip2, pick_l}
+use Rattle.std.proofs.lemmas.List.{drop_more}
 use Rattle.std.proofs.lemmas.Simd.{get_or-zip2, length-zip2}
 use Rattle.prims_core.specs.Diagonals.{block_in_rows}
 use Rattle.prims_core.specs.Private.Diagonals.{HaveFourWords, words_on}
+use Rattle.prims_core.specs.Words.{chunks_exact}
 use Rattle.prims_core.proofs.ChunkFacts.{concat-chunks_exact}
-use Rattle.prims_core.proofs.MatrixFacts.{rows_of_sixteen}
 
 -- what holds of four items holds of a list of that length
 pub four_lanes : (P : List ℕ → Type 0) → (xs : List ℕ) → length xs ≡ 4
@@ -18,30 +19,54 @@ four_lanes P (w ∷ x ∷ []) four p = absurd (omega arith)
 four_lanes P (w ∷ x ∷ y ∷ []) four p = absurd (omega arith)
 four_lanes P (w ∷ x ∷ y ∷ z ∷ v ∷ xs) four p = absurd (omega arith)
 
+-- four items from a place on
+take_four : (xs : List ℕ) (i : ℕ) → i + 4 ≤ length xs
+    → take 4 (drop i xs) ≡ get_or xs i 0 ∷ get_or xs (i + 1) 0 ∷ get_or xs (i + 2) 0 ∷ get_or xs (i + 3) 0 ∷ []
+take_four xs i inside =
+    let first = drop_more xs i 0 (omega arith) in
+    let second = drop_more xs (i + 1) 0 (omega arith) in
+    let two : i + 1 + 1 ≡ i + 2 = omega arith in
+    let third = drop_more xs (i + 2) 0 (omega arith) in
+    let three : i + 2 + 1 ≡ i + 3 = omega arith in
+    let fourth = drop_more xs (i + 3) 0 (omega arith) in
+    rw (first, second, two, third, three, fourth) refl
+
+-- the rows of sixteen words
+rows_of_sixteen : (xs : List ℕ) → length xs ≡ 16
+    → chunks_exact xs 4
+    ≡ (get_or xs 0 0 ∷ get_or xs 1 0 ∷ get_or xs 2 0 ∷ get_or xs 3 0 ∷ [])
+    ∷ (get_or xs 4 0 ∷ get_or xs 5 0 ∷ get_or xs 6 0 ∷ get_or xs 7 0 ∷ [])
+    ∷ (get_or xs 8 0 ∷ get_or xs 9 0 ∷ get_or xs 10 0 ∷ get_or xs 11 0 ∷ [])
+    ∷ (get_or xs 12 0 ∷ get_or xs 13 0 ∷ get_or xs 14 0 ∷ get_or xs 15 0 ∷ [])
+    ∷ []
+unfolding chunks_exact
+rows_of_sixteen xs sixteen =
+    rw (sixteen, take_four xs 0 (omega arith), take_four xs 4 (omega arith), take_four xs 8 (omega arith), take_four xs 12 (omega arith)) refl
+
 -- sixteen words, one by one
-sixteen : (xs : List ℕ) → length xs ≡ 16
+word_by_word : (xs : List ℕ) → length xs ≡ 16
     → (slice_index xs 0 ∷ slice_index xs 1 ∷ slice_index xs 2 ∷ slice_index xs 3
     ∷ slice_index xs 4 ∷ slice_index xs 5 ∷ slice_index xs 6 ∷ slice_index xs 7
     ∷ slice_index xs 8 ∷ slice_index xs 9 ∷ slice_index xs 10 ∷ slice_index xs 11
     ∷ slice_index xs 12 ∷ slice_index xs 13 ∷ slice_index xs 14 ∷ slice_index xs 15 ∷ []) ≡ xs
-sixteen xs long = sym (ap concat (rows_of_sixteen xs long)) ∙ concat-chunks_exact xs 4 4 (omega arith) (omega arith)
+word_by_word xs long = sym (ap concat (rows_of_sixteen xs long)) ∙ concat-chunks_exact xs 4 4 (omega arith) (omega arith)
 
--- a block's diagonals, as they are picked
-pub picked : (xs : List ℕ) → length xs ≡ 16
+-- a block that stands row by row, as its diagonals are picked from memory
+pub loaded_from_rows : (xs : List ℕ) → length xs ≡ 16
     → words_on (pick_l 0 (xs ++ xs) (0 ∷ 5 ∷ 10 ∷ 15 ∷ [])) (pick_l 0 (xs ++ xs) (4 ∷ 9 ∷ 14 ∷ 3 ∷ []))
     (pick_l 0 (xs ++ xs) (8 ∷ 13 ∷ 2 ∷ 7 ∷ [])) (pick_l 0 (xs ++ xs) (12 ∷ 1 ∷ 6 ∷ 11 ∷ [])) ≡ xs
-picked xs long =
+loaded_from_rows xs long =
     subst (λ (ys : List ℕ). words_on (pick_l 0 (ys ++ ys) (0 ∷ 5 ∷ 10 ∷ 15 ∷ [])) (pick_l 0 (ys ++ ys) (4 ∷ 9 ∷ 14 ∷ 3 ∷ []))
-    (pick_l 0 (ys ++ ys) (8 ∷ 13 ∷ 2 ∷ 7 ∷ [])) (pick_l 0 (ys ++ ys) (12 ∷ 1 ∷ 6 ∷ 11 ∷ [])) ≡ ys) (sixteen xs long) refl
+    (pick_l 0 (ys ++ ys) (8 ∷ 13 ∷ 2 ∷ 7 ∷ [])) (pick_l 0 (ys ++ ys) (12 ∷ 1 ∷ 6 ∷ 11 ∷ [])) ≡ ys) (word_by_word xs long) refl
 
--- the same words back in their order, as they are picked of the diagonals, two joined and two
-pub in_rows : (a b c d : List ℕ) → length a ≡ 4 → length c ≡ 4
+-- its words, as they are picked from the diagonals, joined two by two, to be stored row by row
+pub stored_in_rows : (a b c d : List ℕ) → length a ≡ 4 → length c ≡ 4
     → (slice_index (a ++ b) 0 ∷ slice_index (c ++ d) 5 ∷ slice_index (c ++ d) 2 ∷ slice_index (a ++ b) 7
     ∷ slice_index (a ++ b) 4 ∷ slice_index (a ++ b) 1 ∷ slice_index (c ++ d) 6 ∷ slice_index (c ++ d) 3
     ∷ slice_index (c ++ d) 0 ∷ slice_index (a ++ b) 5 ∷ slice_index (a ++ b) 2 ∷ slice_index (c ++ d) 7
     ∷ slice_index (c ++ d) 4 ∷ slice_index (c ++ d) 1 ∷ slice_index (a ++ b) 6 ∷ slice_index (a ++ b) 3 ∷ [])
     ≡ words_on a b c d
-in_rows a b c d four_a four_c =
+stored_in_rows a b c d four_a four_c =
     four_lanes (λ (a : List ℕ). (slice_index (a ++ b) 0 ∷ slice_index (c ++ d) 5 ∷ slice_index (c ++ d) 2 ∷ slice_index (a ++ b) 7
     ∷ slice_index (a ++ b) 4 ∷ slice_index (a ++ b) 1 ∷ slice_index (c ++ d) 6 ∷ slice_index (c ++ d) 3
     ∷ slice_index (c ++ d) 0 ∷ slice_index (a ++ b) 5 ∷ slice_index (a ++ b) 2 ∷ slice_index (c ++ d) 7
@@ -53,25 +78,25 @@ in_rows a b c d four_a four_c =
     ∷ slice_index (c ++ d) 4 ∷ slice_index (c ++ d) 1 ∷ slice_index b 2 ∷ slice_index a 3 ∷ [])
     ≡ words_on a b c d) c four_c refl)
 
--- a block that stands by its diagonals, as they are picked
-pub picked_in_order : (xs : List ℕ) → length xs ≡ 16
+-- a block that stands diagonal by diagonal, as these are picked from memory
+pub loaded_from_diagonals : (xs : List ℕ) → length xs ≡ 16
     → words_on (pick_l 0 (xs ++ xs) (0 ∷ 1 ∷ 2 ∷ 3 ∷ [])) (pick_l 0 (xs ++ xs) (4 ∷ 5 ∷ 6 ∷ 7 ∷ []))
     (pick_l 0 (xs ++ xs) (8 ∷ 9 ∷ 10 ∷ 11 ∷ [])) (pick_l 0 (xs ++ xs) (12 ∷ 13 ∷ 14 ∷ 15 ∷ [])) ≡ block_in_rows xs
 unfolding block_in_rows
-picked_in_order xs long =
+loaded_from_diagonals xs long =
     subst (λ (ys : List ℕ). words_on (pick_l 0 (ys ++ ys) (0 ∷ 1 ∷ 2 ∷ 3 ∷ [])) (pick_l 0 (ys ++ ys) (4 ∷ 5 ∷ 6 ∷ 7 ∷ []))
     (pick_l 0 (ys ++ ys) (8 ∷ 9 ∷ 10 ∷ 11 ∷ [])) (pick_l 0 (ys ++ ys) (12 ∷ 13 ∷ 14 ∷ 15 ∷ [])) ≡ block_in_rows ys)
-    (sixteen xs long) refl
+    (word_by_word xs long) refl
 
--- the same words in that order, as they are picked of the diagonals, two joined and two
-pub on_diagonals : (a b c d : List ℕ) → length a ≡ 4 → length c ≡ 4
+-- its words, as they are picked from the diagonals, joined two by two, to be stored diagonal by diagonal
+pub stored_by_diagonals : (a b c d : List ℕ) → length a ≡ 4 → length c ≡ 4
     → block_in_rows (slice_index (a ++ b) 0 ∷ slice_index (a ++ b) 1 ∷ slice_index (a ++ b) 2 ∷ slice_index (a ++ b) 3
     ∷ slice_index (a ++ b) 4 ∷ slice_index (a ++ b) 5 ∷ slice_index (a ++ b) 6 ∷ slice_index (a ++ b) 7
     ∷ slice_index (c ++ d) 0 ∷ slice_index (c ++ d) 1 ∷ slice_index (c ++ d) 2 ∷ slice_index (c ++ d) 3
     ∷ slice_index (c ++ d) 4 ∷ slice_index (c ++ d) 5 ∷ slice_index (c ++ d) 6 ∷ slice_index (c ++ d) 7 ∷ [])
     ≡ words_on a b c d
 unfolding block_in_rows
-on_diagonals a b c d four_a four_c = in_rows a b c d four_a four_c
+stored_by_diagonals a b c d four_a four_c = stored_in_rows a b c d four_a four_c
 
 -- an operator on the lanes leaves four in each vector
 pub four_words-zip2 : (f : ℕ → ℕ → ℕ) (a b c d a' b' c' d' : List ℕ) → HaveFourWords a b c d → HaveFourWords a' b' c' d'

@@ -1,4 +1,4 @@
--- The test of the ceiling by a quotient.
+-- The ceiling on N * r * p, tested without a product that could overflow: by a quotient, and from N = 2 ^ 24 on by N alone.
 use Rattle.std.proofs.Common.{ℕ, ◌<◌, ◌≤◌, ◌*◌, ◌/◌, ◌^◌, IsTrue, nat_le, nat_lt, arith}
 use Rattle.std.proofs.Math.Nat.{le-div_iff_mul-le, le-mul_of_pos_right}
 use Rattle.std.proofs.lemmas.Bool.{leb-true, le-leb, ltb-true}

@@ -1,4 +1,4 @@
--- What the rows of a table hold while they are filled, and mixings one by one.
+-- A table while it is filled: each row holds the start after one mixing more, and so does the table once it is full.
 use Rattle.std.proofs.Common.{◌≡◌, ℕ, zero, suc, ◌+◌, ◌-◌, ◌*◌, ◌/◌, ◌<◌, ◌≤◌, List, [], ◌++◌, length, get_or, take, drop, refl, sym, ◌∙◌, ap, arith, below_more, length-append, length-drop, length-take-le, append-nil}
 use Rattle.std.specs.Fn.{iterate}
 use Rattle.std.proofs.Math.Nat.{mul-le-mul_left}
@@ -8,7 +8,7 @@ use Rattle.prims_core.specs.BlockMix.{block_mix}
 use Rattle.prims_core.specs.Diagonals.{in_rows}
 use Rattle.prims_core.specs.Memory.{rows_of, padded, HasShape, HoldsMixings}
 use Rattle.prims_core.specs.declared.meter.Work.{Work}
-use Rattle.prims_core.proofs.RowFacts.{length-rows_of, get_or-rows_of}
+use Rattle.prims_core.proofs.TableFacts.{length-rows_of, get_or-rows_of}
 
 -- one application more
 pub iterate-more : (h : List ℕ → List ℕ) (n : ℕ) (x : List ℕ) → iterate h (n + 1) x ≡ h (iterate h n x)
@@ -68,8 +68,8 @@ mixings-two_more items once twice x y start w i before long_x long_y is mixed fi
     (mixed ∙ (ap block_mix is ∙ sym (iterate-more block_mix (2 * i) start))))
 
 -- there is room for two rows more
-pub two_rows : (n w i : ℕ) → i < n / 2 → 2 * i * w + w + w ≤ n * w
-two_rows n w i inside =
+pub room_for_two_rows : (n w i : ℕ) → i < n / 2 → 2 * i * w + w + w ≤ n * w
+room_for_two_rows n w i inside =
     let more : 2 * i + 2 ≤ n = omega arith in
     omega (arith, mul-le-mul_left w more)
 

@@ -1,4 +1,4 @@
--- How the work of several calls adds up.
+-- What a meter has after two pieces of work: the work of both, added.
 use Rattle.std.proofs.Common.{◌≡◌, ℕ, ◌+◌, ap, ◌∙◌, arith}
 use Rattle.prims_core.specs.Meter.{with_work}
 use Rattle.prims_core.specs.declared.meter.Work.{Work}

@@ -1,4 +1,4 @@
--- What scrypt leaves in its result and in the meter, from what its steps leave.
+-- What scrypt returns and leaves in the meter, from what each of its steps does; also where an allocation is refused.
 use Rattle.std.proofs.Common.{◌≡◌, ℕ, ◌+◌, ◌*◌, List, ◌++◌, length, take, drop, refl, sym, ap, ◌∙◌, arith}
 use Rattle.std.specs.Int.{div_ceil}
 use Rattle.std.proofs.lemmas.List.{take_at}

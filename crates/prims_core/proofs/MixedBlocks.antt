@@ -1,4 +1,4 @@
--- Block mixing: X from block to block, blocks that are written, and the order of the results.
+-- Block mixing: X from block to block, and the results that are written one by one, evens before odds.
 use Rattle.std.proofs.Common.{◌≡◌, ℕ, ◌+◌, ◌-◌, ◌*◌, ◌/◌, ◌%◌, ◌<◌, ◌⊎◌, inl, inr, List, [], ◌++◌, length, take, map, refl, sym, ◌∙◌, ap, add-one, arith}
 use borrow.Rule.Slice.PartMut.{put_mid}
 use Rattle.std.specs.List.{concat, range_with_len}
@@ -10,7 +10,7 @@ use Rattle.prims_core.specs.Private.Mixing.{mixed_block, place_of, ArePlaced}
 use Rattle.prims_core.specs.BlockMix.{block_at, x_after}
 use Rattle.prims_core.specs.Diagonals.{block_in_rows, in_rows}
 use Rattle.prims_core.proofs.ChunkFacts.{joined_from_pieces}
-use Rattle.prims_core.proofs.InRowsFacts.{block_at-in_rows, length-in_rows, written_same, written_other}
+use Rattle.prims_core.proofs.BlockFacts.{block_at-in_rows, length-in_rows, written_same, written_other}
 
 -- X at first, and once a block more is mixed
 pub x_after-none : (r : ℕ) (words : List ℕ) → x_after r words 0 ≡ block_at (2 * r - 1) words

@@ -1,4 +1,5 @@
--- Blocks by their diagonals: each of them in its rows, and lists of blocks that are the same block by block.
+-- Lists of blocks: `in_rows` rearranges each block on its own, lists of the same blocks are the same, and what a block
+-- that is written over another leaves of the list.
 use Rattle.std.proofs.Common.{◌≡◌, ℕ, zero, suc, ◌+◌, ◌-◌, ◌*◌, ◌/◌, ◌<◌, ◌≤◌, ◌⊎◌, inl, inr, List, [], ◌∷◌, ◌++◌, length, take, drop, get_or, refl, sym, ◌∙◌, ap, subst, arith}
 use borrow.Rule.Slice.PartMut.{put_mid}
 use Rattle.std.specs.List.{flat_map}
@@ -75,12 +76,12 @@ written_other i width k out x inside is whole (inr above) =
     ap (take 16) (drop-put_mid (16 * i) width out x (16 * k) (omega arith) (omega arith) (omega arith))
 
 -- blocks that are rearranged one by one, of which those before block i are done: one more is written in its place
-pub turned-more : (n i width : ℕ) (P : ℕ → List ℕ → Type 0) (start words block : List ℕ) → length words ≡ 16 * n → i < n
+pub rearranged-more : (n i width : ℕ) (P : ℕ → List ℕ → Type 0) (start words block : List ℕ) → length words ≡ 16 * n → i < n
     → width ≡ 16 → length block ≡ 16 → P i block
     → ((k : ℕ) → k < i → P k (block_at k words)) → ((k : ℕ) → i ≤ k → block_at k words ≡ block_at k start)
     → ((k : ℕ) → k < i + 1 → P k (block_at k (put_mid (16 * i) width words block)))
     × ((k : ℕ) → i + 1 ≤ k → block_at k (put_mid (16 * i) width words block) ≡ block_at k start)
-turned-more n i width P start words block whole inside sixteen long is done rest = (
+rearranged-more n i width P start words block whole inside sixteen long is done rest = (
   (λ k so_far. elim (cases_lt k i) [
     | inl earlier ↦
         subst (P k) (sym (written_other i width k words block (omega arith) sixteen long (inl earlier))) (done k earlier)
