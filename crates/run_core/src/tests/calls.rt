@@ -297,6 +297,10 @@ fn answers_what_was_read(rt: HostRuntime) -> Result<(), Fail> {
         let left = left_by(&rt, rt.alloc(), BATCH, given)?;
         left.want(&rt, "a read", outcome, out.as_bytes(), faults.as_bytes());
     }
+    let mut given = devices(&rt, rt.alloc(), b"ann:password\nbob:pa", (ALL, ALL));
+    given.reader = given.reader.failing_at(2);
+    let left = left_by(&rt, rt.alloc(), BATCH, given)?;
+    left.want(&rt, "a part", Err("read fault"), ANN.as_bytes(), b"");
     Ok(())
 }
 
