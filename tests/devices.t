@@ -53,7 +53,8 @@ for (
     ['--rehash from scrypt', "bob:$old:password\n", [qw(--check --rehash), @md5], 0, "bob:ok:$md5\n", ''],
     ['--rehash between costs of scrypt', "ann::\nbob:$old:password\n", [qw(--check --rehash -m scrypt -R 6 -S ab)], 0, "ann:none\nbob:ok:$new\n", '', 6],
     ['--check with a table that is kept', $small x 2 . $large, ['--check'], 0, "ann:ok\n" x 3, '', 5],
-    ['--audit', "ann:$md5:1\n:x\nbob:!\n", ['--audit'], 1, "ann:md5crypt:1927022:outdated\nbob:locked\n", "mkpasswd: line 2: no name\n"],
+    ['--audit', "ann:$md5:1\n:x\nbob:!\neve:$new\ntim:x\n", ['--audit'], 1, "ann:md5crypt:1000:1927022:outdated\nbob:locked\n"
+        . "eve:scrypt:8192/32/1:67135396:outdated\ntim:no scheme\n", "mkpasswd: line 2: no name\n"],
     ['--rehash to scrypt', "bob:$md5:password\n", [qw(--check --rehash -m scrypt -R 6 -S ab)], 0, "bob:ok:$new\n", ''],
 ) {
     my ($mode, $input, $words, $status, $out, $err, $after) = @$_;
