@@ -7,7 +7,7 @@ package Lines;
 #   hashes that it has to give become lines of --check, with right passwords, wrong ones, and texts in which one character
 #   is another. (Scrypt's cheap costs have no words of their own: their texts come from crypt, and are checked.)
 # - Hostile lines are put together from pieces of the grammar, stand at the limits, or are good lines that were changed, for
-#   any mode with any flags and a budget. Audits also judge by their own.
+#   any mode with any flags and a budget, and audits by their own budget too.
 
 use strict;
 use warnings;
