@@ -229,8 +229,8 @@ sub rounds_text {
 }
 
 # The name of another scheme of crypt(5), where the field looks like its hash.
-my %other_scheme = ('$y$' => 'yescrypt', '$gy$' => 'gost-yescrypt', '$2a$' => 'bcrypt', '$2b$' => 'bcrypt', '$2y$' => 'bcrypt', '$3$' => 'NT',
-    '$sha1$' => 'sha1crypt', '$md5' => 'SunMD5', '_' => 'bsdicrypt');
+my %other_scheme = ('$y$' => 'yescrypt', '$gy$' => 'gost-yescrypt', '$2a$' => 'bcrypt', '$2b$' => 'bcrypt', '$2y$' => 'bcrypt',
+    '$3$' => 'NT', '$sha1$' => 'sha1crypt', '$md5' => 'SunMD5', '_' => 'bsdicrypt');
 my $other_prefixes = join '|', map { quotemeta } keys %other_scheme;
 
 sub of_another_scheme {
@@ -239,11 +239,11 @@ sub of_another_scheme {
     return $field =~ /\A${of_alphabet}{13}\z/ ? 'descrypt' : undef;
 }
 
-# The setting and the budget by which an audit judges, from what the words say of method, cost and budget.
+# The setting by which an audit judges, of the method and the cost that the words have, and its budget if they have none.
 sub audit_policy {
-    my ($kind, $cost, $budget) = @_;
+    my ($kind, $cost) = @_;
     my @made = map { made_setting(@$_, 'a' x $most_salt{ $_->[0] }) } [$kind, $cost || ($kind == 7 ? 7 : 656000)], [6, 656000];
-    return ($made[0], $budget || max(map { cost($_, $limits{password}) } @made));
+    return ($made[0], max(map { cost($_, $limits{password}) } @made));
 }
 
 # What an audit by a setting and a budget has to find in a field, the greatest cost of a hash with the field's setting, and
@@ -254,14 +254,17 @@ sub audited {
     return (finding => 'locked') if $field =~ /\A[!*]/;
     my $setting = read_setting($field);
     if (!ref $setting) {
-        my $has_prefix = $field =~ /\A\$/;
-        return (finding => "malformed:$setting", is_bad => 1) if $has_prefix && $setting ne 'unknown scheme';
+        my $has_dollar = $field =~ /\A\$/;
         my $scheme = of_another_scheme($field);
-        return defined $scheme ? (finding => "$scheme:unknown") : $has_prefix ? (finding => 'unknown') : (finding => 'no scheme', is_bad => 1);
+        return (finding => "malformed:$setting", is_bad => 1) if $has_dollar && $setting ne 'unknown scheme';
+        return (finding => "$scheme:unknown") if defined $scheme;
+        return $has_dollar ? (finding => 'unknown') : (finding => 'no scheme', is_bad => 1);
     }
     my $cost = cost($setting, $limits{password});
-    my $state = $cost > $budget ? 'over budget' : !is_whole($setting, $field) ? 'dead' : is_replaced($setting, $new) ? 'outdated' : 'current';
-    return (finding => join(':', $types{ $setting->{kind} }, rounds_text($setting), $cost, $state), cost => $cost, is_bad => $state ne 'current');
+    my $state = $cost > $budget ? 'over budget' : !is_whole($setting, $field) ? 'dead' : is_replaced($setting, $new) ? 'outdated'
+        : 'current';
+    my $finding = join ':', $types{ $setting->{kind} }, rounds_text($setting), $cost, $state;
+    return (finding => $finding, cost => $cost, is_bad => $state ne 'current');
 }
 
 # ---- Lines
