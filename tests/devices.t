@@ -42,7 +42,7 @@ for (
     ['scrypt', '', [qw(-m scrypt -S ab x)], 0, "\$7\$CU..../....ab\$TioQ/OazCAbGpb/E7e054xV/7lAamSWFPOGclTgvmt0\n", ''],
     ['the methods', '', [qw(-m help)], 0, "Available methods:\nmd5crypt\nsha256crypt\nsha512crypt\nscrypt\n", ''],
     ['the version', '', ['-V'], 0, qr/\Amkpasswd [0-9.]+\n\z/, ''],
-    ['help', '', ['--help'], 0, qr{\APrints .*/etc/shadow\n\z}s, ''],
+    ['help', '', ['--help'], 0, qr{\APrints .*--stdin\.\n\z}s, ''],
     ['a refusal', '', [qw(-m sha1 x)], 2, '', "mkpasswd: unknown method\n"],
     ['a made salt', '', [qw(-m md5crypt password)], 0, qr/\A\$1\$${of_alphabet}{8}\$${of_alphabet}{22}\n\z/, ''],
     ['no words', "password\n", [], 0, qr/\A\$6\$${of_alphabet}{16}\$${of_alphabet}{86}\n\z/, ''],
