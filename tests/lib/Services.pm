@@ -74,17 +74,10 @@ sub own_devices {
 # The system log, instead of its daemon: a socket in a /dev of the test's own. Then its lines since the last time, without their
 # beginning, and what else it got.
 my $log;
-sub open_log {
-    unlink '/dev/log';
-    $log = IO::Socket::UNIX->new(Type => SOCK_DGRAM, Local => '/dev/log') || die "/dev/log: $!";
-    return chmod 0666, '/dev/log';
-}
-
+sub open_log { return $log = IO::Socket::UNIX->new(Type => SOCK_DGRAM, Local => '/dev/log') || die "/dev/log: $!" }
 sub logged {
-    my @lines;
-    while (defined $log->recv(my $line, 2048, MSG_DONTWAIT)) {
-        push @lines, $line =~ s/^.*?pam_mkpasswd\([\w-]+:\w+\): //sr;
-    }
+    my ($line, @lines);
+    push @lines, $line =~ s/^.*?pam_mkpasswd\([\w-]+:\w+\): //sr while defined $log->recv($line, 2048, MSG_DONTWAIT);
     return @lines;
 }
 
