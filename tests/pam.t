@@ -183,7 +183,7 @@ subtest 'valgrind' => sub {
     for my $arguments ("file=$file rounds=1000 renew budget=300000000", 'file=/gone', 'rounds=x', 'method=md5crypt debug') {
         spew($file, join "\n", map { "$_:$kind{$_}" } sort keys %kind);
         stack($arguments);
-        my @said = map { (pam('example', $_, $right, qw(valgrind -q --leak-check=full --show-leak-kinds=definite --error-exitcode=99 --log-file), "$scratch/valgrind"), logged(), slurp("$scratch/valgrind")) } 'nobody', sort keys %kind;
+        my @said = map { (pam('example', $_, $right, qw(valgrind -q --leak-check=full --show-leak-kinds=definite --error-exitcode=99), "--log-file=$scratch/valgrind"), logged(), slurp("$scratch/valgrind")) } 'nobody', sort keys %kind;
         is(join('', grep { /==\d+==/ } @said), '', "valgrind: $arguments");
     }
 };
