@@ -1,0 +1,82 @@
+"""The input: lines of a file, rows of a table, or lines with the fields of /etc/shadow, each with its number.
+
+Lines are bytes, since names and passwords have no encoding.
+"""
+import csv, itertools, os, select, stat
+from terminal import Stop, say
+
+LONGEST = 2050      # bytes of a line: what mkpasswd takes, what is too much, and a carriage return
+MARK = b"\xef\xbb\xbf"
+
+def ready(descriptors, milliseconds=None):
+    """Waits for some of the descriptors that can be read."""
+    poll = select.poll()
+    for each in descriptors:
+        poll.register(each, select.POLLIN)
+    return [each for each, _ in poll.poll(milliseconds)]
+
+class Source:
+    def __init__(self, options):
+        self.options, self.name = options, "standard input" if options.file == "-" else options.file
+        self.fd, self.absent, self.total = 0 if options.file == "-" else os.open(options.file, os.O_RDONLY), 0, 0
+        self.regular = stat.S_ISREG(os.fstat(self.fd).st_mode)
+        self.slow = None if self.regular else self.fd
+        if os.isatty(self.fd):
+            say("reading lines from the terminal; Ctrl-D ends them.")
+        if self.regular:
+            self.start = os.lseek(self.fd, 0, os.SEEK_CUR)
+            self.total = sum(len(lines) for _, lines in self.whole_lines())
+
+    def lines(self):
+        """Numbers and lines, some at a time, from the beginning."""
+        if self.options.csv:
+            return self.rows(self.options.columns.lower().split(","))
+        lines = self.whole_lines(self.options.windows)
+        return self.with_fields(lines) if self.options.shadow else lines
+
+    def whole_lines(self, windows=False, longest=LONGEST):
+        """Lines as they come, of a long one only what makes it too long."""
+        if self.regular:
+            os.lseek(self.fd, self.start, os.SEEK_SET)
+        number, rest, piece = 1, b"", b"\n"
+        while piece:
+            ready([self.fd])
+            piece = os.read(self.fd, 1 << 18)
+            *lines, rest = (rest + piece).split(b"\n")
+            if rest and not piece:
+                lines.append(rest)
+            if windows:
+                lines = [line[:-1] if line.endswith(b"\r") else line for line in lines]
+                lines[:1] = [line[3 if number == 1 and line.startswith(MARK) else 0:] for line in lines[:1]]
+            yield range(number, number + len(lines)), lines
+            number, rest = number + len(lines), rest[:longest]
+
+    def rows(self, columns):
+        """Rows of a table as lines `name:password`."""
+        texts = (line.decode("latin-1") + "\n" for _, lines in self.whole_lines(True, 1 << 17) for line in lines)
+        rows = csv.reader(texts, delimiter=self.options.delimiter, strict=True)
+        try:
+            if not all(column.isdecimal() for column in columns):
+                header = [field.strip().lower() for field in next(rows, [])]
+                if not all(header.count(column) == 1 for column in columns):      # what it has may be a password
+                    raise Stop(f"the first row of {self.name} doesn't have each of {','.join(columns)} once. Name those it has, "
+                               "--columns user,secret, or where it is no header, --columns 1,2. See also --delimiter.", 2)
+                columns = [header.index(column) + 1 for column in columns]
+            while some := [(rows.line_num, row) for row in itertools.islice(rows, 256)]:
+                some = [(number, [row[int(each) - 1] for each in columns if int(each) <= len(row)]) for number, row in some if row]
+                for number, fields in some:
+                    if ":" in "".join(fields[:1]) or "\n" in "".join(fields):
+                        raise Stop(f"{self.name}, line {number}: a colon in a name, or a line feed in a field.")
+                yield [number for number, _ in some], [":".join(fields).encode("latin-1") for _, fields in some]
+        except csv.Error as error:
+            raise Stop(f"{self.name}, line {rows.line_num}: this is not CSV: {error}.") from None
+
+    def with_fields(self, pieces):
+        """Lines `name:password` as `name:field:password`, with the fields of a file such as /etc/shadow, if it has the name."""
+        with open(self.options.shadow, "rb") as file:
+            fields = dict(reversed([line.rstrip(b"\n").split(b":")[:2] for line in file if b":" in line]))      # the first counts
+        for numbers, lines in pieces:
+            some = [(number, *line.partition(b":")[::2]) for number, line in zip(numbers, lines)]
+            some = [(number, b"%b:%b:%b" % (name, fields[name], password)) for number, name, password in some if name in fields]
+            self.absent += len(lines) - len(some)
+            yield [number for number, _ in some], [line for _, line in some]
