@@ -1,7 +1,7 @@
 """The command line of pwhash: its options, and how a run ends."""
 import argparse, os, re, shlex, signal, sys
-import checking, engine, hashing
-from terminal import Stop, progress, say
+import checking, engine, hashing, looking
+from terminal import Stop, on_terminal, progress, say
 
 USAGE = """
   pwhash                                    hash a password, which it asks for
@@ -9,7 +9,7 @@ USAGE = """
   pwhash audit                              what is wrong with the hashes in /etc/shadow
   pwhash check --shadow /etc/shadow list    who still has the password of a line name:password
 
-Hashes are sha512crypt with 656000 rounds. pwhash file --help, check --help, audit --help; and pwhash alone has:"""
+Hashes are sha512crypt with 656000 rounds. See also pwhash file --help, check --help, audit --help. pwhash alone has:"""
 OPTIONS = {      # of argparse: the words, the default, what a value is called or which there are, and the help
     "method": ("-m --method", "sha512crypt", "TYPE", "sha512crypt (the default), sha256crypt, scrypt or md5crypt"),
     "rounds": ("-R --rounds", None, "NUMBER", "656k by default; with scrypt 6 to 11, by default 7"),
@@ -25,7 +25,7 @@ OPTIONS = {      # of argparse: the words, the default, what a value is called o
     "delimiter": ("--delimiter", ",", "C", "what is between its columns; by default a comma"),
     "skip_refused": ("--skip-refused", False, None, "leave out lines that mkpasswd refuses"),
     "accept_doubtful": ("--accept-doubtful", False, None, "take lines as they are, even with empty passwords"),
-    "service": ("--for", None, [each for each in hashing.SERVICES if each], "doubt names that the service takes for others"),
+    "service": ("--for", None, [each for each in looking.SERVICES if each], "doubt names that the service takes for others"),
     "shadow": ("--shadow", None, "FIELDS", "lines are name:password; the hashes are in the file FIELDS"),
     "rehash": ("--rehash", False, None, "renew hashes that are outdated; with -o, write these alone, for chpasswd -e"),
     "target": ("--for", None, [each for each in hashing.PLACES if each], "print what belongs there"),
@@ -44,12 +44,10 @@ COMMANDS = {     # what runs it, its input by default, its options
 class Interrupted(BaseException):
     """A signal: its number."""
 
-class Parser(argparse.ArgumentParser):
-    def error(self, message):
-        raise Stop(f"{message}. See {self.prog} --help.", 2)
+def interrupt(number, frame):
+    raise Interrupted(number)
 
 def number(text):
-    """Such as 656000, 656k or 2M."""
     match = re.fullmatch("([0-9]{1,10})([kM]?)", text)
     if not match:
         raise argparse.ArgumentTypeError(f"'{text}' is no number such as 656000, 656k or 2M")
@@ -58,23 +56,26 @@ def number(text):
 def arguments(words):
     command = words[0] if words and words[0] in COMMANDS else None
     run, default, names = COMMANDS[command]
-    parser = Parser(prog="pwhash " + command if command else "pwhash", usage=None if command else USAGE, allow_abbrev=False,
-                    description=run.__doc__ if command else None)
+    parser = argparse.ArgumentParser(prog=f"pwhash {command or ''}".strip(), usage=None if command else USAGE,
+                                     description=command and run.__doc__, allow_abbrev=False)
     if command:
-        parser.add_argument("file", nargs="?", default=default, metavar="FILE", help=f"by default {default}, - is standard input")
+        parser.add_argument("file", nargs="?", metavar="FILE", help=f"by default {default}; - is standard input")
     for each in names.split():
         flags, value, kind, text = OPTIONS[each]
         how = {"action": "store_true"} if kind is None else {"choices": kind} if isinstance(kind, list) else {"metavar": kind}
         how.update({"type": number} if kind == "NUMBER" else {})
-        parser.add_argument(*flags.split(), default=value, dest=each.replace("service", "target"), help=text, **how)
+        parser.add_argument(*flags.split(), dest=each.replace("service", "target"), help=text, **how)
     options = argparse.Namespace(**{each: row[1] for each, row in OPTIONS.items()}, file=default, run=run, part=None)
     parser.parse_args(words[bool(command):], options)
     options.jobs = min(max(options.jobs, 1), 999)
     if options.resume and not options.out:
         raise Stop("--resume goes on with OUT.part: add -o OUT.", 2)
+    if options.out and os.path.lexists(options.out):
+        raise Stop(f"{options.out} is there already: remove it, or name another file after -o.", 2)
     if command != "audit":      # what mkpasswd takes by itself are fewer rounds, and no budget
-        options.rounds = options.rounds or (7 if options.method == "scrypt" else 656000)
-        cost = 268491592 << max(0, options.rounds - 7) if options.method == "scrypt" else 253921472 * max(options.rounds, 656000) // 656000
+        base, least, scrypt = 253921472, 656000, options.method == "scrypt"
+        options.rounds = options.rounds or (7 if scrypt else least)
+        cost = 268491592 << max(0, options.rounds - 7) if scrypt else base * max(options.rounds, least) // least
         options.budget = options.budget or cost * (1 + options.rehash)
     values = ((each, getattr(options, each)) for each in ("method", "rounds", "salt", "budget"))
     options.words = [f"--{each}={value}" for each, value in values if value is not None] + ["--rehash"] * options.rehash
@@ -82,16 +83,13 @@ def arguments(words):
 
 def tell_end(options, text):
     """Says why the run ended early and how to go on, on the terminal too if standard error goes elsewhere."""
-    if options and options.part and options.part.fd and options.run == hashing.file:
-        words = [sys.argv[0], *sys.argv[1:], *["--resume"][options.resume:]]
-        path = os.readlink("/proc/self/fd/0") if options.file == "-" else None
-        text += f" To go on:\n  {shlex.join(words)}{' < ' + shlex.quote(path) if path else ''}"
-    if progress.fd is not None and not os.isatty(2):
-        progress.put(f"\r\x1b[Kpwhash: {text}\n")
+    if options and options.part and options.run == hashing.file:
+        words = [*sys.argv, *["--resume"][options.resume:]]
+        path = f" < {shlex.quote(os.readlink('/proc/self/fd/0'))}" if options.file == "-" else ""
+        text += f" To go on:\n  {shlex.join(words)}{path}"
+    if not os.isatty(2):
+        on_terminal(f"\r\x1b[Kpwhash: {text}\n")
     say(text)
-
-def interrupt(number, frame):
-    raise Interrupted(number)
 
 def main():
     while (fd := os.open("/dev/null", os.O_RDWR)) < 3:      # closed descriptors get no other file
@@ -99,7 +97,8 @@ def main():
     os.close(fd)
     signal.signal(signal.SIGCHLD, signal.SIG_DFL)
     signal.pthread_sigmask(signal.SIG_SETMASK, [])
-    signals, options = [each for each in (signal.SIGINT, signal.SIGTERM, signal.SIGHUP) if signal.getsignal(each) != signal.SIG_IGN], None
+    signals, options = [each for each in (signal.SIGINT, signal.SIGTERM, signal.SIGHUP) if signal.getsignal(each)], None
+    signals = [each for each in signals if signal.getsignal(each) != signal.SIG_IGN]
     for each in signals:
         signal.signal(each, interrupt)
     try:
@@ -107,7 +106,6 @@ def main():
             options = arguments(sys.argv[1:])
             if sys.stdout is None and not options.out or sys.stdin is None and options.file == "-":
                 raise Stop("standard input or output is closed.")
-            progress.open(options.quiet)
             return int(bool(options.run(options)))
         finally:
             for each in signals:
@@ -126,8 +124,6 @@ def main():
     except SystemExit as leave:      # of argparse's help
         sys.stdout.flush()
         return leave.code
-    except OSError as error:
-        tell_end(options, f"{error.filename or 'a read'}: {error.strerror}.")
     except BaseException as error:
-        tell_end(options, f"an error that nobody foresaw: {type(error).__name__}: {error}.")
+        tell_end(options, f"{getattr(error, 'filename', None) or 'an error'}: {getattr(error, 'strerror', None) or repr(error)}.")
     return 3

@@ -9,9 +9,8 @@ from lines import ready
 from terminal import Stop, progress, readable
 
 SECONDS = 0.25      # what a block should take
-MOST = 1 << 13      # lines of a block
-
-NAMES = re.compile(rb"^[^:\n]+:", re.M)
+MOST = 1 << 15      # lines of a block
+NAMES = re.compile(rb"^([^:\n]+:).*\n?", re.M)
 REFUSAL = re.compile(rb"mkpasswd: line ([1-9][0-9]*): ([a-z ]+)")
 HASH = rb"\$[!-9;-~]+"
 COLUMNS = rb"[a-z0-9]+:[0-9]+(?:/[0-9]+/[0-9]+)?:[0-9]+:"
@@ -23,7 +22,6 @@ FORMS = {      # all that mkpasswd can write behind a name: what leaves its stat
                 COLUMNS + rb"(?:over budget|dead|outdated)|none|no scheme|malformed:[a-z ]+")}
 HINTS = {"cost": "with -m scrypt, -R is from 6 to 11, such as -R 7", "salt character": "-S takes letters, digits, . and /",
          "salt length": "-S has up to 8 characters with -m md5crypt, 16 with SHA-crypt, 86 with scrypt"}
-
 processes = set()      # those that run
 
 def find_mkpasswd():
@@ -44,53 +42,52 @@ class Engine:
         Engine.path = Engine.path or find_mkpasswd()
         self.command, self.jobs, self.size, self.bad = [self.path, mode, *words], jobs, 1, False
         good, bad = FORMS["--rehash" if "--rehash" in words else mode]
-        self.good, self.form = re.compile(rb"^([^:\n]+:)(?:%b)$" % good, re.M), re.compile(rb"(?:%b)|(%b)" % (good, bad))
-        list(self.answers([(range(1, 2), [b""])]))      # wrong words end the run here
-        self.bad = False      # whether the status is 1
+        self.good, self.form = re.compile(rb"^([^:\n]+:)(?:%b)(?:\n|\Z)" % good, re.M), re.compile(rb"(?:%b)|(%b)" % (good, bad))
+        list(self.answers([([1], [b""])]))      # wrong words end the run here
+        self.bad = False                        # whether the status is 1
 
     def start(self, block):
         """Gives the lines of a block that have no answer yet to a new mkpasswd, which Ctrl-C doesn't reach."""
         done = len(block.answers)
         with open(os.memfd_create("lines"), "w+b", 0) as file:
-            file.write(b"".join(line + b"\n" for line in block.lines[done:]))
+            file.write(b"\n".join(block.lines[done:] + [b""]))
             file.seek(0)
             block.process = subprocess.Popen(
                 [*self.command, f"--first-line={block.numbers[0] + done}"], stdin=file, stdout=subprocess.PIPE,
                 stderr=subprocess.STDOUT, bufsize=0, env={}, start_new_session=True)
         processes.add(block.process)
         block.text, block.begun = b"", time.monotonic()
-        return block.process.stdout.fileno()
 
     def read(self, block):
-        """Reads some of what a mkpasswd says. Returns whether it has ended."""
-        piece = os.read(block.process.stdout.fileno(), 1 << 16)
+        """Reads some of what a mkpasswd says. At its end the block has all its answers, or another mkpasswd goes on."""
+        piece, done, count = os.read(block.process.stdout.fileno(), 1 << 16), len(block.answers), len(block.lines)
         block.text += piece
         if piece and len(block.text) < 1 << 24:
-            return False
+            return
         block.process.stdout.close()
-        code, done, count = block.process.wait(), len(block.answers), len(block.lines)
+        code = block.process.wait()
         processes.discard(block.process)
         *answers, said = block.text.split(b"\n")
-        said, block.answers = readable((said or b"".join(answers[-1:]))[:200]), block.answers + answers
+        block.answers, said = block.answers + answers, readable((said or b"".join(answers[-1:]))[:200])
         block.deaths = 0 if answers else block.deaths + 1
         if code == 2:
             raise Stop(f"{said}: {HINTS.get(said[10:], 'see pwhash --help')}.", 2)
-        if code > 1 or len(block.answers) > count or len(block.answers) < count and (code >= 0 or block.deaths > 1):
+        if code < 0 and len(block.answers) < count and block.deaths < 2:
+            return self.start(block)
+        if code > 1 or len(block.answers) != count:
             at = block.numbers[min(len(block.answers), count - 1)]
             raise Stop(f"mkpasswd ended at line {at} with status {code}, and said last: {said}")
+        block.refusals, bad = self.refusals(block)
+        self.bad |= bad
+        if code >= 0 and not done and code != bad:
+            raise Stop(f"mkpasswd ended after line {block.numbers[-1]} with status {code}, which its answers deny.")
         self.size = max(1, min(MOST, int(count * min(8, SECONDS / max(time.monotonic() - block.begun, 1e-3)))))
-        if len(block.answers) == count:
-            block.refusals, bad = self.refusals_in(block)
-            self.bad |= bad
-            if code >= 0 and not done and code != bad:
-                raise Stop(f"mkpasswd ended after line {block.numbers[-1]} with status {code}, which its answers deny.")
-        return True
 
-    def refusals_in(self, block):
+    def refusals(self, block):
         """The refusals by place, and whether the status is 1. Whatever is no answer to its line ends the run."""
         refusals, bad, names = {}, False, self.good.findall(b"\n".join(block.answers))
         if len(names) == len(block.lines) and names == NAMES.findall(b"\n".join(block.lines)):
-            return refusals, bad      # each is good, and has its line's name
+            return refusals, bad      # each is good, and has the name of its line
         for place, (number, line, answer) in enumerate(zip(block.numbers, block.lines, block.answers)):
             colon, refusal = line.find(b":") + 1, REFUSAL.fullmatch(answer)
             match = colon > 1 and answer.startswith(line[:colon]) and self.form.fullmatch(answer, colon)
@@ -101,35 +98,28 @@ class Engine:
             bad |= bool(refusal or match[1])
         return refusals, bad
 
-    def answers(self, batches, slow=None):
-        """Gives numbers, lines, answers, and refusals by place, in order and as soon as they are there. batches gives numbers
-        and lines, and slow is the descriptor of these if they may come slowly. No more than a few blocks are under way."""
-        batches, order, running, numbers, lines, more = iter(batches), collections.deque(), {}, (), [], True
-        while more or lines or order:
-            room = len(running) < self.jobs and len(order) < 4 * self.jobs
-            wanted = room and more and not lines
-            if wanted and (slow is None or not order or ready([slow], 0)):
-                numbers, lines = next(batches, ((), None))
-                more, lines = lines is not None, lines or []
-            elif room and lines:
-                count = self.size
-                block = types.SimpleNamespace(numbers=numbers[:count], lines=lines[:count], answers=[], deaths=0, refusals=None)
-                try:
-                    running[self.start(block)] = block
-                except OSError:
-                    if not running:
-                        raise
-                    self.jobs = len(running)      # as many as the system allows
-                    continue
-                numbers, lines = numbers[count:], lines[count:]
+    def answers(self, pieces):
+        """Gives numbers, lines, answers, and refusals by place, in order, as soon as they are there. pieces gives numbers and
+        lines, or none of these where they come slowly. No more than a few blocks are under way."""
+        order = collections.deque()
+        for numbers, lines in pieces:
+            while lines:
+                block = types.SimpleNamespace(numbers=numbers[:self.size], lines=lines[:self.size], answers=[], deaths=0, refusals=None)
+                numbers, lines = numbers[len(block.lines):], lines[len(block.lines):]
+                self.start(block)
                 order.append(block)
-            else:
-                for each in ready([*running, *[slow] * wanted], 500):
-                    if each in running and self.read(running[each]):
-                        block = running.pop(each)
-                        if block.refusals is None:
-                            running[self.start(block)] = block
-                while order and order[0].refusals is not None:
-                    block = order.popleft()
-                    yield block.numbers, block.lines, block.answers, block.refusals
-                progress.show()
+                while sum(each.refusals is None for each in order) >= self.jobs or len(order) >= 4 * self.jobs:
+                    yield from self.finished(order, 500)
+            yield from self.finished(order, 0)
+        while order:
+            yield from self.finished(order, 500)
+
+    def finished(self, order, milliseconds):
+        """Waits for what the processes say, and gives the blocks that are done, in order."""
+        running = {block.process.stdout.fileno(): block for block in order if block.refusals is None}
+        for each in ready(running, milliseconds):
+            self.read(running[each])
+        while order and order[0].refusals is not None:
+            block = order.popleft()
+            yield block.numbers, block.lines, block.answers, block.refusals
+        progress.show()

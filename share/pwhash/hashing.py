@@ -2,9 +2,9 @@
 import getpass, itertools, os, re, secrets, string, time
 from engine import Engine
 from lines import Source
-from looking import SERVICES, Problems, look
+from looking import Problems, look
 from part import Part
-from terminal import Stop, progress, write
+from terminal import Stop, on_terminal, progress, write
 
 PLACES = {      # what --for prints for one hash; those with a name need --name
     None: "{hash}", "preseed-root": "d-i passwd/root-password-crypted password {hash}",
@@ -13,11 +13,10 @@ PLACES = {      # what --for prints for one hash; those with a name need --name
     "ansible": 'password: "{hash}"', "htpasswd": "{name}:{hash}", "shadow": "{name}:{hash}:{day}:0:99999:7:::"}
 
 def new_password(options):
-    if options.generate and progress.fd is None:
-        raise Stop("--generate shows the password on the terminal, and there is none.")
     if options.generate:
         password = "".join(secrets.choice(string.ascii_letters + string.digits) for _ in range(20))
-        write(progress.fd, f"The password, shown only here: {password}\n".encode(), "the terminal")
+        if not on_terminal(f"The password, shown only here: {password}\n"):
+            raise Stop("--generate shows the password on the terminal, and there is none.")
         return password.encode()
     if not os.isatty(0):
         return next((line for _, lines in Source(options).lines() for line in lines), b"")
@@ -42,30 +41,29 @@ def one(options):
 
 def file(options):
     """Hashes lines name:password. A file is read twice, first to look for problems."""
-    options.part, source = Part(options) if options.out else None, Source(options)
+    source = Source(options)
     if options.out and not source.regular:
         raise Stop("-o needs a file, which can be read twice. Give its name, or leave out -o.", 2)
     problems = look(source, options) if source.regular else Problems(source, options.target)
-    engine = Engine("--batch", options.words, options.jobs)
-    progress.begin("hashing", source.total)
-    lines = options.part.open(source, problems.refused) if options.out else source.lines()
-    for numbers, lines, answers, refusals in engine.answers(lines, source.slow):
+    engine, options.part = Engine("--batch", options.words, options.jobs), Part(options) if options.out else None
+    progress.begin("hashing", source.total, options.quiet)
+    pieces = options.part.rest(source, problems.refused) if options.resume else source.lines()
+    for numbers, lines, answers, refusals in engine.answers(pieces):
         if source.regular and {numbers[place] for place in refusals} != problems.refused.intersection(numbers):
             raise Stop(f"{source.name} has changed since it was looked at.")
-        if source.regular:
-            answers, refusals = [answer for place, answer in enumerate(answers) if place not in refusals], {}
         for place in range(len(lines)) if not source.regular and not options.accept_doubtful else ():
             if place not in refusals:
                 problems.doubt(numbers[place], lines[place])
-        show(answers, refusals, options.part)
+        show(answers, refusals, options.part, source.regular)
         progress.done = numbers[-1]
     if options.part:
         options.part.finish()
     return engine.bad or problems.doubtful and not options.accept_doubtful
 
-def show(answers, refusals, part=None):
-    """Writes answers and refusals where mkpasswd does, in order."""
-    for refused, places in itertools.groupby(range(len(answers)), refusals.__contains__):
-        text = b"".join(answers[place] + b"\n" for place in places)
-        fd, name = (2, "standard error") if refused else (part.fd, part.path) if part else (1, "standard output")
-        write(fd, text, name)
+def show(answers, refusals, part=None, told=False):
+    """Writes answers and refusals where mkpasswd does, in order; no refusals if they were told before."""
+    fd, name = (part.fd, part.path) if part else (1, "standard output")
+    for refused, places in itertools.groupby(range(len(answers)), refusals.__contains__) if refusals else [(False, range(len(answers)))]:
+        if not (refused and told):
+            text = b"\n".join([answers[place] for place in places] + [b""])
+            write(*((2, text, "standard error") if refused else (fd, text, name)))

@@ -8,8 +8,8 @@ from terminal import Stop, say
 LONGEST = 2050      # bytes of a line: what mkpasswd takes, what is too much, and a carriage return
 MARK = b"\xef\xbb\xbf"
 
-def ready(descriptors, milliseconds=None):
-    """Waits for some of the descriptors that can be read."""
+def ready(descriptors, milliseconds):
+    """Those that can be read, as soon as some can."""
     poll = select.poll()
     for each in descriptors:
         poll.register(each, select.POLLIN)
@@ -17,34 +17,33 @@ def ready(descriptors, milliseconds=None):
 
 class Source:
     def __init__(self, options):
-        self.options, self.name = options, "standard input" if options.file == "-" else options.file
-        self.fd, self.absent, self.total = 0 if options.file == "-" else os.open(options.file, os.O_RDONLY), 0, 0
+        self.options, self.name, self.absent, self.total = options, options.file, 0, 0
+        self.fd = 0 if self.name == "-" else os.open(self.name, os.O_RDONLY)
         self.regular = stat.S_ISREG(os.fstat(self.fd).st_mode)
-        self.slow = None if self.regular else self.fd
         if os.isatty(self.fd):
             say("reading lines from the terminal; Ctrl-D ends them.")
         if self.regular:
             self.start = os.lseek(self.fd, 0, os.SEEK_CUR)
-            self.total = sum(len(lines) for _, lines in self.whole_lines())
+            self.total = sum(piece.count(b"\n") for piece in iter(lambda: os.read(self.fd, 1 << 19), b""))
 
     def lines(self):
-        """Numbers and lines, some at a time, from the beginning."""
+        """Numbers and lines, some at a time, from the beginning; none where they come slowly."""
         if self.options.csv:
             return self.rows(self.options.columns.lower().split(","))
-        lines = self.whole_lines(self.options.windows)
+        lines = self.whole_lines(self.options.windows, LONGEST)
         return self.with_fields(lines) if self.options.shadow else lines
 
-    def whole_lines(self, windows=False, longest=LONGEST):
+    def whole_lines(self, windows, longest):
         """Lines as they come, of a long one only what makes it too long."""
         if self.regular:
             os.lseek(self.fd, self.start, os.SEEK_SET)
         number, rest, piece = 1, b"", b"\n"
         while piece:
-            ready([self.fd])
-            piece = os.read(self.fd, 1 << 18)
+            while not ready([self.fd], 50):
+                yield (), []
+            piece = os.read(self.fd, 1 << 19)
             *lines, rest = (rest + piece).split(b"\n")
-            if rest and not piece:
-                lines.append(rest)
+            lines += [rest] if rest and not piece else []
             if windows:
                 lines = [line[:-1] if line.endswith(b"\r") else line for line in lines]
                 lines[:1] = [line[3 if number == 1 and line.startswith(MARK) else 0:] for line in lines[:1]]
@@ -73,8 +72,8 @@ class Source:
 
     def with_fields(self, pieces):
         """Lines `name:password` as `name:field:password`, with the fields of a file such as /etc/shadow, if it has the name."""
-        with open(self.options.shadow, "rb") as file:
-            fields = dict(reversed([line.rstrip(b"\n").split(b":")[:2] for line in file if b":" in line]))      # the first counts
+        with open(self.options.shadow, "rb") as file:      # the first line of a name counts
+            fields = dict(reversed([line.rstrip(b"\n").split(b":")[:2] for line in file if b":" in line]))
         for numbers, lines in pieces:
             some = [(number, *line.partition(b":")[::2]) for number, line in zip(numbers, lines)]
             some = [(number, b"%b:%b:%b" % (name, fields[name], password)) for number, name, password in some if name in fields]

@@ -22,40 +22,35 @@ def write(fd, data, name):
 def say(sentence):
     write(2, f"pwhash: {sentence}\n".encode("utf-8", "backslashreplace"), "standard error")
 
+def on_terminal(text):
+    """Writes on the terminal, wherever the outputs go. Returns whether there is one, and this is not in the background."""
+    try:
+        with open("/dev/tty", "wb", 0) as terminal:
+            return os.tcgetpgrp(terminal.fileno()) == os.getpgrp() and bool(terminal.write(text.encode()))
+    except OSError:
+        return False
+
 class Progress:
-    """How far the run is: in place, at most twice a second, on the terminal (fd), and not in the background."""
-    fd, begun, last, shown = None, float("inf"), 0, False
+    """How far the run is, in place, at most twice a second. Before begin() nothing is shown."""
+    next, shown = float("inf"), False
 
-    def open(self, quiet):
-        if not quiet:
-            try:
-                self.fd = os.open("/dev/tty", os.O_WRONLY | os.O_NOCTTY)
-            except OSError:
-                pass
-
-    def begin(self, word, total):
+    def begin(self, word, total, quiet):
         self.word, self.total, self.first, self.done, self.begun = word, total, 0, 0, time.monotonic()
+        self.next = float("inf") if quiet else self.begun + 1
 
     def show(self):
         now = time.monotonic()
-        if now < self.last + 0.5 or now < self.begun + 1:
+        if now < self.next:
             return
-        self.last, self.shown, rate = now, True, (self.done - self.first) / (now - self.begun)
+        self.next, rate = now + 0.5, (self.done - self.first) / (now - self.begun)
         text = f"{self.word}: {self.done:,} lines, {rate:,.1f} a second"
         if self.total and rate:
             text, left = text.replace("lines", f"of {self.total:,} lines"), max(0, int((self.total - self.done) / rate))
             text += f", {100 * self.done // self.total} %, {left // 3600}:{left // 60 % 60:02}:{left % 60:02} left"
-        self.put(f"\r{text}\x1b[K")
-
-    def put(self, text):
-        try:
-            if self.fd is not None and os.tcgetpgrp(self.fd) == os.getpgrp():
-                os.write(self.fd, text.encode())
-        except OSError:
-            self.fd = None
+        self.shown = on_terminal(f"\r{text}\x1b[K")
 
     def clear(self):
         if self.shown:
-            self.shown = self.put("\r\x1b[K")
+            self.shown = on_terminal("\r\x1b[K") and False
 
 progress = Progress()
