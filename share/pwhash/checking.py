@@ -1,9 +1,8 @@
 """`pwhash check` and `pwhash audit`: stored hashes."""
 import collections, json, os
 from engine import Engine
-from hashing import show
+from hashing import Part, show
 from lines import Source
-from part import Part
 from terminal import progress, readable, say, write
 
 def check(options):
@@ -24,6 +23,7 @@ def check(options):
         say(f"{source.absent:,} lines of {source.name} have no account in {options.shadow}.")
     return engine.bad
 
+FINE = ("unknown", "current", "locked")
 FINDINGS = {      # the colour of each, and what to do
     "none": (31, "no password is asked for: set one, or lock the account with passwd -l NAME"),
     "over budget": (31, "a login can take minutes: set a new password, or lock the account"),
@@ -36,13 +36,12 @@ FINDINGS = {      # the colour of each, and what to do
 
 def found(number, line, answer, refusal):
     """An answer by its columns: METHOD:ROUNDS:COST:finding, METHOD:unknown, malformed:MESSAGE, or a finding alone."""
-    if refusal:
-        return {"line": number, "name": f"line {number}", "finding": "refused", "message": refusal}
-    *columns, finding = answer[line.index(b":") + 1:].decode().split(":")
-    more = {key: int(value) if value.isdecimal() else value for key, value in zip(("method", "rounds", "cost"), columns)}
-    if columns == ["malformed"]:
-        finding, more = "malformed", {"message": finding}
-    return {"line": number, "name": readable(line.partition(b":")[0]), "finding": finding, **more}
+    name, message, (*columns, finding) = readable(line.partition(b":")[0]), "", answer[line.find(b":") + 1:].decode().split(":")
+    if refusal or columns == ["malformed"]:
+        columns, message, finding = [], refusal or finding, "refused" if refusal else "malformed"
+    method, rounds, cost = [int(each) if each.isdecimal() else each for each in columns] + [""] * (3 - len(columns))
+    return {"line": number, "name": f"line {number}" if refusal else name, "method": method, "rounds": rounds, "cost": cost,
+            "finding": finding, "message": message}
 
 def unlocked(pieces):
     """Lines whose hashes have no ! or * in front."""
@@ -52,8 +51,8 @@ def unlocked(pieces):
 
 def audit(options):
     """Shows what is wrong with stored hashes."""
-    source, engine = Source(options), Engine("--audit", options.words, options.jobs)
-    counts, colour, empty = collections.Counter(), os.isatty(1) and "NO_COLOR" not in os.environ, True
+    source, engine, counts = Source(options), Engine("--audit", options.words, options.jobs), collections.Counter()
+    colour, head = os.isatty(1) and "NO_COLOR" not in os.environ, f"{'NAME':20}  {'METHOD':12}  {'ROUNDS':>11}  FINDING\n"
     def row(finding, text):
         return f"\x1b[{FINDINGS[finding][0]}m{text}\x1b[m\n" if colour else text + "\n"
     progress.begin("auditing", source.total, options.quiet)
@@ -62,18 +61,14 @@ def audit(options):
         text, progress.done = "", numbers[-1]
         for place, each in enumerate(zip(numbers, lines, answers)):
             this = found(*each, refusals.get(place))
-            finding, message = this["finding"], ": " + this["message"] if "message" in this else ""
-            counts[finding] += 1
-            if options.only_problems and finding in ("unknown", "current", "locked"):
-                continue
-            if options.json:
+            counts[this["finding"]] += 1
+            if options.json and not (options.only_problems and this["finding"] in FINE):
                 text += json.dumps(this) + "\n"
-                continue
-            text += f"{'NAME':20}  {'METHOD':12}  {'ROUNDS':>11}  FINDING\n" * empty
-            text += row(finding, f"{this['name']:20}  {this.get('method', ''):12}  {this.get('rounds', ''):>11}  {finding}{message}")
-            empty = False
+            elif not (options.only_problems and this["finding"] in FINE):
+                text += head + row(this["finding"], "{name:20}  {method:12}  {rounds:>11}  {finding} {message}".format(**this).rstrip())
+                head = ""
         write(1, text.encode(), "standard output")
-    if not options.json and not (options.only_problems and empty):
+    if not options.json and not (options.only_problems and head):
         rows = [row(finding, f"{counts[finding]:7,} {finding:12} {FINDINGS[finding][1]}") for finding in FINDINGS if counts[finding]]
         write(1, f"\n{sum(counts.values()):,} lines:\n{''.join(rows)}".encode(), "standard output")
     return engine.bad

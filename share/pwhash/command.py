@@ -1,6 +1,6 @@
 """The command line of pwhash: its options, and how a run ends."""
 import argparse, os, re, shlex, signal, sys
-import checking, engine, hashing, looking
+import checking, engine, hashing
 from terminal import Stop, on_terminal, progress, say
 
 USAGE = """
@@ -25,7 +25,7 @@ OPTIONS = {      # of argparse: the words, the default, what a value is called o
     "delimiter": ("--delimiter", ",", "C", "what is between its columns; by default a comma"),
     "skip_refused": ("--skip-refused", False, None, "leave out lines that mkpasswd refuses"),
     "accept_doubtful": ("--accept-doubtful", False, None, "take lines as they are, even with empty passwords"),
-    "service": ("--for", None, [each for each in looking.SERVICES if each], "doubt names that the service takes for others"),
+    "service": ("--for", None, [each for each in hashing.SERVICES if each], "doubt names that the service takes for others"),
     "shadow": ("--shadow", None, "FIELDS", "lines are name:password; the hashes are in the file FIELDS"),
     "rehash": ("--rehash", False, None, "renew hashes that are outdated; with -o, write these alone, for chpasswd -e"),
     "target": ("--for", None, [each for each in hashing.PLACES if each], "print what belongs there"),
@@ -59,7 +59,7 @@ def arguments(words):
     parser = argparse.ArgumentParser(prog=f"pwhash {command or ''}".strip(), usage=None if command else USAGE,
                                      description=command and run.__doc__, allow_abbrev=False)
     if command:
-        parser.add_argument("file", nargs="?", metavar="FILE", help=f"by default {default}; - is standard input")
+        parser.add_argument("file", nargs="?", default=default, metavar="FILE", help=f"by default {default}; - is standard input")
     for each in names.split():
         flags, value, kind, text = OPTIONS[each]
         how = {"action": "store_true"} if kind is None else {"choices": kind} if isinstance(kind, list) else {"metavar": kind}

@@ -2,7 +2,7 @@
 
 A block of lines goes to a mkpasswd of its own, in memory, so that nobody waits for room in a pipe. Both its outputs come
 back in one pipe, so that each line has its answer in order: one with its name, or a refusal with its number. Anything else
-ends the run. If a mkpasswd is killed, another one does the rest of its block.
+ends the run. If a mkpasswd is killed, another one answers its block.
 """
 import collections, os, re, subprocess, time, types
 from lines import ready
@@ -13,13 +13,10 @@ MOST = 1 << 15      # lines of a block
 NAMES = re.compile(rb"^([^:\n]+:).*\n?", re.M)
 REFUSAL = re.compile(rb"mkpasswd: line ([1-9][0-9]*): ([a-z ]+)")
 HASH = rb"\$[!-9;-~]+"
-COLUMNS = rb"[a-z0-9]+:[0-9]+(?:/[0-9]+/[0-9]+)?:[0-9]+:"
-FORMS = {      # all that mkpasswd can write behind a name: what leaves its status 0, and what makes it 1
-    "--batch": (HASH, rb"(?!)"),
-    "--check": (rb"ok|none|locked", rb"no"),
-    "--rehash": (rb"ok|ok:" + HASH + rb"|none|locked", rb"no"),
-    "--audit": (COLUMNS + rb"current|locked|(?:[A-Za-z0-9-]+:)?unknown",
-                COLUMNS + rb"(?:over budget|dead|outdated)|none|no scheme|malformed:[a-z ]+")}
+FORMS = {      # all that mkpasswd can write behind a name
+    "--batch": HASH, "--check": rb"ok|no|none|locked", "--rehash": rb"ok(?::" + HASH + rb")?|no|none|locked",
+    "--audit": rb"[a-z0-9]+:[0-9]+(?:/[0-9]+/[0-9]+)?:[0-9]+:(?:over budget|dead|outdated|current)|"
+               rb"locked|none|(?:[A-Za-z0-9-]+:)?unknown|malformed:[a-z ]+|no scheme"}
 HINTS = {"cost": "with -m scrypt, -R is from 6 to 11, such as -R 7", "salt character": "-S takes letters, digits, . and /",
          "salt length": "-S has up to 8 characters with -m md5crypt, 16 with SHA-crypt, 86 with scrypt"}
 processes = set()      # those that run
@@ -41,62 +38,55 @@ class Engine:
     def __init__(self, mode, words, jobs=1):
         Engine.path = Engine.path or find_mkpasswd()
         self.command, self.jobs, self.size, self.bad = [self.path, mode, *words], jobs, 1, False
-        good, bad = FORMS["--rehash" if "--rehash" in words else mode]
-        self.good, self.form = re.compile(rb"^([^:\n]+:)(?:%b)(?:\n|\Z)" % good, re.M), re.compile(rb"(?:%b)|(%b)" % (good, bad))
+        self.form = re.compile(rb"^([^:\n]+:)(?:%b)(?:\n|\Z)" % FORMS["--rehash" if "--rehash" in words else mode], re.M)
         list(self.answers([([1], [b""])]))      # wrong words end the run here
         self.bad = False                        # whether the status is 1
 
     def start(self, block):
-        """Gives the lines of a block that have no answer yet to a new mkpasswd, which Ctrl-C doesn't reach."""
-        done = len(block.answers)
+        """Gives the lines of a block to a mkpasswd, which Ctrl-C doesn't reach."""
         with open(os.memfd_create("lines"), "w+b", 0) as file:
-            file.write(b"\n".join(block.lines[done:] + [b""]))
+            file.write(b"\n".join(block.lines + [b""]))
             file.seek(0)
-            block.process = subprocess.Popen(
-                [*self.command, f"--first-line={block.numbers[0] + done}"], stdin=file, stdout=subprocess.PIPE,
-                stderr=subprocess.STDOUT, bufsize=0, env={}, start_new_session=True)
+            block.process = subprocess.Popen([*self.command, f"--first-line={block.numbers[0]}"], stdin=file, stdout=subprocess.PIPE,
+                                             stderr=subprocess.STDOUT, bufsize=0, env={}, start_new_session=True)
         processes.add(block.process)
         block.text, block.begun = b"", time.monotonic()
 
     def read(self, block):
-        """Reads some of what a mkpasswd says. At its end the block has all its answers, or another mkpasswd goes on."""
-        piece, done, count = os.read(block.process.stdout.fileno(), 1 << 16), len(block.answers), len(block.lines)
+        """Reads some of what a mkpasswd says. At its end the block has its answers, or another mkpasswd begins again."""
+        piece = os.read(block.process.stdout.fileno(), 1 << 16)
         block.text += piece
         if piece and len(block.text) < 1 << 24:
             return
         block.process.stdout.close()
-        code = block.process.wait()
+        code, count = block.process.wait(), len(block.lines)
         processes.discard(block.process)
-        *answers, said = block.text.split(b"\n")
-        block.answers, said = block.answers + answers, readable((said or b"".join(answers[-1:]))[:200])
-        block.deaths = 0 if answers else block.deaths + 1
+        *block.answers, rest = block.text.split(b"\n")
+        if code < 0 and block.deaths < 2:
+            block.deaths += 1
+            return self.start(block)
+        said = readable((rest or b"".join(block.answers[-1:]))[:200])
         if code == 2:
             raise Stop(f"{said}: {HINTS.get(said[10:], 'see pwhash --help')}.", 2)
-        if code < 0 and len(block.answers) < count and block.deaths < 2:
-            return self.start(block)
-        if code > 1 or len(block.answers) != count:
+        if code not in (0, 1) or rest or len(block.answers) != count:
             at = block.numbers[min(len(block.answers), count - 1)]
-            raise Stop(f"mkpasswd ended at line {at} with status {code}, and said last: {said}")
-        block.refusals, bad = self.refusals(block)
-        self.bad |= bad
-        if code >= 0 and not done and code != bad:
-            raise Stop(f"mkpasswd ended after line {block.numbers[-1]} with status {code}, which its answers deny.")
+            raise Stop(f"mkpasswd ended with status {code} near line {at}, and said last: {said}")
+        block.refusals = self.refusals(block)
+        self.bad |= code == 1
         self.size = max(1, min(MOST, int(count * min(8, SECONDS / max(time.monotonic() - block.begun, 1e-3)))))
 
     def refusals(self, block):
-        """The refusals by place, and whether the status is 1. Whatever is no answer to its line ends the run."""
-        refusals, bad, names = {}, False, self.good.findall(b"\n".join(block.answers))
+        """The refusals by place. Whatever is no answer to its line ends the run."""
+        refusals, names = {}, self.form.findall(b"\n".join(block.answers))
         if len(names) == len(block.lines) and names == NAMES.findall(b"\n".join(block.lines)):
-            return refusals, bad      # each is good, and has the name of its line
+            return refusals      # each answer has the form and its line's name
         for place, (number, line, answer) in enumerate(zip(block.numbers, block.lines, block.answers)):
-            colon, refusal = line.find(b":") + 1, REFUSAL.fullmatch(answer)
-            match = colon > 1 and answer.startswith(line[:colon]) and self.form.fullmatch(answer, colon)
+            refusal = REFUSAL.fullmatch(answer)
             if refusal and int(refusal[1]) == block.numbers[0] + place:
                 refusals[place], block.answers[place] = refusal[2].decode(), b"mkpasswd: line %d: %b" % (number, refusal[2])
-            elif not match:
+            elif not self.form.match(answer) or self.form.findall(answer) != NAMES.findall(line):
                 raise Stop(f"line {number} got no answer of its own: {readable(answer[:200])}")
-            bad |= bool(refusal or match[1])
-        return refusals, bad
+        return refusals
 
     def answers(self, pieces):
         """Gives numbers, lines, answers, and refusals by place, in order, as soon as they are there. pieces gives numbers and
@@ -104,7 +94,7 @@ class Engine:
         order = collections.deque()
         for numbers, lines in pieces:
             while lines:
-                block = types.SimpleNamespace(numbers=numbers[:self.size], lines=lines[:self.size], answers=[], deaths=0, refusals=None)
+                block = types.SimpleNamespace(numbers=numbers[:self.size], lines=lines[:self.size], deaths=0, refusals=None)
                 numbers, lines = numbers[len(block.lines):], lines[len(block.lines):]
                 self.start(block)
                 order.append(block)

@@ -1,16 +1,18 @@
 """`pwhash` and `pwhash file`: new hashes."""
-import getpass, itertools, os, re, secrets, string, time
-from engine import Engine
-from lines import Source
-from looking import Problems, look
-from part import Part
-from terminal import Stop, on_terminal, progress, write
+import fcntl, getpass, itertools, os, re, secrets, string, time
+from engine import HASH, Engine
+from lines import MARK, Source
+from terminal import Stop, on_terminal, progress, readable, say, write
 
 PLACES = {      # what --for prints for one hash; those with a name need --name
     None: "{hash}", "preseed-root": "d-i passwd/root-password-crypted password {hash}",
     "preseed-user": "d-i passwd/user-password-crypted password {hash}", "kickstart": "rootpw --iscrypted {hash}",
     "cloud-init": "#cloud-config\nusers:\n  - name: {name}\n    lock_passwd: false\n    hashed_passwd: {hash}",
     "ansible": 'password: "{hash}"', "htpasswd": "{name}:{hash}", "shadow": "{name}:{hash}:{day}:0:99999:7:::"}
+SERVICES = {    # the names that each service reads as they are
+    "apache": rb"[^#\s\0-\x1f\x7f][^\0-\x1f\x7f]*", "nginx": rb"[^#\s\0-\x1f\x7f][^\0-\x1f\x7f]*",
+    "dovecot": rb"[a-z0-9_.@-]+", "ldap": rb"[a-z0-9_-]+", None: rb"(?s).*"}
+NAMELESS = ("line too long", "no name", "name too long", "no password field")      # what looks like a name may be a password
 
 def new_password(options):
     if options.generate:
@@ -38,6 +40,108 @@ def one(options):
         raise Stop(f"{refusals[0]}. Give at most 1,024 bytes, none of them zero, or for more cost a --budget.", 2)
     text = PLACES[options.target].format(name=options.name, hash=answer[2:].decode(), day=int(time.time() // 86400))
     write(1, text.encode() + b"\n", "standard output")
+
+class Problems:
+    """Tells what is wrong with lines. Has the numbers of those that would be refused, and how many are doubtful."""
+    def __init__(self, source, service):
+        self.name, self.plain, self.names = source.name, re.compile(SERVICES[service]).fullmatch, set()
+        self.refused, self.doubtful = set(), 0
+
+    def tell(self, number, name, reason):
+        say(f"{self.name}, line {number}{'' if reason in NAMELESS else f' ({readable(name)})'}: {reason}")
+
+    def refuse(self, number, name, reason):
+        self.refused.add(number)
+        self.tell(number, name, reason)
+
+    def doubt(self, number, line):
+        """Tells what mkpasswd hashes as it is, and hardly anybody wants."""
+        name, _, password = line.partition(b":")
+        reasons = [reason for reason, is_so in {
+            "an empty password: Return alone logs in": password in (b"", b"\r"),
+            "a carriage return ends the password; --windows leaves it out": password.endswith(b"\r"),
+            "a byte order mark begins the name; --windows leaves it out": number == 1 and name.startswith(MARK),
+            "the name came before": name in self.names,
+            "the service takes the name for another, or skips it": not self.plain(name),
+            "not UTF-8, which terminals send": line.decode("utf-8", "ignore").encode() != line}.items() if is_so]
+        for reason in reasons:
+            self.tell(number, name, reason)
+        self.doubtful += bool(reasons)
+        self.names.add(name)
+
+def look(source, options):
+    """With a budget of 0 mkpasswd does no work: it refuses each line, and good ones as over budget. Of these the longest are tried
+    with the true budget, down to the first that gets its hash, since shorter passwords cost less."""
+    problems, by_length = Problems(source, options.target), {}
+    progress.begin("looking", source.total, options.quiet)
+    engine = Engine("--batch", [word for word in options.words if not word.startswith("--budget=")] + ["--budget=0"], options.jobs)
+    for numbers, lines, _, refusals in engine.answers(source.lines()):
+        progress.done = numbers[-1]
+        for place, reason in refusals.items():
+            name, _, password = lines[place].partition(b":")
+            if reason == "over budget":
+                by_length.setdefault(len(password), [lines[place]]).append((numbers[place], name))
+                problems.doubt(numbers[place], lines[place])
+            else:
+                problems.refuse(numbers[place], name, reason)
+    engine = Engine("--batch", options.words)
+    for line, *same in (by_length[length] for length in sorted(by_length, reverse=True)):
+        [(_, _, _, refusals)] = engine.answers([([1], [line])])
+        if not refusals:
+            break
+        for number, name in same:
+            problems.refuse(number, name, refusals[0])
+    stops = [(len(problems.refused), "would be refused (--skip-refused leaves them out)", options.skip_refused),
+             (problems.doubtful, "are doubtful (--accept-doubtful takes them as they are)", options.accept_doubtful)]
+    if stops := [f"{count:,} {text}" for count, text, allowed in stops if count and not allowed]:
+        raise Stop(f"nothing was hashed: of the lines in {source.name} {', and '.join(stops)}. Correct them, and start again.", 1)
+    return problems
+
+class Part:
+    """OUT.part, which becomes OUT once it is whole."""
+    def __init__(self, options):
+        self.out, self.path, self.options = options.out, options.out + ".part", options
+        try:
+            self.fd = os.open(self.path, os.O_RDWR | os.O_NOFOLLOW | (0 if options.resume else os.O_CREAT | os.O_EXCL), 0o600)
+            fcntl.flock(self.fd, fcntl.LOCK_EX | fcntl.LOCK_NB)
+            os.chmod(self.path, 0o600)
+        except (FileExistsError, FileNotFoundError, BlockingIOError) as error:
+            raise Stop({FileExistsError: f"{self.path} is there, of another run: go on with it by --resume, or remove it.",
+                        FileNotFoundError: f"there is no {self.path} to go on with: leave out --resume.",
+                        BlockingIOError: f"another run writes {self.path}."}[type(error)], 2) from None
+
+    def finish(self):
+        os.fsync(self.fd)
+        os.rename(self.path, self.out)
+
+    def rest(self, source, refused):
+        """The lines that have no hash yet. Each hash that is there must have the name of its line, and the first and the last
+        are made again with their salts, so that other passwords or options don't go unnoticed."""
+        if os.fstat(source.fd).st_mtime_ns > os.fstat(self.fd).st_mtime_ns:
+            raise Stop(f"{source.name} was changed after {self.path}: remove that, and start without --resume.", 2)
+        size, ends, pieces, left = 0, [], source.lines(), None
+        with open(self.path, "rb") as file:
+            for numbers, lines in pieces:
+                for place, (number, line) in enumerate(zip(numbers, lines)):
+                    answer = b"" if number in refused or left else file.readline()
+                    if answer.endswith(b"\n"):
+                        if not re.fullmatch(re.escape(line[:line.index(b":") + 1]) + HASH + b"\n", answer):
+                            raise Stop(f"{self.path} is not of {source.name}: it has no hash for line {number}.", 2)
+                        ends[1:], size, progress.first = [(line, answer[:-1])], size + len(answer), number
+                    elif number not in refused and not left:
+                        left = numbers[place:], lines[place:]
+                if left:
+                    break
+            if file.read(1):
+                raise Stop(f"{self.path} has more lines than {source.name}.", 2)
+        for line, answer in ends:
+            salt = answer.rsplit(b"$", 2)[1][11 if b":$7$" in answer else 0:].decode()
+            words = [word for word in self.options.words if not word.startswith("--salt")] + ["--salt=" + salt]
+            if [answers for _, _, answers, _ in Engine("--batch", words).answers([([1], [line])])] != [[answer]]:
+                raise Stop(f"{self.path} was made with other passwords or options than these.", 2)
+        os.ftruncate(self.fd, size)
+        os.lseek(self.fd, size, os.SEEK_SET)
+        return itertools.chain([left] if left else [], pieces)
 
 def file(options):
     """Hashes lines name:password. A file is read twice, first to look for problems."""
