@@ -3,20 +3,18 @@ import collections, json, os
 from engine import Engine
 from hashing import Part, show
 from lines import Source
-from terminal import progress, readable, say, write
+from terminal import readable, say, write
 
 def check(options):
     """Checks lines name:field:password."""
     source, engine = Source(options), Engine("--check", options.words, options.jobs)
     options.part = Part(options) if options.out else None
-    progress.begin("checking", source.total, options.quiet)
-    for numbers, _, answers, refusals in engine.answers(source.lines()):
+    for _, _, answers, refusals in engine.answers(source.lines(), "checking", source.total):
         if options.out and options.rehash:      # the new hashes alone
             some = [answers[place] for place in refusals]
             new = [answer.replace(b":ok:", b":", 1) for answer in answers if b":ok:$" in answer]
             answers, refusals = some + new, range(len(some))
         show(answers, refusals, options.part)
-        progress.done = numbers[-1]
     if options.part:
         options.part.finish()
     if source.absent:
@@ -55,10 +53,9 @@ def audit(options):
     colour, head = os.isatty(1) and "NO_COLOR" not in os.environ, f"{'NAME':20}  {'METHOD':12}  {'ROUNDS':>11}  FINDING\n"
     def row(finding, text):
         return f"\x1b[{FINDINGS[finding][0]}m{text}\x1b[m\n" if colour else text + "\n"
-    progress.begin("auditing", source.total, options.quiet)
     pieces = unlocked(source.lines()) if options.locked else source.lines()
-    for numbers, lines, answers, refusals in engine.answers(pieces):
-        text, progress.done = "", numbers[-1]
+    for numbers, lines, answers, refusals in engine.answers(pieces, "auditing", source.total):
+        text = ""
         for place, each in enumerate(zip(numbers, lines, answers)):
             this = found(*each, refusals.get(place))
             counts[this["finding"]] += 1

@@ -41,11 +41,8 @@ COMMANDS = {     # what runs it, its input by default, its options
     "check": (checking.check, "-", "shadow rehash out windows method rounds salt budget jobs quiet"),
     "audit": (checking.audit, "/etc/shadow", "only_problems json locked method rounds budget jobs quiet")}
 
-class Interrupted(BaseException):
-    """A signal: its number."""
-
 def interrupt(number, frame):
-    raise Interrupted(number)
+    raise KeyboardInterrupt(number)
 
 def number(text):
     match = re.fullmatch("([0-9]{1,10})([kM]?)", text)
@@ -97,13 +94,13 @@ def main():
     os.close(fd)
     signal.signal(signal.SIGCHLD, signal.SIG_DFL)
     signal.pthread_sigmask(signal.SIG_SETMASK, [])
-    signals, options = [each for each in (signal.SIGINT, signal.SIGTERM, signal.SIGHUP) if signal.getsignal(each)], None
-    signals = [each for each in signals if signal.getsignal(each) != signal.SIG_IGN]
+    signals, options = (signal.SIGINT, signal.SIGTERM, signal.SIGHUP), None
     for each in signals:
-        signal.signal(each, interrupt)
+        signal.signal(each, interrupt if signal.getsignal(each) != signal.SIG_IGN else signal.SIG_IGN)
     try:
         try:
             options = arguments(sys.argv[1:])
+            progress.quiet = options.quiet
             if sys.stdout is None and not options.out or sys.stdin is None and options.file == "-":
                 raise Stop("standard input or output is closed.")
             return int(bool(options.run(options)))
@@ -117,10 +114,11 @@ def main():
         sentence, status = (*stop.args, 3)[:2]
         (tell_end(options, sentence) if status == 3 else say(sentence))
         return status
-    except Interrupted as interrupted:
-        tell_end(options, f"{signal.Signals(interrupted.args[0]).name} ended the run.")
-        signal.signal(interrupted.args[0], signal.SIG_DFL)
-        os.kill(os.getpid(), interrupted.args[0])
+    except KeyboardInterrupt as interrupted:
+        [number] = interrupted.args
+        tell_end(options, f"{signal.Signals(number).name} ended the run.")
+        signal.signal(number, signal.SIG_DFL)
+        os.kill(os.getpid(), number)
     except SystemExit as leave:      # of argparse's help
         sys.stdout.flush()
         return leave.code

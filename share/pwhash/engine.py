@@ -1,10 +1,9 @@
-"""Runs mkpasswd over lines, and takes nothing but its answers to them.
+"""Runs mkpasswd over lines, and takes nothing but its answers to them: each has the line's name, or refuses its number.
 
 A block of lines goes to a mkpasswd of its own, in memory, so that nobody waits for room in a pipe. Both its outputs come
-back in one pipe, so that each line has its answer in order: one with its name, or a refusal with its number. Anything else
-ends the run. If a mkpasswd is killed, another one answers its block.
+back in one pipe, so that there is one answer for each line, in order. If a mkpasswd is killed, another one answers its block.
 """
-import collections, os, re, subprocess, time, types
+import collections, functools, os, re, subprocess, time, types
 from lines import ready
 from terminal import Stop, progress, readable
 
@@ -21,6 +20,7 @@ HINTS = {"cost": "with -m scrypt, -R is from 6 to 11, such as -R 7", "salt chara
          "salt length": "-S has up to 8 characters with -m md5crypt, 16 with SHA-crypt, 86 with scrypt"}
 processes = set()      # those that run
 
+@functools.lru_cache()
 def find_mkpasswd():
     """The proved program, beside this one or on the PATH. The package whois has another of this name."""
     folders, others = [os.path.join(os.path.dirname(os.path.realpath(__file__)), "../../bin"), *os.get_exec_path()], ""
@@ -33,11 +33,8 @@ def find_mkpasswd():
     raise Stop(f"there is no proved mkpasswd beside pwhash or on the PATH.{others} Install its package, mkpasswd.")
 
 class Engine:
-    path = None
-
     def __init__(self, mode, words, jobs=1):
-        Engine.path = Engine.path or find_mkpasswd()
-        self.command, self.jobs, self.size, self.bad = [self.path, mode, *words], jobs, 1, False
+        self.command, self.jobs, self.size, self.bad = [find_mkpasswd(), mode, *words], jobs, 1, False
         self.form = re.compile(rb"^([^:\n]+:)(?:%b)(?:\n|\Z)" % FORMS["--rehash" if "--rehash" in words else mode], re.M)
         list(self.answers([([1], [b""])]))      # wrong words end the run here
         self.bad = False                        # whether the status is 1
@@ -88,10 +85,11 @@ class Engine:
                 raise Stop(f"line {number} got no answer of its own: {readable(answer[:200])}")
         return refusals
 
-    def answers(self, pieces):
+    def answers(self, pieces, word=None, total=0):
         """Gives numbers, lines, answers, and refusals by place, in order, as soon as they are there. pieces gives numbers and
-        lines, or none of these where they come slowly. No more than a few blocks are under way."""
+        lines, or none of these where they come slowly. word and total are for the progress."""
         order = collections.deque()
+        progress.begin(word, total)
         for numbers, lines in pieces:
             while lines:
                 block = types.SimpleNamespace(numbers=numbers[:self.size], lines=lines[:self.size], deaths=0, refusals=None)
@@ -112,4 +110,5 @@ class Engine:
         while order and order[0].refusals is not None:
             block = order.popleft()
             yield block.numbers, block.lines, block.answers, block.refusals
+            progress.count(block.numbers)
         progress.show()

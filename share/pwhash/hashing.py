@@ -2,7 +2,7 @@
 import fcntl, getpass, itertools, os, re, secrets, string, time
 from engine import HASH, Engine
 from lines import MARK, Source
-from terminal import Stop, on_terminal, progress, readable, say, write
+from terminal import Stop, on_terminal, readable, say, write
 
 PLACES = {      # what --for prints for one hash; those with a name need --name
     None: "{hash}", "preseed-root": "d-i passwd/root-password-crypted password {hash}",
@@ -44,15 +44,11 @@ def one(options):
 class Problems:
     """Tells what is wrong with lines. Has the numbers of those that would be refused, and how many are doubtful."""
     def __init__(self, source, service):
-        self.name, self.plain, self.names = source.name, re.compile(SERVICES[service]).fullmatch, set()
-        self.refused, self.doubtful = set(), 0
+        self.source, self.plain, self.names, self.refused, self.doubtful = source, SERVICES[service], set(), set(), 0
 
-    def tell(self, number, name, reason):
-        say(f"{self.name}, line {number}{'' if reason in NAMELESS else f' ({readable(name)})'}: {reason}")
-
-    def refuse(self, number, name, reason):
-        self.refused.add(number)
-        self.tell(number, name, reason)
+    def tell(self, number, name, reason, refused=True):
+        say(f"{self.source.name}, line {number}{'' if reason in NAMELESS else f' ({readable(name)})'}: {reason}")
+        self.refused.update([number] if refused else [])
 
     def doubt(self, number, line):
         """Tells what mkpasswd hashes as it is, and hardly anybody wants."""
@@ -62,10 +58,10 @@ class Problems:
             "a carriage return ends the password; --windows leaves it out": password.endswith(b"\r"),
             "a byte order mark begins the name; --windows leaves it out": number == 1 and name.startswith(MARK),
             "the name came before": name in self.names,
-            "the service takes the name for another, or skips it": not self.plain(name),
+            "the service takes the name for another, or skips it": not re.fullmatch(self.plain, name),
             "not UTF-8, which terminals send": line.decode("utf-8", "ignore").encode() != line}.items() if is_so]
         for reason in reasons:
-            self.tell(number, name, reason)
+            self.tell(number, name, reason, False)
         self.doubtful += bool(reasons)
         self.names.add(name)
 
@@ -73,24 +69,22 @@ def look(source, options):
     """With a budget of 0 mkpasswd does no work: it refuses each line, and good ones as over budget. Of these the longest are tried
     with the true budget, down to the first that gets its hash, since shorter passwords cost less."""
     problems, by_length = Problems(source, options.target), {}
-    progress.begin("looking", source.total, options.quiet)
     engine = Engine("--batch", [word for word in options.words if not word.startswith("--budget=")] + ["--budget=0"], options.jobs)
-    for numbers, lines, _, refusals in engine.answers(source.lines()):
-        progress.done = numbers[-1]
+    for numbers, lines, _, refusals in engine.answers(source.lines(), "looking", source.total):
         for place, reason in refusals.items():
             name, _, password = lines[place].partition(b":")
             if reason == "over budget":
                 by_length.setdefault(len(password), [lines[place]]).append((numbers[place], name))
                 problems.doubt(numbers[place], lines[place])
             else:
-                problems.refuse(numbers[place], name, reason)
+                problems.tell(numbers[place], name, reason)
     engine = Engine("--batch", options.words)
     for line, *same in (by_length[length] for length in sorted(by_length, reverse=True)):
         [(_, _, _, refusals)] = engine.answers([([1], [line])])
         if not refusals:
             break
         for number, name in same:
-            problems.refuse(number, name, refusals[0])
+            problems.tell(number, name, refusals[0])
     stops = [(len(problems.refused), "would be refused (--skip-refused leaves them out)", options.skip_refused),
              (problems.doubtful, "are doubtful (--accept-doubtful takes them as they are)", options.accept_doubtful)]
     if stops := [f"{count:,} {text}" for count, text, allowed in stops if count and not allowed]:
@@ -127,7 +121,7 @@ class Part:
                     if answer.endswith(b"\n"):
                         if not re.fullmatch(re.escape(line[:line.index(b":") + 1]) + HASH + b"\n", answer):
                             raise Stop(f"{self.path} is not of {source.name}: it has no hash for line {number}.", 2)
-                        ends[1:], size, progress.first = [(line, answer[:-1])], size + len(answer), number
+                        ends[1:], size = [(line, answer[:-1])], size + len(answer)
                     elif number not in refused and not left:
                         left = numbers[place:], lines[place:]
                 if left:
@@ -150,16 +144,14 @@ def file(options):
         raise Stop("-o needs a file, which can be read twice. Give its name, or leave out -o.", 2)
     problems = look(source, options) if source.regular else Problems(source, options.target)
     engine, options.part = Engine("--batch", options.words, options.jobs), Part(options) if options.out else None
-    progress.begin("hashing", source.total, options.quiet)
     pieces = options.part.rest(source, problems.refused) if options.resume else source.lines()
-    for numbers, lines, answers, refusals in engine.answers(pieces):
+    for numbers, lines, answers, refusals in engine.answers(pieces, "hashing", source.total):
         if source.regular and {numbers[place] for place in refusals} != problems.refused.intersection(numbers):
             raise Stop(f"{source.name} has changed since it was looked at.")
         for place in range(len(lines)) if not source.regular and not options.accept_doubtful else ():
             if place not in refusals:
                 problems.doubt(numbers[place], lines[place])
         show(answers, refusals, options.part, source.regular)
-        progress.done = numbers[-1]
     if options.part:
         options.part.finish()
     return engine.bad or problems.doubtful and not options.accept_doubtful

@@ -1,8 +1,5 @@
-"""The input: lines of a file, rows of a table, or lines with the fields of /etc/shadow, each with its number.
-
-Lines are bytes, since names and passwords have no encoding.
-"""
-import csv, itertools, os, select, stat
+"""The input as numbers and lines. These are bytes, since names and passwords have no encoding."""
+import csv, os, select, stat
 from terminal import Stop, say
 
 LONGEST = 2050      # bytes of a line: what mkpasswd takes, what is too much, and a carriage return
@@ -55,18 +52,23 @@ class Source:
         texts = (line.decode("latin-1") + "\n" for _, lines in self.whole_lines(True, 1 << 17) for line in lines)
         rows = csv.reader(texts, delimiter=self.options.delimiter, strict=True)
         try:
-            if not all(column.isdecimal() for column in columns):
+            if not "".join(columns).isdecimal():
                 header = [field.strip().lower() for field in next(rows, [])]
-                if not all(header.count(column) == 1 for column in columns):      # what it has may be a password
+                if [each for each in columns if header.count(each) != 1]:      # what the row has may be a password
                     raise Stop(f"the first row of {self.name} doesn't have each of {','.join(columns)} once. Name those it has, "
                                "--columns user,secret, or where it is no header, --columns 1,2. See also --delimiter.", 2)
-                columns = [header.index(column) + 1 for column in columns]
-            while some := [(rows.line_num, row) for row in itertools.islice(rows, 256)]:
-                some = [(number, [row[int(each) - 1] for each in columns if int(each) <= len(row)]) for number, row in some if row]
-                for number, fields in some:
-                    if ":" in "".join(fields[:1]) or "\n" in "".join(fields):
-                        raise Stop(f"{self.name}, line {number}: a colon in a name, or a line feed in a field.")
-                yield [number for number, _ in some], [":".join(fields).encode("latin-1") for _, fields in some]
+                columns = [header.index(each) + 1 for each in columns]
+            numbers, lines = [], []
+            for row in filter(None, rows):
+                fields = [row[int(each) - 1] for each in columns if int(each) <= len(row)]
+                if ":" in "".join(fields[:1]) or "\n" in "".join(fields):
+                    raise Stop(f"{self.name}, line {rows.line_num}: a colon in a name, or a line feed in a field.")
+                numbers.append(rows.line_num)
+                lines.append(":".join(fields).encode("latin-1"))
+                if len(lines) == 256:
+                    yield numbers, lines
+                    numbers, lines = [], []
+            yield numbers, lines
         except csv.Error as error:
             raise Stop(f"{self.name}, line {rows.line_num}: this is not CSV: {error}.") from None
 

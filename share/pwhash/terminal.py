@@ -1,5 +1,5 @@
 """What people see: sentences on standard error, and the progress on the terminal."""
-import os, time
+import contextlib, datetime, os, time
 
 class Stop(Exception):
     """Ends the run: a whole sentence, and the status if it isn't 3."""
@@ -24,30 +24,29 @@ def say(sentence):
 
 def on_terminal(text):
     """Writes on the terminal, wherever the outputs go. Returns whether there is one, and this is not in the background."""
-    try:
-        with open("/dev/tty", "wb", 0) as terminal:
-            return os.tcgetpgrp(terminal.fileno()) == os.getpgrp() and bool(terminal.write(text.encode()))
-    except OSError:
-        return False
+    with contextlib.suppress(OSError), open("/dev/tty", "wb", 0) as terminal:
+        return os.tcgetpgrp(terminal.fileno()) == os.getpgrp() and bool(terminal.write(text.encode()))
 
 class Progress:
-    """How far the run is, in place, at most twice a second. Before begin() nothing is shown."""
-    next, shown = float("inf"), False
+    """How far the run is, in place, at most twice a second."""
+    quiet, shown = False, False
 
-    def begin(self, word, total, quiet):
-        self.word, self.total, self.first, self.done, self.begun = word, total, 0, 0, time.monotonic()
-        self.next = float("inf") if quiet else self.begun + 1
+    def begin(self, word, total):
+        self.word, self.total, self.first, self.done, self.begun = word, total, None, 0, time.monotonic()
+        self.next = self.begun + 1
+
+    def count(self, numbers):
+        self.first, self.done = numbers[0] if self.first is None else self.first, numbers[-1]
 
     def show(self):
         now = time.monotonic()
-        if now < self.next:
-            return
-        self.next, rate = now + 0.5, (self.done - self.first) / (now - self.begun)
-        text = f"{self.word}: {self.done:,} lines, {rate:,.1f} a second"
-        if self.total and rate:
-            text, left = text.replace("lines", f"of {self.total:,} lines"), max(0, int((self.total - self.done) / rate))
-            text += f", {100 * self.done // self.total} %, {left // 3600}:{left // 60 % 60:02}:{left % 60:02} left"
-        self.shown = on_terminal(f"\r{text}\x1b[K")
+        if self.word and self.done and not self.quiet and now >= self.next:
+            rate = (self.done - self.first) / (now - self.begun)
+            text = f"\r{self.word}: {self.done:,} lines, {rate:,.1f} a second"
+            if self.total and rate:
+                left = datetime.timedelta(seconds=max(0, int((self.total - self.done) / rate)))
+                text = text.replace(" lines", f" of {self.total:,} lines, {100 * self.done // self.total} %") + f", {left} left"
+            self.next, self.shown = now + 0.5, on_terminal(text + "\x1b[K")
 
     def clear(self):
         if self.shown:
