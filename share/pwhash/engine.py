@@ -16,7 +16,7 @@ FORMS = {      # all that mkpasswd can write behind a name
     "--batch": HASH, "--check": rb"ok|no|none|locked", "--rehash": rb"ok(?::" + HASH + rb")?|no|none|locked",
     "--audit": rb"[a-z0-9]+:[0-9]+(?:/[0-9]+/[0-9]+)?:[0-9]+:(?:over budget|dead|outdated|current)|"
                rb"locked|none|(?:[A-Za-z0-9-]+:)?unknown|malformed:[a-z ]+|no scheme"}
-HINTS = {"cost": "with -m scrypt, -R is from 6 to 11, such as -R 7", "salt character": "-S takes letters, digits, . and /",
+HINTS = {"unknown method": "-m takes sha512crypt, sha256crypt, scrypt or md5crypt", "cost": "with -m scrypt, -R is from 6 to 11, such as -R 7", "salt character": "-S takes letters, digits, . and /",
          "salt length": "-S has up to 8 characters with -m md5crypt, 16 with SHA-crypt, 86 with scrypt"}
 processes = set()      # those that run
 
@@ -69,7 +69,7 @@ class Engine:
             at = block.numbers[min(len(block.answers), count - 1)]
             raise Stop(f"mkpasswd ended with status {code} near line {at}, and said last: {said}")
         block.refusals = self.refusals(block)
-        self.bad |= code == 1
+        self.bad |= code == 1 or bool(block.refusals)
         self.size = max(1, min(MOST, int(count * min(8, SECONDS / max(time.monotonic() - block.begun, 1e-3)))))
 
     def refusals(self, block):

@@ -1,7 +1,7 @@
 """`pwhash` and `pwhash file`: new hashes."""
 import fcntl, getpass, itertools, os, re, secrets, string, time
 from engine import HASH, Engine
-from lines import MARK, Source
+from lines import MARK, Source, some_at_a_time
 from terminal import Stop, on_terminal, readable, say, write
 
 PLACES = {      # what --for prints for one hash; those with a name need --name
@@ -93,49 +93,41 @@ def look(source, options):
 
 class Part:
     """OUT.part, which becomes OUT once it is whole."""
-    def __init__(self, options):
+    def __init__(self, options, source):
         self.out, self.path, self.options = options.out, options.out + ".part", options
         try:
             self.fd = os.open(self.path, os.O_RDWR | os.O_NOFOLLOW | (0 if options.resume else os.O_CREAT | os.O_EXCL), 0o600)
             fcntl.flock(self.fd, fcntl.LOCK_EX | fcntl.LOCK_NB)
             os.chmod(self.path, 0o600)
+            options.part = self
         except (FileExistsError, FileNotFoundError, BlockingIOError) as error:
             raise Stop({FileExistsError: f"{self.path} is there, of another run: go on with it by --resume, or remove it.",
                         FileNotFoundError: f"there is no {self.path} to go on with: leave out --resume.",
                         BlockingIOError: f"another run writes {self.path}."}[type(error)], 2) from None
+        if os.fstat(source.fd).st_mtime_ns > os.fstat(self.fd).st_mtime_ns and options.resume:
+            raise Stop(f"{source.name} was changed after {self.path}: remove that, and start without --resume.", 2)
+
+    def skip(self, lines, name):
+        """Skips lines that have their hashes. Each hash has to be behind the name of its line, and the first and the last are made
+        again with their salts, so that other passwords or options don't go unnoticed."""
+        with open(self.path, "rb") as file:
+            made = [answer for answer in file if answer.endswith(b"\n")]
+        pairs = list(zip(made, lines))
+        for answer, (number, line) in pairs:
+            if not re.fullmatch(re.escape(line[:line.index(b":") + 1]) + HASH + b"\n", answer):
+                raise Stop(f"{self.path} is not of {name}: it has no hash for line {number}.", 2)
+        for answer, (_, line) in pairs[:1] + pairs[-1:]:
+            salt = answer.rsplit(b"$", 2)[1][11 if b":$7$" in answer else 0:].decode()
+            words = [word for word in self.options.words if not word.startswith("--salt")] + ["--salt=" + salt]
+            if [again for _, _, again, _ in Engine("--batch", words).answers([([1], [line])])] != [[answer[:-1]]]:
+                raise Stop(f"{self.path} was made with other passwords or options than these.", 2)
+        if len(pairs) < len(made):
+            raise Stop(f"{self.path} has more lines than {name}.", 2)
+        os.ftruncate(self.fd, os.lseek(self.fd, sum(map(len, made)), os.SEEK_SET))
 
     def finish(self):
         os.fsync(self.fd)
         os.rename(self.path, self.out)
-
-    def rest(self, source, refused):
-        """The lines that have no hash yet. Each hash that is there must have the name of its line, and the first and the last
-        are made again with their salts, so that other passwords or options don't go unnoticed."""
-        if os.fstat(source.fd).st_mtime_ns > os.fstat(self.fd).st_mtime_ns:
-            raise Stop(f"{source.name} was changed after {self.path}: remove that, and start without --resume.", 2)
-        size, ends, pieces, left = 0, [], source.lines(), None
-        with open(self.path, "rb") as file:
-            for numbers, lines in pieces:
-                for place, (number, line) in enumerate(zip(numbers, lines)):
-                    answer = b"" if number in refused or left else file.readline()
-                    if answer.endswith(b"\n"):
-                        if not re.fullmatch(re.escape(line[:line.index(b":") + 1]) + HASH + b"\n", answer):
-                            raise Stop(f"{self.path} is not of {source.name}: it has no hash for line {number}.", 2)
-                        ends[1:], size = [(line, answer[:-1])], size + len(answer)
-                    elif number not in refused and not left:
-                        left = numbers[place:], lines[place:]
-                if left:
-                    break
-            if file.read(1):
-                raise Stop(f"{self.path} has more lines than {source.name}.", 2)
-        for line, answer in ends:
-            salt = answer.rsplit(b"$", 2)[1][11 if b":$7$" in answer else 0:].decode()
-            words = [word for word in self.options.words if not word.startswith("--salt")] + ["--salt=" + salt]
-            if [answers for _, _, answers, _ in Engine("--batch", words).answers([([1], [line])])] != [[answer]]:
-                raise Stop(f"{self.path} was made with other passwords or options than these.", 2)
-        os.ftruncate(self.fd, size)
-        os.lseek(self.fd, size, os.SEEK_SET)
-        return itertools.chain([left] if left else [], pieces)
 
 def file(options):
     """Hashes lines name:password. A file is read twice, first to look for problems."""
@@ -143,23 +135,24 @@ def file(options):
     if options.out and not source.regular:
         raise Stop("-o needs a file, which can be read twice. Give its name, or leave out -o.", 2)
     problems = look(source, options) if source.regular else Problems(source, options.target)
-    engine, options.part = Engine("--batch", options.words, options.jobs), Part(options) if options.out else None
-    pieces = options.part.rest(source, problems.refused) if options.resume else source.lines()
+    engine, part = Engine("--batch", options.words, options.jobs), Part(options, source) if options.out else None
+    good = (pair for pieces in source.lines() for pair in zip(*pieces) if pair[0] not in problems.refused)
+    if options.resume:
+        part.skip(good, source.name)
+    pieces = some_at_a_time(good) if source.regular else source.lines()
     for numbers, lines, answers, refusals in engine.answers(pieces, "hashing", source.total):
-        if source.regular and {numbers[place] for place in refusals} != problems.refused.intersection(numbers):
+        if source.regular and refusals:
             raise Stop(f"{source.name} has changed since it was looked at.")
         for place in range(len(lines)) if not source.regular and not options.accept_doubtful else ():
             if place not in refusals:
                 problems.doubt(numbers[place], lines[place])
-        show(answers, refusals, options.part, source.regular)
-    if options.part:
-        options.part.finish()
-    return engine.bad or problems.doubtful and not options.accept_doubtful
+        show(answers, refusals, part)
+    if part:
+        part.finish()
+    return engine.bad or problems.refused or problems.doubtful and not options.accept_doubtful
 
-def show(answers, refusals, part=None, told=False):
-    """Writes answers and refusals where mkpasswd does, in order; no refusals if they were told before."""
-    fd, name = (part.fd, part.path) if part else (1, "standard output")
+def show(answers, refusals, part=None):
+    """Writes answers and refusals where mkpasswd does, in order."""
     for refused, places in itertools.groupby(range(len(answers)), refusals.__contains__) if refusals else [(False, range(len(answers)))]:
-        if not (refused and told):
-            text = b"\n".join([answers[place] for place in places] + [b""])
-            write(*((2, text, "standard error") if refused else (fd, text, name)))
+        fd, name = (2, "standard error") if refused else (part.fd, part.path) if part else (1, "standard output")
+        write(fd, b"\n".join([answers[place] for place in places] + [b""]), name)

@@ -1,5 +1,5 @@
 """The input as numbers and lines. These are bytes, since names and passwords have no encoding."""
-import csv, os, select, stat
+import csv, itertools, os, select, stat
 from terminal import Stop, say
 
 LONGEST = 2050      # bytes of a line: what mkpasswd takes, what is too much, and a carriage return
@@ -11,6 +11,11 @@ def ready(descriptors, milliseconds):
     for each in descriptors:
         poll.register(each, select.POLLIN)
     return [each for each, _ in poll.poll(milliseconds)]
+
+def some_at_a_time(pairs):
+    """Pairs of a number and a line as numbers and lines."""
+    while some := list(itertools.islice(pairs, 1 << 12)):
+        yield [number for number, _ in some], [line for _, line in some]
 
 class Source:
     def __init__(self, options):
@@ -26,7 +31,7 @@ class Source:
     def lines(self):
         """Numbers and lines, some at a time, from the beginning; none where they come slowly."""
         if self.options.csv:
-            return self.rows(self.options.columns.lower().split(","))
+            return some_at_a_time(self.rows())
         lines = self.whole_lines(self.options.windows, LONGEST)
         return self.with_fields(lines) if self.options.shadow else lines
 
@@ -47,28 +52,21 @@ class Source:
             yield range(number, number + len(lines)), lines
             number, rest = number + len(lines), rest[:longest]
 
-    def rows(self, columns):
-        """Rows of a table as lines `name:password`."""
+    def rows(self):
+        """Rows of a table as numbers and lines `name:password`."""
         texts = (line.decode("latin-1") + "\n" for _, lines in self.whole_lines(True, 1 << 17) for line in lines)
-        rows = csv.reader(texts, delimiter=self.options.delimiter, strict=True)
+        columns, numbers = self.options.columns.lower().split(","), [str(each) for each in range(1, 1000)]
+        rows = csv.DictReader(texts, numbers if columns[0].isdecimal() else None, delimiter=self.options.delimiter, strict=True)
         try:
-            if not "".join(columns).isdecimal():
-                header = [field.strip().lower() for field in next(rows, [])]
-                if [each for each in columns if header.count(each) != 1]:      # what the row has may be a password
-                    raise Stop(f"the first row of {self.name} doesn't have each of {','.join(columns)} once. Name those it has, "
-                               "--columns user,secret, or where it is no header, --columns 1,2. See also --delimiter.", 2)
-                columns = [header.index(each) + 1 for each in columns]
-            numbers, lines = [], []
-            for row in filter(None, rows):
-                fields = [row[int(each) - 1] for each in columns if int(each) <= len(row)]
+            rows.fieldnames = [each.strip().lower() for each in rows.fieldnames or ()]
+            if [each for each in columns if rows.fieldnames.count(each) != 1]:      # what the row has may be a password
+                raise Stop(f"the first row of {self.name} doesn't have each of {','.join(columns)} once. Name those it has, "
+                           "--columns user,secret, or where it is no header, --columns 1,2. See also --delimiter.", 2)
+            for row in rows:
+                fields = [row[each] for each in columns if row[each] is not None]
                 if ":" in "".join(fields[:1]) or "\n" in "".join(fields):
                     raise Stop(f"{self.name}, line {rows.line_num}: a colon in a name, or a line feed in a field.")
-                numbers.append(rows.line_num)
-                lines.append(":".join(fields).encode("latin-1"))
-                if len(lines) == 256:
-                    yield numbers, lines
-                    numbers, lines = [], []
-            yield numbers, lines
+                yield rows.line_num, ":".join(fields).encode("latin-1")
         except csv.Error as error:
             raise Stop(f"{self.name}, line {rows.line_num}: this is not CSV: {error}.") from None
 
