@@ -74,9 +74,9 @@ build/cpu: FORCE
 	@echo '$(CPU)' | cmp -s - $@ || echo '$(CPU)' > $@
 
 # The completions, from the help of a program that runs on this machine.
-$(COMPLETIONS): mkpasswd bin/mkpasswd-parallel tools/completions
+$(COMPLETIONS): mkpasswd bin/mkpasswd-parallel bin/pwhash share/pwhash/command.py tools/completions
 	@mkdir -p $(@D)
-	tools/completions ./mkpasswd bin/mkpasswd-parallel $(@D)
+	tools/completions ./mkpasswd bin/mkpasswd-parallel bin/pwhash $(@D)
 
 run: mkpasswd
 	@./mkpasswd -m md5crypt -S xxxxxxxx password

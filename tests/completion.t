@@ -11,7 +11,7 @@ use Suite;
 sub rows_in { return run($_[0], '--help')->{out} =~ /^ +(-.*?)(?:  |$)/mg }
 
 # mkpasswd-parallel takes the options of mkpasswd too.
-my %path = (mkpasswd => program(), 'mkpasswd-parallel' => "$root/bin/mkpasswd-parallel");
+my %path = (mkpasswd => program(), 'mkpasswd-parallel' => "$root/bin/mkpasswd-parallel", pwhash => "$root/bin/pwhash");
 my @rows = rows_in($path{mkpasswd});
 my %rows = (mkpasswd => \@rows, 'mkpasswd-parallel' => [@rows, rows_in($path{'mkpasswd-parallel'})]);
 my @methods = (grep({ !/:/ } split /\n/, run($path{mkpasswd}, '-m', 'help')->{out}), 'help');
@@ -29,11 +29,13 @@ for my $command (keys %rows) {
     );
     $offered{"$command $_"} = [sort @{ $of_command{$_} }] for keys %of_command;
 }
+$offered{"pwhash $_->[0]"} = $_->[1] for ['au', ['audit']], ['audit lo', ['logins']], ['file --skip', ['--skip-refused']],
+    ['file --for ng', ['nginx']], ['-m sc', ['scrypt']], ['check --shadow sha', ['sha256sums']], ['check -R ', []];
 my @lines = sort keys %offered;
 
 my $made = "$scratch/made";
 mkdir $_ for $made, map { "$scratch/$_" } qw(bin home folder share share/bash-completion share/bash-completion/completions);
-is_run(run("$root/tools/completions", @path{qw(mkpasswd mkpasswd-parallel)}, $made), 0, '', '', 'they are made');
+is_run(run("$root/tools/completions", @path{qw(mkpasswd mkpasswd-parallel pwhash)}, $made), 0, '', '', 'they are made');
 for my $command (keys %path) {
     symlink $path{$command}, "$scratch/bin/$command";
     symlink "$made/$command.bash", "$scratch/share/bash-completion/completions/$command";
@@ -43,7 +45,7 @@ spew("$scratch/lines", join '', map { "$_\n" } @lines);
 
 # For each line a shell adds to its answers the line with all that is offered in place of the last word.
 spew("$scratch/bashrc", <<'BASH');
-if [ -n "$package" ]; then . "$package"; else . "$made/mkpasswd.bash" && . "$made/mkpasswd-parallel.bash"; fi
+if [ -n "$package" ]; then . "$package"; else for file in "$made"/*.bash; do . "$file"; done; fi
 answer() { printf '%s\n' "$READLINE_LINE" >> "$answers"; READLINE_LINE=''; }
 bind '"\t": insert-completions'
 bind -x '"\C-t": answer'

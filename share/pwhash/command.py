@@ -11,7 +11,7 @@ USAGE = """
 
 Hashes are sha512crypt with 656000 rounds. See also pwhash file --help, check --help, audit --help. pwhash alone has:"""
 OPTIONS = {      # of argparse: the words, the default, what a value is called or which there are, and the help
-    "method": ("-m --method", "sha512crypt", "TYPE", "sha512crypt (the default), sha256crypt, scrypt or md5crypt"),
+    "method": ("-m --method", "sha512crypt", ["sha512crypt", "sha256crypt", "scrypt", "md5crypt"], "by default sha512crypt"),
     "rounds": ("-R --rounds", None, "NUMBER", "656k by default; with scrypt 6 to 11, by default 7"),
     "budget": ("--budget", None, "NUMBER", "what a line may cost in bytes; by default twice a new hash's for 64 bytes"),
     "salt": ("-S --salt", None, "SALT", "by default a new one for each line"),

@@ -16,7 +16,7 @@ FORMS = {      # all that mkpasswd can write behind a name
     "--batch": HASH, "--check": rb"ok|no|none|locked", "--rehash": rb"ok(?::" + HASH + rb")?|no|none|locked",
     "--audit": rb"[a-z0-9]+:[0-9]+(?:/[0-9]+/[0-9]+)?:[0-9]+:(?:over budget|dead|outdated|current)|"
                rb"locked|none|(?:[A-Za-z0-9-]+:)?unknown|malformed:[a-z ]+|no scheme"}
-HINTS = {"unknown method": "-m takes sha512crypt, sha256crypt, scrypt or md5crypt", "cost": "with -m scrypt, -R is from 6 to 11, such as -R 7", "salt character": "-S takes letters, digits, . and /",
+HINTS = {"cost": "with -m scrypt, -R is from 6 to 11, such as -R 7", "salt character": "-S takes letters, digits, . and /",
          "salt length": "-S has up to 8 characters with -m md5crypt, 16 with SHA-crypt, 86 with scrypt"}
 processes = set()      # those that run
 

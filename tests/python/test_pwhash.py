@@ -107,7 +107,7 @@ def test_for(place, target, text):
 
 @pytest.mark.parametrize("words, password, said", [
     ("", b"", "empty"), ("", b"\n", "empty"), ("", b"x\r\n", "carriage return"), ("", b"x" * 1025, "1,024"), ("", b"a\0b", "zero"),
-    ("", b"x" * 1024, "--budget"), ("-m yescrypt", b"x", "scrypt or md5crypt"), ("-m scrypt -R 12", b"x", "6 to 11"),
+    ("", b"x" * 1024, "--budget"), ("-m yescrypt", b"x", "'scrypt', 'md5crypt'"), ("-m scrypt -R 12", b"x", "6 to 11"),
     ("-R 65x", b"x", "'65x'"), ("-m md5crypt -S 123456789", b"x", "8 characters"), ("--for grub", b"x", "preseed-root")])
 def test_wrong(place, words, password, said):
     status, out, err = run(*words.split(), stdin=password)
@@ -128,7 +128,7 @@ def test_terminal(place):
 def test_help(place):
     for words in [], ["file"], ["check"], ["audit"]:
         status, out, _ = run(*words, "--help")
-        assert status == 0 and b"--method" in out
+        assert status == 0 and b"--method" in out and b"--budget" in out
 
 
 # Lines.
