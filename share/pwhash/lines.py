@@ -71,11 +71,13 @@ class Source:
             raise Stop(f"{self.name}, line {rows.line_num}: this is not CSV: {error}.") from None
 
     def with_fields(self, pieces):
-        """Lines `name:password` as `name:field:password`, with the fields of a file such as /etc/shadow, if it has the name."""
+        """Lines `name:password` as `name:field:password`, with the fields of a file such as /etc/shadow, where it has the name;
+        without a name, one for each that it has."""
         with open(self.options.shadow, "rb") as file:      # the first line of a name counts
             fields = dict(reversed([line.rstrip(b"\n").split(b":")[:2] for line in file if b":" in line]))
         for numbers, lines in pieces:
-            some = [(number, *line.partition(b":")[::2]) for number, line in zip(numbers, lines)]
-            some = [(number, b"%b:%b:%b" % (name, fields[name], password)) for number, name, password in some if name in fields]
-            self.absent += len(lines) - len(some)
+            parts = [(number, *line.partition(b":")[::2]) for number, line in zip(numbers, lines)]
+            self.absent += sum(name != b"" and name not in fields for _, name, _ in parts)
+            some = [(number, b"%b:%b:%b" % (each, fields[each], password)) for number, name, password in parts
+                    for each in ([name] if name else fields) if each in fields]
             yield [number for number, _ in some], [line for _, line in some]
