@@ -1,5 +1,5 @@
 """`pwhash check` and `pwhash audit`: stored hashes."""
-import collections, json, os
+import collections, json, os, re
 from engine import Engine
 from hashing import Part, show
 from lines import Source
@@ -7,7 +7,7 @@ from terminal import readable, say, write
 
 def check(options):
     """Checks lines name:field:password."""
-    source, engine = Source(options), Engine("--check", options.words, options.jobs)
+    source, engine = Source(options), Engine("--check", options.words)
     part = Part(options, source) if options.out else None
     for _, _, answers, refusals in engine.answers(source.lines(), "checking", source.total):
         if options.out and options.rehash:      # the new hashes alone
@@ -22,6 +22,8 @@ def check(options):
     return engine.bad
 
 FINE = ("unknown", "current", "locked")
+HEAD = "NAME                  METHOD             ROUNDS  FINDING\n"
+ROW = "{name:20}  {method:12}  {rounds:>11}  {finding} {message}"
 FINDINGS = {      # the colour of each, and what to do
     "none": (31, "no password is asked for: set one, or lock the account with passwd -l NAME"),
     "over budget": (31, "a login can take minutes: set a new password, or lock the account"),
@@ -34,26 +36,21 @@ FINDINGS = {      # the colour of each, and what to do
 
 def found(number, line, answer, refusal):
     """An answer by its columns: METHOD:ROUNDS:COST:finding, METHOD:unknown, malformed:MESSAGE, or a finding alone."""
-    name, message, (*columns, finding) = readable(line.partition(b":")[0]), "", answer[line.find(b":") + 1:].decode().split(":")
+    (*columns, finding), message = answer[line.find(b":") + 1:].decode().split(":"), ""
     if refusal or columns == ["malformed"]:
         columns, message, finding = [], refusal or finding, "refused" if refusal else "malformed"
     method, rounds, cost = [int(each) if each.isdecimal() else each for each in columns] + [""] * (3 - len(columns))
-    return {"line": number, "name": f"line {number}" if refusal else name, "method": method, "rounds": rounds, "cost": cost,
-            "finding": finding, "message": message}
-
-def unlocked(pieces):
-    """Lines whose hashes have no ! or * in front."""
-    for numbers, lines in pieces:
-        parts = [(line.partition(b":"), line.partition(b":")[2].lstrip(b"!*")) for line in lines]
-        yield numbers, [name + colon + (bare if bare.startswith(b"$") else rest) for (name, colon, rest), bare in parts]
+    return {"line": number, "name": f"line {number}" if refusal else readable(line.partition(b":")[0]),
+            "method": method, "rounds": rounds, "cost": cost, "finding": finding, "message": message}
 
 def audit(options):
     """Shows what is wrong with stored hashes."""
-    source, engine, counts = Source(options), Engine("--audit", options.words, options.jobs), collections.Counter()
-    colour, head = os.isatty(1) and "NO_COLOR" not in os.environ, f"{'NAME':20}  {'METHOD':12}  {'ROUNDS':>11}  FINDING\n"
+    source, engine, counts = Source(options), Engine("--audit", options.words), collections.Counter()
+    colour, head = os.isatty(1) and "NO_COLOR" not in os.environ, HEAD
     def row(finding, text):
         return f"\x1b[{FINDINGS[finding][0]}m{text}\x1b[m\n" if colour else text + "\n"
-    pieces = unlocked(source.lines()) if options.locked else source.lines()
+    lock = rb"^([^:]*:)[!*]+(?=\$)" if options.locked else rb"^()"      # in front of a locked hash
+    pieces = ((numbers, [re.sub(lock, rb"\1", line) for line in lines]) for numbers, lines in source.lines())
     for numbers, lines, answers, refusals in engine.answers(pieces, "auditing", source.total):
         text = ""
         for place, each in enumerate(zip(numbers, lines, answers)):
@@ -62,10 +59,10 @@ def audit(options):
             if options.json and not (options.only_problems and this["finding"] in FINE):
                 text += json.dumps(this) + "\n"
             elif not (options.only_problems and this["finding"] in FINE):
-                text += head + row(this["finding"], "{name:20}  {method:12}  {rounds:>11}  {finding} {message}".format(**this).rstrip())
+                text += head + row(this["finding"], ROW.format(**this).rstrip())
                 head = ""
         write(1, text.encode(), "standard output")
     if not options.json and not (options.only_problems and head):
-        rows = [row(finding, f"{counts[finding]:7,} {finding:12} {FINDINGS[finding][1]}") for finding in FINDINGS if counts[finding]]
+        rows = [row(each, f"{counts[each]:7,} {each:12} {FINDINGS[each][1]}") for each in FINDINGS if counts[each]]
         write(1, f"\n{sum(counts.values()):,} lines:\n{''.join(rows)}".encode(), "standard output")
     return engine.bad

@@ -11,11 +11,10 @@ USAGE = """
 
 Hashes are sha512crypt with 656000 rounds. See also pwhash file --help, check --help, audit --help. pwhash alone has:"""
 OPTIONS = {      # of argparse: the words, the default, what a value is called or which there are, and the help
-    "method": ("-m --method", "sha512crypt", ["sha512crypt", "sha256crypt", "scrypt", "md5crypt"], "by default sha512crypt"),
+    "method": ("-m --method", "sha512crypt", "sha512crypt sha256crypt scrypt md5crypt".split(), "default sha512crypt"),
     "rounds": ("-R --rounds", None, "NUMBER", "656k by default; with scrypt 6 to 11, by default 7"),
     "budget": ("--budget", None, "NUMBER", "what a line may cost in bytes; by default twice a new hash's for 64 bytes"),
-    "salt": ("-S --salt", None, "SALT", "by default a new one for each line"),
-    "jobs": ("--jobs", len(os.sched_getaffinity(0)), "NUMBER", "processes; by default one a core"),
+    "salt": ("-S --salt", None, "SALT", "up to 16 (md5crypt 8, scrypt 86) of a-zA-Z0-9./; by default new ones"),
     "quiet": ("--quiet", False, None, "show no progress"),
     "out": ("-o --out", None, "OUT", "write the file OUT once it is whole; until then it is OUT.part"),
     "resume": ("--resume", False, None, "go on with the OUT.part of an earlier run"),
@@ -25,7 +24,7 @@ OPTIONS = {      # of argparse: the words, the default, what a value is called o
     "delimiter": ("--delimiter", ",", "C", "what is between its columns; by default a comma"),
     "skip_refused": ("--skip-refused", False, None, "leave out lines that mkpasswd refuses"),
     "accept_doubtful": ("--accept-doubtful", False, None, "take lines as they are, even with empty passwords"),
-    "service": ("--for", None, [each for each in hashing.SERVICES if each], "doubt names that the service takes for others"),
+    "service": ("--for", None, [each for each in hashing.SERVICES if each], "doubt names that it takes for others"),
     "shadow": ("--shadow", None, "FIELDS", "lines are name:password; the hashes are in the file FIELDS"),
     "rehash": ("--rehash", False, None, "renew hashes that are outdated; with -o, write these alone, for chpasswd -e"),
     "target": ("--for", None, [each for each in hashing.PLACES if each], "print what belongs there"),
@@ -36,10 +35,10 @@ OPTIONS = {      # of argparse: the words, the default, what a value is called o
     "locked": ("--locked", False, None, "judge the hashes of locked accounts too")}
 COMMANDS = {     # what runs it, its input by default, its options
     None: (hashing.one, "-", "target name generate method rounds salt budget"),
-    "file": (hashing.file, "-", "out resume skip_refused accept_doubtful windows csv columns delimiter service method rounds "
-             "salt budget jobs quiet"),
-    "check": (checking.check, "-", "shadow rehash out windows method rounds salt budget jobs quiet"),
-    "audit": (checking.audit, "/etc/shadow", "only_problems json locked method rounds budget jobs quiet")}
+    "file": (hashing.file, "-", "out resume skip_refused accept_doubtful windows csv columns delimiter service "
+             "method rounds salt budget quiet"),
+    "check": (checking.check, "-", "shadow rehash out windows method rounds salt budget quiet"),
+    "audit": (checking.audit, "/etc/shadow", "only_problems json locked method rounds budget quiet")}
 
 def interrupt(number, frame):
     raise KeyboardInterrupt(number)
@@ -56,15 +55,14 @@ def arguments(words):
     parser = argparse.ArgumentParser(prog=f"pwhash {command or ''}".strip(), usage=None if command else USAGE,
                                      description=command and run.__doc__, allow_abbrev=False)
     if command:
-        parser.add_argument("file", nargs="?", default=default, metavar="FILE", help=f"by default {default}; - is standard input")
+        parser.add_argument("file", nargs="?", default=default, metavar="FILE", help=f"by default {default}")
     for each in names.split():
         flags, value, kind, text = OPTIONS[each]
-        how = {"action": "store_true"} if kind is None else {"choices": kind} if isinstance(kind, list) else {"metavar": kind}
+        how = {"action": "store_true"} if kind is None else {"choices" if isinstance(kind, list) else "metavar": kind}
         how.update({"type": number} if kind == "NUMBER" else {})
         parser.add_argument(*flags.split(), dest=each.replace("service", "target"), help=text, **how)
     options = argparse.Namespace(**{each: row[1] for each, row in OPTIONS.items()}, file=default, run=run, part=None)
     parser.parse_args(words[bool(command):], options)
-    options.jobs = min(max(options.jobs, 1), 999)
     if options.resume and not options.out:
         raise Stop("--resume goes on with OUT.part: add -o OUT.", 2)
     if options.out and os.path.lexists(options.out):
@@ -81,17 +79,15 @@ def arguments(words):
 def tell_end(options, text):
     """Says why the run ended early and how to go on, on the terminal too if standard error goes elsewhere."""
     if options and options.part and options.run == hashing.file:
-        words = [*sys.argv, *["--resume"][options.resume:]]
-        path = f" < {shlex.quote(os.readlink('/proc/self/fd/0'))}" if options.file == "-" else ""
-        text += f" To go on:\n  {shlex.join(words)}{path}"
+        text += f" To go on:\n  {shlex.join(sys.argv + ['--resume'][options.resume:])}"
+        text += f" < {shlex.quote(os.readlink('/proc/self/fd/0'))}" if options.file == "-" else ""
     if not os.isatty(2):
         on_terminal(f"\r\x1b[Kpwhash: {text}\n")
     say(text)
 
 def main():
-    while (fd := os.open("/dev/null", os.O_RDWR)) < 3:      # closed descriptors get no other file
+    while os.open("/", os.O_RDONLY) < 3:      # nothing else gets a descriptor that was closed
         pass
-    os.close(fd)
     signal.signal(signal.SIGCHLD, signal.SIG_DFL)
     signal.pthread_sigmask(signal.SIG_SETMASK, [])
     signals, options = (signal.SIGINT, signal.SIGTERM, signal.SIGHUP), None
@@ -101,8 +97,6 @@ def main():
         try:
             options = arguments(sys.argv[1:])
             progress.quiet = options.quiet
-            if sys.stdout is None and not options.out or sys.stdin is None and options.file == "-":
-                raise Stop("standard input or output is closed.")
             return int(bool(options.run(options)))
         finally:
             for each in signals:
@@ -123,5 +117,6 @@ def main():
         sys.stdout.flush()
         return leave.code
     except BaseException as error:
-        tell_end(options, f"{getattr(error, 'filename', None) or 'an error'}: {getattr(error, 'strerror', None) or repr(error)}.")
+        text = f"{error.filename or 'an input'}: {error.strerror}" if isinstance(error, OSError) else repr(error)
+        tell_end(options, f"{text}.")
     return 3

@@ -1,7 +1,7 @@
-"""Runs mkpasswd over lines, and takes nothing but its answers to them: each has the line's name, or refuses its number.
+"""Runs mkpasswd over lines, and takes nothing but its answers to them: each has the name of its line, or the number.
 
-A block of lines goes to a mkpasswd of its own, in memory, so that nobody waits for room in a pipe. Both its outputs come
-back in one pipe, so that there is one answer for each line, in order. If a mkpasswd is killed, another one answers its block.
+A block of lines goes to a mkpasswd in memory, so that nobody waits for room in a pipe. Both outputs come back in one,
+so that there is an answer for each line, in order. If a mkpasswd is killed, another one answers its block.
 """
 import collections, functools, os, re, subprocess, time, types
 from lines import ready
@@ -16,15 +16,13 @@ FORMS = {      # all that mkpasswd can write behind a name
     "--batch": HASH, "--check": rb"ok|no|none|locked", "--rehash": rb"ok(?::" + HASH + rb")?|no|none|locked",
     "--audit": rb"[a-z0-9]+:[0-9]+(?:/[0-9]+/[0-9]+)?:[0-9]+:(?:over budget|dead|outdated|current)|"
                rb"locked|none|(?:[A-Za-z0-9-]+:)?unknown|malformed:[a-z ]+|no scheme"}
-HINTS = {"cost": "with -m scrypt, -R is from 6 to 11, such as -R 7", "salt character": "-S takes letters, digits, . and /",
-         "salt length": "-S has up to 8 characters with -m md5crypt, 16 with SHA-crypt, 86 with scrypt"}
 processes = set()      # those that run
 
 @functools.lru_cache()
 def find_mkpasswd():
     """The proved program, beside this one or on the PATH. The package whois has another of this name."""
     folders, others = [os.path.join(os.path.dirname(os.path.realpath(__file__)), "../../bin"), *os.get_exec_path()], ""
-    for path in (os.path.join(folder, name) for folder in folders for name in ("mkpasswd.proved", "mkpasswd")):
+    for path in [os.path.join(folder, name) for folder in folders for name in ("mkpasswd.proved", "mkpasswd")]:
         if os.access(path, os.X_OK) and os.path.isfile(path):
             said = subprocess.run([path, "-V"], stdin=subprocess.DEVNULL, capture_output=True, env={}).stdout
             if re.fullmatch(rb"mkpasswd [0-9.]+\n", said):
@@ -33,9 +31,10 @@ def find_mkpasswd():
     raise Stop(f"there is no proved mkpasswd beside pwhash or on the PATH.{others} Install its package, mkpasswd.")
 
 class Engine:
-    def __init__(self, mode, words, jobs=1):
-        self.command, self.jobs, self.size, self.bad = [find_mkpasswd(), mode, *words], jobs, 1, False
-        self.form = re.compile(rb"^([^:\n]+:)(?:%b)(?:\n|\Z)" % FORMS["--rehash" if "--rehash" in words else mode], re.M)
+    def __init__(self, mode, words):
+        self.command, self.jobs, self.size = [find_mkpasswd(), mode, *words], len(os.sched_getaffinity(0)), 1
+        form = FORMS["--rehash" if "--rehash" in words else mode]
+        self.form, self.bad = re.compile(rb"^([^:\n]+:)(?:%b)(?:\n|\Z)" % form, re.M), False
         list(self.answers([([1], [b""])]))      # wrong words end the run here
         self.bad = False                        # whether the status is 1
 
@@ -44,13 +43,14 @@ class Engine:
         with open(os.memfd_create("lines"), "w+b", 0) as file:
             file.write(b"\n".join(block.lines + [b""]))
             file.seek(0)
-            block.process = subprocess.Popen([*self.command, f"--first-line={block.numbers[0]}"], stdin=file, stdout=subprocess.PIPE,
-                                             stderr=subprocess.STDOUT, bufsize=0, env={}, start_new_session=True)
+            words = [*self.command, f"--first-line={block.numbers[0]}"]
+            block.process = subprocess.Popen(words, stdin=file, stdout=subprocess.PIPE, stderr=subprocess.STDOUT,
+                                             bufsize=0, env={}, start_new_session=True)
         processes.add(block.process)
         block.text, block.begun = b"", time.monotonic()
 
     def read(self, block):
-        """Reads some of what a mkpasswd says. At its end the block has its answers, or another mkpasswd begins again."""
+        """Reads some of what a mkpasswd says. At its end the block has its answers, or another one begins again."""
         piece = os.read(block.process.stdout.fileno(), 1 << 16)
         block.text += piece
         if piece and len(block.text) < 1 << 24:
@@ -64,13 +64,14 @@ class Engine:
             return self.start(block)
         said = readable((rest or b"".join(block.answers[-1:]))[:200])
         if code == 2:
-            raise Stop(f"{said}: {HINTS.get(said[10:], 'see pwhash --help')}.", 2)
+            raise Stop(f"{said} ({' '.join(self.command[2:])}). pwhash --help says what is allowed.", 2)
         if code not in (0, 1) or rest or len(block.answers) != count:
             at = block.numbers[min(len(block.answers), count - 1)]
             raise Stop(f"mkpasswd ended with status {code} near line {at}, and said last: {said}")
         block.refusals = self.refusals(block)
         self.bad |= code == 1 or bool(block.refusals)
-        self.size = max(1, min(MOST, int(count * min(8, SECONDS / max(time.monotonic() - block.begun, 1e-3)))))
+        seconds = max(time.monotonic() - block.begun, 1e-3)
+        self.size = max(1, min(MOST, int(count * min(8, SECONDS / seconds))))
 
     def refusals(self, block):
         """The refusals by place. Whatever is no answer to its line ends the run."""
@@ -80,20 +81,22 @@ class Engine:
         for place, (number, line, answer) in enumerate(zip(block.numbers, block.lines, block.answers)):
             refusal = REFUSAL.fullmatch(answer)
             if refusal and int(refusal[1]) == block.numbers[0] + place:
-                refusals[place], block.answers[place] = refusal[2].decode(), b"mkpasswd: line %d: %b" % (number, refusal[2])
+                refusals[place] = refusal[2].decode()
+                block.answers[place] = b"mkpasswd: line %d: %b" % (number, refusal[2])
             elif not self.form.match(answer) or self.form.findall(answer) != NAMES.findall(line):
                 raise Stop(f"line {number} got no answer of its own: {readable(answer[:200])}")
         return refusals
 
     def answers(self, pieces, word=None, total=0):
-        """Gives numbers, lines, answers, and refusals by place, in order, as soon as they are there. pieces gives numbers and
-        lines, or none of these where they come slowly. word and total are for the progress."""
+        """Gives numbers, lines, answers, and refusals by place, in order, as soon as they are there. pieces gives
+        numbers and lines, or none of these where they come slowly. word and total are for the progress."""
         order = collections.deque()
         progress.begin(word, total)
         for numbers, lines in pieces:
             while lines:
-                block = types.SimpleNamespace(numbers=numbers[:self.size], lines=lines[:self.size], deaths=0, refusals=None)
-                numbers, lines = numbers[len(block.lines):], lines[len(block.lines):]
+                size = self.size
+                block = types.SimpleNamespace(numbers=numbers[:size], lines=lines[:size], deaths=0, refusals=None)
+                numbers, lines = numbers[size:], lines[size:]
                 self.start(block)
                 order.append(block)
                 while sum(each.refusals is None for each in order) >= self.jobs or len(order) >= 4 * self.jobs:

@@ -12,7 +12,7 @@ PLACES = {      # what --for prints for one hash; those with a name need --name
 SERVICES = {    # the names that each service reads as they are
     "apache": rb"[^#\s\0-\x1f\x7f][^\0-\x1f\x7f]*", "nginx": rb"[^#\s\0-\x1f\x7f][^\0-\x1f\x7f]*",
     "dovecot": rb"[a-z0-9_.@-]+", "ldap": rb"[a-z0-9_-]+", None: rb"(?s).*"}
-NAMELESS = ("line too long", "no name", "name too long", "no password field")      # what looks like a name may be a password
+NAMELESS = ("line too long", "no name", "name too long", "no password field")      # the name may be a password
 
 def new_password(options):
     if options.generate:
@@ -41,75 +41,67 @@ def one(options):
     text = PLACES[options.target].format(name=options.name, hash=answer[2:].decode(), day=int(time.time() // 86400))
     write(1, text.encode() + b"\n", "standard output")
 
-class Problems:
-    """Tells what is wrong with lines. Has the numbers of those that would be refused, and how many are doubtful."""
-    def __init__(self, source, service):
-        self.source, self.plain, self.names, self.refused, self.doubtful = source, SERVICES[service], set(), set(), 0
-
-    def tell(self, number, name, reason, refused=True):
-        say(f"{self.source.name}, line {number}{'' if reason in NAMELESS else f' ({readable(name)})'}: {reason}")
-        self.refused.update([number] if refused else [])
-
-    def doubt(self, number, line):
-        """Tells what mkpasswd hashes as it is, and hardly anybody wants."""
-        name, _, password = line.partition(b":")
-        reasons = [reason for reason, is_so in {
-            "an empty password: Return alone logs in": password in (b"", b"\r"),
-            "a carriage return ends the password; --windows leaves it out": password.endswith(b"\r"),
-            "a byte order mark begins the name; --windows leaves it out": number == 1 and name.startswith(MARK),
-            "the name came before": name in self.names,
-            "the service takes the name for another, or skips it": not re.fullmatch(self.plain, name),
-            "not UTF-8, which terminals send": line.decode("utf-8", "ignore").encode() != line}.items() if is_so]
-        for reason in reasons:
-            self.tell(number, name, reason, False)
-        self.doubtful += bool(reasons)
-        self.names.add(name)
+def doubts(number, name, password, names, plain):
+    """What mkpasswd hashes as it is, and hardly anybody wants."""
+    return [reason for reason, is_so in {
+        "an empty password: Return alone logs in": password in (b"", b"\r"),
+        "a carriage return ends the password; --windows leaves it out": password.endswith(b"\r"),
+        "a byte order mark begins the name; --windows leaves it out": number == 1 and name.startswith(MARK),
+        "the name came before": name in names,
+        "the service takes the name for another, or skips it": not re.fullmatch(plain, name),
+        "not UTF-8, which terminals send": (name + password).decode(errors="ignore").encode() != name + password}.items()
+        if is_so]
 
 def look(source, options):
-    """With a budget of 0 mkpasswd does no work: it refuses each line, and good ones as over budget. Of these the longest are tried
-    with the true budget, down to the first that gets its hash, since shorter passwords cost less."""
-    problems, by_length = Problems(source, options.target), {}
-    engine = Engine("--batch", [word for word in options.words if not word.startswith("--budget=")] + ["--budget=0"], options.jobs)
+    """Tells which lines mkpasswd would refuse, and which are doubtful. Returns the numbers of the first. By a budget of 0
+    good lines are over budget, without work. Of these the longest are tried with the true budget, down to the first that
+    gets its hash, since shorter passwords cost less."""
+    names, refused, doubtful, by_length = set(), set(), set(), {}
+    def tell(number, name, reason, kind):
+        kind.add(number)
+        say(f"{source.name}, line {number}{'' if reason in NAMELESS else f' ({readable(name)})'}: {reason}")
+    engine = Engine("--batch", [word for word in options.words if not word.startswith("--budget=")] + ["--budget=0"])
     for numbers, lines, _, refusals in engine.answers(source.lines(), "looking", source.total):
         for place, reason in refusals.items():
-            name, _, password = lines[place].partition(b":")
-            if reason == "over budget":
-                by_length.setdefault(len(password), [lines[place]]).append((numbers[place], name))
-                problems.doubt(numbers[place], lines[place])
-            else:
-                problems.tell(numbers[place], name, reason)
+            number, (name, _, password) = numbers[place], lines[place].partition(b":")
+            if reason != "over budget":
+                tell(number, name, reason, refused)
+                continue
+            for reason in doubts(number, name, password, names, SERVICES[options.target]):
+                tell(number, name, reason, doubtful)
+            by_length.setdefault(len(password), [lines[place]]).append((number, name))
+            names.add(name)
     engine = Engine("--batch", options.words)
     for line, *same in (by_length[length] for length in sorted(by_length, reverse=True)):
         [(_, _, _, refusals)] = engine.answers([([1], [line])])
         if not refusals:
             break
         for number, name in same:
-            problems.tell(number, name, refusals[0])
-    stops = [(len(problems.refused), "would be refused (--skip-refused leaves them out)", options.skip_refused),
-             (problems.doubtful, "are doubtful (--accept-doubtful takes them as they are)", options.accept_doubtful)]
-    if stops := [f"{count:,} {text}" for count, text, allowed in stops if count and not allowed]:
-        raise Stop(f"nothing was hashed: of the lines in {source.name} {', and '.join(stops)}. Correct them, and start again.", 1)
-    return problems
+            tell(number, name, refusals[0], refused)
+    if refused and not options.skip_refused or doubtful and not options.accept_doubtful:
+        raise Stop(f"nothing was hashed. Correct these lines and start again: {len(refused):,} would be refused "
+                   f"(--skip-refused omits them), {len(doubtful):,} are doubtful (--accept-doubtful takes them).", 1)
+    return refused
 
 class Part:
     """OUT.part, which becomes OUT once it is whole."""
     def __init__(self, options, source):
         self.out, self.path, self.options = options.out, options.out + ".part", options
         try:
-            self.fd = os.open(self.path, os.O_RDWR | os.O_NOFOLLOW | (0 if options.resume else os.O_CREAT | os.O_EXCL), 0o600)
+            flags = 0 if options.resume else os.O_CREAT | os.O_EXCL
+            self.fd = os.open(self.path, os.O_RDWR | os.O_NOFOLLOW | flags, 0o600)
             fcntl.flock(self.fd, fcntl.LOCK_EX | fcntl.LOCK_NB)
             os.chmod(self.path, 0o600)
             options.part = self
-        except (FileExistsError, FileNotFoundError, BlockingIOError) as error:
-            raise Stop({FileExistsError: f"{self.path} is there, of another run: go on with it by --resume, or remove it.",
-                        FileNotFoundError: f"there is no {self.path} to go on with: leave out --resume.",
-                        BlockingIOError: f"another run writes {self.path}."}[type(error)], 2) from None
+        except (FileExistsError, FileNotFoundError, BlockingIOError):
+            why = "is missing, or another run writes it" if options.resume else "is there: add --resume, or remove it"
+            raise Stop(f"{self.path} {why}.", 2) from None
         if os.fstat(source.fd).st_mtime_ns > os.fstat(self.fd).st_mtime_ns and options.resume:
             raise Stop(f"{source.name} was changed after {self.path}: remove that, and start without --resume.", 2)
 
     def skip(self, lines, name):
-        """Skips lines that have their hashes. Each hash has to be behind the name of its line, and the first and the last are made
-        again with their salts, so that other passwords or options don't go unnoticed."""
+        """Skips lines that have their hashes. Each hash has to be behind the name of its line, and the first and the last
+        are made again with their salts, so that other passwords or options don't go unnoticed."""
         with open(self.path, "rb") as file:
             made = [answer for answer in file if answer.endswith(b"\n")]
         pairs = list(zip(made, lines))
@@ -134,25 +126,24 @@ def file(options):
     source = Source(options)
     if options.out and not source.regular:
         raise Stop("-o needs a file, which can be read twice. Give its name, or leave out -o.", 2)
-    problems = look(source, options) if source.regular else Problems(source, options.target)
-    engine, part = Engine("--batch", options.words, options.jobs), Part(options, source) if options.out else None
-    good = (pair for pieces in source.lines() for pair in zip(*pieces) if pair[0] not in problems.refused)
-    if options.resume:
-        part.skip(good, source.name)
-    pieces = some_at_a_time(good) if source.regular else source.lines()
-    for numbers, lines, answers, refusals in engine.answers(pieces, "hashing", source.total):
+    refused, lines = look(source, options) if source.regular else set(), source.lines()
+    engine, part = Engine("--batch", options.words), Part(options, source) if options.out else None
+    if source.regular:
+        good = (pair for pieces in lines for pair in zip(*pieces) if pair[0] not in refused)
+        if options.resume:
+            part.skip(good, source.name)
+        lines = some_at_a_time(good)
+    for _, _, answers, refusals in engine.answers(lines, "hashing", source.total):
         if source.regular and refusals:
             raise Stop(f"{source.name} has changed since it was looked at.")
-        for place in range(len(lines)) if not source.regular and not options.accept_doubtful else ():
-            if place not in refusals:
-                problems.doubt(numbers[place], lines[place])
         show(answers, refusals, part)
     if part:
         part.finish()
-    return engine.bad or problems.refused or problems.doubtful and not options.accept_doubtful
+    return engine.bad or refused
 
 def show(answers, refusals, part=None):
     """Writes answers and refusals where mkpasswd does, in order."""
-    for refused, places in itertools.groupby(range(len(answers)), refusals.__contains__) if refusals else [(False, range(len(answers)))]:
+    whole = [(False, range(len(answers)))]
+    for refused, places in itertools.groupby(range(len(answers)), refusals.__contains__) if refusals else whole:
         fd, name = (2, "standard error") if refused else (part.fd, part.path) if part else (1, "standard output")
         write(fd, b"\n".join([answers[place] for place in places] + [b""]), name)

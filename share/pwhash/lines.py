@@ -56,12 +56,13 @@ class Source:
         """Rows of a table as numbers and lines `name:password`."""
         texts = (line.decode("latin-1") + "\n" for _, lines in self.whole_lines(True, 1 << 17) for line in lines)
         columns, numbers = self.options.columns.lower().split(","), [str(each) for each in range(1, 1000)]
-        rows = csv.DictReader(texts, numbers if columns[0].isdecimal() else None, delimiter=self.options.delimiter, strict=True)
+        numbers = numbers if columns[0].isdecimal() else None
+        rows = csv.DictReader(texts, numbers, delimiter=self.options.delimiter, strict=True)
         try:
             rows.fieldnames = [each.strip().lower() for each in rows.fieldnames or ()]
             if [each for each in columns if rows.fieldnames.count(each) != 1]:      # what the row has may be a password
-                raise Stop(f"the first row of {self.name} doesn't have each of {','.join(columns)} once. Name those it has, "
-                           "--columns user,secret, or where it is no header, --columns 1,2. See also --delimiter.", 2)
+                raise Stop(f"the first row of {self.name} doesn't have each of {','.join(columns)} once. Name those it "
+                           "has, --columns user,secret; in a table without names, --columns 1,2. See --delimiter.", 2)
             for row in rows:
                 fields = [row[each] for each in columns if row[each] is not None]
                 if ":" in "".join(fields[:1]) or "\n" in "".join(fields):
@@ -71,10 +72,11 @@ class Source:
             raise Stop(f"{self.name}, line {rows.line_num}: this is not CSV: {error}.") from None
 
     def with_fields(self, pieces):
-        """Lines `name:password` as `name:field:password`, with the fields of a file such as /etc/shadow, where it has the name;
-        without a name, one for each that it has."""
+        """Lines `name:password` as `name:field:password`, with the fields of a file such as /etc/shadow, if that has the
+        name; without a name, one for each that it has."""
         with open(self.options.shadow, "rb") as file:      # the first line of a name counts
-            fields = dict(reversed([line.rstrip(b"\n").split(b":")[:2] for line in file if b":" in line]))
+            pairs = [line.rstrip(b"\n").split(b":")[:2] for line in file if b":" in line]
+            fields = {**dict(pairs), **dict(reversed(pairs))}
         for numbers, lines in pieces:
             parts = [(number, *line.partition(b":")[::2]) for number, line in zip(numbers, lines)]
             self.absent += sum(name != b"" and name not in fields for _, name, _ in parts)

@@ -6,7 +6,8 @@ class Stop(Exception):
 
 def readable(text):
     """Bytes from outside for a terminal, which no character of them can command."""
-    return "".join(each if each.isprintable() else ascii(each)[1:-1] for each in text.decode("utf-8", "backslashreplace"))
+    text = text.decode("utf-8", "backslashreplace")
+    return "".join(each if each.isprintable() else ascii(each)[1:-1] for each in text)
 
 def write(fd, data, name):
     """Writes all of it, also where somebody made the descriptor non-blocking."""
@@ -23,7 +24,7 @@ def say(sentence):
     write(2, f"pwhash: {sentence}\n".encode("utf-8", "backslashreplace"), "standard error")
 
 def on_terminal(text):
-    """Writes on the terminal, wherever the outputs go. Returns whether there is one, and this is not in the background."""
+    """Writes on the terminal, if there is one and this is not in the background. Returns whether it did."""
     with contextlib.suppress(OSError), open("/dev/tty", "wb", 0) as terminal:
         return os.tcgetpgrp(terminal.fileno()) == os.getpgrp() and bool(terminal.write(text.encode()))
 
@@ -45,11 +46,11 @@ class Progress:
             text = f"\r{self.word}: {self.done:,} lines, {rate:,.1f} a second"
             if self.total and rate:
                 left = datetime.timedelta(seconds=max(0, int((self.total - self.done) / rate)))
-                text = text.replace(" lines", f" of {self.total:,} lines, {100 * self.done // self.total} %") + f", {left} left"
+                text = text.replace(" lines", f" of {self.total:,} lines, {100 * self.done // self.total} %")
+                text += f", {left} left"
             self.next, self.shown = now + 0.5, on_terminal(text + "\x1b[K")
 
     def clear(self):
-        if self.shown:
-            self.shown = on_terminal("\r\x1b[K") and False
+        self.shown = self.shown and not on_terminal("\r\x1b[K")
 
 progress = Progress()

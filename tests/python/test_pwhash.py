@@ -107,8 +107,8 @@ def test_for(place, target, text):
 
 @pytest.mark.parametrize("words, password, said", [
     ("", b"", "empty"), ("", b"\n", "empty"), ("", b"x\r\n", "carriage return"), ("", b"x" * 1025, "1,024"), ("", b"a\0b", "zero"),
-    ("", b"x" * 1024, "--budget"), ("-m yescrypt", b"x", "'scrypt', 'md5crypt'"), ("-m scrypt -R 12", b"x", "6 to 11"),
-    ("-R 65x", b"x", "'65x'"), ("-m md5crypt -S 123456789", b"x", "8 characters"), ("--for grub", b"x", "preseed-root")])
+    ("", b"x" * 1024, "--budget"), ("-m yescrypt", b"x", "'scrypt', 'md5crypt'"), ("-m scrypt -R 12", b"x", "--rounds=12"),
+    ("-R 65x", b"x", "'65x'"), ("-m md5crypt -S 123456789", b"x", "--salt=123456789"), ("--for grub", b"x", "preseed-root")])
 def test_wrong(place, words, password, said):
     status, out, err = run(*words.split(), stdin=password)
     assert (status, out) == (2, b"") and said in err.decode()
@@ -158,10 +158,10 @@ def test_hostile_lines(place, words):
     command, mode, lines = ("file", "--batch", hostile_lines(40000)) if words == QUICK else ("check", "--check", hostile_fields(40000))
     words = [*words, "--budget=300000"]
     alone = mkpasswd(mode, *words, stdin=lines)
-    more = ["--accept-doubtful"] * (command == "file")
-    same = run(command, *words, *more, stdin=lines) == alone
+    more = ["--accept-doubtful", "--skip-refused"] * (command == "file")
+    same = run(command, *words, stdin=lines) == alone
     assert same
-    same = run(command, *words, *more, *["--skip-refused"] * len(more), save("lines", lines), "--jobs", "2")[:2] == alone[:2]
+    same = run(command, *words, *more, save("lines", lines))[:2] == alone[:2]
     assert same
 
 
@@ -402,7 +402,7 @@ def test_limit_of_processes(place):
         resource.setrlimit(resource.RLIMIT_NPROC, (most, most))
         os.setgid(65534)
         os.setuid(65534)
-    seen = [run("file", *QUICK, "--jobs", "4", stdin=b"ann:x\nbob:y\n", preexec_fn=lambda: nobody(most))[0] for most in range(1, 9)]
+    seen = [run("file", *QUICK, stdin=b"ann:x\nbob:y\n", preexec_fn=lambda: nobody(most))[0] for most in range(1, 9)]
     assert set(seen) == {0, 3} and seen[0] == 3
 
 
