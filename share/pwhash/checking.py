@@ -8,14 +8,15 @@ from terminal import readable, say, write
 def check(options):
     """Checks lines name:field:password."""
     source, engine = Source(options), Engine("--check", options.words)
-    part = Part(options, source) if options.out else None
+    part, made = Part(options, source) if options.out else None, []
     for _, _, answers, refusals in engine.answers(source.lines(), "checking", source.total):
-        if options.out and options.rehash:      # the new hashes alone
-            some = [answers[place] for place in refusals]
-            new = [answer.replace(b":ok:", b":", 1) for answer in answers if b":ok:$" in answer]
-            answers, refusals = some + new, range(len(some))
-        show(answers, refusals, part)
+        if part:
+            made += [answer.replace(b":ok:", b":", 1) for answer in answers if b":ok:$" in answer]
+            answers = [answers[place] for place in refusals]
+            refusals = range(len(answers))
+        show(answers, refusals)
     if part:
+        show(made, (), part.fd, part.path)
         part.finish()
     if source.absent:
         say(f"{source.absent:,} lines of {source.name} have no account in {options.shadow}.")

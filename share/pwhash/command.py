@@ -26,7 +26,7 @@ OPTIONS = {      # of argparse: the words, the default, what a value is called o
     "accept_doubtful": ("--accept-doubtful", False, None, "take lines as they are, even with empty passwords"),
     "service": ("--for", None, [each for each in hashing.SERVICES if each], "doubt names that it takes for others"),
     "shadow": ("--shadow", None, "FIELDS", "lines are name:password; the hashes are in the file FIELDS"),
-    "rehash": ("--rehash", False, None, "renew hashes that are outdated; with -o, write these alone, for chpasswd -e"),
+    "rehash": ("--rehash", False, None, "renew outdated hashes of right passwords; with -o for chpasswd -e"),
     "target": ("--for", None, [each for each in hashing.PLACES if each], "print what belongs there"),
     "name": ("--name", None, "NAME", "the user, for --for"),
     "generate": ("--generate", False, None, "make a password, and show it once on the terminal"),
@@ -63,8 +63,8 @@ def arguments(words):
         parser.add_argument(*flags.split(), dest=each.replace("service", "target"), help=text, **how)
     options = argparse.Namespace(**{each: row[1] for each, row in OPTIONS.items()}, file=default, run=run, part=None)
     parser.parse_args(words[bool(command):], options)
-    if options.resume and not options.out:
-        raise Stop("--resume goes on with OUT.part: add -o OUT.", 2)
+    if options.resume and not options.out or options.out and command == "check" and not options.rehash:
+        raise Stop("--resume goes with -o, and -o of check with --rehash.", 2)
     if options.out and os.path.lexists(options.out):
         raise Stop(f"{options.out} is there already: remove it, or name another file after -o.", 2)
     if command != "audit":      # what mkpasswd takes by itself are fewer rounds, and no budget

@@ -114,4 +114,3 @@ class Engine:
             block = order.popleft()
             yield block.numbers, block.lines, block.answers, block.refusals
             progress.count(block.numbers)
-        progress.show()

@@ -1,5 +1,5 @@
 """`pwhash` and `pwhash file`: new hashes."""
-import fcntl, getpass, itertools, os, re, secrets, string, time
+import fcntl, getpass, os, re, secrets, string, time
 from engine import HASH, Engine
 from lines import MARK, Source, some_at_a_time
 from terminal import Stop, on_terminal, readable, say, write
@@ -49,12 +49,12 @@ def doubts(number, name, password, names, plain):
         "a byte order mark begins the name; --windows leaves it out": number == 1 and name.startswith(MARK),
         "the name came before": name in names,
         "the service takes the name for another, or skips it": not re.fullmatch(plain, name),
-        "not UTF-8, which terminals send": (name + password).decode(errors="ignore").encode() != name + password}.items()
-        if is_so]
+        "not UTF-8, which terminals send": (name + password).decode(errors="ignore").encode() != name + password,
+    }.items() if is_so]
 
 def look(source, options):
-    """Tells which lines mkpasswd would refuse, and which are doubtful. Returns the numbers of the first. By a budget of 0
-    good lines are over budget, without work. Of these the longest are tried with the true budget, down to the first that
+    """Tells which lines mkpasswd would refuse, whose numbers it returns, and which are doubtful. By a budget of 0 good
+    lines are over budget, without work. Of these the longest are tried with the true budget, down to the first that
     gets its hash, since shorter passwords cost less."""
     names, refused, doubtful, by_length = set(), set(), set(), {}
     def tell(number, name, reason, kind):
@@ -100,7 +100,7 @@ class Part:
             raise Stop(f"{source.name} was changed after {self.path}: remove that, and start without --resume.", 2)
 
     def skip(self, lines, name):
-        """Skips lines that have their hashes. Each hash has to be behind the name of its line, and the first and the last
+        """Skips lines that have their hashes. Each hash has to be behind the name of its line. The first and the last
         are made again with their salts, so that other passwords or options don't go unnoticed."""
         with open(self.path, "rb") as file:
             made = [answer for answer in file if answer.endswith(b"\n")]
@@ -136,14 +136,13 @@ def file(options):
     for _, _, answers, refusals in engine.answers(lines, "hashing", source.total):
         if source.regular and refusals:
             raise Stop(f"{source.name} has changed since it was looked at.")
-        show(answers, refusals, part)
+        show(answers, refusals, *([part.fd, part.path] if part else []))
     if part:
         part.finish()
     return engine.bad or refused
 
-def show(answers, refusals, part=None):
-    """Writes answers and refusals where mkpasswd does, in order."""
-    whole = [(False, range(len(answers)))]
-    for refused, places in itertools.groupby(range(len(answers)), refusals.__contains__) if refusals else whole:
-        fd, name = (2, "standard error") if refused else (part.fd, part.path) if part else (1, "standard output")
-        write(fd, b"\n".join([answers[place] for place in places] + [b""]), name)
+def show(answers, refusals, fd=1, name="standard output"):
+    """Writes answers and refusals where mkpasswd does."""
+    good = [answer for place, answer in enumerate(answers) if place not in refusals] if refusals else answers
+    write(fd, b"\n".join(good + [b""]), name)
+    write(2, b"\n".join([answers[place] for place in refusals] + [b""]), "standard error")

@@ -55,8 +55,8 @@ class Source:
     def rows(self):
         """Rows of a table as numbers and lines `name:password`."""
         texts = (line.decode("latin-1") + "\n" for _, lines in self.whole_lines(True, 1 << 17) for line in lines)
-        columns, numbers = self.options.columns.lower().split(","), [str(each) for each in range(1, 1000)]
-        numbers = numbers if columns[0].isdecimal() else None
+        columns = self.options.columns.lower().split(",")
+        numbers = [str(each) for each in range(1, 1000)] if columns[0].isdecimal() else None
         rows = csv.DictReader(texts, numbers, delimiter=self.options.delimiter, strict=True)
         try:
             rows.fieldnames = [each.strip().lower() for each in rows.fieldnames or ()]
@@ -72,8 +72,8 @@ class Source:
             raise Stop(f"{self.name}, line {rows.line_num}: this is not CSV: {error}.") from None
 
     def with_fields(self, pieces):
-        """Lines `name:password` as `name:field:password`, with the fields of a file such as /etc/shadow, if that has the
-        name; without a name, one for each that it has."""
+        """Lines `name:password` as `name:field:password`, with the fields of a file such as /etc/shadow, if that has
+        the name; without a name, one for each that it has."""
         with open(self.options.shadow, "rb") as file:      # the first line of a name counts
             pairs = [line.rstrip(b"\n").split(b":")[:2] for line in file if b":" in line]
             fields = {**dict(pairs), **dict(reversed(pairs))}

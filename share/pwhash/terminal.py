@@ -29,7 +29,7 @@ def on_terminal(text):
         return os.tcgetpgrp(terminal.fileno()) == os.getpgrp() and bool(terminal.write(text.encode()))
 
 class Progress:
-    """How far the run is, in place, at most twice a second."""
+    """How far the run through a file is, in place, at most twice a second."""
     quiet, shown = False, False
 
     def begin(self, word, total):
@@ -37,18 +37,13 @@ class Progress:
         self.next = self.begun + 1
 
     def count(self, numbers):
-        self.first, self.done = numbers[0] if self.first is None else self.first, numbers[-1]
-
-    def show(self):
-        now = time.monotonic()
-        if self.word and self.done and not self.quiet and now >= self.next:
+        self.first, self.done, now = self.first or numbers[0], numbers[-1], time.monotonic()
+        if self.total and not self.quiet and now >= self.next and self.done > self.first:
             rate = (self.done - self.first) / (now - self.begun)
-            text = f"\r{self.word}: {self.done:,} lines, {rate:,.1f} a second"
-            if self.total and rate:
-                left = datetime.timedelta(seconds=max(0, int((self.total - self.done) / rate)))
-                text = text.replace(" lines", f" of {self.total:,} lines, {100 * self.done // self.total} %")
-                text += f", {left} left"
-            self.next, self.shown = now + 0.5, on_terminal(text + "\x1b[K")
+            left = datetime.timedelta(seconds=max(0, int((self.total - self.done) / rate)))
+            self.shown, self.next = True, now + 0.5
+            on_terminal(f"\r{self.word}: {self.done:,} of {self.total:,} lines, {100 * self.done // self.total} %, "
+                        f"{rate:,.1f} a second, {left} left\x1b[K")
 
     def clear(self):
         self.shown = self.shown and not on_terminal("\r\x1b[K")
