@@ -4,6 +4,7 @@ import os
 import pathlib
 import pty
 import random
+import re
 import resource
 import shutil
 import signal
@@ -284,6 +285,22 @@ def test_two_runs(place):
         time.sleep(0.01)
     assert run(*words)[0] == 2 and run(*words, "--resume")[0] == 2
     assert child.wait() == 0 and open("out", "rb").read().count(b"\n") == 200
+
+
+def test_several_machines(place):
+    """GUIDE's recipe, with this machine as the only one: pwhash completes what GNU parallel made."""
+    if not shutil.which("parallel"):
+        missing("parallel is missing (Debian package parallel)")
+    recipe = re.search("<!-- tested: several machines -->\n```sh\n(.*?)```", (ROOT / "docs/GUIDE.md").read_text(), re.S)[1]
+    recipe = recipe.replace("-R 656000", "-R 1000").replace("pwhash file", "cut=$(wc -c < hashes.part); truncate -s $((cut / 2)) hashes.part; pwhash file -R 1000")
+    save("hosts", b"2/:\n")
+    save("passwords", b"".join(b"user%d:password%d\n" % (n, n) for n in range(1500)))
+    env = dict(os.environ, PATH=f"{place}/bin:{os.environ['PATH']}", HOME=str(place))
+    status, _, err = run("-euc", recipe, program="/bin/sh", env=env)
+    hashes = pathlib.Path("hashes").read_text().split("\n")[:-1]
+    assert status == 0 and len(hashes) == 1500, err
+    for n in 0, 700, 1499:
+        assert hashes[n] == f"user{n}:" + libxcrypt(f"password{n}", hashes[n].partition(":")[2])
 
 
 # Stored hashes.
