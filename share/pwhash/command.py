@@ -9,9 +9,9 @@ USAGE = """
   pwhash audit                              what is wrong with the hashes in /etc/shadow
   pwhash check --shadow /etc/shadow list    who still has the password of a line name:password
 
-Hashes are sha512crypt with 656000 rounds. See also pwhash file --help, check --help, audit --help. pwhash alone has:"""
+Hashes are sha512crypt with 656000 rounds. Each command has a --help. pwhash alone has:"""
 OPTIONS = {      # of argparse: the words, the default, what a value is called or which there are, and the help
-    "method": ("-m --method", "sha512crypt", "sha512crypt sha256crypt scrypt md5crypt".split(), "default sha512crypt"),
+    "method": ("-m --method", "sha512crypt", "TYPE", "sha512crypt (default), sha256crypt, scrypt or md5crypt"),
     "rounds": ("-R --rounds", None, "NUMBER", "656k by default; with scrypt 6 to 11, by default 7"),
     "budget": ("--budget", None, "NUMBER", "what a line may cost in bytes; by default twice a new hash's for 64 bytes"),
     "salt": ("-S --salt", None, "SALT", "up to 16 (md5crypt 8, scrypt 86) of a-zA-Z0-9./; by default new ones"),

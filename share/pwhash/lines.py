@@ -19,8 +19,8 @@ def some_at_a_time(pairs):
 
 class Source:
     def __init__(self, options):
-        self.options, self.name, self.absent, self.total = options, options.file, 0, 0
-        self.fd = 0 if self.name == "-" else os.open(self.name, os.O_RDONLY)
+        self.options, self.absent, self.total, is_stdin = options, 0, 0, options.file == "-"
+        self.name, self.fd = ("standard input", 0) if is_stdin else (options.file, os.open(options.file, os.O_RDONLY))
         self.regular = stat.S_ISREG(os.fstat(self.fd).st_mode)
         if os.isatty(self.fd):
             say("reading lines from the terminal; Ctrl-D ends them.")

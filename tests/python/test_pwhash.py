@@ -108,7 +108,7 @@ def test_for(place, target, text):
 
 @pytest.mark.parametrize("words, password, said", [
     ("", b"", "empty"), ("", b"\n", "empty"), ("", b"x\r\n", "carriage return"), ("", b"x" * 1025, "1,024"), ("", b"a\0b", "zero"),
-    ("", b"x" * 1024, "--budget"), ("-m yescrypt", b"x", "'scrypt', 'md5crypt'"), ("-m scrypt -R 12", b"x", "--rounds=12"),
+    ("", b"x" * 1024, "--budget"), ("-m yescrypt", b"x", "--method=yescrypt"), ("-m scrypt -R 12", b"x", "--rounds=12"),
     ("-R 65x", b"x", "'65x'"), ("-m md5crypt -S 123456789", b"x", "--salt=123456789"), ("--for grub", b"x", "preseed-root")])
 def test_wrong(place, words, password, said):
     status, out, err = run(*words.split(), stdin=password)
