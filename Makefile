@@ -37,7 +37,7 @@ TRIED = $(BUILT) $(PACKED) $(if $(findstring /,$(shell aarch64-linux-gnu-gcc -pr
 # The scripts take these from the environment, whatever characters they have.
 export DESTDIR PREFIX LIBDIR ARCHIVE RT
 
-SLOW = tests/deb.t tests/arm.t tests/python tests/parallel.t tests/guard.t
+SLOW = tests/deb.t tests/arm.t tests/python tests/guard.t
 T = $(SLOW) $(filter-out $(SLOW),$(wildcard tests/*.t))
 
 .PHONY: all run static lib guard web fuzz test check layers specification site gate bench soak install uninstall dist \
@@ -74,9 +74,9 @@ build/cpu: FORCE
 	@echo '$(CPU)' | cmp -s - $@ || echo '$(CPU)' > $@
 
 # The completions, from the help of a program that runs on this machine.
-$(COMPLETIONS): mkpasswd bin/mkpasswd-parallel bin/pwhash share/pwhash/command.py tools/completions
+$(COMPLETIONS): mkpasswd bin/pwhash share/pwhash/command.py tools/completions
 	@mkdir -p $(@D)
-	tools/completions ./mkpasswd bin/mkpasswd-parallel bin/pwhash $(@D)
+	tools/completions ./mkpasswd bin/pwhash $(@D)
 
 run: mkpasswd
 	@./mkpasswd -m md5crypt -S xxxxxxxx password

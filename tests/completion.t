@@ -10,10 +10,9 @@ use Suite;
 # The rows of options in a help, each with all names of its option.
 sub rows_in { return run($_[0], '--help')->{out} =~ /^ +(-.*?)(?:  |$)/mg }
 
-# mkpasswd-parallel takes the options of mkpasswd too.
-my %path = (mkpasswd => program(), 'mkpasswd-parallel' => "$root/bin/mkpasswd-parallel", pwhash => "$root/bin/pwhash");
+my %path = (mkpasswd => program(), pwhash => "$root/bin/pwhash");
 my @rows = rows_in($path{mkpasswd});
-my %rows = (mkpasswd => \@rows, 'mkpasswd-parallel' => [@rows, rows_in($path{'mkpasswd-parallel'})]);
+my %rows = (mkpasswd => \@rows);
 my @methods = (grep({ !/:/ } split /\n/, run($path{mkpasswd}, '-m', 'help')->{out}), 'help');
 
 # What is offered at the end of a line. The folder has the files "logins" and "sha256sums".
@@ -35,7 +34,7 @@ my @lines = sort keys %offered;
 
 my $made = "$scratch/made";
 mkdir $_ for $made, map { "$scratch/$_" } qw(bin home folder share share/bash-completion share/bash-completion/completions);
-is_run(run("$root/tools/completions", @path{qw(mkpasswd mkpasswd-parallel pwhash)}, $made), 0, '', '', 'they are made');
+is_run(run("$root/tools/completions", @path{qw(mkpasswd pwhash)}, $made), 0, '', '', 'they are made');
 for my $command (keys %path) {
     symlink $path{$command}, "$scratch/bin/$command";
     symlink "$made/$command.bash", "$scratch/share/bash-completion/completions/$command";

@@ -16,7 +16,7 @@ use Texts;
 
 mkdir "$scratch/bin";
 symlink program(), "$scratch/bin/mkpasswd";
-symlink "$root/bin/$_", "$scratch/bin/$_" for qw(mkpasswd-parallel pwhash);
+symlink "$root/bin/pwhash", "$scratch/bin/pwhash";
 my %in = (env => { PATH => "$scratch/bin:$ENV{PATH}", BASH_ENV => undef });
 
 # A hash: its method and cost, its salt, its digest. Of its form the salt has only its length.
