@@ -39,7 +39,7 @@ TRIED = $(BUILT) $(PACKED) $(if $(findstring /,$(shell aarch64-linux-gnu-gcc -pr
 # The scripts take these from the environment, whatever characters they have.
 export DESTDIR PREFIX LIBDIR ARCHIVE RT
 
-SLOW = tests/deb.t tests/arm.t tests/python tests/parallel.t tests/pam.t
+SLOW = tests/deb.t tests/arm.t tests/python tests/pam.t
 T = $(SLOW) $(filter-out $(SLOW),$(wildcard tests/*.t))
 
 .PHONY: all run static lib web fuzz test check layers specification site gate bench soak install uninstall dist \
@@ -76,9 +76,9 @@ build/cpu: FORCE
 	@echo '$(CPU)' | cmp -s - $@ || echo '$(CPU)' > $@
 
 # The completions, from the help of a program that runs on this machine.
-$(COMPLETIONS): mkpasswd bin/mkpasswd-parallel tools/completions
+$(COMPLETIONS): mkpasswd bin/pwhash share/pwhash/command.py tools/completions
 	@mkdir -p $(@D)
-	tools/completions ./mkpasswd bin/mkpasswd-parallel $(@D)
+	tools/completions ./mkpasswd bin/pwhash $(@D)
 
 run: mkpasswd
 	@./mkpasswd -m md5crypt -S xxxxxxxx password

@@ -8,7 +8,7 @@ use FindBin qw($Bin);
 use lib "$Bin/lib";
 use Suite;
 
-my @packages = qw(libmkpasswd-dev libmkpasswd2 libpam-mkpasswd mkpasswd mkpasswd-parallel python3-mkpasswd);
+my @packages = qw(libmkpasswd-dev libmkpasswd2 libpam-mkpasswd mkpasswd pwhash python3-mkpasswd);
 # All but ours that the trials need. The lists of the mirror stay in the roots, since it is asked for whois again.
 my @tried = qw(autopkgtest bash-completion dpkg-dev gcc libc6-dev lintian libpam-pwdfile man-db pamtester parallel pkgconf python3 sse4.2-support whois);
 my @suites = qw(bookworm trixie);

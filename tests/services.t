@@ -31,11 +31,10 @@ my %closed = (locked => "!$secret", star => '*', hostile => '$6$rounds=999999999
     yescrypt => crypt('secret', '$y$j9T$abcdefghijklmnopqrstu.'));
 my @names = sort values %user, keys %closed;
 
-my %in = (dir => "$scratch/recipes", env => { PATH => "$root:$ENV{PATH}", BASH_ENV => undef, HOME => $scratch });
+my %in = (dir => "$scratch/recipes", env => { PATH => "$root:$root/bin:$ENV{PATH}", BASH_ENV => undef, HOME => $scratch });
 mkdir $_ for $in{dir}, '/run/www';
 spew('/run/www/index.html', "in\n");
 spew("$in{dir}/passwords", "ann:$password{ann}\n");
-spew("$in{dir}/password", "$password{ann}\n");
 
 # The hashes of one method, in lines.
 sub lines_of {
@@ -50,7 +49,7 @@ my $of_others = join '', map { "$_:$closed{$_}\n" } sort keys %closed;
 # Runs marked commands in the folder of the recipes.
 sub run_recipe {
     my ($name) = @_;
-    my $run = run(\%in, 'sh', '-euc', marked($name, 'sh'));
+    my $run = run({ %in, stdin => "$password{ann}\nmore\n" }, 'sh', '-euc', marked($name, 'sh'));
     return is($run->{status}, 0, "$name: its commands") || diag($run->{out} . $run->{err});
 }
 
@@ -198,12 +197,6 @@ END
         my @admin = ('-x', '-H', 'ldapi:///', '-D', "cn=admin,$suffix", '-y', "$in{dir}/admin");
         is(run({ stdin => $entries }, 'ldapadd', @admin)->{status}, 0, 'OpenLDAP: entries of the users');
         prepare('OpenLDAP');
-        # Names that are the same to the directory, with the hash of another password.
-        my @same = ('Six', 'six ', "\\73ix");
-        spew("$in{dir}/hashes", join '', map { "$_:" . ($of_methods =~ /^one:(.*)/m)[0] . "\n" } @same);
-        is_run(run(\%in, 'sh', '-c', marked('OpenLDAP', 'sh')), 0, '', join('', map { "$_\n" } @same), 'OpenLDAP: names that are left out');
-        unlink "$in{dir}/hashes";
-        isnt(run(\%in, 'sh', '-c', marked('OpenLDAP', 'sh'))->{status}, 0, 'OpenLDAP: without hashes');
     });
     while_serving(8083, \@command, sub { are_taken('OpenLDAP', sub {
         my ($name, $password) = @_;
@@ -290,9 +283,8 @@ sub is_hash {
 
 subtest 'installers' => sub {
     needs('debconf-set-selections' => 'debconf') && needs('debconf-communicate' => 'debconf') or return;
-    spew("$in{dir}/password", "$password{ann}\nmore\n");
-    spew("$in{dir}/$_->[0]", $_->[1]) for ['preseed.cfg', 'd-i passwd/make-user boolean true'], ['site.ks', 'reboot'];
-    run_recipe('installer');
+    spew("$in{dir}/$_->[0]", "$_->[1]\n") for ['preseed.cfg', 'd-i passwd/make-user boolean true'], ['site.ks', 'reboot'];
+    run_recipe($_) for 'preseed', 'kickstart';
     is_run(run(\%in, qw(debconf-set-selections --checkonly preseed.cfg)), 0, '', '', 'preseed: debconf has nothing to say');
     run(\%in, qw(debconf-set-selections preseed.cfg));
     my ($hash) = run({ %in, stdin => "GET passwd/user-password-crypted\n" }, 'debconf-communicate', 'd-i')->{out} =~ /^0 (.*)\n\z/;
