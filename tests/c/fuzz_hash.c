@@ -17,7 +17,8 @@ static int is_dead(const uint8_t *field, size_t field_len, const uint32_t *of, u
     is_refused = report.reason == MKPASSWD_REFUSED_UNKNOWN_METHOD || report.reason == MKPASSWD_REFUSED_COST;
     MUST(!report.work.digests && !report.work.scratch && report.cost == (is_refused ? 0 : bound.cost));
     MUST(is_current <= (has_setting && !is_outdated) && (report.reason == MKPASSWD_REPLACED) <= is_outdated);
-    MUST(has_setting || is_refused || report.reason == bound.reason || report.reason <= MKPASSWD_LOCKED);
+    MUST(has_setting || is_refused || report.reason == bound.reason || report.reason == MKPASSWD_LOCKED
+        || report.reason == MKPASSWD_NO_HASH);
     MUST(is_refused || !budget || (report.reason == MKPASSWD_OVER_BUDGET) == (bound.cost > budget));
     MUST(!is_refused || !has_setting || rehash.reason == report.reason);
     is_current = mkpasswd_audit(field, field_len, 1, 0, (uint64_t)-1, &report);
