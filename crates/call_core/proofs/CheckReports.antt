@@ -1,14 +1,20 @@
 -- The report of a check, by what the budget allows.
 use Rattle.std.proofs.Common.{◌≡◌, ◌<◌, ◌≤◌, ℕ, List, length, nat_lt, true, false, inl, inr, arith}
+use Rattle.crypt_core.specs.Crypt.{crypt}
 use Rattle.crypt_core.specs.Passwords.{IsPassword}
 use Rattle.crypt_core.specs.Settings.{SettingValue, Spells}
 use Rattle.crypt_core.specs.Work.{cost}
-use Rattle.call_core.specs.Checks.{Compares, Verifies}
+use Rattle.crypt_core.proofs.WholeHashes.{fits_whole}
+use Rattle.call_core.specs.Checks.{Compares, IsDead, Verifies}
 use Rattle.call_core.specs.Private.Checks.{IsCheckRefused}
 use Rattle.call_core.specs.Reports.{refused}
 use Rattle.call_core.specs.declared.reason.Reason.TheVariants.{Fits}
-use Rattle.call_core.specs.declared.reason.Refusal.TheVariants.{OverBudget}
+use Rattle.call_core.specs.declared.reason.Refusal.TheVariants.{Differs, OverBudget}
 use Rattle.call_core.specs.declared.report.Report.{Report}
+
+-- no password has a dead hash
+pub dead_fits : (password field : List ℕ) (kept : SettingValue) → Spells field kept → crypt password kept ≡ field → IsDead field → ⊥
+dead_fits password field kept spells fits dead = dead.2 (fits_whole password field dead.0 dead.1 (kept, spells, fits))
 
 -- a hash that the budget allows is not above it
 pub never_above : (password : List ℕ) (budget : ℕ) (kept other : SettingValue) → kept ≡ other
@@ -24,7 +30,7 @@ over password stored budget kept report is spells above e =
     inl (is, inl (kept, spells, rw test e))
 
 pub compared : (password stored : List ℕ) (budget : ℕ) (kept : SettingValue) (report : Report) → IsPassword password → Spells stored kept
-    → cost kept (length password) ≤ budget → Compares password kept stored Fits report → Verifies password stored budget report
+    → cost kept (length password) ≤ budget → Compares password kept stored Fits Differs report → Verifies password stored budget report
 compared password stored budget kept report is spells low compares =
     let test : nat_lt budget (cost kept (length password)) ≡ false = grind arith in
     inl (is, inl (kept, spells, rw test compares))

@@ -1,3 +1,4 @@
+pub mod AuditReports
 pub mod CheckReports
 pub mod LoginReports
 pub mod MadeSchemes

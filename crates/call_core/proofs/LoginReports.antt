@@ -1,5 +1,5 @@
 -- What the report of a login says of its password and the stored hash.
-use Rattle.std.proofs.Common.{◌≡◌, ◌≤◌, ◌⊎◌, ℕ, Bool, Some, List, Err, length, nat_lt, if◌then◌else◌, false, true, ap, inl, inr, refl, sym, subst, arith}
+use Rattle.std.proofs.Common.{◌≡◌, ◌≤◌, ◌⊎◌, ℕ, Bool, Some, List, Err, length, nat_lt, if◌then◌else◌, false, true, ap, inl, inr, refl, sym, subst, arith, ◌∙◌, ◌≢◌}
 use Rattle.std.specs.Prelude.{IsTrue, MatchBool}
 use Rattle.std.specs.Str.{bytes_eq}
 use Rattle.prims_core.specs.Work.{no_work}
@@ -14,18 +14,20 @@ use Rattle.crypt_core.specs.declared.method.Method.{Method}
 use Rattle.crypt_core.specs.declared.password.PasswordFault.{PasswordFault}
 use Rattle.crypt_core.specs.declared.password.PasswordFault.TheVariants.{TooLong, HasNul}
 use Rattle.crypt_core.specs.declared.scheme.Scheme.{Scheme}
-use Rattle.call_core.specs.Arguments.{IsSchemeMade, IsSchemeReading, TakesNewRounds}
-use Rattle.call_core.specs.Checks.{Compares, Verifies}
+use Rattle.call_core.specs.Arguments.{IsFieldRefusal, IsSchemeMade, IsSchemeReading, TakesNewRounds}
+use Rattle.call_core.specs.Checks.{Compares, IsDead, Verifies}
 use Rattle.call_core.specs.Private.Checks.{IsCheckRefused}
 use Rattle.call_core.specs.Private.Hashes.{IsRequestRefused}
+use Rattle.call_core.specs.Reasons.{reason_row}
 use Rattle.call_core.specs.Reports.{LacksMemory, refused, reported}
 use Rattle.call_core.specs.declared.reason.Reason.{Reason}
 use Rattle.call_core.specs.declared.reason.Reason.TheVariants.{Fits, Outdated, Refused}
 use Rattle.call_core.specs.declared.reason.Refusal.{Refusal}
-use Rattle.call_core.specs.declared.reason.Refusal.TheVariants.{Differs, OverBudget, Password}
+use Rattle.call_core.specs.declared.reason.Refusal.TheVariants.{Cost, Dead, Differs, OutOfMemory, OverBudget, Password, UnknownMethod}
 use Rattle.call_core.specs.declared.report.Report.{Report}
 use Rattle.call_core.proofs.MadeSchemes.{made_once}
-use Rattle.call_core.specs.Logins.{Agrees, Declines, IsHashWork, IsLoginWork, IsUncheckable, LogsIn, decoy}
+use Rattle.call_core.proofs.ReasonNumbers.{reason_once}
+use Rattle.call_core.specs.Logins.{Agrees, Declines, IsHashWork, IsLoginWork, IsMiss, IsUncheckable, LogsIn, decoy}
 
 -- ---- The report, by the branches of a login
 
@@ -44,13 +46,13 @@ declined password field number rounds budget scheme refusal report is makes (inr
     let test : nat_lt budget (cost kept (length password)) ≡ true = grind arith in
     inl (is, inl (scheme, makes, inl (kept, spells, rw test (rw e at declines))))
 
-pub compared : (password field : List ℕ) (number rounds budget : ℕ) (scheme : Scheme) (kept : SettingValue) (report : Report)
+pub compared : (password field : List ℕ) (number rounds budget : ℕ) (scheme : Scheme) (kept : SettingValue) (misses : Refusal) (report : Report)
     → IsPassword password → IsSchemeMade TakesNewRounds number rounds scheme → Spells field kept → cost kept (length password) ≤ budget
-    → Compares password kept field (if is_replaced_by kept.scheme scheme then Outdated else Fits) report
+    → IsMiss field kept misses → Compares password kept field (if is_replaced_by kept.scheme scheme then Outdated else Fits) misses report
     → LogsIn password field number rounds budget report
-compared password field number rounds budget scheme kept report is makes spells low compares =
+compared password field number rounds budget scheme kept misses report is makes spells low miss compares =
     let test : nat_lt budget (cost kept (length password)) ≡ false = grind arith in
-    inl (is, inl (scheme, makes, inl (kept, spells, rw test compares)))
+    inl (is, inl (scheme, makes, inl (kept, spells, rw test (misses, miss, compares))))
 
 pub outdated_fits : (kept other : SettingValue) (scheme also : Scheme) (reason : Reason)
     → reason ≡ (if is_replaced_by kept.scheme scheme then Outdated else Fits) → kept ≡ other → scheme ≡ also
@@ -74,28 +76,35 @@ declined_agrees : (password : List ℕ) (scheme : Scheme) (budget : ℕ) (refusa
 declined_agrees password scheme budget refusal report declines =
     (ap (λ (r : Report). r.cost) declines.0, inl (ap (λ (r : Report). r.reason) declines.0))
 
-told_agrees : (equal replaced : Bool) (most : ℕ) (counts : Work) (report : Report)
-    → report ≡ reported (if equal then (if replaced then Outdated else Fits) else Refused Differs) 0 most counts
-    → Agrees report (reported (if equal then Fits else Refused Differs) 0 most counts)
-told_agrees false replaced most counts report e = rw e (refl, inl refl)
-told_agrees true false most counts report e = rw e (refl, inl refl)
-told_agrees true true most counts report e = rw e (refl, inr (refl, refl))
+miss_is : (field : List ℕ) (kept : SettingValue) (misses : Refusal) → IsMiss field kept misses → (misses ≡ Differs) ⊎ (misses ≡ Dead)
+miss_is field kept Differs miss = inl refl
+miss_is field kept Dead miss = inr refl
+miss_is field kept misses miss = absurd miss
 
-checked_agrees : (over equal replaced : Bool) (password : List ℕ) (budget most : ℕ) (scheme : Scheme) (kept : SettingValue) (report : Report)
+told_agrees : (equal replaced : Bool) (misses : Refusal) (most : ℕ) (counts : Work) (report : Report) → (misses ≡ Differs) ⊎ (misses ≡ Dead)
+    → report ≡ reported (if equal then (if replaced then Outdated else Fits) else Refused misses) 0 most counts
+    → Agrees report (reported (if equal then Fits else Refused Differs) 0 most counts)
+told_agrees false replaced misses most counts report (inl differs) e = rw (e, differs) (refl, inl refl)
+told_agrees false replaced misses most counts report (inr dead) e = rw (e, dead) (refl, inr (inr (refl, refl)))
+told_agrees true false misses most counts report miss e = rw e (refl, inl refl)
+told_agrees true true misses most counts report miss e = rw e (refl, inr (inl (refl, refl)))
+
+checked_agrees : (over equal replaced : Bool) (password field : List ℕ) (budget most : ℕ) (scheme : Scheme) (kept : SettingValue) (report : Report)
     → MatchBool over (Declines password scheme budget (refused OverBudget most) report)
-    ((report ≡ reported (if equal then (if replaced then Outdated else Fits) else Refused Differs) 0 most (work password kept))
-    ⊎ LacksMemory kept most report)
+    ((misses : Refusal) × IsMiss field kept misses
+    × ((report ≡ reported (if equal then (if replaced then Outdated else Fits) else Refused misses) 0 most (work password kept))
+    ⊎ LacksMemory kept most report))
     → (verified : Report) × MatchBool over (verified ≡ refused OverBudget most)
     ((verified ≡ reported (if equal then Fits else Refused Differs) 0 most (work password kept)) ⊎ LacksMemory kept most verified)
     × Agrees report verified
-checked_agrees true equal replaced password budget most scheme kept report declines =
+checked_agrees true equal replaced password field budget most scheme kept report declines =
     (refused OverBudget most, refl, declined_agrees password scheme budget (refused OverBudget most) report declines)
-checked_agrees false equal replaced password budget most scheme kept report (inl told) = (
+checked_agrees false equal replaced password field budget most scheme kept report (misses, miss, inl told) = (
   reported (if equal then Fits else Refused Differs) 0 most (work password kept),
   inl refl,
-  told_agrees equal replaced most (work password kept) report told,
+  told_agrees equal replaced misses most (work password kept) report (miss_is field kept misses miss) told,
 )
-checked_agrees false equal replaced password budget most scheme kept report (inr lacks) = (report, inr lacks, (refl, inl refl))
+checked_agrees false equal replaced password field budget most scheme kept report (misses, miss, inr lacks) = (report, inr lacks, (refl, inl refl))
 
 pub agrees : (password field : List ℕ) (number rounds budget : ℕ) (scheme : Scheme) (report : Report)
     → IsSchemeMade TakesNewRounds number rounds scheme → LogsIn password field number rounds budget report
@@ -110,18 +119,19 @@ agrees password field number rounds budget scheme report makes (inl (is, inl (ot
 agrees password field number rounds budget scheme report makes (inl (is, inl (other, also, inl (kept, spells, checked)))) =
     let most = cost kept (length password) in
     let agree = checked_agrees (nat_lt budget most) (bytes_eq (crypt password kept) field) (is_replaced_by kept.scheme other)
-    password budget most other kept report checked in
+    password field budget most other kept report checked in
     (agree.0, inl (is, inl (kept, spells, agree.1)), agree.2)
 
 -- ---- Its work
 
 checked_work : (above : Bool) (password field : List ℕ) (budget : ℕ) (scheme : Scheme) (kept : SettingValue) (reason : Reason) (report : Report)
     → nat_lt budget (cost kept (length password)) ≡ above
-    → MatchBool above (Declines password scheme budget (refused OverBudget (cost kept (length password))) report) (Compares password kept field reason report)
+    → MatchBool above (Declines password scheme budget (refused OverBudget (cost kept (length password))) report)
+    ((misses : Refusal) × IsMiss field kept misses × Compares password kept field reason misses report)
     → IsHashWork password (decoy scheme) budget report.work ⊎ IsHashWork password kept budget report.work
 checked_work true password field budget scheme kept reason report e declines = inl declines.1
-checked_work false password field budget scheme kept reason report e (inl told) = inr (rw e (inl (ap (λ (r : Report). r.work) told)))
-checked_work false password field budget scheme kept reason report e (inr (done, failed, told)) =
+checked_work false password field budget scheme kept reason report e (misses, miss, inl told) = inr (rw e (inl (ap (λ (r : Report). r.work) told)))
+checked_work false password field budget scheme kept reason report e (misses, miss, inr (done, failed, told)) =
     let same : report.work ≡ done = ap (λ (r : Report). r.work) told in
     inr (rw e (inr (subst (λ (w : Work). IsAfterRefusedGrowth no_work kept.scheme w) (sym same) failed)))
 
@@ -182,3 +192,54 @@ alike_rounds password field number rounds budget refusal report is (inl (kind, n
     absurd (cc (none, makes.1))
 alike_rounds password field number rounds budget refusal report is (inr (kind, (method, named, never))) (inl (also, inl (scheme, makes, rest))) =
     never_refused number rounds scheme _ makes method named never
+
+-- ---- It tells a dead hash
+
+-- a reason's number is that of no other
+not_dead : (reason : Reason) (report : Report) → reason ≢ Refused Dead → report.reason ≡ (reason_row reason).0
+    → report.reason ≡ (reason_row (Refused Dead)).0 → ⊥
+not_dead reason report other is told = other (reason_once reason (Refused Dead) (sym is ∙ told))
+
+compared_dead : (equal replaced : Bool) (field : List ℕ) (kept : SettingValue) (misses : Refusal) (most : ℕ) (counts : Work) (report : Report)
+    → Spells field kept → IsMiss field kept misses
+    → report ≡ reported (if equal then (if replaced then Outdated else Fits) else Refused misses) 0 most counts
+    → report.reason ≡ (reason_row (Refused Dead)).0 → IsDead field
+compared_dead true true field kept misses most counts report spells miss e told =
+    absurd (not_dead Outdated report (λ same. cc) (ap (λ (r : Report). r.reason) e) told)
+compared_dead true false field kept misses most counts report spells miss e told =
+    absurd (not_dead Fits report (λ same. cc) (ap (λ (r : Report). r.reason) e) told)
+compared_dead false replaced field kept misses most counts report spells miss e told =
+    let same : Refused misses ≡ Refused Dead = reason_once (Refused misses) (Refused Dead) (sym (ap (λ (r : Report). r.reason) e) ∙ told) in
+    let dead : misses ≡ Dead = cc same in
+    (kept, spells, subst (IsMiss field kept) dead miss)
+
+checked_dead : (above equal replaced : Bool) (password field : List ℕ) (budget : ℕ) (scheme : Scheme) (kept : SettingValue) (report : Report)
+    → Spells field kept
+    → MatchBool above (Declines password scheme budget (refused OverBudget (cost kept (length password))) report)
+    ((misses : Refusal) × IsMiss field kept misses
+    × ((report ≡ reported (if equal then (if replaced then Outdated else Fits) else Refused misses) 0 (cost kept (length password)) (work password kept))
+    ⊎ LacksMemory kept (cost kept (length password)) report))
+    → report.reason ≡ (reason_row (Refused Dead)).0 → IsDead field
+checked_dead true equal replaced password field budget scheme kept report spells declines told =
+    absurd (not_dead (Refused OverBudget) report (λ same. cc) (ap (λ (r : Report). r.reason) declines.0) told)
+checked_dead false equal replaced password field budget scheme kept report spells (misses, miss, inl e) told =
+    compared_dead equal replaced field kept misses _ _ report spells miss e told
+checked_dead false equal replaced password field budget scheme kept report spells (misses, miss, inr (done, failed, e)) told =
+    absurd (not_dead (Refused OutOfMemory) report (λ same. cc) (ap (λ (r : Report). r.reason) e) told)
+
+pub told_dead : (password field : List ℕ) (number rounds budget : ℕ) (report : Report) → LogsIn password field number rounds budget report
+    → report.reason ≡ (reason_row (Refused Dead)).0 → IsDead field
+told_dead password field number rounds budget report (inr (fault, is, e)) told =
+    absurd (not_dead (Refused (Password fault)) report (λ same. cc) (ap (λ (r : Report). r.reason) e) told)
+told_dead password field number rounds budget report (inl (is, inr (inl (none, e)))) told =
+    absurd (not_dead (Refused UnknownMethod) report (λ same. cc) (ap (λ (r : Report). r.reason) e) told)
+told_dead password field number rounds budget report (inl (is, inr (inr (method, named, never, e)))) told =
+    absurd (not_dead (Refused Cost) report (λ same. cc) (ap (λ (r : Report). r.reason) e) told)
+told_dead password field number rounds budget report (inl (is, inl (scheme, makes, inr (refusal, broken, declines)))) told =
+    let same : Refused refusal ≡ Refused Dead =
+    reason_once (Refused refusal) (Refused Dead) (sym (ap (λ (r : Report). r.reason) declines.0) ∙ told) in
+    let dead : refusal ≡ Dead = cc same in
+    absurd (subst (IsFieldRefusal field) dead broken)
+told_dead password field number rounds budget report (inl (is, inl (scheme, makes, inl (kept, spells, checked)))) told =
+    checked_dead (nat_lt budget (cost kept (length password))) (bytes_eq (crypt password kept) field) (is_replaced_by kept.scheme scheme)
+    password field budget scheme kept report spells checked told

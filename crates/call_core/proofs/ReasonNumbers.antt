@@ -6,7 +6,7 @@ use Rattle.call_core.specs.Reasons.{reason_row}
 use Rattle.call_core.specs.declared.reason.Reason.{Reason}
 use Rattle.call_core.specs.declared.reason.Reason.TheVariants.{Fits, Outdated, Done, Refused}
 use Rattle.call_core.specs.declared.reason.Refusal.{Refusal}
-use Rattle.call_core.specs.declared.reason.Refusal.TheVariants.{Password, Setting, OutOfMemory, TooFewBytes, UnknownMethod, Cost, OverBudget, Differs, Current, NoRandomNumbers, Locked, NoHash}
+use Rattle.call_core.specs.declared.reason.Refusal.TheVariants.{Password, Setting, OutOfMemory, TooFewBytes, UnknownMethod, Cost, OverBudget, Differs, Current, NoRandomNumbers, Locked, NoHash, Dead, Replaced}
 
 abbrev refusal_of : ℕ → Refusal
 refusal_of number =
@@ -19,7 +19,8 @@ refusal_of number =
     if number == 13 then UnknownMethod else if number == 14 then Cost else
     if number == 16 then OverBudget else if number == 17 then Differs else
     if number == 18 then Current else if number == 19 then NoRandomNumbers else
-    if number == 20 then Locked else NoHash
+    if number == 20 then Locked else if number == 21 then NoHash else
+    if number == 22 then Dead else Replaced
 
 abbrev reason_of : ℤ → Reason
 reason_of (pos number) = if number == 1 then Fits else if number == 2 then Outdated else Done

@@ -7,11 +7,13 @@ use Rattle.std.specs.Str.{bytes_eq}
 use Rattle.crypt_core.specs.Crypt.{allocates, crypt}
 use Rattle.crypt_core.specs.Passwords.{IsPassword}
 use Rattle.crypt_core.specs.Settings.{SettingValue, Spells}
+use Rattle.crypt_core.specs.StoredFields.{IsWhole}
 use Rattle.crypt_core.specs.Work.{cost, work}
 use Rattle.call_core.specs.Arguments.{OnField, OnPassword, Refuses}
 use Rattle.call_core.specs.Reports.{LacksMemory, refused, reported}
 use Rattle.call_core.specs.declared.reason.Reason.{Reason}
 use Rattle.call_core.specs.declared.reason.Reason.TheVariants.{Fits, Refused}
+use Rattle.call_core.specs.declared.reason.Refusal.{Refusal}
 use Rattle.call_core.specs.declared.reason.Refusal.TheVariants.{OverBudget, Differs}
 use Rattle.call_core.specs.declared.report.Report.{Report}
 
@@ -26,11 +28,15 @@ Opens password stored budget =
 abbrev pub NeedsNoMemory : List ℕ → Type 0
 NeedsNoMemory text = (kept : SettingValue) × Spells text kept × (allocates kept.scheme ≡ false)
 
--- The report of a hash that is compared with the stored one: `fits` or Differs, or that scrypt could not allocate.
-abbrev pub Compares : List ℕ → SettingValue → List ℕ → Reason → Report → Type 0
-Compares password kept stored fits report =
+-- A dead hash: the text spells a setting, but it is not whole, so no password matches it.
+abbrev pub IsDead : List ℕ → Type 0
+IsDead text = (kept : SettingValue) × Spells text kept × ¬ IsWhole text kept
+
+-- The report of a hash that is compared with the stored one: `fits` or `misses`, or that scrypt could not allocate.
+abbrev pub Compares : List ℕ → SettingValue → List ℕ → Reason → Refusal → Report → Type 0
+Compares password kept stored fits misses report =
     let most = cost kept (length password) in
-    (report ≡ reported (if bytes_eq (crypt password kept) stored then fits else Refused Differs) 0 most (work password kept))
+    (report ≡ reported (if bytes_eq (crypt password kept) stored then fits else Refused misses) 0 most (work password kept))
     ⊎ LacksMemory kept most report
 
 -- The report of mkpasswd_verify and web_verify.
@@ -41,4 +47,4 @@ abbrev pub Verifies : List ℕ → List ℕ → ℕ → Report → Type 0
 Verifies password stored budget report =
     OnPassword password (Refuses report) (OnField stored (Refuses report) (λ kept.
     let most = cost kept (length password) in
-    MatchBool (nat_lt budget most) (report ≡ refused OverBudget most) (Compares password kept stored Fits report)))
+    MatchBool (nat_lt budget most) (report ≡ refused OverBudget most) (Compares password kept stored Fits Differs report)))

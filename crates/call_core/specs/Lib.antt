@@ -1,4 +1,5 @@
 pub mod Arguments
+pub mod Audits
 pub mod Checks
 pub mod Hashes
 pub mod Logins

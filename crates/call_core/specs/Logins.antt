@@ -9,14 +9,16 @@ use Rattle.crypt_core.specs.Crypt.{IsAfterRefusedGrowth}
 use Rattle.crypt_core.specs.MadeSettings.{salted}
 use Rattle.crypt_core.specs.Replacements.{is_replaced_by}
 use Rattle.crypt_core.specs.Settings.{SettingValue, Spells}
+use Rattle.crypt_core.specs.StoredFields.{IsWhole}
 use Rattle.crypt_core.specs.Work.{cost, work}
 use Rattle.crypt_core.specs.declared.scheme.Scheme.{Scheme}
 use Rattle.call_core.specs.Arguments.{IsSchemeMade, OnField, OnPassword, OnScheme, Refuses, TakesNewRounds}
 use Rattle.call_core.specs.Checks.{Compares}
 use Rattle.call_core.specs.Reasons.{reason_row}
 use Rattle.call_core.specs.Reports.{refused}
-use Rattle.call_core.specs.declared.reason.Reason.TheVariants.{Fits, Outdated}
-use Rattle.call_core.specs.declared.reason.Refusal.TheVariants.{OverBudget}
+use Rattle.call_core.specs.declared.reason.Reason.TheVariants.{Fits, Outdated, Refused}
+use Rattle.call_core.specs.declared.reason.Refusal.{Refusal}
+use Rattle.call_core.specs.declared.reason.Refusal.TheVariants.{Dead, Differs, OverBudget}
 use Rattle.call_core.specs.declared.report.Report.{Report}
 
 -- The setting of the hash that a login makes and drops if it can't check the stored one: a new hash's, with a fixed salt.
@@ -36,11 +38,17 @@ abbrev pub Declines : List ℕ → Scheme → ℕ → Report → Report → Type
 Declines password scheme budget refusal report =
     (report ≡ record refusal { work = report.work }) × IsHashWork password (decoy scheme) budget report.work
 
+-- The refusal of a password that doesn't match the stored hash: Dead if no password does, because it is not whole.
+abbrev pub IsMiss : List ℕ → SettingValue → Refusal → Type 0
+IsMiss field kept Differs = IsWhole field kept
+IsMiss field kept Dead = ¬ IsWhole field kept
+IsMiss field kept refusal = ⊥
+
 -- The report of mkpasswd_login.
 --   a refused password, method or rounds that refusal, without work
 --   a stored hash that can't be checked  the report of mkpasswd_verify with the work of the decoy
 --   otherwise                            the report of mkpasswd_verify, with Outdated in place of Fits if the scheme
---                                        replaces the setting
+--                                        replaces the setting, and Dead in place of Differs if the hash is not whole
 abbrev pub LogsIn : List ℕ → List ℕ → ℕ → ℕ → ℕ → Report → Type 0
 LogsIn password field number rounds budget report =
     OnPassword password (Refuses report) (OnScheme TakesNewRounds number rounds (Refuses report) (λ scheme.
@@ -48,7 +56,8 @@ LogsIn password field number rounds budget report =
     let most = cost kept (length password) in
     MatchBool (nat_lt budget most)
     (Declines password scheme budget (refused OverBudget most) report)
-    (Compares password kept field (if is_replaced_by kept.scheme scheme then Outdated else Fits) report))))
+    ((misses : Refusal) × IsMiss field kept misses
+    × Compares password kept field (if is_replaced_by kept.scheme scheme then Outdated else Fits) misses report))))
 
 -- The work of a login: none, or that of one hash, with the stored setting or with the decoy.
 abbrev pub IsLoginWork : List ℕ → List ℕ → ℕ → ℕ → ℕ → Work → Type 0
@@ -61,9 +70,11 @@ IsLoginWork password field number rounds budget done =
 abbrev pub IsUncheckable : List ℕ → List ℕ → ℕ → Type 0
 IsUncheckable password field budget = (kept : SettingValue) → Spells field kept → budget < cost kept (length password)
 
--- A report that agrees with that of mkpasswd_verify: its cost and reason are the same, but Outdated may stand for Fits.
+-- A report that agrees with that of mkpasswd_verify: its cost and reason are the same, but Outdated may stand for Fits, and
+-- Dead for Differs.
 abbrev pub Agrees : Report → Report → Type 0
 Agrees report verified =
     (report.cost ≡ verified.cost)
     × ((report.reason ≡ verified.reason)
-    ⊎ ((report.reason ≡ (reason_row Outdated).0) × (verified.reason ≡ (reason_row Fits).0)))
+    ⊎ (((report.reason ≡ (reason_row Outdated).0) × (verified.reason ≡ (reason_row Fits).0))
+    ⊎ ((report.reason ≡ (reason_row (Refused Dead)).0) × (verified.reason ≡ (reason_row (Refused Differs)).0))))

@@ -5,7 +5,7 @@ use Rattle.crypt_core.specs.declared.password.PasswordFault.TheVariants as passw
 use Rattle.crypt_core.specs.declared.setting.fault.SettingFault.TheVariants as setting
 use Rattle.call_core.specs.declared.reason.Reason.{Reason}
 use Rattle.call_core.specs.declared.reason.Reason.TheVariants.{Fits, Outdated, Done, Refused}
-use Rattle.call_core.specs.declared.reason.Refusal.TheVariants.{Password, Setting, OutOfMemory, TooFewBytes, UnknownMethod, Cost, OverBudget, Differs, Current, NoRandomNumbers, Locked, NoHash}
+use Rattle.call_core.specs.declared.reason.Refusal.TheVariants.{Password, Setting, OutOfMemory, TooFewBytes, UnknownMethod, Cost, OverBudget, Differs, Current, NoRandomNumbers, Locked, NoHash, Dead, Replaced}
 
 -- The number and the message of each reason. The number is above 0 if the call did what its name says, and below 0 if
 -- it refused; -15 is retired.
@@ -33,3 +33,5 @@ reason_row (Refused Current) = (neg_ℤ (pos 18), codes "current")
 reason_row (Refused NoRandomNumbers) = (neg_ℤ (pos 19), codes "no random words")
 reason_row (Refused Locked) = (neg_ℤ (pos 20), codes "locked")
 reason_row (Refused NoHash) = (neg_ℤ (pos 21), codes "no hash")
+reason_row (Refused Dead) = (neg_ℤ (pos 22), codes "dead")
+reason_row (Refused Replaced) = (neg_ℤ (pos 23), codes "outdated")

@@ -7,6 +7,7 @@
 //! it makes no other meter.
 #![tactic(auto)]
 
+pub mod audit;
 pub mod bound;
 mod budget;
 pub mod hash;

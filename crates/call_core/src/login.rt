@@ -1,13 +1,18 @@
 //! A login: a password against a stored hash, which may be outdated. If the stored hash can't be checked, the password is
 //! hashed as a new one is, so that the call costs the same.
-ghost use Rattle.std.specs.Prelude.{◌≡◌, ◌⊎◌, ◌<ℤ◌, pos};
+ghost use Rattle.std.specs.Prelude.{◌≡◌, ◌≤◌, ◌⊎◌, ◌<ℤ◌, pos, length};
 ghost use Rattle.prims_core.specs.Work.{no_work};
+ghost use Rattle.crypt_core.specs.Passwords.{IsPassword};
+ghost use Rattle.crypt_core.specs.Settings.{SettingValue, Spells};
+ghost use Rattle.crypt_core.specs.StoredFields.{IsWhole};
+ghost use Rattle.crypt_core.specs.Work.{cost, work};
 ghost use Rattle.crypt_core.specs.declared.scheme.Scheme.{Scheme as Made};
 ghost use Rattle.call_core.specs.Arguments.{IsSchemeMade, TakesNewRounds};
-ghost use Rattle.call_core.specs.Checks.{Opens};
-ghost use Rattle.call_core.specs.Logins.{IsHashWork, LogsIn};
+ghost use Rattle.call_core.specs.Checks.{IsDead, Opens};
+ghost use Rattle.call_core.specs.Logins.{IsHashWork, IsMiss, LogsIn};
 ghost use Rattle.call_core.specs.Reasons.{reason_row};
 ghost use Rattle.call_core.specs.Rehashes.{IsOutdated};
+ghost use Rattle.call_core.specs.Reports.{reported};
 
 use crate::budget::cost_within;
 use crate::reading::read_request;
@@ -18,6 +23,7 @@ use crypt_core::hash::hash_by;
 use crypt_core::memory::Memory;
 use crypt_core::password::Password;
 use crypt_core::setting::Setting;
+use crypt_core::stored::StoredHash;
 use prims_core::meter::Meter;
 
 /// Compares the password's hash with the stored one, if the budget allows it, or else makes and drops a hash like a new
@@ -36,6 +42,11 @@ pub fn log_in<M: Memory>(
     ensures lets_in { pos 0 <ℤ result.reason → Opens password.now field.now budget }
     ensures opens { (scheme : Made) → IsSchemeMade TakesNewRounds method rounds scheme → Opens password.now field.now budget
         → (pos 0 <ℤ result.reason) ⊎ (result.reason ≡ (reason_row (Reason.Refused Refusal.OutOfMemory)).0) }
+    ensures shut { IsDead field.now → ¬ (pos 0 <ℤ result.reason) }
+    ensures dead { (scheme : Made) → (kept : SettingValue) → IsSchemeMade TakesNewRounds method rounds scheme
+        → IsPassword password.now → Spells field.now kept → ¬ IsWhole field.now kept → cost kept (length password.now) ≤ budget
+        → (result ≡ reported (Reason.Refused Refusal.Dead) 0 (cost kept (length password.now)) (work password.now kept))
+        ⊎ (result.reason ≡ (reason_row (Reason.Refused Refusal.OutOfMemory)).0) }
     ensures outdated { result.reason ≡ (reason_row Reason.Outdated).0 → IsOutdated field.now method rounds }
     ensures replaced { pos 0 <ℤ result.reason → IsOutdated field.now method rounds
         → result.reason ≡ (reason_row Reason.Outdated).0 }
@@ -53,12 +64,32 @@ pub fn log_in<M: Memory>(
             } else {
                 Reason::Fits
             };
-            compare(memory, &password, &stored, most, fits, meter)
+            compare(
+                memory,
+                &password,
+                &stored,
+                most,
+                fits,
+                miss_of(&stored),
+                meter,
+            )
         }
         Err(refused) => {
             let decoy = Setting::salted(scheme, [0; 3]);
             decline(memory, &password, &decoy, budget, refused, meter)
         }
+    }
+}
+
+// Returns the refusal of a password that doesn't match the stored hash: `Dead` if no password does.
+fn miss_of(stored: &StoredHash<'_>) -> Refusal
+    ensures miss { IsMiss stored.now.text stored.now.setting result }
+    ensures either { (result ≡ Refusal.Differs) ⊎ (result ≡ Refusal.Dead) }
+{
+    if stored.is_whole() {
+        Refusal::Differs
+    } else {
+        Refusal::Dead
     }
 }
 

@@ -40,7 +40,7 @@ pub(crate) fn scheme_of(number: u32, rounds: u32) -> Result<Scheme, Refusal>
 ///
 /// - `UnknownMethod`: no method has the number.
 /// - `Cost`: the method does not take the rounds, or would clamp them.
-fn new_scheme_of(number: u32, rounds: u32) -> Result<Scheme, Refusal>
+pub(crate) fn new_scheme_of(number: u32, rounds: u32) -> Result<Scheme, Refusal>
     ensures { IsSchemeReading TakesNewRounds number rounds result }
 {
     let scheme = scheme_of(number, rounds)?;

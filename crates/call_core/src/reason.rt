@@ -34,6 +34,10 @@ pub enum Refusal {
     Locked,
     /// The stored field is empty.
     NoHash,
+    /// No password matches the stored hash, because it is not whole.
+    Dead,
+    /// A new hash would replace the stored one, so it is not current.
+    Replaced,
 }
 
 /// The reason for what a call returned.
@@ -80,6 +84,8 @@ impl Reason {
             Reason::Refused(Refusal::NoRandomNumbers) => -19,
             Reason::Refused(Refusal::Locked) => -20,
             Reason::Refused(Refusal::NoHash) => -21,
+            Reason::Refused(Refusal::Dead) => -22,
+            Reason::Refused(Refusal::Replaced) => -23,
         }
     }
 
@@ -112,6 +118,8 @@ impl Reason {
             -19 => Refusal::NoRandomNumbers,
             -20 => Refusal::Locked,
             -21 => Refusal::NoHash,
+            -22 => Refusal::Dead,
+            -23 => Refusal::Replaced,
             _ => return None,
         };
         Some(Reason::Refused(refusal))
@@ -137,6 +145,8 @@ impl Reason {
             Reason::Refused(Refusal::NoRandomNumbers) => "no random words",
             Reason::Refused(Refusal::Locked) => "locked",
             Reason::Refused(Refusal::NoHash) => "no hash",
+            Reason::Refused(Refusal::Dead) => "dead",
+            Reason::Refused(Refusal::Replaced) => "outdated",
         }
     }
 }

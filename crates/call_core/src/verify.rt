@@ -1,13 +1,14 @@
 //! A password against a stored hash.
-ghost use Rattle.std.specs.Prelude.{◌≡◌, ◌⊎◌, ◌≤◌, ◌<◌, ◌<ℤ◌, pos, length, false, true, IfOk, IfErr, IsOk};
+ghost use Rattle.std.specs.Prelude.{◌≡◌, ◌≢◌, ◌⊎◌, ◌≤◌, ◌<◌, ◌<ℤ◌, pos, length, false, true, IfOk, IfErr, IsOk};
 ghost use Rattle.prims_core.specs.Work.{no_work};
 ghost use Rattle.crypt_core.specs.Crypt.{allocates, crypt};
 ghost use Rattle.crypt_core.specs.Settings.{SettingValue, Spells};
 ghost use Rattle.crypt_core.specs.StoredFields.{IsHashOf};
-ghost use Rattle.crypt_core.specs.Work.{cost};
-ghost use Rattle.call_core.specs.Checks.{Compares, NeedsNoMemory, Opens, Verifies};
+ghost use Rattle.crypt_core.specs.Work.{cost, work};
+ghost use Rattle.call_core.specs.Checks.{Compares, IsDead, NeedsNoMemory, Opens, Verifies};
 ghost use Rattle.call_core.specs.Private.Checks.{IsCheckRefused};
 ghost use Rattle.call_core.specs.Reasons.{reason_row};
+ghost use Rattle.call_core.specs.Reports.{reported};
 
 use crate::budget::cost_within;
 use crate::reading::stored_hash;
@@ -31,6 +32,7 @@ pub fn verify<M: Memory>(
     ensures lets_in { pos 0 <ℤ result.reason → Opens password.now stored.now budget }
     ensures opens { Opens password.now stored.now budget → (pos 0 <ℤ result.reason)
         ⊎ ((result.reason ≡ (reason_row (Reason.Refused Refusal.OutOfMemory)).0) × ¬ NeedsNoMemory stored.now) }
+    ensures shut { IsDead stored.now → ¬ (pos 0 <ℤ result.reason) }
     ensures granted { NeedsNoMemory stored.now
         ⊎ (M.HasSome ⊎ ((¬ (pos 0 <ℤ result.reason)) × (result.work ≡ no_work))) }
     ensures bytes { result.work.bytes ≤ budget }
@@ -42,7 +44,15 @@ pub fn verify<M: Memory>(
         Err(fault) => return Report::from(fault),
     };
     match checkable(&password, stored, budget) {
-        Ok((stored, most)) => compare(memory, &password, &stored, most, Reason::Fits, meter),
+        Ok((stored, most)) => compare(
+            memory,
+            &password,
+            &stored,
+            most,
+            Reason::Fits,
+            Refusal::Differs,
+            meter,
+        ),
         Err(refused) => refused,
     }
 }
@@ -67,23 +77,28 @@ pub(crate) fn checkable<'a>(
 }
 
 /// Compares the password's hash, which costs at most `most`, with the stored one. The reason is `fits` if they are the
-/// same.
+/// same, and else the refusal `misses`.
 pub(crate) fn compare<M: Memory>(
     memory: &M,
     password: &Password,
     stored: &StoredHash<'_>,
     most: u64,
     fits: Reason,
+    misses: Refusal,
     meter: &mut Meter,
 ) -> Report
     requires new { meter.old ≡ no_work }
     requires most { most ≡ cost stored.now.setting (length password.now) }
     requires fits { (fits ≡ Reason.Fits) ⊎ (fits ≡ Reason.Outdated) }
-    ensures compares { Compares password.now stored.now.setting stored.now.text fits result }
+    requires misses { (misses ≡ Refusal.Differs) ⊎ (misses ≡ Refusal.Dead) }
+    ensures compares { Compares password.now stored.now.setting stored.now.text fits misses result }
     ensures same { pos 0 <ℤ result.reason
         → (crypt password.now stored.now.setting ≡ stored.now.text) × (result.reason ≡ (reason_row fits).0) }
     ensures opens { crypt password.now stored.now.setting ≡ stored.now.text → (pos 0 <ℤ result.reason)
         ⊎ ((result.reason ≡ (reason_row (Reason.Refused Refusal.OutOfMemory)).0) × (allocates stored.now.setting.scheme ≡ true)) }
+    ensures missed { crypt password.now stored.now.setting ≢ stored.now.text
+        → (result ≡ reported (Reason.Refused misses) 0 most (work password.now stored.now.setting))
+        ⊎ (result.reason ≡ (reason_row (Reason.Refused Refusal.OutOfMemory)).0) }
     ensures granted { (allocates stored.now.setting.scheme ≡ false)
         ⊎ (M.HasSome ⊎ ((¬ (pos 0 <ℤ result.reason)) × (result.work ≡ no_work))) }
     ensures bytes { result.work.bytes ≤ most }
@@ -92,7 +107,7 @@ pub(crate) fn compare<M: Memory>(
 {
     let reason = match stored.fits(memory, password, meter) {
         Ok(true) => fits,
-        Ok(false) => Reason::Refused(Refusal::Differs),
+        Ok(false) => Reason::Refused(misses),
         Err(_) => Reason::Refused(Refusal::OutOfMemory),
     };
     Report::new(reason, 0, most, meter.work())

@@ -12,24 +12,29 @@
 #![tactic(auto)]
 
 ghost use Rattle.std.specs.Prelude.{◌≡◌, ◌≢◌, ◌⊎◌, ◌↔◌, ◌<◌, ◌≤◌, pos, [], ◌∷◌, Err, length, take, codes};
+ghost use Rattle.prims_core.specs.Work.{no_work};
 ghost use Rattle.crypt_core.specs.Passwords.{IsPassword, IsPasswordRefused};
 ghost use Rattle.crypt_core.specs.Settings.{SettingValue, Spells};
+ghost use Rattle.crypt_core.specs.StoredFields.{IsWhole};
+ghost use Rattle.crypt_core.specs.Work.{cost, work};
 ghost use Rattle.crypt_core.specs.declared.password.PasswordFault.{PasswordFault};
 ghost use Rattle.crypt_core.specs.declared.scheme.Scheme.{Scheme};
 ghost use Rattle.call_core.specs.Arguments.{IsSchemeMade, IsSchemeReading, TakesNewRounds};
-ghost use Rattle.call_core.specs.Checks.{Opens, Verifies};
+ghost use Rattle.call_core.specs.Audits.{Audits, IsCurrent};
+ghost use Rattle.call_core.specs.Checks.{IsDead, Opens, Verifies};
 ghost use Rattle.call_core.specs.Hashes.{Hashes, HashesAnew};
 ghost use Rattle.call_core.specs.Logins.{Agrees, IsHashWork, IsLoginWork, IsUncheckable, LogsIn, decoy};
 ghost use Rattle.call_core.specs.Reasons.{reason_row};
 ghost use Rattle.call_core.specs.Rehashes.{IsOutdated, Rehashes};
-ghost use Rattle.call_core.specs.Reports.{Answers, put, refused, token};
+ghost use Rattle.call_core.specs.Reports.{Answers, put, refused, reported, token};
 ghost use Rattle.call_core.specs.Settings.{Bounds, PutsSetting};
 ghost use Rattle.call_core.specs.declared.reason.Reason.{Reason as Why};
 ghost use Rattle.call_core.specs.declared.reason.Reason.TheVariants.{Outdated, Refused};
 ghost use Rattle.call_core.specs.declared.reason.Refusal.{Refusal};
-ghost use Rattle.call_core.specs.declared.reason.Refusal.TheVariants.{Current, OutOfMemory, Password};
+ghost use Rattle.call_core.specs.declared.reason.Refusal.TheVariants.{Current, Dead, OutOfMemory, Password};
 ghost use Rattle.call_core.specs.declared.report.Report.{Report as Told};
 
+use call_core::audit::report_audit;
 use call_core::bound::report_bound;
 use call_core::hash::put_hash;
 use call_core::login::log_in;
@@ -70,6 +75,7 @@ pub extern "C" fn mkpasswd_verify(
     ensures lets_in { result ≡ pos 1 → Opens password.now stored.now budget }
     ensures opens { Opens password.now stored.now budget
         → (result ≡ pos 1) ⊎ (report.new.reason ≡ (reason_row (Refused OutOfMemory)).0) }
+    ensures shut { IsDead stored.now → result ≡ pos 0 }
     ensures verifies { Verifies password.now stored.now budget report.new }
 {
     tell(
@@ -94,6 +100,7 @@ pub extern "C" fn mkpasswd_verify(
 ///   four the work is that of the new hash: none if that can cost more than the budget, and if scrypt could not allocate
 ///   for it, that of the allocations before.
 /// - `Differs`: the password does not match.
+/// - `Dead`: no password matches the stored hash, because it is not whole. The work is that of `Differs`.
 /// - `OutOfMemory`: scrypt could not allocate for the stored hash.
 #[unsafe(no_mangle)]
 pub extern "C" fn mkpasswd_login(
@@ -109,6 +116,12 @@ pub extern "C" fn mkpasswd_login(
     ensures lets_in { result ≡ pos 1 → Opens password.now field.now budget }
     ensures opens { (scheme : Scheme) → IsSchemeMade TakesNewRounds method rounds scheme → Opens password.now field.now budget
         → (result ≡ pos 1) ⊎ (report.new.reason ≡ (reason_row (Refused OutOfMemory)).0) }
+    ensures shut { IsDead field.now → result ≡ pos 0 }
+    ensures dead { (scheme : Scheme) → (kept : SettingValue) → IsSchemeMade TakesNewRounds method rounds scheme
+        → IsPassword password.now → Spells field.now kept → ¬ IsWhole field.now kept → cost kept (length password.now) ≤ budget
+        → (report.new ≡ reported (Refused Dead) 0 (cost kept (length password.now)) (work password.now kept))
+        ⊎ (report.new.reason ≡ (reason_row (Refused OutOfMemory)).0) }
+    ensures tells { report.new.reason ≡ (reason_row (Refused Dead)).0 → IsDead field.now }
     ensures outdated { report.new.reason ≡ (reason_row Outdated).0 ↔ (result ≡ pos 1) × IsOutdated field.now method rounds }
     ensures as_verify { (scheme : Scheme) → IsSchemeMade TakesNewRounds method rounds scheme
         → (verified : Told) × Verifies password.now field.now budget verified × Agrees report.new verified }
@@ -206,6 +219,37 @@ pub extern "C" fn mkpasswd_needs_rehash(
     ensures rehashes { Rehashes stored.now method rounds report.new }
 {
     tell(report, report_rehash(stored, method, rounds))
+}
+
+/// Returns 1 if the stored hash in a field is current: some digest makes it, no hash with its setting costs more than the
+/// budget, and a new hash with the method and the rounds would not replace it.
+///
+/// Rounds of 0 are the recommended ones, 656000 and for scrypt 7. A budget of 0 is the greatest cost of a hash with the
+/// method and the rounds, and at least that of sha512crypt with 656000 rounds. The report has the greatest cost of a hash
+/// with the setting in the field, for a password of 1,024 bytes. The call hashes and allocates nothing.
+///
+/// # Errors
+///
+/// - `UnknownMethod`, `Cost`: no method has the number, or a new hash cannot have the rounds.
+/// - `Locked`, `NoHash`: the field begins with `!` or `*`, or is empty.
+/// - `Setting`: any other field has no valid hash.
+/// - `OverBudget`: a hash with its setting can cost more than the budget.
+/// - `Dead`: no password matches the hash, because it is not whole.
+/// - `Replaced`: a new hash would replace it.
+#[unsafe(no_mangle)]
+pub extern "C" fn mkpasswd_audit(
+    field: &[u8],
+    method: u32,
+    rounds: u32,
+    budget: u64,
+    report: &mut Report,
+) -> i32
+    ensures answers { Answers result report.new }
+    ensures current { result ≡ pos 1 ↔ IsCurrent field.now method rounds budget }
+    ensures audits { Audits field.now method rounds budget report.new }
+    ensures idle { report.new.work ≡ no_work }
+{
+    tell(report, report_audit(field, method, rounds, budget))
 }
 
 /// Reports the greatest cost and the greatest work of a hash with this setting, for any password of this length.

@@ -8,12 +8,14 @@ pub mod DollarFields
 pub mod EachMethod
 pub mod FirstBroken
 pub mod FirstRefusal
+pub mod GroupNumbers
 pub mod HashedTexts
 pub mod MadeSaltLemmas
 pub mod MadeSettings
 pub mod Md5cryptLemmas
 pub mod MessageLists
 pub mod OneSetting
+pub mod PackedTexts
 pub mod PackingLemmas
 pub mod ParsedParts
 pub mod Refusals
@@ -21,5 +23,7 @@ pub mod RoundsTexts
 pub mod SameBytes
 pub mod ShaCryptLemmas
 pub mod StrippedPrefix
+pub mod Unpacking
+pub mod WholeHashes
 pub mod WorkBounds
 pub mod WorkSums

@@ -11,11 +11,11 @@ use Rattle.crypt_core.specs.declared.method.Method.{Method}
 use Rattle.crypt_core.specs.declared.method.Method.TheVariants.{Sha512crypt}
 use Rattle.prims_core.specs.Alphabet.{alphabet}
 use Rattle.crypt_core.specs.MethodLimits.{digest_len, packed_len}
-use Rattle.crypt_core.specs.Packing.{packed, packed_group, groups_of}
+use Rattle.crypt_core.specs.Packing.{packed, packed_group, groups_of, group_number}
 use Rattle.crypt_core.proofs.EachMethod.{each_method}
 use Rattle.prims_core.proofs.NumeralFacts.{length-numerals}
 use Rattle.crypt_core.proofs.DistinctNumerals.{all_numerals}
-use Rattle.crypt_core.specs.Private.Tables.{groups_in, is_group, AreGroups, IsGroup, group_number}
+use Rattle.crypt_core.specs.Private.Groups.{groups_in, is_group, AreGroups, IsGroup}
 
 -- packed_by groups digest: the text of a digest, packed by these groups.
 abbrev pub packed_by : List (List ℕ) → List ℕ → List ℕ

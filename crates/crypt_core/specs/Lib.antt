@@ -11,6 +11,7 @@ pub mod MethodLimits
 pub mod Methods
 pub mod Packing
 pub mod Passwords
+pub mod Policies
 pub mod Private
 pub mod Readings
 pub mod Refusals
@@ -21,6 +22,7 @@ pub mod Rules
 pub mod Schemes
 pub mod Settings
 pub mod ShaCrypt
+pub mod Standings
 pub mod StoredFields
 pub mod TextLimits
 pub mod Work

@@ -1,14 +1,18 @@
 -- The packed form of a digest in crypt(5): its bytes are taken in groups, in an order that the method fixes.
-use Rattle.std.specs.Prelude.{ℕ, ◌+◌, ◌*◌, List, [], ◌∷◌, ◌++◌, length, fold, map, slice_index, flat_map}
+use Rattle.std.specs.Prelude.{◌≡◌, ℕ, ◌+◌, ◌*◌, ◌<◌, List, [], ◌∷◌, ◌++◌, length, fold, map, slice_index, flat_map, All}
 use Rattle.std.specs.List.{range_with_len}
 use Rattle.prims_core.specs.Alphabet.{numerals}
 use Rattle.crypt_core.specs.declared.method.Method.{Method}
 use Rattle.crypt_core.specs.declared.method.Method.TheVariants.{Md5crypt, Sha256crypt, Sha512crypt, Scrypt}
+use Rattle.crypt_core.specs.Methods.{method_row}
 
--- packed_group digest places: the bytes at these places of the digest, in one character more than there are places.
--- They are read as one number, the first place highest.
+-- group_number digest places: the bytes at these places of the digest, read as one number, the first place highest.
+abbrev pub group_number : List ℕ → List ℕ → ℕ
+group_number digest places = fold (λ number place. number * 256 + slice_index digest place) 0 places
+
+-- packed_group digest places: the number of the bytes at these places, in one character more than there are places.
 abbrev pub packed_group : List ℕ → List ℕ → List ℕ
-packed_group digest places = numerals (length places + 1) (fold (λ number place. number * 256 + slice_index digest place) 0 places)
+packed_group digest places = numerals (length places + 1) (group_number digest places)
 
 -- groups_of method: the groups of its digest, as lists of places.
 --   md5crypt    those of FreeBSD's md5crypt
@@ -29,3 +33,11 @@ groups_of Scrypt = map (λ i. (3 * i + 2) ∷ (3 * i + 1) ∷ (3 * i) ∷ []) (r
 -- packed method digest: the characters of a method's digest, group by group.
 unfoldable pub packed : Method → List ℕ → List ℕ
 packed method digest = flat_map (packed_group digest) (groups_of method)
+
+-- IsDigest method digest: it has as many bytes as a digest of the method.
+abbrev pub IsDigest : Method → List ℕ → Type 0
+IsDigest method digest = (length digest ≡ (method_row method).digest_len) × All (λ b. b < 256) digest
+
+-- IsPacked method text: it is the packed form of some digest of the method.
+abbrev pub IsPacked : Method → List ℕ → Type 0
+IsPacked method text = (digest : List ℕ) × IsDigest method digest × (text ≡ packed method digest)

@@ -1,4 +1,6 @@
 -- Schemes: a method with its cost.
+-- N of scrypt's parameters.
+pub use Rattle.kdf_core.specs.Params.{row_count}
 use Rattle.kdf_core.specs.Params.{IsAccepted}
 use Rattle.crypt_core.specs.Rounds.{IsRounds}
 use Rattle.crypt_core.specs.declared.method.Method.{Method}

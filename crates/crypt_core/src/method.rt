@@ -3,7 +3,7 @@
 ghost use Rattle.std.specs.Prelude.{◌≡◌};
 ghost use Rattle.crypt_core.specs.Methods.{method_named, method_numbered, method_row};
 ghost use Rattle.crypt_core.specs.Packing.{groups_of};
-ghost use Rattle.crypt_core.specs.Private.Tables.{groups_in};
+ghost use Rattle.crypt_core.specs.Private.Groups.{groups_in, last_value_limit};
 ghost use Rattle.crypt_core.specs.MethodLimits.{made_salt_length, packed_len, prefix, salt_limit};
 
 use crate::pack::{MD5CRYPT_GROUPS, SCRYPT_GROUPS, SHA256CRYPT_GROUPS, SHA512CRYPT_GROUPS};
@@ -70,6 +70,8 @@ pub(crate) struct MethodRow {
     pub(crate) made_salt_length: usize,
     /// The number of characters of the packed digest.
     pub(crate) packed_len: usize,
+    /// The values below which that of the last character of the packed digest lies.
+    pub(crate) last_value_limit: u8,
     /// The groups of the packed digest, as places in the digest.
     pub(crate) groups: &'static [&'static [usize]],
 }
@@ -114,6 +116,7 @@ impl Method {
         ensures kept { result.salt_limit ≡ salt_limit self }
         ensures made { result.made_salt_length ≡ made_salt_length self }
         ensures packed { result.packed_len ≡ packed_len self }
+        ensures last { result.last_value_limit ≡ last_value_limit self }
         ensures groups { groups_in result.groups.now ≡ groups_of self }
     {
         match self {
@@ -125,6 +128,7 @@ impl Method {
                 salt_limit: MD5CRYPT_SALT_LIMIT,
                 made_salt_length: MD5CRYPT_SALT_LIMIT,
                 packed_len: MD5CRYPT_PACKED_LEN,
+                last_value_limit: 4,
                 groups: &MD5CRYPT_GROUPS,
             },
             Method::Sha256crypt => MethodRow {
@@ -135,6 +139,7 @@ impl Method {
                 salt_limit: SHACRYPT_SALT_LIMIT,
                 made_salt_length: SHACRYPT_SALT_LIMIT,
                 packed_len: SHA256CRYPT_PACKED_LEN,
+                last_value_limit: 16,
                 groups: &SHA256CRYPT_GROUPS,
             },
             Method::Sha512crypt => MethodRow {
@@ -145,6 +150,7 @@ impl Method {
                 salt_limit: SHACRYPT_SALT_LIMIT,
                 made_salt_length: SHACRYPT_SALT_LIMIT,
                 packed_len: SHA512CRYPT_PACKED_LEN,
+                last_value_limit: 4,
                 groups: &SHA512CRYPT_GROUPS,
             },
             Method::Scrypt => MethodRow {
@@ -155,6 +161,7 @@ impl Method {
                 salt_limit: SCRYPT_SALT_LIMIT,
                 made_salt_length: MADE_SALT_LIMIT,
                 packed_len: SCRYPT_PACKED_LEN,
+                last_value_limit: 16,
                 groups: &SCRYPT_GROUPS,
             },
         }

@@ -1,14 +1,14 @@
 //! The packed form of a digest: its bytes in the method's own groups, each as base-64 numerals (crypt(5)).
-ghost use Rattle.std.specs.Prelude.{◌≡◌, ◌+◌, ◌^◌, ◌<◌, ◌≤◌, ◌++◌, length};
+ghost use Rattle.std.specs.Prelude.{◌≡◌, ◌+◌, ◌^◌, ◌<◌, ◌≤◌, ◌++◌, ◌↔◌, length, IsTrue};
 ghost use Rattle.crypt_core.specs.MethodLimits.{digest_len, packed_len};
-ghost use Rattle.crypt_core.specs.Packing.{packed};
-ghost use Rattle.crypt_core.specs.Private.Tables.{IsGroup, group_number};
+ghost use Rattle.crypt_core.specs.Packing.{packed, IsPacked, group_number};
+ghost use Rattle.crypt_core.specs.Private.Groups.{IsGroup};
 
 use crate::method::Method;
 pub use crate::method::{SCRYPT_PACKED_LEN, SHA512CRYPT_PACKED_LEN};
-use crate::setting::TEXT_CAPACITY;
+use crate::setting::{TEXT_CAPACITY, in_alphabet};
 use arrayvec::ArrayVec;
-use prims_core::alphabet::put_group;
+use prims_core::alphabet::{put_group, value_of};
 
 /// The groups of md5crypt's digest, as places in it. The first place is the highest byte of the group's number.
 pub(crate) const MD5CRYPT_GROUPS: [&[usize]; 6] = [
@@ -113,4 +113,21 @@ fn number_of(digest: &[u8], places: &[usize]) -> u32
         number = number * 256 + u32::from(digest[*place]);
     }
     number
+}
+
+/// Returns whether the text is the packed form of some digest of the method.
+pub(crate) fn is_packed(method: Method, text: &[u8]) -> bool
+    ensures { IsTrue result ↔ IsPacked method text.now }
+{
+    let row = method.row();
+    if text.len() != row.packed_len {
+        return false;
+    }
+    if !in_alphabet(text) {
+        return false;
+    }
+    match value_of(text[text.len() - 1]) {
+        Some(value) => value < row.last_value_limit,
+        None => false,
+    }
 }

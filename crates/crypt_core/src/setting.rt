@@ -97,8 +97,8 @@ impl Setting {
     }
 }
 
-// Returns whether each byte is a character of crypt's alphabet.
-fn in_alphabet(bytes: &[u8]) -> bool
+/// Returns whether each byte is a character of crypt's alphabet.
+pub fn in_alphabet(bytes: &[u8]) -> bool
     ensures { IsTrue result ↔ All (Contains alphabet) bytes.now }
 {
     for byte in bytes {

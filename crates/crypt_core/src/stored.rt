@@ -1,7 +1,7 @@
 //! Stored fields, as a password file has them (shadow(5)): empty, locked, or a stored hash. A stored hash is read once
 //! and keeps its setting.
 
-ghost use Rattle.std.specs.Prelude.{◌≡◌, ◌↔◌, Err, IsTrue, IfOk, IfErr};
+ghost use Rattle.std.specs.Prelude.{◌≡◌, ◌↔◌, ℕ, List, Err, IsTrue, IfOk, IfErr};
 ghost use Rattle.prims_core.specs.Meter.{HasRoom};
 ghost use Rattle.crypt_core.specs.declared.setting.fault.SettingFault.{SettingFault as Refusal};
 ghost use Rattle.crypt_core.specs.Crypt.{crypt};
@@ -10,10 +10,11 @@ ghost use Rattle.crypt_core.specs.Readings.{IsFieldReading, IsReadOneWay};
 ghost use Rattle.crypt_core.specs.Fits.{Fits};
 ghost use Rattle.crypt_core.specs.Refusals.{IsRefused};
 ghost use Rattle.crypt_core.specs.Settings.{Spells};
-ghost use Rattle.crypt_core.specs.StoredFields.{IsHashOf, IsLocked};
+ghost use Rattle.crypt_core.specs.StoredFields.{IsHashOf, IsLocked, IsWhole};
 
 use crate::hash::{HashFault, hash_by};
 use crate::memory::Memory;
+use crate::pack::is_packed;
 use crate::password::Password;
 use crate::same::same_bytes;
 use crate::setting::{Setting, SettingFault};
@@ -66,6 +67,23 @@ impl<'a> StoredHash<'a> {
         ensures spelled { Spells self.now.text self.now.setting }
     {
         &self.setting
+    }
+
+    /// Returns whether the stored hash is its setting in canonical form, a `$`, and the packed form of some digest. If it
+    /// isn't, no password matches it.
+    ///
+    /// For example, `$6$rounds=10$..` is not whole, since its rounds are clamped to 1000, and nor is `$6$salt`. The call
+    /// hashes nothing.
+    pub fn is_whole(&self) -> bool
+        ensures whole { IsTrue result ↔ IsWhole self.now.text self.now.setting }
+        ensures dead { ¬ IsTrue result → (password : List ℕ) → ¬ Fits password self.now.text }
+    {
+        let mut front = self.setting.text();
+        front.push(b'$');
+        match self.text.strip_prefix(front.as_slice()) {
+            Some(packed) => is_packed(self.setting.method(), packed),
+            None => false,
+        }
     }
 
     /// Returns whether hashing the password with the setting reproduces the stored hash, to the last byte.

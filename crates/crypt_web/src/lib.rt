@@ -10,14 +10,16 @@
 //! are those of the calls for C. scrypt needs memory, so its hashes are refused with `OutOfMemory`.
 #![tactic(auto)]
 
-ghost use Rattle.std.specs.Prelude.{◌≡◌, ◌≢◌, ◌≤◌, pos, [], ◌∷◌, take};
+ghost use Rattle.std.specs.Prelude.{◌≡◌, ◌≢◌, ◌≤◌, ◌↔◌, pos, [], ◌∷◌, take};
 ghost use Rattle.prims_core.specs.Work.{no_work};
 ghost use Rattle.crypt_core.specs.Settings.{SettingValue, Spells};
-ghost use Rattle.call_core.specs.Checks.{NeedsNoMemory, Opens, Verifies};
+ghost use Rattle.call_core.specs.Audits.{Audits, IsCurrent};
+ghost use Rattle.call_core.specs.Checks.{IsDead, NeedsNoMemory, Opens, Verifies};
 ghost use Rattle.call_core.specs.Hashes.{Hashes};
 ghost use Rattle.call_core.specs.Reports.{Answers, put, token};
 ghost use Rattle.call_core.specs.Settings.{Bounds, PutsSetting};
 
+use call_core::audit::report_audit;
 use call_core::bound::report_bound;
 use call_core::hash::put_hash;
 use call_core::report::{Report, tell};
@@ -52,6 +54,7 @@ pub extern "C" fn web_verify(
     ensures answers { Answers result report.new }
     ensures lets_in { result ≡ pos 1 → Opens password.now stored.now budget × NeedsNoMemory stored.now }
     ensures opens { Opens password.now stored.now budget → NeedsNoMemory stored.now → result ≡ pos 1 }
+    ensures shut { IsDead stored.now → result ≡ pos 0 }
     ensures verifies { Verifies password.now stored.now budget report.new }
     ensures scrypt { ¬ NeedsNoMemory stored.now → (result ≡ pos 0) × (report.new.work ≡ no_work) }
     ensures bytes { report.new.work.bytes ≤ budget }
@@ -125,6 +128,34 @@ pub extern "C" fn web_setting(
         report,
         put_setting(method, rounds, [first, second, third], out),
     )
+}
+
+/// Audits the stored hash in a field, as `mkpasswd_audit` does for C. Returns 1 if it is current: some digest makes it, no
+/// hash with its setting costs more than the budget, and a new hash with the method and the rounds would not replace it.
+///
+/// It hashes nothing. Rounds of 0 are the recommended ones, and a budget of 0 is that of an audit.
+///
+/// # Errors
+///
+/// - `UnknownMethod`, `Cost`: no method has the number, or a new hash cannot have the rounds.
+/// - `Locked`, `NoHash`: the field begins with `!` or `*`, or is empty.
+/// - `Setting`: any other field has no valid hash.
+/// - `OverBudget`, `Dead`, `Replaced`: a hash with its setting can cost more than the budget; no password matches the hash,
+///   because it is not whole; a new hash would replace it.
+#[unsafe(no_mangle)]
+pub extern "C" fn web_audit(
+    field: &[u8],
+    method: u32,
+    rounds: u32,
+    budget: u64,
+    report: &mut Report,
+) -> i32
+    ensures answers { Answers result report.new }
+    ensures current { result ≡ pos 1 ↔ IsCurrent field.now method rounds budget }
+    ensures audits { Audits field.now method rounds budget report.new }
+    ensures idle { report.new.work ≡ no_work }
+{
+    tell(report, report_audit(field, method, rounds, budget))
 }
 
 /// Reports the greatest cost and the greatest work of a hash with this setting, for any password of this length.

@@ -138,7 +138,7 @@ given_fault name salt password n s p =
 pub record IsGiven (name salt password : Text) (rows : List Row) : Type 0 where
   pub type : type_of rows ≡ name
   pub salt_is : given_salt rows ≡ Some salt
-  pub cost : rounds_of rows ≡ 0
+  pub rounds : rounds_of rows ≡ 0
   pub word : first_of (codes "password") rows ≡ Some password
   pub stdin : is_set (codes "stdin") rows ≡ false
   pub batch : is_set (codes "batch") rows ≡ false
@@ -152,7 +152,7 @@ rows_behind name salt password = finished shape.rules (behind_password name salt
 
 finds : (name salt password : Text) → IsGiven name salt password (rows_behind name salt password)
 unfolding shape command
-finds name salt password = record { type = refl; salt_is = refl; cost = refl; word = refl; stdin = refl; batch = refl; check = refl; audit = refl; work = refl; modes = refl }
+finds name salt password = record { type = refl; salt_is = refl; rounds = refl; word = refl; stdin = refl; batch = refl; check = refl; audit = refl; work = refl; modes = refl }
 
 given_rows : (name salt password : Text) → IsNoOption name → IsNoOption salt → IsNoOption password
     → matches_of command (hash_arguments name salt password) ≡ rows_behind name salt password

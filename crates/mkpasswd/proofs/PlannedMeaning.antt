@@ -6,23 +6,23 @@ use Rattle.crypt_core.specs.Methods.{method_named}
 use Rattle.crypt_core.specs.Rules.{IsFirstBroken}
 use Rattle.crypt_core.specs.declared.method.Method.{Method}
 use Rattle.crypt_core.specs.declared.setting.fault.MakeFault.{MakeFault}
-use Rattle.mkpasswd.specs.Options.{BreaksUsage, rounds_of, given_salt, type_of}
+use Rattle.mkpasswd.specs.Options.{BreaksUsage, given_salt, job_rounds, type_of}
 use Rattle.mkpasswd.specs.declared.fault.UsageFault.TheVariants.{Make}
 
 -- ---- the rules of the arguments, in their order
 
 module _ (rows : List Row) (method : Method) (named : method_named (type_of rows) ≡ Some method) where
-  unbroken_make : (fault : MakeFault) → ¬ BreaksMake method (rounds_of rows) (given_salt rows) fault → ¬ BreaksUsage rows (Make fault)
+  unbroken_make : (fault : MakeFault) → ¬ BreaksMake method (job_rounds method rows) (given_salt rows) fault → ¬ BreaksUsage rows (Make fault)
   unbroken_make fault whole (own, own_named, breaks) =
       let same : own ≡ method = cc in
-      whole (subst (λ (m : Method). BreaksMake m (rounds_of rows) (given_salt rows) fault) same breaks)
+      whole (subst (λ (m : Method). BreaksMake m (job_rounds m rows) (given_salt rows) fault) same breaks)
 
   -- the first rule that the method, the cost and the salt break
-  pub refused_make : (fault : MakeFault) → IsMakeRefused method (rounds_of rows) (given_salt rows) fault
+  pub refused_make : (fault : MakeFault) → IsMakeRefused method (job_rounds method rows) (given_salt rows) fault
       → IsFirstBroken (map Make make_faults) (BreaksUsage rows) (Make fault)
   unfolding IsMakeRefused
   refused_make fault refused = go make_faults refused where
-    go : (faults : List MakeFault) → IsFirstBroken faults (BreaksMake method (rounds_of rows) (given_salt rows)) fault
+    go : (faults : List MakeFault) → IsFirstBroken faults (BreaksMake method (job_rounds method rows) (given_salt rows)) fault
         → IsFirstBroken (map Make faults) (BreaksUsage rows) (Make fault)
     go [] broken = broken
     go (first ∷ others) (inl (is, breaks)) = inl (ap Make is, (method, named, breaks))

@@ -51,7 +51,7 @@ module _ (name salt password : Text) (method : Method) (named : method_named nam
       → bytes ≡ password → (password_answer job bytes stream).text ≡ as_line (crypt password (record { scheme = made_scheme method 0; salt = salt }))
   prints_job rows job bytes stream found is_job bytes_is =
       let own = same_method is_job.maker.0 (rw found.type at is_job.maker.1) in
-      text_by method salt password job bytes stream (rw (found.cost, found.salt_is, own) at is_job.maker.2) (is_job.work ∙ found.work) bytes_is
+      text_by method salt password job bytes stream (rw (found.audit, found.rounds, found.salt_is, own) at is_job.maker.2) (is_job.work ∙ found.work) bytes_is
 
   not_set : {set : Bool} → set ≡ false → set ≡ true → ⊥
   not_set off on = true≢false (sym on ∙ off)

@@ -4,7 +4,7 @@ ghost use Rattle.std.specs.Prelude.{◌^◌, ◌≡◌, ◌≢◌, List, [], Non
 ghost use Rattle.clap.specs.Words.{app_of, fault_of, first_of, kind_of, matches_of, rule_of};
 ghost use Rattle.run_core.specs.Makers.{bytes_of};
 ghost use Rattle.crypt_core.specs.Methods.{method_named};
-ghost use Rattle.mkpasswd.specs.Options.{IsMaker, IsPlan, Plans, Refuses, command, rounds_of, flag_rule, given_salt, is_set, number_in, option_rule, type_of, value_rule};
+ghost use Rattle.mkpasswd.specs.Options.{IsMaker, IsPlan, Plans, Refuses, command, flag_rule, given_salt, is_set, job_budget, job_rounds, number_in, option_rule, type_of, value_rule};
 ghost use Rattle.mkpasswd.specs.Private.Options.{ChecksRule, HasRule, IsNumber};
 
 use crate::fault::UsageFault;
@@ -13,6 +13,7 @@ use clap::builder::ValueParser;
 use clap::error::ErrorKind;
 use clap::{Arg, ArgAction, ArgMatches, Command, value_parser};
 use crypt_core::method::Method;
+use crypt_core::scheme::Scheme;
 use crypt_core::version::VERSION;
 use std::alloc::{AllocError, Global};
 use std::marker::Model;
@@ -31,7 +32,7 @@ const SALT_HELP: &str =
     "The salt: up to 8 (md5crypt), 16 or 86 (scrypt)\nletters, digits, '.' and '/'; else a new one";
 
 const ROUNDS_HELP: &str =
-    "The cost: for sha256crypt and sha512crypt rounds,\n656000 for a hash to store (default 5000); for scrypt\n6 to 11 (default 7); 0 is the default";
+    "The cost: for sha256crypt and sha512crypt rounds\n(default 5000, with --audit 656000, which suits a hash\nto store); for scrypt 6 to 11 (default 7); 0: default";
 
 const STDIN_HELP: &str =
     "The password is the first line of standard input,\nand empty without any input";
@@ -41,7 +42,7 @@ const BATCH_HELP: &str = "Hash the password of each line of standard input:\nnam
 const CHECK_HELP: &str = "Check the password of each line of standard input:\nname:field:password";
 
 const AUDIT_HELP: &str =
-    "Audit each line name:field of standard input, such as\n/etc/shadow: is its hash current, outdated (by -m, -R),\nover budget, malformed, ..; status 1 if one needs care";
+    "Audit each line name:field of standard input, such as\n/etc/shadow: is its hash current, outdated (by -m, -R),\ndead, over budget, ..; status 1 if one needs care";
 
 const REHASH_HELP: &str =
     "With --check, a new hash for each password that matches\na hash of another method or a lower cost";
@@ -49,7 +50,7 @@ const REHASH_HELP: &str =
 const WORK_HELP: &str = "Show what the hash cost: digests, bytes, mixings,\nbytes of table";
 
 const BUDGET_HELP: &str =
-    "What a line may cost, by --batch, --check and --audit:\nbytes digested and mixed";
+    "What a line may cost, in bytes digested and mixed\n(default: any; with --audit what its rounds can cost)";
 
 const FIRST_LINE_HELP: &str = "The number of the first line in messages about lines";
 
@@ -57,8 +58,7 @@ const PASSWORD_HELP: &str = "The password, of at most 1,024 bytes; without it, a
 
 const SALT_WORD_HELP: &str = "The salt, in place of --salt";
 
-const AFTER_HELP: &str =
-    "Pass a password that begins with '-' by --stdin.\n\nAudit by today's rounds, and by a budget that admits them with any password:\nmkpasswd --audit -R 656000 --budget 1300000000 < /etc/shadow";
+const AFTER_HELP: &str = "Pass a password that begins with '-' by --stdin.";
 
 // What `clap` finds in the arguments. Clauses see its rows, one for each argument that is given.
 #[derive(Drop)]
@@ -143,8 +143,7 @@ pub fn plan(alloc: Global, words: &[String]) -> Result<Plan, UsageFault>
     let method = known_method(&given)?;
     let salt = one_salt(&given)?;
     one_mode(&given)?;
-    let rounds = given.number32("rounds").unwrap_or(0);
-    let maker = Maker::new(method, rounds, salt)?;
+    let maker = Maker::new(method, job_rounds(&given, method), salt)?;
     Ok(planned(alloc, &given, maker)?)
 }
 
@@ -194,15 +193,40 @@ fn one_mode(given: &Arguments<'_>) -> Result<(), UsageFault>
     Ok(())
 }
 
+// Returns the rounds of the job. An audit without `-R`, or with 0, judges by the recommended rounds.
+fn job_rounds(given: &Arguments<'_>, method: Method) -> u32
+    ensures { result ≡ job_rounds method given.now }
+{
+    let rounds = given.number32("rounds").unwrap_or(0);
+    if given.has("audit") {
+        method.chosen_rounds(rounds)
+    } else {
+        rounds
+    }
+}
+
+// Returns the budget of the job. An audit without `--budget`, or with 0, has one that admits each hash with its scheme.
+fn job_budget(given: &Arguments<'_>, scheme: &Scheme) -> Option<u64>
+    ensures { result ≡ job_budget scheme.now given.now }
+{
+    let budget = given.number64("budget");
+    if given.has("audit") {
+        Some(scheme.chosen_budget(budget.unwrap_or(0)))
+    } else {
+        budget
+    }
+}
+
 // Returns the plan of arguments that break no rule.
 fn planned(alloc: Global, given: &Arguments<'_>, maker: Maker) -> Result<Plan, AllocError>
     ensures { IsMaker given.now maker → IfOk result (IsPlan given.now) }
 {
+    let budget = job_budget(given, &maker.scheme());
     let job = Job {
         maker,
         rehash: given.has("rehash"),
         work: given.has("work"),
-        budget: given.number64("budget"),
+        budget,
         first_line: given.number32("first-line").unwrap_or(1),
     };
     if let Some(password) = given.text("password") {

@@ -2,6 +2,7 @@ pub mod AuditsSpare
 pub mod FirstLineReading
 pub mod FirstLines
 pub mod Flushes
+pub mod ForeseenChecks
 pub mod LineAnswering
 pub mod LineFeeds
 pub mod LineOptions

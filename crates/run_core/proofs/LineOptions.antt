@@ -1,37 +1,32 @@
 -- What a budget and new hashes change of the answers to lines, that they change nothing for a single password, and what an
 -- audit says of later checks.
-use Rattle.std.proofs.Common.{◌≡◌, ◌↔◌, ℕ, List, Result, inl, inr, refl, sym, ap, subst, ◌∙◌, arith, ◌≤◌, ◌⊎◌, Bool, true, false, true≢false, length, Option, None, Some}
+use Rattle.std.proofs.Common.{◌≡◌, ◌↔◌, ℕ, List, Result, inl, inr, refl, sym, ◌∙◌, arith, ◌≤◌, ◌⊎◌, Bool, true, false, true≢false, length, Option, None, Some}
 use Rattle.std.specs.Prelude.{◌≢◌}
 use Rattle.std.proofs.lemmas.Option.{none-some}
 use Rattle.rand_core.specs.Stream.{Stream}
 use Rattle.crypt_core.specs.Crypt.{crypt}
-use Rattle.crypt_core.specs.Readings.{IsReadOneWay}
-use Rattle.crypt_core.specs.Settings.{SettingValue, Spells}
-use Rattle.crypt_core.specs.Work.{cost}
-use Rattle.crypt_core.proofs.Refusals.{one_reading}
-use Rattle.crypt_core.proofs.WorkBounds.{longest}
+use Rattle.crypt_core.specs.Settings.{SettingValue}
+use Rattle.crypt_core.specs.Standings.{IsAbove}
 use Rattle.run_core.specs.Answers.{Answer, Hashing}
-use Rattle.run_core.specs.Audits.{audit_cost}
-use Rattle.run_core.specs.JobOptions.{without_budget, without_rehash, IsAbove, check_cost, is_outdated}
+use Rattle.run_core.specs.JobOptions.{without_budget, without_rehash, check_cost, is_outdated}
 use Rattle.run_core.specs.LineAnswers.{ComesTo, HasSetting, IsCostly, IsPasswordAnswer, refusal}
-use Rattle.run_core.specs.LineOptions.{Foresees, IsRenewable, OnlyRefuses, OnlyRenews, RenewsNone}
+use Rattle.run_core.specs.LineOptions.{IsRenewable, OnlyRefuses, OnlyRenews, RenewsNone}
 use Rattle.run_core.specs.Lines.{HasParts, IsSound, Parts}
 use Rattle.run_core.specs.One.{EndsOne, RunsOne}
 use Rattle.run_core.specs.Runs.{IsWithinTurns, RunState}
 use Rattle.run_core.specs.declared.answer.Outcome.{Outcome}
 use Rattle.run_core.specs.declared.answer.Outcome.TheVariants.{Hashed, Match, Rehashed, Misfit, NoHash, Locked, Audited}
-use Rattle.run_core.specs.declared.audit.Standing.TheVariants.{OverBudget}
+use Rattle.crypt_core.specs.declared.standing.Standing.TheVariants.{OverBudget}
 use Rattle.run_core.specs.declared.fault.RunFault.{RunFault}
 use Rattle.run_core.specs.declared.job.Job.{Job}
 use Rattle.run_core.specs.declared.job.PasswordFrom.{PasswordFrom}
 use Rattle.run_core.specs.declared.job.PasswordFrom.TheVariants.{Word, Input}
 use Rattle.run_core.specs.declared.line.Kind.{Kind}
-use Rattle.run_core.specs.declared.line.Kind.TheVariants.{Batch, Check, Audit}
+use Rattle.run_core.specs.declared.line.Kind.TheVariants.{Batch, Audit}
 use Rattle.run_core.specs.declared.line.LineFault.TheVariants.{OverBudget}
 use Rattle.run_core.specs.declared.tally.Tally.{Tally}
-use Rattle.run_core.proofs.OneCut.{parts_unique}
-use Rattle.run_core.proofs.LineOutcomes.{one_setting, unstored-cheap}
-use Rattle.run_core.proofs.LineRules.{sound_not_refused, sound_short}
+use Rattle.run_core.proofs.LineOutcomes.{unstored-cheap}
+use Rattle.run_core.proofs.LineRules.{sound_not_refused}
 
 -- ---- lines
 
@@ -99,7 +94,7 @@ same_or_more : (job : Job) (kept : SettingValue) (password : ℕ)
 same_or_more job kept password = omega arith
 
 -- what is above a budget is above it with more
-still_above : (budget : Option ℕ) (number more : ℕ) → number ≤ more → IsAbove budget number → IsAbove budget more
+pub still_above : (budget : Option ℕ) (number more : ℕ) → number ≤ more → IsAbove budget number → IsAbove budget more
 still_above None number more at_most above = above
 still_above (Some budget) number more at_most above = omega (arith, at_most, above)
 
@@ -195,25 +190,3 @@ batch-still job line renewable = none-some renewable.field (sym renewable.cut.1 
 
 pub batch_renews_none : (job : Job) → RenewsNone Batch job
 batch_renews_none job number line stream answer = only_renews Batch job (λ same. cc) number line stream answer (batch-still job line)
-
--- ---- audits
-
--- a check without new hashes costs no more than the audit says
-foreseen : (job : Job) (field : List ℕ) (kept : SettingValue) (line : List ℕ) (parts : Parts) → Spells field kept → IsReadOneWay field
-    → ¬ IsAbove job.budget (audit_cost kept) → HasParts Check line parts → parts.field ≡ Some field → ¬ IsCostly Check (without_rehash job) line
-foreseen job field kept line parts spells once within has is costly =
-    let same = parts_unique Check line costly.parts parts costly.cut has in
-    let other : costly.parts.field ≡ Some field = ap (λ (p : Parts). p.field) same ∙ is in
-    elim costly.cost [
-      | inl made ↦ absurd (none-some field (sym made.0 ∙ other))
-      | inr (spelled, found, spelled_is, found_spells, number_is) ↦
-          let fields : spelled ≡ field = cc (spelled_is, other) in
-          let one : found ≡ kept = one_setting field found kept once (subst (λ (f : List ℕ). Spells f found) fields found_spells) spells in
-          let most = longest kept (length costly.parts.password) (sound_short Check line costly.parts costly.sound costly.cut) in
-          within (still_above job.budget costly.number (audit_cost kept) (omega (arith, number_is, ap (λ (s : SettingValue). cost s (length costly.parts.password)) one, most)) costly.above)
-    ]
-
-pub foresees : (job : Job) → Foresees job
-foresees job field method most OverBudget finds other line parts has is = absurd (other refl)
-foresees job field method most standing (kept, spells, is_method, is_number, stands) other line parts has is =
-    foreseen job field kept line parts spells (one_reading field) stands.0 has is

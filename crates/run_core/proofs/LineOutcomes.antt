@@ -18,7 +18,8 @@ use Rattle.crypt_core.specs.declared.stored.StoredField.{StoredField}
 use Rattle.crypt_core.specs.declared.stored.StoredField.TheVariants as fields
 use Rattle.run_core.specs.Answers.{Answer, Hashing, hashing, new_hash, new_hashing}
 use Rattle.run_core.specs.Audits.{Finds}
-use Rattle.run_core.specs.JobOptions.{IsAbove, check_cost, is_outdated}
+use Rattle.crypt_core.specs.Standings.{IsAbove}
+use Rattle.run_core.specs.JobOptions.{check_cost, is_outdated}
 use Rattle.run_core.specs.LineAnswers.{ComesTo, IsAnswer, IsCostly, IsPasswordAnswer, answer_of, refusal}
 use Rattle.run_core.specs.Lines.{HasParts, IsLineRefused, Parts}
 use Rattle.run_core.specs.Makers.{made_cost_by}
@@ -118,7 +119,7 @@ first_is_dollar field kept spells =
 begins_with : (field front : List ℕ) (first : ℕ) → ((rest : List ℕ) → slice_index (front ++ rest) 0 ≡ first) → BeginsWith field front → slice_index field 0 ≡ first
 begins_with field front first starts begins = ap (λ (text : List ℕ). slice_index text 0) begins.1 ∙ starts begins.0
 
-spelled-stored : (field : List ℕ) (kept : SettingValue) → Spells field kept → IsStored field
+pub spelled-stored : (field : List ℕ) (kept : SettingValue) → Spells field kept → IsStored field
 spelled-stored field kept spells =
     let dollar = first_is_dollar field kept spells in (
       λ empty. let no_byte = ap (λ (text : List ℕ). slice_index text 0) empty in absurd (omega (arith, dollar, no_byte)),

@@ -1,16 +1,11 @@
 -- The options of a job: a budget, which limits the cost of a line, and rehashes of passwords whose stored hash is out
 -- of date.
-use Rattle.std.specs.Prelude.{ℕ, ◌+◌, ◌<◌, ◌&&◌, Bool, false, Option, Some, None, if◌then◌else◌}
+use Rattle.std.specs.Prelude.{ℕ, ◌+◌, ◌&&◌, Bool, false, None, if◌then◌else◌}
 use Rattle.crypt_core.specs.Replacements.{is_replaced_by}
 use Rattle.crypt_core.specs.Settings.{SettingValue}
 use Rattle.crypt_core.specs.Work.{cost}
 use Rattle.run_core.specs.Makers.{made_cost_by}
 use Rattle.run_core.specs.declared.job.Job.{Job}
-
--- IsAbove budget number: the number exceeds the budget. Without a budget no number does.
-abbrev pub IsAbove : Option ℕ → ℕ → Type 0
-IsAbove None number = ⊥
-IsAbove (Some budget) number = budget < number
 
 -- without_budget job is the job without a budget.
 abbrev pub without_budget : Job → Job

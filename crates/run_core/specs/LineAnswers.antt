@@ -4,9 +4,10 @@ use Rattle.rand_core.specs.Stream.{Stream}
 use Rattle.crypt_core.specs.Crypt.{crypt}
 use Rattle.crypt_core.specs.Settings.{SettingValue, Spells}
 use Rattle.crypt_core.specs.StoredFields.{IsLocked}
+use Rattle.crypt_core.specs.Standings.{IsAbove}
 use Rattle.run_core.specs.Answers.{Answer, Hashing, counts_text, hashing, new_hash, new_hashing, rendered, shows_work, stream_left}
 use Rattle.run_core.specs.Audits.{Finds}
-use Rattle.run_core.specs.JobOptions.{IsAbove, check_cost, is_outdated}
+use Rattle.run_core.specs.JobOptions.{check_cost, is_outdated}
 use Rattle.run_core.specs.Faults.{line_fault_text}
 use Rattle.run_core.specs.Lines.{Parts, HasParts, IsLineRefused, IsSound}
 use Rattle.run_core.specs.Makers.{made_cost_by}

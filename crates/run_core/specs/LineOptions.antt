@@ -1,19 +1,20 @@
 -- What a budget and rehashes change in the answers to lines, and what they leave unchanged; and what an audit says of
 -- later checks.
-use Rattle.std.specs.Prelude.{◌≡◌, ◌≢◌, ℕ, ◌⊎◌, ◌↔◌, List, true, Some}
+use Rattle.std.specs.Prelude.{◌≡◌, ◌≢◌, ℕ, ◌⊎◌, ◌↔◌, List, true, Some, Ok}
 use Rattle.rand_core.specs.Stream.{Stream}
 use Rattle.crypt_core.specs.Crypt.{crypt}
 use Rattle.crypt_core.specs.Settings.{SettingValue}
 use Rattle.crypt_core.specs.StoredFields.{IsStored}
-use Rattle.crypt_core.specs.declared.method.Method.{Method}
+use Rattle.crypt_core.specs.declared.scheme.Scheme.{Scheme}
+use Rattle.crypt_core.specs.declared.standing.Standing.{Standing}
+use Rattle.crypt_core.specs.declared.standing.Standing.TheVariants.{OverBudget, Dead}
 use Rattle.run_core.specs.Answers.{Answer}
 use Rattle.run_core.specs.Audits.{Finds}
 use Rattle.run_core.specs.JobOptions.{is_outdated, without_budget, without_rehash}
 use Rattle.run_core.specs.LineAnswers.{HasSetting, IsAnswer, IsCostly, refusal}
 use Rattle.run_core.specs.Lines.{HasParts, IsSound, Parts}
+use Rattle.run_core.specs.declared.answer.Outcome.TheVariants.{Misfit}
 use Rattle.run_core.specs.declared.audit.Finding.TheVariants.{Hash}
-use Rattle.run_core.specs.declared.audit.Standing.{Standing}
-use Rattle.run_core.specs.declared.audit.Standing.TheVariants.{OverBudget}
 use Rattle.run_core.specs.declared.job.Job.{Job}
 use Rattle.run_core.specs.declared.line.Kind.{Kind}
 use Rattle.run_core.specs.declared.line.Kind.TheVariants.{Check}
@@ -62,7 +63,17 @@ RenewsNone kind job = (number : ℕ) → (line : List ℕ) → (stream : Stream)
 -- Foresees job: if an audit finds that a field is a hash within the budget, then no line with this field is over the same
 -- budget in a check without rehashes, whatever its password is.
 abbrev pub Foresees : Job → Type 0
-Foresees job = (field : List ℕ) → (method : Method) → (most : ℕ) → (standing : Standing)
-    → Finds job field (Hash method most standing) → standing ≢ OverBudget
+Foresees job = (field : List ℕ) → (scheme : Scheme) → (most : ℕ) → (standing : Standing)
+    → Finds job field (Hash scheme most standing) → standing ≢ OverBudget
+    → (checking : Job) → checking.budget ≡ job.budget
     → (line : List ℕ) → (parts : Parts) → HasParts Check line parts → parts.field ≡ Some field
-    → ¬ IsCostly Check (without_rehash job) line
+    → ¬ IsCostly Check (without_rehash checking) line
+
+-- Refutes job: if an audit finds that a field is a dead hash, then every line with this field that breaks no rule and is
+-- not costly gets the verdict `no` in any check, whatever its password is.
+abbrev pub Refutes : Job → Type 0
+Refutes job = (field : List ℕ) → (scheme : Scheme) → (most : ℕ) → Finds job field (Hash scheme most Dead)
+    → (checking : Job) → (line : List ℕ) → (parts : Parts) → HasParts Check line parts → parts.field ≡ Some field
+    → IsSound Check line → ¬ IsCostly Check checking line
+    → (number : ℕ) → (stream : Stream) → (answer : Answer) → IsAnswer Check checking number line stream answer
+    → answer.outcome ≡ Ok Misfit

@@ -13,6 +13,10 @@ HasNoLineFeed bytes = ¬ Contains bytes line_feed
 abbrev pub colon : ℕ
 colon = 58
 
+-- slash is the byte between the numbers of scrypt in an audit.
+abbrev pub slash : ℕ
+slash = 47
+
 -- as_line text is the text and a line feed.
 abbrev pub as_line : List ℕ → List ℕ
 as_line text = text ++ line_feed ∷ []

@@ -1,6 +1,6 @@
 //! Outcomes of passwords and lines, and the output line of each. An outcome is a value; its line is rendered once,
 //! after all work is done.
-ghost use Rattle.std.specs.Prelude.{◌≡◌, ℕ, List, ◌+◌, ◌*◌, ◌<◌, ◌≤◌, ◌++◌, ◌↔◌, [], IsTrue, length, Ok, IfOk, OnOk, OnErr};
+ghost use Rattle.std.specs.Prelude.{◌≡◌, ℕ, List, decimal, ◌+◌, ◌*◌, ◌<◌, ◌≤◌, ◌++◌, ◌↔◌, [], IsTrue, length, Ok, IfOk, OnOk, OnErr};
 ghost use Rattle.arrayvec.specs.ArrayVec.{array_vec_len};
 ghost use Rattle.crypt_core.specs.Crypt.{IsAfterRefusedGrowth};
 ghost use Rattle.crypt_core.specs.Passwords.{password_limit};
@@ -8,23 +8,24 @@ ghost use Rattle.crypt_core.specs.Work.{raised_by, work, work_limit};
 ghost use Rattle.prims_core.specs.Meter.{HasRoom};
 ghost use Rattle.prims_core.specs.Work.{IsWithin};
 ghost use Rattle.run_core.specs.Answers.{Answer, is_misfit, new_hash, rendered, shows_work, work_text};
-ghost use Rattle.run_core.specs.Audits.{finding_text};
-ghost use Rattle.run_core.specs.JobOptions.{IsAbove};
+ghost use Rattle.run_core.specs.Audits.{finding_text, rounds_text};
+ghost use Rattle.crypt_core.specs.Standings.{IsAbove};
 ghost use Rattle.run_core.specs.LineAnswers.{refusal};
 ghost use Rattle.run_core.specs.Lines.{name_limit};
 ghost use Rattle.run_core.specs.Makers.{bytes_of, next_setting, stream_after};
 ghost use Rattle.run_core.specs.Private.Answers.{Decides, IsRaisedBelow, Renders, Settles, count_text, field_cost, front_by, wanted_text};
-ghost use Rattle.run_core.specs.Private.Headroom.{HasCountsForLine, answer_limit, count_limit, finding_limit, front_limit, line_work_limit};
+ghost use Rattle.run_core.specs.Private.Headroom.{HasCountsForLine, answer_limit, count_limit, finding_limit, front_limit, line_work_limit, number_limit, rounds_limit};
 ghost use Rattle.run_core.specs.Private.Lines.{Represents};
 ghost use Rattle.run_core.specs.Texts.{as_line};
 
-use crate::audit::{Finding, audit};
+use crate::audit::{Finding, audit, standing_text};
 use crate::job::Job;
 use crate::line::{Kind, LineFault, NAME_LIMIT, Task, parse_line};
 use crate::reader::buffer::LineBuffer;
 use arrayvec::ArrayVec;
 use crypt_core::hash::{HASH_LIMIT, HashFault, Hashed, hash};
 use crypt_core::password::Password;
+use crypt_core::scheme::Scheme;
 use crypt_core::stored::StoredField;
 use crypt_core::work::cost;
 use itoa::Buffer;
@@ -288,23 +289,58 @@ fn append_finding(text: &mut Text, finding: &Finding)
 {
     match finding {
         Finding::Hash {
-            method,
+            scheme,
             most,
             standing,
         } => {
-            append(text, method.name());
+            append(text, scheme.method().name());
+            text.push(b':');
+            append_rounds(text, scheme);
             append_count(text, *most);
             text.push(b':');
-            append(text, standing.text());
+            append(text, standing_text(*standing));
         }
         Finding::NoHash => append(text, b"none"),
         Finding::Locked => append(text, b"locked"),
+        Finding::Other(other) => {
+            append(text, other.name());
+            append(text, b":unknown");
+        }
         Finding::Unknown => append(text, b"unknown"),
+        Finding::NoScheme => append(text, b"no scheme"),
         Finding::Malformed(fault) => {
             append(text, b"malformed:");
             append(text, fault.text().as_bytes());
         }
     }
+}
+
+// Appends the rounds of a scheme, or N, r and p of scrypt with `/` between them.
+fn append_rounds(text: &mut Text, scheme: &Scheme)
+    requires { array_vec_len text.old + rounds_limit ≤ answer_limit }
+    ensures text { text.new.items ≡ text.old.items ++ rounds_text scheme.now }
+    ensures short { array_vec_len text.new ≤ array_vec_len text.old + rounds_limit }
+{
+    match scheme {
+        Scheme::Md5crypt => append(text, b"1000"),
+        Scheme::Shacrypt(_, rounds) => append_number(text, rounds.count()),
+        Scheme::Scrypt(params) => {
+            append_number(text, params.row_count());
+            text.push(b'/');
+            append_number(text, params.r());
+            text.push(b'/');
+            append_number(text, params.p());
+        }
+    }
+}
+
+// Appends a number in decimal.
+fn append_number(text: &mut Text, number: u32)
+    requires { array_vec_len text.old + number_limit ≤ answer_limit }
+    ensures text { text.new.items ≡ text.old.items ++ decimal number }
+    ensures short { array_vec_len text.new ≤ array_vec_len text.old + number_limit }
+{
+    append(text, Buffer::new().format(number).as_bytes());
 }
 
 // Appends `:digests:bytes:mixes:table`.

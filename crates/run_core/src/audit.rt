@@ -1,22 +1,25 @@
 //! Audits of stored fields, without any password.
 ghost use Rattle.std.specs.Prelude.{◌≡◌};
+ghost use Rattle.crypt_core.specs.Refusals.{IsRefused};
+ghost use Rattle.crypt_core.specs.StoredFields.{IsStored};
 ghost use Rattle.run_core.specs.Audits.{Finds, needs_care, standing_text};
 ghost use Rattle.run_core.specs.Runs.{no_numbers};
 
 use crate::job::Job;
-use crypt_core::method::Method;
-use crypt_core::password::PASSWORD_LIMIT;
+use crate::other_scheme::OtherScheme;
+use crypt_core::scheme::Scheme;
 use crypt_core::setting::SettingFault;
+use crypt_core::standing::Standing;
 use crypt_core::stored::{StoredField, StoredHash};
-use crypt_core::work::cost;
 use rand_core::Rng;
 
 /// What an audit finds in a field.
 #[derive(Clone, Copy)]
 pub(crate) enum Finding {
-    /// A hash of this method, with the greatest cost of hashing a password with its setting, in bytes digested and mixed.
+    /// A hash with this scheme, the greatest cost of hashing a password with its setting, in bytes digested and mixed, and
+    /// its standing by the job.
     Hash {
-        method: Method,
+        scheme: Scheme,
         most: u64,
         standing: Standing,
     },
@@ -24,21 +27,14 @@ pub(crate) enum Finding {
     NoHash,
     /// The field begins with `!` or `*`.
     Locked,
-    /// The first rule that the field breaks as a setting is `UnknownScheme`, as by a hash of yescrypt.
+    /// The field has the form of another scheme of crypt(5).
+    Other(OtherScheme),
+    /// The field begins with `$`, and its prefix is that of no scheme.
     Unknown,
-    /// The first rule that the field breaks as a setting is another one.
+    /// The field doesn't begin with `$`, and no scheme has its form: it is a password, or a damaged hash.
+    NoScheme,
+    /// The field begins with `$`, and the first rule that it breaks as a setting is this one, and not `UnknownScheme`.
     Malformed(SettingFault),
-}
-
-/// The standing of a hash, by the budget and the setting of a job.
-#[derive(Clone, Copy)]
-pub(crate) enum Standing {
-    /// The job's settings do not replace its setting.
-    Current,
-    /// The job's settings replace its setting.
-    Outdated,
-    /// Hashing a password with its setting can cost more than the budget.
-    OverBudget,
 }
 
 impl Finding {
@@ -52,21 +48,10 @@ impl Finding {
                 ..
             }
             | Finding::Locked
+            | Finding::Other(_)
             | Finding::Unknown => false,
-            Finding::Hash { .. } | Finding::NoHash | Finding::Malformed(_) => true,
-        }
-    }
-}
-
-impl Standing {
-    /// Returns the text of the standing.
-    pub(crate) fn text(&self) -> &'static [u8]
-        ensures text { result.now ≡ standing_text self.now }
-    {
-        match self {
-            Standing::Current => b"current",
-            Standing::Outdated => b"outdated",
-            Standing::OverBudget => b"over budget",
+            Finding::Hash { .. } | Finding::NoHash | Finding::NoScheme | Finding::Malformed(_) =>
+                true,
         }
     }
 }
@@ -79,8 +64,7 @@ pub(crate) fn audit(job: &Job, field: &[u8]) -> Finding
         Ok(StoredField::Empty) => Finding::NoHash,
         Ok(StoredField::Locked) => Finding::Locked,
         Ok(StoredField::Hash(stored)) => audit_hash(job, &stored),
-        Err(SettingFault::UnknownScheme) => Finding::Unknown,
-        Err(fault) => Finding::Malformed(fault),
+        Err(fault) => audit_refused(job, field, fault),
     }
 }
 
@@ -88,19 +72,39 @@ pub(crate) fn audit(job: &Job, field: &[u8]) -> Finding
 fn audit_hash(job: &Job, stored: &StoredHash<'_>) -> Finding
     ensures { Finds job.now stored.now.text result }
 {
-    let setting = stored.setting();
-    let most = cost(setting, PASSWORD_LIMIT);
-    let standing = if job.is_exceeded_by(most) {
-        Standing::OverBudget
-    } else if job.replaces(setting) {
-        Standing::Outdated
-    } else {
-        Standing::Current
-    };
     Finding::Hash {
-        method: setting.method(),
-        most,
-        standing,
+        scheme: stored.setting().scheme(),
+        most: stored.greatest_cost(),
+        standing: stored.standing(&job.maker.scheme(), job.budget),
+    }
+}
+
+// Returns what an audit finds in a field that gets this refusal as a setting.
+fn audit_refused(job: &Job, field: &[u8], fault: SettingFault) -> Finding
+    requires stored { IsStored field.now }
+    requires refused { IsRefused field.now fault }
+    ensures { Finds job.now field.now result }
+{
+    let has_prefix = field.starts_with(b"$");
+    if has_prefix && fault != SettingFault::UnknownScheme {
+        return Finding::Malformed(fault);
+    }
+    match OtherScheme::of(field) {
+        Some(other) => Finding::Other(other),
+        None if has_prefix => Finding::Unknown,
+        None => Finding::NoScheme,
+    }
+}
+
+/// Returns the text of a standing.
+pub(crate) fn standing_text(standing: Standing) -> &'static [u8]
+    ensures { result.now ≡ standing_text standing }
+{
+    match standing {
+        Standing::Current => b"current",
+        Standing::Outdated => b"outdated",
+        Standing::Dead => b"dead",
+        Standing::OverBudget => b"over budget",
     }
 }
 

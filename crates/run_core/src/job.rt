@@ -7,13 +7,15 @@ ghost use Rattle.crypt_core.specs.Passwords.{password_limit};
 ghost use Rattle.crypt_core.specs.Replacements.{is_replaced_by};
 ghost use Rattle.crypt_core.specs.Schemes.{method_of};
 ghost use Rattle.crypt_core.specs.Work.{cost};
-ghost use Rattle.run_core.specs.JobOptions.{IsAbove, is_outdated};
+ghost use Rattle.crypt_core.specs.Standings.{IsAbove};
+ghost use Rattle.run_core.specs.JobOptions.{is_outdated};
 ghost use Rattle.run_core.specs.Makers.{bytes_of, made_cost_by, next_setting, setting_by, stream_after};
 
 use crypt_core::made_salt::{draw, made_salt_length};
 use crypt_core::method::Method;
 use crypt_core::scheme::Scheme;
 use crypt_core::setting::{MakeFault, Setting};
+use crypt_core::standing::is_above;
 use crypt_core::stored::StoredHash;
 use rand_core::Rng;
 use std::marker::Model;
@@ -47,10 +49,7 @@ impl Job {
     pub(crate) fn is_exceeded_by(&self, cost: u64) -> bool
         ensures { IsTrue result ↔ IsAbove self.now.budget cost }
     {
-        match self.budget {
-            Some(budget) => cost > budget,
-            None => false,
-        }
+        is_above(self.budget, cost)
     }
 
     /// Returns whether a stored hash is renewed once a password matches it.

@@ -11,6 +11,7 @@ pub mod line;
 pub mod lines;
 pub mod methods;
 pub mod one;
+mod other_scheme;
 mod reader;
 pub mod tally;
 #[cfg(test)]

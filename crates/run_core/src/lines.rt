@@ -5,9 +5,9 @@ ghost use Rattle.crypt_core.specs.Passwords.{password_limit};
 ghost use Rattle.crypt_core.specs.Settings.{SettingValue};
 ghost use Rattle.crypt_core.specs.Work.{cost};
 ghost use Rattle.run_core.specs.Answers.{Answer};
-ghost use Rattle.run_core.specs.Audits.{audit_cost};
+ghost use Rattle.crypt_core.specs.Standings.{greatest_cost};
 ghost use Rattle.run_core.specs.Devices.{HasRoomWithinRun, MovesBytes};
-ghost use Rattle.run_core.specs.LineOptions.{Foresees, OnlyRefuses, OnlyRenews, RenewsNone};
+ghost use Rattle.run_core.specs.LineOptions.{Foresees, OnlyRefuses, OnlyRenews, Refutes, RenewsNone};
 ghost use Rattle.run_core.specs.LineRuns.{RunsLines};
 ghost use Rattle.run_core.specs.Lines.{name_limit};
 ghost use Rattle.run_core.specs.Private.Answers.{Renders, counted, outcome_of};
@@ -154,8 +154,10 @@ pub fn run_check<I: Read, O: Write, E: Write, R: Rng>(
 /// Audits the field of each line `name:field`, or `name:field:` and anything, and writes what it finds to `out`.
 ///
 /// - `name:METHOD:COST:current`: `field` spells a setting that the job's settings do not replace
-///   ([`Setting::replaced_by`]), and COST is within the job's `budget`.
-/// - `name:METHOD:COST:outdated`: they replace it, and COST is within the budget.
+///   ([`Setting::replaced_by`]), COST is within the job's `budget`, and `field` is whole.
+/// - `name:METHOD:COST:outdated`: they replace it, COST is within the budget, and `field` is whole.
+/// - `name:METHOD:COST:dead`: COST is within the budget, but no password matches `field`, because it is not
+///   [whole](crypt_core::stored::StoredHash::is_whole).
 /// - `name:METHOD:COST:over budget`: COST exceeds the budget.
 /// - `name:locked`: `field` begins with `!` or `*`.
 /// - `name:none`: `field` is empty.
@@ -167,8 +169,8 @@ pub fn run_check<I: Read, O: Write, E: Write, R: Rng>(
 /// line that is too long, or has no valid name or no field, is refused as by [`run_batch`].
 ///
 /// The run takes no generator, and hashes and allocates nothing. The job's `rehash` and `work` have no effect. The
-/// tally's `misfits` are the findings `outdated`, `over budget`, `none` and `malformed`. Everything else is as for
-/// [`run_batch`], including the preconditions.
+/// tally's `misfits` are the findings `outdated`, `dead`, `over budget`, `none`, `no scheme` and `malformed`. Everything else is
+/// as for [`run_batch`], including the preconditions.
 ///
 /// For example, with sha512crypt the line `ann:$1$xxxxxxxx$UYCIxa628.9qXjpQCjM4a.:19000:0` gives
 /// `ann:md5crypt:1927022:outdated`.
@@ -196,8 +198,9 @@ pub fn run_audit<I: Read, O: Write, E: Write>(
     ensures hashes_none { meter.new ≡ meter.old }
     ensures allocates_none { result ≢ Err OutOfMemory }
     ensures longest { (kept : SettingValue) → (password_length : ℕ) → password_length ≤ password_limit
-        → cost kept password_length ≤ audit_cost kept }
+        → cost kept password_length ≤ greatest_cost kept }
     ensures foresees { Foresees job.now }
+    ensures refutes { Refutes job.now }
     ensures rehash { RenewsNone Audit job.now }
 {
     let mut numbers = NoNumbers;

@@ -1,5 +1,5 @@
 use Rattle.std.proofs.Common.{inl, inr, rules}
-use Rattle.call_core.proofs.LoginReports.{agrees, alike, alike_rounds, one_hash, pretends}
+use Rattle.call_core.proofs.LoginReports.{agrees, alike, alike_rounds, one_hash, pretends, told_dead}
 use Rattle.crypt_c.proofs.mkpasswd_login.Goals as goal
 
 pub returns-clause-opens : goal.returns-clause-opens
@@ -7,6 +7,13 @@ returns-clause-opens c = λ scheme made opens. elim (c.log_in.ensures.opens sche
   | inl positive ↦ inl (search (rules, c.tell.ensures.positive.1 positive))
   | inr lacks ↦ inr (rw c.tell.ensures.told lacks)
 ]
+
+pub returns-clause-dead : goal.returns-clause-dead
+returns-clause-dead c = λ scheme kept made is spells dead low. rw c.tell.ensures.told (c.log_in.ensures.dead scheme kept made is spells dead low)
+
+pub returns-clause-tells : goal.returns-clause-tells
+returns-clause-tells c = λ told.
+    told_dead c.args.password.now c.args.field.now c.args.method c.args.rounds c.args.budget _ c.log_in.ensures.logs_in (rw c.tell.ensures.told at told)
 
 pub returns-clause-as_verify : goal.returns-clause-as_verify
 returns-clause-as_verify c = λ scheme made.

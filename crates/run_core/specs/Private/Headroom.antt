@@ -26,9 +26,18 @@ verdict_front_limit = front_limit + 2
 abbrev pub count_limit : ℕ
 count_limit = 21
 
--- finding_limit is the most bytes of a finding: the name of a method, a count, a colon and a standing.
+-- number_limit is the most digits of a 32-bit number.
+abbrev pub number_limit : ℕ
+number_limit = 10
+
+-- rounds_limit is the most bytes of the rounds of a finding: three numbers of scrypt, and two slashes between them.
+abbrev pub rounds_limit : ℕ
+rounds_limit = 3 * number_limit + 2
+
+-- finding_limit is the most bytes of a finding: the name of a method, a colon and the rounds, a count, a colon and a
+-- standing.
 abbrev pub finding_limit : ℕ
-finding_limit = 11 + count_limit + 1 + 11
+finding_limit = 11 + 1 + rounds_limit + count_limit + 1 + 11
 
 -- answer_limit is the most bytes of an answer: a name and its verdict, a colon and a hash, four counts and a line feed.
 abbrev pub answer_limit : ℕ

@@ -1,10 +1,13 @@
-use Rattle.std.proofs.Common.{◌≡◌, ◌∙◌, if◌then◌else◌, false, true, ap, arith}
+use Rattle.std.proofs.Common.{◌≡◌, ◌∙◌, if◌then◌else◌, false, true, ap, arith, inl, inr}
 use Rattle.crypt_core.specs.MadeSettings.{TakesRounds}
 use Rattle.crypt_core.specs.Replacements.{is_replaced_by}
 use Rattle.call_core.specs.Arguments.{TakesNewRounds}
+use Rattle.call_core.specs.Logins.{IsMiss}
 use Rattle.call_core.specs.Reasons.{reason_row}
 use Rattle.call_core.specs.declared.reason.Reason.{Reason}
 use Rattle.call_core.specs.declared.reason.Reason.TheVariants.{Fits, Outdated}
+use Rattle.call_core.specs.declared.reason.Refusal.TheVariants.{Dead}
+use Rattle.call_core.proofs.CheckReports.{dead_fits}
 use Rattle.call_core.proofs.LoginReports.{compared, declined, outdated_fits}
 use Rattle.call_core.proofs.MadeSchemes.{made_once}
 use Rattle.call_core.proofs.login.log_in.Goals as goal
@@ -28,8 +31,8 @@ returns-after-is_replaced_by-clause-logs_in g c =
       | then-is_replaced_by w ↦ let e : is_replaced_by kept.scheme scheme ≡ true = cc in rw e w.fits-is
       | else-is_replaced_by w ↦ let e : is_replaced_by kept.scheme scheme ≡ false = cc in rw e w.fits-is
     ] in
-    compared c.args.password.now c.args.field.now c.args.method c.args.rounds c.args.budget scheme kept _ password.1 c.in-Ok.ensures.scheme
-    found.spells (omega (arith, within)) (rw (password.0, found.is_text, fits) at c.compare.ensures.compares)
+    compared c.args.password.now c.args.field.now c.args.method c.args.rounds c.args.budget scheme kept c.miss_of.result _ password.1 c.in-Ok.ensures.scheme
+    found.spells (omega (arith, within)) (rw found.is_text at c.miss_of.ensures.miss) (rw (password.0, found.is_text, fits) at c.compare.ensures.compares)
 
 pub returns-after-is_replaced_by-clause-replaced : goal.returns-after-is_replaced_by-clause-replaced
 returns-after-is_replaced_by-clause-replaced g c = λ positive is.
@@ -44,3 +47,32 @@ returns-after-is_replaced_by-clause-replaced g c = λ positive is.
     ] in
     let is_outdated = outdated_fits kept is.0 scheme is.1 c.if-is_replaced_by.fits fits same made is.4 in
     (c.compare.ensures.same positive).1 ∙ ap (λ (reason : Reason). (reason_row reason).0) is_outdated
+
+pub returns-after-is_replaced_by-clause-shut : goal.returns-after-is_replaced_by-clause-shut
+returns-after-is_replaced_by-clause-shut g c = λ dead positive.
+    let found = c.in-Ok-checkable.ensures.found in
+    dead_fits c.in-Ok.request.0 c.args.field.now (c.in-Ok-checkable.stored).setting found.spells
+    (rw found.is_text at (c.compare.ensures.same positive).0) dead
+
+pub returns-in-Err-clause-dead : goal.returns-in-Err-clause-dead
+returns-in-Err-clause-dead g c = λ scheme kept made is spells dead low. absurd (cc (c.in-Err.ensures.admits scheme is made))
+
+pub returns-in-Err-checkable-clause-dead : goal.returns-in-Err-checkable-clause-dead
+returns-in-Err-checkable-clause-dead g c = λ scheme kept made is spells dead low.
+    absurd (cc (c.in-Err-checkable.ensures.admits kept spells (rw c.in-Ok.ensures.password.0 low)))
+
+pub returns-after-is_replaced_by-clause-dead : goal.returns-after-is_replaced_by-clause-dead
+returns-after-is_replaced_by-clause-dead g c = λ scheme kept made is spells dead low.
+    let found = c.in-Ok-checkable.ensures.found in
+    let own = (c.in-Ok-checkable.stored).setting in
+    let same : own ≡ kept = c.in-Ok-checkable.ensures.only kept spells in
+    let miss : IsMiss c.args.field.now kept c.miss_of.result = rw (found.is_text, same) at c.miss_of.ensures.miss in
+    let is_dead : c.miss_of.result ≡ Dead = elim c.miss_of.ensures.either [
+      | inl differs ↦ absurd (dead (rw differs at miss))
+      | inr told ↦ told
+    ] in
+    let missed = c.compare.ensures.missed (λ fits. dead_fits c.in-Ok.request.0 c.args.field.now own found.spells (rw found.is_text at fits) (kept, spells, dead)) in
+    elim missed [
+      | inl told ↦ inl (rw (is_dead, c.in-Ok-checkable.ensures.within.0, c.in-Ok.ensures.password.0, same) at told)
+      | inr lacks ↦ inr lacks
+    ]

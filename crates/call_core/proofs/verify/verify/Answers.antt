@@ -1,7 +1,7 @@
 use Rattle.std.proofs.Common.{◌≡◌, ◌∙◌, inl, inr, sym, ap, arith}
 use Rattle.crypt_core.specs.Crypt.{allocates}
 use Rattle.crypt_core.specs.Settings.{SettingValue}
-use Rattle.call_core.proofs.CheckReports.{compared, declined}
+use Rattle.call_core.proofs.CheckReports.{compared, dead_fits, declined}
 use Rattle.call_core.proofs.verify.verify.Goals as goal
 
 pub returns-in-Err-checkable-clause-verifies : goal.returns-in-Err-checkable-clause-verifies
@@ -45,3 +45,9 @@ returns-in-Ok-checkable-clause-granted g c = elim c.compare.ensures.granted [
   | inl free ↦ inl ((c.in-Ok-checkable.stored).setting, c.in-Ok-checkable.ensures.found.spells, free)
   | inr rest ↦ inr rest
 ]
+
+pub returns-in-Ok-checkable-clause-shut : goal.returns-in-Ok-checkable-clause-shut
+returns-in-Ok-checkable-clause-shut g c = λ dead positive.
+    let found = c.in-Ok-checkable.ensures.found in
+    dead_fits c.in-Ok.password c.args.stored.now (c.in-Ok-checkable.stored).setting found.spells
+    (rw found.is_text at (c.compare.ensures.same positive).0) dead

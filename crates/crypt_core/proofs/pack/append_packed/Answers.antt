@@ -1,8 +1,8 @@
 use Rattle.std.proofs.Common.{◌≡◌, ◌+◌, ◌++◌, [], length, arith, ap, Bor, List, ℕ, get_or, drop, ◌∙◌}
 use Rattle.std.proofs.lemmas.List.{length-append}
 use Rattle.crypt_core.specs.MethodLimits.{packed_len}
-use Rattle.crypt_core.specs.Packing.{packed, packed_group}
-use Rattle.crypt_core.specs.Private.Tables.{AreGroups, groups_in, group_number}
+use Rattle.crypt_core.specs.Packing.{packed, packed_group, group_number}
+use Rattle.crypt_core.specs.Private.Groups.{AreGroups, groups_in}
 use Rattle.crypt_core.proofs.PackingLemmas.{all_groups, group_at, group_size, groups_fit, length-packed, packed-drop, packed_by}
 use Rattle.prims_core.proofs.NumeralFacts.{length-numerals}
 use Rattle.crypt_core.proofs.pack.append_packed.Goals as goal

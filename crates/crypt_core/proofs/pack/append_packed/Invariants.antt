@@ -1,6 +1,6 @@
 use Rattle.std.proofs.Common.{◌≡◌, ◌++◌, drop}
 use Rattle.crypt_core.proofs.PackingLemmas.{packed_by}
-use Rattle.crypt_core.specs.Private.Tables.{groups_in}
+use Rattle.crypt_core.specs.Private.Groups.{groups_in}
 use Rattle.crypt_core.proofs.pack.append_packed.Given as goal
 
 -- the groups so far and those that are left are all of them

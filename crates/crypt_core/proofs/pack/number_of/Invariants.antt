@@ -1,6 +1,6 @@
 use Rattle.std.proofs.Common.{◌≡◌, ◌^◌, ◌<◌, take}
-use Rattle.crypt_core.specs.Private.Tables.{group_number}
 use Rattle.crypt_core.proofs.pack.number_of.Given as goal
+use Rattle.crypt_core.specs.Packing.{group_number}
 
 -- the number of the places so far
 abbrev pub invariant-places : goal.invariant-places

@@ -29,7 +29,7 @@ pub returns-in_err-maker : goal.returns-in_err-maker
 returns-in_err-maker c =
     let p = err_from_is_err_and c.from_residual-in_err-maker.result c.from_residual-in_err-maker.ensures.1 in
     let rows = c.in_ok-given.given in
-    let refused = rw (c.unwrap_or-rounds.ensures, c.number32.ensures, c.in_ok-salt.ensures.once) at c.in_err-maker.ensures.refused in
+    let refused = rw (c.job_rounds.ensures, c.in_ok-salt.ensures.once) at c.in_err-maker.ensures.refused in
     let means : Means rows (Err (Make c.in_err-maker.field-0.0)) = (
       λ asks. true≢false (sym ((bytes_eq-Decides _ (codes "help")).1 (c.type_name.ensures ∙ asks)) ∙ sym c.if-eq.ensures),
       inr (

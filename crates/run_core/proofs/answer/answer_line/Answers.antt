@@ -4,7 +4,7 @@ use Rattle.prims_core.specs.Work.{no_work}
 use Rattle.prims_core.specs.declared.meter.Work.{Work}
 use Rattle.crypt_core.specs.Work.{raised_by}
 use Rattle.run_core.specs.Answers.{Hashing, after_work}
-use Rattle.run_core.specs.JobOptions.{IsAbove}
+use Rattle.crypt_core.specs.Standings.{IsAbove}
 use Rattle.run_core.specs.LineAnswers.{answer_of, refusal}
 use Rattle.run_core.specs.Private.Answers.{field_cost}
 use Rattle.run_core.specs.Private.Headroom.{line_work_limit}

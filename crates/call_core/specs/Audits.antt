@@ -1,0 +1,44 @@
+-- The audit of a stored field, without a password.
+use Rattle.std.specs.Prelude.{◌≡◌, ℕ, List, Some}
+use Rattle.std.specs.Option.{option_map_or}
+use Rattle.prims_core.specs.Work.{no_work}
+use Rattle.crypt_core.specs.Methods.{method_numbered}
+use Rattle.crypt_core.specs.Policies.{chosen_budget, chosen_rounds}
+use Rattle.crypt_core.specs.Settings.{SettingValue, Spells}
+use Rattle.crypt_core.specs.Standings.{HasStanding, greatest_cost}
+use Rattle.crypt_core.specs.declared.method.Method.{Method}
+use Rattle.crypt_core.specs.declared.scheme.Scheme.{Scheme}
+use Rattle.crypt_core.specs.declared.standing.Standing.{Standing}
+use Rattle.crypt_core.specs.declared.standing.Standing.TheVariants as standings
+use Rattle.call_core.specs.Arguments.{IsSchemeMade, OnField, OnScheme, Refuses, TakesNewRounds}
+use Rattle.call_core.specs.Reports.{reported}
+use Rattle.call_core.specs.declared.reason.Reason.{Reason}
+use Rattle.call_core.specs.declared.reason.Reason.TheVariants.{Done, Refused}
+use Rattle.call_core.specs.declared.reason.Refusal.TheVariants.{Dead, OverBudget, Replaced}
+use Rattle.call_core.specs.declared.report.Report.{Report}
+
+-- The rounds by which an audit judges: those that are given, or for 0 the recommended ones of the method with this number.
+abbrev pub audit_rounds : ℕ → ℕ → ℕ
+audit_rounds number rounds = option_map_or (λ (method : Method). chosen_rounds method rounds) (method_numbered number) rounds
+
+-- The reason for each standing.
+abbrev pub standing_reason : Standing → Reason
+standing_reason standings.OverBudget = Refused OverBudget
+standing_reason standings.Dead = Refused Dead
+standing_reason standings.Outdated = Refused Replaced
+standing_reason standings.Current = Done
+
+-- The report of mkpasswd_audit and web_audit: the standing of the stored hash, with the greatest cost of a hash with its
+-- setting; or the refusal of the method, the rounds or the field. A budget of 0 stands for that of an audit.
+abbrev pub Audits : List ℕ → ℕ → ℕ → ℕ → Report → Type 0
+Audits field number rounds budget report =
+    OnScheme TakesNewRounds number (audit_rounds number rounds) (Refuses report) (λ scheme. OnField field (Refuses report) (λ kept.
+    (standing : Standing) × HasStanding scheme (Some (chosen_budget scheme budget)) field kept standing
+    × (report ≡ reported (standing_reason standing) 0 (greatest_cost kept) no_work)))
+
+-- A field that an audit passes: it spells a setting, and is current by the scheme of the method and the rounds, within the
+-- budget.
+abbrev pub IsCurrent : List ℕ → ℕ → ℕ → ℕ → Type 0
+IsCurrent field number rounds budget =
+    (kept : SettingValue) × (scheme : Scheme) × Spells field kept × IsSchemeMade TakesNewRounds number (audit_rounds number rounds) scheme
+    × HasStanding scheme (Some (chosen_budget scheme budget)) field kept standings.Current

@@ -1,0 +1,100 @@
+-- The number of a group: its characters, highest bits last, and its bytes, highest first. It has as many bytes as its last
+-- character leaves.
+use Rattle.std.proofs.Common.{◌≡◌, ◌↔◌, ℕ, zero, suc, ◌+◌, ◌*◌, ◌/◌, ◌%◌, ◌^◌, ◌<◌, ◌≤◌, inl, inr, List, [], ◌∷◌, ◌++◌, length, get_or, arith, refl, ap, ◌∙◌}
+use Rattle.std.specs.Prelude.{All, Contains, fold, slice_index}
+use Rattle.std.proofs.Math.Nat.{mul-le-mul_left, pow-suc}
+use Rattle.std.proofs.lemmas.Bool.{cases_lt}
+use Rattle.std.proofs.lemmas.List.{length-append}
+use Rattle.std.proofs.lemmas.List.Elements.{All-append, All-cons, All-head, All-nil, All-tail}
+use Rattle.std.proofs.lemmas.List.Sums.{fold-append}
+use Rattle.std.proofs.lemmas.Nat.{mul-pow}
+use Rattle.prims_core.specs.Alphabet.{alphabet, character_of, numerals}
+use Rattle.prims_core.proofs.AlphabetFacts.{value-from_Contains}
+use Rattle.prims_core.proofs.NumeralFacts.{below-more, numerals-more, numerals-none, numerals-step}
+
+-- ---- the characters of a number
+
+-- characters are the numerals of a number
+pub number_of : (text : List ℕ) → All (Contains alphabet) text → (n : ℕ) × (n < 64 ^ length text) × (numerals (length text) n ≡ text)
+number_of [] all = (0, omega arith, numerals-none 0)
+number_of (c ∷ text) all =
+    let found = value-from_Contains c (All-head (Contains alphabet) c text all) in
+    let rest = number_of text (All-tail (Contains alphabet) c text all) in
+    let one : suc (length text) ≡ length text + 1 = omega arith in (
+      rest.0 * 64 + found.0,
+      rw one (below-more (length text) rest.0 found.0 rest.1 found.1),
+      rw one (numerals-more (length text) rest.0 found.0 c found.1 found.2) ∙ ap (λ (cs : List ℕ). c ∷ cs) rest.2,
+    )
+
+-- one factor of a product, taken out of another
+factor_out : (power more base v : ℕ) → more ≡ power * base → more * v ≡ base * (power * v)
+factor_out power more base v is = rw is (grind arith)
+
+-- the last numeral is the character of the highest bits
+highest : (k n : ℕ) → n < 64 ^ (k + 1)
+    → (v : ℕ) × (v < 64) × (64 ^ k * v ≤ n) × (n < 64 ^ k * (v + 1)) × (get_or (numerals (k + 1) n) k 0 ≡ character_of v)
+highest zero n small =
+    (n, omega arith, omega arith, omega arith, ap (λ (cs : List ℕ). get_or cs 0 0) (numerals-step 1 0 n refl) ∙ ap character_of (omega arith))
+highest (suc k) n small =
+    let power : 64 ^ suc k ≡ 64 ^ k * 64 = pow-suc 64 k in
+    let next : suc k + 1 ≡ suc (k + 1) = omega arith in
+    let more : 64 ^ (suc k + 1) ≡ 64 ^ (k + 1) * 64 = rw next (pow-suc 64 (k + 1)) in
+    let rest = highest k (n / 64) (omega arith) in
+    let from = factor_out (64 ^ k) (64 ^ suc k) 64 rest.0 power in
+    let to = factor_out (64 ^ k) (64 ^ suc k) 64 (rest.0 + 1) power in (
+      rest.0,
+      rest.1,
+      omega (arith, from, rest.2),
+      omega (arith, to, rest.3),
+      ap (λ (cs : List ℕ). get_or cs (suc k) 0) (numerals-step (suc k + 1) (k + 1) n (omega arith)) ∙ rest.4,
+    )
+
+-- a number of k + 1 characters is one of k bytes exactly if the value of the last one is below 4 ^ k
+pub fits_bytes : (k n : ℕ) → n < 64 ^ (k + 1)
+    → (v : ℕ) × (v < 64) × (n < 256 ^ k ↔ v < 4 ^ k) × (get_or (numerals (k + 1) n) k 0 ≡ character_of v)
+fits_bytes k n small =
+    let top = highest k n small in
+    let power : 256 ^ k ≡ 64 ^ k * 4 ^ k = mul-pow 64 4 k in
+    let below : n < 256 ^ k → top.0 < 4 ^ k = λ less.
+    elim (cases_lt top.0 (4 ^ k)) [
+      | inl low ↦ low
+      | inr high ↦ let up : 64 ^ k * 4 ^ k ≤ 64 ^ k * top.0 = mul-le-mul_left (64 ^ k) high in omega arith
+    ] in
+    let fits : top.0 < 4 ^ k → n < 256 ^ k = λ less.
+    let up : 64 ^ k * (top.0 + 1) ≤ 64 ^ k * 4 ^ k = mul-le-mul_left (64 ^ k) (omega arith) in omega arith in
+    (top.0, top.1, (below, fits), top.4)
+
+-- ---- the bytes of a number
+
+unfoldable pub bytes_of : ℕ → ℕ → List ℕ
+bytes_of zero n = []
+bytes_of (suc k) n = bytes_of k (n / 256) ++ (n % 256) ∷ []
+
+unfoldable pub joined : List ℕ → ℕ
+joined bytes = fold (λ number byte. number * 256 + byte) 0 bytes
+
+pub length-bytes_of : (k n : ℕ) → length (bytes_of k n) ≡ k
+unfolding bytes_of
+length-bytes_of zero n = refl
+length-bytes_of (suc k) n = omega (arith, length-append (bytes_of k (n / 256)) ((n % 256) ∷ []), length-bytes_of k (n / 256))
+
+pub All-bytes_of : (k n : ℕ) → All (λ b. b < 256) (bytes_of k n)
+unfolding bytes_of
+All-bytes_of zero n = All-nil (λ b. b < 256)
+All-bytes_of (suc k) n =
+    All-append (λ b. b < 256) (bytes_of k (n / 256)) ((n % 256) ∷ []) (All-bytes_of k (n / 256))
+    (All-cons (λ b. b < 256) (n % 256) [] (omega arith) (All-nil (λ b. b < 256)))
+
+pub joined-bytes_of : (k n : ℕ) → n < 256 ^ k → joined (bytes_of k n) ≡ n
+unfolding bytes_of joined
+joined-bytes_of zero n small = omega arith
+joined-bytes_of (suc k) n small =
+    let power : 256 ^ suc k ≡ 256 ^ k * 256 = pow-suc 256 k in
+    fold-append (λ number byte. number * 256 + byte) 0 (bytes_of k (n / 256)) ((n % 256) ∷ [])
+    ∙ ap (λ m. m * 256 + n % 256) (joined-bytes_of k (n / 256) (omega arith)) ∙ omega arith
+
+-- an item of bytes is a byte, also beyond their end
+pub byte_in_list : (xs : List ℕ) (i : ℕ) → All (λ b. b < 256) xs → slice_index xs i < 256
+byte_in_list [] i all = omega arith
+byte_in_list (x ∷ xs) zero all = All-head (λ b. b < 256) x xs all
+byte_in_list (x ∷ xs) (suc i) all = byte_in_list xs i (All-tail (λ b. b < 256) x xs all)

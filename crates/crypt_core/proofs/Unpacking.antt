@@ -1,0 +1,109 @@
+-- The bytes of a packed text: each text of the right length and characters is packed from some, group by group.
+use Rattle.std.proofs.Common.{◌≡◌, ℕ, ◌+◌, ◌-◌, ◌*◌, ◌^◌, ◌<◌, ◌≤◌, Bool, true, false, List, [], ◌∷◌, ◌++◌, length, take, drop, get_or, map, eqb, arith, sym, subst, ap, ◌∙◌}
+use Rattle.std.specs.Prelude.{◌&&◌, All, Contains, flat_map, nat_le, slice_index, sum_by}
+use Rattle.std.proofs.lemmas.Bool.{and_parts, eqb-true, leb-true}
+use Rattle.std.proofs.lemmas.List.{append-nil, get_or-drop, length-append, length-drop, length-map, length-take, map-append, take-append-drop}
+use Rattle.std.proofs.lemmas.List.Elements.{All-append, All-drop, All-take}
+use Rattle.std.proofs.lemmas.List.Folds.{fold-map}
+use Rattle.std.proofs.lemmas.List.Sums.{sum_by-cons}
+use Rattle.prims_core.specs.Alphabet.{alphabet, character_of, numerals}
+use Rattle.prims_core.proofs.AlphabetFacts.{character_of-injective, value-from_Contains}
+use Rattle.crypt_core.specs.Packing.{packed_group, group_number}
+use Rattle.crypt_core.proofs.DollarFields.{same_front}
+use Rattle.crypt_core.proofs.PackingLemmas.{packed_by}
+use Rattle.crypt_core.proofs.GroupNumbers.{number_of, fits_bytes, bytes_of, joined, length-bytes_of, All-bytes_of, joined-bytes_of}
+
+-- EndsBelow bound text: the value of the last character is below this bound.
+unfoldable pub EndsBelow : ℕ → List ℕ → Type 0
+EndsBelow bound text = (v : ℕ) × (v < bound) × (get_or text (length text - 1) 0 ≡ character_of v)
+
+-- order groups: the places of all groups, one after another
+unfoldable pub order : List (List ℕ) → List ℕ
+order groups = flat_map (λ (places : List ℕ). places) groups
+
+-- Unpacks groups text: each digest that has these bytes at the places of the groups is packed as the text
+pub record Unpacks (groups : List (List ℕ)) (text : List ℕ) : Type 0 where
+  pub bytes : List ℕ
+  pub are_bytes : All (λ b. b < 256) bytes
+  pub count : length bytes ≡ length (order groups)
+  pub packs : (digest : List ℕ) → map (slice_index digest) (order groups) ≡ bytes → packed_by groups digest ≡ text
+
+unpacks_one : (places text : List ℕ) → length text ≡ length places + 1 → All (Contains alphabet) text → EndsBelow (4 ^ length places) text
+    → 4 ^ length places ≤ 64 → Unpacks (places ∷ []) text
+unfolding EndsBelow order joined
+unpacks_one places text long all ends few =
+    let k = length places in
+    let number = number_of text all in
+    let n = number.0 in
+    let numeral : numerals (k + 1) n ≡ text = ap (λ m. numerals m n) (sym long) ∙ number.2 in
+    let top = fits_bytes k n (rw (← long) number.1) in
+    let place : length text - 1 ≡ k = omega arith in
+    let last : character_of top.0 ≡ character_of ends.0 =
+    sym top.3 ∙ ap (λ (cs : List ℕ). get_or cs k 0) numeral ∙ ap (λ i. get_or text i 0) (sym place) ∙ ends.2 in
+    let same : top.0 ≡ ends.0 = character_of-injective top.0 ends.0 top.1 (omega (arith, ends.1)) last in
+    let small : n < 256 ^ k = top.2.1 (omega (arith, ends.1)) in
+    record {
+      bytes = bytes_of k n;
+      are_bytes = All-bytes_of k n;
+      count = length-bytes_of k n ∙ ap length (sym (append-nil places));
+      packs = λ digest e.
+          let here : map (slice_index digest) places ≡ bytes_of k n = ap (map (slice_index digest)) (sym (append-nil places)) ∙ e in
+          let value : group_number digest places ≡ n =
+          sym (fold-map (λ number byte. number * 256 + byte) (slice_index digest) 0 places) ∙ ap joined here ∙ joined-bytes_of k n small in
+          append-nil (packed_group digest places) ∙ ap (numerals (k + 1)) value ∙ numeral;
+    }
+
+unpacks_more : (places : List ℕ) (groups : List (List ℕ)) (front text : List ℕ) → Unpacks (places ∷ []) front → Unpacks groups text
+    → Unpacks (places ∷ groups) (front ++ text)
+unfolding order
+unpacks_more places groups front text one more = record {
+  bytes = one.bytes ++ more.bytes;
+  are_bytes = All-append (λ b. b < 256) one.bytes more.bytes one.are_bytes more.are_bytes;
+  count = omega (arith, one.count, more.count, length-append one.bytes more.bytes, length-append places (order groups), ap length (append-nil places));
+  packs = λ digest e.
+      let at = slice_index digest in
+      let parts = same_front (map at places) one.bytes (map at (order groups)) more.bytes
+      (length-map places at ∙ ap length (sym (append-nil places)) ∙ sym one.count)
+      (sym (map-append at places (order groups)) ∙ e) in
+      let here : packed_by (places ∷ []) digest ≡ front = one.packs digest (ap (map at) (append-nil places) ∙ parts.0) in
+      let rest = more.packs digest parts.1 in
+      rw rest (ap (λ (cs : List ℕ). cs ++ text) (sym (append-nil (packed_group digest places)) ∙ here));
+}
+
+-- fills bound groups: all groups have three places, except for the last one, which leaves values below this bound to its
+-- last character
+unfoldable pub fills : ℕ → List (List ℕ) → Bool
+fills bound [] = false
+fills bound (places ∷ []) = eqb (4 ^ length places) bound && nat_le bound 64
+fills bound (places ∷ next ∷ groups) = eqb (length places) 3 && fills bound (next ∷ groups)
+
+unfoldable pub text_length : List (List ℕ) → ℕ
+text_length groups = sum_by (λ places. length places + 1) groups
+
+pub unpacks : (bound : ℕ) (groups : List (List ℕ)) (text : List ℕ) → fills bound groups ≡ true → length text ≡ text_length groups
+    → All (Contains alphabet) text → EndsBelow bound text → Unpacks groups text
+unfolding fills EndsBelow text_length
+unpacks bound [] text h long all ends = absurd (cc h)
+unpacks bound (places ∷ []) text h long all ends =
+    let parts = and_parts _ _ h in
+    let is : 4 ^ length places ≡ bound = eqb-true _ _ parts.0 in
+    let few = leb-true bound 64 parts.1 in
+    unpacks_one places text (omega arith) all (rw is ends) (omega arith)
+unpacks bound (places ∷ next ∷ groups) text h long all ends =
+    let parts = and_parts _ _ h in
+    let three : length places ≡ 3 = eqb-true _ _ parts.0 in
+    let front = take 4 text in
+    let rest = drop 4 text in
+    let sum = sum_by-cons (λ (ps : List ℕ). length ps + 1) places (next ∷ groups) in
+    let next_sum = sum_by-cons (λ (ps : List ℕ). length ps + 1) next groups in
+    let front_long : length front ≡ 4 = omega (arith, length-take 4 text) in
+    let rest_long : length rest ≡ length text - 4 = length-drop 4 text in
+    let value = value-from_Contains (get_or front (length front - 1) 0) (All-take (Contains alphabet) 4 text all (length front - 1) 0 (omega arith)) in
+    let power : 4 ^ length places ≡ 64 = ap (λ k. 4 ^ k) three in
+    let place : 4 + (length rest - 1) ≡ length text - 1 = omega arith in
+    let ends_rest : EndsBelow bound rest =
+    (ends.0, ends.1, get_or-drop 4 text (length rest - 1) 0 ∙ ap (λ i. get_or text i 0) place ∙ ends.2) in
+    subst (Unpacks (places ∷ next ∷ groups)) (take-append-drop 4 text)
+    (unpacks_more places (next ∷ groups) front rest
+    (unpacks_one places front (omega arith) (All-take (Contains alphabet) 4 text all) (rw power (value.0, value.1, sym value.2)) (omega arith))
+    (unpacks bound (next ∷ groups) rest parts.1 (omega arith) (All-drop (Contains alphabet) 4 text all) ends_rest))

@@ -1,0 +1,89 @@
+-- The digests of passwords are digests of their methods, so a hash is whole.
+use Rattle.std.proofs.Common.{◌≡◌, ◌≢◌, ◌∷◌, append_assoc, ℕ, zero, suc, List, [], ◌++◌, refl, sym, subst, ap, ◌∙◌, arith}
+use Rattle.std.specs.Prelude.{◌↔◌, Bool, IsTrue, take}
+use Rattle.std.proofs.lemmas.List.{append-nil, take_all}
+use Rattle.prims_core.specs.Digests.{length-md5, length-sha256, length-sha512, sha256}
+use Rattle.prims_core.specs.Private.DigestFacts.{md5_bytes, sha256_bytes, sha512_bytes}
+use Rattle.prims_core.specs.Words.{big_bytes}
+use Rattle.kdf_core.specs.Hmac.{hmac_sha256}
+use Rattle.kdf_core.specs.Pbkdf2.{block, chain, pbkdf2_sha256}
+use Rattle.kdf_core.specs.Scrypt.{scrypt}
+use Rattle.crypt_core.specs.Crypt.{crypt, digest_by}
+use Rattle.crypt_core.specs.Fits.{Fits}
+use Rattle.crypt_core.specs.Md5crypt.{md5crypt_digest}
+use Rattle.crypt_core.specs.Packing.{IsDigest, IsPacked, packed}
+use Rattle.crypt_core.specs.RoundMessage.{digest_after}
+use Rattle.crypt_core.specs.Schemes.{method_of}
+use Rattle.crypt_core.specs.Settings.{SettingValue, Spells, canonical_text, dollar}
+use Rattle.crypt_core.specs.ShaCrypt.{shacrypt_digest}
+use Rattle.crypt_core.specs.StoredFields.{IsWhole}
+use Rattle.crypt_core.specs.declared.method.Method.TheVariants as methods
+use Rattle.crypt_core.specs.declared.scheme.Scheme.{Scheme}
+use Rattle.crypt_core.specs.declared.scheme.Scheme.TheVariants.{Md5crypt, Shacrypt, Scrypt}
+use Rattle.crypt_core.specs.declared.scheme.Sha.TheVariants.{Sha256, Sha512}
+use Rattle.crypt_core.proofs.DollarFields.{same_front}
+use Rattle.crypt_core.proofs.OneSetting.{setting_unique}
+
+-- what holds of each digest holds of the last one
+last_digest : (P : List ℕ → Type 0) (h : List ℕ → List ℕ) → ((message : List ℕ) → P (h message))
+    → (opening p q : List ℕ) (n : ℕ) → P opening → P (digest_after h opening p q n)
+unfolding digest_after
+last_digest P h each opening p q zero first = first
+last_digest P h each opening p q (suc n) first = each _
+
+is_sha256 : (message : List ℕ) → IsDigest methods.Scrypt (sha256 message)
+is_sha256 message = (length-sha256 message, sha256_bytes message)
+
+is_tag : (key text : List ℕ) → IsDigest methods.Scrypt (hmac_sha256 key text)
+unfolding hmac_sha256
+is_tag key text = is_sha256 _
+
+-- scrypt's digest is one block of PBKDF2, which is one tag
+is_block : (password salt : List ℕ) → IsDigest methods.Scrypt (pbkdf2_sha256 password salt 1 32)
+unfolding pbkdf2_sha256 block chain
+is_block password salt =
+    let tag = hmac_sha256 password (salt ++ big_bytes 4 1) in
+    let tagged = is_tag password (salt ++ big_bytes 4 1) in
+    let whole : take 32 (tag ++ []) ≡ tag = ap (take 32) (append-nil tag) ∙ take_all 32 tag (omega (arith, tagged.0)) in
+    subst (IsDigest methods.Scrypt) (sym whole) tagged
+
+is_digest : (scheme : Scheme) (password salt : List ℕ) → IsDigest (method_of scheme) (digest_by scheme password salt)
+unfolding md5crypt_digest shacrypt_digest scrypt
+is_digest Md5crypt password salt =
+    let each : (message : List ℕ) → IsDigest methods.Md5crypt _ = λ message. (length-md5 message, md5_bytes message) in
+    last_digest (IsDigest methods.Md5crypt) _ each _ _ _ 1000 (each _)
+is_digest (Shacrypt Sha256 rounds) password salt = last_digest (IsDigest methods.Sha256crypt) _ is_sha256 _ _ _ rounds.count (is_sha256 _)
+is_digest (Shacrypt Sha512 rounds) password salt =
+    let each : (message : List ℕ) → IsDigest methods.Sha512crypt _ = λ message. (length-sha512 message, sha512_bytes message) in
+    last_digest (IsDigest methods.Sha512crypt) _ each _ _ _ rounds.count (each _)
+is_digest (Scrypt cost) password salt = is_block password _
+
+-- what a password fits is whole
+pub fits_whole : (password text : List ℕ) (kept : SettingValue) → Spells text kept → Fits password text → IsWhole text kept
+unfolding crypt
+fits_whole password text kept spelled fits =
+    let same : crypt password kept ≡ text = ap (crypt password) (setting_unique text kept fits.0 spelled fits.1) ∙ fits.2 in
+    (digest_by kept.scheme password kept.salt, is_digest kept.scheme password kept.salt, sym same)
+
+-- so a stored hash that is not whole fits no password
+pub unwhole_fits_none : (whole : Bool) (text : List ℕ) (kept : SettingValue) → Spells text kept → IsTrue whole ↔ IsWhole text kept
+    → ¬ IsTrue whole → (password : List ℕ) → ¬ Fits password text
+unwhole_fits_none whole text kept spelled is lacks password fits = lacks (is.1 (fits_whole password text kept spelled fits))
+
+-- a text is whole exactly if what follows its setting is packed
+pub whole_if_packed : (text front rest : List ℕ) (kept : SettingValue) (packs : Bool) → front ≡ canonical_text kept ++ dollar ∷ []
+    → text ≡ front ++ rest → IsTrue packs ↔ IsPacked (method_of kept.scheme) rest → IsTrue packs ↔ IsWhole text kept
+whole_if_packed text front rest kept packs is cut packed =
+    let canonical = canonical_text kept in
+    let whole : text ≡ canonical ++ dollar ∷ rest = rw is at cut ∙ append_assoc canonical (dollar ∷ []) rest in (
+      (λ yes. let found = packed.0 yes in (found.0, found.1, whole ∙ ap (λ (x : List ℕ). canonical ++ dollar ∷ x) found.2)),
+      λ found.
+          let tails = (same_front canonical canonical (dollar ∷ rest) _ refl (sym whole ∙ found.2)).1 in
+          packed.1 (found.0, found.1, cc),
+    )
+
+-- and none if its setting does not come first
+pub unwhole : (text front : List ℕ) (kept : SettingValue) → front ≡ canonical_text kept ++ dollar ∷ []
+    → ((rest : List ℕ) → text ≢ front ++ rest) → ¬ IsWhole text kept
+unwhole text front kept is lacks found =
+    lacks (packed (method_of kept.scheme) found.0) (found.2 ∙ sym (append_assoc (canonical_text kept) (dollar ∷ []) _) ∙ ap (λ (x : List ℕ). x ++ packed (method_of kept.scheme) found.0) (sym is))

@@ -1,0 +1,32 @@
+-- The standing of a stored hash, by the scheme of new hashes and a budget, without any password.
+use Rattle.std.specs.Prelude.{◌≡◌, ℕ, ◌<◌, List, Option, Some, None, true, false}
+use Rattle.crypt_core.specs.Passwords.{password_limit}
+use Rattle.crypt_core.specs.Replacements.{is_replaced_by}
+use Rattle.crypt_core.specs.Settings.{SettingValue}
+use Rattle.crypt_core.specs.StoredFields.{IsWhole}
+use Rattle.crypt_core.specs.Work.{cost}
+use Rattle.crypt_core.specs.declared.scheme.Scheme.{Scheme}
+use Rattle.crypt_core.specs.declared.standing.Standing.{Standing}
+use Rattle.crypt_core.specs.declared.standing.Standing.TheVariants.{OverBudget, Dead, Outdated, Current}
+
+-- IsAbove budget number: the number exceeds the budget. Without a budget no number does.
+abbrev pub IsAbove : Option ℕ → ℕ → Type 0
+IsAbove None number = ⊥
+IsAbove (Some budget) number = budget < number
+
+-- greatest_cost kept: the cost of hashing a password of the greatest length with this setting.
+abbrev pub greatest_cost : SettingValue → ℕ
+greatest_cost kept = cost kept password_limit
+
+-- HasStanding new budget text kept standing: a stored hash with this text, which spells this setting, has this standing.
+--   OverBudget  hashing a password with it can cost more than the budget
+--   Dead        it can't, and the text is not whole
+--   Outdated    it can't, the text is whole, and the scheme `new` of new hashes replaces that of the setting
+--   Current     it can't, the text is whole, and the scheme doesn't
+abbrev pub HasStanding : Scheme → Option ℕ → List ℕ → SettingValue → Standing → Type 0
+HasStanding new budget text kept OverBudget = IsAbove budget (greatest_cost kept)
+HasStanding new budget text kept Dead = (¬ IsAbove budget (greatest_cost kept)) × (¬ IsWhole text kept)
+HasStanding new budget text kept Outdated =
+    (¬ IsAbove budget (greatest_cost kept)) × IsWhole text kept × (is_replaced_by kept.scheme new ≡ true)
+HasStanding new budget text kept Current =
+    (¬ IsAbove budget (greatest_cost kept)) × IsWhole text kept × (is_replaced_by kept.scheme new ≡ false)

@@ -1,0 +1,58 @@
+//! The standing of a stored hash, by the scheme of new hashes and a budget. It takes no password, and nothing is hashed.
+
+ghost use Rattle.std.specs.Prelude.{◌≡◌, ◌↔◌, ℕ, List, IsTrue};
+ghost use Rattle.crypt_core.specs.Fits.{Fits};
+ghost use Rattle.crypt_core.specs.Standings.{HasStanding, IsAbove, greatest_cost};
+
+use crate::password::PASSWORD_LIMIT;
+use crate::scheme::Scheme;
+use crate::stored::StoredHash;
+use crate::work::cost;
+
+/// The standing of a stored hash: the first of these that applies.
+#[derive(Clone, Copy, Debug, PartialEq, Eq)]
+pub enum Standing {
+    /// Hashing a password with its setting can cost more than the budget.
+    OverBudget,
+    /// No password matches it, because it is not [whole](StoredHash::is_whole).
+    Dead,
+    /// The scheme of new hashes replaces that of its setting.
+    Outdated,
+    /// None of the others applies.
+    Current,
+}
+
+impl StoredHash<'_> {
+    /// Returns the greatest cost of hashing a password with its setting, in bytes digested and mixed ([`cost`]).
+    pub fn greatest_cost(&self) -> u64
+        ensures { result ≡ greatest_cost self.now.setting }
+    {
+        cost(self.setting(), PASSWORD_LIMIT)
+    }
+
+    /// Returns the standing, if new hashes have the scheme `new`. Without a budget no hash is over it.
+    pub fn standing(&self, new: &Scheme, budget: Option<u64>) -> Standing
+        ensures standing { HasStanding new.now budget self.now.text self.now.setting result }
+        ensures shut { result ≡ Standing.Dead → (password : List ℕ) → ¬ Fits password self.now.text }
+    {
+        if is_above(budget, self.greatest_cost()) {
+            Standing::OverBudget
+        } else if !self.is_whole() {
+            Standing::Dead
+        } else if self.setting().scheme().is_replaced_by(new) {
+            Standing::Outdated
+        } else {
+            Standing::Current
+        }
+    }
+}
+
+/// Returns whether the cost exceeds the budget, if there is one.
+pub fn is_above(budget: Option<u64>, cost: u64) -> bool
+    ensures { IsTrue result ↔ IsAbove budget cost }
+{
+    match budget {
+        Some(budget) => cost > budget,
+        None => false,
+    }
+}

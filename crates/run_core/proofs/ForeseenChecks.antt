@@ -1,0 +1,81 @@
+-- What an audit foresees of later checks: which lines are within the budget, and which are refused by every password.
+use Rattle.std.proofs.Common.{◌≡◌, ℕ, List, [], Ok, inl, inr, refl, sym, ap, subst, ◌∙◌, arith, length, Some}
+use Rattle.std.proofs.lemmas.Option.{none-some}
+use Rattle.rand_core.specs.Stream.{Stream}
+use Rattle.crypt_core.specs.Fits.{Fits}
+use Rattle.crypt_core.specs.Readings.{IsReadOneWay}
+use Rattle.crypt_core.specs.Settings.{SettingValue, Spells}
+use Rattle.crypt_core.specs.StoredFields.{IsLocked, IsWhole}
+use Rattle.crypt_core.specs.Work.{cost}
+use Rattle.crypt_core.proofs.Refusals.{one_reading}
+use Rattle.crypt_core.proofs.WholeHashes.{fits_whole}
+use Rattle.crypt_core.proofs.WorkBounds.{longest}
+use Rattle.crypt_core.specs.Standings.{IsAbove, greatest_cost}
+use Rattle.run_core.specs.Answers.{Answer, Hashing}
+use Rattle.run_core.specs.JobOptions.{without_rehash}
+use Rattle.run_core.specs.LineAnswers.{ComesTo, IsCostly, IsPasswordAnswer}
+use Rattle.run_core.specs.LineOptions.{Foresees, Refutes}
+use Rattle.run_core.specs.Lines.{HasParts, IsSound, Parts}
+use Rattle.run_core.specs.declared.answer.Outcome.{Outcome}
+use Rattle.run_core.specs.declared.answer.Outcome.TheVariants.{Hashed, Match, Rehashed, Misfit, NoHash, Locked, Audited}
+use Rattle.crypt_core.specs.declared.standing.Standing.TheVariants.{OverBudget}
+use Rattle.run_core.specs.declared.job.Job.{Job}
+use Rattle.run_core.specs.declared.line.Kind.TheVariants.{Check}
+use Rattle.run_core.specs.declared.line.LineFault.TheVariants.{OverBudget}
+use Rattle.run_core.proofs.OneCut.{parts_unique}
+use Rattle.run_core.proofs.LineOutcomes.{one_setting, spelled-stored}
+use Rattle.run_core.proofs.LineRules.{sound_not_refused, sound_short}
+use Rattle.run_core.proofs.LineOptions.{still_above}
+
+-- a check without new hashes costs no more than the audit says
+foreseen : (job : Job) (field : List ℕ) (kept : SettingValue) (line : List ℕ) (parts : Parts) → Spells field kept → IsReadOneWay field
+    → ¬ IsAbove job.budget (greatest_cost kept) → HasParts Check line parts → parts.field ≡ Some field → ¬ IsCostly Check (without_rehash job) line
+foreseen job field kept line parts spells once within has is costly =
+    let same = parts_unique Check line costly.parts parts costly.cut has in
+    let other : costly.parts.field ≡ Some field = ap (λ (p : Parts). p.field) same ∙ is in
+    elim costly.cost [
+      | inl made ↦ absurd (none-some field (sym made.0 ∙ other))
+      | inr (spelled, found, spelled_is, found_spells, number_is) ↦
+          let fields : spelled ≡ field = cc (spelled_is, other) in
+          let one : found ≡ kept = one_setting field found kept once (subst (λ (f : List ℕ). Spells f found) fields found_spells) spells in
+          let most = longest kept (length costly.parts.password) (sound_short Check line costly.parts costly.sound costly.cut) in
+          within (still_above job.budget costly.number (greatest_cost kept) (omega (arith, number_is, ap (λ (s : SettingValue). cost s (length costly.parts.password)) one, most)) costly.above)
+    ]
+
+pub foresees : (job : Job) → Foresees job
+foresees job field scheme most OverBudget finds other checking same line parts has is = absurd (other refl)
+foresees job field scheme most standing (kept, spells, is_scheme, is_number, stands) other checking same line parts has is =
+    foreseen checking field kept line parts spells (one_reading field) (rw same stands.0) has is
+
+-- a field that is not whole is no match
+misfits : (job : Job) (stream : Stream) (parts : Parts) (field : List ℕ) (kept : SettingValue) (outcome : Outcome) (made : List Hashing)
+    → parts.field ≡ Some field → Spells field kept → ¬ IsWhole field kept → ComesTo job parts stream outcome made → outcome ≡ Misfit
+misfits job stream parts field kept (Hashed hash) made is spells dead comes = absurd (none-some field (sym comes.0 ∙ is))
+misfits job stream parts field kept NoHash made is spells dead comes =
+    let empty : field ≡ [] = cc (is, comes.0) in
+    absurd ((spelled-stored field kept spells).0 empty)
+misfits job stream parts field kept Locked made is spells dead (locked, is_locked, begins, none) =
+    let same : locked ≡ field = cc (is, is_locked) in
+    absurd ((spelled-stored field kept spells).1 (subst IsLocked same begins))
+misfits job stream parts field kept Match made is spells dead (found, other, (is_found, found_spells), fits, recent, is_made) =
+    let same : found ≡ field = cc (is, is_found) in
+    absurd (dead (fits_whole parts.password field kept spells (subst (Fits parts.password) same (other, found_spells, fits))))
+misfits job stream parts field kept (Rehashed hash) made is spells dead (found, other, (is_found, found_spells), fits, outdated, is_hash, is_made) =
+    let same : found ≡ field = cc (is, is_found) in
+    absurd (dead (fits_whole parts.password field kept spells (subst (Fits parts.password) same (other, found_spells, fits))))
+misfits job stream parts field kept Misfit made is spells dead comes = refl
+misfits job stream parts field kept (Audited finding) made is spells dead comes = absurd comes
+
+refuted : (job : Job) (field : List ℕ) (kept : SettingValue) (line : List ℕ) (parts : Parts) → Spells field kept → ¬ IsWhole field kept
+    → HasParts Check line parts → parts.field ≡ Some field → IsSound Check line → ¬ IsCostly Check job line
+    → (number : ℕ) (stream : Stream) (answer : Answer) → IsPasswordAnswer Check job number line stream answer → answer.outcome ≡ Ok Misfit
+refuted job field kept line parts spells dead has is sound cheap number stream answer (inl (fault, refused, refusal_is)) =
+    absurd (sound_not_refused Check line fault sound refused)
+refuted job field kept line parts spells dead has is sound cheap number stream answer (inr (inl (costly, refusal_is))) = absurd (cheap costly)
+refuted job field kept line parts spells dead has is sound cheap number stream answer (inr (inr (also, within, cut, found, outcome, comes, answer_is))) =
+    let same = ap (λ (p : Parts). p.field) (parts_unique Check line cut parts found has) in
+    ap (λ (a : Answer). a.outcome) answer_is ∙ ap Ok (misfits job stream cut field kept outcome answer.hashings (same ∙ is) spells dead comes)
+
+pub refutes : (job : Job) → Refutes job
+refutes job field scheme most (kept, spells, is_scheme, is_number, stands) checking line parts has is sound cheap =
+    refuted checking field kept line parts spells stands.1 has is sound cheap
