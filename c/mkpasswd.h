@@ -190,9 +190,9 @@ MKPASSWD_EXPORT MKPASSWD_CHECKED MKPASSWD_NONNULL(8) int32_t mkpasswd_login(cons
  * N = 2^(cost+7), r = 32 and p = 1. 0 stands for 7 with scrypt, and otherwise for 5000 rounds, which are too few today.
  * md5crypt ignores it.
  *
- * Rounds other than 0 and 1000 to 999999999 are refused, here and by mkpasswd_login(). The formats clamp them, and so do the
- * command and all other calls; but a service whose cost is 12, as bcrypt's may be, should notice before it stores a hash that
- * is cheap to guess. */
+ * Rounds other than 0 and 1000 to 999999999 are refused, here, by mkpasswd_login() and by mkpasswd_audit(). The formats clamp
+ * them, and so do the command and all other calls; but a service whose cost is 12, as bcrypt's may be, should notice before it
+ * stores a hash that is cheap to guess. */
 MKPASSWD_EXPORT MKPASSWD_CHECKED MKPASSWD_NONNULL(6) MKPASSWD_NONNULL(8) MKPASSWD_WRITES(6, 7)
 int32_t mkpasswd_new(const uint8_t *password, size_t password_len, uint32_t method, uint32_t cost, uint64_t budget,
     uint8_t *out, size_t out_len, struct mkpasswd_report *report) MKPASSWD_READS(password, 1, 2);
@@ -210,11 +210,12 @@ MKPASSWD_EXPORT MKPASSWD_CHECKED MKPASSWD_NONNULL(5) int32_t mkpasswd_needs_reha
  * - MKPASSWD_LOCKED, MKPASSWD_NO_HASH, or what is wrong with the setting;
  * - MKPASSWD_OVER_BUDGET: some password can cost more than `budget`;
  * - MKPASSWD_DEAD: it is not a whole hash, so mkpasswd_verify() and mkpasswd_login() return 0 for every password. It was cut,
- *   there is more behind it, its last character has bits that no digest has, its salt is too long or its rounds are out of range;
+ *   there is more behind it, a character of it is in no digest, its salt is too long, or its rounds are out of range;
  * - MKPASSWD_REPLACED: mkpasswd_needs_rehash() returns 1.
  *
- * `cost` is that of mkpasswd_needs_rehash(), but 0 stands for 656000 rounds, or for 7 with scrypt. A budget of 0 stands for the
- * most that such a hash can cost, and at least for 1297572512, the most that 656000 rounds of sha512crypt can. */
+ * `method` and `cost` are those that the service gives mkpasswd_new(), but a cost of 0 stands for 656000 rounds, or for 7 with
+ * scrypt. A budget of 0 stands for the most that such a hash can cost, and at least for 1297572512, the most that 656000 rounds
+ * of sha512crypt can. */
 MKPASSWD_EXPORT MKPASSWD_CHECKED MKPASSWD_NONNULL(6) int32_t mkpasswd_audit(const uint8_t *stored, size_t stored_len,
     uint32_t method, uint32_t cost, uint64_t budget, struct mkpasswd_report *report) MKPASSWD_READS(stored, 1, 2);
 
