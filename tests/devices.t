@@ -42,7 +42,7 @@ for (
     ['scrypt', '', [qw(-m scrypt -S ab x)], 0, "\$7\$CU..../....ab\$TioQ/OazCAbGpb/E7e054xV/7lAamSWFPOGclTgvmt0\n", ''],
     ['the methods', '', [qw(-m help)], 0, "Available methods:\nmd5crypt\nsha256crypt\nsha512crypt\nscrypt\n", ''],
     ['the version', '', ['-V'], 0, qr/\Amkpasswd [0-9.]+\n\z/, ''],
-    ['help', '', ['--help'], 0, qr{\APrints .*/etc/shadow\n\z}s, ''],
+    ['help', '', ['--help'], 0, qr{\APrints .*--stdin\.\n\z}s, ''],
     ['a refusal', '', [qw(-m sha1 x)], 2, '', "mkpasswd: unknown method\n"],
     ['a made salt', '', [qw(-m md5crypt password)], 0, qr/\A\$1\$${of_alphabet}{8}\$${of_alphabet}{22}\n\z/, ''],
     ['no words', "password\n", [], 0, qr/\A\$6\$${of_alphabet}{16}\$${of_alphabet}{86}\n\z/, ''],
@@ -53,7 +53,8 @@ for (
     ['--rehash from scrypt', "bob:$old:password\n", [qw(--check --rehash), @md5], 0, "bob:ok:$md5\n", ''],
     ['--rehash between costs of scrypt', "ann::\nbob:$old:password\n", [qw(--check --rehash -m scrypt -R 6 -S ab)], 0, "ann:none\nbob:ok:$new\n", '', 6],
     ['--check with a table that is kept', $small x 2 . $large, ['--check'], 0, "ann:ok\n" x 3, '', 5],
-    ['--audit', "ann:$md5:1\n:x\nbob:!\n", ['--audit'], 1, "ann:md5crypt:1927022:outdated\nbob:locked\n", "mkpasswd: line 2: no name\n"],
+    ['--audit', "ann:$md5:1\n:x\nbob:!\neve:$new\ntim:x\n", ['--audit'], 1, "ann:md5crypt:1000:1927022:outdated\nbob:locked\n"
+        . "eve:scrypt:8192/32/1:67135396:outdated\ntim:no scheme\n", "mkpasswd: line 2: no name\n"],
     ['--rehash to scrypt', "bob:$md5:password\n", [qw(--check --rehash -m scrypt -R 6 -S ab)], 0, "bob:ok:$new\n", ''],
 ) {
     my ($mode, $input, $words, $status, $out, $err, $after) = @$_;

@@ -27,28 +27,54 @@ for my $kind (qw(hash hostile)) {
     };
 }
 
-# An audit of each field, in lines of its own and as a shadow file has it. They are those of a fresh Debian, hostile ones, and
-# hashes by their settings. Then lines that are refused.
+# An audit of each field, in lines of its own and as a shadow file has it. Then lines that are refused.
 subtest 'audits' => sub {
-    my ($current, $fewer, $most) = map { setting(6, 'ab', rounds => $_, is_written => 1) } 656000, 655999, $limits{most_rounds};
-    my ($md5, $cost) = (setting(1, 'xxxxxxxx'), cost($current, $limits{password}));
+    my ($sha512, $fewer, $short, $sha256, $md5, $scrypt) = map { crypt 'password', $_ }
+        '$6$rounds=656000$ab', '$6$rounds=655999$ab', '$6$ab', '$5$rounds=656000$ab', '$1$xxxxxxxx', '$7$CU..../....ab';
+    my ($of_512, $of_256, $of_md5, $of_scrypt) =
+        ('sha512crypt:656000:COST', 'sha256crypt:656000:COST', 'md5crypt:1000:COST', 'scrypt:16384/32/1:COST');
+    my $cost = cost(read_setting($sha512), $limits{password});
+    my $dearest = '$7$GU..../....' . 'a' x 86;    # N = 2^18, as -R 11 has it
     for (
-        [0, 'unknown', '$y$j9T$F5Jx5fExrKuPp53xLKQ..1$X3DX6M94c7o.9agCG9G317fhZg9SqC.5i5rd.RhAtQ7'],
-        (map { [0, 'locked', $_] } qw(! * !*)), [1, 'none', ''],
-        [1, 'malformed:setting too long', '$6$rounds=999999999$' . 'x' x 400], [1, 'malformed:bad character', "\$1\$a\0b"],
+        [0, "$of_512:current", $sha512], [0, "$of_512:current", $sha512, qw(-R 0 --budget 0)], [1, "$of_512:outdated", $sha512, qw(-R 656001)],
+        [1, 'sha512crypt:655999:COST:outdated', $fewer], [0, 'sha512crypt:655999:COST:current', $fewer, qw(-R 655999)],
+        [1, 'sha512crypt:5000:COST:outdated', $short], [1, "$of_256:outdated", $sha256], [0, "$of_256:current", $sha256, qw(-m sha256crypt)],
+        [1, "$of_md5:outdated", $md5], [0, "$of_md5:current", $md5, qw(-m md5crypt)], [1, "$of_scrypt:outdated", $scrypt],
+        [0, "$of_scrypt:current", $scrypt, qw(-m scrypt)], [1, "$of_scrypt:outdated", $scrypt, qw(-m scrypt -R 8)],
+
+        # Given budgets, and the audit's own, which grows with the cost of a longest salt.
+        [0, "$of_512:current", $sha512, '--budget', $cost], [1, "$of_512:over budget", $sha512, '--budget', $cost - 1],
+        [1, 'sha512crypt:999999999:COST:over budget', '$6$rounds=999999999$ab$x'], [1, 'scrypt:262144/32/1:COST:over budget', $dearest],
+        [1, 'sha512crypt:999999999:COST:dead', '$6$rounds=999999999$aaaaaaaaaaaaaaaa', qw(-R 999999999)],
+        [1, 'scrypt:262144/32/1:COST:dead', $dearest, qw(-m scrypt -R 11)],
+
+        # The last character of a hash has two bits or four.
+        [0, "$of_512:current", $sha512 =~ s/.\z/1/r], [1, "$of_512:dead", $sha512 =~ s/.\z/2/r],
+        [0, "$of_256:current", $sha256 =~ s/.\z/D/r, qw(-m sha256crypt)], [1, "$of_256:dead", $sha256 =~ s/.\z/E/r, qw(-m sha256crypt)],
+        [0, "$of_md5:current", $md5 =~ s/.\z/1/r, qw(-m md5)], [1, "$of_md5:dead", $md5 =~ s/.\z/2/r, qw(-m md5)],
+        [0, "$of_scrypt:current", $scrypt =~ s/.\z/D/r, qw(-m scrypt)], [1, "$of_scrypt:dead", $scrypt =~ s/.\z/E/r, qw(-m scrypt)],
+
+        # Cut, too long, with another character; with a longer salt, and with fewer rounds than there are.
+        (map { [1, "$of_512:dead", $_] } substr($sha512, 0, 60), substr($sha512, 0, -1), $sha512 =~ s/\$ab\K.*//r, $sha512 =~ s/\$ab\$\K.*//r,
+            "$sha512.", "$sha512\$extra", $sha512 =~ s/\$ab\$\K./_/r, $sha512 =~ s/\$ab/\$aaaaaaaaaaaaaaaab/r),
+        [1, "$of_md5:dead", $md5 =~ s/x/xx/r], [1, 'sha512crypt:1000:COST:dead', $sha512 =~ s/656000/999/r],
+
+        # Other schemes, and none.
+        (map { [0, "$_->[0]:unknown", crypt 'password', $_->[1]] } ['yescrypt', '$y$j75$abcd'], ['gost-yescrypt', '$gy$j75$abcd'], ['NT', '$3$'],
+            ['sha1crypt', '$sha1$9$ab'], ['SunMD5', '$md5$ab$'], ['SunMD5', '$md5,rounds=1$ab$'], ['bsdicrypt', '_J...abcd'], ['descrypt', 'ab'],
+            map { ['bcrypt', "\$2$_\$04\$" . 'a' x 22] } qw(a b y)),
+        (map { [0, 'bsdicrypt:unknown', $_] } '_', "_ \0\xe9" . 'x' x 400), (map { [0, 'unknown', $_] } '$', '$1', '$2x$04$ab', '$y', '$8$ab$x'),
+        (map { [1, 'no scheme', $_] } 'x', 'a secret', "\xc3\xa9", '1$ab$x', 'a' x 12, 'a' x 14, 'a' x 12 . ' ', 'x' x 400),
+        (map { [0, 'locked', $_] } '!', '*', "!$sha512"), [1, 'none', ''],
+        (map { [1, 'malformed:bad character', $_] } "\$1\$a\0b", '$y$j9T$a b', '$ '),
+        (map { [1, 'malformed:setting too long', $_ . 'x' x 400] } '$6$rounds=999999999$', '$y$'),
         [1, 'malformed:bad rounds', '$5$rounds=0$ab$x'], [1, 'malformed:scrypt range', '$7$' . scrypt_cost(24, 1, 1) . 'ab$x'],
         [1, 'malformed:above ceiling', '$7$' . scrypt_cost(20, 16, 1) . 'ab$x'], [1, 'malformed:bad salt', '$7$CU..../....a_b$x'],
-        [0, 'current', $current], [0, 'current', $current, '--budget', $cost], [1, 'over budget', $current, '--budget', $cost - 1],
-        [1, 'outdated', $fewer], [1, 'outdated', $fewer, '--budget', $cost], [1, 'over budget', $most, '--budget', $cost],
-        [0, 'current', $md5, qw(-m md5crypt)], [1, 'outdated', $md5], [1, 'outdated', made_setting(7, 7, 'ab')],
     ) {
         my ($status, $finding, $field, @words) = @$_;
-        if (ref $field) {
-            $finding = join ':', $types{ $field->{kind} }, cost($field, $limits{password}), $finding;
-            $field = "$field->{front}\$x";
-        }
+        $finding =~ s/COST/cost(read_setting($field), $limits{password})/e;
         my ($input, $answers) = ("ann:$field\nbob:$field:19000:0:99999:7:::\neve:$field:", "ann:$finding\nbob:$finding\neve:$finding\n");
-        is_run(run({ stdin => $input }, program(), qw(--audit -R 656000), @words, @$_), $status, $answers, '', "@words @$_ " . shown($field))
+        is_run(run({ stdin => $input }, program(), '--audit', @words, @$_), $status, $answers, '', "@words @$_ " . shown($field))
             for [], [qw(--work --rehash)];
     }
     my $input = join "\n", ':x', 'n' x 65 . ':!', 'ann', 'ann:' . 'x' x 2045, 'bob:!';

@@ -1,6 +1,6 @@
 #!/usr/bin/env perl
 # mandoc and groff find nothing to say about a manual. As mandoc shows it, that of a program has the options of its help, and
-# that of mkpasswd the refusals with their statuses, in the order in which they are made.
+# that of mkpasswd the prefixes and salts of the methods, and the refusals with their statuses, in the order in which they are made.
 use strict;
 use warnings;
 use FindBin qw($Bin);
@@ -34,6 +34,7 @@ for (['mkpasswd', program()], ['mkpasswd-parallel', "$root/bin/mkpasswd-parallel
 
 my $manual = shown_manual("$root/man/mkpasswd.1");
 is_run(run(program(), '-m', "$2", qw(x y)), 0, run(program(), '-m', "$1", qw(x y))->{out}, '', "manual: $2") while $manual =~ /^(\w+crypt) +(md5|sha\S*) /mg;
+like($manual, qr/^$types{$_} .*\$$_\$ +1 to $most_salt{$_} +$made_salt{$_} characters$/m, "manual: prefix and salts of $types{$_}") for sort keys %types;
 my @of_runs = ((map { "2 +$_" } 'unknown method', 'two salts', 'two modes', 'salt length', 'salt character', 'cost',
     'password too long', 'password has a zero byte'), map { "3 +$_" } 'read fault', 'write fault', 'out of memory', 'too many turns', 'start fault');
 for (['Refused lines', @line_refusals], ['EXIT STATUS', @of_runs]) {

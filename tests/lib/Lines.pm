@@ -7,7 +7,7 @@ package Lines;
 #   hashes that it has to give become lines of --check, with right passwords, wrong ones, and texts in which one character
 #   is another. (Scrypt's cheap costs have no words of their own: their texts come from crypt, and are checked.)
 # - Hostile lines are put together from pieces of the grammar, stand at the limits, or are good lines that were changed, for
-#   any mode with any flags and a budget.
+#   any mode with any flags and a budget, and audits by their own budget too.
 
 use strict;
 use warnings;
@@ -169,13 +169,25 @@ sub field {
     return $text;
 }
 
+# A field that has no method's prefix.
+sub other_field {
+    my $kind = rand;
+    return salt_text(one_of(12, 13, 13, 13, 14, between(1, 30))) if $kind < 0.35;
+    return bytes_of(between(1, 20), @characters, ' ', "\t", "\xe9", '_', '$', ';', "\0") if $kind < 0.55;
+    return one_of(qw($y$ $gy$ $2a$ $2b$ $2y$ $3$ $sha1$ $md5 $md5$ _ $y $gy $2 $2x$ $3 $sha1 $md $Y$)) . one_of('', '', ' ', '$', ',', "\xe9")
+        . bytes_of(one_of(0, between(1, 60), between(370, 390)), @characters);
+}
+
 # A good stored text that is another one, or none.
 sub changed {
     my ($hash) = @_;
     my $kind = rand;
-    return with_another_character($hash, 3) if $kind < 0.4;
-    return substr $hash, 0, between(1, length $hash) if $kind < 0.5;
-    return $hash . one_of('.', '$', substr $hash, -1) if $kind < 0.55;
+    return with_another_character($hash, 3) if $kind < 0.2;
+    return $hash =~ s/.\z/one_of(qw(. 1 2 D E z _))/er if $kind < 0.32;
+    return substr $hash, 0, between(1, length $hash) if $kind < 0.4;
+    return substr $hash, 0, -between(1, 3) if $kind < 0.45;
+    return $hash =~ s/(\$?)[^\$]*\z/one_of('', $1)/er if $kind < 0.5;
+    return $hash . one_of('.', '$', '$extra', ' ', substr $hash, -1) if $kind < 0.55;
     return $hash =~ s/rounds=\K\d+/one_of('01000', '00', 1, 999, 1001, 5000, 999999999, '9' x between(9, 99))/er if $kind < 0.7;
     return $hash =~ s/\A(\$5\$|\$6\$)(?!rounds)/${1}rounds=5000\$/r if $kind < 0.73;
     return $hash =~ s/(?=\$[^\$]*\z)/salt_text(between(1, 20))/er if $kind < 0.8;
@@ -243,9 +255,9 @@ sub hostile_line {
     return mutated(bytes_of(between(1, 9), 'a' .. 'z') . ":$hash:$password") if $kind < 0.31;
     return name() . ":$hash:$password" if $kind < 0.47;
     return name() . ":$hash:" . beside($password) if $kind < 0.51;
-    return name() . ':' . changed($hash) . ":$password" if $kind < 0.61;
-    return name() . ':' . one_of('', '!', '*', '!!', "!$hash", "*$hash", "!\0") . ':' . password() if $kind < 0.66;
-    return name() . ':' . field() . ':' . password();
+    return name() . ':' . changed($hash) . ":$password" if $kind < ($job->{is_audit} ? 0.75 : 0.61);
+    return name() . ':' . one_of('', '!', '*', '!!', "!$hash", "*$hash", "!\0") . ':' . password() if chance(0.13);
+    return name() . ':' . (chance(0.15) ? other_field() : field()) . ':' . password();
 }
 
 # ---- Chunks
@@ -313,16 +325,18 @@ sub budget {
 
 sub hostile_chunk {
     my (undef, $count) = @_;
-    my $mode = one_of(qw(--batch --batch --check --check --check --audit));
+    my $mode = one_of(qw(--batch --batch --check --check --check --audit --audit));
     my @flags = ($mode, chance(0.45) ? '--rehash' : ());
-    my $made = $mode ne '--check' || @flags > 1 ? hostile_words() : undef;
+    my $made = $mode eq '--batch' || @flags > 1 ? hostile_words() : undef;
     my $job = job($made, @flags, chance(0.4) ? '--work' : ());
     my @hashes = $job->{is_batch} ? () : good_hashes();
     my @lines = map { hostile_line($job, \@hashes) =~ tr/\n/\r/r } 1 .. $count;
     if ($job->{is_audit}) { for (@lines) { s/:[^:]*\z// if chance(0.3) } }
-    $job->{budget} = budget($job->{is_audit} ? 10 ** 13 : $dear, map { judged($job, $_)->{cost} // () } @lines);
+    my $budget = budget($job->{is_audit} ? 10 ** 13 : $dear, map { judged($job, $_)->{cost} // () } @lines);
+    $budget = one_of(undef, 0) if $job->{is_audit} && chance(0.5);
+    $job->{budget} = $budget if $budget;
     $job->{first_line} = between(1, 4294967295);
-    push @{ $job->{words} }, '--budget', $job->{budget}, '--first-line', $job->{first_line};
+    push @{ $job->{words} }, defined $budget ? ('--budget', $budget) : (), '--first-line', $job->{first_line};
     my $input = join '', map { "$_\n" } @lines;
     chop $input if $lines[-1] ne '' && chance(0.3);
     return [$job, $input];

@@ -209,19 +209,78 @@ sub hash_of {
     };
 }
 
+# ---- Audits
+
+# The characters that end a packed digest: its last bits are two or four.
+my %last = (1 => '[./01]', 5 => '[./0-9A-D]', 6 => '[./01]', 7 => '[./0-9A-D]');
+
+# Whether a field with this setting can be the hash of a password.
+sub is_whole {
+    my ($setting, $field) = @_;
+    my ($kind, $front) = @$setting{qw(kind front)};
+    my $before_last = $packed_length{$kind} - 1;
+    return $field =~ /\A\Q$front\E\$${of_alphabet}{$before_last}$last{$kind}\z/;
+}
+
+# The rounds of a setting, as an audit prints them.
+sub rounds_text {
+    my ($setting) = @_;
+    return $setting->{kind} == 7 ? join '/', 2 ** $setting->{log}, @$setting{qw(r p)} : $setting->{rounds} // 1000;
+}
+
+# The name of another scheme of crypt(5), where the field looks like its hash.
+my %other_scheme = ('$y$' => 'yescrypt', '$gy$' => 'gost-yescrypt', '$2a$' => 'bcrypt', '$2b$' => 'bcrypt', '$2y$' => 'bcrypt',
+    '$3$' => 'NT', '$sha1$' => 'sha1crypt', '$md5' => 'SunMD5', '_' => 'bsdicrypt');
+my $other_prefixes = join '|', map { quotemeta } keys %other_scheme;
+
+sub of_another_scheme {
+    my ($field) = @_;
+    return $other_scheme{$1} if $field =~ /\A($other_prefixes)/;
+    return $field =~ /\A${of_alphabet}{13}\z/ ? 'descrypt' : undef;
+}
+
+# The setting by which an audit judges, of the method and the cost that the words have, and its budget if they have none.
+sub audit_policy {
+    my ($kind, $cost) = @_;
+    my @made = map { made_setting(@$_, 'a' x $most_salt{ $_->[0] }) } [$kind, $cost || ($kind == 7 ? 7 : 656000)], [6, 656000];
+    return ($made[0], max(map { cost($_, $limits{password}) } @made));
+}
+
+# What an audit by a setting and a budget has to find in a field, the greatest cost of a hash with the field's setting, and
+# whether it counts for the status.
+sub audited {
+    my ($new, $budget, $field) = @_;
+    return (finding => 'none', is_bad => 1) if $field eq '';
+    return (finding => 'locked') if $field =~ /\A[!*]/;
+    my $setting = read_setting($field);
+    if (!ref $setting) {
+        my $has_dollar = $field =~ /\A\$/;
+        my $scheme = of_another_scheme($field);
+        return (finding => "malformed:$setting", is_bad => 1) if $has_dollar && $setting ne 'unknown scheme';
+        return (finding => "$scheme:unknown") if defined $scheme;
+        return $has_dollar ? (finding => 'unknown') : (finding => 'no scheme', is_bad => 1);
+    }
+    my $cost = cost($setting, $limits{password});
+    my $state = $cost > $budget ? 'over budget' : !is_whole($setting, $field) ? 'dead' : is_replaced($setting, $new) ? 'outdated'
+        : 'current';
+    my $finding = join ':', $types{ $setting->{kind} }, rounds_text($setting), $cost, $state;
+    return (finding => $finding, cost => $cost, is_bad => $state ne 'current');
+}
+
 # ---- Lines
 
 # A job of these flags, and its words. With words for a method they are in %$made: kind, type, cost, salt.
 sub job {
     my ($made, @flags) = @_;
     my %job = (words => [@flags], setting => made_setting(6), map { ('is_' . substr($_, 2) => 1) } @flags);
+    my ($kind, $cost, $salt) = @{ $made // { kind => 6 } }{qw(kind cost salt)};
     if ($made) {
-        my ($kind, $cost, $salt) = @$made{qw(kind cost salt)};
         push @{ $job{words} }, '-m', $made->{type} if defined $made->{type};
         push @{ $job{words} }, '-R', $cost if defined $cost;
         push @{ $job{words} }, '-S', $salt if defined $salt;
         @job{qw(setting salt)} = (made_setting($kind, $cost, $salt), $salt);
     }
+    @job{qw(setting budget)} = audit_policy($kind, $cost) if $job{is_audit};
     return \%job;
 }
 
@@ -234,7 +293,7 @@ sub judged {
     return { refusal => 'no name' } if $name eq '';
     return { refusal => 'name too long' } if length $name > $limits{name};
     return { refusal => 'no password field' } if @fields < ($job->{is_check} ? 3 : 2);
-    return { name => $name, audited($job, $fields[1] =~ s/:.*//sr) } if $job->{is_audit};
+    return { name => $name, audited(@$job{qw(setting budget)}, $fields[1] =~ s/:.*//sr) } if $job->{is_audit};
     my $password = $fields[-1];
     my $length = length $password;
     return { refusal => 'password too long' } if $length > $limits{password};
@@ -255,26 +314,11 @@ sub judged {
     return \%judged;
 }
 
-# What an audit has to find in a field, the greatest cost of a hash with its setting, and whether it counts for the status.
-sub audited {
-    my ($job, $field) = @_;
-    return (finding => 'none', is_bad => 1) if $field eq '';
-    return (finding => 'locked') if $field =~ /\A[!*]/;
-    my $setting = read_setting($field);
-    return (finding => 'unknown') if $setting eq 'unknown scheme';
-    return (finding => "malformed:$setting", is_bad => 1) unless ref $setting;
-    my $cost = cost($setting, $limits{password});
-    my $standing = defined $job->{budget} && $cost > $job->{budget} ? 'over budget'
-        : is_replaced($setting, $job->{setting}) ? 'outdated' : 'current';
-    return (finding => "$types{ $setting->{kind} }:$cost:$standing", cost => $cost, is_bad => $standing ne 'current');
-}
-
 # Whether the field is the hash of the password: 1, 0, or nothing where that is not known.
 sub is_fit {
     my ($judged) = @_;
     my ($field, $setting) = @$judged{qw(field setting)};
-    my $front = "$setting->{front}\$";
-    return 0 if index($field, $front) != 0 || length $field != length($front) + $packed_length{ $setting->{kind} };
+    return 0 if !is_whole($setting, $field);
     my $hash = hash_of($setting, $judged->{password});
     return defined $hash ? $hash eq $field || 0 : undef;
 }
