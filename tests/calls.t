@@ -6,7 +6,7 @@ use warnings;
 use FindBin qw($Bin);
 use lib "$Bin/lib";
 use IPC::Open2;
-use List::Util qw(max sum0);
+use List::Util qw(sum0);
 use Model;
 use Suite;
 use Texts;
@@ -53,14 +53,6 @@ my %steps = (
 our $refused = 0;    # which allocation is refused, from 1
 my @words;           # that the system draws, if it does
 
-# Whether a text is the one that the setting in it makes of some digest: six bits a character, and of the last one what is left.
-sub is_whole {
-    my ($text, $setting) = @_;
-    my ($front, $others) = ("$setting->{front}\$", $packed_length{ $setting->{kind} } - 1);
-    my $last = $others == 42 ? qr{[./0-9A-D]} : qr{[./01]};
-    return $text =~ m{\A\Q$front\E[./0-9A-Za-z]{$others}$last\z};
-}
-
 sub salt_of { my ($length, @of) = @_; return join '', map { $characters[$of[$_ / 10] >> 6 * ($_ % 10) & 63] } 0 .. $length - 1 }
 
 # The line for a call. A null password counts as a byte 0, a null text as an empty one, a null `out` as one without room.
@@ -69,7 +61,6 @@ sub line {
     my $name = $call =~ s/_(?:str|over)$//r;
     return login_line($password, $text, @n) if $name eq 'login';
     ($password, $text, $room) = ($password // "\0", $text // '', $room // 0);
-    $n[1] ||= $n[0] == 7 ? 7 : 656_000 if $name eq 'audit';
     my ($setting, $made, $hash, $refusal);
     my ($cost, $allocations, $drawn, @work) = (0, 0, 0, (0) x 5);
     my $scratch = sub { my ($r, $p) = @$setting{qw(r p)}; $r ? (128 * $r * $p, 256 * $r) : (0, 0) };
@@ -88,10 +79,10 @@ sub line {
         },
         replace => sub { is_replaced($setting, $made) ? '' : 'current' },
         within => sub {
-            my $own = max(map { cost($_, 1024) } made_setting(6, 656_000), $made->{kind} == 7 ? { %$made, salt => 'a' x 86 } : $made);
+            ($made, my $own) = Model::audit_policy(@n[0, 1]);
             return ($cost = cost($setting, 1024)) > ($n[2] || $own) ? 'over budget' : '';
         },
-        whole => sub { is_whole($text, $setting) ? '' : 'dead' },
+        whole => sub { Model::is_whole($setting, $text) ? '' : 'dead' },
         keep => sub { is_replaced($setting, $made) ? 'replaced' : '' },
         budget => sub { ($cost = cost($setting, length $password)) > $n[-1] ? 'over budget' : '' },
         room => sub {
@@ -242,7 +233,7 @@ sub login_line {
     my @line = split / /, line('verify', $password, $field, 0, $limit);
     my ($refused) = line('new', $password, '', 145, $method, $cost, $most) =~ /^0 (-1|-2|-13|-14) /;
     return "0 $refused" . ' 0' x 11 . ' unchanged' if $refused;
-    $line[1] = $number{dead} if $line[1] == $number{differs} && !is_whole($field, read_setting($field));
+    $line[1] = $number{dead} if $line[1] == $number{differs} && !Model::is_whole(read_setting($field), $field);
     $line[1] = 2 if $line[0] && line('needs_rehash', '', $field, 0, $method, $cost) =~ /^1/;
     my $decoy = made_setting($method, $cost, '.' x $made_salt{$method})->{front};
     @line[4 .. 10] = (split / /, line('hash', $password, $decoy, 145, $limit))[4 .. 10] if $line[1] =~ /^-([3-9]|10|16|20|21)$/;
@@ -286,7 +277,7 @@ sub altered {
 
 subtest 'audits' => sub {
     my @hashes = map { $_->[1] } @known;
-    ok(!(grep { !is_whole($_, read_setting($_)) } @hashes), 'known hashes are whole');
+    ok(!(grep { !Model::is_whole(read_setting($_), $_) } @hashes), 'known hashes are whole');
     # Settings at the audit's own budget, and above it.
     my @settings = (made_setting(6, 656_000), made_setting(6, 656_001), map { setting(7, 'a' x 86, log => $_, r => 32, p => 1) } 15 .. 18);
     push @hashes, map { "$_->{front}\$" . '.' x $packed_length{ $_->{kind} } } @settings;
