@@ -30,6 +30,7 @@ sub with_fault {
 my $md5 = '$1$xxxxxxxx$UYCIxa628.9qXjpQCjM4a.';
 my @md5 = qw(-m md5crypt -S xxxxxxxx);
 my ($old, $new) = map { crypt 'password', $_ } '$7$2/..../....xxxxxxxx', '$7$BU..../....ab';
+my $third = crypt 'pleaseletmein', '$7$C6..../....SodiumChloride';    # the third vector of RFC 7914, with a table of 16 MiB
 my $of_alphabet = '[./0-9A-Za-z]';
 # Lines whose tables have 16 and 64 MiB.
 my ($small, $large) = map { 'ann:' . crypt('password', $_) . ":password\n" } '$7$C6..../....xxxxxxxx', '$7$CU..../....ab';
@@ -48,7 +49,7 @@ for (
     ['no words', "password\n", [], 0, qr/\A\$6\$${of_alphabet}{16}\$${of_alphabet}{86}\n\z/, ''],
     ['--batch', "ann:password\n:x\nbob:password\n", ['--batch', @md5], 1, "ann:$md5\nbob:$md5\n", "mkpasswd: line 2: no name\n"],
     ['--batch, made salts', "ann:password\n", [qw(--batch -m md5crypt)], 0, qr/\Aann:\$1\$${of_alphabet}{8}\$${of_alphabet}{22}\n\z/, ''],
-    ['--check', "ann:$md5:password\nbob:$old:password\n::\ncat:$md5:Password\n", ['--check'], 1, "ann:ok\nbob:ok\ncat:no\n",
+    ['--check', "ann:$md5:password\nbob:$third:pleaseletmein\n::\ncat:$md5:Password\n", ['--check'], 1, "ann:ok\nbob:ok\ncat:no\n",
         "mkpasswd: line 3: no name\n", 3],
     ['--rehash from scrypt', "bob:$old:password\n", [qw(--check --rehash), @md5], 0, "bob:ok:$md5\n", ''],
     ['--rehash between costs of scrypt', "ann::\nbob:$old:password\n", [qw(--check --rehash -m scrypt -R 6 -S ab)], 0, "ann:none\nbob:ok:$new\n", '', 6],

@@ -58,7 +58,7 @@ my @calls = search('-l', 'extern "C" fn', 'crypt_c/src', 'crypt_web/src');
 stands_only_in('only the program and the calls make a meter', '\bMeter::new\b', 'program/src/main.rt', @calls);
 
 # Memory. What has no allocator can't allocate; so a line is read, priced and refused without.
-my @prims = map { "prims_core/src/$_.rt" } qw(table scratch hexadecimal);    # the last one is for tests
+my @prims = map { "prims_core/src/$_.rt" } qw(table scratch);
 my @command = map { "mkpasswd/src/$_.rt" } qw(command options);
 my @scrypt = 'kdf_core/src/scrypt.rt';
 my @on_the_way = ('crypt_c/src/', map({ "crypt_core/src/$_.rt" } qw(hash memory fits)), map { "run_core/src/$_.rt" } qw(one lines answer));

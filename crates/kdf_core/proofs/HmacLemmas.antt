@@ -1,4 +1,4 @@
--- A tag and a key's block, made step by step, and two strings of bytes under XOR.
+-- HMAC step by step: a key's block, long or short, the block under a pad byte by byte, and the tag of two digests.
 use Rattle.std.proofs.Common.{◌≡◌, ℕ, ◌-◌, ◌<◌, ◌≤◌, List, [], ◌++◌, length, get_or, bit_xor, replicate, drop, sym, ap, ◌∙◌, append_assoc, arith}
 use Rattle.std.proofs.lemmas.List.{append-nil, drop-replicate}
 use Rattle.std.proofs.lemmas.Bool.{cond_below, cond_above}

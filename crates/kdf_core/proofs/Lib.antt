@@ -1,9 +1,10 @@
-pub mod CeilingTest
+pub mod AddedWork
+pub mod CeilingByQuotient
 pub mod HmacLemmas
+pub mod Integerify
 pub mod MessageCounts
 pub mod MixedLengths
+pub mod MixedParts
 pub mod Pbkdf2Lemmas
 pub mod ScryptBounds
-pub mod ScryptLemmas
-pub mod ScryptValue
-pub mod WorkSums
+pub mod ScryptResult

@@ -22,7 +22,7 @@ use Rattle.kdf_core.specs.ScryptMessages.{mixed_parts, scrypt_messages}
 use Rattle.kdf_core.specs.ScryptWork.{scrypt_work}
 use Rattle.kdf_core.proofs.MixedLengths.{length-flat_map_same, length-mixed_parts}
 use Rattle.kdf_core.proofs.Pbkdf2Lemmas.{block-one}
-use Rattle.kdf_core.proofs.ScryptValue.{digests-are, bytes-are}
+use Rattle.kdf_core.proofs.ScryptResult.{digests-are, bytes-are}
 
 -- the messages of one list, and then those of another
 both-in_all : (xs ys : List (List ℕ)) (d b e c : ℕ) → HaveCountAndSum xs d b → HaveCountAndSum ys e c → HaveCountAndSum (xs ++ ys) (d + e) (b + c)

@@ -1,7 +1,8 @@
--- What the ceiling on N * r * p bounds.
-use Rattle.std.proofs.Common.{◌≡◌, ℕ, ◌+◌, ◌-◌, ◌*◌, ◌^◌, ◌<◌, ◌≤◌, ap, ◌∙◌, true, false, nat_lt, if◌then◌else◌, arith}
+-- What the ceiling on N * r * p bounds, and the number of rows as a power of two.
+use Rattle.std.proofs.Common.{◌≡◌, ℕ, ◌+◌, ◌-◌, ◌*◌, ◌/◌, ◌^◌, ◌<◌, ◌≤◌, ap, ◌∙◌, true, false, nat_lt, if◌then◌else◌, arith}
 use Rattle.std.proofs.Math.Nat.{le-mul_of_pos_right, mul-le-mul_left, mul-le-mul_right, lt_of_not-le}
 use Rattle.std.proofs.Math.Pow.{pow_mono}
+use Rattle.std.proofs.lemmas.Nat.{pow-add, pow_pos}
 use Rattle.kdf_core.specs.Params.{ScryptParams, row_count, IsAccepted, IsBounded}
 use Rattle.kdf_core.specs.Private.Mixing.{IsPower}
 use Rattle.kdf_core.specs.HmacMessages.{key_bytes}
@@ -43,6 +44,16 @@ pub rows_power : (params : ScryptParams) (n : ℕ) → IsAccepted params → n �
 rows_power params n accepted is =
     let log = (bounded params accepted).log in
     record { power = is; above_one = accepted.0.0; most = omega arith }
+
+-- N is even
+pub even : (rows k : ℕ) → IsPower rows k → 2 * (rows / 2) ≡ rows
+even rows k is =
+    let next : k ≡ 1 + (k - 1) = omega (arith, is.above_one) in
+    let twice : rows ≡ 2 * 2 ^ (k - 1) = is.power ∙ (ap (λ e. 2 ^ e) next ∙ pow-add 2 1 (k - 1)) in
+    omega (arith, twice)
+
+pub some_row : (rows k : ℕ) → IsPower rows k → 0 < rows
+some_row rows k is = omega (arith, is.power, pow_pos k)
 
 -- the bytes of all parts, by the numbers as they are read
 pub parts-product : (params : ScryptParams) (r p : ℕ) → r ≡ params.r → p ≡ params.p → 128 * r * p ≡ parts_bytes params

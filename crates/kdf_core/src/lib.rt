@@ -6,6 +6,4 @@ pub mod hmac;
 pub mod params;
 pub mod pbkdf2;
 pub mod scrypt;
-#[cfg(test)]
-mod tests;
 pub mod work;

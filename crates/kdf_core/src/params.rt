@@ -138,6 +138,3 @@ fn is_within_ceiling(log_n: u8, r: u32, p: u32) -> bool
     // From N = 2^24 on, N alone is above the ceiling.
     log_n < 24 && u64::from(r) * u64::from(p) <= CEILING >> log_n
 }
-
-#[cfg(test)]
-mod tests;

@@ -178,6 +178,3 @@ fn row_number(words: &[u32], rows: usize) -> usize
 {
     words[words.len() - BLOCK_WORDS] as usize % rows
 }
-
-#[cfg(test)]
-mod tests;

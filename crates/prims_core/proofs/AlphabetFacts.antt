@@ -1,4 +1,4 @@
--- What the alphabet says of each value and of each byte.
+-- The alphabet of crypt's numerals: which character each value below 64 has, and which bytes are no character of it.
 use Rattle.std.proofs.Common.{◌≡◌, ℕ, ◌+◌, ◌-◌, ◌<◌, ◌≤◌, Bool, true, ◌⊎◌, inl, inr, eqb, length, get_or, refl, sym, ◌∙◌, ap, subst, arith}
 use Rattle.std.specs.Prelude.{Contains}
 use Rattle.std.specs.List.{list_all, range_with_len}

@@ -1,4 +1,4 @@
--- A list and the pieces of one size that it is made of.
+-- A list cut into pieces of one size by `chunks_exact`: how many there are, each of them, and the list they make joined.
 use Rattle.std.proofs.Common.{◌≡◌, ℕ, suc, ◌+◌, ◌*◌, ◌/◌, ◌<◌, List, [], ◌∷◌, ◌++◌, length, take, drop, get_or, sym, ◌∙◌, ap, ap₂, arith}
 use Rattle.std.specs.List.{concat}
 use Rattle.std.proofs.Math.Nat.{mul-div_cancel_left}

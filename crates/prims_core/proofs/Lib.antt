@@ -1,11 +1,10 @@
 pub mod AlphabetFacts
+pub mod BlockFacts
 pub mod ChunkFacts
-pub mod DiagonalFacts
-pub mod FillFacts
-pub mod InRowsFacts
-pub mod LaneFacts
-pub mod MatrixFacts
-pub mod MixFacts
+pub mod FilledTable
+pub mod FourDiagonals
+pub mod MixedBlocks
 pub mod NumeralFacts
-pub mod RowFacts
+pub mod RotatedLanes
+pub mod TableFacts
 pub mod WordFacts

@@ -1,4 +1,4 @@
--- Numbers and their numerals.
+-- Numbers and their numerals: each number below 64 ^ n has one numeral of n characters, as it is written and read.
 use Rattle.std.proofs.Common.{◌≡◌, ℕ, zero, suc, ◌+◌, ◌-◌, ◌*◌, ◌/◌, ◌%◌, ◌^◌, ◌<◌, ◌≤◌, List, [], ◌∷◌, ◌++◌, length, get_or, refl, sym, ◌∙◌, ap, subst, add-one, append_assoc, append-nil, length-append, arith}
 use Rattle.std.specs.Prelude.{Contains, All}
 use Rattle.std.proofs.Math.Nat.{pow-suc}
@@ -77,10 +77,10 @@ numerals-injective (suc n) a b small_a small_b same =
     let high : a / 64 ≡ b / 64 = numerals-injective n (a / 64) (b / 64) (omega arith) (omega arith) rest in
     omega arith
 
--- a list with a stranger in it is not all of the alphabet
-pub stranger : (front back digits : List ℕ) (c : ℕ) → (front ++ c ∷ []) ++ back ≡ digits
+-- a list with a character from outside the alphabet in it is not all of the alphabet
+pub not_all_contained : (front back digits : List ℕ) (c : ℕ) → (front ++ c ∷ []) ++ back ≡ digits
     → (Contains alphabet c → ⊥) → All (Contains alphabet) digits → ⊥
-stranger front back digits c is strange all =
+not_all_contained front back digits c is strange all =
     let whole : front ++ c ∷ back ≡ digits = sym (append_assoc front (c ∷ []) back) ∙ is in
     let at : get_or digits (length front) 0 ≡ c =
     subst (λ (xs : List ℕ). get_or xs (length front) 0 ≡ c) whole (get_or-append_seam front c back 0) in

@@ -11,8 +11,6 @@ use arrayvec::ArrayVec;
 mod counted_md5;
 mod counted_sha256;
 mod counted_sha512;
-#[cfg(test)]
-mod tests;
 
 pub use counted_md5::CountedMd5;
 pub use counted_sha256::CountedSha256;

@@ -5,8 +5,6 @@
 pub mod alphabet;
 pub mod counted;
 mod diagonals;
-#[cfg(test)]
-mod hexadecimal;
 pub mod meter;
 pub mod mix;
 pub mod salsa;

@@ -202,6 +202,3 @@ impl Meter {
         self.scratch += bytes as u128;
     }
 }
-
-#[cfg(test)]
-mod tests;

@@ -21,9 +21,6 @@ use crate::meter::Meter;
 use crate::salsa::salsa8_of;
 use std::simd::prelude::*;
 
-#[cfg(test)]
-pub(crate) mod tests;
-
 // The words of a block.
 const BLOCK_WORDS: usize = 16;
 

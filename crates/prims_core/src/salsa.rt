@@ -12,9 +12,6 @@ ghost use Rattle.prims_core.specs.Salsa.{rotated_sum, quarter_round, column_roun
 use crate::diagonals::Diagonals;
 use std::simd::u32x4;
 
-#[cfg(test)]
-mod tests;
-
 /// Replaces the sixteen words of a block by their Salsa20/8 (RFC 7914, section 3): each word is added to its word after
 /// eight rounds.
 pub fn salsa8(block: &mut [u32; 16])

@@ -11,9 +11,6 @@ use std::alloc::{AllocError, Global};
 use std::marker::Model;
 use std::mem::size_of;
 
-#[cfg(test)]
-mod tests;
-
 /// Bytes of scratch memory. Contracts see them as a list.
 #[derive(Drop)]
 pub struct ByteScratch {

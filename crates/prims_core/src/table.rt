@@ -74,7 +74,7 @@ impl Table {
     /// Returns row `i`.
     ///
     /// Precondition: `i` is below the number of rows.
-    #[tactic(auto, using(crate::proofs::RowFacts::row_end))]
+    #[tactic(auto, using(crate::proofs::TableFacts::row_end))]
     pub fn row(&self, i: usize) -> &[u32]
         requires { i < length self.now }
         ensures { result.now ≡ slice_index_or self.now i [] }
@@ -91,7 +91,7 @@ impl Table {
     /// Makes row `i` a copy of `row`. The other rows stay.
     ///
     /// Preconditions: `i` is below the number of rows, and `row` has the length of a row.
-    #[tactic(auto, using(crate::proofs::RowFacts::row_end))]
+    #[tactic(auto, using(crate::proofs::TableFacts::row_end))]
     pub fn set_row(&mut self, i: usize, row: &[u32])
         requires inside { i < length self.old }
         requires same_length { length row.now ≡ length (slice_index_or self.old i []) }
@@ -109,7 +109,7 @@ impl Table {
     ///
     /// Preconditions: the number of rows is even and not 0, `x` and `y` have the length of a row, which is the 32r words
     /// of 2r blocks, for one r of at least 1, and the meter has room.
-    #[tactic(auto, using(crate::proofs::RowFacts::row_count))]
+    #[tactic(auto, using(crate::proofs::TableFacts::row_count))]
     pub fn fill_by_mixing(&mut self, x: &mut [u32], y: &mut [u32], meter: &mut Meter)
         requires even { (1 ≤ length self.old) × (length self.old % 2 ≡ 0) }
         requires blocks { (r : ℕ) × (1 ≤ r) × (length x.old ≡ 32 * r) × (length y.old ≡ 32 * r) }
@@ -137,95 +137,5 @@ fn fill(words: &mut Vec<u32>, len: usize)
 {
     if words.len() < len {
         words.resize(len, 0).unwrap();
-    }
-}
-
-#[cfg(test)]
-mod tests {
-    use super::*;
-    use crate::mix::tests::{BLOCKS, MIXED, counts};
-    use crate::mix::{block_mix, to_diagonals};
-    use crate::words::load_words;
-    use std::test::Fail;
-
-    #[test]
-    fn rows(rt: HostRuntime) -> Result<(), Fail> {
-        let mut meter = Meter::new();
-        let mut table = Table::new(rt.alloc(), 3, 32, &mut meter)?;
-        let mut row = [0; 32];
-        for (i, word) in row.iter_mut().enumerate() {
-            *word = i as u32 + 1;
-        }
-        table.set_row(1, &row);
-        let zeros = [0; 32];
-        assert_eq!(rt;
-            (table.row(0), table.row(1), table.row(2)),
-            (zeros.as_slice(), row.as_slice(), zeros.as_slice())
-        );
-        Ok(())
-    }
-
-    #[test]
-    fn long_rows(rt: HostRuntime) -> Result<(), Fail> {
-        let mut meter = Meter::new();
-        let mut table = Table::new(rt.alloc(), 3, 1025, &mut meter)?;
-        let (zeros, ones) = ([0; 1025], [1; 1025]);
-        table.set_row(1, &ones);
-        assert_eq!(rt;
-            (table.row(0), table.row(1), table.row(2)),
-            (zeros.as_slice(), ones.as_slice(), zeros.as_slice())
-        );
-        Ok(())
-    }
-
-    #[test]
-    fn fills_by_mixing(rt: HostRuntime) -> Result<(), Fail> {
-        let (mut first, mut second) = ([0; 32], [0; 32]);
-        load_words(&BLOCKS, &mut first);
-        load_words(&MIXED, &mut second);
-        let mut third = [0; 32];
-        block_mix(&second, &mut third, &mut Meter::new());
-        to_diagonals(&mut first);
-        to_diagonals(&mut second);
-        to_diagonals(&mut third);
-        let mut meter = Meter::new();
-        let mut table = Table::new(rt.alloc(), 2, 32, &mut meter)?;
-        let (mut x, mut y) = (first, [7; 32]);
-        table.fill_by_mixing(&mut x, &mut y, &mut meter);
-        assert_eq!(rt;
-            (table.row(0), table.row(1), x),
-            (first.as_slice(), second.as_slice(), third),
-            "RFC 7914, section 9"
-        );
-        table.set_row(1, &third);
-        let mut x = second;
-        table.fill_by_mixing(&mut x, &mut y, &mut meter);
-        assert_eq!(rt;
-            (table.row(0), table.row(1)),
-            (second.as_slice(), third.as_slice()),
-            "filled already, and with a row that was set"
-        );
-        table.set_row(0, &first);
-        assert_eq!(rt;
-            (table.row(0), table.row(1)),
-            (first.as_slice(), third.as_slice()),
-            "a row that is set then"
-        );
-        assert_eq!(rt; counts(&meter), [0, 0, 4, 256, 0]);
-        Ok(())
-    }
-
-    #[test]
-    fn counts_its_bytes(rt: HostRuntime) -> Result<(), Fail> {
-        for (rows, row_words, bytes) in [(2, 32, 256), (16, 32, 2048), (0, 32, 0), (3, 0, 0)] {
-            let mut meter = Meter::new();
-            let _table = Table::new(rt.alloc(), rows, row_words, &mut meter)?;
-            assert_eq!(rt;
-                counts(&meter),
-                [0, 0, 0, bytes, 0],
-                "{rows} rows of {row_words} words"
-            );
-        }
-        Ok(())
     }
 }

@@ -13,16 +13,14 @@ mod pieces;
 use crate::device::{Input, Output};
 use crate::fault::RunFault;
 use crate::job::{Job, Maker, PasswordFrom};
-use crate::line::{Kind, LINE_LIMIT, inspect};
+use crate::line::LINE_LIMIT;
 use crate::lines::{run_audit, run_batch, run_check};
 use crate::methods::run_methods;
 use crate::one::run_one;
 use crate::reader::buffer::LineBuffer;
 use crate::tally::Tally;
 use crate::test_devices::{ALL, ListedWords, MemoryReader, MemoryWriter};
-use crypt_core::fits::fits;
 use crypt_core::method::Method;
-use crypt_core::password::Password;
 use prims_core::meter::Meter;
 use rand_core::Rng;
 use std::alloc::Global;
@@ -309,7 +307,7 @@ fn draws_and_counts(rt: HostRuntime) -> Result<(), Fail> {
     };
     let over = "mkpasswd: line 1: over budget\n";
     // The run, its input and outcome, both outputs, the next random number, and the digests: without any, all counts are 0.
-    let rows: [(Asked<'_>, &str, Outcome, &str, &str, u64, u128); 9] = [
+    let rows: [(Asked<'_>, &str, Outcome, &str, &str, u64, u128); 10] = [
         (
             salting(BATCH),
             "ann:password\n:x\nbob:password\n",
@@ -329,6 +327,18 @@ fn draws_and_counts(rt: HostRuntime) -> Result<(), Fail> {
             1002,
         ),
         (salting(BY_INPUT), "a\0b\n", HAS_NUL, "", "", 129, 0),
+        (
+            Asked {
+                run: Run::Word(&[b'a'; 1025]),
+                ..salting(BY_WORD)
+            },
+            "",
+            TOO_LONG,
+            "",
+            "",
+            129,
+            0,
+        ),
         (
             within(salting(BATCH), 36238),
             "ann:password",
@@ -360,7 +370,7 @@ fn draws_and_counts(rt: HostRuntime) -> Result<(), Fail> {
             audit,
             "ann:$1$xxxxxxxx$UYCIxa628.9qXjpQCjM4a.\nbob:$6$rounds=0$a:x\n",
             Ok((2, 0, 2)),
-            "ann:md5crypt:1927022:over budget\nbob:malformed:bad rounds\n",
+            "ann:md5crypt:1000:1927022:over budget\nbob:malformed:bad rounds\n",
             "",
             129,
             0,
@@ -396,50 +406,4 @@ fn draws_and_counts(rt: HostRuntime) -> Result<(), Fail> {
         );
     }
     Ok(())
-}
-
-// The call for other programs in Rattle. The hashes are those of openssl-passwd(1) and libxcrypt.
-#[test]
-fn fits_stored_hashes(rt: HostRuntime) {
-    let (md5crypt, scrypt) = (
-        "$1$xxxxxxxx$UYCIxa628.9qXjpQCjM4a.",
-        "$7$2/..../....$rNxJWVHNv/mCNcgE/f6/L4zO6Fos5c2uTzhyzoisI62",
-    );
-    let rows = [
-        ("password", md5crypt, Ok(true)),
-        ("Password", md5crypt, Ok(false)),
-        ("", scrypt, Ok(true)),
-        ("x", scrypt, Ok(false)),
-        ("x", "$1$a:b", Err("bad character")),
-    ];
-    for (word, stored, wanted) in rows {
-        let password = Password::new(word.as_bytes()).expect(&rt, word);
-        let told = fits(rt.alloc(), &password, stored.as_bytes(), &mut Meter::new());
-        assert_eq!(rt;
-            told.map_err(|fault| fault.text()),
-            wanted,
-            "{word} and {stored}"
-        );
-    }
-}
-
-// By the rules by which the runs refuse lines.
-#[test]
-fn inspects_lines(rt: HostRuntime) {
-    let rows: [(Kind, &[u8], Option<&str>); 10] = [
-        (Kind::Batch, b"ann:a:b", None),
-        (Kind::Batch, b"ann", Some("no password field")),
-        (Kind::Batch, &[b'a'; 2049], Some("line too long")),
-        (Kind::Check, b"a:!a b:x", None),
-        (Kind::Check, &[b'a'; 65], Some("name too long")),
-        (Kind::Check, b"a:!:\0", Some("password has a zero byte")),
-        (Kind::Check, b"a:$5$rounds=0$a b:x", Some("bad character")),
-        (Kind::Check, b"a:$7$J6..../....a_b:x", Some("above ceiling")),
-        (Kind::Audit, b"a:$7$J6..../....a_b", None),
-        (Kind::Audit, b"a", Some("no password field")),
-    ];
-    for (kind, line, text) in rows {
-        let fault = inspect(kind, line);
-        assert_eq!(rt; fault.map(|fault| fault.text()), text, "{line:?}");
-    }
 }

@@ -1,4 +1,4 @@
-use Rattle.kdf_core.proofs.CeilingTest.{within_by_quotient, above_by_power}
+use Rattle.kdf_core.proofs.CeilingByQuotient.{within_by_quotient, above_by_power}
 use Rattle.kdf_core.proofs.params.is_within_ceiling.Goals as goal
 
 pub returns-then-log_n-lt24 : goal.returns-then-log_n-lt24

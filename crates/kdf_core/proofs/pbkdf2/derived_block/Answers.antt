@@ -5,7 +5,7 @@ use Rattle.kdf_core.specs.Hmac.{hmac_sha256, tag_bytes}
 use Rattle.kdf_core.specs.HmacMessages.{IsKeyOf}
 use Rattle.kdf_core.specs.Pbkdf2.{chain, block}
 use Rattle.kdf_core.specs.Pbkdf2Messages.{block_bytes}
-use Rattle.kdf_core.proofs.WorkSums.{work_more}
+use Rattle.kdf_core.proofs.AddedWork.{work_more}
 use Rattle.kdf_core.proofs.Pbkdf2Lemmas.{chain-one, chain-more, block-one, block-more}
 use Rattle.kdf_core.proofs.pbkdf2.derived_block.Goals as goal
 

@@ -4,7 +4,7 @@ use Rattle.std.proofs.Math.Nat.{mul-le-mul_left, mul-le-mul_right}
 use Rattle.std.proofs.lemmas.Grind.{div_ceil_times}
 use Rattle.kdf_core.specs.Pbkdf2.{block}
 use Rattle.kdf_core.specs.Pbkdf2Messages.{block_bytes}
-use Rattle.kdf_core.proofs.WorkSums.{work_more}
+use Rattle.kdf_core.proofs.AddedWork.{work_more}
 use Rattle.kdf_core.proofs.Pbkdf2Lemmas.{front_more, front_all}
 use Rattle.kdf_core.proofs.pbkdf2.pbkdf2.Goals as goal
 

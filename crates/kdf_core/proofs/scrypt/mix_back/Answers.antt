@@ -4,7 +4,7 @@ use Rattle.prims_core.specs.BlockMix.{block_mix}
 use Rattle.prims_core.specs.Diagonals.{in_rows}
 use Rattle.prims_core.specs.Words.{xor_lists}
 use Rattle.kdf_core.specs.Scrypt.{mixed_back}
-use Rattle.kdf_core.proofs.ScryptLemmas.{some_row}
+use Rattle.kdf_core.proofs.ScryptBounds.{some_row}
 use Rattle.kdf_core.proofs.scrypt.mix_back.Goals as goal
 
 pub returns-clause-mixed : goal.returns-clause-mixed

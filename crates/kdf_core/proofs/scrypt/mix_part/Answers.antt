@@ -5,7 +5,7 @@ use Rattle.prims_core.specs.Diagonals.{in_rows}
 use Rattle.prims_core.specs.Memory.{HoldsMixings}
 use Rattle.prims_core.specs.Words.{bytes_of_words}
 use Rattle.kdf_core.specs.Scrypt.{mixed_back, romix, mixed_part}
-use Rattle.kdf_core.proofs.ScryptLemmas.{even, some_row}
+use Rattle.kdf_core.proofs.ScryptBounds.{even, some_row}
 use Rattle.kdf_core.proofs.scrypt.mix_part.Goals as goal
 
 pub to_diagonals-requires : goal.to_diagonals-requires

@@ -1,8 +1,8 @@
 use Rattle.std.proofs.Common.{◌≡◌, ◌+◌, ◌*◌, ◌/◌, ◌≤◌, ◌-◌, ◌∙◌, ℕ, length, take, drop, length-take, length-drop, subst, refl, arith}
 use Rattle.std.proofs.Math.Nat.{mul-le-mul_left}
 use Rattle.prims_core.specs.Memory.{HasShape}
-use Rattle.prims_core.proofs.FillFacts.{mixes-more}
-use Rattle.kdf_core.proofs.ScryptLemmas.{first_parts, parts_done-none, parts_done-more, parts_to_come-more, parts-all, mixes-none}
+use Rattle.prims_core.proofs.FilledTable.{mixes-more}
+use Rattle.kdf_core.proofs.MixedParts.{first_parts, parts_done-none, parts_done-more, parts_to_come-more, parts-all, mixes-none}
 use Rattle.kdf_core.proofs.scrypt.mix_parts.Goals as goal
 
 pub parts-init : goal.parts-init

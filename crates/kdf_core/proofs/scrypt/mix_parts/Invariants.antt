@@ -1,6 +1,6 @@
 use Rattle.std.proofs.Common.{◌≡◌, ◌+◌, ◌*◌, ◌/◌, length, take, drop}
 use Rattle.prims_core.specs.Memory.{HasShape}
-use Rattle.kdf_core.proofs.ScryptLemmas.{first_parts}
+use Rattle.kdf_core.proofs.MixedParts.{first_parts}
 use Rattle.kdf_core.proofs.scrypt.mix_parts.Given as goal
 
 -- the parts so far are mixed, and those to come are as they were

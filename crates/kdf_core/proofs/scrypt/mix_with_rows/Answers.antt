@@ -2,8 +2,8 @@ use Rattle.std.proofs.Common.{◌≡◌, ◌+◌, ◌*◌, ap, ◌∙◌, arith}
 use Rattle.std.specs.Fn.{iterate}
 use Rattle.prims_core.specs.Diagonals.{in_rows}
 use Rattle.kdf_core.specs.Scrypt.{mixed_back}
-use Rattle.prims_core.proofs.FillFacts.{iterate-two_more, mixes-more}
-use Rattle.kdf_core.proofs.ScryptLemmas.{even}
+use Rattle.prims_core.proofs.FilledTable.{iterate-two_more, mixes-more}
+use Rattle.kdf_core.proofs.ScryptBounds.{even}
 use Rattle.kdf_core.proofs.scrypt.mix_with_rows.Goals as goal
 
 pub mixing-preserved : goal.mixing-preserved

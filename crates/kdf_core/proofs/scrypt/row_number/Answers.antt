@@ -1,8 +1,8 @@
 use Rattle.std.proofs.Common.{◌%◌, ◌-◌, ◌≤◌, sym, ap, ◌∙◌, length, get_or, arith}
 use Rattle.prims_core.specs.Diagonals.{in_rows}
-use Rattle.prims_core.proofs.InRowsFacts.{length-in_rows}
+use Rattle.prims_core.proofs.BlockFacts.{length-in_rows}
 use Rattle.kdf_core.specs.Scrypt.{integerify}
-use Rattle.kdf_core.proofs.ScryptLemmas.{first_word-in_rows, integerify-mod}
+use Rattle.kdf_core.proofs.Integerify.{first_word-in_rows, integerify-mod}
 use Rattle.kdf_core.proofs.scrypt.row_number.Goals as goal
 
 pub returns : goal.returns

@@ -10,7 +10,7 @@ use Rattle.kdf_core.specs.Hmac.{key_digests}
 use Rattle.kdf_core.specs.HmacMessages.{key_bytes}
 use Rattle.kdf_core.proofs.MessageCounts.{scrypt-in_all}
 use Rattle.kdf_core.proofs.ScryptBounds.{rows_power, parts-product, parts-fit, table-product, all_bytes-fit}
-use Rattle.kdf_core.proofs.ScryptValue.{after_two_growths, same_length, counts-are, same_counts, digests-are, bytes-are, value-is}
+use Rattle.kdf_core.proofs.ScryptResult.{after_two_growths, same_length, counts-are, same_counts, digests-are, bytes-are, value-is}
 use Rattle.kdf_core.proofs.scrypt.scrypt.Goals as goal
 
 pub new-requires-2-clause-fits : goal.new-requires-2-clause-fits

@@ -1,7 +1,7 @@
 use Rattle.std.proofs.Common.{◌≡◌, ℕ, List, [], ◌∷◌, ◌++◌, ◌+◌, ◌<◌, ◌^◌, length, true, false, Some, refl, sym, ap, ◌∙◌, subst, arith, length-append}
 use Rattle.std.specs.Prelude.{Contains, All}
 use Rattle.prims_core.specs.Alphabet.{alphabet, numerals}
-use Rattle.prims_core.proofs.NumeralFacts.{All-numerals, length-numerals, numerals-injective, below-more, digits_none, digits_more, digits_count, digits_all, stranger}
+use Rattle.prims_core.proofs.NumeralFacts.{All-numerals, length-numerals, numerals-injective, below-more, digits_none, digits_more, digits_count, digits_all, not_all_contained}
 use Rattle.prims_core.proofs.alphabet.read_30.Goals as goal
 
 pub returns-then-digits-ne5-clause-inverse : goal.returns-then-digits-ne5-clause-inverse
@@ -18,7 +18,7 @@ digits-init c = record {
 stranger_here : (c : goal.After-from_residual) → All (Contains alphabet) c.args.digits.now → ⊥
 stranger_here c all =
     let strange : Contains alphabet c.in-Some.digit.now → ⊥ = λ inside. (let no : false ≡ true = c.in_err-value_of.ensures.accepts.1 inside in cc) in
-    stranger c.next.new.self.iter.rest.now (numerals (length c.digits.yielded) c.digits.number)
+    not_all_contained c.next.new.self.iter.rest.now (numerals (length c.digits.yielded) c.digits.number)
     c.args.digits.now c.in-Some.digit.now
     (ap (λ (xs : List ℕ). xs ++ numerals (length c.digits.yielded) c.digits.number) (sym c.in-Some.ensures.steps)
     ∙ c.digits.invariant.split) strange all

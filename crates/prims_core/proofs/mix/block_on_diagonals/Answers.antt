@@ -1,6 +1,6 @@
 use Rattle.std.proofs.Common.{◌*◌, ◌+◌, ◌≤◌, length, ap, ◌∙◌, sym, arith, length-take, length-drop}
 use Rattle.prims_core.specs.Diagonals.{block_in_rows}
-use Rattle.prims_core.proofs.InRowsFacts.{block_at-in_rows}
+use Rattle.prims_core.proofs.BlockFacts.{block_at-in_rows}
 use Rattle.prims_core.proofs.mix.block_on_diagonals.Goals as goal
 
 pub of_diagonals-requires : goal.of_diagonals-requires

@@ -2,8 +2,8 @@ use Rattle.std.proofs.Common.{◌≡◌, ℕ, ◌+◌, ◌*◌, ◌/◌, ◌≤�
 use Rattle.prims_core.specs.BlockMix.{block_at, x_after, block_mix}
 use Rattle.prims_core.specs.Diagonals.{in_rows}
 use Rattle.prims_core.specs.Private.Mixing.{mixed_block, y_at}
-use Rattle.prims_core.proofs.InRowsFacts.{length-in_rows}
-use Rattle.prims_core.proofs.MixFacts.{x_after-none, x_after-more, in_order, block_more}
+use Rattle.prims_core.proofs.BlockFacts.{length-in_rows}
+use Rattle.prims_core.proofs.MixedBlocks.{x_after-none, x_after-more, in_order, block_more}
 use Rattle.prims_core.proofs.mix.mix_and_append.Goals as goal
 
 pub block_on_diagonals-x-requires : goal.block_on_diagonals-x-requires

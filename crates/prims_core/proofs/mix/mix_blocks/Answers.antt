@@ -1,7 +1,7 @@
 use Rattle.std.proofs.Common.{◌≡◌, ◌+◌, ◌/◌, length, ap₂, sym, ◌∙◌, arith}
 use Rattle.prims_core.specs.BlockMix.{x_after, block_mix}
 use Rattle.prims_core.specs.Private.Mixing.{mixed_block, y_at}
-use Rattle.prims_core.proofs.MixFacts.{x_after-none, x_after-more, in_order}
+use Rattle.prims_core.proofs.MixedBlocks.{x_after-none, x_after-more, in_order}
 use Rattle.prims_core.proofs.mix.mix_blocks.Goals as goal
 
 pub mixing-init : goal.mixing-init

@@ -1,6 +1,6 @@
 use Rattle.std.proofs.Common.{◌≡◌, length, arith}
 use Rattle.prims_core.specs.Diagonals.{in_rows}
-use Rattle.prims_core.proofs.InRowsFacts.{length-in_rows}
+use Rattle.prims_core.proofs.BlockFacts.{length-in_rows}
 use Rattle.prims_core.proofs.WordFacts.{length-xor_lists}
 use Rattle.prims_core.proofs.mix.mix_xor_diagonals.Goals as goal
 

@@ -1,5 +1,5 @@
 use Rattle.std.proofs.Common.{◌∙◌, arith}
-use Rattle.prims_core.proofs.MixFacts.{placed_more}
+use Rattle.prims_core.proofs.MixedBlocks.{placed_more}
 use Rattle.prims_core.proofs.mix.put_result.Goals as goal
 
 pub returns : goal.returns

@@ -1,7 +1,7 @@
 use Rattle.std.proofs.Common.{◌≡◌, ℕ, ◌+◌, ◌-◌, ◌*◌, ◌/◌, ◌<◌, length, take, drop, refl, ap, ◌∙◌, arith}
 use Rattle.prims_core.specs.BlockMix.{block_at}
 use Rattle.prims_core.specs.Diagonals.{block_in_rows, in_rows}
-use Rattle.prims_core.proofs.InRowsFacts.{length-in_rows, block_at-in_rows, same_blocks, turned-more}
+use Rattle.prims_core.proofs.BlockFacts.{length-in_rows, block_at-in_rows, same_blocks, rearranged-more}
 use Rattle.prims_core.proofs.mix.to_diagonals.Goals as goal
 
 pub turning-init : goal.turning-init
@@ -16,7 +16,7 @@ turning-preserved c =
     let size : 16 * i + 16 - 16 * i ≡ 16 = omega arith in
     let read : take (16 * i + 16 - 16 * i) (drop (16 * i) c.turning.words) ≡ block_at i c.turning.words =
     ap (λ (k : ℕ). take k (drop (16 * i) c.turning.words)) size in
-    let more = turned-more n i (16 * i + 16 - 16 * i) (λ k b. block_in_rows b ≡ block_at k c.args.words.now) c.args.words.now c.turning.words c.store_diagonals.new.words whole inside size
+    let more = rearranged-more n i (16 * i + 16 - 16 * i) (λ k b. block_in_rows b ≡ block_at k c.args.words.now) c.args.words.now c.turning.words c.store_diagonals.new.words whole inside size
     (omega arith) (c.store_diagonals.ensures ∙ c.of-block.ensures ∙ read ∙ c.turning.invariant.rest i (omega arith))
     c.turning.invariant.done c.turning.invariant.rest in record {
       length = omega arith;

@@ -1,20 +1,20 @@
 use Rattle.std.proofs.Common.{refl, arith, rules}
 use Rattle.prims_core.specs.Words.{chunks_exact}
 use Rattle.prims_core.specs.Salsa.{row_round}
-use Rattle.prims_core.proofs.LaneFacts.{joined}
+use Rattle.prims_core.proofs.RotatedLanes.{lanes_of_twice}
 use Rattle.prims_core.proofs.salsa.row_round.Goals as goal
 
 pub returns-clause-rows : goal.returns-clause-rows
 unfolding row_round chunks_exact
 returns-clause-rows c =
     let x = c.x.inside in
-    let two = joined x.second c.x.invariant.1 in
-    let three = joined x.third c.x.invariant.2 in
-    let four = joined x.fourth c.x.invariant.3 in
+    let two = lanes_of_twice x.second c.x.invariant.1 in
+    let three = lanes_of_twice x.third c.x.invariant.2 in
+    let four = lanes_of_twice x.fourth c.x.invariant.3 in
     let new = c.quarter_rounds.result in
-    let to_four = joined new.1 (search rules) in
-    let to_three = joined new.2 (search rules) in
-    let to_two = joined new.3 (search rules) in
+    let to_four = lanes_of_twice new.1 (search rules) in
+    let to_three = lanes_of_twice new.2 (search rules) in
+    let to_two = lanes_of_twice new.3 (search rules) in
     rw (
       to_four.0,
       to_four.1,

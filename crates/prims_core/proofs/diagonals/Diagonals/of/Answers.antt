@@ -1,7 +1,7 @@
 use Rattle.std.proofs.Common.{arith}
 use Rattle.std.proofs.lemmas.List.{take_all}
-use Rattle.prims_core.proofs.DiagonalFacts.{picked}
+use Rattle.prims_core.proofs.FourDiagonals.{loaded_from_rows}
 use Rattle.prims_core.proofs.diagonals.Diagonals.of.Goals as goal
 
 pub returns : goal.returns
-returns c = rw (take_all 16 c.args.words.now (omega arith)) (picked c.args.words.now c.requires)
+returns c = rw (take_all 16 c.args.words.now (omega arith)) (loaded_from_rows c.args.words.now c.requires)

@@ -1,11 +1,11 @@
 use Rattle.std.proofs.Common.{arith, ◌∙◌}
 use Rattle.std.proofs.lemmas.Simd.{put_chunk_whole}
-use Rattle.prims_core.proofs.DiagonalFacts.{in_rows}
+use Rattle.prims_core.proofs.FourDiagonals.{stored_in_rows}
 use Rattle.prims_core.proofs.diagonals.Diagonals.store.Goals as goal
 
 pub returns : goal.returns
 returns c =
     put_chunk_whole c.args.words.now _ (omega arith)
-    ∙ in_rows c.self.inside.first c.self.inside.second c.self.inside.third c.self.inside.fourth
+    ∙ stored_in_rows c.self.inside.first c.self.inside.second c.self.inside.third c.self.inside.fourth
     c.self.invariant.0 c.self.invariant.2
     ∙ c.self.view_is

@@ -1,12 +1,12 @@
 use Rattle.std.proofs.Common.{arith, ap, ◌∙◌}
 use Rattle.std.proofs.lemmas.Simd.{put_chunk_whole}
 use Rattle.prims_core.specs.Diagonals.{block_in_rows}
-use Rattle.prims_core.proofs.DiagonalFacts.{on_diagonals}
+use Rattle.prims_core.proofs.FourDiagonals.{stored_by_diagonals}
 use Rattle.prims_core.proofs.diagonals.Diagonals.store_diagonals.Goals as goal
 
 pub returns : goal.returns
 returns c =
     ap block_in_rows (put_chunk_whole c.args.words.now _ (omega arith))
-    ∙ on_diagonals c.self.inside.first c.self.inside.second c.self.inside.third c.self.inside.fourth
+    ∙ stored_by_diagonals c.self.inside.first c.self.inside.second c.self.inside.third c.self.inside.fourth
     c.self.invariant.0 c.self.invariant.2
     ∙ c.self.view_is

@@ -1,6 +1,6 @@
 use Rattle.std.proofs.Common.{◌∙◌, ap₂}
 use Rattle.std.specs.Simd.Lanes.{zip2}
-use Rattle.prims_core.proofs.DiagonalFacts.{words_on-zip2, four_words-zip2}
+use Rattle.prims_core.proofs.FourDiagonals.{words_on-zip2, four_words-zip2}
 use Rattle.prims_core.proofs.diagonals.Diagonals.sum.Goals as goal
 
 pub invariant_of-result : goal.invariant_of-result

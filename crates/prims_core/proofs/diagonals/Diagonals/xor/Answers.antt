@@ -1,7 +1,7 @@
 use Rattle.std.proofs.Common.{◌∙◌, ap₂}
 use Rattle.std.specs.Simd.Lanes.{zip2}
 use Rattle.prims_core.specs.Words.{xor_lists}
-use Rattle.prims_core.proofs.DiagonalFacts.{words_on-zip2, four_words-zip2}
+use Rattle.prims_core.proofs.FourDiagonals.{words_on-zip2, four_words-zip2}
 use Rattle.prims_core.proofs.diagonals.Diagonals.xor.Goals as goal
 
 pub invariant_of-result : goal.invariant_of-result

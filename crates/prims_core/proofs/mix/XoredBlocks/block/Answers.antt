@@ -1,7 +1,7 @@
 use Rattle.std.proofs.Common.{◌*◌, ap₂, ◌∙◌, sym, arith}
 use Rattle.prims_core.specs.Diagonals.{in_rows}
 use Rattle.prims_core.specs.Words.{xor_lists}
-use Rattle.prims_core.proofs.InRowsFacts.{length-in_rows}
+use Rattle.prims_core.proofs.BlockFacts.{length-in_rows}
 use Rattle.prims_core.proofs.WordFacts.{part-xor_lists, shorter-xor_lists}
 use Rattle.prims_core.proofs.mix.XoredBlocks.block.Goals as goal
 

@@ -1,8 +1,8 @@
 use Rattle.std.proofs.Common.{rules, ◌≡◌, ℕ, ◌+◌, ◌*◌, ◌<◌, length, sym, ap, ◌∙◌, arith, length-append}
 use Rattle.prims_core.specs.BlockMix.{block_mix}
 use Rattle.prims_core.specs.Diagonals.{in_rows}
-use Rattle.prims_core.proofs.RowFacts.{row_count, same_words}
-use Rattle.prims_core.proofs.FillFacts.{mixings-none, mixings-two_more, mixes-more, two_rows, filled-held, filled-shape, iterate-two_more}
+use Rattle.prims_core.proofs.TableFacts.{row_count, same_words}
+use Rattle.prims_core.proofs.FilledTable.{mixings-none, mixings-two_more, mixes-more, room_for_two_rows, filled-held, filled-shape, iterate-two_more}
 use Rattle.prims_core.proofs.table.Table.fill_by_mixing.Goals as goal
 
 pub filling-init : goal.filling-init
@@ -25,13 +25,13 @@ filling-init c =
 pub mix_and_append-requires-clause-fits : goal.mix_and_append-requires-clause-fits
 mix_and_append-requires-clause-fits c =
     let all = row_count _ _ _ _ c.self.view_is in
-    let two = two_rows (length c.args.self.now) (length c.args.x.now) c.filling.counter (omega (arith, all, c.filling-test.true)) in
+    let two = room_for_two_rows (length c.args.self.now) (length c.args.x.now) c.filling.counter (omega (arith, all, c.filling-test.true)) in
     omega (arith, two, c.filling.auto.x, c.filling.invariant.filled.long, c.filling.self-inside.words.ok.0, c.filling.invariant.room)
 
 pub mix_and_append-requires-in-filling-clause-fits : goal.mix_and_append-requires-in-filling-clause-fits
 mix_and_append-requires-in-filling-clause-fits c =
     let all = row_count _ _ _ _ c.self.view_is in
-    let two = two_rows (length c.args.self.now) (length c.args.x.now) c.filling.counter (omega (arith, all, c.filling-test.true)) in
+    let two = room_for_two_rows (length c.args.self.now) (length c.args.x.now) c.filling.counter (omega (arith, all, c.filling-test.true)) in
     let once = ap length c.mix_and_append.ensures.copied ∙ length-append c.filling.self-inside.words.items c.filling.x in
     let long : length c.mix_and_append.new.dst ≡ length c.args.x.now =
     omega (arith, c.mix_and_append.auto.dst, c.filling.auto.y, c.requires.blocks.2) in

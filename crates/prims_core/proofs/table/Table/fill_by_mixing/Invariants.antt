@@ -2,7 +2,7 @@ use Rattle.std.proofs.Common.{◌≡◌, ◌+◌, ◌*◌, ◌≤◌, length, ve
 use Rattle.std.specs.Fn.{iterate}
 use Rattle.prims_core.specs.BlockMix.{block_mix}
 use Rattle.prims_core.specs.Diagonals.{in_rows}
-use Rattle.prims_core.proofs.FillFacts.{HasMixings}
+use Rattle.prims_core.proofs.FilledTable.{HasMixings}
 use Rattle.prims_core.proofs.table.Table.fill_by_mixing.Given as goal
 
 -- two rows a turn, of which x holds the next

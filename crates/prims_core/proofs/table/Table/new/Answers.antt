@@ -1,6 +1,6 @@
 use Rattle.std.proofs.Common.{◌≡◌, ℕ, ◌-◌, ◌*◌, List, [], ◌++◌, length, replicate, Vec, Global, ap, ◌∙◌, arith}
 use Rattle.prims_core.specs.Memory.{rows_of, padded}
-use Rattle.prims_core.proofs.RowFacts.{rows_of-replicate, padded-filled}
+use Rattle.prims_core.proofs.TableFacts.{rows_of-replicate, padded-filled}
 use Rattle.prims_core.proofs.table.Table.new.Goals as goal
 use Rattle.prims_core.proofs.table.Table.new.Goals.{then-row_words-gt1024, else-row_words-gt1024}
 

@@ -1,6 +1,6 @@
 use Rattle.std.proofs.Common.{◌≡◌, ℕ, ◌+◌, ◌-◌, ◌*◌, ◌≤◌, List, take, drop, length, arith, ap, ◌∙◌}
 use Rattle.std.proofs.lemmas.List.{take-replicate}
-use Rattle.prims_core.proofs.RowFacts.{row_written_out, row_of_zeros, row_end, whole_rows}
+use Rattle.prims_core.proofs.TableFacts.{row_written_out, row_of_zeros, row_end, whole_rows}
 use Rattle.prims_core.proofs.table.Table.row.Goals as goal
 
 pub returns-then-end-len : goal.returns-then-end-len

@@ -2,7 +2,7 @@ use Rattle.std.proofs.Common.{◌≡◌, ℕ, ◌+◌, ◌-◌, ◌*◌, ◌≤�
 use Rattle.std.specs.Vec.{with_items}
 use borrow.Rule.Slice.PartMut.{put_mid}
 use Rattle.prims_core.specs.Memory.{rows_of, padded}
-use Rattle.prims_core.proofs.RowFacts.{row_end, same_words, same_rows, row_written, laid_out_after}
+use Rattle.prims_core.proofs.TableFacts.{row_end, same_words, same_rows, row_written, laid_out_after}
 use Rattle.prims_core.proofs.table.Table.set_row.Goals as goal
 
 pub copy_from_slice-requires : goal.copy_from_slice-requires

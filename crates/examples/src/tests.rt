@@ -1,0 +1,52 @@
+//! Examples by topic, from the alphabet up to whole commands, and what they have in common.
+
+mod alphabet;
+mod commands;
+mod costs;
+mod derivation;
+mod digests;
+mod errors;
+mod hashes;
+mod lines;
+mod mixing;
+mod settings;
+mod stored;
+
+use prims_core::meter::Meter;
+use std::alloc::{AllocError, Global};
+
+// Returns the bytes in hexadecimal, as the standards print them.
+fn hexadecimal(alloc: Global, bytes: &[u8]) -> Result<String, AllocError> {
+    let mut text = String::new(alloc);
+    for byte in bytes {
+        text.push_str(&format!(in alloc; "{byte:02x}")?)?;
+    }
+    Ok(text)
+}
+
+// Returns the five counts of a meter: digests, bytes, mixings, bytes of the table and of scratch memory.
+fn counts(meter: &Meter) -> [u128; 5] {
+    [
+        meter.digests(),
+        meter.bytes(),
+        meter.mixes(),
+        meter.table(),
+        meter.scratch(),
+    ]
+}
+
+// Returns a text with so many letters in its middle.
+fn padded(
+    alloc: Global,
+    front: &[u8],
+    letter: u8,
+    count: usize,
+    back: &[u8],
+) -> Result<Vec<u8>, AllocError> {
+    let mut text = Vec::from_slice(alloc, front)?;
+    for _ in 0..count {
+        text.push(letter)?;
+    }
+    text.extend_from_slice(back)?;
+    Ok(text)
+}

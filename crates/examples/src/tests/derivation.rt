@@ -1,0 +1,384 @@
+//! HMAC, PBKDF2 and scrypt, each with its work.
+
+use super::{counts, hexadecimal};
+use kdf_core::hmac::HmacKey;
+use kdf_core::params::Params;
+use kdf_core::pbkdf2::pbkdf2;
+use kdf_core::scrypt::scrypt;
+use kdf_core::work::scrypt_work;
+use prims_core::meter::Meter;
+use std::alloc::Global;
+use std::process::Abort;
+use std::test::Fail;
+
+// RFC 4231, section 4: cases 1 to 4, 6 and 7.
+const TAGS: [(&[u8], &[u8], &str); 6] = [
+    (
+        &[0x0b; 20],
+        b"Hi There",
+        "b0344c61d8db38535ca8afceaf0bf12b881dc200c9833da726e9376c2e32cff7",
+    ),
+    (
+        b"Jefe",
+        b"what do ya want for nothing?",
+        "5bdcc146bf60754e6a042426089575c75a003f089d2739839dec58b964ec3843",
+    ),
+    (
+        &[0xaa; 20],
+        &[0xdd; 50],
+        "773ea91e36800e46854db8ebd09181a72959098b3ef8c122d9635514ced565fe",
+    ),
+    (
+        &[
+            1, 2, 3, 4, 5, 6, 7, 8, 9, 10, 11, 12, 13, 14, 15, 16, 17, 18, 19, 20, 21, 22, 23, 24,
+            25,
+        ],
+        &[0xcd; 50],
+        "82558a389a443c0ea4cc819899f2083a85f0faa3e578f8077a2e3ff46729665b",
+    ),
+    (
+        &[0xaa; 131],
+        b"Test Using Larger Than Block-Size Key - Hash Key First",
+        "60e431591ee0b67f0d8a26aacbf5b77f8e0bc6213728c5140546040f0ee37f54",
+    ),
+    (
+        &[0xaa; 131],
+        b"This is a test using a larger than block-size key and a larger than block-size data. The key needs to be hashed before being used by the HMAC algorithm.",
+        "9b09ffa71b942fcb27635fbcd5b0e944bfdc63644f0713938a7f51535c3a35e2",
+    ),
+];
+
+// However the text is cut, and as often as one key is used.
+#[test]
+fn tags(rt: HostRuntime) -> Result<(), Fail> {
+    for (key, text, wanted) in TAGS {
+        let len = text.len();
+        assert!(rt; key.len() <= 131 && len <= 152);
+        let mut meter = Meter::new();
+        let hmac = HmacKey::new(key, &mut meter);
+        let (digests, bytes) = if key.len() > 64 {
+            (1, key.len() as u128)
+        } else {
+            (0, 0)
+        };
+        assert_eq!(rt; counts(&meter), [digests, bytes, 0, 0, 0], "a key");
+        let whole = hexadecimal(rt.alloc(), &hmac.tag(b"", text, &mut meter))?;
+        let (a, b) = text.split_at(len / 2);
+        let halves = hexadecimal(rt.alloc(), &hmac.tag(a, b, &mut meter))?;
+        assert_eq!(rt; (whole.as_str(), halves.as_str()), (wanted, wanted));
+        let fed = bytes + 2 * (160 + len as u128);
+        assert_eq!(rt; counts(&meter), [digests + 4, fed, 0, 0, 0], "two tags");
+    }
+    Ok(())
+}
+
+#[test]
+fn a_tag_in_two_pieces(rt: HostRuntime) -> Result<(), Fail> {
+    let key = HmacKey::new(b"Jefe", &mut Meter::new());
+    let mut meter = Meter::new();
+    let tag = key.tag(b"what do ya want ", b"for nothing?", &mut meter);
+    assert_eq!(rt;
+        hexadecimal(rt.alloc(), &tag)?.as_str(),
+        "5bdcc146bf60754e6a042426089575c75a003f089d2739839dec58b964ec3843"
+    );
+    assert_eq!(rt; counts(&meter), [2, 188, 0, 0, 0]);
+    Ok(())
+}
+
+// The bytes of a block are not digested before; one more is.
+#[test]
+fn keys_of_a_block(rt: HostRuntime) {
+    let keys: [(&[u8], u128, u128); 2] = [(&[b'k'; 64], 0, 0), (&[b'k'; 65], 1, 65)];
+    for (key, digests, bytes) in keys {
+        assert!(rt; key.len() <= 65);
+        let mut meter = Meter::new();
+        let _ = HmacKey::new(key, &mut meter);
+        assert_eq!(rt; counts(&meter), [digests, bytes, 0, 0, 0]);
+    }
+}
+
+#[derive(Clone, Copy)]
+struct Derivation {
+    password: &'static [u8],
+    salt: &'static [u8],
+    rounds: u32,
+    digests: u128,
+    bytes: u128,
+    wanted: &'static str,
+}
+
+// The first vector is from RFC 7914, section 11. The other vector of that section has 80000 rounds, too many for a
+// test. The next ones have the inputs of RFC 6070, except the one with 16777216 rounds, and then one has a block that is
+// cut, and one no bytes. RFC 6070 has outputs for SHA-1, so theirs are from Python's `hashlib`.
+const DERIVATIONS: [Derivation; 8] = [
+    Derivation {
+        password: b"passwd",
+        salt: b"salt",
+        rounds: 1,
+        digests: 4,
+        bytes: 336,
+        wanted: "55ac046e56e3089fec1691c22544b605f94185216dde0465e68b9d57c20dacbc49ca9cccf179b645991664b39d77ef317c71b845b1e30bd509112041d3a19783",
+    },
+    Derivation {
+        password: b"password",
+        salt: b"salt",
+        rounds: 1,
+        digests: 2,
+        bytes: 168,
+        wanted: "120fb6cffcf8b32c43e7225256c4f837a86548c92ccc35480805987cb70be17b",
+    },
+    Derivation {
+        password: b"password",
+        salt: b"salt",
+        rounds: 2,
+        digests: 4,
+        bytes: 360,
+        wanted: "ae4d0c95af6b46d32d0adff928f06dd02a303f8ef3c251dfd6e2d85a95474c43",
+    },
+    Derivation {
+        password: b"password",
+        salt: b"salt",
+        rounds: 4096,
+        digests: 8192,
+        bytes: 786_408,
+        wanted: "c5e478d59288c841aa530db6845c4c8d962893a0",
+    },
+    Derivation {
+        password: b"passwordPASSWORDpassword",
+        salt: b"saltSALTsaltSALTsaltSALTsaltSALTsalt",
+        rounds: 4096,
+        digests: 8192,
+        bytes: 786_440,
+        wanted: "348c89dbcbd32b2f32d814b8116e84cf2b17347ebc1800181c",
+    },
+    Derivation {
+        password: b"pass\0word",
+        salt: b"sa\0lt",
+        rounds: 4096,
+        digests: 8192,
+        bytes: 786_409,
+        wanted: "89b69d0516f829893c696226650a8687",
+    },
+    Derivation {
+        password: b"password",
+        salt: b"salt",
+        rounds: 1,
+        digests: 4,
+        bytes: 336,
+        wanted: "120fb6cffcf8b32c43e7225256c4f837a86548c92ccc35480805987cb70be17b4d",
+    },
+    Derivation {
+        password: b"password",
+        salt: b"salt",
+        rounds: 1,
+        digests: 0,
+        bytes: 0,
+        wanted: "",
+    },
+];
+
+#[test]
+fn bytes_from_a_password(rt: HostRuntime) -> Result<(), Fail> {
+    for row in DERIVATIONS {
+        let count = row.wanted.len() / 2;
+        let rounds = row.rounds;
+        assert!(rt; row.password.len() <= 64 && row.salt.len() <= 64);
+        assert!(rt; 1 <= rounds && count <= 64);
+        let mut out = vec![in rt.alloc(); 0; count]?;
+        let mut meter = Meter::new();
+        let key = HmacKey::new(row.password, &mut meter);
+        pbkdf2(&key, row.salt, rounds, &mut out, &mut meter);
+        let told = hexadecimal(rt.alloc(), &out)?;
+        assert_eq!(rt;
+            (told.as_str(), counts(&meter)),
+            (row.wanted, [row.digests, row.bytes, 0, 0, 0]),
+            "{rounds} rounds, {count} bytes"
+        );
+    }
+    Ok(())
+}
+
+// The corners of the range and of the ceiling.
+#[test]
+fn parameters(rt: HostRuntime) {
+    let rows = [
+        (4, 1, 1, Ok(16)),
+        (15, 1, 256, Ok(32_768)),
+        (0, 1, 1, Err("scrypt range")),
+        (4, 0, 1, Err("scrypt range")),
+        (4, 1, 0, Err("scrypt range")),
+        (16, 1, 1, Err("scrypt range")),
+        (16, 1, 8_388_609, Err("scrypt range")),
+        (15, 1, 257, Err("above ceiling")),
+        (14, 1_073_741_823, 1_073_741_823, Err("above ceiling")),
+        (255, 4_294_967_295, 4_294_967_295, Err("above ceiling")),
+    ];
+    for (log_n, r, p, wanted) in rows {
+        let told = Params::new(log_n, r, p);
+        assert_eq!(rt;
+            told.map(|params| (params.log_n(), params.row_count(), params.r(), params.p()))
+                .map_err(|fault| fault.text()),
+            wanted.map(|row_count| (log_n, row_count, r, p)),
+            "log2 N = {log_n}, r = {r}, p = {p}"
+        );
+    }
+}
+
+#[derive(Clone, Copy)]
+struct Row {
+    password: &'static [u8],
+    salt: &'static [u8],
+    log_n: u8,
+    r: u32,
+    p: u32,
+    // Digests, bytes, mixings, bytes of the table and of the scratch.
+    work: [u64; 5],
+    wanted: &'static str,
+}
+
+// The first three are of RFC 7914, section 12, whose fourth asks for a table of 1 GiB, too much for a
+// test. The fourth is the first one, cut. The others are from Python's `hashlib`: a password at the end
+// of a block and one past it, three parts of more than one block, N of 2, a last block that is cut, no bytes, many parts,
+// and a part of many blocks.
+const ROWS: [Row; 11] = [
+    Row {
+        password: b"",
+        salt: b"",
+        log_n: 4,
+        r: 1,
+        p: 1,
+        work: [12, 1240, 32, 2048, 384],
+        wanted: "77d6576238657b203b19ca42c18a0497f16b4844e3074ae8dfdffa3fede21442fcd0069ded0948f8326a753a0fc81f17e8d3e0fb2e0d3628cf35e20c38d18906",
+    },
+    Row {
+        password: b"password",
+        salt: b"NaCl",
+        log_n: 10,
+        r: 8,
+        p: 16,
+        work: [1028, 119_112, 32_768, 1_048_576, 18_432],
+        wanted: "fdbabe1c9d3472007856e7190d01e9fe7c6ad7cbc8237830e77376634b3731622eaf30d92e22a3886ff109279d9830dac727afb94a83ee6d8360cbdfa2cc0640",
+    },
+    Row {
+        password: b"pleaseletmein",
+        salt: b"SodiumChloride",
+        log_n: 14,
+        r: 8,
+        p: 1,
+        work: [68, 8072, 32_768, 16_777_216, 3072],
+        wanted: "7023bdcb3afd7348461c06cd81fd38ebfda8fbba904f8e3ea9b543f6545da1f2d5432955613f0fcf62d49705242a9af9e61e85dc0d651e40dfcf017b45575887",
+    },
+    Row {
+        password: b"",
+        salt: b"",
+        log_n: 4,
+        r: 1,
+        p: 1,
+        work: [10, 948, 32, 2048, 384],
+        wanted: "77d6576238657b203b19ca42c18a0497f16b4844e3074ae8dfdffa3fede21442",
+    },
+    Row {
+        password: &[b'p'; 64],
+        salt: b"salt",
+        log_n: 3,
+        r: 2,
+        p: 3,
+        work: [52, 5896, 48, 2048, 1280],
+        wanted: "704a87a65331f619cda413cdfe4e16aafb2d7b82acbc3139d7bc5d70a10cbe389e",
+    },
+    Row {
+        password: &[b'p'; 65],
+        salt: b"salt",
+        log_n: 3,
+        r: 2,
+        p: 3,
+        work: [53, 5961, 48, 2048, 1280],
+        wanted: "b3f70ff505d25405507d6677e32b3e7a32a56debad93e352a3019912a441a81016",
+    },
+    Row {
+        password: b"pw",
+        salt: &[b's'; 70],
+        log_n: 1,
+        r: 1,
+        p: 2,
+        work: [18, 2292, 8, 256, 512],
+        wanted: "b7",
+    },
+    Row {
+        password: b"pw",
+        salt: b"",
+        log_n: 5,
+        r: 3,
+        p: 1,
+        work: [32, 4160, 64, 12_288, 1152],
+        wanted: "e9f1e5a52abc737ba95fb43b723123c8a67ad67998afce06cb028ed11a780f7a7c233660314e378bba4bcb5b117d638a456d8174e1d1cb4e79550ba8d28c9243ea067021399f4b95f471617881a3cec7067d0d953d1fc3a3b9f77f0f3c2fe65117086767",
+    },
+    Row {
+        password: b"pw",
+        salt: b"salt",
+        log_n: 4,
+        r: 1,
+        p: 1,
+        work: [8, 672, 32, 2048, 384],
+        wanted: "",
+    },
+    Row {
+        password: b"pw",
+        salt: b"salt",
+        log_n: 1,
+        r: 1,
+        p: 8193,
+        work: [65_546, 6_554_564, 32_772, 256, 1_048_960],
+        wanted: "678d9a80ce0193d6d1da2d0e769a072422e233dfbcc04a772561dd7b23ca24dd",
+    },
+    Row {
+        password: b"pw",
+        salt: b"salt",
+        log_n: 1,
+        r: 4097,
+        p: 1,
+        work: [32_778, 3_277_764, 4, 1_048_832, 1_573_248],
+        wanted: "6c67225ff3ca9b0cd5bdd4b9f8e2aa667d9ebfc755fcfe6bd12a8e29587d438b",
+    },
+];
+
+// Asserts a row's bytes, and its work, known before and counted.
+fn want(rt: &impl Abort, alloc: Global, row: &Row) -> Result<(), Fail> {
+    let (log_n, r, p, count) = (row.log_n, row.r, row.p, row.wanted.len() / 2);
+    assert!(rt; count <= 128 && row.password.len() <= 65 && row.salt.len() <= 70);
+    let params = Params::new(log_n, r, p)?;
+    let mut out = vec![in alloc; 7; count]?;
+    let mut meter = Meter::new();
+    scrypt(alloc, row.password, row.salt, &params, &mut out, &mut meter)?;
+    let work = scrypt_work(
+        &params,
+        row.password.len() as u64,
+        row.salt.len() as u64,
+        count as u64,
+    );
+    let told = hexadecimal(alloc, &out)?;
+    assert_eq!(rt;
+        (
+            told.as_str(),
+            [
+                work.digests,
+                work.bytes,
+                work.mixes,
+                work.table,
+                work.scratch
+            ]
+        ),
+        (row.wanted, row.work),
+        "of {log_n}, {r}, {p}, {count} bytes"
+    );
+    assert_eq!(rt; counts(&meter), row.work.map(|count| u128::from(count)));
+    Ok(())
+}
+
+#[test]
+fn bytes_by_scrypt(rt: HostRuntime) -> Result<(), Fail> {
+    for row in ROWS {
+        want(&rt, rt.alloc(), &row)?;
+    }
+    Ok(())
+}

@@ -1,0 +1,159 @@
+//! Hashes, with the counts of their work.
+
+use super::counts;
+use crypt_core::hash::hash;
+use crypt_core::md5crypt::md5crypt;
+use crypt_core::method::Method;
+use crypt_core::pack::pack;
+use crypt_core::password::Password;
+use crypt_core::setting::Setting;
+use crypt_core::shacrypt::shacrypt;
+use prims_core::counted::{CountedSha256, CountedSha512};
+use prims_core::meter::Meter;
+use std::test::Fail;
+
+// Digests of rising bytes and of zeros. The characters in between are those of a Python program.
+#[test]
+fn packed_digests(rt: HostRuntime) -> Result<(), Fail> {
+    for (method, length, step, wanted) in [
+        (Method::Md5crypt, 16, 1, "AM..BQE.CUU.DYk.3c./9."),
+        (Method::Md5crypt, 16, 0, "......................"),
+        (
+            Method::Sha256crypt,
+            32,
+            1,
+            "Ic..92E30M/1Lok.CE.43Yl1O.V/FQk46kV2RAF0Sw/",
+        ),
+        (
+            Method::Sha512crypt,
+            64,
+            1,
+            "eI/./gW3L6.9hUl.2sG4OIk9kgV/5215RUUAnsF08En5UgEBq201BQX6Xs.CtEm1EcH7a2lCwQW2Ho18dEVDz.",
+        ),
+        (
+            Method::Scrypt,
+            32,
+            1,
+            ".2U.1EE/4Q.07ck0AoU1D.F2GA/3JMl3MYV4PkF5Sw/",
+        ),
+    ] {
+        let mut digest = Vec::new(rt.alloc());
+        for n in 0..length as u8 {
+            digest.push(n * step)?;
+        }
+        assert!(rt; digest.len() == length);
+        let known = matches!(
+            (method, length),
+            (Method::Md5crypt, 16)
+                | (Method::Sha256crypt | Method::Scrypt, 32)
+                | (Method::Sha512crypt, 64)
+        );
+        assert!(rt; known);
+        let text = pack(method, digest.as_slice());
+        assert_eq!(rt; text.as_slice(), wanted.as_bytes(), "{method:?}");
+    }
+    Ok(())
+}
+
+// The hashes are those of openssl-passwd(1), of Drepper's specification and of RFC 7914's vectors. Those of the work of
+// SHA-crypt that depend on a digest are of a Python program.
+#[test]
+fn hashes(rt: HostRuntime) -> Result<(), Fail> {
+    for (setting, password, wanted, work) in [
+        (
+            "$1$xxxxxxxx",
+            "password",
+            "$1$xxxxxxxx$UYCIxa628.9qXjpQCjM4a.",
+            [1002, 36239, 0, 0, 0],
+        ),
+        (
+            "$5$saltstring",
+            "Hello world!",
+            "$5$saltstring$5B8vYYiY.CVt1RlTTf8KbXBH3hsxY/GNooZaBBGWEc5",
+            [5004, 307620, 0, 0, 0],
+        ),
+        (
+            "$6$rounds=10000$saltstringsaltstring",
+            "Hello world!",
+            "$6$rounds=10000$saltstringsaltst$OW1/O6BYHV6BcXZu8QVeXbDWra3Oeqh0sbHbbMCVNSnCM/UrjmM0Dp8vOuZeHBy/YTBmSK6H9qs/y3RnOaw5v.",
+            [10004, 971580, 0, 0, 0],
+        ),
+        (
+            "$6$rounds=5000$toolongsaltstring",
+            "This is just a test",
+            "$6$rounds=5000$toolongsaltstrin$lQ8jolhgVRVhY4b5pZKaysCLi0QBxGoNeKQzQ3glMhwllF7oGDZxUhx1yxdYcz/e1JSbq3y6JMxxl8audkUEm0",
+            [5004, 553274, 0, 0, 0],
+        ),
+        (
+            "$6$rounds=10$roundstoolow",
+            "the minimum number is still observed",
+            "$6$rounds=1000$roundstoolow$kUMsbe306n21p9R.FRkW3IGn.S9NPN0x50YhH1xhLsPuWGsUSklZt58jaTfF4ZEQpyUNGc0dqbpBYYBaHHrsX.",
+            [1004, 142068, 0, 0, 0],
+        ),
+        (
+            "$7$2/..../....",
+            "",
+            "$7$2/..../....$rNxJWVHNv/mCNcgE/f6/L4zO6Fos5c2uTzhyzoisI62",
+            [10, 948, 32, 2048, 384],
+        ),
+        (
+            "$7$86....E....NaCl",
+            "password",
+            "$7$86....E....NaCl$xffjQo7Bm/.SKRS4B2EuynbOLjAmXU5AbDbRXhoBl64",
+            [1026, 102564, 32768, 1048576, 18432],
+        ),
+        (
+            "$7$C6..../....SodiumChloride",
+            "pleaseletmein",
+            "$7$C6..../....SodiumChloride$kBGj9fHznVYFQMEn/qDCfrDevf9YDtcDdKvEqHJLV8D",
+            [66, 6884, 32768, 16777216, 3072],
+        ),
+        (
+            "$7$2/..../....",
+            "aaaaaaaaaaaaaaaaaaaaaaaaaaaaaaaaaaaaaaaaaaaaaaaaaaaaaaaaaaaaaaaaa",
+            "$7$2/..../....$pWNwo7oTCNG/Z4uq.MZTSTft0yHCfZpYFT4HyVyagB3",
+            [11, 1013, 32, 2048, 384],
+        ),
+    ] {
+        let setting = Setting::read(setting.as_bytes())?;
+        let password = Password::new(password.as_bytes())?;
+        let mut meter = Meter::new();
+        let hashed = hash(rt.alloc(), &password, &setting, &mut meter)?;
+        assert_eq!(rt; hashed.text(), wanted.as_bytes());
+        assert_eq!(rt; counts(&meter), work, "{wanted}");
+    }
+    Ok(())
+}
+
+// The digests that the hashes above pack, without a setting.
+#[test]
+fn digests_of_passwords(rt: HostRuntime) -> Result<(), Fail> {
+    let mut meter = Meter::new();
+    let md5 = md5crypt(&Password::new(b"password")?, b"xxxxxxxx", &mut meter);
+    assert_eq!(rt;
+        pack(Method::Md5crypt, &md5).as_slice(),
+        b"UYCIxa628.9qXjpQCjM4a.".as_slice()
+    );
+    assert_eq!(rt; counts(&meter), [1002, 36239, 0, 0, 0]);
+    let mut meter = Meter::new();
+    let sha256 = shacrypt::<CountedSha256>(
+        &Password::new(b"Hello world!")?,
+        b"saltstring",
+        5000,
+        &mut meter,
+    );
+    assert_eq!(rt;
+        pack(Method::Sha256crypt, &sha256).as_slice(),
+        b"5B8vYYiY.CVt1RlTTf8KbXBH3hsxY/GNooZaBBGWEc5".as_slice()
+    );
+    assert_eq!(rt; counts(&meter), [5004, 307620, 0, 0, 0]);
+    let mut meter = Meter::new();
+    let password = Password::new(b"This is just a test")?;
+    let sha512 = shacrypt::<CountedSha512>(&password, b"toolongsaltstrin", 5000, &mut meter);
+    assert_eq!(rt;
+        pack(Method::Sha512crypt, &sha512).as_slice(),
+        b"lQ8jolhgVRVhY4b5pZKaysCLi0QBxGoNeKQzQ3glMhwllF7oGDZxUhx1yxdYcz/e1JSbq3y6JMxxl8audkUEm0".as_slice()
+    );
+    assert_eq!(rt; counts(&meter), [5004, 553274, 0, 0, 0]);
+    Ok(())
+}

@@ -1,0 +1,295 @@
+//! Salsa20/8 and scrypt's mixing of blocks, and the memory that scrypt works in.
+
+use super::{counts, hexadecimal};
+use prims_core::counted::{Counted, CountedSha256};
+use prims_core::meter::Meter;
+use prims_core::mix::{block_mix, from_diagonals, mix_xor_diagonals, to_diagonals};
+use prims_core::salsa::salsa8;
+use prims_core::scratch::{ByteScratch, WordScratch};
+use prims_core::table::Table;
+use prims_core::words::{load_words, store_words};
+use std::alloc::Global;
+use std::process::Abort;
+use std::test::Fail;
+
+// The input of RFC 7914, section 8.
+const BLOCK: [u8; 64] = [
+    0x7e, 0x87, 0x9a, 0x21, 0x4f, 0x3e, 0xc9, 0x86, 0x7c, 0xa9, 0x40, 0xe6, 0x41, 0x71, 0x8f, 0x26,
+    0xba, 0xee, 0x55, 0x5b, 0x8c, 0x61, 0xc1, 0xb5, 0x0d, 0xf8, 0x46, 0x11, 0x6d, 0xcd, 0x3b, 0x1d,
+    0xee, 0x24, 0xf3, 0x19, 0xdf, 0x9b, 0x3d, 0x85, 0x14, 0x12, 0x1e, 0x4b, 0x5a, 0xc5, 0xaa, 0x32,
+    0x76, 0x02, 0x1d, 0x29, 0x09, 0xc7, 0x48, 0x29, 0xed, 0xeb, 0xc6, 0x8d, 0xb8, 0xb8, 0xc2, 0x5e,
+];
+
+#[test]
+fn a_block(rt: HostRuntime) -> Result<(), Fail> {
+    let mut words = [0; 16];
+    load_words(&BLOCK, &mut words);
+    salsa8(&mut words);
+    let mut bytes = [0; 64];
+    store_words(&words, &mut bytes);
+    assert_eq!(rt;
+        hexadecimal(rt.alloc(), &bytes)?.as_str(),
+        "a41f859c6608cc993b81cacb020cef05044b2181a2fd337dfd7b1c6396682f29\
+         b4393168e3c9e6bcfe6bc5b7a06d96bae424cc102c91745c24ad673dc7618f81",
+        "RFC 7914, section 8"
+    );
+    let mut zeros = [0; 16];
+    salsa8(&mut zeros);
+    assert_eq!(rt; zeros, [0; 16]);
+    Ok(())
+}
+
+// 64 blocks, each the plain form's result for the one before, from the words 0 to 15 on.
+#[test]
+fn lanes_as_word_by_word(rt: HostRuntime) {
+    let mut block = [0, 1, 2, 3, 4, 5, 6, 7, 8, 9, 10, 11, 12, 13, 14, 15];
+    for turn in 0..64_u32 {
+        let mut words = block;
+        salsa8(&mut words);
+        block = word_by_word(block);
+        assert_eq!(rt; words, block, "block {turn}");
+    }
+}
+
+// Salsa20/8 without lanes: a quarter round of four words at a time.
+fn word_by_word(block: [u32; 16]) -> [u32; 16] {
+    let mut x = block;
+    for _round in 0..4_u32 {
+        x = double_round(x);
+    }
+    let mut sum = block;
+    for k in 0..16 {
+        sum[k] = sum[k].wrapping_add(x[k]);
+    }
+    sum
+}
+
+// The quarter rounds of the columns, and then those of the rows.
+fn double_round(x: [u32; 16]) -> [u32; 16] {
+    let mut x = x;
+    for [a, b, c, d] in [
+        [0, 4, 8, 12],
+        [5, 9, 13, 1],
+        [10, 14, 2, 6],
+        [15, 3, 7, 11],
+        [0, 1, 2, 3],
+        [5, 6, 7, 4],
+        [10, 11, 8, 9],
+        [15, 12, 13, 14],
+    ] {
+        x[b % 16] ^= x[a % 16].wrapping_add(x[d % 16]).rotate_left(7);
+        x[c % 16] ^= x[b % 16].wrapping_add(x[a % 16]).rotate_left(9);
+        x[d % 16] ^= x[c % 16].wrapping_add(x[b % 16]).rotate_left(13);
+        x[a % 16] ^= x[d % 16].wrapping_add(x[c % 16]).rotate_left(18);
+    }
+    x
+}
+
+// The input of RFC 7914, section 9.
+const BLOCKS: [u8; 128] = [
+    0xf7, 0xce, 0x0b, 0x65, 0x3d, 0x2d, 0x72, 0xa4, 0x10, 0x8c, 0xf5, 0xab, 0xe9, 0x12, 0xff, 0xdd,
+    0x77, 0x76, 0x16, 0xdb, 0xbb, 0x27, 0xa7, 0x0e, 0x82, 0x04, 0xf3, 0xae, 0x2d, 0x0f, 0x6f, 0xad,
+    0x89, 0xf6, 0x8f, 0x48, 0x11, 0xd1, 0xe8, 0x7b, 0xcc, 0x3b, 0xd7, 0x40, 0x0a, 0x9f, 0xfd, 0x29,
+    0x09, 0x4f, 0x01, 0x84, 0x63, 0x95, 0x74, 0xf3, 0x9a, 0xe5, 0xa1, 0x31, 0x52, 0x17, 0xbc, 0xd7,
+    0x89, 0x49, 0x91, 0x44, 0x72, 0x13, 0xbb, 0x22, 0x6c, 0x25, 0xb5, 0x4d, 0xa8, 0x63, 0x70, 0xfb,
+    0xcd, 0x98, 0x43, 0x80, 0x37, 0x46, 0x66, 0xbb, 0x8f, 0xfc, 0xb5, 0xbf, 0x40, 0xc2, 0x54, 0xb0,
+    0x67, 0xd2, 0x7c, 0x51, 0xce, 0x4a, 0xd5, 0xfe, 0xd8, 0x29, 0xc9, 0x0b, 0x50, 0x5a, 0x57, 0x1b,
+    0x7f, 0x4d, 0x1c, 0xad, 0x6a, 0x52, 0x3c, 0xda, 0x77, 0x0e, 0x67, 0xbc, 0xea, 0xaf, 0x7e, 0x89,
+];
+
+// Its output.
+const MIXED: [u8; 128] = [
+    0xa4, 0x1f, 0x85, 0x9c, 0x66, 0x08, 0xcc, 0x99, 0x3b, 0x81, 0xca, 0xcb, 0x02, 0x0c, 0xef, 0x05,
+    0x04, 0x4b, 0x21, 0x81, 0xa2, 0xfd, 0x33, 0x7d, 0xfd, 0x7b, 0x1c, 0x63, 0x96, 0x68, 0x2f, 0x29,
+    0xb4, 0x39, 0x31, 0x68, 0xe3, 0xc9, 0xe6, 0xbc, 0xfe, 0x6b, 0xc5, 0xb7, 0xa0, 0x6d, 0x96, 0xba,
+    0xe4, 0x24, 0xcc, 0x10, 0x2c, 0x91, 0x74, 0x5c, 0x24, 0xad, 0x67, 0x3d, 0xc7, 0x61, 0x8f, 0x81,
+    0x20, 0xed, 0xc9, 0x75, 0x32, 0x38, 0x81, 0xa8, 0x05, 0x40, 0xf6, 0x4c, 0x16, 0x2d, 0xcd, 0x3c,
+    0x21, 0x07, 0x7c, 0xfe, 0x5f, 0x8d, 0x5f, 0xe2, 0xb1, 0xa4, 0x16, 0x8f, 0x95, 0x36, 0x78, 0xb7,
+    0x7d, 0x3b, 0x3d, 0x80, 0x3b, 0x60, 0xe4, 0xab, 0x92, 0x09, 0x96, 0xe5, 0x9b, 0x4d, 0x53, 0xb6,
+    0x5d, 0x2a, 0x22, 0x58, 0x77, 0xd5, 0xed, 0xf5, 0x84, 0x2c, 0xb9, 0xf1, 0x4e, 0xef, 0xe4, 0x25,
+];
+
+#[test]
+fn blocks(rt: HostRuntime) {
+    let mut words = [0; 32];
+    load_words(&BLOCKS, &mut words);
+    let mut mixed = [7; 32];
+    block_mix(&words, &mut mixed, &mut Meter::new());
+    let mut bytes = [0; 128];
+    store_words(&mixed, &mut bytes);
+    assert_eq!(rt; bytes, MIXED, "RFC 7914, section 9");
+    let mut meter = Meter::new();
+    block_mix(&[0; 32], &mut mixed, &mut meter);
+    assert_eq!(rt; (mixed, counts(&meter)), ([0; 32], [0, 0, 1, 0, 0]));
+}
+
+// Returns the SHA-256 of words, lowest byte first.
+fn digest_of(alloc: Global, words: &[u32]) -> Result<String, Fail> {
+    let mut bytes = Vec::new(alloc);
+    for word in words {
+        bytes.extend_from_slice(&word.to_le_bytes())?;
+    }
+    let mut meter = Meter::new();
+    let mut running = CountedSha256::begin();
+    running.feed(&mut meter, bytes.as_slice());
+    Ok(hexadecimal(alloc, &running.finish(&mut meter))?)
+}
+
+// Asserts the mixing of 2r blocks of the bytes 3, 10, 17 and so on: of the blocks themselves, and of two whose XOR they are.
+fn want_mixed(rt: &impl Abort, alloc: Global, r: usize, wanted: &str) -> Result<(), Fail> {
+    assert!(rt; 1 <= r && r <= 6);
+    let mut bytes = vec![in alloc; 3u8; 128 * r]?;
+    let mut next = 3u8;
+    for byte in bytes.iter_mut() {
+        *byte = next;
+        next = next.wrapping_add(7);
+    }
+    let mut words = vec![in alloc; 0; 32 * r]?;
+    load_words(&bytes, &mut words);
+    let mut mixed = vec![in alloc; 7; 32 * r]?;
+    block_mix(&words, &mut mixed, &mut Meter::new());
+    assert_eq!(rt; digest_of(alloc, &mixed)?.as_str(), wanted, "r = {r}");
+    let mut row = vec![in alloc; 0; 32 * r]?;
+    let mut next = 0x9e37_79b9u32;
+    for (word, other) in words.iter_mut().zip(row.iter_mut()) {
+        *other = next;
+        *word ^= next;
+        next = next.wrapping_mul(0x0019_660d).wrapping_add(1);
+    }
+    to_diagonals(&mut words);
+    to_diagonals(&mut row);
+    let mut meter = Meter::new();
+    mix_xor_diagonals(&words, &row, &mut mixed, &mut meter);
+    from_diagonals(&mut mixed);
+    assert_eq!(rt;
+        (digest_of(alloc, &mixed)?.as_str(), counts(&meter)),
+        (wanted, [0, 0, 1, 0, 0]),
+        "by diagonals, r = {r}"
+    );
+    Ok(())
+}
+
+// The SHA-256 of what a Python program mixes, which gives the vector above too.
+#[test]
+fn more_blocks(rt: HostRuntime) -> Result<(), Fail> {
+    for (r, wanted) in [
+        (
+            2,
+            "badb34e22ec69e60102ad17ee68c6e2632abcc7ec97dd3c296864606254f62bf",
+        ),
+        (
+            3,
+            "760daeb4945129570c54b981e214cfc06e5a37dd309663a8994aad3d752aee2e",
+        ),
+        (
+            6,
+            "f218b066a7031133a5c10c4247f91bb31f8ee96d926cdc3614dce6bcc961f39e",
+        ),
+    ] {
+        want_mixed(&rt, rt.alloc(), r, wanted)?;
+    }
+    Ok(())
+}
+
+// The words 0 to 15 are their own numbers: the matrix's diagonals as Salsa20 lists them.
+#[test]
+fn a_block_by_its_diagonals(rt: HostRuntime) {
+    let rows = [0, 1, 2, 3, 4, 5, 6, 7, 8, 9, 10, 11, 12, 13, 14, 15];
+    let mut words = rows;
+    to_diagonals(&mut words);
+    let diagonals = [0, 5, 10, 15, 4, 9, 14, 3, 8, 13, 2, 7, 12, 1, 6, 11];
+    assert_eq!(rt; words, diagonals);
+    from_diagonals(&mut words);
+    assert_eq!(rt; words, rows);
+}
+
+#[test]
+fn a_table(rt: HostRuntime) -> Result<(), Fail> {
+    let mut meter = Meter::new();
+    let mut table = Table::new(rt.alloc(), 3, 32, &mut meter)?;
+    let mut row = [0; 32];
+    for (i, word) in row.iter_mut().enumerate() {
+        *word = i as u32 + 1;
+    }
+    table.set_row(1, &row);
+    let zeros = [0; 32];
+    assert_eq!(rt;
+        (table.row(0), table.row(1), table.row(2)),
+        (zeros.as_slice(), row.as_slice(), zeros.as_slice())
+    );
+    assert_eq!(rt; counts(&meter), [0, 0, 0, 384, 0]);
+    Ok(())
+}
+
+#[test]
+fn a_table_of_long_rows(rt: HostRuntime) -> Result<(), Fail> {
+    let mut table = Table::new(rt.alloc(), 3, 1025, &mut Meter::new())?;
+    let (zeros, ones) = ([0; 1025], [1; 1025]);
+    table.set_row(1, &ones);
+    assert_eq!(rt;
+        (table.row(0), table.row(1), table.row(2)),
+        (zeros.as_slice(), ones.as_slice(), zeros.as_slice())
+    );
+    Ok(())
+}
+
+// The first loop of scryptROMix, twice over the same table. The blocks are those of RFC 7914, section 9.
+#[test]
+fn a_table_filled_by_mixing(rt: HostRuntime) -> Result<(), Fail> {
+    let (mut first, mut second) = ([0; 32], [0; 32]);
+    load_words(&BLOCKS, &mut first);
+    load_words(&MIXED, &mut second);
+    let mut third = [0; 32];
+    block_mix(&second, &mut third, &mut Meter::new());
+    to_diagonals(&mut first);
+    to_diagonals(&mut second);
+    to_diagonals(&mut third);
+    let mut meter = Meter::new();
+    let mut table = Table::new(rt.alloc(), 2, 32, &mut meter)?;
+    let (mut x, mut y) = (first, [7; 32]);
+    table.fill_by_mixing(&mut x, &mut y, &mut meter);
+    assert_eq!(rt;
+        (table.row(0), table.row(1), x),
+        (first.as_slice(), second.as_slice(), third)
+    );
+    let mut x = second;
+    table.fill_by_mixing(&mut x, &mut y, &mut meter);
+    assert_eq!(rt;
+        (table.row(0), table.row(1)),
+        (second.as_slice(), third.as_slice()),
+        "filled already"
+    );
+    table.set_row(0, &first);
+    assert_eq!(rt;
+        (table.row(0), table.row(1)),
+        (first.as_slice(), third.as_slice()),
+        "a row that is set then"
+    );
+    assert_eq!(rt; counts(&meter), [0, 0, 4, 256, 0]);
+    Ok(())
+}
+
+#[test]
+fn memory_that_is_counted(rt: HostRuntime) -> Result<(), Fail> {
+    let mut meter = Meter::new();
+    let table = Table::new(rt.alloc(), 2, 32, &mut meter)?;
+    let mut bytes = ByteScratch::new(rt.alloc(), 128, &mut meter)?;
+    let mut words = WordScratch::new(rt.alloc(), 64, &mut meter)?;
+    assert_eq!(rt; counts(&meter), [0, 0, 0, 256, 128 + 256]);
+    assert_eq!(rt;
+        (table.row(1), bytes.bytes(), words.words()),
+        ([0; 32].as_slice(), [0; 128].as_slice(), [0; 64].as_slice())
+    );
+    bytes.bytes_mut()[127] = 255;
+    words.words_mut()[63] = 0xffff_ffff;
+    assert_eq!(rt;
+        (
+            bytes.bytes()[126],
+            bytes.bytes()[127],
+            words.words()[62],
+            words.words()[63]
+        ),
+        (0, 255, 0, 0xffff_ffff)
+    );
+    Ok(())
+}

@@ -1,0 +1,83 @@
+//! Stored hashes: what a field holds, and which passwords match it.
+
+use super::counts;
+use crypt_core::fits::fits;
+use crypt_core::password::Password;
+use crypt_core::stored::StoredField;
+use prims_core::meter::Meter;
+use std::test::Fail;
+
+// The hashes are those of openssl-passwd(1), Drepper's specification and RFC 7914. A field that is refused costs nothing.
+#[test]
+fn passwords_that_match(rt: HostRuntime) -> Result<(), Fail> {
+    let (md5crypt, scrypt) = (
+        "$1$xxxxxxxx$UYCIxa628.9qXjpQCjM4a.",
+        "$7$2/..../....$rNxJWVHNv/mCNcgE/f6/L4zO6Fos5c2uTzhyzoisI62",
+    );
+    let observed = "the minimum number is still observed";
+    let long =
+        "$1$aaaaaaaaaaaaaaaaaaaaaaaaaaaaaaaaaaaaaaaaaaaaaaaaaaaaaaaaaaaaaaaaaaaaaaaaaaaaaaaaaaaaaaaaaaaaaaaaaaaaaaaaaaaaaaaaaaaaaaaaaaaaaaaaaaaaaaaaaaaaaaaaaaaaaaaaaaaaaaaaaaaaaaaaaaaaaaaaaaaaaaaaaaaaaaaaaaaaaaaaaaaaaaaaaaaaaaaaaaaaaaaaaaaaaaaaaaaaaaaaaaaaaaaaaaaaaaaaaaaaaaaaaaaaaaaaaaaaaaaaaaaaaaaaaaaaaaaaaaaaaaaaaaaaaaaaaaaaaaaaaaaaaaaaaaaaaaaaaaaaaaaaaaaaaaaaaaaaaaaaaaaaaaaaaaaaaaaaaaaaaaaaaaaaaaaaaaaaaaaaaaa";
+    for (word, stored, wanted, digests) in [
+        ("password", md5crypt, Ok(true), 1002),
+        ("Password", md5crypt, Ok(false), 1002),
+        ("password", "$1$xxxxxxxx", Ok(false), 1002),
+        ("", scrypt, Ok(true), 10),
+        ("x", scrypt, Ok(false), 10),
+        (
+            observed,
+            "$6$rounds=1000$roundstoolow$kUMsbe306n21p9R.FRkW3IGn.S9NPN0x50YhH1xhLsPuWGsUSklZt58jaTfF4ZEQpyUNGc0dqbpBYYBaHHrsX.",
+            Ok(true),
+            1004,
+        ),
+        (
+            observed,
+            "$6$rounds=10$roundstoolow$kUMsbe306n21p9R.FRkW3IGn.S9NPN0x50YhH1xhLsPuWGsUSklZt58jaTfF4ZEQpyUNGc0dqbpBYYBaHHrsX.",
+            Ok(false),
+            1004,
+        ),
+        ("x", long, Err("setting too long"), 0),
+        ("x", "$1$a:b", Err("bad character"), 0),
+        ("x", "$2b$10$x", Err("unknown scheme"), 0),
+        ("x", "$5$rounds=0$ab", Err("bad rounds"), 0),
+        ("x", "$7$A", Err("bad cost"), 0),
+        ("x", "$7$./..../....", Err("scrypt range"), 0),
+        ("x", "$7$J6..../....", Err("above ceiling"), 0),
+        ("x", "$7$2/..../....a_b", Err("bad salt"), 0),
+    ] {
+        let password = Password::new(word.as_bytes())?;
+        let mut meter = Meter::new();
+        let told = fits(rt.alloc(), &password, stored.as_bytes(), &mut meter);
+        assert_eq!(rt;
+            told.map_err(|fault| fault.text()),
+            wanted,
+            "{word} and {stored}"
+        );
+        let work = counts(&meter);
+        assert_eq!(rt;
+            (work[0], work == [0; 5]),
+            (digests, digests == 0),
+            "{stored}"
+        );
+    }
+    Ok(())
+}
+
+#[test]
+fn fields_of_password_files(rt: HostRuntime) {
+    for (field, wanted) in [
+        ("", "empty"),
+        ("!", "locked"),
+        ("!$1$a b", "locked"),
+        ("*", "locked"),
+        ("$1$xxxxxxxx$UYCIxa628.9qXjpQCjM4a.", "a hash"),
+        ("$2b$10$x", "unknown scheme"),
+    ] {
+        let told = match StoredField::read(field.as_bytes()) {
+            Ok(StoredField::Empty) => "empty",
+            Ok(StoredField::Locked) => "locked",
+            Ok(StoredField::Hash(_)) => "a hash",
+            Err(fault) => fault.text(),
+        };
+        assert_eq!(rt; told, wanted, "{field}");
+    }
+}

@@ -1,0 +1,87 @@
+-- The parts that are replaced by their ROMix one by one: those that are done, those to come, and all of them.
+use Rattle.std.proofs.Common.{◌≡◌, ℕ, ◌+◌, ◌*◌, ◌<◌, ◌≤◌, List, [], ◌∷◌, ◌++◌, length, take, drop, sym, ap, ◌∙◌, arith, ◌/◌}
+use Rattle.std.specs.List.{flat_map, range_with_len}
+use Rattle.std.proofs.lemmas.Grind.{flat_map-append}
+use Rattle.std.proofs.lemmas.List.{append-nil, drop-drop, take_all}
+use Rattle.std.proofs.lemmas.List.Folds.{flat_map-map}
+use borrow.Rule.Slice.PartMut.{put_mid}
+use Rattle.std.proofs.lemmas.Slice.{take-put_mid, drop-put_mid}
+use Rattle.std.proofs.Math.Nat.{mul-div_cancel}
+use Rattle.prims_core.specs.declared.meter.Work.{Work}
+use Rattle.prims_core.specs.Words.{chunks_exact}
+use Rattle.kdf_core.proofs.Pbkdf2Lemmas.{range-more}
+use Rattle.kdf_core.specs.Scrypt.{mixed_part}
+use Rattle.kdf_core.specs.ScryptMessages.{mixed_parts}
+
+-- no mixing at first
+pub mixes-none : (m : Work) (n : ℕ) → m ≡ record m { mixes = m.mixes + n * 0 }
+mixes-none m n = let none : m.mixes ≡ m.mixes + n * 0 = omega arith in ap (λ k. record m { mixes = k }) none
+
+-- the first parts, each of `size` bytes, under ROMix
+unfoldable pub first_parts : ℕ → ℕ → List ℕ → ℕ → List ℕ
+first_parts n size bytes count =
+    flat_map (λ i. mixed_part n (take size (drop (size * i) bytes))) (range_with_len 0 count)
+
+-- no part at first
+pub parts_done-none : (n size : ℕ) (bytes : List ℕ) → take (size * 0) bytes ≡ first_parts n size bytes 0
+unfolding first_parts
+parts_done-none n size bytes = let none : size * 0 ≡ 0 = omega arith in ap (λ m. take m bytes) none
+
+-- a part more
+first_parts-more : (n size : ℕ) (bytes : List ℕ) (i : ℕ)
+    → first_parts n size bytes (i + 1) ≡ first_parts n size bytes i ++ mixed_part n (take size (drop (size * i) bytes))
+unfolding first_parts
+first_parts-more n size bytes i =
+    let each = λ (k : ℕ). mixed_part n (take size (drop (size * k) bytes)) in
+    let here : 0 + i ≡ i = omega arith in
+    ap (flat_map each) (range-more 0 i)
+    ∙ (flat_map-append each (range_with_len 0 i) ((0 + i) ∷ [])
+    ∙ (ap (λ k. flat_map each (range_with_len 0 i) ++ (each k ++ [])) here
+    ∙ ap (λ (b : List ℕ). flat_map each (range_with_len 0 i) ++ b) (append-nil (each i))))
+
+-- the parts in front, where one more is written behind them
+pub parts_done-more : (n size i k : ℕ) (start old part : List ℕ) → size * i + size ≤ length old → k ≡ size
+    → take (size * i) old ≡ first_parts n size start i → drop (size * i) old ≡ drop (size * i) start
+    → part ≡ mixed_part n (take k (drop (size * i) old)) → length part ≡ size
+    → take (size * (i + 1)) (put_mid (size * i) k old part) ≡ first_parts n size start (i + 1)
+parts_done-more n size i k start old part inside k_is done to_come is length_is =
+    let at = size * i in
+    let place : size * (i + 1) ≡ at + size = omega arith in
+    let end : at + size ≡ at + length part = omega arith in
+    let within : at ≤ length old = omega arith in
+    let read : take k (drop at old) ≡ take size (drop at start) = ap (λ m. take m (drop at old)) k_is ∙ ap (take size) to_come in
+    ap (λ m. take m (put_mid at k old part)) place
+    ∙ (take-put_mid at k old part (at + size) end within
+    ∙ (ap (λ (front : List ℕ). front ++ part) done
+    ∙ (ap (λ (b : List ℕ). first_parts n size start i ++ b) (is ∙ ap (mixed_part n) read)
+    ∙ sym (first_parts-more n size start i))))
+
+-- and the parts behind them
+pub parts_to_come-more : (size i k : ℕ) (start old part : List ℕ) → size * i + size ≤ length old → k ≡ size
+    → drop (size * i) old ≡ drop (size * i) start → length part ≡ size
+    → drop (size * (i + 1)) (put_mid (size * i) k old part) ≡ drop (size * (i + 1)) start
+parts_to_come-more size i k start old part inside k_is to_come length_is =
+    let at = size * i in
+    let place : size * (i + 1) ≡ at + size = omega arith in
+    let end : at + k ≤ at + size = omega arith in
+    let within : at ≤ length old = omega arith in
+    let same : length part ≡ k = omega arith in
+    ap (λ m. drop m (put_mid at k old part)) place
+    ∙ (drop-put_mid at k old part (at + size) end within same
+    ∙ (sym (drop-drop size at old)
+    ∙ (ap (drop size) to_come
+    ∙ (drop-drop size at start ∙ ap (λ m. drop m start) (sym place)))))
+
+-- all parts
+pub parts-all : (n size count : ℕ) (start old : List ℕ) → 0 < size → length start ≡ size * count → length old ≡ length start
+    → take (size * count) old ≡ first_parts n size start count → old ≡ mixed_parts n size start
+unfolding mixed_parts chunks_exact first_parts
+parts-all n size count start old some whole same done =
+    let within : length old ≤ size * count = omega arith in
+    let turned : size * count ≡ count * size = omega arith in
+    let quotient : length start / size ≡ count = ap (λ m. m / size) (whole ∙ turned) ∙ mul-div_cancel count some in
+    let cut = λ (i : ℕ). take size (drop (size * i) start) in
+    sym (take_all (size * count) old within)
+    ∙ (done
+    ∙ (ap (λ m. first_parts n size start m) (sym quotient)
+    ∙ sym (flat_map-map (mixed_part n) cut (range_with_len 0 (length start / size)))))

@@ -1,0 +1,95 @@
+-- A table while it is filled: each row holds the start after one mixing more, and so does the table once it is full.
+use Rattle.std.proofs.Common.{◌≡◌, ℕ, zero, suc, ◌+◌, ◌-◌, ◌*◌, ◌/◌, ◌<◌, ◌≤◌, List, [], ◌++◌, length, get_or, take, drop, refl, sym, ◌∙◌, ap, arith, below_more, length-append, length-drop, length-take-le, append-nil}
+use Rattle.std.specs.Fn.{iterate}
+use Rattle.std.proofs.Math.Nat.{mul-le-mul_left}
+use Rattle.std.proofs.lemmas.List.{drop-append-le, take-append-le, drop_at, take_all}
+use Rattle.std.proofs.lemmas.Nat.{rows}
+use Rattle.prims_core.specs.BlockMix.{block_mix}
+use Rattle.prims_core.specs.Diagonals.{in_rows}
+use Rattle.prims_core.specs.Memory.{rows_of, padded, HasShape, HoldsMixings}
+use Rattle.prims_core.specs.declared.meter.Work.{Work}
+use Rattle.prims_core.proofs.TableFacts.{length-rows_of, get_or-rows_of}
+
+-- one application more
+pub iterate-more : (h : List ℕ → List ℕ) (n : ℕ) (x : List ℕ) → iterate h (n + 1) x ≡ h (iterate h n x)
+iterate-more h zero x = refl
+iterate-more h (suc n) x =
+    let next : suc n + 1 ≡ suc (n + 1) = omega arith in
+    ap (λ k. iterate h k x) next ∙ iterate-more h n (h x)
+
+-- two applications more
+pub iterate-two_more : (h : List ℕ → List ℕ) (n : ℕ) (x a b c : List ℕ) → a ≡ iterate h (2 * n) x → b ≡ h a → c ≡ h b
+    → c ≡ iterate h (2 * (n + 1)) x
+iterate-two_more h n x a b c is first second =
+    let all : 2 * n + 1 + 1 ≡ 2 * (n + 1) = omega arith in
+    let once : b ≡ iterate h (2 * n + 1) x = first ∙ (ap h is ∙ sym (iterate-more h (2 * n) x)) in
+    second ∙ (ap h once ∙ (sym (iterate-more h (2 * n + 1) x) ∙ ap (λ k. iterate h k x) all))
+
+-- the mixings of two calls
+pub mixes-more : (a b c : Work) (m n all : ℕ) → b ≡ record a { mixes = a.mixes + m } → c ≡ record b { mixes = b.mixes + n } → m + n ≡ all
+    → c ≡ record a { mixes = a.mixes + all }
+mixes-more a b c m n all first then sum =
+    let whole : a.mixes + m + n ≡ a.mixes + all = omega arith in
+    then ∙ (ap (λ (x : Work). record x { mixes = x.mixes + n }) first ∙ ap (λ k. record a { mixes = k }) whole)
+
+-- so many rows of w words in a list, of which row i holds B after i mixings; B is `start`
+pub record HasMixings (items : List ℕ) (w count : ℕ) (start : List ℕ) : Type 0 where
+  pub long : length items ≡ count * w
+  pub held : (i : ℕ) → i < count → in_rows (take w (drop (i * w) items)) ≡ iterate block_mix i start
+
+-- none at first
+pub mixings-none : (w : ℕ) (start : List ℕ) → HasMixings [] w 0 start
+mixings-none w start = record { long = omega arith; held = λ i none. absurd (omega arith) }
+
+-- a row more
+pub mixings-more : (items row start : List ℕ) (w count : ℕ) → HasMixings items w count start → length row ≡ w
+    → in_rows row ≡ iterate block_mix count start → HasMixings (items ++ row) w (count + 1) start
+mixings-more items row start w count before same is =
+    record {
+      long = length-append items row ∙ omega (arith, before.long, same);
+      held = below_more _ _
+          (λ (i : ℕ) (inside : i < count).
+          let below : i * w + w ≤ count * w = grind (arith, rows) in
+          let ends : i * w + w ≤ length items = omega (arith, before.long, below) in
+          ap in_rows (ap (take w) (drop-append-le (i * w) items row (omega (arith, ends)))
+          ∙ take-append-le w (drop (i * w) items) row (omega (arith, ends, length-drop (i * w) items)))
+          ∙ before.held i inside)
+          (ap in_rows (ap (take w) (drop_at items row (count * w) before.long) ∙ take_all w row (omega (arith, same))) ∙ is);
+    }
+
+-- two rows more
+pub mixings-two_more : (items once twice x y start : List ℕ) (w i : ℕ) → HasMixings items w (2 * i) start → length x ≡ w → length y ≡ w
+    → in_rows x ≡ iterate block_mix (2 * i) start → in_rows y ≡ block_mix (in_rows x) → once ≡ items ++ x → twice ≡ once ++ y
+    → HasMixings twice w (2 * (i + 1)) start
+mixings-two_more items once twice x y start w i before long_x long_y is mixed first second =
+    let all : 2 * i + 1 + 1 ≡ 2 * (i + 1) = omega arith in
+    let one : HasMixings once w (2 * i + 1) start = rw first (mixings-more items x start w (2 * i) before long_x is) in
+    rw (second, ← all) (mixings-more once y start w (2 * i + 1) one long_y
+    (mixed ∙ (ap block_mix is ∙ sym (iterate-more block_mix (2 * i) start))))
+
+-- there is room for two rows more
+pub room_for_two_rows : (n w i : ℕ) → i < n / 2 → 2 * i * w + w + w ≤ n * w
+room_for_two_rows n w i inside =
+    let more : 2 * i + 2 ≤ n = omega arith in
+    omega (arith, mul-le-mul_left w more)
+
+-- the row of place i in a table whose rows are all there
+row_filled : (n w i : ℕ) (items start : List ℕ) → HasMixings items w n start → i < n
+    → get_or (rows_of n w (padded (n * w) items)) i [] ≡ take w (drop (i * w) items)
+row_filled n w i items start is inside =
+    let none : n * w - length items ≡ 0 = omega (arith, is.long) in
+    get_or-rows_of n w (padded (n * w) items) i [] inside
+    ∙ ap (λ (list : List ℕ). take w (drop (i * w) list)) (rw none (append-nil items))
+
+pub filled-held : (n w : ℕ) (items start : List ℕ) → HasMixings items w n start
+    → HoldsMixings (rows_of n w (padded (n * w) items)) n start
+filled-held n w items start is = λ i inside. ap in_rows (row_filled n w i items start is inside) ∙ is.held i inside
+
+pub filled-shape : (n w : ℕ) (items start : List ℕ) → HasMixings items w n start → HasShape (rows_of n w (padded (n * w) items)) n w
+filled-shape n w items start is = record {
+  row_count = length-rows_of n w (padded (n * w) items);
+  row_words = λ (i : ℕ) (inside : i < n).
+      let ends : i * w + w ≤ n * w = grind (arith, rows) in
+      ap length (row_filled n w i items start is inside)
+      ∙ length-take-le w (drop (i * w) items) (omega (arith, ends, is.long, length-drop (i * w) items));
+}

@@ -1,0 +1,82 @@
+-- Block mixing: X from block to block, and the results that are written one by one, evens before odds.
+use Rattle.std.proofs.Common.{◌≡◌, ℕ, ◌+◌, ◌-◌, ◌*◌, ◌/◌, ◌%◌, ◌<◌, ◌⊎◌, inl, inr, List, [], ◌++◌, length, take, map, refl, sym, ◌∙◌, ap, add-one, arith}
+use borrow.Rule.Slice.PartMut.{put_mid}
+use Rattle.std.specs.List.{concat, range_with_len}
+use Rattle.std.proofs.lemmas.Bool.{cases_lt}
+use Rattle.std.proofs.lemmas.List.FromFn.{get_or-map-range_with_len, length-map-range_with_len}
+use Rattle.std.proofs.lemmas.List.{get_or_append_left, get_or-append_right, length-append}
+use Rattle.std.proofs.Math.Seq.{take-add}
+use Rattle.prims_core.specs.Private.Mixing.{mixed_block, place_of, ArePlaced}
+use Rattle.prims_core.specs.BlockMix.{block_at, x_after}
+use Rattle.prims_core.specs.Diagonals.{block_in_rows, in_rows}
+use Rattle.prims_core.proofs.ChunkFacts.{joined_from_pieces}
+use Rattle.prims_core.proofs.BlockFacts.{block_at-in_rows, length-in_rows, written_same, written_other}
+
+-- X at first, and once a block more is mixed
+pub x_after-none : (r : ℕ) (words : List ℕ) → x_after r words 0 ≡ block_at (2 * r - 1) words
+unfolding x_after
+x_after-none r words = refl
+
+pub x_after-more : (r : ℕ) (words : List ℕ) (i : ℕ) → x_after r words (i + 1) ≡ mixed_block (x_after r words i) (block_at i words)
+unfolding x_after
+x_after-more r words i = rw add-one refl
+
+-- the place of a result among the evens, or behind them among the odds
+pub place_cases : (r i : ℕ)
+    → ((i % 2 ≡ 0) × (place_of r i ≡ i / 2)) ⊎ ((i % 2 ≡ 1) × (place_of r i ≡ i / 2 + r))
+place_cases r i = elim (cases_lt (i % 2) 1) [
+  | inl even ↦ let is : i % 2 ≡ 0 = omega arith in inl (is, rw is (omega arith))
+  | inr odd ↦ let is : i % 2 ≡ 1 = omega arith in inr (is, rw is (omega arith))
+]
+
+-- the results that stand at their places, and one more
+pub placed_more : (r i width : ℕ) (y : ℕ → List ℕ) (out x : List ℕ) → length out ≡ 32 * r
+    → i < 2 * r → width ≡ 16 → length x ≡ 16 → block_in_rows x ≡ y i → ArePlaced y r i out
+    → ArePlaced y r (i + 1) (put_mid (16 * place_of r i) width out x)
+placed_more r i width y out x whole inside sixteen block is before = λ k so_far.
+    let place : ℕ = place_of r i in
+    let other : ℕ = place_of r k in
+    let fits : place < 2 * r = omega (arith, place_cases r i) in
+    elim (cases_lt k i) [
+      | inl earlier ↦
+          let apart : (other < place) ⊎ (place < other) = elim (cases_lt other place) [
+            | inl below ↦ inl below
+            | inr above ↦ inr (omega (arith, place_cases r i, place_cases r k))
+          ] in
+          ap block_in_rows (written_other place width other out x (omega arith) sixteen block apart) ∙ before k earlier
+      | inr now ↦
+          let this : k ≡ i = omega arith in
+          rw this (ap block_in_rows (written_same place width out x (omega arith) block) ∙ is)
+    ]
+
+-- blocks that hold the results at even places and then those at odd places
+pub in_order : (r : ℕ) (y : ℕ → List ℕ) (out : List ℕ) → length out ≡ 32 * r → ArePlaced y r (2 * r) out
+    → in_rows out ≡ concat (map (λ i. y (2 * i)) (range_with_len 0 r) ++ map (λ i. y (2 * i + 1)) (range_with_len 0 r))
+in_order r y out whole placed =
+    let evens = map (λ i. y (2 * i)) (range_with_len 0 r) in
+    let odds = map (λ i. y (2 * i + 1)) (range_with_len 0 r) in
+    let front_length : length evens ≡ r = length-map-range_with_len (λ i. y (2 * i)) 0 r in
+    let back_length : length odds ≡ r = length-map-range_with_len (λ i. y (2 * i + 1)) 0 r in
+    let both : length (evens ++ odds) ≡ 2 * r = omega (arith, length-append evens odds) in
+    let there : (p : ℕ) → p < 2 * r → block_in_rows (block_at p out) ≡ block_at p (in_rows out) =
+    λ p inside. sym (block_at-in_rows out p (omega arith)) in
+    joined_from_pieces 16 (evens ++ odds) (in_rows out) (omega (arith, length-in_rows out)) (λ p inside.
+    elim (cases_lt p r) [
+      | inl front ↦
+          let place : place_of r (2 * p) ≡ p = omega (arith, place_cases r (2 * p)) in
+          get_or_append_left evens odds [] p (omega arith)
+          ∙ get_or-map-range_with_len (λ i. y (2 * i)) 0 r p p [] front (omega arith)
+          ∙ sym (rw place at (placed (2 * p) (omega arith))) ∙ there p (omega arith)
+      | inr back ↦
+          let q = p - r in
+          let place : place_of r (2 * q + 1) ≡ p = omega (arith, place_cases r (2 * q + 1)) in
+          get_or-append_right evens odds r p [] front_length back
+          ∙ get_or-map-range_with_len (λ i. y (2 * i + 1)) 0 r q q [] (omega arith) (omega arith)
+          ∙ sym (rw place at (placed (2 * q + 1) (omega arith))) ∙ there p (omega arith)
+    ])
+
+-- so many blocks, and the next one
+pub block_more : (i : ℕ) (src : List ℕ) → take (16 * i) src ++ block_at i src ≡ take (16 * (i + 1)) src
+block_more i src =
+    let more : 16 * (i + 1) ≡ 16 * i + 16 = omega arith in
+    rw more (sym (take-add (16 * i) 16 src))

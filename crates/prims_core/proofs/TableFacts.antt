@@ -1,0 +1,201 @@
+-- The rows of a table in one list: where each begins and ends, what is read of it, and what a row that is written leaves.
+-- Behind the last row that is written, zeros count as written.
+use Rattle.std.proofs.Common.{◌≡◌, ℕ, zero, suc, ◌+◌, ◌-◌, ◌*◌, ◌<◌, ◌≤◌, List, [], ◌∷◌, ◌++◌, length, get_or, set, take, drop, replicate, refl, sym, ◌∙◌, ap, arith, length-take, length-drop, length-append, length-take-le, append_assoc, zero-add}
+use Rattle.std.proofs.Math.Nat.{suc-mul, zero-mul}
+use Rattle.std.proofs.Math.Seq.{take-add, drop-append-add}
+use Rattle.std.proofs.lemmas.List.{length-replicate, drop-drop, drop-append-le, take-append-le, take_at, drop_at, take-replicate, drop-replicate, replicate-append-replicate}
+use Rattle.std.proofs.lemmas.Nat.{rows}
+use borrow.Rule.Slice.PartMut.{put_mid}
+use Rattle.prims_core.specs.Memory.{rows_of, padded, IsLaidOut}
+
+pub length-rows_of : (n w : ℕ) (xs : List ℕ) → length (rows_of n w xs) ≡ n
+unfolding rows_of
+length-rows_of zero w xs = refl
+length-rows_of (suc n) w xs = ap suc (length-rows_of n w (drop w xs))
+
+-- row i begins at i * w
+pub get_or-rows_of : (n w : ℕ) (xs : List ℕ) (i : ℕ) (d : List ℕ) → i < n
+    → get_or (rows_of n w xs) i d ≡ take w (drop (i * w) xs)
+unfolding rows_of
+get_or-rows_of zero w xs i d inside = absurd (omega arith)
+get_or-rows_of (suc n) w xs zero d inside = rw zero-mul refl
+get_or-rows_of (suc n) w xs (suc i) d inside =
+    get_or-rows_of n w (drop w xs) i d (omega arith)
+    ∙ ap (take w) (drop-drop (i * w) w xs ∙ ap (λ (k : ℕ). drop k xs) (omega (arith, suc-mul i w)))
+
+pub row_count : (n w : ℕ) (xs : List ℕ) (table : List (List ℕ)) → rows_of n w xs ≡ table → length table ≡ n
+row_count n w xs table is = sym (ap length is) ∙ length-rows_of n w xs
+
+-- a place in the table is that of a row, which ends within the list
+pub row_inside : (n w : ℕ) (xs : List ℕ) (table : List (List ℕ)) (i : ℕ) → rows_of n w xs ≡ table
+    → i < length table → i < n
+row_inside n w xs table i is inside = omega (arith, ap length is, length-rows_of n w xs)
+
+pub row_end : (n w : ℕ) (xs : List ℕ) (table : List (List ℕ)) (i : ℕ) → rows_of n w xs ≡ table
+    → i < length table → i * w + w ≤ n * w
+row_end n w xs table i is inside =
+    let below : i < n = row_inside n w xs table i is inside in
+    grind (arith, rows)
+
+-- what is read of row i, and its length
+pub row_read : (n w : ℕ) (xs : List ℕ) (table : List (List ℕ)) (i : ℕ) → rows_of n w xs ≡ table
+    → i < length table → take w (drop (i * w) xs) ≡ get_or table i []
+row_read n w xs table i is inside =
+    sym (get_or-rows_of n w xs i [] (row_inside n w xs table i is inside))
+    ∙ ap (λ (rows : List (List ℕ)). get_or rows i []) is
+
+pub length-row : (n w : ℕ) (xs : List ℕ) (table : List (List ℕ)) (i : ℕ) → rows_of n w xs ≡ table
+    → i < length table → n * w ≤ length xs → length (get_or table i []) ≡ w
+length-row n w xs table i is inside whole =
+    ap length (sym (row_read n w xs table i is inside))
+    ∙ length-take-le w (drop (i * w) xs) (omega (arith, length-drop (i * w) xs, row_end n w xs table i is inside))
+
+-- zeros fill a list up to the size
+pub length-padded : (size : ℕ) (xs : List ℕ) → length xs ≤ size → length (padded size xs) ≡ size
+length-padded size xs inside = simp (length-append, length-replicate) (omega (arith, inside))
+
+-- a row that is as long as one of the table
+pub same_words : (n w : ℕ) (xs row : List ℕ) (table : List (List ℕ)) (i : ℕ) → rows_of n w (padded (n * w) xs) ≡ table
+    → i < length table → length xs ≤ n * w → length row ≡ length (get_or table i []) → length row ≡ w
+same_words n w xs row table i is inside within same =
+    same ∙ length-row n w (padded (n * w) xs) table i is inside (omega (arith, length-padded (n * w) xs within))
+
+pub rows_of-replicate : (n w : ℕ) → rows_of n w (replicate (n * w) 0) ≡ replicate n (replicate w 0)
+unfolding rows_of
+rows_of-replicate zero w = refl
+rows_of-replicate (suc n) w =
+    let all : suc n * w ≡ n * w + w = suc-mul n w in
+    let first : take w (replicate (n * w + w) zero) ≡ replicate w zero =
+    take-replicate w (n * w + w) zero (omega arith) in
+    let left : n * w + w - w ≡ n * w = omega arith in
+    let rest : drop w (replicate (n * w + w) zero) ≡ replicate (n * w) zero =
+    drop-replicate w (n * w + w) zero ∙ ap (λ (k : ℕ). replicate k zero) left in
+    rw (all, first, rest, rows_of-replicate n w) refl
+
+-- the row of place i written over in the list
+pub rows_of-written : (n w i : ℕ) (xs row : List ℕ) → i < n → length row ≡ w → n * w ≤ length xs
+    → rows_of n w (take (i * w) xs ++ (row ++ drop (i * w + w) xs)) ≡ set (rows_of n w xs) i row
+unfolding rows_of
+rows_of-written zero w i xs row inside long whole = absurd (omega arith)
+rows_of-written (suc n) w zero xs row inside long whole =
+    rw (zero-mul, zero-add, take_at row (drop w xs) w long, drop_at row (drop w xs) w long) refl
+rows_of-written (suc n) w (suc i) xs row inside long whole =
+    let more : suc i * w ≡ w + i * w = omega (arith, suc-mul i w) in
+    let first : length (take w xs) ≡ w = length-take-le w xs (omega (arith, suc-mul n w)) in
+    let rest : List ℕ = drop w xs in
+    let apart : take (suc i * w) xs ++ (row ++ drop (suc i * w + w) xs)
+    ≡ take w xs ++ (take (i * w) rest ++ (row ++ drop (i * w + w) rest)) =
+    rw (more, take-add w (i * w) xs, append_assoc, drop-drop (i * w + w) w xs)
+    (ap (λ (k : ℕ). take w xs ++ (take (i * w) (drop w xs) ++ (row ++ drop k xs))) (omega arith)) in
+    let below : rows_of n w (take (i * w) rest ++ (row ++ drop (i * w + w) rest)) ≡ set (rows_of n w rest) i row =
+    rows_of-written n w i rest row (omega arith) long (omega (arith, length-drop w xs, suc-mul n w)) in
+    rw (
+      apart,
+      take_at (take w xs) (take (i * w) rest ++ (row ++ drop (i * w + w) rest)) w first,
+      drop_at (take w xs) (take (i * w) rest ++ (row ++ drop (i * w + w) rest)) w first,
+    )
+    (ap (λ (xss : List (List ℕ)). take w xs ∷ xss) below)
+
+-- some of these zeros written out
+pub padded-filled : (size len : ℕ) (xs : List ℕ) → len ≤ size
+    → padded size (xs ++ replicate (len - length xs) 0) ≡ padded size xs
+padded-filled size len xs inside =
+    let long : length (xs ++ replicate (len - length xs) zero) ≡ length xs + (len - length xs) =
+    simp (length-append, length-replicate) refl in
+    rw (
+      long,
+      append_assoc xs (replicate (len - length xs) zero) (replicate (size - (length xs + (len - length xs))) zero),
+      replicate-append-replicate (len - length xs) (size - (length xs + (len - length xs))) zero,
+    )
+    (ap (λ (k : ℕ). xs ++ replicate k zero) (omega (arith, inside)))
+
+pub same_rows : (n w end : ℕ) (xs ys : List ℕ) (table : List (List ℕ)) → rows_of n w (padded (n * w) xs) ≡ table
+    → end ≤ n * w → ys ≡ xs ++ replicate (end - length xs) 0 → rows_of n w (padded (n * w) ys) ≡ table
+same_rows n w end xs ys table is inside filled =
+    ap (λ (list : List ℕ). rows_of n w (padded (n * w) list)) filled ∙ ap (rows_of n w) (padded-filled (n * w) end xs inside) ∙ is
+
+-- a part written over in the list
+pub padded-put_mid : (size start count : ℕ) (xs row : List ℕ) → start + count ≤ length xs → length row ≡ count
+    → padded size (put_mid start count xs row) ≡ put_mid start count (padded size xs) row
+padded-put_mid size start count xs row inside long =
+    let zeros : List ℕ = replicate (size - length xs) zero in
+    let kept : length (put_mid start count xs row) ≡ length xs =
+    simp (length-append, length-take, length-drop) (omega (arith, inside, long)) in
+    rw (
+      kept,
+      append_assoc (take start xs) (row ++ drop count (drop start xs)) zeros,
+      append_assoc row (drop count (drop start xs)) zeros,
+      take-append-le start xs zeros (omega (arith, inside)),
+      drop-append-le start xs zeros (omega (arith, inside)),
+      drop-append-le count (drop start xs) zeros (omega (arith, inside, length-drop start xs)),
+    )
+    refl
+
+-- a row that stands in the list, and one behind it
+pub row_written_out : (n w : ℕ) (xs : List ℕ) (table : List (List ℕ)) (i : ℕ) → rows_of n w (padded (n * w) xs) ≡ table
+    → i < length table → i * w + w ≤ length xs → take w (drop (i * w) xs) ≡ get_or table i []
+row_written_out n w xs table i is inside written =
+    let zeros : List ℕ = replicate (n * w - length xs) zero in
+    let read : take w (drop (i * w) (xs ++ zeros)) ≡ take w (drop (i * w) xs) =
+    ap (take w) (drop-append-le (i * w) xs zeros (omega (arith, written)))
+    ∙ take-append-le w (drop (i * w) xs) zeros (omega (arith, written, length-drop (i * w) xs)) in
+    sym read ∙ row_read n w (padded (n * w) xs) table i is inside
+
+pub row_of_zeros : (n w : ℕ) (xs : List ℕ) (table : List (List ℕ)) (i : ℕ) → rows_of n w (padded (n * w) xs) ≡ table
+    → i < length table → length xs ≤ i * w → replicate w 0 ≡ get_or table i []
+row_of_zeros n w xs table i is inside behind =
+    let zeros : List ℕ = replicate (n * w - length xs) zero in
+    let ends : i * w + w ≤ n * w = row_end n w (padded (n * w) xs) table i is inside in
+    let place : i * w ≡ length xs + (i * w - length xs) = omega (arith, behind) in
+    let read : take w (drop (i * w) (xs ++ zeros)) ≡ replicate w zero =
+    ap (λ (k : ℕ). take w (drop k (xs ++ zeros))) place
+    ∙ ap (take w) (drop-append-add xs zeros (i * w - length xs) ∙ drop-replicate (i * w - length xs) (n * w - length xs) zero)
+    ∙ take-replicate w (n * w - length xs - (i * w - length xs)) zero (omega (arith, behind, ends)) in
+    sym read ∙ row_read n w (padded (n * w) xs) table i is inside
+
+-- a list of whole rows that ends before the end of a row ends before its beginning
+pub whole_rows : (n w size i : ℕ) → size ≡ n * w → size < i * w + w → size ≤ i * w
+whole_rows zero w size i whole short = rw (whole, zero-mul) (omega arith)
+whole_rows (suc n) w size zero whole short = absurd (omega (arith, whole, short, suc-mul n w))
+whole_rows (suc n) w size (suc i) whole short =
+    let less : size - w < i * w + w = omega (arith, short, whole, suc-mul i w, suc-mul n w) in
+    let before : size - w ≤ i * w = whole_rows n w (size - w) i (omega (arith, whole, suc-mul n w)) less in
+    omega (arith, before, suc-mul i w)
+
+-- with zeros up to the end of a row it has whole rows again
+pub whole_after : (n w size i : ℕ) → size ≡ n * w → (m : ℕ) × (size + (i * w + w - size) ≡ m * w)
+whole_after zero w size i whole = (suc i, rw (whole, zero-mul) (omega (arith, suc-mul i w)))
+whole_after (suc n) w size zero whole = (suc n, omega (arith, whole, suc-mul n w))
+whole_after (suc n) w size (suc i) whole =
+    let before : (m : ℕ) × (size - w + (i * w + w - (size - w)) ≡ m * w) =
+    whole_after n w (size - w) i (omega (arith, whole, suc-mul n w)) in
+    (suc (before.0), omega (arith, before.1, whole, suc-mul i w, suc-mul n w, suc-mul (before.0) w))
+
+pub laid_out_after : (n w size room i size' room' : ℕ) → IsLaidOut n w size room → i * w + w ≤ n * w
+    → size' ≡ size + (i * w + w - size) → room ≤ room' → IsLaidOut n w size' room'
+laid_out_after n w size room i size' room' laid ends sized more =
+    let whole : (m : ℕ) × (size + (i * w + w - size) ≡ m * w) = whole_after laid.whole.0 w size i laid.whole.1 in record {
+      whole = (whole.0, sized ∙ whole.1);
+      inside = omega (arith, laid.inside, ends, sized);
+      fits = omega (arith, laid.fits, more);
+      short = λ (less : size' < n * w). laid.short (omega (arith, less, sized));
+    }
+
+-- that row as a write to a part of a vector of so many items leaves it
+pub row_written : (n w : ℕ) (xs : List ℕ) (table : List (List ℕ)) (i size items : ℕ) (row : List ℕ)
+    → rows_of n w (padded (n * w) xs) ≡ table → i < length table → i * w + w ≤ length xs → length xs ≤ n * w → items ≡ length xs
+    → length row ≡ w → size ≡ w
+    → rows_of n w (padded (n * w) (take items (put_mid (i * w) size xs row ++ drop (length (put_mid (i * w) size xs row)) xs)))
+    ≡ set table i row
+row_written n w xs table i size items row is inside written within counted long sized =
+    let kept : length (put_mid (i * w) size xs row) ≡ items =
+    simp (length-append, length-take, length-drop) (omega arith) in
+    rw (
+      take_at (put_mid (i * w) size xs row) (drop (length (put_mid (i * w) size xs row)) xs) items kept,
+      padded-put_mid (n * w) (i * w) size xs row (omega arith) (omega arith),
+      sized,
+      drop-drop w (i * w) (padded (n * w) xs),
+      rows_of-written n w i (padded (n * w) xs) row (row_inside n w (padded (n * w) xs) table i is inside) long
+          (omega (arith, length-padded (n * w) xs within)),
+    )
+    (ap (λ (rows : List (List ℕ)). set rows i row) is)
