@@ -1,7 +1,8 @@
 //! A login: a password against a stored hash, which may be outdated. If the stored hash can't be checked, the password is
 //! hashed as a new one is, so that the call costs the same.
-ghost use Rattle.std.specs.Prelude.{◌≡◌, ◌≤◌, ◌⊎◌, ◌<ℤ◌, pos, length};
+ghost use Rattle.std.specs.Prelude.{◌≡◌, ◌≤◌, ◌⊎◌, ◌<ℤ◌, pos, length, true};
 ghost use Rattle.prims_core.specs.Work.{no_work};
+ghost use Rattle.crypt_core.specs.Crypt.{allocates};
 ghost use Rattle.crypt_core.specs.Passwords.{IsPassword};
 ghost use Rattle.crypt_core.specs.Settings.{SettingValue, Spells};
 ghost use Rattle.crypt_core.specs.StoredFields.{IsWhole};
@@ -46,7 +47,7 @@ pub fn log_in<M: Memory>(
     ensures dead { (scheme : Made) → (kept : SettingValue) → IsSchemeMade TakesNewRounds method rounds scheme
         → IsPassword password.now → Spells field.now kept → ¬ IsWhole field.now kept → cost kept (length password.now) ≤ budget
         → (result ≡ reported (Reason.Refused Refusal.Dead) 0 (cost kept (length password.now)) (work password.now kept))
-        ⊎ (result.reason ≡ (reason_row (Reason.Refused Refusal.OutOfMemory)).0) }
+        ⊎ ((result.reason ≡ (reason_row (Reason.Refused Refusal.OutOfMemory)).0) × (allocates kept.scheme ≡ true)) }
     ensures outdated { result.reason ≡ (reason_row Reason.Outdated).0 → IsOutdated field.now method rounds }
     ensures replaced { pos 0 <ℤ result.reason → IsOutdated field.now method rounds
         → result.reason ≡ (reason_row Reason.Outdated).0 }

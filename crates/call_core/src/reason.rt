@@ -36,7 +36,7 @@ pub enum Refusal {
     NoHash,
     /// No password matches the stored hash, because it is not whole.
     Dead,
-    /// A new hash would replace the stored one, so it is not current.
+    /// A new hash would replace the stored one, so it is not current. The message is that of [`Reason::Outdated`].
     Replaced,
 }
 

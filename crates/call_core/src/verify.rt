@@ -98,7 +98,7 @@ pub(crate) fn compare<M: Memory>(
         ⊎ ((result.reason ≡ (reason_row (Reason.Refused Refusal.OutOfMemory)).0) × (allocates stored.now.setting.scheme ≡ true)) }
     ensures missed { crypt password.now stored.now.setting ≢ stored.now.text
         → (result ≡ reported (Reason.Refused misses) 0 most (work password.now stored.now.setting))
-        ⊎ (result.reason ≡ (reason_row (Reason.Refused Refusal.OutOfMemory)).0) }
+        ⊎ ((result.reason ≡ (reason_row (Reason.Refused Refusal.OutOfMemory)).0) × (allocates stored.now.setting.scheme ≡ true)) }
     ensures granted { (allocates stored.now.setting.scheme ≡ false)
         ⊎ (M.HasSome ⊎ ((¬ (pos 0 <ℤ result.reason)) × (result.work ≡ no_work))) }
     ensures bytes { result.work.bytes ≤ most }

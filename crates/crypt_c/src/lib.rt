@@ -6,13 +6,15 @@
 //! to the capacity of `out`.
 //!
 //! The report has the first refusal that applies, in this order: password, setting, method, rounds, budget, capacity,
-//! random numbers, memory. For a login method and rounds come before the field. [`mkpasswd_verify`] and [`mkpasswd_login`]
-//! read a stored field: a locked one is `Locked` and an empty one `NoHash`, where the other calls report what is wrong with
-//! it as a setting. The calls share no state and start no threads, so many threads may call at once.
+//! random numbers, memory. For a login and an audit method and rounds come before the field. [`mkpasswd_verify`],
+//! [`mkpasswd_login`] and [`mkpasswd_audit`] read a stored field: a locked one is `Locked` and an empty one `NoHash`, where the
+//! other calls report what is wrong with it as a setting. The calls share no state and start no threads, so many threads may
+//! call at once.
 #![tactic(auto)]
 
-ghost use Rattle.std.specs.Prelude.{◌≡◌, ◌≢◌, ◌⊎◌, ◌↔◌, ◌<◌, ◌≤◌, pos, [], ◌∷◌, Err, length, take, codes};
+ghost use Rattle.std.specs.Prelude.{◌≡◌, ◌≢◌, ◌⊎◌, ◌↔◌, ◌<◌, ◌≤◌, true, pos, [], ◌∷◌, Err, length, take, codes};
 ghost use Rattle.prims_core.specs.Work.{no_work};
+ghost use Rattle.crypt_core.specs.Crypt.{allocates};
 ghost use Rattle.crypt_core.specs.Passwords.{IsPassword, IsPasswordRefused};
 ghost use Rattle.crypt_core.specs.Settings.{SettingValue, Spells};
 ghost use Rattle.crypt_core.specs.StoredFields.{IsWhole};
@@ -120,7 +122,7 @@ pub extern "C" fn mkpasswd_login(
     ensures dead { (scheme : Scheme) → (kept : SettingValue) → IsSchemeMade TakesNewRounds method rounds scheme
         → IsPassword password.now → Spells field.now kept → ¬ IsWhole field.now kept → cost kept (length password.now) ≤ budget
         → (report.new ≡ reported (Refused Dead) 0 (cost kept (length password.now)) (work password.now kept))
-        ⊎ (report.new.reason ≡ (reason_row (Refused OutOfMemory)).0) }
+        ⊎ ((report.new.reason ≡ (reason_row (Refused OutOfMemory)).0) × (allocates kept.scheme ≡ true)) }
     ensures tells { report.new.reason ≡ (reason_row (Refused Dead)).0 → IsDead field.now }
     ensures outdated { report.new.reason ≡ (reason_row Outdated).0 ↔ (result ≡ pos 1) × IsOutdated field.now method rounds }
     ensures as_verify { (scheme : Scheme) → IsSchemeMade TakesNewRounds method rounds scheme

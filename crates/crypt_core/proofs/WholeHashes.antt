@@ -63,7 +63,8 @@ pub fits_whole : (password text : List ℕ) (kept : SettingValue) → Spells tex
 unfolding crypt
 fits_whole password text kept spelled fits =
     let same : crypt password kept ≡ text = ap (crypt password) (setting_unique text kept fits.0 spelled fits.1) ∙ fits.2 in
-    (digest_by kept.scheme password kept.salt, is_digest kept.scheme password kept.salt, sym same)
+    let digest = digest_by kept.scheme password kept.salt in
+    (packed (method_of kept.scheme) digest, (digest, is_digest kept.scheme password kept.salt, refl), sym same)
 
 -- so a stored hash that is not whole fits no password
 pub unwhole_fits_none : (whole : Bool) (text : List ℕ) (kept : SettingValue) → Spells text kept → IsTrue whole ↔ IsWhole text kept
@@ -73,17 +74,18 @@ unwhole_fits_none whole text kept spelled is lacks password fits = lacks (is.1 (
 -- a text is whole exactly if what follows its setting is packed
 pub whole_if_packed : (text front rest : List ℕ) (kept : SettingValue) (packs : Bool) → front ≡ canonical_text kept ++ dollar ∷ []
     → text ≡ front ++ rest → IsTrue packs ↔ IsPacked (method_of kept.scheme) rest → IsTrue packs ↔ IsWhole text kept
-whole_if_packed text front rest kept packs is cut packed =
+whole_if_packed text front rest kept packs is cut decides =
     let canonical = canonical_text kept in
     let whole : text ≡ canonical ++ dollar ∷ rest = rw is at cut ∙ append_assoc canonical (dollar ∷ []) rest in (
-      (λ yes. let found = packed.0 yes in (found.0, found.1, whole ∙ ap (λ (x : List ℕ). canonical ++ dollar ∷ x) found.2)),
+      (λ yes. (rest, decides.0 yes, whole)),
       λ found.
-          let tails = (same_front canonical canonical (dollar ∷ rest) _ refl (sym whole ∙ found.2)).1 in
-          packed.1 (found.0, found.1, cc),
+          let tails : dollar ∷ rest ≡ dollar ∷ found.0 = (same_front canonical canonical (dollar ∷ rest) (dollar ∷ found.0) refl (sym whole ∙ found.2)).1 in
+          let same : rest ≡ found.0 = cc tails in
+          decides.1 (subst (IsPacked (method_of kept.scheme)) (sym same) found.1),
     )
 
 -- and none if its setting does not come first
 pub unwhole : (text front : List ℕ) (kept : SettingValue) → front ≡ canonical_text kept ++ dollar ∷ []
     → ((rest : List ℕ) → text ≢ front ++ rest) → ¬ IsWhole text kept
 unwhole text front kept is lacks found =
-    lacks (packed (method_of kept.scheme) found.0) (found.2 ∙ sym (append_assoc (canonical_text kept) (dollar ∷ []) _) ∙ ap (λ (x : List ℕ). x ++ packed (method_of kept.scheme) found.0) (sym is))
+    lacks found.0 (found.2 ∙ sym (append_assoc (canonical_text kept) (dollar ∷ []) _) ∙ ap (λ (x : List ℕ). x ++ found.0) (sym is))

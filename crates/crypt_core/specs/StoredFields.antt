@@ -1,6 +1,6 @@
 -- Stored fields, as a password file has them (shadow(5), crypt(5)).
 use Rattle.std.specs.Prelude.{◌≡◌, ◌≢◌, ℕ, ◌⊎◌, List, [], ◌∷◌, ◌++◌, codes}
-use Rattle.crypt_core.specs.Packing.{IsDigest, packed}
+use Rattle.crypt_core.specs.Packing.{IsPacked}
 use Rattle.crypt_core.specs.Schemes.{method_of}
 use Rattle.crypt_core.specs.Settings.{BeginsWith, SettingValue, Spells, canonical_text, dollar}
 
@@ -25,5 +25,4 @@ IsStored field = (field ≢ []) × ¬ IsLocked field
 -- IsWhole text kept: the text is this setting in canonical form, a `$`, and the packed form of some digest, as the hash
 -- of every password with the setting is.
 abbrev pub IsWhole : List ℕ → SettingValue → Type 0
-IsWhole text kept = (digest : List ℕ) × IsDigest (method_of kept.scheme) digest
-    × (text ≡ canonical_text kept ++ dollar ∷ packed (method_of kept.scheme) digest)
+IsWhole text kept = (packed : List ℕ) × IsPacked (method_of kept.scheme) packed × (text ≡ canonical_text kept ++ dollar ∷ packed)

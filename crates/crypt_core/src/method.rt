@@ -70,7 +70,7 @@ pub(crate) struct MethodRow {
     pub(crate) made_salt_length: usize,
     /// The number of characters of the packed digest.
     pub(crate) packed_len: usize,
-    /// The values below which that of the last character of the packed digest lies.
+    /// The value of the packed digest's last character is below this.
     pub(crate) last_value_limit: u8,
     /// The groups of the packed digest, as places in the digest.
     pub(crate) groups: &'static [&'static [usize]],

@@ -46,8 +46,8 @@ impl Method {
 }
 
 impl Scheme {
-    /// Returns the greatest cost of a hash with this scheme: that of the longest password and the longest salt that the
-    /// method keeps, in bytes digested and mixed.
+    /// Returns the greatest cost of a hash with this scheme, in bytes digested and mixed: that of the longest password and
+    /// the longest salt that the method keeps, where `StoredHash::greatest_cost` takes the salt of the hash.
     pub fn greatest_cost(&self) -> u64
         ensures { result ≡ greatest_cost_by self.now }
     {

@@ -23,7 +23,8 @@ pub enum Standing {
 }
 
 impl StoredHash<'_> {
-    /// Returns the greatest cost of hashing a password with its setting, in bytes digested and mixed ([`cost`]).
+    /// Returns the greatest cost of hashing a password with its setting, in bytes digested and mixed ([`cost`]): that of the
+    /// longest password. [`Scheme::greatest_cost`] takes the longest salt too.
     pub fn greatest_cost(&self) -> u64
         ensures { result ≡ greatest_cost self.now.setting }
     {

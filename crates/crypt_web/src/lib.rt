@@ -5,9 +5,10 @@
 //!
 //! Each call returns 1 if it did what its name says, and 0 otherwise. It writes the whole report, which has the reason: above
 //! 0 in the first case, else the number of the first refusal that applies, in the order password, setting, method, rounds,
-//! budget, capacity, memory. [`web_verify`] reads a stored field: a locked one is `Locked` and an empty one `NoHash`, where the
-//! other calls report what is wrong with it as a setting. These numbers, the report's other fields and what is left in `out`
-//! are those of the calls for C. scrypt needs memory, so its hashes are refused with `OutOfMemory`.
+//! budget, capacity, memory; of an audit method, rounds, field, budget. [`web_verify`] and [`web_audit`] read a stored field: a
+//! locked one is `Locked` and an empty one `NoHash`, where the other calls report what is wrong with it as a setting. These
+//! numbers, the report's other fields and what is left in `out` are those of the calls for C. scrypt needs memory, so the calls
+//! that hash refuse it with `OutOfMemory`.
 #![tactic(auto)]
 
 ghost use Rattle.std.specs.Prelude.{◌≡◌, ◌≢◌, ◌≤◌, ◌↔◌, pos, [], ◌∷◌, take};

@@ -9,7 +9,7 @@ use Rattle.crypt_core.specs.Methods.{method_named}
 use Rattle.crypt_core.specs.Settings.{BeginsWith}
 use Rattle.crypt_core.specs.declared.method.Method.{Method}
 use Rattle.run_core.specs.Answers.{password_answer}
-use Rattle.mkpasswd.specs.Corollaries.{IsNoOption, IsWhole, PrintsHash, hash_arguments}
+use Rattle.mkpasswd.specs.Corollaries.{IsNoOption, EndsWhole, PrintsHash, hash_arguments}
 use Rattle.mkpasswd.specs.Options.{IsJob, command}
 use Rattle.run_core.specs.Runs.{RunState}
 use Rattle.run_core.specs.Texts.{as_line}
@@ -57,7 +57,7 @@ module _ (name salt password : Text) (method : Method) (named : method_named nam
   not_set off on = true≢false (sym on ∙ off)
 
   pub prints_hash : {I O E : Type 0} (Made IsKept : Type 0) (arguments : List Text) (old new : RunState I O E) → arguments ≡ hash_arguments name salt password
-      → IsWhole Made IsKept arguments old new → PrintsHash method salt password old.out new.out
+      → EndsWhole Made IsKept arguments old new → PrintsHash method salt password old.out new.out
   prints_hash Made IsKept arguments old new are (inr (asked, (error, refuses, by, text, gives))) =
       absurd (rw (are, given_fault name salt password name_is salt_is password_is) at refuses.called_for)
   prints_hash Made IsKept arguments old new are (inl (Methods, (taken, asks), asked, done)) = absurd (not_help name method named (rw (finds arguments are).type at asks))

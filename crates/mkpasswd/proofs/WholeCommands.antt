@@ -6,7 +6,7 @@ use Rattle.clap.specs.Words.{Text, kind_of}
 use Rattle.clap.specs.declared.error.Error.{Error}
 use Rattle.run_core.specs.Answers.{Answer, tally_status}
 use Rattle.mkpasswd.specs.Commands.{Concludes, Ends, IsAsked, Serves, ShowsError, Tells, wants_generator}
-use Rattle.mkpasswd.specs.Corollaries.{IsDone, IsWhole, Succeeds, SucceedsByLines}
+use Rattle.mkpasswd.specs.Corollaries.{IsDone, EndsWhole, Succeeds, SucceedsByLines}
 use Rattle.mkpasswd.specs.declared.fault.Fault.TheVariants.{Start}
 use Rattle.run_core.specs.Devices.{Device}
 use Rattle.mkpasswd.specs.Faults.{parse_status, run_row}
@@ -84,7 +84,7 @@ module _ {I O E : Type 0} where
       → IsAsked Made IsKept (wants_generator plan)
       → MatchBool lacks (Tells Start old new status)
       ((mid : RunState I O E) × (result : Result Tally RunFault) × Ends turns plan old mid result × Concludes result mid new status)
-      → IsWhole Made IsKept arguments old new
+      → EndsWhole Made IsKept arguments old new
   of_plan true turns Made IsKept plan arguments old new status well planned asks (result, shows, same, is) = absurd (omega (arith, is, well))
   of_plan false turns Made IsKept plan arguments old new status well planned asks (mid, Ok tally, ends, (same, is)) =
       rw same (inl (plan, planned, asks, is_done turns plan old mid tally (sym is ∙ well) ends))
@@ -95,7 +95,7 @@ module _ {I O E : Type 0} where
 
   of_error : (kept : ℕ) (turns : ℕ) (Made IsKept : Type 0) (arguments : List Text) (error : Error) (old new : RunState I O E) (status : ℕ) → status ≡ 0
       → Plans arguments (Err (Parse error)) → IsAsked Made IsKept false → parse_status (kind_of error) ≡ kept
-      → ShowsError kept turns old new status → IsWhole Made IsKept arguments old new
+      → ShowsError kept turns old new status → EndsWhole Made IsKept arguments old new
   of_error zero turns Made IsKept arguments error old new status well planned asks by (text, mid, Ok tally, (shows, rest, none), (same, is)) =
       inr (asks, (error, planned, by, text, rw same (record { others = rest; gives = shows.0 })))
   of_error zero turns Made IsKept arguments error old new status well planned asks by (text, mid, Err fault, prints, (result, shows, same, is)) =
@@ -104,7 +104,7 @@ module _ {I O E : Type 0} where
       absurd (omega (arith, is, well))
 
   pub is_whole : (turns : ℕ) (Made IsKept : Type 0) (generates : Bool) (arguments : List Text) (old new : RunState I O E) (status : ℕ) → status ≡ 0
-      → Serves turns Made IsKept generates arguments old new status → IsWhole Made IsKept arguments old new
+      → Serves turns Made IsKept generates arguments old new status → EndsWhole Made IsKept arguments old new
   is_whole turns Made IsKept generates arguments old new status well (Ok plan, planned, asks, follows) =
       of_plan (wants_generator plan && not generates) turns Made IsKept plan arguments old new status well planned asks follows
   is_whole turns Made IsKept generates arguments old new status well (Err (Parse error), planned, asks, follows) =

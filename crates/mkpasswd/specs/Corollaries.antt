@@ -71,8 +71,8 @@ module _ {I O E : Type 0} where
 
   -- The arguments have a plan, all of which was done; or they ask for help or the version, which was printed. `Made` and
   -- `IsKept` are as in `IsAsked`.
-  abbrev pub IsWhole : Type 0 → Type 0 → List Text → RunState I O E → RunState I O E → Type 0
-  IsWhole Made IsKept arguments old new =
+  abbrev pub EndsWhole : Type 0 → Type 0 → List Text → RunState I O E → RunState I O E → Type 0
+  EndsWhole Made IsKept arguments old new =
       ((plan : Plan) × Plans arguments (Ok plan) × IsAsked Made IsKept (wants_generator plan) × IsDone plan old new)
       ⊎ (IsAsked Made IsKept false × IsHelped arguments old new)
 

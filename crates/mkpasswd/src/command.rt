@@ -3,7 +3,7 @@ ghost use Rattle.std.specs.Prelude.{◌≡◌, ℕ, ◌<◌, ◌≤◌, false, L
 ghost use Rattle.crypt_core.specs.Methods.{method_named};
 ghost use Rattle.crypt_core.specs.declared.method.Method.{Method};
 ghost use Rattle.mkpasswd.specs.Commands.{IsAsked, Serves, stream_in, wants_generator};
-ghost use Rattle.mkpasswd.specs.Corollaries.{IsNoOption, IsWhole, PrintsHash, hash_arguments};
+ghost use Rattle.mkpasswd.specs.Corollaries.{IsNoOption, EndsWhole, PrintsHash, hash_arguments};
 ghost use Rattle.mkpasswd.specs.Faults.{IsTold, fault_line, fault_row};
 ghost use Rattle.mkpasswd.specs.Private.Commands.{ErrorShown, RefusalShown, RunsOrLacks};
 ghost use Rattle.run_core.specs.Devices.{HasRoomWithinRun, turns_limit};
@@ -73,7 +73,7 @@ pub fn run_command<I: Read, O: Write, E: Write, R: Rng + Drop, M: FnMut() -> Opt
         (run_state input.old out.old faults.old (stream_in R.stream made) meter.old)
         (run_state input.new out.new faults.new (stream_in R.stream generator.new) meter.new) result }
     ensures whole { result ≡ 0 → (made : Option R)
-        × IsWhole (M.step make.old made make.new) ((make.new ≡ make.old) × (made ≡ None)) (map string_bytes arguments.now)
+        × EndsWhole (M.step make.old made make.new) ((make.new ≡ make.old) × (made ≡ None)) (map string_bytes arguments.now)
         (run_state input.old out.old faults.old (stream_in R.stream made) meter.old)
         (run_state input.new out.new faults.new (stream_in R.stream generator.new) meter.new) }
     ensures prints { (name salt password : List ℕ) → (method : Method) → method_named name ≡ Some method

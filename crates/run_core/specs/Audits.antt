@@ -26,7 +26,8 @@ use Rattle.run_core.specs.declared.other_scheme.OtherScheme.{OtherScheme}
 abbrev pub IsOfNone : List ℕ → Type 0
 IsOfNone field = (other : OtherScheme) → ¬ IsOf other field
 
--- IsUnhashed field: it is neither empty nor locked, no setting, and where it begins with `$` its prefix is no method's.
+-- IsUnhashed field: it is neither empty nor locked, it is no setting, and if it begins with `$` the first rule of a setting
+-- that it breaks is `UnknownScheme`.
 abbrev pub IsUnhashed : List ℕ → Type 0
 IsUnhashed field = IsStored field × (fault : SettingFault) × IsRefused field fault × (HasFront field (codes "$") → fault ≡ UnknownScheme)
 
@@ -35,9 +36,9 @@ IsUnhashed field = IsStored field × (fault : SettingFault) × IsRefused field f
 --   NoHash     it is empty
 --   Locked     it begins with `!` or `*`
 --   Malformed  it begins with `$`, and the first rule that it breaks as a setting is this one, and not `UnknownScheme`
---   Other      no other finding applies, and it has the form of this other scheme
---   Unknown    neither, and it begins with `$`
---   NoScheme   neither, and it doesn't
+--   Other      none of the above, and it has the form of this other scheme
+--   Unknown    none of the above, and it begins with `$`
+--   NoScheme   none of the above
 abbrev pub Finds : Job → List ℕ → Finding → Type 0
 Finds job field (Hash scheme most standing) = (kept : SettingValue) × Spells field kept × (scheme ≡ kept.scheme) × (most ≡ greatest_cost kept)
     × HasStanding job.maker.scheme job.budget field kept standing

@@ -5,7 +5,7 @@ use Rattle.prims_core.specs.Alphabet.{alphabet}
 use Rattle.run_core.specs.declared.other_scheme.OtherScheme.{OtherScheme}
 use Rattle.run_core.specs.declared.other_scheme.OtherScheme.TheVariants.{Yescrypt, GostYescrypt, Bcrypt, Nt, Sha1crypt, SunMd5, Bsdicrypt, Descrypt}
 
--- HasFront field front: the field begins with these bytes.
+-- HasFront field front: the field begins with these bytes, as a test. `BeginsWith` says it as a relation.
 abbrev pub HasFront : List ℕ → List ℕ → Type 0
 HasFront field front = IsTrue (starts_with nat_eq field front)
 

@@ -27,14 +27,14 @@ pub(crate) enum Finding {
     NoHash,
     /// The field begins with `!` or `*`.
     Locked,
-    /// The field has the form of another scheme of crypt(5).
-    Other(OtherScheme),
-    /// The field begins with `$`, and its prefix is that of no scheme.
-    Unknown,
-    /// The field doesn't begin with `$`, and no scheme has its form: it is a password, or a damaged hash.
-    NoScheme,
     /// The field begins with `$`, and the first rule that it breaks as a setting is this one, and not `UnknownScheme`.
     Malformed(SettingFault),
+    /// The field is none of these, and has the form of another scheme of crypt(5).
+    Other(OtherScheme),
+    /// The field is none of these, and begins with `$`.
+    Unknown,
+    /// The field is none of these: a password, say, or a damaged hash.
+    NoScheme,
 }
 
 impl Finding {

@@ -153,27 +153,31 @@ pub fn run_check<I: Read, O: Write, E: Write, R: Rng>(
 
 /// Audits the field of each line `name:field`, or `name:field:` and anything, and writes what it finds to `out`.
 ///
-/// - `name:METHOD:COST:current`: `field` spells a setting that the job's settings do not replace
-///   ([`Setting::replaced_by`]), COST is within the job's `budget`, and `field` is whole.
-/// - `name:METHOD:COST:outdated`: they replace it, COST is within the budget, and `field` is whole.
-/// - `name:METHOD:COST:dead`: COST is within the budget, but no password matches `field`, because it is not
+/// - `name:METHOD:ROUNDS:COST:over budget`: `field` spells a setting, and COST exceeds the job's `budget`.
+/// - `name:METHOD:ROUNDS:COST:dead`: it spells any other, but no password matches `field`, because it is not
 ///   [whole](crypt_core::stored::StoredHash::is_whole).
-/// - `name:METHOD:COST:over budget`: COST exceeds the budget.
-/// - `name:locked`: `field` begins with `!` or `*`.
+/// - `name:METHOD:ROUNDS:COST:outdated`: it is whole, and the job's settings replace its setting
+///   ([`Setting::replaced_by`]).
+/// - `name:METHOD:ROUNDS:COST:current`: it is whole, and they don't.
 /// - `name:none`: `field` is empty.
-/// - `name:unknown`: the first rule of a setting that any other `field` breaks is `UnknownScheme`.
-/// - `name:malformed:MESSAGE`: it is another rule, with this message ([`SettingFault`]).
+/// - `name:locked`: `field` begins with `!` or `*`.
+/// - `name:malformed:MESSAGE`: `field` begins with `$`, and this is the message of the first rule of a setting that it breaks
+///   ([`SettingFault`]), which is not `UnknownScheme`.
+/// - `name:SCHEME:unknown`: any other `field` has the form of another scheme of crypt(5), such as `yescrypt`.
+/// - `name:unknown`: it doesn't, and begins with `$`.
+/// - `name:no scheme`: it doesn't, and begins with anything else.
 ///
-/// `field` ends at the second colon, or at the end of the line. METHOD is the name of the setting's method. COST is the
-/// cost of hashing a password of 1,024 bytes with it ([`cost`](crypt_core::work::cost)), and no password costs more. A
-/// line that is too long, or has no valid name or no field, is refused as by [`run_batch`].
+/// `field` ends at the second colon, or at the end of the line. METHOD is the name of the setting's method. ROUNDS is its
+/// number of rounds, or N, r and p of scrypt with `/` between them. COST is the cost of hashing a password of 1,024 bytes
+/// with it ([`cost`](crypt_core::work::cost)), and no password costs more. A line that is too long, or has no valid name or
+/// no field, is refused as by [`run_batch`].
 ///
 /// The run takes no generator, and hashes and allocates nothing. The job's `rehash` and `work` have no effect. The
 /// tally's `misfits` are the findings `outdated`, `dead`, `over budget`, `none`, `no scheme` and `malformed`. Everything else is
 /// as for [`run_batch`], including the preconditions.
 ///
 /// For example, with sha512crypt the line `ann:$1$xxxxxxxx$UYCIxa628.9qXjpQCjM4a.:19000:0` gives
-/// `ann:md5crypt:1927022:outdated`.
+/// `ann:md5crypt:1000:1927022:outdated`.
 ///
 /// # Errors
 ///

@@ -370,7 +370,7 @@ fn draws_and_counts(rt: HostRuntime) -> Result<(), Fail> {
             audit,
             "ann:$1$xxxxxxxx$UYCIxa628.9qXjpQCjM4a.\nbob:$6$rounds=0$a:x\n",
             Ok((2, 0, 2)),
-            "ann:md5crypt:1927022:over budget\nbob:malformed:bad rounds\n",
+            "ann:md5crypt:1000:1927022:over budget\nbob:malformed:bad rounds\n",
             "",
             129,
             0,

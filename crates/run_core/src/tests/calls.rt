@@ -154,16 +154,16 @@ fn calls_in_order_over_lines(rt: HostRuntime) -> Result<(), Fail> {
         steps: &[
             read(512, 67),
             write(9, 9),
-            write(27, 27),
+            write(32, 32),
             write(7, 7),
             tell(26, 26),
             read(512, 0),
-            write(10, 10),
+            write(19, 19),
             FLUSH,
             FLUSH_FAULTS,
         ],
         outcome: Ok((5, 1, 1)),
-        out: "b:locked\nd:md5crypt:1927022:current\nc:none\nu:unknown\n",
+        out: "b:locked\nd:md5crypt:1000:1927022:current\nc:none\nu:yescrypt:unknown\n",
         faults: "mkpasswd: line 4: no name\n",
         ..check
     };

@@ -74,5 +74,5 @@ returns-after-is_replaced_by-clause-dead g c = λ scheme kept made is spells dea
     let missed = c.compare.ensures.missed (λ fits. dead_fits c.in-Ok.request.0 c.args.field.now own found.spells (rw found.is_text at fits) (kept, spells, dead)) in
     elim missed [
       | inl told ↦ inl (rw (is_dead, c.in-Ok-checkable.ensures.within.0, c.in-Ok.ensures.password.0, same) at told)
-      | inr lacks ↦ inr lacks
+      | inr lacks ↦ inr (rw same at lacks)
     ]
