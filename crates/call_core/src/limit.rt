@@ -27,6 +27,8 @@ const HALF_LIMIT_LEN: usize = 64;
 pub fn limit_of(method: u32, rounds: u32, budget: u64, password_len: usize) -> u64
     ensures limit { result ≡ limit_of method rounds budget password_len }
     ensures given { budget ≢ twice → result ≡ budget }
+    ensures by_scheme { (scheme : Made) → IsSchemeMade TakesNewRounds method rounds scheme → budget ≡ twice
+        → result ≡ limit_by scheme password_len }
     ensures admits { (scheme : Made) → IsSchemeMade TakesNewRounds method rounds scheme → budget ≡ twice
         → password_len ≤ 64 → new_cost scheme password_len ≤ result }
 {
