@@ -25,7 +25,7 @@ use Rattle.call_core.specs.declared.reason.Reason.TheVariants.{Fits, Outdated, R
 use Rattle.call_core.specs.declared.reason.Refusal.{Refusal}
 use Rattle.call_core.specs.declared.reason.Refusal.TheVariants.{Cost, Dead, Differs, OutOfMemory, OverBudget, Password, UnknownMethod}
 use Rattle.call_core.specs.declared.report.Report.{Report}
-use Rattle.call_core.proofs.MadeSchemes.{made_once}
+use Rattle.call_core.proofs.MadeSchemes.{made_once, never_refused}
 use Rattle.call_core.proofs.ReasonNumbers.{reason_once}
 use Rattle.call_core.specs.Logins.{Agrees, Declines, IsHashWork, IsLoginWork, IsMiss, IsUncheckable, LogsIn, decoy}
 
@@ -63,13 +63,6 @@ outdated_fits kept other scheme also reason e same made is =
     rw replaced at told
 
 -- ---- It agrees with mkpasswd_verify
-
--- a number and a cost that make a scheme are not refused
-never_refused : (number rounds : ℕ) (scheme : Scheme) (Then : Type 0) → IsSchemeMade TakesNewRounds number rounds scheme
-    → (method : Method) → method_numbered number ≡ Some method → ¬ TakesNewRounds method rounds → Then
-never_refused number rounds scheme Then makes method named never =
-    let same : method ≡ makes.0 = cc (named, makes.1) in
-    absurd (never (rw same makes.2))
 
 declined_agrees : (password : List ℕ) (scheme : Scheme) (budget : ℕ) (refusal report : Report)
     → Declines password scheme budget refusal report → Agrees report refusal

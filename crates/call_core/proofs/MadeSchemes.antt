@@ -1,7 +1,8 @@
 -- Schemes that a method's number and the rounds make, and which of them replaces another.
-use Rattle.std.proofs.Common.{◌≡◌, ℕ, Err, false, inl, inr, refl, subst, arith}
+use Rattle.std.proofs.Common.{◌≡◌, ℕ, Some, Err, false, inl, inr, refl, subst, arith}
 use Rattle.std.specs.Prelude.{IsTrue}
 use Rattle.crypt_core.specs.MadeSettings.{TakesRounds}
+use Rattle.crypt_core.specs.Methods.{method_numbered}
 use Rattle.crypt_core.specs.Replacements.{is_replaced_by}
 use Rattle.crypt_core.specs.Settings.{SettingValue}
 use Rattle.crypt_core.specs.declared.method.Method.{Method}
@@ -32,6 +33,13 @@ pub made_once : (Takes Also : Method → ℕ → Type 0) (number rounds : ℕ) (
 made_once Takes Also number rounds a b one two =
     let same : one.0 ≡ two.0 = cc (one.1, two.1) in
     cc (same, one.3, two.3)
+
+-- a number and rounds that make a scheme are not refused
+pub never_refused : (number rounds : ℕ) (scheme : Scheme) (Then : Type 0) → IsSchemeMade TakesNewRounds number rounds scheme
+    → (method : Method) → method_numbered number ≡ Some method → ¬ TakesNewRounds method rounds → Then
+never_refused number rounds scheme Then makes method named never =
+    let same : method ≡ makes.0 = cc (named, makes.1) in
+    absurd (never (rw same makes.2))
 
 pub never_replaced : (scheme : Scheme) → is_replaced_by scheme scheme ≡ false
 never_replaced Md5crypt = refl

@@ -1,15 +1,22 @@
 -- Hashes that are made, and put into the caller's bytes.
-use Rattle.std.proofs.Common.{◌≡◌, ◌≢◌, ◌==◌, ℕ, List, [], ◌∷◌, length, Result, Ok, Err, false, inl, inr, arith}
+use Rattle.std.proofs.Common.{◌≡◌, ◌≢◌, ◌==◌, ◌⊎◌, ap, nat_lt, pos, rules, ◌<ℤ◌, ℕ, List, [], ◌∷◌, length, Result, Ok, Err, false, inl, inr, arith}
 use Rattle.std.specs.Prelude.{MatchBool, MatchResult, Bool, true}
+use Rattle.crypt_core.specs.Crypt.{crypt}
 use Rattle.crypt_core.specs.MadeSettings.{salted}
 use Rattle.crypt_core.specs.Passwords.{IsPassword}
+use Rattle.crypt_core.specs.Settings.{SettingValue}
+use Rattle.crypt_core.specs.Work.{cost}
+use Rattle.crypt_core.specs.declared.password.PasswordFault.TheVariants.{TooLong, HasNul}
 use Rattle.crypt_core.specs.declared.scheme.Scheme.{Scheme}
 use Rattle.call_core.specs.Arguments.{IsSchemeMade, TakesNewRounds}
 use Rattle.call_core.specs.Hashes.{PutsHash, admission}
 use Rattle.call_core.specs.Private.Hashes.{IsPut, MakesHash}
+use Rattle.call_core.specs.Reasons.{reason_row}
 use Rattle.call_core.specs.Reports.{Leaves, put, refused, token}
-use Rattle.call_core.specs.declared.reason.Refusal.TheVariants.{NoRandomNumbers}
+use Rattle.call_core.specs.declared.reason.Reason.TheVariants.{Refused}
+use Rattle.call_core.specs.declared.reason.Refusal.TheVariants.{NoRandomNumbers, OutOfMemory}
 use Rattle.call_core.specs.declared.report.Report.{Report}
+use Rattle.call_core.proofs.MadeSchemes.{made_once, never_refused}
 use Rattle.call_core.proofs.PutHashes.{puts}
 use Rattle.call_core.specs.Hashes.{HashesAnew}
 use Rattle.call_core.specs.Private.Hashes.{MakesHashAnew}
@@ -64,3 +71,32 @@ puts_new_hash password number rounds budget numbers old made report new (inl (is
 
 pub no_three : (n : ℕ) → n ≢ 3 → (n == 3) ≡ false
 no_three n other = grind arith
+
+-- ---- What has to be made
+
+-- a hash that the budget and the room allow is made, but for memory
+made_within : (password : List ℕ) (kept : SettingValue) (budget : ℕ) (lock old : List ℕ) (report : Report) (new : List ℕ)
+    → nat_lt budget (cost kept (length password)) ≡ false → nat_lt (length (crypt password kept)) (length old) ≡ true
+    → PutsHash password kept budget lock old report new
+    → (pos 0 <ℤ report.reason) ⊎ (report.reason ≡ (reason_row (Refused OutOfMemory)).0)
+made_within password kept budget lock old report new low room puts =
+    elim (rw (low, room) at puts) [
+      | inl leaves ↦ inl (rw leaves.0 (search rules))
+      | inr lacks ↦ inr (ap (λ (r : Report). r.reason) lacks.0.2)
+    ]
+
+pub written : (password : List ℕ) (number rounds budget : ℕ) (numbers old : List ℕ) (scheme : Scheme) (report : Report) (new : List ℕ)
+    → IsSchemeMade TakesNewRounds number rounds scheme → IsPassword password → (length numbers == 3) ≡ true
+    → nat_lt budget (cost (salted scheme numbers) (length password)) ≡ false
+    → nat_lt (length (crypt password (salted scheme numbers))) (length old) ≡ true
+    → HashesAnew password number rounds budget numbers old report new
+    → (pos 0 <ℤ report.reason) ⊎ (report.reason ≡ (reason_row (Refused OutOfMemory)).0)
+written password number rounds budget numbers old scheme report new makes is three low room (inr (TooLong, broken, e)) = absurd (omega (arith, is.0, broken))
+written password number rounds budget numbers old scheme report new makes is three low room (inr (HasNul, broken, e)) = absurd (is.1 broken.1)
+written password number rounds budget numbers old scheme report new makes is three low room (inl (also, inr (inl (none, e)))) = absurd (cc (none, makes.1))
+written password number rounds budget numbers old scheme report new makes is three low room (inl (also, inr (inr (method, named, never, e)))) =
+    never_refused number rounds scheme _ makes method named never
+written password number rounds budget numbers old scheme report new makes is three low room (inl (also, inl (other, made, puts))) =
+    let same : other ≡ scheme = made_once TakesNewRounds TakesNewRounds number rounds other scheme made makes in
+    let put = rw (three, same) at puts in
+    made_within password (salted scheme numbers) budget (token []) old report new low room put

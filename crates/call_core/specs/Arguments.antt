@@ -5,6 +5,7 @@
 use Rattle.std.specs.Prelude.{◌≡◌, ◌⊎◌, ◌<◌, ◌≤◌, ℕ, List, [], Some, None, Result, Ok, Err}
 use Rattle.crypt_core.specs.MadeSettings.{TakesRounds, made_scheme}
 use Rattle.crypt_core.specs.Methods.{method_numbered}
+use Rattle.crypt_core.specs.Policies.{chosen_rounds}
 use Rattle.crypt_core.specs.Passwords.{IsPassword, IsPasswordRefused, password_limit}
 use Rattle.crypt_core.specs.Refusals.{IsRefused}
 use Rattle.crypt_core.specs.Rounds.{clamped}
@@ -53,10 +54,10 @@ TakesNewRounds methods.Sha256crypt rounds = (rounds ≡ 0) ⊎ (clamped rounds �
 TakesNewRounds methods.Sha512crypt rounds = (rounds ≡ 0) ⊎ (clamped rounds ≡ rounds)
 TakesNewRounds method rounds = TakesRounds method rounds
 
--- The scheme that the method with this number has with rounds that it takes.
+-- The scheme that the method with this number has with rounds that it takes. 0 stands for the recommended ones.
 abbrev pub IsSchemeMade : (Method → ℕ → Type 0) → ℕ → ℕ → Scheme → Type 0
 IsSchemeMade Takes number rounds scheme =
-    (method : Method) × (method_numbered number ≡ Some method) × Takes method rounds × (scheme ≡ made_scheme method rounds)
+    (method : Method) × (method_numbered number ≡ Some method) × Takes method rounds × (scheme ≡ made_scheme method (chosen_rounds method rounds))
 
 -- A method's number and rounds make a scheme, of which `Then` holds; or `Refuses` holds of the refusal: no method has the
 -- number, or its method does not take the rounds.

@@ -1,12 +1,9 @@
 -- The audit of a stored field, without a password.
 use Rattle.std.specs.Prelude.{◌≡◌, ℕ, List, Some}
-use Rattle.std.specs.Option.{option_map_or}
 use Rattle.prims_core.specs.Work.{no_work}
-use Rattle.crypt_core.specs.Methods.{method_numbered}
-use Rattle.crypt_core.specs.Policies.{chosen_budget, chosen_rounds}
+use Rattle.crypt_core.specs.Policies.{chosen_budget}
 use Rattle.crypt_core.specs.Settings.{SettingValue, Spells}
 use Rattle.crypt_core.specs.Standings.{HasStanding, greatest_cost}
-use Rattle.crypt_core.specs.declared.method.Method.{Method}
 use Rattle.crypt_core.specs.declared.scheme.Scheme.{Scheme}
 use Rattle.crypt_core.specs.declared.standing.Standing.{Standing}
 use Rattle.crypt_core.specs.declared.standing.Standing.TheVariants as standings
@@ -16,10 +13,6 @@ use Rattle.call_core.specs.declared.reason.Reason.{Reason}
 use Rattle.call_core.specs.declared.reason.Reason.TheVariants.{Done, Refused}
 use Rattle.call_core.specs.declared.reason.Refusal.TheVariants.{Dead, OverBudget, Replaced}
 use Rattle.call_core.specs.declared.report.Report.{Report}
-
--- The rounds by which an audit judges: those that are given, or for 0 the recommended ones of the method with this number.
-abbrev pub audit_rounds : ℕ → ℕ → ℕ
-audit_rounds number rounds = option_map_or (λ (method : Method). chosen_rounds method rounds) (method_numbered number) rounds
 
 -- The reason for each standing.
 abbrev pub standing_reason : Standing → Reason
@@ -32,7 +25,7 @@ standing_reason standings.Current = Done
 -- setting; or the refusal of the method, the rounds or the field. A budget of 0 stands for that of an audit.
 abbrev pub Audits : List ℕ → ℕ → ℕ → ℕ → Report → Type 0
 Audits field number rounds budget report =
-    OnScheme TakesNewRounds number (audit_rounds number rounds) (Refuses report) (λ scheme. OnField field (Refuses report) (λ kept.
+    OnScheme TakesNewRounds number rounds (Refuses report) (λ scheme. OnField field (Refuses report) (λ kept.
     (standing : Standing) × HasStanding scheme (Some (chosen_budget scheme budget)) field kept standing
     × (report ≡ reported (standing_reason standing) 0 (greatest_cost kept) no_work)))
 
@@ -40,5 +33,5 @@ Audits field number rounds budget report =
 -- budget.
 abbrev pub IsCurrent : List ℕ → ℕ → ℕ → ℕ → Type 0
 IsCurrent field number rounds budget =
-    (kept : SettingValue) × (scheme : Scheme) × Spells field kept × IsSchemeMade TakesNewRounds number (audit_rounds number rounds) scheme
+    (kept : SettingValue) × (scheme : Scheme) × Spells field kept × IsSchemeMade TakesNewRounds number rounds scheme
     × HasStanding scheme (Some (chosen_budget scheme budget)) field kept standings.Current

@@ -2,6 +2,7 @@ pub mod Arguments
 pub mod Audits
 pub mod Checks
 pub mod Hashes
+pub mod Limits
 pub mod Logins
 pub mod Private
 pub mod Reasons

@@ -1,12 +1,11 @@
 //! The audit of a stored field, without a password: is its hash whole, within the budget, and made as new hashes are?
 ghost use Rattle.std.specs.Prelude.{◌≡◌, ◌<ℤ◌, pos};
 ghost use Rattle.prims_core.specs.Work.{no_work};
-ghost use Rattle.call_core.specs.Audits.{Audits, IsCurrent, audit_rounds, standing_reason};
+ghost use Rattle.call_core.specs.Audits.{Audits, IsCurrent, standing_reason};
 
 use crate::reading::{new_scheme_of, stored_hash};
 use crate::reason::{Reason, Refusal};
 use crate::report::{NO_WORK, Report};
-use crypt_core::method::Method;
 use crypt_core::standing::Standing;
 
 /// Returns the report on the standing of the stored hash in a field, by the scheme that new hashes have with the method and
@@ -18,7 +17,7 @@ pub fn report_audit(field: &[u8], method: u32, rounds: u32, budget: u64) -> Repo
     ensures idle { result.work ≡ no_work }
     ensures reserved { result.reserved ≡ 0 }
 {
-    let scheme = match new_scheme_of(method, audit_rounds(method, rounds)) {
+    let scheme = match new_scheme_of(method, rounds) {
         Ok(scheme) => scheme,
         Err(refusal) => return Report::from(refusal),
     };
@@ -29,16 +28,6 @@ pub fn report_audit(field: &[u8], method: u32, rounds: u32, budget: u64) -> Repo
     let standing = stored.standing(&scheme, Some(scheme.chosen_budget(budget)));
     let most = stored.greatest_cost();
     Report::new(standing_reason(standing), 0, most, NO_WORK)
-}
-
-// Returns the rounds, or for 0 the recommended ones of the method with this number, if there is one.
-fn audit_rounds(number: u32, rounds: u32) -> u32
-    ensures { result ≡ audit_rounds number rounds }
-{
-    match Method::numbered(number) {
-        Some(method) => method.chosen_rounds(rounds),
-        None => rounds,
-    }
 }
 
 // Returns the reason for a standing.

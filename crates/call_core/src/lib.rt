@@ -11,6 +11,7 @@ pub mod audit;
 pub mod bound;
 mod budget;
 pub mod hash;
+pub mod limit;
 pub mod login;
 pub mod new_hash;
 mod reading;

@@ -16,7 +16,7 @@ use crypt_core::password::Password;
 use crypt_core::scheme::Scheme;
 use crypt_core::stored::{StoredField, StoredHash};
 
-/// Makes the scheme with a method's number and the rounds.
+/// Makes the scheme with a method's number and the rounds, where 0 stands for the recommended ones.
 ///
 /// # Errors
 ///
@@ -28,7 +28,7 @@ pub(crate) fn scheme_of(number: u32, rounds: u32) -> Result<Scheme, Refusal>
     let Some(method) = Method::numbered(number) else {
         return Err(Refusal::UnknownMethod);
     };
-    match Scheme::made(method, rounds) {
+    match Scheme::made(method, method.chosen_rounds(rounds)) {
         Ok(scheme) => Ok(scheme),
         Err(_) => Err(Refusal::Cost),
     }

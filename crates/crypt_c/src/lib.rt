@@ -14,7 +14,8 @@
 
 ghost use Rattle.std.specs.Prelude.{◌≡◌, ◌≢◌, ◌⊎◌, ◌↔◌, ◌<◌, ◌≤◌, true, pos, [], ◌∷◌, Err, length, take, codes};
 ghost use Rattle.prims_core.specs.Work.{no_work};
-ghost use Rattle.crypt_core.specs.Crypt.{allocates};
+ghost use Rattle.crypt_core.specs.Crypt.{IsAfterRefusedGrowth, allocates, crypt};
+ghost use Rattle.crypt_core.specs.MadeSettings.{salted};
 ghost use Rattle.crypt_core.specs.Passwords.{IsPassword, IsPasswordRefused};
 ghost use Rattle.crypt_core.specs.Settings.{SettingValue, Spells};
 ghost use Rattle.crypt_core.specs.StoredFields.{IsWhole};
@@ -25,6 +26,7 @@ ghost use Rattle.call_core.specs.Arguments.{IsSchemeMade, IsSchemeReading, Takes
 ghost use Rattle.call_core.specs.Audits.{Audits, IsCurrent};
 ghost use Rattle.call_core.specs.Checks.{IsDead, Opens, Verifies};
 ghost use Rattle.call_core.specs.Hashes.{Hashes, HashesAnew};
+ghost use Rattle.call_core.specs.Limits.{limit_of, new_cost, policy_limit, twice};
 ghost use Rattle.call_core.specs.Logins.{Agrees, IsHashWork, IsLoginWork, IsUncheckable, LogsIn, decoy};
 ghost use Rattle.call_core.specs.Reasons.{reason_row};
 ghost use Rattle.call_core.specs.Rehashes.{IsOutdated, Rehashes};
@@ -39,6 +41,7 @@ ghost use Rattle.call_core.specs.declared.report.Report.{Report as Told};
 use call_core::audit::report_audit;
 use call_core::bound::report_bound;
 use call_core::hash::put_hash;
+use call_core::limit::limit_of;
 use call_core::login::log_in;
 use call_core::new_hash::put_new_hash;
 use call_core::reason::Reason;
@@ -92,6 +95,10 @@ pub extern "C" fn mkpasswd_verify(
 /// If the field has no setting, or one above the budget, the call hashes the password with the method, the rounds and a
 /// fixed salt, and returns 0. So such a name does the work of a new hash. A name that is not known has an empty field.
 ///
+/// Rounds of 0 are the recommended ones. A budget of 0 is the limit of the policy: twice what a new hash with the method and
+/// the rounds costs for a password of 64 bytes, and at least 150000000. It admits a new hash of each such password. A
+/// password whose new hash would be above it is refused without work, whatever the field is.
+///
 /// # Errors
 ///
 /// - `Password`: the password is invalid. The field makes no difference.
@@ -115,26 +122,33 @@ pub extern "C" fn mkpasswd_login(
     report: &mut Report,
 ) -> i32
     ensures answers { Answers result report.new }
-    ensures lets_in { result ≡ pos 1 → Opens password.now field.now budget }
-    ensures opens { (scheme : Scheme) → IsSchemeMade TakesNewRounds method rounds scheme → Opens password.now field.now budget
+    ensures lets_in { result ≡ pos 1 → Opens password.now field.now (limit_of method rounds budget (length password.now)) }
+    ensures opens { (scheme : Scheme) → IsSchemeMade TakesNewRounds method rounds scheme → Opens password.now field.now (limit_of method rounds budget (length password.now))
         → (result ≡ pos 1) ⊎ (report.new.reason ≡ (reason_row (Refused OutOfMemory)).0) }
     ensures shut { IsDead field.now → result ≡ pos 0 }
     ensures dead { (scheme : Scheme) → (kept : SettingValue) → IsSchemeMade TakesNewRounds method rounds scheme
-        → IsPassword password.now → Spells field.now kept → ¬ IsWhole field.now kept → cost kept (length password.now) ≤ budget
+        → IsPassword password.now → Spells field.now kept → ¬ IsWhole field.now kept → cost kept (length password.now) ≤ limit_of method rounds budget (length password.now)
         → (report.new ≡ reported (Refused Dead) 0 (cost kept (length password.now)) (work password.now kept))
         ⊎ ((report.new.reason ≡ (reason_row (Refused OutOfMemory)).0) × (allocates kept.scheme ≡ true)) }
     ensures tells { report.new.reason ≡ (reason_row (Refused Dead)).0 → IsDead field.now }
     ensures outdated { report.new.reason ≡ (reason_row Outdated).0 ↔ (result ≡ pos 1) × IsOutdated field.now method rounds }
     ensures as_verify { (scheme : Scheme) → IsSchemeMade TakesNewRounds method rounds scheme
-        → (verified : Told) × Verifies password.now field.now budget verified × Agrees report.new verified }
+        → (verified : Told) × Verifies password.now field.now (limit_of method rounds budget (length password.now)) verified × Agrees report.new verified }
     ensures decoy { (scheme : Scheme) → IsSchemeMade TakesNewRounds method rounds scheme → IsPassword password.now
-        → IsUncheckable password.now field.now budget → IsHashWork password.now (decoy scheme) budget report.new.work }
+        → IsUncheckable password.now field.now (limit_of method rounds budget (length password.now))
+        → IsHashWork password.now (decoy scheme) (limit_of method rounds budget (length password.now)) report.new.work }
+    ensures decoy_made { (scheme : Scheme) → IsSchemeMade TakesNewRounds method rounds scheme → budget ≡ twice → IsPassword password.now
+        → new_cost scheme (length password.now) ≤ policy_limit scheme → IsUncheckable password.now field.now (policy_limit scheme)
+        → (report.new.work ≡ work password.now (decoy scheme)) ⊎ IsAfterRefusedGrowth no_work scheme report.new.work }
+    ensures alike_long { (scheme : Scheme) → IsSchemeMade TakesNewRounds method rounds scheme → budget ≡ twice
+        → policy_limit scheme < new_cost scheme (length password.now) → (result ≡ pos 0) × (report.new.work ≡ no_work) }
     ensures alike { (fault : PasswordFault) → IsPasswordRefused password.now fault → report.new ≡ refused (Password fault) 0 }
     ensures alike_rounds { (refusal : Refusal) → IsPassword password.now → IsSchemeReading TakesNewRounds method rounds (Err refusal)
         → report.new ≡ refused refusal 0 }
-    ensures one_hash { IsLoginWork password.now field.now method rounds budget report.new.work }
-    ensures logs_in { LogsIn password.now field.now method rounds budget report.new }
+    ensures one_hash { IsLoginWork password.now field.now method rounds (limit_of method rounds budget (length password.now)) report.new.work }
+    ensures logs_in { LogsIn password.now field.now method rounds (limit_of method rounds budget (length password.now)) report.new }
 {
+    let limit = limit_of(method, rounds, budget, password.len());
     tell(
         report,
         log_in(
@@ -143,7 +157,7 @@ pub extern "C" fn mkpasswd_login(
             field,
             method,
             rounds,
-            budget,
+            limit,
             &mut Meter::new(),
         ),
     )
@@ -156,9 +170,9 @@ pub extern "C" fn mkpasswd_login(
 /// memory can then be refused.
 ///
 /// The method is 1 for md5crypt, 5 for sha256crypt, 6 for sha512crypt or 7 for scrypt, as in their hashes. The rounds
-/// are those of `mkpasswd -R`, and 0 is the method's default. [`mkpasswd_verify`] accepts the hash for its password within
-/// the budget, unless scrypt lacks memory. For the same method and rounds [`mkpasswd_needs_rehash`] does not report it as
-/// outdated.
+/// are those of `mkpasswd -R`, but 0 is the recommended ones. A budget of 0 is the limit of the policy, as for
+/// [`mkpasswd_login`], which accepts the hash for its password by the same method, rounds and budget, unless scrypt lacks
+/// memory. For the same method and rounds [`mkpasswd_needs_rehash`] does not report it as outdated.
 ///
 /// # Errors
 ///
@@ -180,11 +194,16 @@ pub extern "C" fn mkpasswd_new_from(
     report: &mut Report,
 ) -> i32
     ensures answers { Answers result report.new }
-    ensures hashes { HashesAnew password.now method rounds budget numbers.now out.old report.new out.new }
+    ensures hashes { HashesAnew password.now method rounds (limit_of method rounds budget (length password.now)) numbers.now out.old report.new out.new }
     ensures locked { result ≡ pos 0 → out.new ≡ put (token []) out.old }
-    ensures then_opens { result ≡ pos 1 → Opens password.now (take report.new.length out.new) budget }
+    ensures writes { (scheme : Scheme) → IsSchemeMade TakesNewRounds method rounds scheme → budget ≡ twice → IsPassword password.now
+        → new_cost scheme (length password.now) ≤ policy_limit scheme → length numbers.now ≡ 3
+        → length (crypt password.now (salted scheme numbers.now)) < length out.old
+        → (result ≡ pos 1) ⊎ (report.new.reason ≡ (reason_row (Refused OutOfMemory)).0) }
+    ensures then_opens { result ≡ pos 1 → Opens password.now (take report.new.length out.new) (limit_of method rounds budget (length password.now)) }
     ensures then_current { result ≡ pos 1 → Rehashes (take report.new.length out.new) method rounds (refused Current 0) }
 {
+    let limit = limit_of(method, rounds, budget, password.len());
     tell(
         report,
         put_new_hash(
@@ -193,7 +212,7 @@ pub extern "C" fn mkpasswd_new_from(
             method,
             rounds,
             numbers,
-            budget,
+            limit,
             out,
             &mut Meter::new(),
         ),

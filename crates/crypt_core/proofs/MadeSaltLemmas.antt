@@ -1,8 +1,8 @@
 -- Lemmas on salts made of random numbers.
-use Rattle.std.proofs.Common.{◌≡◌, ◌≤◌, ℕ, ◌+◌, ◌*◌, ◌/◌, ◌%◌, ◌^◌, List, [], ◌∷◌, ◌++◌, All, arith, refl}
+use Rattle.std.proofs.Common.{◌≡◌, ◌≤◌, ℕ, ◌+◌, ◌*◌, ◌/◌, ◌%◌, ◌^◌, List, [], ◌∷◌, ◌++◌, All, arith, length, refl}
 use Rattle.std.specs.List.{range_with_len}
 use Rattle.std.proofs.lemmas.Bool.{leb-true}
-use Rattle.std.proofs.lemmas.List.FromFn.{map-range_with_len_more}
+use Rattle.std.proofs.lemmas.List.FromFn.{length-map-range_with_len, map-range_with_len_more}
 use Rattle.std.proofs.lemmas.List.Elements.{All-map}
 use Rattle.prims_core.specs.Alphabet.{alphabet, character_of}
 use Rattle.std.specs.Prelude.{Contains, nat_le, slice_index}
@@ -24,6 +24,10 @@ made_salt-more numbers n = map-range_with_len_more (made_character numbers) 0 n 
 pub all_made_salt : (numbers : List ℕ) (n : ℕ) → All (Contains alphabet) (made_salt numbers n)
 unfolding made_salt
 all_made_salt numbers n = All-map (Contains alphabet) (made_character numbers) (range_with_len 0 n) (λ k d h. Contains-character_of _ _ (omega arith) refl)
+
+pub length-made_salt : (numbers : List ℕ) (n : ℕ) → length (made_salt numbers n) ≡ n
+unfolding made_salt
+length-made_salt numbers n = length-map-range_with_len (made_character numbers) 0 n
 
 -- as many characters as a made salt has, the method keeps
 pub made_short : (m : Method) → made_salt_length m ≤ salt_limit m

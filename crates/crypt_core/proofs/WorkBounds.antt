@@ -1,6 +1,6 @@
 -- Lemmas on the bound of the work of a hash, and on its cost: a password of the greatest length costs at least as much as
 -- any other.
-use Rattle.std.proofs.Common.{ℕ, zero, suc, ◌+◌, ◌-◌, ◌*◌, ◌/◌, ◌%◌, ◌^◌, ◌<◌, ◌≤◌, Bool, true, false, cond, nat_eq, length, inl, inr, arith}
+use Rattle.std.proofs.Common.{ℕ, zero, suc, ◌+◌, ◌-◌, ◌*◌, ◌/◌, ◌%◌, ◌^◌, ◌<◌, ◌≤◌, Bool, true, false, cond, nat_eq, length, inl, inr, arith, ◌≡◌, refl}
 use Rattle.std.specs.Int.{div_ceil}
 use Rattle.std.proofs.lemmas.Bool.{cases_order}
 use Rattle.std.proofs.lemmas.Bool.Decides.{nat_tests}
@@ -49,37 +49,56 @@ at_most_k (suc k) one other most (suc n) small too below =
     piece true = small
     piece false = too
 
--- the greatest length has one digit more than any other, and ten of its eleven are 0
-digits_longest : (one n : ℕ) → one ≤ password_limit → n ≤ password_limit → digit_bytes one n n ≤ digit_bytes one password_limit password_limit
-digits_longest one n small short = elim (cases_order n password_limit) [
+-- IsPower k most: the length `most` is 2 ^ k, whose first digit is its only 1.
+record IsPower (k most : ℕ) : Type 0 where
+  power : most ≡ 2 ^ k
+  digits : (one : ℕ) → digit_bytes one most most ≡ one + k * most
+  single : digit_bytes 1 1 most ≡ k + 1
+  wide : 64 ≤ most
+
+-- it has one digit more than any smaller length
+digits_longest : (k most one n : ℕ) → IsPower k most → one ≤ most → n ≤ most → digit_bytes one n n ≤ digit_bytes one most most
+digits_longest k most one n is small short = elim (cases_order n most) [
   | inl same ↦ rw same (omega arith)
   | inr other ↦ elim other [
-    | inl below ↦ omega (arith, at_most_k 10 one n password_limit n small short below)
+    | inl below ↦ omega (arith, at_most_k k one n most n small short (rw is.power at below), is.digits one)
     | inr above ↦ absurd (omega (arith, short, above))
   ]
 ]
 
-single_longest : (n : ℕ) → n ≤ password_limit → digit_bytes 1 1 n ≤ digit_bytes 1 1 password_limit
-single_longest n short = omega (arith, at_most_k 11 1 1 1 n (omega arith) (omega arith) (omega (arith, short)))
+single_longest : (k most n : ℕ) → IsPower k most → n ≤ most → digit_bytes 1 1 n ≤ digit_bytes 1 1 most
+single_longest k most n is short = elim (cases_order n most) [
+  | inl same ↦ rw same (omega arith)
+  | inr other ↦ elim other [
+    | inl below ↦ omega (arith, at_most_k k 1 1 1 n (omega arith) (omega arith) (rw is.power at below), is.single)
+    | inr above ↦ absurd (omega (arith, short, above))
+  ]
+]
 
 -- ---- those of the rounds
 
-rounds_longest : (count digest n salt : ℕ) → n ≤ password_limit → rounds_bytes count digest n salt ≤ rounds_bytes count digest password_limit salt
-rounds_longest count digest n salt short =
-    let once : count * (digest + n) ≤ count * (digest + password_limit) = mul-le-mul_left count (omega (arith, short)) in
+rounds_longest : (count digest n most salt : ℕ) → n ≤ most → rounds_bytes count digest n salt ≤ rounds_bytes count digest most salt
+rounds_longest count digest n most salt short =
+    let once : count * (digest + n) ≤ count * (digest + most) = mul-le-mul_left count (omega (arith, short)) in
     omega (arith, once, mul-le-mul_left (count - div_ceil count 7) short)
 
 -- ---- the cost
 
-by_scheme : (scheme : Scheme) (n salt : ℕ) → n ≤ password_limit → cost_by scheme n salt ≤ cost_by scheme password_limit salt
-by_scheme Md5crypt n salt short = omega (arith, short, single_longest n short, rounds_longest 1000 16 n salt short)
-by_scheme (Shacrypt Sha256 rounds) n salt short =
-    omega (arith, short, mul-le-mul short short, digits_longest 32 n (omega arith) short, rounds_longest rounds.count 32 n salt short)
-by_scheme (Shacrypt Sha512 rounds) n salt short =
-    omega (arith, short, mul-le-mul short short, digits_longest 64 n (omega arith) short, rounds_longest rounds.count 64 n salt short)
-by_scheme (Scrypt params) n salt short =
-    let digest : key_digests n ≤ 1 = grind (arith, nat_tests) in
-    omega (arith, mul-le-mul digest short)
+by_scheme : (k most : ℕ) (scheme : Scheme) (n salt : ℕ) → IsPower k most → n ≤ most → cost_by scheme n salt ≤ cost_by scheme most salt
+by_scheme k most Md5crypt n salt is short = omega (arith, short, single_longest k most n is short, rounds_longest 1000 16 n most salt short)
+by_scheme k most (Shacrypt Sha256 rounds) n salt is short =
+    omega (arith, short, mul-le-mul short short, digits_longest k most 32 n is (omega (arith, is.wide)) short, rounds_longest rounds.count 32 n most salt short)
+by_scheme k most (Shacrypt Sha512 rounds) n salt is short =
+    omega (arith, short, mul-le-mul short short, digits_longest k most 64 n is is.wide short, rounds_longest rounds.count 64 n most salt short)
+by_scheme k most (Scrypt params) n salt is short =
+    let digest : key_digests n ≤ key_digests most = grind (arith, nat_tests) in
+    omega (arith, digest, mul-le-mul digest short)
 
 pub longest : (kept : SettingValue) (n : ℕ) → n ≤ password_limit → cost kept n ≤ cost kept password_limit
-longest kept n short = by_scheme kept.scheme n (length kept.salt) short
+longest kept n short = by_scheme 10 password_limit kept.scheme n (length kept.salt)
+    (record { power = refl; digits = λ one. omega arith; single = omega arith; wide = omega arith }) short
+
+-- no shorter password than one of 64 bytes costs more
+pub longest_of_64 : (scheme : Scheme) (n salt : ℕ) → n ≤ 64 → cost_by scheme n salt ≤ cost_by scheme 64 salt
+longest_of_64 scheme n salt short = by_scheme 6 64 scheme n salt
+    (record { power = refl; digits = λ one. omega arith; single = omega arith; wide = omega arith }) short

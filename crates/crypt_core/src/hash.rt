@@ -11,7 +11,8 @@ ghost use Rattle.crypt_core.specs.MethodLimits.{digest_len};
 
 use crate::md5crypt::md5crypt;
 use crate::memory::Memory;
-use crate::pack::{SCRYPT_PACKED_LEN, append_packed};
+use crate::method::SCRYPT_PACKED_LEN;
+use crate::pack::append_packed;
 use crate::password::Password;
 use crate::scheme::{Scheme, Sha};
 use crate::setting::{CANONICAL_LIMIT, Setting, TEXT_CAPACITY};

@@ -4,8 +4,7 @@ ghost use Rattle.crypt_core.specs.MethodLimits.{digest_len, packed_len};
 ghost use Rattle.crypt_core.specs.Packing.{packed, IsPacked, group_number};
 ghost use Rattle.crypt_core.specs.Private.Groups.{IsGroup};
 
-use crate::method::Method;
-pub use crate::method::{SCRYPT_PACKED_LEN, SHA512CRYPT_PACKED_LEN};
+use crate::method::{Method, SHA512CRYPT_PACKED_LEN};
 use crate::setting::{TEXT_CAPACITY, in_alphabet};
 use arrayvec::ArrayVec;
 use prims_core::alphabet::{put_group, value_of};

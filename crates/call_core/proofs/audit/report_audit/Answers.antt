@@ -6,7 +6,6 @@ use Rattle.crypt_core.specs.Standings.{HasStanding}
 use Rattle.crypt_core.specs.declared.scheme.Scheme.{Scheme}
 use Rattle.crypt_core.specs.declared.standing.Standing.TheVariants.{Current}
 use Rattle.call_core.specs.Arguments.{IsSchemeMade, TakesNewRounds}
-use Rattle.call_core.specs.Audits.{audit_rounds}
 use Rattle.call_core.specs.declared.report.Report.{Report}
 use Rattle.call_core.proofs.AuditReports.{only_current}
 use Rattle.call_core.proofs.MadeSchemes.{made_once}
@@ -21,7 +20,7 @@ returns-clause-audits c =
     let stands = rw (c.chosen_budget.ensures, found.is_text) at c.standing-standing.ensures.standing in
     inl (
       c.in-Ok.scheme,
-      rw c.audit_rounds.ensures at c.in-Ok.ensures,
+      c.in-Ok.ensures,
       inl (
         (c.in-Ok-stored_hash.stored).setting,
         found.spells,
@@ -36,9 +35,8 @@ returns-clause-passes c is =
     let budget = Some (chosen_budget scheme c.args.budget) in
     let kept = (c.in-Ok-stored_hash.stored).setting in
     let standing = c.standing-standing.result in
-    let rounds = audit_rounds c.args.method c.args.rounds in
-    let made : IsSchemeMade TakesNewRounds c.args.method rounds scheme = rw c.audit_rounds.ensures at c.in-Ok.ensures in
-    let one : is.1 ≡ scheme = sym (made_once TakesNewRounds TakesNewRounds c.args.method rounds scheme is.1 made is.3) in
+    let made : IsSchemeMade TakesNewRounds c.args.method c.args.rounds scheme = c.in-Ok.ensures in
+    let one : is.1 ≡ scheme = sym (made_once TakesNewRounds TakesNewRounds c.args.method c.args.rounds scheme is.1 made is.3) in
     let same : is.0 ≡ kept = sym (c.in-Ok-stored_hash.ensures.each_setting is.0 is.2) in
     let stands : HasStanding scheme budget field kept standing =
     rw (c.chosen_budget.ensures, c.in-Ok-stored_hash.ensures.spelled.is_text) at c.standing-standing.ensures.standing in

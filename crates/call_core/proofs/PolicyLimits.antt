@@ -1,0 +1,117 @@
+-- The limit of a policy: it admits a new hash of each password that has up to 64 bytes, and a login by it makes its hash, or
+-- none for a password whose new hash is above it.
+use Rattle.std.proofs.Common.{◌≡◌, ◌≢◌, ◌≤◌, ◌<◌, ◌+◌, ◌*◌, ◌⊎◌, ℕ, Bool, List, [], ◌∷◌, length, nat_lt, false, true, inl, inr, refl, sym, ap, subst, ◌∙◌, arith}
+use Rattle.std.specs.Prelude.{MatchBool, ◌||◌, if◌then◌else◌}
+use Rattle.std.proofs.Math.Nat.{mul-le-mul_right}
+use Rattle.prims_core.specs.Work.{no_work}
+use Rattle.prims_core.specs.declared.meter.Work.{Work}
+use Rattle.crypt_core.specs.Crypt.{IsAfterRefusedGrowth, allocates}
+use Rattle.crypt_core.specs.MadeSalts.{made_salt}
+use Rattle.crypt_core.specs.MadeSettings.{salted}
+use Rattle.crypt_core.specs.Methods.{method_row}
+use Rattle.crypt_core.specs.Passwords.{IsPassword, password_limit}
+use Rattle.crypt_core.specs.Rounds.{Rounds}
+use Rattle.crypt_core.specs.Schemes.{method_of}
+use Rattle.crypt_core.specs.Settings.{SettingValue, Spells, SpellsCost, SpellsRounds}
+use Rattle.crypt_core.specs.Work.{cost, cost_by, work}
+use Rattle.crypt_core.specs.declared.scheme.Scheme.{Scheme}
+use Rattle.crypt_core.specs.declared.scheme.Scheme.TheVariants.{Md5crypt, Shacrypt, Scrypt}
+use Rattle.crypt_core.specs.declared.scheme.Sha.TheVariants.{Sha256, Sha512}
+use Rattle.crypt_core.proofs.MadeSaltLemmas.{length-made_salt}
+use Rattle.crypt_core.proofs.WorkBounds.{longest_of_64}
+use Rattle.call_core.specs.Arguments.{IsSchemeMade, TakesNewRounds}
+use Rattle.call_core.specs.Checks.{Opens}
+use Rattle.call_core.specs.Limits.{limit_by, new_cost, policy_limit}
+use Rattle.call_core.specs.Logins.{IsHashWork, IsLoginWork, decoy}
+use Rattle.call_core.proofs.MadeSchemes.{made_once}
+
+-- ---- It admits new hashes
+
+pub short_admitted : (scheme : Scheme) (len : ℕ) → len ≤ 64 → new_cost scheme len ≤ limit_by scheme len
+short_admitted scheme len short =
+    let less : new_cost scheme len ≤ new_cost scheme 64 = longest_of_64 scheme len (method_row (method_of scheme)).made_salt_length short in
+    grind (arith, less)
+
+-- a new hash costs the same with any salt
+pub salted-cost : (scheme : Scheme) (numbers : List ℕ) (len : ℕ) → cost (salted scheme numbers) len ≡ new_cost scheme len
+salted-cost scheme numbers len = ap (cost_by scheme len) (length-made_salt numbers (method_row (method_of scheme)).made_salt_length)
+
+-- for a password whose new hash is within the policy's limit, that is the limit
+pub admitting : (scheme : Scheme) (len limit : ℕ) → limit ≡ limit_by scheme len → len ≤ password_limit → new_cost scheme len ≤ policy_limit scheme
+    → limit ≡ policy_limit scheme
+admitting scheme len limit is short within =
+    let few : nat_lt password_limit len ≡ false = grind (arith, short) in
+    let below : nat_lt (policy_limit scheme) (new_cost scheme len) ≡ false = grind (arith, within) in
+    rw (few, below) at is
+
+-- and the decoy is made
+pub decoy_made : (password : List ℕ) (scheme : Scheme) (limit : ℕ) (done : Work) → limit ≡ policy_limit scheme
+    → new_cost scheme (length password) ≤ policy_limit scheme → IsHashWork password (decoy scheme) limit done
+    → (done ≡ work password (decoy scheme)) ⊎ IsAfterRefusedGrowth no_work scheme done
+decoy_made password scheme limit done is within hashed =
+    let below : nat_lt limit (new_cost scheme (length password)) ≡ false = grind (arith, is, within) in
+    let test : nat_lt limit (cost (decoy scheme) (length password)) ≡ false =
+    ap (nat_lt limit) (salted-cost scheme (0 ∷ 0 ∷ 0 ∷ []) (length password)) ∙ below in
+    rw test at hashed
+
+-- for any other it is 0
+pub none_admitted : (scheme : Scheme) (len limit : ℕ) → limit ≡ limit_by scheme len → policy_limit scheme < new_cost scheme len → limit ≡ 0
+none_admitted scheme len limit is above =
+    let test : nat_lt (policy_limit scheme) (new_cost scheme len) ≡ true = grind (arith, above) in
+    go (nat_lt password_limit len) (rw test at is)
+  where
+    go : (long : Bool) → limit ≡ (if long || true then 0 else policy_limit scheme) → limit ≡ 0
+    go true e = e
+    go false e = e
+
+-- ---- It admits nothing for a password whose new hash is above it
+
+written_count : (written : Bool) (count : ℕ) (Written Unwritten : Type 0) → (Written → 0 < count) → (Unwritten → 0 < count)
+    → MatchBool written Written Unwritten → 0 < count
+written_count true count Written Unwritten one other is = one is
+written_count false count Written Unwritten one other is = other is
+
+rounds_positive : (rounds : Rounds) (part after : List ℕ) → SpellsRounds rounds part after → 0 < rounds.count
+rounds_positive rounds part after spells =
+    written_count rounds.is_written rounds.count _ _ (λ is. omega (arith, is.3)) (λ is. omega (arith, is.1)) spells
+
+sha_positive : (count digest bytes : ℕ) → 0 < count → 0 < digest → count * digest ≤ bytes → 0 < bytes
+sha_positive count digest bytes some long most =
+    let times : 1 * digest ≤ count * digest = mul-le-mul_right digest some in
+    omega (arith, times, most)
+
+cost_positive : (scheme : Scheme) (part after : List ℕ) (len salt : ℕ) → SpellsCost scheme part after → 0 < cost_by scheme len salt
+cost_positive Md5crypt part after len salt spells = omega arith
+cost_positive (Shacrypt Sha256 rounds) part after len salt spells =
+    sha_positive rounds.count (32 + len) _ (rounds_positive rounds part after spells) (omega arith) (omega arith)
+cost_positive (Shacrypt Sha512 rounds) part after len salt spells =
+    sha_positive rounds.count (64 + len) _ (rounds_positive rounds part after spells) (omega arith) (omega arith)
+cost_positive (Scrypt params) part after len salt spells = omega arith
+
+spelled_positive : (text : List ℕ) (kept : SettingValue) (len : ℕ) → Spells text kept → 0 < cost kept len
+spelled_positive text kept len spells = cost_positive kept.scheme spells.scheme.0 _ len (length kept.salt) spells.scheme.2
+
+-- a limit of 0 admits no hash
+none_made : (password : List ℕ) (kept : SettingValue) (done : Work) → 0 < cost kept (length password) → IsHashWork password kept 0 done → done ≡ no_work
+none_made password kept done some hashed =
+    let test : nat_lt 0 (cost kept (length password)) ≡ true = grind (arith, some) in
+    rw test at hashed
+
+pub none_logs_in : (password field : List ℕ) (number rounds : ℕ) (scheme : Scheme) (done : Work)
+    → IsSchemeMade TakesNewRounds number rounds scheme → policy_limit scheme < new_cost scheme (length password)
+    → IsLoginWork password field number rounds 0 done → done ≡ no_work
+none_logs_in password field number rounds scheme done makes above (inl none) = none
+none_logs_in password field number rounds scheme done makes above (inr (kept, inl spells, hashed)) =
+    none_made password kept done (spelled_positive field kept (length password) spells) hashed
+none_logs_in password field number rounds scheme done makes above (inr (kept, inr (other, also, is), hashed)) =
+    let one : other ≡ scheme = made_once TakesNewRounds TakesNewRounds number rounds other scheme also makes in
+    let price : cost kept (length password) ≡ new_cost scheme (length password) =
+    ap (λ (own : SettingValue). cost own (length password)) is ∙ salted-cost other (0 ∷ 0 ∷ 0 ∷ []) (length password)
+    ∙ ap (λ (own : Scheme). new_cost own (length password)) one in
+    none_made password kept done (omega (arith, price, above)) hashed
+
+-- nor any login
+pub none_opens : (password stored : List ℕ) → Opens password stored 0 → ⊥
+none_opens password stored opens =
+    let some = spelled_positive stored opens.1.0 (length password) opens.1.1 in
+    absurd (omega (arith, some, opens.1.3))
