@@ -2,13 +2,12 @@
  *
  * cc -shared -fPIC -O2 -o pam_mkpasswd.so pam_mkpasswd.c $(pkg-config --cflags --libs mkpasswd) -lpam
  *
- * A line of /etc/pam.d:   auth required pam_mkpasswd.so file=/etc/example.passwords budget=150000000
+ * A line of /etc/pam.d:   auth required pam_mkpasswd.so file=/etc/example.passwords
  *
- * The budget may be left out. An error in these arguments, or a file that cannot be read, lets nobody in.
+ * budget=BYTES is a budget of your own. An error in these arguments, or a file that cannot be read, lets nobody in.
  *
  * A name that is unknown or locked, or whose field is malformed or over the budget, costs what a hash of METHOD with ROUNDS
- * costs. To keep names secret from a clock, hash all passwords with these, and allow them in the budget: the one that is the
- * default, 150000000, does so for passwords of up to 82 bytes.
+ * costs. To keep names secret from a clock, hash all passwords with these, and allow them in a budget of your own.
  *
  * The log has what an administrator can correct: an argument, the file, or a field that no password can match. It is the
  * same whatever password was given, and has no name, since users type passwords there. */
@@ -26,7 +25,8 @@
 
 /* The cost of an unknown name. */
 #define METHOD MKPASSWD_SHA512CRYPT
-#define ROUNDS 656000
+#define ROUNDS 0
+#define TWICE 253921472 /* what MKPASSWD_TWICE stands for with these */
 
 struct field {
     unsigned long line; /* the number of its line in the file; 0 if there is none */
@@ -48,7 +48,7 @@ static int read_number(const char *digits, uint64_t *number)
 static int read_arguments(pam_handle_t *pam, int count, const char **given, const char **file, uint64_t *budget)
 {
     *file = NULL;
-    *budget = MKPASSWD_BUDGET;
+    *budget = MKPASSWD_TWICE;
     for (; count > 0; count--, given++) {
         if (strncmp(*given, "file=", 5) == 0) {
             *file = *given + 5;
@@ -105,7 +105,7 @@ static void log_useless(pam_handle_t *pam, const char *path, const struct field 
     if (field->len == 0 || field->bytes[0] == '!' || field->bytes[0] == '*')
         return;
     if (mkpasswd_bound(field->bytes, field->len, 0, &report)) {
-        if (report.cost <= budget)
+        if (report.cost <= (budget == MKPASSWD_TWICE ? TWICE : budget))
             return;
         report.reason = MKPASSWD_OVER_BUDGET;
     }

@@ -151,7 +151,7 @@ subtest 'administration' => sub {
     $accounts->(ann => '!', bob => '!', eve => '!');
     is_run(run({ %in, dir => $folder }, qw(flock lock sh -c), marked($_, 'sh')), 1, '', '', "$_: one run at a time")
         for 'new passwords', 'good lines', 'several machines', 'known passwords', 'hashes for services';
-    spew("$folder/passwords", "ann:password\nbob:" . 'x' x 83 . "\n");
+    spew("$folder/passwords", "ann:password\nbob:" . 'x' x 169 . "\n");
     is_run($recipe->('new passwords'), 1, '', "mkpasswd: line 2: over budget\n", 'a new password that a login would refuse');
     is(join('', slurp("$system/etc/shadow") =~ /:!:/g), ':!:' x 3, 'such a password changes no account');
     spew("$folder/passwords", "ann:password\nbob:pass:word\n");
@@ -160,7 +160,7 @@ subtest 'administration' => sub {
     ok($is_made->($line_of->('bob'), 'pass:word', $changed), 'the password of bob is new');
 
     $accounts->(ann => '!', bob => '!', eve => '!');
-    spew("$folder/passwords", "ann:password\nbob:\374" . 'x' x 83 . "\nsecret\neve:x\n:secret\n" . 'secret' x 11 . "\n");
+    spew("$folder/passwords", "ann:password\nbob:\374" . 'x' x 168 . "\nsecret\neve:x\n:secret\n" . 'secret' x 11 . "\n");
     my $loaded = $recipe->('good lines', env => { %{ $in{env} }, LC_ALL => 'C.UTF-8' });
     my $others = "bob\nline 3: no password field\nline 5: no name\nline 6: name too long\n";
     is_run($loaded, 0, $others, '', 'new passwords for the good lines: the names of the others, without passwords');

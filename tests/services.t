@@ -303,7 +303,7 @@ subtest 'pam_mkpasswd' => sub {
     my ($right, $number) = ($password{six}, 1 + (slurp($file) =~ tr/\n//));
     spew($file, slurp($file) . "no colon\n" . join "\n", map { "$_->[0]:$_->[1]" } @pam_rows);
     # With this budget a name that is unknown or locked takes no time.
-    spew('/etc/pam.d/example', $block =~ s/budget=\K\d+/1000000/r);
+    spew('/etc/pam.d/example', $block =~ s/example\.passwords\K/ budget=1000000/r);
     for (@pam_rows, map { [$_, '', 'no', ''] } 'nobody', 'si', "six\n") {
         my ($name, undef, $verdict, $told) = @$_;
         $number++;
@@ -316,7 +316,7 @@ subtest 'pam_mkpasswd' => sub {
     my ($least, $cost) = map { cost(read_setting($field), $_) } 0, length $right;
     my ($service, $information) = ('Error in service module', 'Authentication service cannot retrieve authentication info');
     my @arguments = ([$file, 'yes'], ["$file budget=18446744073709551615", 'yes'], ["$file budget=$cost", 'yes'], ["$file budget=" . ($cost - 1), 'no'],
-        ["$file budget=$least", 'no'], (map { ["$file budget=$_", "no: $file: line 5: over budget"] } $least - 1, 0),
+        ["$file budget=$least", 'no'], ["$file budget=0", 'yes'], ["$file budget=" . ($least - 1), "no: $file: line 5: over budget"],
         (map { ["$file $_", "$service: invalid argument: $_"] } qw(budget= budget=-1 budget=+1 budget=1x budget=18446744073709551616 budge=1 debug)),
         ['', "$information: : No such file or directory"], ["$file.gone", "$information: $file.gone: No such file or directory"],
         ['/etc', "$information: /etc: Is a directory"]);
