@@ -16,7 +16,7 @@
 __typeof__(mkpasswd_verify) mkpasswd_proved_verify;
 __typeof__(mkpasswd_login) mkpasswd_proved_login;
 __typeof__(mkpasswd_hash) mkpasswd_proved_hash;
-int32_t mkpasswd_proved_new_from(const uint8_t *password, size_t password_len, uint32_t method, uint32_t cost,
+int32_t mkpasswd_proved_new_from(const uint8_t *password, size_t password_len, uint32_t method, uint32_t rounds,
     uint64_t budget, const uint64_t *words, size_t words_len, uint8_t *out, size_t out_len, struct mkpasswd_report *report);
 
 /* Returns the result, and wipes the stack below its caller's frame, where the frames of the proved function were, and the
@@ -38,9 +38,9 @@ int32_t mkpasswd_verify(const uint8_t *password, size_t password_len, const uint
 }
 
 int32_t mkpasswd_login(const uint8_t *password, size_t password_len, const uint8_t *field, size_t field_len,
-    uint32_t method, uint32_t cost, uint64_t budget, struct mkpasswd_report *report)
+    uint32_t method, uint32_t rounds, uint64_t budget, struct mkpasswd_report *report)
 {
-    return wiped(mkpasswd_proved_login(password, password_len, field, field_len, method, cost, budget, report));
+    return wiped(mkpasswd_proved_login(password, password_len, field, field_len, method, rounds, budget, report));
 }
 
 int32_t mkpasswd_hash(const uint8_t *password, size_t password_len, const uint8_t *setting, size_t setting_len,
@@ -51,22 +51,22 @@ int32_t mkpasswd_hash(const uint8_t *password, size_t password_len, const uint8_
 
 /* Calls the proved function without words, and then with three of the system. */
 __attribute__((noinline)) static int32_t hash_anew(const uint8_t *password, size_t password_len, uint32_t method,
-    uint32_t cost, uint64_t budget, uint8_t *out, size_t out_len, struct mkpasswd_report *report)
+    uint32_t rounds, uint64_t budget, uint8_t *out, size_t out_len, struct mkpasswd_report *report)
 {
     uint64_t words[3] = {0, 0, 0};
     uint8_t tried[MKPASSWD_TEXT_SIZE];
     struct mkpasswd_report trial;
     size_t count = 0;
 
-    mkpasswd_proved_new_from(password, password_len, method, cost, budget, words, 0, tried,
+    mkpasswd_proved_new_from(password, password_len, method, rounds, budget, words, 0, tried,
         out_len < sizeof tried ? out_len : sizeof tried, &trial);
     if (trial.reason == MKPASSWD_NO_RANDOM_WORDS && getentropy(words, sizeof words) == 0)
         count = 3;
-    return mkpasswd_proved_new_from(password, password_len, method, cost, budget, words, count, out, out_len, report);
+    return mkpasswd_proved_new_from(password, password_len, method, rounds, budget, words, count, out, out_len, report);
 }
 
-int32_t mkpasswd_new(const uint8_t *password, size_t password_len, uint32_t method, uint32_t cost, uint64_t budget,
+int32_t mkpasswd_new(const uint8_t *password, size_t password_len, uint32_t method, uint32_t rounds, uint64_t budget,
     uint8_t *out, size_t out_len, struct mkpasswd_report *report)
 {
-    return wiped(hash_anew(password, password_len, method, cost, budget, out, out_len, report));
+    return wiped(hash_anew(password, password_len, method, rounds, budget, out, out_len, report));
 }

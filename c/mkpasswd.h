@@ -1,15 +1,15 @@
 /* mkpasswd hashes and checks passwords with the crypt(5) methods md5crypt ($1$), sha256crypt ($5$), sha512crypt ($6$) and
  * scrypt ($7$). For C99 and C++98, and later ones; link with -lmkpasswd. libmkpasswd(3) is the manual. A login is
  *
- *     if (mkpasswd_login_str(password, stored, MKPASSWD_SHA512CRYPT, 656000, MKPASSWD_BUDGET, NULL))
+ *     if (mkpasswd_login_str(password, stored, MKPASSWD_SHA512CRYPT, 0, MKPASSWD_TWICE, NULL))
  *         let_in();
  *
  * Each call returns 1 for yes or success: the password matches, the stored hash is outdated, or current for an audit, the
  * cost is reported, or `out` has what was asked for. A 0 covers everything else: a wrong password, a locked account, an empty
  * or malformed field, another scheme, a hash that costs too much, no memory. The report says which (`reason`). Every call that
  * has a report writes all of it, also over the reason of an earlier call. If several refusals apply, the first one in this
- * order is reported: password, setting, method, cost, budget, room in `out`, random words, memory; by mkpasswd_login() and
- * mkpasswd_audit() password, method, cost, field, budget, memory. Test the result, not the reason: a reason is never 0, so
+ * order is reported: password, setting, method, rounds, budget, room in `out`, random words, memory; by mkpasswd_login() and
+ * mkpasswd_audit() password, method, rounds, field, budget, memory. Test the result, not the reason: a reason is never 0, so
  * `if (report.reason)` lets everybody in.
  *
  * After a 0, mkpasswd_new(), mkpasswd_hash() and mkpasswd_setting() leave the string "*0" in `out` ("*1" if the given
@@ -85,16 +85,22 @@ extern "C" {
 /* The longest password, in bytes. */
 #define MKPASSWD_PASSWORD_LIMIT 1024
 
-/* A budget for a login. It admits what mkpasswd_new() makes at cost 0 with any method, for any password, and SHA-crypt with
- * up to 75,000 rounds for any password, sha512crypt with 656,000 rounds for passwords of up to 82 bytes, SHA-crypt with
- * 1,000,000 rounds for passwords of up to 40 bytes. On one core of 2.5 GHz a hash of this cost takes 1.6 seconds with
- * sha256crypt, 1 with sha512crypt, 0.14 with scrypt. A budget of -1 is the greatest, and protects against nothing. Only
- * scrypt needs memory: for each concurrent call at most half as many bytes as the budget, and 64 MiB at its default cost. */
+/* The budget of mkpasswd_login() and mkpasswd_new() that needs no number: twice what a new hash with the same method and rounds
+ * costs for a password of 64 bytes, and at least MKPASSWD_BUDGET. Nobody who logs in can raise it. A longer password whose new
+ * hash would cost more is refused at once, whatever is stored; FORMATS.md in share/doc has the lengths. With a large enough
+ * budget of your own all MKPASSWD_PASSWORD_LIMIT bytes work; one of -1 is the greatest, and protects against nothing.
+ *
+ * Only scrypt needs memory: for each concurrent call at most half as many bytes as the budget, and 64 MiB by default. */
 #ifdef __cplusplus
+#define MKPASSWD_TWICE static_cast<uint64_t>(0)
 #define MKPASSWD_BUDGET static_cast<uint64_t>(150000000)
 #else
-#define MKPASSWD_BUDGET ((uint64_t)150000000)
+#define MKPASSWD_TWICE ((uint64_t)0)
+#define MKPASSWD_BUDGET ((uint64_t)150000000) /* the budget of programs for 1.3.0 */
 #endif
+
+/* The rounds of SHA-crypt that 0 stands for in every call. For scrypt it stands for 7. */
+#define MKPASSWD_ROUNDS 656000
 
 /* Methods, numbered as in their prefixes. */
 #define MKPASSWD_MD5CRYPT 1
@@ -121,7 +127,7 @@ extern "C" {
 #define MKPASSWD_REFUSED_OUT_OF_MEMORY (-11)     /* out of memory: scrypt alone allocates */
 #define MKPASSWD_REFUSED_TOO_FEW_BYTES (-12)     /* too few bytes: `out` has no room for the result and a zero byte */
 #define MKPASSWD_REFUSED_UNKNOWN_METHOD (-13)    /* unknown method */
-#define MKPASSWD_REFUSED_COST (-14)              /* cost: scrypt takes 0 and 6 to 11, new SHA-crypt 0 and 1000 to 999999999 */
+#define MKPASSWD_REFUSED_COST (-14)              /* cost: scrypt's rounds are 0 and 6 to 11, SHA-crypt's 0, 1000 to 999999999 */
 #define MKPASSWD_OVER_BUDGET (-16)               /* over budget: the hash can cost more than the budget */
 #define MKPASSWD_DIFFERS (-17)                   /* differs: the password doesn't match; mkpasswd_verify() and mkpasswd_login() */
 #define MKPASSWD_CURRENT (-18)                   /* current: not outdated; mkpasswd_needs_rehash() alone */
@@ -144,7 +150,7 @@ struct mkpasswd_report {
     int32_t reason;            /* one of the above */
     uint32_t length;           /* of what is in `out`, without its zero byte; 0 if the call returned 0 or has no `out` */
     uint64_t cost;             /* the greatest cost of a hash with this setting, for a password of this length: the bytes it
-                                  digests and mixes. It is below 2^42. If password and setting (or method and cost) are
+                                  digests and mixes. It is below 2^42. If password and setting (or method and rounds) are
                                   valid it is reported even if the call returns 0; otherwise, and by
                                   mkpasswd_needs_rehash() and mkpasswd_setting(), it is 0. Of mkpasswd_login() it is that
                                   of the stored hash, of mkpasswd_audit() that for MKPASSWD_PASSWORD_LIMIT bytes. */
@@ -161,51 +167,52 @@ typedef char mkpasswd_work_has_fields_at_0_8_16_24_32[offsetof(struct mkpasswd_w
     && offsetof(struct mkpasswd_work, table) == 24 && offsetof(struct mkpasswd_work, scratch) == 32 ? 1 : -1];
 
 /* Returns 1 exactly if the password matches the stored hash and that hash costs at most `budget`; with scrypt it may run
- * out of memory and return 0 instead. A budget of 0 lets nobody in. Above the budget nothing is hashed. */
+ * out of memory and return 0 instead. Above the budget nothing is hashed, so one of 0 (MKPASSWD_TWICE) lets nobody in, and
+ * mkpasswd_hash() makes nothing with it: both know no method and rounds of new hashes. */
 MKPASSWD_EXPORT MKPASSWD_CHECKED MKPASSWD_NONNULL(6) int32_t mkpasswd_verify(const uint8_t *password, size_t password_len,
     const uint8_t *stored, size_t stored_len, uint64_t budget, struct mkpasswd_report *report)
     MKPASSWD_READS(password, 1, 2) MKPASSWD_READS(stored, 3, 4);
 
-/* Checks the password of a login. If method and cost are valid, it returns 1 exactly if mkpasswd_verify() with this budget
- * does. The reason is then MKPASSWD_FITS, or MKPASSWD_OUTDATED if mkpasswd_needs_rehash() with this method and cost returns 1
- * too: then store what mkpasswd_new() makes of the password, if the field is still the one that was checked. `method` and
- * `cost` are those that the service gives mkpasswd_new(). `field` is what is stored for the name, and empty for an unknown
- * name. If password and field are swapped, whoever types a hash of the field gets in: of `!`, of a stored hash, or of nothing.
+/* Checks the password of a login. If method and rounds are valid, it returns 1 exactly if mkpasswd_verify() with this budget
+ * does. The reason is then MKPASSWD_FITS, or MKPASSWD_OUTDATED if mkpasswd_needs_rehash() with this method and these rounds
+ * returns 1 too: then store what mkpasswd_new() makes of the password, if the field is still the one that was checked. Give
+ * the method, rounds and budget that the service gives mkpasswd_new(): what that makes, this call opens without
+ * MKPASSWD_OUTDATED. `field` is what is stored for the name, and empty for an unknown name. If password and field are swapped,
+ * whoever types a hash of the field gets in: of `!`, of a stored hash, or of nothing.
  *
  * If the field is empty, locked, of another scheme or without a valid setting, or can cost more than the budget, the call
- * hashes the password with this method and cost and a fixed salt, drops the hash, and returns 0 with the reason of
- * mkpasswd_verify(), so that such a name is not faster. `work` is exactly the work of that hash. If that hash can cost more
- * than the budget, or scrypt gets no memory for it, it is not made.
+ * hashes the password with this method, these rounds and a fixed salt, drops the hash, and returns 0 with the reason of
+ * mkpasswd_verify(), so that such a name is not faster. `work` is exactly the work of that hash. It is not made if scrypt gets
+ * no memory for it, or if it can cost more than a budget of your own; with MKPASSWD_TWICE nothing is hashed then for any field.
  *
- * An invalid password, method or cost is refused at once, whatever the field is. Any other wrong password costs what the
+ * An invalid password, method or rounds are refused at once, whatever the field is. Any other wrong password costs what the
  * stored hash costs. So hashes with another cost, or with a shorter salt than mkpasswd_new() makes, take another time; only
  * outdated ones are ever replaced. A dead hash, such as one that was cut, costs the same, and the reason is MKPASSWD_DEAD in
  * place of MKPASSWD_DIFFERS: nobody gets in until the account has a new hash. */
 MKPASSWD_EXPORT MKPASSWD_CHECKED MKPASSWD_NONNULL(8) int32_t mkpasswd_login(const uint8_t *password, size_t password_len,
-    const uint8_t *field, size_t field_len, uint32_t method, uint32_t cost, uint64_t budget, struct mkpasswd_report *report)
+    const uint8_t *field, size_t field_len, uint32_t method, uint32_t rounds, uint64_t budget, struct mkpasswd_report *report)
     MKPASSWD_READS(password, 1, 2) MKPASSWD_READS(field, 3, 4);
 
 /* Hashes a new password, with a salt from getentropy(3), and puts the hash and a zero byte into `out`; MKPASSWD_TEXT_SIZE
- * bytes are enough. `cost` is as in `mkpasswd -R`: the rounds of SHA-crypt, for sha512crypt 656000; 6 to 11 for scrypt, for
- * N = 2^(cost+7), r = 32 and p = 1. 0 stands for 7 with scrypt, and otherwise for 5000 rounds, which are too few today.
- * md5crypt ignores it.
+ * bytes are enough. `rounds` are 0, as recommended, or for SHA-crypt 1000 to 999999999, and for scrypt 6 to 11, for
+ * N = 2^(rounds+7), r = 32 and p = 1. md5crypt ignores them.
  *
- * Rounds other than 0 and 1000 to 999999999 are refused, here, by mkpasswd_login() and by mkpasswd_audit(). The formats clamp
- * them, and so do the command and all other calls; but a service whose cost is 12, as bcrypt's may be, should notice before it
- * stores a hash that is cheap to guess. */
+ * Other rounds are refused, here, by mkpasswd_login() and by mkpasswd_audit(). The formats clamp those of SHA-crypt, and so do
+ * the command and all other calls; but a service whose rounds are 12, as bcrypt's may be, should notice before it stores a
+ * hash that is cheap to guess. */
 MKPASSWD_EXPORT MKPASSWD_CHECKED MKPASSWD_NONNULL(6) MKPASSWD_NONNULL(8) MKPASSWD_WRITES(6, 7)
-int32_t mkpasswd_new(const uint8_t *password, size_t password_len, uint32_t method, uint32_t cost, uint64_t budget,
+int32_t mkpasswd_new(const uint8_t *password, size_t password_len, uint32_t method, uint32_t rounds, uint64_t budget,
     uint8_t *out, size_t out_len, struct mkpasswd_report *report) MKPASSWD_READS(password, 1, 2);
 
-/* Returns 1 exactly if method and cost are valid, and the stored hash has a valid setting which one with this method and cost
- * would replace: the method is another one, or the same with more rounds, which are clamped here, or for scrypt with a
- * greater N * r * p. */
+/* Returns 1 exactly if method and rounds are valid, and the stored hash has a valid setting which one with this method and
+ * these rounds would replace: the method is another one, or the same with more rounds, which are clamped here, or for scrypt
+ * with a greater N * r * p. */
 MKPASSWD_EXPORT MKPASSWD_CHECKED MKPASSWD_NONNULL(5) int32_t mkpasswd_needs_rehash(const uint8_t *stored, size_t stored_len,
-    uint32_t method, uint32_t cost, struct mkpasswd_report *report) MKPASSWD_READS(stored, 1, 2);
+    uint32_t method, uint32_t rounds, struct mkpasswd_report *report) MKPASSWD_READS(stored, 1, 2);
 
-/* Audits a stored hash without a password, and hashes nothing. It returns 1 exactly if method and cost are valid, the field is
- * a whole hash, as mkpasswd_hash() writes one, no password costs more than `budget`, and a new hash with this method and cost
- * would not replace it. If method and cost are valid, a 0 has the first of these reasons:
+/* Audits a stored hash without a password, and hashes nothing. It returns 1 exactly if method and rounds are valid, the field
+ * is a whole hash, as mkpasswd_hash() writes one, no password costs more than `budget`, and a new hash with this method and
+ * these rounds would not replace it. If method and rounds are valid, a 0 has the first of these reasons:
  *
  * - MKPASSWD_LOCKED, MKPASSWD_NO_HASH, or what is wrong with the setting;
  * - MKPASSWD_OVER_BUDGET: some password can cost more than `budget`;
@@ -213,11 +220,10 @@ MKPASSWD_EXPORT MKPASSWD_CHECKED MKPASSWD_NONNULL(5) int32_t mkpasswd_needs_reha
  *   there is more behind it, a character of it is in no digest, its salt is too long, or its rounds are out of range;
  * - MKPASSWD_REPLACED: mkpasswd_needs_rehash() returns 1.
  *
- * `method` and `cost` are those that the service gives mkpasswd_new(), but a cost of 0 stands for 656000 rounds, or for 7 with
- * scrypt. A budget of 0 stands for the most that such a hash can cost, and at least for 1297572512, the most that 656000 rounds
- * of sha512crypt can. */
+ * `method` and `rounds` are those that the service gives mkpasswd_new(). A budget of 0 stands here for the most that such a
+ * hash can cost, and at least for 1297572512, the most that MKPASSWD_ROUNDS of sha512crypt can. */
 MKPASSWD_EXPORT MKPASSWD_CHECKED MKPASSWD_NONNULL(6) int32_t mkpasswd_audit(const uint8_t *stored, size_t stored_len,
-    uint32_t method, uint32_t cost, uint64_t budget, struct mkpasswd_report *report) MKPASSWD_READS(stored, 1, 2);
+    uint32_t method, uint32_t rounds, uint64_t budget, struct mkpasswd_report *report) MKPASSWD_READS(stored, 1, 2);
 
 /* Reports the greatest cost and work of a hash with the setting in a stored hash, for any password of the given length.
  * It hashes nothing; `work` is the bound of each count. */
@@ -231,10 +237,10 @@ int32_t mkpasswd_hash(const uint8_t *password, size_t password_len, const uint8_
     uint64_t budget, uint8_t *out, size_t out_len, struct mkpasswd_report *report)
     MKPASSWD_READS(password, 1, 2) MKPASSWD_READS(setting, 3, 4);
 
-/* Puts a setting into `out` whose salt is made from three random words of the caller; method and cost are those of
- * mkpasswd_new(), but rounds are clamped. It is for tests and for systems with a random source of their own. */
+/* Puts a setting into `out` whose salt is made from three random words of the caller; method and rounds are those of
+ * mkpasswd_new(), but those of SHA-crypt are clamped. It is for tests and for systems with a random source of their own. */
 MKPASSWD_EXPORT MKPASSWD_CHECKED MKPASSWD_NONNULL(6) MKPASSWD_NONNULL(8) MKPASSWD_WRITES(6, 7)
-int32_t mkpasswd_setting(uint32_t method, uint32_t cost, uint64_t first, uint64_t second, uint64_t third, uint8_t *out,
+int32_t mkpasswd_setting(uint32_t method, uint32_t rounds, uint64_t first, uint64_t second, uint64_t third, uint8_t *out,
     size_t out_len, struct mkpasswd_report *report);
 
 /* Puts the message for a reason and a zero byte into `out`, and returns 1. For any other number it puts "unknown reason" and
@@ -266,39 +272,39 @@ MKPASSWD_CHECKED static inline bool mkpasswd_verify_str(const char *password, co
 }
 
 MKPASSWD_CHECKED static inline bool mkpasswd_login_str(const char *password, const char *field, uint32_t method,
-    uint32_t cost, uint64_t budget, struct mkpasswd_report *report)
+    uint32_t rounds, uint64_t budget, struct mkpasswd_report *report)
 {
     struct mkpasswd_report own;
 
     return mkpasswd_login(MKPASSWD_BYTES(password ? password : ""), password ? strlen(password) : 1,
-        MKPASSWD_BYTES(field ? field : ""), field ? strlen(field) : 0, method, cost, budget, report ? report : &own) == 1;
+        MKPASSWD_BYTES(field ? field : ""), field ? strlen(field) : 0, method, rounds, budget, report ? report : &own) == 1;
 }
 
 MKPASSWD_CHECKED MKPASSWD_WRITES(5, 6) static inline bool mkpasswd_new_str(const char *password, uint32_t method,
-    uint32_t cost, uint64_t budget, char *out, size_t out_len, struct mkpasswd_report *report)
+    uint32_t rounds, uint64_t budget, char *out, size_t out_len, struct mkpasswd_report *report)
 {
     struct mkpasswd_report own;
     uint8_t none;
 
-    return mkpasswd_new(MKPASSWD_BYTES(password ? password : ""), password ? strlen(password) : 1, method, cost, budget,
+    return mkpasswd_new(MKPASSWD_BYTES(password ? password : ""), password ? strlen(password) : 1, method, rounds, budget,
         out ? MKPASSWD_OUT(out) : &none, out ? out_len : 0, report ? report : &own) == 1;
 }
 
-MKPASSWD_CHECKED static inline bool mkpasswd_needs_rehash_str(const char *stored, uint32_t method, uint32_t cost,
+MKPASSWD_CHECKED static inline bool mkpasswd_needs_rehash_str(const char *stored, uint32_t method, uint32_t rounds,
     struct mkpasswd_report *report)
 {
     struct mkpasswd_report own;
 
-    return mkpasswd_needs_rehash(MKPASSWD_BYTES(stored ? stored : ""), stored ? strlen(stored) : 0, method, cost,
+    return mkpasswd_needs_rehash(MKPASSWD_BYTES(stored ? stored : ""), stored ? strlen(stored) : 0, method, rounds,
         report ? report : &own) == 1;
 }
 
-MKPASSWD_CHECKED static inline bool mkpasswd_audit_str(const char *stored, uint32_t method, uint32_t cost, uint64_t budget,
+MKPASSWD_CHECKED static inline bool mkpasswd_audit_str(const char *stored, uint32_t method, uint32_t rounds, uint64_t budget,
     struct mkpasswd_report *report)
 {
     struct mkpasswd_report own;
 
-    return mkpasswd_audit(MKPASSWD_BYTES(stored ? stored : ""), stored ? strlen(stored) : 0, method, cost, budget,
+    return mkpasswd_audit(MKPASSWD_BYTES(stored ? stored : ""), stored ? strlen(stored) : 0, method, rounds, budget,
         report ? report : &own) == 1;
 }
 
@@ -322,13 +328,13 @@ MKPASSWD_CHECKED MKPASSWD_WRITES(4, 5) static inline bool mkpasswd_hash_str(cons
         out ? out_len : 0, report ? report : &own) == 1;
 }
 
-MKPASSWD_CHECKED MKPASSWD_WRITES(6, 7) static inline bool mkpasswd_setting_str(uint32_t method, uint32_t cost,
+MKPASSWD_CHECKED MKPASSWD_WRITES(6, 7) static inline bool mkpasswd_setting_str(uint32_t method, uint32_t rounds,
     uint64_t first, uint64_t second, uint64_t third, char *out, size_t out_len, struct mkpasswd_report *report)
 {
     struct mkpasswd_report own;
     uint8_t none;
 
-    return mkpasswd_setting(method, cost, first, second, third, out ? MKPASSWD_OUT(out) : &none, out ? out_len : 0,
+    return mkpasswd_setting(method, rounds, first, second, third, out ? MKPASSWD_OUT(out) : &none, out ? out_len : 0,
         report ? report : &own) == 1;
 }
 

@@ -6,7 +6,7 @@ use warnings;
 use FindBin qw($Bin);
 use lib "$Bin/lib";
 use IPC::Open2;
-use List::Util qw(sum0);
+use List::Util qw(sum0 uniq);
 use Model;
 use Suite;
 use Texts;
@@ -48,6 +48,7 @@ my %number = map { $reasons[$_] => 3 - $_ } grep { $reasons[$_] ne '' } 0 .. $#r
 my %steps = (
     verify => 'password field budget memory compare', needs_rehash => 'setting made replace', setting => 'made room',
     new => 'password made budget room draw memory', hash => 'password setting budget room memory', bound => 'length setting tell',
+    work => 'password setting budget memory',
     audit => 'made field within whole keep',
 );
 our $refused = 0;    # which allocation is refused, from 1
@@ -73,7 +74,7 @@ sub line {
             return 'unknown method' if $n[0] !~ /^[1567]$/;
             return 'cost' if $n[0] == 7 && $n[1] !~ /^([06-9]|1[01])$/;
             return 'cost' if $name =~ /new|audit/ && $n[0] =~ /[56]/ && $n[1] && ($n[1] < 1000 || $n[1] > 999_999_999);
-            $made = made_setting(@n[0, 1], salt_of($made_salt{ $n[0] }, $name eq 'setting' ? @n[2 .. 4] : @words ? @words : (0) x 3));
+            $made = new_setting(@n[0, 1], salt_of($made_salt{ $n[0] }, $name eq 'setting' ? @n[2 .. 4] : @words ? @words : (0) x 3));
             $setting //= $made;
             return '';
         },
@@ -84,7 +85,10 @@ sub line {
         },
         whole => sub { Model::is_whole($setting, $text) ? '' : 'dead' },
         keep => sub { is_replaced($setting, $made) ? 'replaced' : '' },
-        budget => sub { ($cost = cost($setting, length $password)) > $n[-1] ? 'over budget' : '' },
+        budget => sub {
+            my $limit = $n[-1] || ($name eq 'new' && policy_limit(@n[0, 1], length $password));
+            return ($cost = cost($setting, length $password)) > $limit ? 'over budget' : '';
+        },
         room => sub {
             my $length = length($setting->{front}) + ($name eq 'setting' ? 0 : 1 + $packed_length{ $setting->{kind} });
             return $room > $length ? '' : 'too few bytes';
@@ -97,7 +101,8 @@ sub line {
                 @work[3, 4] = ($refused > 1 && 128 * 2 ** $setting->{log} * $setting->{r}, $refused > 2 && $part);
                 return 'out of memory';
             }
-            ($hash, @work) = (hash_of($setting, $password), Model::work_of($setting, $password), sum0($scratch->()));
+            @work = (Model::work_of($setting, $password), sum0($scratch->()));
+            $hash = hash_of($setting, $password) if $name ne 'work';
             return '';
         },
         compare => sub { $hash eq $text ? '' : 'differs' },
@@ -229,14 +234,15 @@ subtest 'a careless login' => sub {
 # The line of a login: that of mkpasswd_verify, but a hash that fits may be outdated, and a field that can't be checked has the
 # work of a new hash.
 sub login_line {
-    my ($password, $field, $method, $cost, $limit) = @_;
-    my @line = split / /, line('verify', $password, $field, 0, $limit);
-    my ($refused) = line('new', $password, '', 145, $method, $cost, $most) =~ /^0 (-1|-2|-13|-14) /;
+    my ($password, $field, $method, $rounds, $limit) = @_;
+    my ($refused) = line('new', $password, '', 0, $method, $rounds, $most) =~ /^0 (-1|-2|-13|-14) /;
     return "0 $refused" . ' 0' x 11 . ' unchanged' if $refused;
+    $limit ||= policy_limit($method, $rounds, length $password);
+    my @line = split / /, line('verify', $password, $field, 0, $limit);
     $line[1] = $number{dead} if $line[1] == $number{differs} && !Model::is_whole(read_setting($field), $field);
-    $line[1] = 2 if $line[0] && line('needs_rehash', '', $field, 0, $method, $cost) =~ /^1/;
-    my $decoy = made_setting($method, $cost, '.' x $made_salt{$method})->{front};
-    @line[4 .. 10] = (split / /, line('hash', $password, $decoy, 145, $limit))[4 .. 10] if $line[1] =~ /^-([3-9]|10|16|20|21)$/;
+    $line[1] = 2 if $line[0] && line('needs_rehash', '', $field, 0, $method, $rounds) =~ /^1/;
+    my $decoy = new_setting($method, $rounds)->{front};
+    @line[4 .. 10] = (split / /, line('work', $password, $decoy, 145, $limit))[4 .. 10] if $line[1] =~ /^-([3-9]|10|16|20|21)$/;
     return join ' ', @line;
 }
 
@@ -246,21 +252,59 @@ sub logins {
 }
 
 subtest 'logins' => sub {
-    my @prices = ([1, 0], [5, 1000], [6, 0], [6, 10_000], [7, 6], [6, 999], [5, 1], [6, 1_000_000_000], [7, 5], [2, 0]);
+    my @prices = ([1, 0], [5, 1000], [6, 5000], [6, 10_000], [7, 6], [6, 999], [5, 1], [6, 1_000_000_000], [7, 5], [2, 0]);
     my @fields = (@no_settings, @other_fields, map { $_->[1] } @known[0 .. 4]);
     my @logins = map { my $field = $_; map { ['password', $field, @$_, $budget] } @prices[1 .. 3] } @fields;
     push @logins, map { my $price = $_; map { [@$_[0, 1], @$price, $budget] } @known[0 .. 4], ['', $fixed], ['a' x 1025, $fixed], ["a\0", ''], ["\0", "!"] } @prices;
-    push @logins, map { my $limit = $_; map { ['password', $_, 6, 0, $limit] } $fixed, '', '!', $known[4][1] } 0, 36238, 36239, 452159, 452160, $most;
+    push @logins, map { my $limit = $_; map { ['password', $_, 6, 5000, $limit] } $fixed, '', '!', $known[4][1] } 0, 36238, 36239, 452159, 452160, $most;
     are_made('each field', [], logins(@logins), ['login_str', 'password', undef, 0, 6, 0, $budget]);
     are_made('in eight threads', ['threads 8'], logins(@logins[0 .. 150]));
     are_refused([], logins(map { ['password', $_, 7, 6, $budget] } $fixed, '', '!', $known[4][1]));
-    # The right and a wrong hash with the salt of a dropped one, and the fields that have none: the same work for all.
+    # The right, a wrong and a dead hash with the salt of a dropped one, and the fields that have none: the same work for all.
     for my $price ([1, 0], [5, 2000], [6, 0], [7, 6]) {
-        my $setting = made_setting(@$price, '.' x $made_salt{ $price->[0] });
-        my @kinds = (hash_of($setting, 'password'), hash_of($setting, 'Password'), undef, '', "!$fixed", '$y$j9T$salt$hash', '$6$rounds=999999999$ab$x');
-        my %works = map { join(' ', (split / /)[4 .. 8]) => 1 } printed($driver, map { row('login_str', 'password', $_, 0, @$price, $budget) } @kinds);
+        my ($right, $wrong) = map { hash_of(new_setting(@$price), $_) } 'password', 'Password';
+        my @kinds = ($right, $wrong, "$right.", undef, '', "!$fixed", '$y$j9T$salt$hash', '$6$rounds=999999999$ab$x');
+        my %works = map { join(' ', (split / /)[4 .. 8]) => 1 } printed($driver, map { row('login_str', 'password', $_, 0, @$price, 0) } @kinds);
         is(keys %works, 1, "the same work for each kind of field at $price->[0], $price->[1]");
     }
+};
+
+# By the recommended policy: each length up to the longest is set and gets in, and one byte more is refused at once.
+subtest 'the limit of a policy' => sub {
+    my %table = map { my ($method, @numbers) = split / \| /; $method => \@numbers }
+        slurp("$root/docs/FORMATS.md") =~ /^\| (\w+ \| \d+ \| [\d,]+) bytes \|$/mg;
+    my $bytes = join '', map { chr } 1 .. 24;
+    @words = unpack 'Q<3', $bytes;
+    my @fields = ('', '!', $fixed, "$fixed.", $known[4][1], '$y$x', '$6$rounds=999999999$ab$x', '$6$rounds=656000$ab$' . '.' x 86);
+    my (@calls, @refused);
+    for my $method (1, 5, 6, 7) {
+        my ($limit, $longest) = map { tr/,//dr } @{ delete $table{ $types{$method} } };
+        is(policy_limit($method, 0, 8), $limit, "the limit for $types{$method} in FORMATS.md");
+        is(policy_limit($method, 0, $longest + 1), 0, 'and the longest password');
+        for my $password (map { 'a' x $_ } 8, 64, $longest) {
+            push @calls, ['new', $password, '', 145, $method, 0, 0];
+            my $hash = (split / /, line(@{ $calls[-1] }))[-1];
+            push @calls, map { ['login', $password, $_, 0, $method, 0, 0] } $hash, length $password == 64 ? '' : ();
+        }
+        push @refused, map { my $password = 'a' x $_; ['new', $password, '', 145, $method, 0, 0], map { ['login', $password, $_, 0, $method, 0, 0] } @fields }
+            grep { $_ > $longest } 169, 1024;
+    }
+    is_deeply(\%table, {}, 'FORMATS.md has no other');
+    is(scalar(grep { line(@$_) =~ /^1 [13] / } @calls), 24, 'each is set, and gets in without being outdated');
+    are_made('passwords up to the limit', ["entropy " . unpack('H*', $bytes), 'threads 8'], @calls);
+    are_made('longer ones', [], @refused);
+    is(join(' ', grep { !/^0 -\d+ 0 \d+( 0){9} / } printed($driver, map { row(@$_) } @refused)), '', 'they are refused without work, whatever is stored');
+    are_made('all 1,024 bytes within a budget', ['threads 8'], map { my $own = $_; map { ['login', 'a' x 1024, $_, 0, 6, 0, $own] } '', $fixed } 1297572511, 1297572512);
+    @words = ();
+};
+
+# One number in each language, which is what the library takes for 0.
+subtest 'the recommended rounds' => sub {
+    my ($rounds) = (printed($driver, 'setting - - 145 6 0 1 2 3'))[0] =~ /rounds=(\d+)/;
+    my %said = map { my ($path, $pattern) = @$_; $path => join ' ', uniq(map { tr/_//dr } map { slurp($_) =~ /$pattern/g } glob "$root/$path") }
+        ['c/mkpasswd.h', qr/^#define MKPASSWD_ROUNDS (\d+)$/m], ['python/src/mkpasswd/*.py', qr/\b(?:RECOMMENDED_ROUNDS|rounds: Optional\[int\]) = (\d[\d_]*)/],
+        ['web/mkpasswd.mjs', qr/\b(?:RECOMMENDED_ROUNDS|rounds) = (\d+)/], ['web/mkpasswd.html', qr/<input id="rounds"[^>]* value="(\d+)"/];
+    is_deeply(\%said, { map { $_ => $rounds } keys %said }, 'are the same in C, Python and the page');
 };
 
 # A hash, and others of it that are no longer whole, or no longer its own: cut, longer, with another last character or one that
@@ -279,7 +323,7 @@ subtest 'audits' => sub {
     my @hashes = map { $_->[1] } @known;
     ok(!(grep { !Model::is_whole(read_setting($_), $_) } @hashes), 'known hashes are whole');
     # Settings at the audit's own budget, and above it.
-    my @settings = (made_setting(6, 656_000), made_setting(6, 656_001), map { setting(7, 'a' x 86, log => $_, r => 32, p => 1) } 15 .. 18);
+    my @settings = (new_setting(6, 0), new_setting(6, 656_001), map { setting(7, 'a' x 86, log => $_, r => 32, p => 1) } 15 .. 18);
     push @hashes, map { "$_->{front}\$" . '.' x $packed_length{ $_->{kind} } } @settings;
     my @fields = ((map { altered($_) } @hashes), @no_settings, @other_fields);
     my @calls = map { my $field = $_; map { ['audit', '', $field, 0, @$_, 0] } @methods, @no_methods[0, 6] } @fields;
@@ -318,27 +362,27 @@ subtest 'new hashes and settings' => sub {
         @words = unpack 'Q<3', $bytes;
         is(salt_of(8, 129, 0, 0), '/0......', 'a salt is made of the lowest bits first');
         my (@calls, @settings);
-        for my $row ((map { [@$_, made_setting(@$_)] } @methods), @no_methods) {
-            my ($method, $cost, $setting) = @$row;
+        for my $row ((map { [@$_, new_setting(@$_)] } @methods), @no_methods) {
+            my ($method, $rounds, $setting) = @$row;
             my ($length, $price) = $setting ? (length $setting->{front}, cost($setting, 8)) : (3, 9);
             for my $room (0 .. 3, $length, $length + 1, $length + 20) {
-                push @settings, map { ["setting$_", '', '', $room, $method, $cost, @words] } '', '_str';
+                push @settings, map { ["setting$_", '', '', $room, $method, $rounds, @words] } '', '_str';
             }
-            push @settings, ['setting_str', '', '', undef, $method, $cost, @words];
+            push @settings, ['setting_str', '', '', undef, $method, $rounds, @words];
             next if $price > $budget;
             $length += 1 + $packed_length{$method} if $setting;
             for my $room (0 .. 3, $length, $length + 1, 145) {
-                my @budgets = $method == 7 && $room > $length ? (0, $price - 1) : (0, $price - 1, $price, $most);
-                push @calls, map { my $password = $_; map { ['new', $password, '', $room, $method, $cost, $_] } @budgets } 'password', 'a' x 1025, "pass\0";
+                my @budgets = $price > 10_000_000 && $room > $length ? (1, $price - 1) : (0, 1, $price - 1, $price, $most);
+                push @calls, map { my $password = $_; map { ['new', $password, '', $room, $method, $rounds, $_] } @budgets } 'password', 'a' x 1025, "pass\0";
             }
-            push @calls, map { ['new_str', @$_, $method, $cost, $price] } ['password', '', 145], ['password', '', undef], [undef, '', 145];
+            push @calls, map { ['new_str', @$_, $method, $rounds, $price] } ['password', '', 145], ['password', '', undef], [undef, '', 145];
         }
         my $drawn = 'entropy ' . unpack 'H*', $bytes;
         are_made('mkpasswd_setting', [], @settings);
         are_made('mkpasswd_new draws these words', [$drawn], @calls);
         are_refused([$drawn], map { ['new', $_, '', 145, 7, 0, $budget] } 'password', "a\0");
-        are_made('a password in `out`', [$drawn], map { ['new_over', 'password', '', 145, $_, 0, $budget] } 1, 5, 6, 7);
-        are_made('the longest password', [$drawn], map { ['new', 'a' x 1024, '', 145, $_, 0, $budget] } 1, 5, 6);
+        are_made('a password in `out`', [$drawn], map { ['new_over', 'password', '', 145, @$_, 0] } [1, 0], [5, 1000], [6, 1000], [7, 0]);
+        are_made('the longest password', [$drawn], map { ['new', 'a' x 1024, '', 145, $_, 5000, 0] } 1, 5, 6);
         @words = ();
         are_made('no random words', ['entropy none'], @calls);
     }
@@ -368,14 +412,6 @@ subtest 'messages' => sub {
     is_deeply(\%named, \%names, "the header's reasons");
     is_deeply([@defined{qw(MD5CRYPT SHA256CRYPT SHA512CRYPT SCRYPT PASSWORD_LIMIT TEXT_SIZE)}],
         [1, 5, 6, 7, $limits{password}, 1 + length hash_of(read_setting($long_salt), 'x')], "the header's methods and limits");
-};
-
-subtest 'costs' => sub {
-    my @within = ((map { [$_, 1024] } '$1$xxxxxxxx', '$5$rounds=75000$saltstringsaltst', '$6$rounds=75000$saltstringsaltst', '$7$CU..../....' . 'a' x 86),
-        map { [$_, 40] } '$5$rounds=1000000$saltstringsaltst', '$6$rounds=1000000$saltstringsaltst');
-    my @calls = map { ['bound', '', $_->[0], 0, $_->[1]] } @within;
-    are_made('of the longest passwords', [], @calls);
-    ok(!(grep { cost(read_setting($_->[2]), $_->[4]) > $budget } @calls), 'are within MKPASSWD_BUDGET, as the header says');
 };
 
 # ---- compilers, linkers and what is installed
@@ -462,7 +498,7 @@ int main(int count, char **argument)
 {
     struct mkpasswd_report report;
     const uint8_t *field = (const uint8_t *)argument[1];
-    int is_in = mkpasswd_login(field, 0, field, 0, 6, 1000, 0, &report);
+    int is_in = mkpasswd_login(field, 0, field, 0, 6, 1000, 1, &report);
     return count == 1 && !field ? 0 : 1 + is_in;
 }
 END
@@ -485,7 +521,7 @@ END
 subtest 'the time of logins' => sub {
     my $bench = build('bench-login', $cc, '-std=c99', @strict, "$root/tools/bench-login.c", @static) or return;
     my %times = run($bench, 1000, 50)->{out} =~ /^(\S.*?) +([\d.]+) ms /mg;
-    cmp_ok($times{$_}, '>', 0.5 * $times{'wrong password'}, $_) for 'unknown name', 'empty', 'locked', 'yescrypt', 'above the budget';
+    cmp_ok($times{$_}, '>', 0.5 * $times{'wrong password'}, $_) for 'dead', 'unknown name', 'empty', 'locked', 'yescrypt', 'above the budget';
 };
 
 # A second process looks at the memory of one that makes a call three times. The third password has another byte at each place.
@@ -593,9 +629,9 @@ subtest 'examples' => sub {
     spew("$scratch/readme.c", ($first // '') . <<'END' . ($rest // '') =~ s/mkpasswd_login_str\(/told(/r . <<'END');
 #include <stdio.h>
 static void replace(const char *field, const char *hash) { printf("%s %s\n", field, hash); }
-static bool told(const char *password, const char *field, uint32_t method, uint32_t cost, uint64_t budget, struct mkpasswd_report *report)
+static bool told(const char *password, const char *field, uint32_t method, uint32_t rounds, uint64_t budget, struct mkpasswd_report *report)
 {
-    bool is_in = mkpasswd_login_str(password, field, method, cost, budget, report);
+    bool is_in = mkpasswd_login_str(password, field, method, rounds, budget, report);
     fprintf(stderr, "%llu\n", (unsigned long long)report->work.digests);
     return is_in;
 }

@@ -28,8 +28,8 @@
 #include <mkpasswd.h>
 #pragma GCC visibility pop
 
-#ifdef BUDGET /* what it is in C, since C++ has a text of its own for it */
-typedef char has_the_budget[MKPASSWD_BUDGET == BUDGET ? 1 : -1];
+#ifdef BUDGET /* what they are in C, since C++ has a text of its own for them */
+typedef char has_the_budgets[MKPASSWD_BUDGET == BUDGET && MKPASSWD_TWICE == 0 ? 1 : -1];
 #endif
 
 #define PAGE 4096
@@ -191,29 +191,29 @@ static int32_t make(const struct row *row, uint8_t *out, struct mkpasswd_report 
     size_t pass_len = row->password.len, len = row->text.len, room = row->room;
     char *chars = (char *)out;
     const uint64_t *n = row->number;
-    uint32_t method = (uint32_t)n[0], cost = (uint32_t)n[1];
+    uint32_t method = (uint32_t)n[0], rounds = (uint32_t)n[1];
 
 #if defined __clang__ && defined __cplusplus && __cplusplus >= 201103L /* g++ counts no attribute */
     static_assert(noexcept(mkpasswd_version()) && noexcept(mkpasswd_verify(password, pass_len, text, len, n[0], report))
-        && noexcept(mkpasswd_new(password, pass_len, method, cost, n[2], out, room, report)), "no call throws");
+        && noexcept(mkpasswd_new(password, pass_len, method, rounds, n[2], out, room, report)), "no call throws");
 #endif
     return IS("verify") ? mkpasswd_verify(password, pass_len, text, len, n[0], report)
         : IS("verify_str") ? mkpasswd_verify_str(pass, str, n[0], report)
-        : IS("login") ? mkpasswd_login(password, pass_len, text, len, method, cost, n[2], report)
-        : IS("login_str") ? mkpasswd_login_str(pass, str, method, cost, n[2], report)
-        : IS("new") ? mkpasswd_new(password, pass_len, method, cost, n[2], out, room, report)
-        : IS("new_over") ? mkpasswd_new((uint8_t *)memcpy(out, password, pass_len), pass_len, method, cost, n[2], out, room, report)
-        : IS("new_str") ? mkpasswd_new_str(pass, method, cost, n[2], chars, room, report)
-        : IS("needs_rehash") ? mkpasswd_needs_rehash(text, len, method, cost, report)
-        : IS("needs_rehash_str") ? mkpasswd_needs_rehash_str(str, method, cost, report)
-        : IS("audit") ? mkpasswd_audit(text, len, method, cost, n[2], report)
-        : IS("audit_str") ? mkpasswd_audit_str(str, method, cost, n[2], report)
+        : IS("login") ? mkpasswd_login(password, pass_len, text, len, method, rounds, n[2], report)
+        : IS("login_str") ? mkpasswd_login_str(pass, str, method, rounds, n[2], report)
+        : IS("new") ? mkpasswd_new(password, pass_len, method, rounds, n[2], out, room, report)
+        : IS("new_over") ? mkpasswd_new((uint8_t *)memcpy(out, password, pass_len), pass_len, method, rounds, n[2], out, room, report)
+        : IS("new_str") ? mkpasswd_new_str(pass, method, rounds, n[2], chars, room, report)
+        : IS("needs_rehash") ? mkpasswd_needs_rehash(text, len, method, rounds, report)
+        : IS("needs_rehash_str") ? mkpasswd_needs_rehash_str(str, method, rounds, report)
+        : IS("audit") ? mkpasswd_audit(text, len, method, rounds, n[2], report)
+        : IS("audit_str") ? mkpasswd_audit_str(str, method, rounds, n[2], report)
         : IS("bound") ? mkpasswd_bound(text, len, (size_t)n[0], report)
         : IS("bound_str") ? mkpasswd_bound_str(str, (size_t)n[0], report)
         : IS("hash") ? mkpasswd_hash(password, pass_len, text, len, n[0], out, room, report)
         : IS("hash_str") ? mkpasswd_hash_str(pass, str, n[0], chars, room, report)
-        : IS("setting") ? mkpasswd_setting(method, cost, n[2], n[3], n[4], out, room, report)
-        : IS("setting_str") ? mkpasswd_setting_str(method, cost, n[2], n[3], n[4], chars, room, report)
+        : IS("setting") ? mkpasswd_setting(method, rounds, n[2], n[3], n[4], out, room, report)
+        : IS("setting_str") ? mkpasswd_setting_str(method, rounds, n[2], n[3], n[4], chars, room, report)
         : IS("words") ? mkpasswd_words((int32_t)(int64_t)n[0], out, room)
         : IS("words_str") ? mkpasswd_words_str((int32_t)(int64_t)n[0], chars, room)
         : (int32_t)mkpasswd_version();

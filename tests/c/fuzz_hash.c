@@ -2,15 +2,15 @@
  * libxcrypt. */
 #include "fuzz.h"
 
-/* Methods and costs, of which one is chosen by a byte. */
-static const uint32_t chosen[][2] = {{1, 0}, {5, 1000}, {6, 0}, {6, 1001}, {6, 999}, {5, 1000000000}, {7, 5}, {2, 0}};
+/* Methods and rounds, of which one is chosen by a byte. */
+static const uint32_t chosen[][2] = {{1, 0}, {5, 1000}, {6, 5000}, {6, 1001}, {6, 999}, {5, 1000000000}, {7, 5}, {2, 0}};
 
 /* Whether a field is a dead hash. An audit finds what mkpasswd_bound and mkpasswd_needs_rehash do, and hashes nothing. */
 static int is_dead(const uint8_t *field, size_t field_len, const uint32_t *of, uint64_t budget)
 {
     struct mkpasswd_report bound;
     int has_setting = mkpasswd_bound(field, field_len, MKPASSWD_PASSWORD_LIMIT, &bound), is_refused;
-    int is_outdated = mkpasswd_needs_rehash(field, field_len, of[0], of[0] == 6 && !of[1] ? 656000 : of[1], &report);
+    int is_outdated = mkpasswd_needs_rehash(field, field_len, of[0], of[1], &report);
     uint8_t *out = new_out(0);
     int is_current = checked(mkpasswd_audit(field, field_len, of[0], of[1], budget, &report), out, 0, NULL);
 
@@ -24,6 +24,21 @@ static int is_dead(const uint8_t *field, size_t field_len, const uint32_t *of, u
     return !is_current && report.reason == MKPASSWD_DEAD;
 }
 
+/* What a login with this budget may cost: by 0 twice what a new hash of 64 bytes does, or nothing if that of this password
+ * costs more. A new salt is as long as this one. */
+static uint64_t limit_of(const uint32_t *of, size_t len, uint64_t budget)
+{
+    char made[MKPASSWD_TEXT_SIZE];
+    struct mkpasswd_report half, own;
+    uint64_t limit = 150000000;
+
+    if (budget || !mkpasswd_setting_str(of[0], of[1], 0, 0, 0, made, sizeof made, NULL))
+        return budget;
+    MUST(mkpasswd_bound_str(made, 64, &half));
+    limit = 2 * half.cost > limit ? 2 * half.cost : limit;
+    return mkpasswd_bound_str(made, len, &own) && own.cost <= limit ? limit : 0;
+}
+
 /* A login does what mkpasswd_verify, mkpasswd_needs_rehash and mkpasswd_audit say, and hashes if it is not refused: within the
  * budget, and for a field that can't be checked as much as for an unknown name. */
 static void log_in(const uint8_t *password, size_t len, const uint8_t *field, size_t field_len, uint8_t choice, uint64_t budget)
@@ -31,13 +46,14 @@ static void log_in(const uint8_t *password, size_t len, const uint8_t *field, si
     const uint32_t *of = chosen[choice >> 1 & 7];
     struct mkpasswd_report verified, unknown;
     int has_no_match = is_dead(field, field_len, of, budget);
-    int32_t opens = mkpasswd_verify(password, len, field, field_len, budget, &verified);
+    uint64_t limit = limit_of(of, len, budget);
+    int32_t opens = mkpasswd_verify(password, len, field, field_len, limit, &verified);
     int32_t never = mkpasswd_login(password, len, field, 0, of[0], of[1], budget, &unknown);
     uint8_t *out = new_out(0);
     int32_t is_in = checked(mkpasswd_login(password, len, field, field_len, of[0], of[1], budget, &report), out, 0, NULL);
     struct mkpasswd_report told = report;
 
-    MUST(!never && told.work.bytes <= budget && unknown.work.bytes <= budget);
+    MUST(!never && told.work.bytes <= limit && unknown.work.bytes <= limit);
     if (unknown.reason != MKPASSWD_NO_HASH) {
         MUST(!is_in && memcmp(&told, &unknown, sizeof told) == 0 && told.cost == 0 && told.work.digests == 0);
         return;
@@ -95,7 +111,9 @@ int LLVMFuzzerTestOneInput(const uint8_t *data, size_t size)
         MUST(report.reason == MKPASSWD_FITS && (!(by_crypt = crypted(password, len, text)) || strcmp(by_crypt, text) == 0));
     else if (report.reason == MKPASSWD_DIFFERS)
         MUST(!(by_crypt = crypted(password, len, text)) || strcmp(by_crypt, text) != 0);
-    log_in(password, len, stored, text_len, data[1], budget);
+    /* Not within 0, which admits much, what takes long. */
+    log_in(password, len, stored, text_len, data[1],
+        !budget && mkpasswd_bound(stored, text_len, len, &report) && report.cost > 300000 ? 1 : budget);
     out = new_out(0);
     checked(mkpasswd_bound(stored, text_len, len, &report), out, 0, NULL);
     return 0;

@@ -12,13 +12,14 @@ use Exporter qw(import);
 use List::Util qw(max min sum0);
 
 our @EXPORT = qw(%limits %kinds %types %most_salt %made_salt %packed_length @characters @setting_refusals @line_refusals
-    forget shown numeral scrypt_cost setting read_setting made_setting is_replaced counts cost hash_of
+    forget shown numeral scrypt_cost setting read_setting made_setting new_setting is_replaced counts cost policy_limit hash_of
     job judged differences);
 
 our %limits = (
     password => 1024, setting => 384, line => 2048, name => 64, least_rounds => 1000, most_rounds => 999999999, ceiling => 8388608,
 );
 our %kinds = (md5crypt => 1, md5 => 1, sha256crypt => 5, 'sha-256' => 5, sha512crypt => 6, 'sha-512' => 6, scrypt => 7);
+our %recommended = (1 => 0, 5 => 656_000, 6 => 656_000, 7 => 7);
 our %types = (1 => 'md5crypt', 5 => 'sha256crypt', 6 => 'sha512crypt', 7 => 'scrypt');
 our %most_salt = (1 => 8, 5 => 16, 6 => 16, 7 => 86);
 our %made_salt = (1 => 8, 5 => 16, 6 => 16, 7 => 22);
@@ -100,6 +101,9 @@ sub made_setting {
     return setting($kind, $salt, $cost ? (rounds => held($cost), is_written => 1) : (rounds => 5000));
 }
 
+# The same of the calls for C, where rounds of 0 are the recommended ones.
+sub new_setting { my ($kind, $rounds, $salt) = @_; return made_setting($kind, $rounds || $recommended{$kind}, $salt) }
+
 sub is_replaced {
     my ($old, $new) = @_;
     my $number = $old->{kind} == 7 ? 'product' : 'rounds';
@@ -132,6 +136,15 @@ sub cost {
     my ($setting, $length) = @_;
     my (undef, $bytes, $mixings) = counts($setting, $length, 255);
     return $bytes + ($mixings && $mixings * 128 * $setting->{r});
+}
+
+# What a login and a new hash may cost with this method and these rounds, if no budget is given: nothing for a password of so
+# many bytes whose new hash would cost more than the limit.
+sub policy_limit {
+    my ($kind, $rounds, $length) = @_;
+    my $setting = new_setting($kind, $rounds);
+    my $limit = max(150_000_000, 2 * cost($setting, 64));
+    return $length > $limits{password} || cost($setting, $length) > $limit ? 0 : $limit;
 }
 
 # The exact counts of the hash of a password.
@@ -242,7 +255,7 @@ sub of_another_scheme {
 # The setting by which an audit judges, of the method and the cost that the words have, and its budget if they have none.
 sub audit_policy {
     my ($kind, $cost) = @_;
-    my @made = map { made_setting(@$_, 'a' x $most_salt{ $_->[0] }) } [$kind, $cost || ($kind == 7 ? 7 : 656000)], [6, 656000];
+    my @made = map { made_setting(@$_, 'a' x $most_salt{ $_->[0] }) } [$kind, $cost || $recommended{$kind}], [6, $recommended{6}];
     return ($made[0], max(map { cost($_, $limits{password}) } @made));
 }
 
