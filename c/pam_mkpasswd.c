@@ -17,15 +17,13 @@
 #include <syslog.h>
 #include <unistd.h>
 
-#define ROUNDS 656000
-#define BUDGET 253921472 /* twice what a new sha512crypt hash with these rounds can cost for a password of 64 bytes */
-#define FIELD_LIMIT 384  /* of a stored hash, in bytes */
+#define FIELD_LIMIT 384 /* of a stored hash, in bytes */
 #define ACL "system.posix_acl_access"
 
 struct options {
     const char *file; /* NULL for the system's own */
     uint32_t method, rounds;
-    uint64_t budget;
+    uint64_t budget, limit; /* limit is what the budget admits, also where it is MKPASSWD_TWICE */
     int is_renewing, is_debugging;
 };
 
@@ -44,7 +42,7 @@ static int read_options(pam_handle_t *pam, int count, const char **given, struct
     struct mkpasswd_report report;
     char message[MKPASSWD_TEXT_SIZE], password[65] = "";
 
-    *options = (struct options){NULL, MKPASSWD_SHA512CRYPT, 0, BUDGET, 0, 0};
+    *options = (struct options){NULL, MKPASSWD_SHA512CRYPT, 0, MKPASSWD_TWICE, 0, 0, 0};
     for (; count > 0; count--, given++) {
         const char *digits = strlen(*given) > 7 && strlen(*given) < 26 ? *given + 7 : "-";
         uint64_t number = digits[strspn(digits, "0123456789")] ? UINT64_MAX : strtoull(digits, NULL, 10);
@@ -67,14 +65,12 @@ static int read_options(pam_handle_t *pam, int count, const char **given, struct
         else if (strcmp(*given, "try_first_pass") != 0 && strcmp(*given, "use_first_pass") != 0) /* for pam_get_authtok(3) */
             return pam_syslog(pam, LOG_ERR, "invalid argument: %s", *given), 0;
     }
-    if (options->rounds == 0 && options->method != MKPASSWD_SCRYPT)
-        options->rounds = ROUNDS;
     if (options->is_renewing && !options->file)
         return pam_syslog(pam, LOG_ERR, "invalid argument: renew, without file="), 0;
     memset(password, 'x', sizeof password - 1);
     if (mkpasswd_new_str(password, options->method, options->rounds, options->budget, NULL, 0, &report)
         || report.reason == MKPASSWD_REFUSED_TOO_FEW_BYTES)
-        return 1;
+        return options->limit = options->budget ? options->budget : report.cost > MKPASSWD_BUDGET / 2 ? 2 * report.cost : MKPASSWD_BUDGET, 1;
     mkpasswd_words_str(report.reason, message, sizeof message);
     return pam_syslog(pam, LOG_ERR, "invalid arguments: %s", message), 0;
 }
@@ -159,8 +155,11 @@ static int is_foreign(pam_handle_t *pam, const struct options *options, const st
         || (field->bytes[0] == '$' && field->len > 1 && !memchr("1567", field->bytes[1], 4)));
     int is_usual = is_foreign || report.reason == MKPASSWD_NO_HASH || report.reason == MKPASSWD_LOCKED;
 
+    if (report.reason == MKPASSWD_OVER_BUDGET && report.cost <= options->limit
+        && (mkpasswd_audit(field->bytes, field->len, options->method, options->rounds, UINT64_MAX, &report) || report.reason != MKPASSWD_DEAD))
+        return 0;
     mkpasswd_words_str(report.reason, message, sizeof message);
-    if ((report.reason == MKPASSWD_OVER_BUDGET && report.cost <= options->budget) || (is_usual && !options->is_debugging))
+    if (is_usual && !options->is_debugging)
         return is_foreign;
     if (options->file)
         pam_syslog(pam, is_usual ? LOG_DEBUG : LOG_WARNING, "%s: line %lu: %s", options->file, field->line, message);
