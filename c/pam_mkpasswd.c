@@ -70,7 +70,8 @@ static int read_options(pam_handle_t *pam, int count, const char **given, struct
     memset(password, 'x', sizeof password - 1);
     if (mkpasswd_new_str(password, options->method, options->rounds, options->budget, NULL, 0, &report)
         || report.reason == MKPASSWD_REFUSED_TOO_FEW_BYTES)
-        return options->limit = options->budget ? options->budget : report.cost > MKPASSWD_BUDGET / 2 ? 2 * report.cost : MKPASSWD_BUDGET, 1;
+        return options->limit = options->budget ? options->budget
+            : report.cost > MKPASSWD_BUDGET / 2 ? 2 * report.cost : MKPASSWD_BUDGET, 1;
     mkpasswd_words_str(report.reason, message, sizeof message);
     return pam_syslog(pam, LOG_ERR, "invalid arguments: %s", message), 0;
 }
@@ -156,15 +157,14 @@ static int is_foreign(pam_handle_t *pam, const struct options *options, const st
     int is_usual = is_foreign || report.reason == MKPASSWD_NO_HASH || report.reason == MKPASSWD_LOCKED;
 
     if (report.reason == MKPASSWD_OVER_BUDGET && report.cost <= options->limit
-        && (mkpasswd_audit(field->bytes, field->len, options->method, options->rounds, UINT64_MAX, &report) || report.reason != MKPASSWD_DEAD))
+        && (mkpasswd_audit(field->bytes, field->len, options->method, options->rounds, UINT64_MAX, &report)
+            || report.reason != MKPASSWD_DEAD))
         return 0;
     mkpasswd_words_str(report.reason, message, sizeof message);
     if (is_usual && !options->is_debugging)
         return is_foreign;
-    if (options->file)
-        pam_syslog(pam, is_usual ? LOG_DEBUG : LOG_WARNING, "%s: line %lu: %s", options->file, field->line, message);
-    else
-        pam_syslog(pam, is_usual ? LOG_DEBUG : LOG_WARNING, "shadow: %s", message);
+    options->file ? pam_syslog(pam, is_usual ? LOG_DEBUG : LOG_WARNING, "%s: line %lu: %s", options->file, field->line, message)
+                  : pam_syslog(pam, is_usual ? LOG_DEBUG : LOG_WARNING, "shadow: %s", message);
     return is_foreign;
 }
 
