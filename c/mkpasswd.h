@@ -4,13 +4,13 @@
  *     if (mkpasswd_login_str(password, stored, MKPASSWD_SHA512CRYPT, 656000, MKPASSWD_BUDGET, NULL))
  *         let_in();
  *
- * Each call returns 1 for yes or success: the password matches, the stored hash is outdated, the cost is reported, or `out`
- * has what was asked for. A 0 covers everything else: a wrong password, a locked account, an empty or malformed field,
- * another scheme, a hash that costs too much, no memory. The report says which (`reason`). Every call that has a report
- * writes all of it, also over the reason of an earlier call. If several refusals apply, the first one in this order is
- * reported: password, setting, method, cost, budget, room in `out`, random words, memory; by mkpasswd_login() password,
- * method, cost, field, budget, memory. Test the result, not the reason: a reason is never 0, so `if (report.reason)` lets
- * everybody in.
+ * Each call returns 1 for yes or success: the password matches, the stored hash is outdated, or current for an audit, the
+ * cost is reported, or `out` has what was asked for. A 0 covers everything else: a wrong password, a locked account, an empty
+ * or malformed field, another scheme, a hash that costs too much, no memory. The report says which (`reason`). Every call that
+ * has a report writes all of it, also over the reason of an earlier call. If several refusals apply, the first one in this
+ * order is reported: password, setting, method, cost, budget, room in `out`, random words, memory; by mkpasswd_login() and
+ * mkpasswd_audit() password, method, cost, field, budget, memory. Test the result, not the reason: a reason is never 0, so
+ * `if (report.reason)` lets everybody in.
  *
  * After a 0, mkpasswd_new(), mkpasswd_hash() and mkpasswd_setting() leave the string "*0" in `out` ("*1" if the given
  * setting begins with "*0"), cut to fit. No password matches it, so with 3 bytes of room or more a caller who stores it
@@ -126,8 +126,10 @@ extern "C" {
 #define MKPASSWD_DIFFERS (-17)                   /* differs: the password doesn't match; mkpasswd_verify() and mkpasswd_login() */
 #define MKPASSWD_CURRENT (-18)                   /* current: not outdated; mkpasswd_needs_rehash() alone */
 #define MKPASSWD_NO_RANDOM_WORDS (-19)           /* no random words: the system gave none; mkpasswd_new() alone */
-#define MKPASSWD_LOCKED (-20)                    /* locked: the field begins with ! or *; mkpasswd_verify() and mkpasswd_login() */
-#define MKPASSWD_NO_HASH (-21)                   /* no hash: the field is empty; mkpasswd_verify() and mkpasswd_login() */
+#define MKPASSWD_LOCKED (-20)                    /* locked: the field begins with ! or * */
+#define MKPASSWD_NO_HASH (-21)                   /* no hash: the field is empty */
+#define MKPASSWD_DEAD (-22)                      /* dead: no password matches the hash; mkpasswd_login() and mkpasswd_audit() */
+#define MKPASSWD_REPLACED (-23)                  /* outdated: a new hash would replace it; mkpasswd_audit() alone */
 
 /* The work of a hash. Each count is below 2^41. */
 struct mkpasswd_work {
@@ -145,7 +147,7 @@ struct mkpasswd_report {
                                   digests and mixes. It is below 2^42. If password and setting (or method and cost) are
                                   valid it is reported even if the call returns 0; otherwise, and by
                                   mkpasswd_needs_rehash() and mkpasswd_setting(), it is 0. Of mkpasswd_login() it is that
-                                  of the stored hash. */
+                                  of the stored hash, of mkpasswd_audit() that for MKPASSWD_PASSWORD_LIMIT bytes. */
     struct mkpasswd_work work; /* what the call did, all 0 if it neither hashed nor allocated; of mkpasswd_bound() the bound */
     uint64_t reserved;         /* 0 */
 };
@@ -176,8 +178,9 @@ MKPASSWD_EXPORT MKPASSWD_CHECKED MKPASSWD_NONNULL(6) int32_t mkpasswd_verify(con
  * than the budget, or scrypt gets no memory for it, it is not made.
  *
  * An invalid password, method or cost is refused at once, whatever the field is. Any other wrong password costs what the
- * stored hash costs, even one that was cut. So hashes with another cost, or with a shorter salt than mkpasswd_new() makes,
- * take another time; only outdated ones are ever replaced. */
+ * stored hash costs. So hashes with another cost, or with a shorter salt than mkpasswd_new() makes, take another time; only
+ * outdated ones are ever replaced. A dead hash, such as one that was cut, costs the same, and the reason is MKPASSWD_DEAD in
+ * place of MKPASSWD_DIFFERS: nobody gets in until the account has a new hash. */
 MKPASSWD_EXPORT MKPASSWD_CHECKED MKPASSWD_NONNULL(8) int32_t mkpasswd_login(const uint8_t *password, size_t password_len,
     const uint8_t *field, size_t field_len, uint32_t method, uint32_t cost, uint64_t budget, struct mkpasswd_report *report)
     MKPASSWD_READS(password, 1, 2) MKPASSWD_READS(field, 3, 4);
@@ -187,9 +190,9 @@ MKPASSWD_EXPORT MKPASSWD_CHECKED MKPASSWD_NONNULL(8) int32_t mkpasswd_login(cons
  * N = 2^(cost+7), r = 32 and p = 1. 0 stands for 7 with scrypt, and otherwise for 5000 rounds, which are too few today.
  * md5crypt ignores it.
  *
- * Rounds other than 0 and 1000 to 999999999 are refused, here and by mkpasswd_login(). The formats clamp them, and so do the
- * command and all other calls; but a service whose cost is 12, as bcrypt's may be, should notice before it stores a hash that
- * is cheap to guess. */
+ * Rounds other than 0 and 1000 to 999999999 are refused, here, by mkpasswd_login() and by mkpasswd_audit(). The formats clamp
+ * them, and so do the command and all other calls; but a service whose cost is 12, as bcrypt's may be, should notice before it
+ * stores a hash that is cheap to guess. */
 MKPASSWD_EXPORT MKPASSWD_CHECKED MKPASSWD_NONNULL(6) MKPASSWD_NONNULL(8) MKPASSWD_WRITES(6, 7)
 int32_t mkpasswd_new(const uint8_t *password, size_t password_len, uint32_t method, uint32_t cost, uint64_t budget,
     uint8_t *out, size_t out_len, struct mkpasswd_report *report) MKPASSWD_READS(password, 1, 2);
@@ -199,6 +202,22 @@ int32_t mkpasswd_new(const uint8_t *password, size_t password_len, uint32_t meth
  * greater N * r * p. */
 MKPASSWD_EXPORT MKPASSWD_CHECKED MKPASSWD_NONNULL(5) int32_t mkpasswd_needs_rehash(const uint8_t *stored, size_t stored_len,
     uint32_t method, uint32_t cost, struct mkpasswd_report *report) MKPASSWD_READS(stored, 1, 2);
+
+/* Audits a stored hash without a password, and hashes nothing. It returns 1 exactly if method and cost are valid, the field is
+ * a whole hash, as mkpasswd_hash() writes one, no password costs more than `budget`, and a new hash with this method and cost
+ * would not replace it. If method and cost are valid, a 0 has the first of these reasons:
+ *
+ * - MKPASSWD_LOCKED, MKPASSWD_NO_HASH, or what is wrong with the setting;
+ * - MKPASSWD_OVER_BUDGET: some password can cost more than `budget`;
+ * - MKPASSWD_DEAD: it is not a whole hash, so mkpasswd_verify() and mkpasswd_login() return 0 for every password. It was cut,
+ *   there is more behind it, a character of it is in no digest, its salt is too long, or its rounds are out of range;
+ * - MKPASSWD_REPLACED: mkpasswd_needs_rehash() returns 1.
+ *
+ * `method` and `cost` are those that the service gives mkpasswd_new(), but a cost of 0 stands for 656000 rounds, or for 7 with
+ * scrypt. A budget of 0 stands for the most that such a hash can cost, and at least for 1297572512, the most that 656000 rounds
+ * of sha512crypt can. */
+MKPASSWD_EXPORT MKPASSWD_CHECKED MKPASSWD_NONNULL(6) int32_t mkpasswd_audit(const uint8_t *stored, size_t stored_len,
+    uint32_t method, uint32_t cost, uint64_t budget, struct mkpasswd_report *report) MKPASSWD_READS(stored, 1, 2);
 
 /* Reports the greatest cost and work of a hash with the setting in a stored hash, for any password of the given length.
  * It hashes nothing; `work` is the bound of each count. */
@@ -271,6 +290,15 @@ MKPASSWD_CHECKED static inline bool mkpasswd_needs_rehash_str(const char *stored
     struct mkpasswd_report own;
 
     return mkpasswd_needs_rehash(MKPASSWD_BYTES(stored ? stored : ""), stored ? strlen(stored) : 0, method, cost,
+        report ? report : &own) == 1;
+}
+
+MKPASSWD_CHECKED static inline bool mkpasswd_audit_str(const char *stored, uint32_t method, uint32_t cost, uint64_t budget,
+    struct mkpasswd_report *report)
+{
+    struct mkpasswd_report own;
+
+    return mkpasswd_audit(MKPASSWD_BYTES(stored ? stored : ""), stored ? strlen(stored) : 0, method, cost, budget,
         report ? report : &own) == 1;
 }
 

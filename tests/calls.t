@@ -43,11 +43,12 @@ sub printed {
 
 my @reasons = ('done', 'outdated', 'fits', '', 'password too long', 'password has a zero byte', @setting_refusals,
     'out of memory', 'too few bytes', 'unknown method', 'cost', '', 'over budget', 'differs', 'current', 'no random words',
-    'locked', 'no hash');
+    'locked', 'no hash', 'dead', 'replaced');
 my %number = map { $reasons[$_] => 3 - $_ } grep { $reasons[$_] ne '' } 0 .. $#reasons;
 my %steps = (
     verify => 'password field budget memory compare', needs_rehash => 'setting made replace', setting => 'made room',
     new => 'password made budget room draw memory', hash => 'password setting budget room memory', bound => 'length setting tell',
+    audit => 'made field within whole keep',
 );
 our $refused = 0;    # which allocation is refused, from 1
 my @words;           # that the system draws, if it does
@@ -71,12 +72,18 @@ sub line {
         made => sub {
             return 'unknown method' if $n[0] !~ /^[1567]$/;
             return 'cost' if $n[0] == 7 && $n[1] !~ /^([06-9]|1[01])$/;
-            return 'cost' if $name eq 'new' && $n[0] =~ /[56]/ && $n[1] && ($n[1] < 1000 || $n[1] > 999_999_999);
+            return 'cost' if $name =~ /new|audit/ && $n[0] =~ /[56]/ && $n[1] && ($n[1] < 1000 || $n[1] > 999_999_999);
             $made = made_setting(@n[0, 1], salt_of($made_salt{ $n[0] }, $name eq 'setting' ? @n[2 .. 4] : @words ? @words : (0) x 3));
             $setting //= $made;
             return '';
         },
         replace => sub { is_replaced($setting, $made) ? '' : 'current' },
+        within => sub {
+            ($made, my $own) = Model::audit_policy(@n[0, 1]);
+            return ($cost = cost($setting, 1024)) > ($n[2] || $own) ? 'over budget' : '';
+        },
+        whole => sub { Model::is_whole($setting, $text) ? '' : 'dead' },
+        keep => sub { is_replaced($setting, $made) ? 'replaced' : '' },
         budget => sub { ($cost = cost($setting, length $password)) > $n[-1] ? 'over budget' : '' },
         room => sub {
             my $length = length($setting->{front}) + ($name eq 'setting' ? 0 : 1 + $packed_length{ $setting->{kind} });
@@ -226,6 +233,7 @@ sub login_line {
     my @line = split / /, line('verify', $password, $field, 0, $limit);
     my ($refused) = line('new', $password, '', 145, $method, $cost, $most) =~ /^0 (-1|-2|-13|-14) /;
     return "0 $refused" . ' 0' x 11 . ' unchanged' if $refused;
+    $line[1] = $number{dead} if $line[1] == $number{differs} && !Model::is_whole(read_setting($field), $field);
     $line[1] = 2 if $line[0] && line('needs_rehash', '', $field, 0, $method, $cost) =~ /^1/;
     my $decoy = made_setting($method, $cost, '.' x $made_salt{$method})->{front};
     @line[4 .. 10] = (split / /, line('hash', $password, $decoy, 145, $limit))[4 .. 10] if $line[1] =~ /^-([3-9]|10|16|20|21)$/;
@@ -253,6 +261,36 @@ subtest 'logins' => sub {
         my %works = map { join(' ', (split / /)[4 .. 8]) => 1 } printed($driver, map { row('login_str', 'password', $_, 0, @$price, $budget) } @kinds);
         is(keys %works, 1, "the same work for each kind of field at $price->[0], $price->[1]");
     }
+};
+
+# A hash, and others of it that are no longer whole, or no longer its own: cut, longer, with another last character or one that
+# no hash has, with a salt that was not cut, and with rounds that are out of range.
+sub altered {
+    my ($hash) = @_;
+    my ($front, $digest) = $hash =~ /\A(.*)\$(.*)\z/;
+    my $last = index join('', @characters), substr $digest, -1;
+    return $hash, "$hash.", "$hash\$", "$hash\$extra", substr($hash, 0, -1) . '~', "${front}aaaaaaaaaaaaaaaaa\$$digest",
+        (map { substr $hash, 0, -$_ } map { ($_, $_ + length $digest) } 1 .. 3),
+        (map { substr($hash, 0, -1) . $characters[$last ^ 1 << $_] } 0 .. 5),
+        map { $hash =~ s/\A(\$[56]\$)(rounds=\d+\$)?/$1rounds=$_\$/r } 10, 5000, '05000', 999_999_999, 1_000_000_000;
+}
+
+subtest 'audits' => sub {
+    my @hashes = map { $_->[1] } @known;
+    ok(!(grep { !Model::is_whole(read_setting($_), $_) } @hashes), 'known hashes are whole');
+    # Settings at the audit's own budget, and above it.
+    my @settings = (made_setting(6, 656_000), made_setting(6, 656_001), map { setting(7, 'a' x 86, log => $_, r => 32, p => 1) } 15 .. 18);
+    push @hashes, map { "$_->{front}\$" . '.' x $packed_length{ $_->{kind} } } @settings;
+    my @fields = ((map { altered($_) } @hashes), @no_settings, @other_fields);
+    my @calls = map { my $field = $_; map { ['audit', '', $field, 0, @$_, 0] } @methods, @no_methods[0, 6] } @fields;
+    for my $field (@fields) {
+        my $setting = read_setting($field);
+        my $cost = ref $setting ? cost($setting, 1024) : 9;
+        push @calls, map { ['audit', '', $field, 0, 6, 0, $_] } 1, $cost - 1, $cost, $most;
+        push @calls, ['audit_str', '', $field, 0, 6, 5000, 0] if $field !~ /\0/;
+    }
+    are_made('each field', [], @calls, ['audit_str', '', undef, 0, 6, 0, 0], map { ['audit', '', $fixed, 0, @$_, 0] } @no_methods);
+    are_made('in eight threads', ['threads 8'], @calls[0 .. 500]);
 };
 
 # Each refusal together with each other one.
@@ -314,7 +352,7 @@ subtest 'new hashes and settings' => sub {
 subtest 'messages' => sub {
     my (@rows, @wanted);
     for my $reason (-25 .. 8, 2147483647, -2147483648) {
-        my ($words) = grep { $number{$_} == $reason } keys %number;
+        my ($words) = map { s/^replaced$/outdated/r } grep { $number{$_} == $reason } keys %number;
         my $text = $words // 'unknown reason';
         for my $room (0 .. 3, length $text, 1 + length $text, 145) {
             push @rows, map { "$_ - - $room $reason" } qw(words words_str);
@@ -326,7 +364,8 @@ subtest 'messages' => sub {
     is_deeply([map { s/^(\d)( 0){12} /$1 /r } printed($driver, @rows)], \@wanted, 'mkpasswd_words');
     my %named;
     $named{$2} = "$1: $3" while $header =~ m{^#define MKPASSWD_(?:REFUSED_)?(\w+) \(?(-?\d+)\)? +/\* ([^:,*]*?)(?:[:,].*)? \*/$}mg;
-    is_deeply(\%named, { map { $number{$_} => uc(s/ has a//r =~ tr/ /_/r) . ": $_" } keys %number }, "the header's reasons");
+    my %names = map { $number{$_} => uc(s/ has a//r =~ tr/ /_/r) . ': ' . s/^replaced$/outdated/r } keys %number;
+    is_deeply(\%named, \%names, "the header's reasons");
     is_deeply([@defined{qw(MD5CRYPT SHA256CRYPT SHA512CRYPT SCRYPT PASSWORD_LIMIT TEXT_SIZE)}],
         [1, 5, 6, 7, $limits{password}, 1 + length hash_of(read_setting($long_salt), 'x')], "the header's methods and limits");
 };
@@ -346,7 +385,7 @@ subtest 'costs' => sub {
 subtest 'compilers' => sub {
     my @calls = grep { $_->[0] eq 'verify_str' || $_->[2] eq $fixed } careless();
     my $cheap = '$7$2/..../....ab';
-    push @calls, ['bound_str', '', $fixed, 0, 8], ['setting_str', '', '', 145, 6, 0, 1, 2, 3], ['hash_str', 'password', '!', 145, $budget],
+    push @calls, ['bound_str', '', $fixed, 0, 8], ['audit_str', '', $fixed, 0, 1, 0, 0], ['setting_str', '', '', 145, 6, 0, 1, 2, 3], ['hash_str', 'password', '!', 145, $budget],
         ['verify', '', $empty, 0, $budget], ['verify_str', 'x', $empty, 0, $budget], ['hash', 'password', $cheap, 145, $budget],
         ['hash_str', 'password', $cheap, 145, $most], ['new_str', 'password', '', 145, 1, 0, $budget],
         logins(map { ['password', $_, 6, 1000, $budget] } '', '!', '*', '!' . 'a' x 399, '$y$x', '$6$rounds=999999999$ab$x', $fixed),
@@ -398,9 +437,9 @@ sub told {
 
 subtest 'warnings' => sub {
     my @calls = ('verify(bytes, 1, bytes, 1, 1, &report)', 'login(bytes, 1, bytes, 1, 6, 0, 1, &report)', 'new(bytes, 1, 6, 0, 1, out, 145, &report)', 'needs_rehash(bytes, 1, 6, 0, &report)',
-        'bound(bytes, 1, 1, &report)', 'hash(bytes, 1, bytes, 1, 1, out, 145, &report)', 'setting(6, 0, 1, 2, 3, out, 145, &report)');
+        'audit(bytes, 1, 6, 0, 0, &report)', 'bound(bytes, 1, 1, &report)', 'hash(bytes, 1, bytes, 1, 1, out, 145, &report)', 'setting(6, 0, 1, 2, 3, out, 145, &report)');
     my @strings = ('verify_str(0, 0, 1, 0)', 'login_str(0, 0, 6, 0, 1, 0)', 'new_str(0, 6, 0, 1, 0, 0, 0)', 'needs_rehash_str(0, 6, 0, 0)', 'bound_str(0, 1, 0)',
-        'hash_str(0, 0, 1, 0, 0, 0)', 'setting_str(6, 0, 1, 2, 3, 0, 0, 0)');
+        'audit_str(0, 6, 0, 0, 0)', 'hash_str(0, 0, 1, 0, 0, 0)', 'setting_str(6, 0, 1, 2, 3, 0, 0, 0)');
     my @long = ('new_str("", 6, 0, 1, text, 145, 0)', 'hash_str("", "", 1, text, 145, 0)', 'setting_str(6, 0, 1, 2, 3, text, 145, 0)',
         'words_str(1, text, 145)', 'words(1, small, 145)');
     # Each statement with what a compiler has to say of it, nothing if that is empty.
@@ -523,7 +562,8 @@ subtest 'what is installed' => sub {
         my ($symbols, $parts, $names) = map { run(@$_)->{out} } ['objdump', '-T', "$libs/libmkpasswd.so"],
             ['objdump', '-p', "$libs/libmkpasswd.so"], ['nm', '-g', '--defined-only', "$libs/libmkpasswd.a"];
         my %exported = map { / \*UND\*\t/ ? () : / (MKPASSWD_[\d.]+) +(mkpasswd_\w+)$/ ? ($2 => $1) : () } $symbols =~ /^([0-9a-f]{16} .*)$/mg;
-        my %versions = map { ($_ => $_ eq 'mkpasswd_login' ? 'MKPASSWD_2.1' : 'MKPASSWD_2') } @declared;
+        my %later = (mkpasswd_login => '.1', mkpasswd_audit => '.2');
+        my %versions = map { ($_ => 'MKPASSWD_2' . ($later{$_} // '')) } @declared;
         is_deeply(\%exported, \%versions, 'the shared library has just these, each in its version');
         is_deeply([sort $names =~ /^\S+ \w (\S+)$/mg], \@declared, 'the static library has just these');
         is_deeply([$parts =~ /(?:SONAME|NEEDED) +(\S+)/g], ['libc.so.6', 'libmkpasswd.so.2'], 'the soname, and the C library alone is needed');

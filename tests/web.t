@@ -64,7 +64,14 @@ subtest 'in node' => sub {
     spew("$scratch/mkpasswd.mjs", slurp($module));
     spew("$scratch/check.mjs", marked('worker', 'js'));
     my %with = (stdin => join '', map { join(' ', map { unpack 'H*', $_ } @$_) . "\n" } @cases);
-    my $run = run(\%with, 'node', "$root/tests/web/node.mjs", "$scratch/mkpasswd.mjs", $page, $rows, '$7$46..../....SodiumChloride');
+    # Costs are what md5crypt digests of 1,024 bytes, and what 656000 rounds of sha512crypt do.
+    my ($old, $new) = map { crypt 'password', $_ } '$1$xxxxxxxx', '$6$rounds=656000$saltsaltsaltsalt';
+    my @audits = (['current MKPASSWD_DONE 1297572512', $new], ['outdated MKPASSWD_REPLACED 1927022', $old], ['current MKPASSWD_DONE 1927022', $old, 'md5crypt'],
+        ['outdated MKPASSWD_REPLACED 1297572512', $new, 'sha512crypt', 656_001], ['over budget MKPASSWD_OVER_BUDGET 1927022', $old, 'md5crypt', 0, 1_927_021],
+        ['dead MKPASSWD_DEAD 1297572512', substr $new, 0, 99], ['dead MKPASSWD_DEAD 1927022', "$old."], ['locked MKPASSWD_LOCKED 0', "!$old"], ['no hash MKPASSWD_NO_HASH 0', ''],
+        ['unknown scheme MKPASSWD_REFUSED_UNKNOWN_SCHEME 0', '$2b$05$x'], ['MKPASSWD_REFUSED_COST: cost', $new, 'sha512crypt', 12], ['MKPASSWD_REFUSED_UNKNOWN_METHOD: unknown method', $new, 'bcrypt']);
+    my $audits = encode_json([map { [@$_[1 .. $#$_]] } @audits]);
+    my $run = run(\%with, 'node', "$root/tests/web/node.mjs", "$scratch/mkpasswd.mjs", $page, $rows, '$7$46..../....SodiumChloride', $audits);
     my $told = eval { decode_json($run->{out}) } or return fail("node: $run->{err}");
     is($told->{after}, JSON::PP::true, 'the module works after a call for which the stack was too short');
     my @reasons = ('REFUSED_UNKNOWN_METHOD: unknown method', 'REFUSED_COST: cost', 'OVER_BUDGET: over budget');
@@ -72,6 +79,7 @@ subtest 'in node' => sub {
     is_deeply($told->{refused}, ['undefined: half of a character has no bytes', map { "MKPASSWD_$_" } @reasons], 'refusals by the names of C');
     # N is 64, r is 8: each other field of the report has another value, 3, 0, 66, 6884, 128, 65536 or 3072.
     is_deeply($told->{costs}, [137_956, 137_956], 'the worker and the module find the cost in the report');
+    is_deeply($told->{audited}, [map { $_->[0] } @audits], 'what an audit finds');
     is_deeply($told->{checked}, [map { "true true false false $_->[1]" } @cases], 'the module and the worker say what libcrypt does');
     is_deeply([map { crypt 'password', $_ } @{ $told->{made} }], $told->{made}, 'libcrypt makes the hashes with new salts');
     is_deeply([map { $_->{matches} ? 1 : 0 } @{ $told->{answers} }], [1, 0, 0], 'the worker of GUIDE');
@@ -167,6 +175,9 @@ for my $name (sort keys %browsers) {
             like("@made", qr{^\$6$sha \$5$sha \$1\$[./\w]{8}\$\S+$}, 'of the methods, with the rounds and with salts');
             my @fits = map { map { /^The password (matches|does not match)\b/ } @$_[1, 2] } @{ $told->{made} };
             is_deeply(\@fits, [('matches', 'does not match') x 3], 'their passwords match, and others do not');
+            my @flaws = map { my $length = $_; map { "This hash is $_. No password matches it." } "cut: 0 of $length characters",
+                'cut: ' . ($length - 9) . " of $length characters", 'too long: ' . ($length + 2) . " characters in place of $length", 'damaged' } 86, 43, 22;
+            is_deeply([map { s/ Cost: .*//r } @{ $told->{dead} }], \@flaws, 'why no password matches a hash');
             is_deeply([map { /^([^:.]+)/ } @{ $told->{refused} }], \@words, 'the refusals of the program');
             my $no = JSON::PP::false;
             is_deeply($told->{mistyped}, ['The two passwords differ.', $no], 'a password that was mistyped once makes no hash, and leaves none');

@@ -18,7 +18,7 @@ const START = Math.ceil(Number(exports.__heap_base.value) / 16) * 16;
 const [OUT, OUT_SIZE, PASSED, MOST_BYTES] = [START + 64, 145, START + 256, 1025];
 const METHODS = { __proto__: null, md5crypt: 1, sha256crypt: 5, sha512crypt: 6 };
 const BUDGET = @BUDGET@;
-const [REFUSED_COST, DIFFERS] = [-14, -17];
+const [FITS, REFUSED_METHOD, REFUSED_COST, DIFFERS] = [1, -13, -14, -17];
 const REFUSALS = { @REFUSALS@ };
 
 // An error whose `reason` is the name that mkpasswd.h has for a refusal, such as MKPASSWD_OVER_BUDGET.
@@ -33,7 +33,7 @@ function bytesOf(text) {
 const within = (budget) => BigInt(Math.max(0, Math.min(budget, Number.MAX_SAFE_INTEGER)));
 
 // Calls the module with bytes and numbers, wipes its memory, and returns what it reports.
-function call(name, ...passed) {
+function reported(name, ...passed) {
     if (!exports) {
         const { exports: anew } = new WebAssembly.Instance(compiled);
         [exports, memory] = [anew, new Uint8Array(anew.memory.buffer)];
@@ -55,15 +55,24 @@ function call(name, ...passed) {
     const [reason, length, cost] = [report.getInt32(0, true), report.getUint32(4, true), Number(report.getBigUint64(8, true))];
     const text = String.fromCharCode(...memory.subarray(OUT, OUT + length));
     memory.set(initial);
-    if (reason < 0 && reason !== DIFFERS) throw refusal(reason);
-    return { fits: reason === 1, cost, text };
+    return { reason, cost, text };
+}
+// The same, but a refusal is thrown.
+function call(...passed) {
+    const report = reported(...passed);
+    if (report.reason < 0 && report.reason !== DIFFERS) throw refusal(report.reason);
+    return report;
+}
+// What the module takes for a method and its rounds, which it would clamp.
+function made(method, rounds) {
+    if (METHODS[method] > 1 && !(rounds >= 1000 && rounds <= 999999999)) throw refusal(REFUSED_COST);
+    return [METHODS[method] ?? 0, rounds];
 }
 
 // A setting with a new salt. Rounds are 1000 to 999999999; md5crypt has none.
 export function setting(method = 'sha512crypt', rounds = 656000) {
-    if (METHODS[method] > 1 && !(rounds >= 1000 && rounds <= 999999999)) throw refusal(REFUSED_COST);
     const salt = new BigUint64Array(crypto.getRandomValues(new Uint8Array(24)).buffer);
-    return call('web_setting', METHODS[method] ?? 0, rounds, ...salt, BigInt(OUT), BigInt(OUT_SIZE)).text;
+    return call('web_setting', ...made(method, rounds), ...salt, BigInt(OUT), BigInt(OUT_SIZE)).text;
 }
 // The hash of a password. No more bytes than the budget are hashed for it.
 export const hash = (password, by = setting(), budget = BUDGET) =>
@@ -71,6 +80,15 @@ export const hash = (password, by = setting(), budget = BUDGET) =>
 // Whether a password matches. A field that is locked, empty, malformed or of scrypt, or that can cost more than the budget, throws a
 // refusal, and so does a password of more than 1,024 bytes or with a zero byte. Half a character throws a TypeError.
 export const verify = (password, stored, budget = BUDGET) =>
-    call('web_verify', bytesOf(password), bytesOf(stored), within(budget)).fits;
+    call('web_verify', bytesOf(password), bytesOf(stored), within(budget)).reason === FITS;
 // The most bytes that a hash with this setting can cost, for a password of so many bytes.
 export const cost = (by, length) => call('web_cost', bytesOf(by), BigInt(Math.min(length, MOST_BYTES))).cost;
+// What mkpasswd --audit says of a stored field, without a password: `message`, which is current, outdated, dead, over budget, locked,
+// no hash or what is wrong with its setting; `reason`, its name in mkpasswd.h; and `cost`, the most that a check can cost, or 0. Method
+// and rounds are those of new hashes; a budget of 0 is what they can cost at most, and at least 1297572512.
+export function audit(stored, method = 'sha512crypt', rounds = 656000, budget = 0) {
+    const { reason, cost } = reported('web_audit', bytesOf(stored), ...made(method, rounds), within(budget));
+    if (reason === REFUSED_METHOD || reason === REFUSED_COST) throw refusal(reason);
+    const [name, message] = REFUSALS[reason] ?? ['MKPASSWD_DONE', 'current'];
+    return { message, reason: name, cost };
+}

@@ -11,6 +11,7 @@ const MORE = {
     MKPASSWD_NO_HASH: 'the field is empty',
 };
 const METHODS = { 1: 'md5crypt', 5: 'sha256crypt', 6: 'sha512crypt' };    // by their prefixes
+const LENGTHS = { 1: 22, 5: 43, 6: 86 };    // of what is behind the salt
 
 const element = (id) => document.getElementById(id);
 const valueOf = (id) => element(id).value;
@@ -81,7 +82,7 @@ function start(form) {
         element('repeat').focus();
         return say(form, 'The two passwords differ.', 'refused');
     }
-    running = { form, method: values.method ?? METHODS[values.stored[1]] };
+    running = { form, method: values.method ?? METHODS[values.stored[1]], stored: values.stored };
     running.worker = work(form.id, values, ({ cost, isLast, ...result }) => {
         if (isLast) return tellResult(result);
         running.cost = cost;
@@ -89,9 +90,18 @@ function start(form) {
     });
 }
 
+// What is wrong with a hash that no password matches.
+function flaw(stored) {
+    const [, method, ...parts] = stored.split('$');
+    const { length } = parts.slice(method !== '1' && parts[0].startsWith('rounds=') ? 2 : 1).join('$');
+    if (length < LENGTHS[method]) return `cut: ${length} of ${LENGTHS[method]} characters`;
+    return length > LENGTHS[method] ? `too long: ${length} characters in place of ${LENGTHS[method]}` : 'damaged';
+}
+
 // Shows what a job has come to: a hash, whether a password matches, or why neither.
-function tellResult({ text, fits, reason, message, time }) {
-    const what = text ? 'Made' : fits ? 'The password matches' : 'The password does not match, or the hash is incomplete';
+function tellResult({ text, fits, isDead, reason, message, time }) {
+    const what = text ? 'Made' : fits ? 'The password matches'
+        : isDead ? `This hash is ${flaw(running.stored)}. No password matches it` : 'The password does not match';
     const [why, whole] = [MORE[reason] ? `: ${MORE[reason]}` : '', expected(running)];
     const takes = !message ? `, ${shown(time)}` : whole ? `, which takes about ${shown(whole)}` : '';
     const price = !message || reason === 'MKPASSWD_OVER_BUDGET' ? ` Cost: ${running.cost} bytes${takes}.` : '';

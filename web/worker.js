@@ -26,7 +26,8 @@ const jobs = {
 
     check({ password, stored, budget }) {
         tellCost(stored, password);
-        return { fits: verify(password, stored, budget) };
+        const fits = verify(password, stored, budget);
+        return { fits, isDead: !fits && audit(stored, 'sha512crypt', 656000, Infinity).reason === 'MKPASSWD_DEAD' };
     },
 };
 

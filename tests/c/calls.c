@@ -206,6 +206,8 @@ static int32_t make(const struct row *row, uint8_t *out, struct mkpasswd_report 
         : IS("new_str") ? mkpasswd_new_str(pass, method, cost, n[2], chars, room, report)
         : IS("needs_rehash") ? mkpasswd_needs_rehash(text, len, method, cost, report)
         : IS("needs_rehash_str") ? mkpasswd_needs_rehash_str(str, method, cost, report)
+        : IS("audit") ? mkpasswd_audit(text, len, method, cost, n[2], report)
+        : IS("audit_str") ? mkpasswd_audit_str(str, method, cost, n[2], report)
         : IS("bound") ? mkpasswd_bound(text, len, (size_t)n[0], report)
         : IS("bound_str") ? mkpasswd_bound_str(str, (size_t)n[0], report)
         : IS("hash") ? mkpasswd_hash(password, pass_len, text, len, n[0], out, room, report)

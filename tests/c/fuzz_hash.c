@@ -1,13 +1,36 @@
-/* mkpasswd_hash, mkpasswd_verify, mkpasswd_login and mkpasswd_bound, with any password and any text, beside libxcrypt. */
+/* mkpasswd_hash, mkpasswd_verify, mkpasswd_login, mkpasswd_audit and mkpasswd_bound, with any password and any text, beside
+ * libxcrypt. */
 #include "fuzz.h"
 
-/* A login does what mkpasswd_verify and mkpasswd_needs_rehash say, and hashes if it is not refused: within the budget, and
- * for a field that can't be checked as much as for an unknown name. */
+/* Methods and costs, of which one is chosen by a byte. */
+static const uint32_t chosen[][2] = {{1, 0}, {5, 1000}, {6, 0}, {6, 1001}, {6, 999}, {5, 1000000000}, {7, 5}, {2, 0}};
+
+/* Whether a field is a dead hash. An audit finds what mkpasswd_bound and mkpasswd_needs_rehash do, and hashes nothing. */
+static int is_dead(const uint8_t *field, size_t field_len, const uint32_t *of, uint64_t budget)
+{
+    struct mkpasswd_report bound;
+    int has_setting = mkpasswd_bound(field, field_len, MKPASSWD_PASSWORD_LIMIT, &bound), is_refused;
+    int is_outdated = mkpasswd_needs_rehash(field, field_len, of[0], of[0] == 6 && !of[1] ? 656000 : of[1], &report);
+    uint8_t *out = new_out(0);
+    int is_current = checked(mkpasswd_audit(field, field_len, of[0], of[1], budget, &report), out, 0, NULL);
+
+    is_refused = report.reason == MKPASSWD_REFUSED_UNKNOWN_METHOD || report.reason == MKPASSWD_REFUSED_COST;
+    MUST(!report.work.digests && !report.work.scratch && report.cost == (is_refused ? 0 : bound.cost));
+    MUST(is_current <= (has_setting && !is_outdated) && (report.reason == MKPASSWD_REPLACED) <= is_outdated);
+    MUST(has_setting || is_refused || report.reason == bound.reason || report.reason == MKPASSWD_LOCKED
+        || report.reason == MKPASSWD_NO_HASH);
+    MUST(is_refused || !budget || (report.reason == MKPASSWD_OVER_BUDGET) == (bound.cost > budget));
+    is_current = mkpasswd_audit(field, field_len, 1, 0, (uint64_t)-1, &report);
+    return !is_current && report.reason == MKPASSWD_DEAD;
+}
+
+/* A login does what mkpasswd_verify, mkpasswd_needs_rehash and mkpasswd_audit say, and hashes if it is not refused: within the
+ * budget, and for a field that can't be checked as much as for an unknown name. */
 static void log_in(const uint8_t *password, size_t len, const uint8_t *field, size_t field_len, uint8_t choice, uint64_t budget)
 {
-    static const uint32_t chosen[][2] = {{1, 0}, {5, 1000}, {6, 0}, {6, 1001}, {6, 999}, {5, 1000000000}, {7, 5}, {2, 0}};
     const uint32_t *of = chosen[choice >> 1 & 7];
     struct mkpasswd_report verified, unknown;
+    int has_no_match = is_dead(field, field_len, of, budget);
     int32_t opens = mkpasswd_verify(password, len, field, field_len, budget, &verified);
     int32_t never = mkpasswd_login(password, len, field, 0, of[0], of[1], budget, &unknown);
     uint8_t *out = new_out(0);
@@ -21,7 +44,8 @@ static void log_in(const uint8_t *password, size_t len, const uint8_t *field, si
     }
     MUST(is_in == opens && told.cost == verified.cost);
     MUST((told.reason == MKPASSWD_OUTDATED) == (is_in && mkpasswd_needs_rehash(field, field_len, of[0], of[1], &report)));
-    MUST(is_in || told.reason == verified.reason);
+    MUST(is_in ? !has_no_match : told.reason
+        == (has_no_match && verified.reason == MKPASSWD_DIFFERS ? MKPASSWD_DEAD : verified.reason));
     if (verified.work.digests)
         MUST(memcmp(&told.work, &verified.work, sizeof told.work) == 0);
     else
@@ -60,6 +84,7 @@ int LLVMFuzzerTestOneInput(const uint8_t *data, size_t size)
         by_crypt = crypted(password, len, text); /* its salt of $7$ goes on to the last $ */
         MUST(!by_crypt || strcmp(by_crypt, hash) == 0 || (text[1] == '7' && strchr(text + 3, '$') != strrchr(text, '$')));
         MUST(mkpasswd_verify((const uint8_t *)password, len, (uint8_t *)hash, strlen(hash), cost, &report));
+        MUST(!is_dead((uint8_t *)hash, strlen(hash), chosen[0], budget));
         hash[data[1] % strlen(hash)] ^= 1;
         MUST(!mkpasswd_verify(password, len, (uint8_t *)hash, strlen(hash), budget, &report));
     }

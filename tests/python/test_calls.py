@@ -4,6 +4,7 @@ import copy
 import json
 import math
 import pickle
+import re
 import traceback
 
 import mkpasswd
@@ -11,10 +12,11 @@ import pytest
 from mkpasswd import Reason, Refused, TooCostly, cost, crypt, describe, hash, login, needs_rehash, verify, verify_and_update, work
 from support import COSTLY, MD5, ROOT, SHA512, ended, libxcrypt
 
+OTHER_SCHEMES = ["$", "$2b$05$abcdefghijklmnopqrstuu", "$y$j9T$abc$x", "ab0Z8yq2hBQEo", "_J9..Xabcsecret"]
 REFUSED = {
     field: reason
     for reason, *fields in (
-        (Reason.UNKNOWN_SCHEME, "x", "$", "$2b$05$abcdefghijklmnopqrstuu", "$y$j9T$abc$x", "ab0Z8yq2hBQEo", "password"),
+        (Reason.UNKNOWN_SCHEME, "x", *OTHER_SCHEMES, "password"),
         (Reason.BAD_CHARACTER, MD5 + "\n", " " + MD5, "root:" + MD5, MD5 + "\0", "$1$é$x", "$1$\ud800$x"),
         (Reason.SETTING_TOO_LONG, "$1$" + "a" * 382),
         (Reason.BAD_ROUNDS, "$5$rounds=0$salt$x", "$6$rounds=05000$salt$x", "$6$rounds=x"),
@@ -118,10 +120,10 @@ def test_a_login_goes_on_without_a_new_hash(monkeypatch):
 
 def test_a_login_logs_why_it_is_refused(caplog):
     caplog.set_level("DEBUG", "mkpasswd")
-    fields = None, "", "!", "*", "!" + "x" * 400, "$y$x", COSTLY
+    fields = None, "", "!", "*", "!" + "x" * 400, "$y$x", COSTLY, MD5[:-1]
     rows = ("x", MD5), *(("password", field) for field in fields), ("\0", MD5), ("x" * 83, libxcrypt("x" * 83, "$1$salt"))
-    assert [bool(login(*row)) for row in rows] == [False] * 9 + [True] and login("password", MD5, "md5crypt")
-    of_fields = "no hash", "no hash", "locked", "locked", "locked", "unknown scheme", "over budget"
+    assert [bool(login(*row)) for row in rows] == [False] * 10 + [True] and login("password", MD5, "md5crypt")
+    of_fields = "no hash", "no hash", "locked", "locked", "locked", "unknown scheme", "over budget", "dead"
     refused = ["differs", *of_fields, "password has a zero byte"]
     expected = [*("login refused: " + reason for reason in refused), "no new hash: over budget: more than 150000000"]
     assert [record.getMessage() for record in caplog.records] == expected
@@ -180,8 +182,10 @@ def test_refused_fields_by_name(field):
         assert type(error) is Refused and error.reason is REFUSED[field]
         assert str(error) == REFUSED[field].name.lower().replace("_", " ")
     assert error_of(verify, "password", field, budget=0).reason is REFUSED[field]
-    is_unknown = REFUSED[field] is Reason.UNKNOWN_SCHEME
-    assert describe(field) == (None, None, *(("unknown", None) if is_unknown else ("malformed", REFUSED[field])))
+    state = "malformed" if field[0] == "$" else "no scheme"
+    if field in OTHER_SCHEMES:
+        state = "unknown"
+    assert describe(field) == (None, None, state, REFUSED[field] if state == "malformed" else None)
 
 
 BAD_METHOD, BAD_ROUNDS = "method must be md5crypt, sha256crypt, sha512crypt or scrypt", "rounds must be 6 to 11, or 0 for 7"
@@ -205,7 +209,9 @@ def test_reasons_of_the_library(monkeypatch, number, kind):
     """Those that no argument brings about, and those that no call should report."""
     for name in "verify", "new", "hash", "needs_rehash", "bound":
         monkeypatch.setattr(mkpasswd.lib, "mkpasswd_" + name, lambda *arguments: setattr(arguments[-1], "reason", number))
-    for failing in (hash, "x"), (crypt, "x", MD5), (describe, MD5), *with_field(MD5):
+    monkeypatch.setattr(mkpasswd.lib, "mkpasswd_audit", lambda *arguments: setattr(arguments[-1], "reason", number))
+    found = number in (Reason.DONE.value, Reason.LOCKED.value)  # of an audit
+    for failing in (hash, "x"), (crypt, "x", MD5), *with_field(MD5), *([] if found else [(describe, MD5)]):
         assert type(error_of(*failing)) is kind
 
 
@@ -280,7 +286,8 @@ def test_wrong_types():
     numbers = "5000", 5000.0, b"5", [], True, False, math.nan
     rounds = [(call, {"rounds": number}) for call in with_method("sha256crypt") + with_method("scrypt") for number in numbers]
     limited = *with_password("x"), (describe, "!")
-    budgets = [(call, {"budget": number}) for call in limited for number in (*numbers, None, -math.inf, 5j)]
+    budgets = [(call, {"budget": number}) for call in limited for number in (*numbers, -math.inf, 5j)]
+    budgets += [(call, {"budget": None}) for call in with_password("x")]
     lengths = [((call, MD5, number), {}) for call in (cost, work) for number in (*numbers, None)]
     methods = [(call, {}) for method in (None, 6, b"md5crypt", mkpasswd.METHOD_MD5) for call in with_method(method)]
     others = [((hash, "x", "md5crypt", 5000), {}), ((verify, "x", MD5, 5), {}), ((mkpasswd.mksalt, "6"), {})]
@@ -292,7 +299,7 @@ def test_numbers_out_of_range():
     """The command and the calls of C clamp rounds, so that a hash of 12 rounds would have 1000."""
     for number in -1, 1, 12, 999, 10**9, 2**32 - 1, 2**32 + 5000, 2**64 + 5000:
         for call in with_method("sha256crypt") + with_method("sha512crypt"):
-            assert str(error_of(*call, rounds=number)) == "rounds must be 1000 to 999999999, or 0 for 5000"
+            assert str(error_of(*call, rounds=number)) == "rounds must be 1000 to 999999999, or 0 for the default"
     for number in -1, 2**32, 2**64 + 5000:
         assert type(error_of(needs_rehash, MD5, "md5crypt", number)) is ValueError
     assert needs_rehash(SHA512, rounds=999_999_999) and not needs_rehash(SHA512, rounds=1000)
@@ -386,13 +393,39 @@ def test_cost_and_work():
     assert cost("$5$saltstring", 12) == 307760 and cost(SHA512, 1024) == work(SHA512, 1024).bytes
 
 
+@pytest.mark.parametrize("setting", ["$1$salt", "$5$salt", "$6$rounds=656000$saltsaltsaltsalt", "$7$BU..../....salt"])
+def test_a_hash_is_dead_once_its_form_is_changed(setting):
+    stored = libxcrypt("password", setting)
+    assert describe(stored, "md5crypt", budget=math.inf).state == ("current" if setting[1] == "1" else "outdated")
+    longer = [stored + "x", stored + "$", stored + "$x", stored[:-1] + "z"]
+    for field in *longer, *(stored[:length] for length in range(len(setting), len(stored))):
+        method, cost, state, reason = describe(field)
+        assert (method, state, reason) == (describe(stored).method, "dead", None) and cost == describe(stored).cost, field
+
+
+def test_descriptions_by_the_recommended_rounds():
+    """By default an audit takes 656000 rounds, or 7 with scrypt, and admits what they can cost."""
+
+    def states(**made):
+        fields = ("$6$rounds=%d$saltsaltsaltsalt$%s" % (number, "." * 86) for number in (655_999, 656_000, 656_001))
+        return [describe(field, **made).state for field in fields]
+
+    for made in {}, {"rounds": 0}, {"rounds": 656_000, "budget": 0}, {"budget": None}:
+        assert states(**made) == ["outdated", "current", "over budget"]
+    assert states(rounds=656_001, budget=math.inf) == ["outdated", "outdated", "current"]
+    assert states(method="scrypt") == ["outdated", "outdated", "over budget"]
+    assert describe(SCRYPT + "$" + "." * 43, "scrypt").state == "current"
+
+
 # The first is what md5crypt digests of 1,024 bytes.
-@pytest.mark.parametrize("budget", [1_927_022, 1_927_021, 2**64 - 1])
-@pytest.mark.parametrize("made", [("sha512crypt", 656_000), ("sha512crypt", 5000), ("md5crypt", 0), ("scrypt", 8)])
+@pytest.mark.parametrize("budget", [1_927_022, 1_927_021, 0, 2**64 - 1])
+@pytest.mark.parametrize("made", [("sha512crypt", 656_000), ("sha512crypt", 5000), ("md5crypt", 0), ("scrypt", 8), ("scrypt", 0)])
 def test_descriptions_are_what_the_command_prints(made, budget):
-    fields = [field for field in [*LOCKED, *OTHERS, *REFUSED, MD5, SCRYPT, COSTLY] if not set(field) & set(":\n\ud800")]
+    """But for the rounds and the names of other schemes."""
+    fields = [*LOCKED, *OTHERS, *REFUSED, MD5, SHA512, SCRYPT, COSTLY, "$6$rounds=656001$salt$" + "." * 86]
+    fields = [field for field in fields if not set(field) & set(":\n\ud800")]
     options = "--audit -m %s -R %d --budget %d" % (*made, budget)
     said = ended(ROOT / "mkpasswd", *options.split(), input="".join("ann:%s\n" % field for field in fields))[1]
+    printed = re.sub(r"(?m)^ann:(?:(\w+:)[\d/]+:(?=\d+:)|\w+:(?=unknown$))?", r"\1", said).splitlines()
     for form in str, str.encode:
-        found = [str(describe(form(field), *made, budget=budget)) for field in fields]
-        assert ["ann:" + text for text in found] == said.splitlines()
+        assert [str(describe(form(field), *made, budget=budget)) for field in fields] == printed

@@ -1,5 +1,6 @@
 // Runs mkpasswd.mjs, the worker of GUIDE beside it and the page's worker in node, and tells what they say: to the rows, to each line
-// of standard input, which has a password and its hash in hexadecimal, and to other passwords, and what a hash of scrypt costs.
+// of standard input, which has a password and its hash in hexadecimal, and to other passwords, what a hash of scrypt costs, and what
+// audits find.
 // tests/web.t knows the answers.
 import { once } from 'node:events';
 import { readFileSync } from 'node:fs';
@@ -7,11 +8,15 @@ import vm from 'node:vm';
 import { Worker } from 'node:worker_threads';
 
 globalThis.crypto ??= (await import('node:crypto')).webcrypto;    // node 18
-const [file, page, rows, costly] = process.argv.slice(2);
-const { hash, verify, setting, cost } = await import(file);
+const [file, page, rows, costly, audits] = process.argv.slice(2);
+const { hash, verify, setting, cost, audit } = await import(file);
 const why = (call) => { try { return call(); } catch ({ reason, message }) { return `${reason}: ${message}`; } };
 const refused = [() => hash('\ud83d', '$1$s'), () => setting('bcrypt', 12), () => setting('sha512crypt', 12), () => hash('x', '$6$rounds=999999999$s'),
     ...JSON.parse(rows).map(([stored, password]) => () => verify(password, stored))].map(why);
+const audited = JSON.parse(audits).map((given) => why(() => {
+    const found = audit(...given);
+    return `${found.message} ${found.reason} ${found.cost}`;
+}));
 const made = ['sha512crypt', 'sha256crypt', 'md5crypt'].map((method) => hash('password', setting(method, 1234)));
 
 const worker = new Worker(new URL('check.mjs', `file://${file}`), { stderr: true });
@@ -47,4 +52,4 @@ let count = 0;
         if (++count < 1500) throw error;
     }
 })();
-console.log(JSON.stringify({ refused, made, after: why(() => verify('password', made[2])), answers, costs, checked }));
+console.log(JSON.stringify({ refused, made, after: why(() => verify('password', made[2])), answers, audited, costs, checked }));

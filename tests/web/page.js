@@ -26,7 +26,7 @@ function beyond(width) {
 async function visit() {
     await until(() => isShown(element('unsupported')) || isShown(element('make')));
     if (isShown(element('unsupported'))) return { unable: element('unsupported').textContent, forms: [...document.forms].filter(isShown).length };
-    const told = { made: [], refused: [], left: false };
+    const told = { made: [], dead: [], refused: [], left: false };
     const password = 'K\u00e4se \u{1f40e}';
     for (const method of ['sha512crypt', 'sha256crypt', 'md5crypt']) {
         element('password').dispatchEvent(new Event('input', { bubbles: true }));
@@ -37,6 +37,8 @@ async function visit() {
         element('guess').dispatchEvent(new Event('input', { bubbles: true }));
         told.left ||= status('check').textContent !== '';
         told.made.push([stored, right, await ended('check', { guess: 'K\u00e4se' }), ['preseed', 'kickstart', 'cloud', 'ansible'].map((id) => element(id).textContent)]);
+        const [front, digest] = stored.split(/\$(?=[^$]*$)/);
+        for (const dead of [front, stored.slice(0, -9), `${stored}$x`, `${front}$${digest.slice(1)}z`]) told.dead.push(await ended('check', { stored: dead }));
     }
     told.beyond = [375, 1280].filter((width) => beyond(width) > 0);
     for (const [stored, guess] of @ROWS@) told.refused.push(await ended('check', { stored: stored || ' ', guess }));    // an empty field isn't sent

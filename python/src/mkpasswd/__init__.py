@@ -22,7 +22,7 @@ import math
 import operator
 import os
 import re
-from typing import Any, Iterator, Literal, NamedTuple, Optional, Tuple, Union
+from typing import Any, Dict, Iterator, Literal, NamedTuple, Optional, Tuple, Union
 
 from ._library import PASSWORD_LIMIT, TEXT_SIZE, Reason, Report, lib
 
@@ -53,7 +53,7 @@ __all__ = [
 ]
 
 Text = Union[str, bytes]
-State = Literal["current", "outdated", "over budget", "locked", "none", "unknown", "malformed"]
+State = Literal["current", "outdated", "dead", "over budget", "locked", "none", "no scheme", "unknown", "malformed"]
 
 #: What a call may cost by default, and each of the two hashes of login(), as cost() counts it: the bytes that are digested,
 #: and for scrypt those that are mixed. It admits what hash() makes without `rounds`, and SHA-crypt with
@@ -73,6 +73,18 @@ _ARGUMENTS = {
 
 # What a text that is no setting of ours is refused for.
 _NO_SETTING = range(Reason.BAD_SALT.value, Reason.SETTING_TOO_LONG.value + 1)
+
+# What an audit reports of a field with a setting, and of one without a hash.
+_JUDGED: Dict[int, State] = {
+    Reason.DONE.value: "current",
+    Reason.REPLACED.value: "outdated",
+    Reason.DEAD.value: "dead",
+    Reason.OVER_BUDGET.value: "over budget",
+}
+_STATES: Dict[int, State] = {Reason.LOCKED.value: "locked", Reason.NO_HASH.value: "none"}
+
+# A hash of bsdicrypt or descrypt, the schemes whose hashes begin with no "$".
+_OLD_SCHEME = re.compile(rb"_|[./0-9A-Za-z]{13}\Z")
 
 _LOG = logging.getLogger("mkpasswd")
 
@@ -152,7 +164,7 @@ class Work(NamedTuple):
 
 
 class Description(NamedTuple):
-    """What describe() returns. str() is what `mkpasswd --audit` prints after the name."""
+    """What describe() returns. str() is these, without None, such as "md5crypt:1927022:outdated"."""
 
     method: Optional[str]  #: None if there is no valid setting
     cost: Optional[int]  #: the most that a hash with this setting costs, for a password of 1,024 bytes; or None
@@ -335,45 +347,48 @@ def work(stored: Text, password_len: int) -> Work:
 
 
 def describe(
-    field: Optional[Text], method: str = "sha512crypt", rounds: Optional[int] = 656_000, *, budget: float = math.inf
+    field: Optional[Text], method: str = "sha512crypt", rounds: Optional[int] = None, *, budget: Optional[float] = None
 ) -> Description:
-    """What `mkpasswd --audit -R 656000` says of a stored field, without any password. Nothing is hashed.
+    """What `mkpasswd --audit` says of a stored field, without any password. Nothing is hashed.
 
     >>> describe("$1$xxxxxxxx$UYCIxa628.9qXjpQCjM4a.")
     Description(method='md5crypt', cost=1927022, state='outdated', reason=None)
+    >>> describe("$1$xxxxxxxx$UYCIxa628.9qXjpQ").state
+    'dead'
     >>> str(describe("$6$rounds=0$salt$x"))
     'malformed:bad rounds'
 
-    `method` and `rounds` are those that the service gives hash(). `budget` must admit them with the longest password, which
-    for 656000 rounds is 1300000000; by default there is none. The state is
+    `method` and `rounds` are those that the service gives hash(). None and 0 stand for 656000 rounds, or for 7 with scrypt.
+    A budget of None or 0 stands for the most that a hash of these costs, and at least for the most that 656000 rounds of
+    sha512crypt cost, 1297572512; math.inf is no limit. The state is the first of these:
 
-    - "over budget" if some password can cost more than the budget;
-    - otherwise "outdated" if needs_rehash() is true with this method and these rounds, and "current" if it is false;
     - "locked" if the field begins with "!" or "*", and "none" if it is empty or None;
-    - "unknown" for another scheme, such as yescrypt;
-    - "malformed" for any other field without a valid setting. `reason` is then the first rule that it breaks.
-
-    Only the setting is judged, so a hash whose end was cut, which no password matches, can be "current" too.
+    - "no scheme" if it begins with no "$" and is no hash: a password that was stored as it is, or a damaged hash;
+    - "unknown" for another scheme, such as yescrypt, which is not judged;
+    - "malformed" if its setting is invalid. `reason` is then the first rule that it breaks;
+    - "over budget" if some password can cost more than the budget;
+    - "dead" if no password matches it, since it was cut or changed;
+    - "outdated" if needs_rehash() is true with this method and these rounds, and otherwise "current".
 
     Raises Refused, ValueError and TypeError as login() does, so nothing for what a database can hold as str or bytes.
     """
     text = b"" if field is None else _bytes(field, "field")
-    made, limit = _method(method, rounds), _limit(budget)
-    # This refuses an unknown method, and rounds that scrypt does not take, whatever the field is.
-    _is_outdated(b"$1$", made)
-    if _is_locked(text):
-        return Description(None, None, "locked" if text else "none", None)
-    try:
-        most = _bound(text, PASSWORD_LIMIT).cost
-    except Refused as fault:
-        if fault.reason is Reason.UNKNOWN_SCHEME:
-            return Description(None, None, "unknown", None)
-        return Description(None, None, "malformed", fault.reason)
-    # The setting begins with "$", the method's number and "$".
-    names = {number: name for name, number in _NUMBERS.items()}
-    is_outdated = _is_outdated(text, made)
-    state: State = "over budget" if most > limit else "outdated" if is_outdated else "current"
-    return Description(names[int(text[1:2])], most, state, None)
+    made, limit = _method(method, rounds), 0 if budget is None else _limit(budget)
+    report = Report()
+    lib.mkpasswd_audit(text, len(text), *made, limit, report)
+    if report.reason in _JUDGED:
+        # The setting begins with "$", the method's number and "$".
+        names = {number: name for name, number in _NUMBERS.items()}
+        return Description(names[int(text[1:2])], report.cost, _JUDGED[report.reason], None)
+    if report.reason in _STATES:
+        return Description(None, None, _STATES[report.reason], None)
+    if report.reason not in _NO_SETTING:
+        raise _failure(report)
+    if not text.startswith(b"$"):
+        return Description(None, None, "unknown" if _OLD_SCHEME.match(text) else "no scheme", None)
+    if report.reason == Reason.UNKNOWN_SCHEME.value:
+        return Description(None, None, "unknown", None)
+    return Description(None, None, "malformed", Reason(report.reason))
 
 
 class _Method(NamedTuple):
@@ -484,7 +499,7 @@ def _method(method: str, rounds: Optional[int]) -> Tuple[int, int]:
     number = 0 if rounds is None else _int(rounds, "rounds")
     # Some calls of the library clamp these, so that `rounds=12` would make a weak hash.
     if method in ("sha256crypt", "sha512crypt") and number != 0 and not 1000 <= number <= 999_999_999:
-        raise ValueError("rounds must be 1000 to 999999999, or 0 for 5000")
+        raise ValueError("rounds must be 1000 to 999999999, or 0 for the default")
     if not 0 <= number < 2**32:
         raise ValueError("rounds out of the range 0 to 4294967295")
     # The library knows no method 0.

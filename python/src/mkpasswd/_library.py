@@ -40,6 +40,8 @@ class Reason(enum.Enum):
     NO_RANDOM_WORDS = -19
     LOCKED = -20
     NO_HASH = -21
+    DEAD = -22
+    REPLACED = -23
 
     @property
     def words(self) -> str:
@@ -85,6 +87,7 @@ def _load() -> ctypes.CDLL:
             ("verify", text + text + budget + report),
             ("new", text + made + budget + text + report),
             ("needs_rehash", text + made + report),
+            ("audit", text + made + budget + report),
             ("bound", text + [ctypes.c_size_t] + report),
             ("hash", text + text + budget + text + report),
             ("setting", made + [ctypes.c_uint64] * 3 + text + report),
