@@ -146,8 +146,8 @@ class Policy:
     in
 
     `method` is "sha512crypt", "sha256crypt", "scrypt" or "md5crypt". `rounds` is the number of rounds of SHA-crypt, 1000
-    to 999999999; for scrypt it is 6 to 11, for N = 2^(rounds + 7), r = 32 and p = 1. None and 0 stand for 656000, or for 7
-    with scrypt. md5crypt ignores it.
+    to 999999999; for scrypt it is 6 to 11, for N = 2^(rounds + 7), r = 32 and p = 1. None and 0 stand for the recommended
+    number. md5crypt ignores it.
 
     `budget` is the most that a hash may cost, as cost() counts it: the bytes that are digested, and for scrypt those that
     are mixed. None stands for twice what a new hash costs with a password of 64 bytes, and at least for 150,000,000. For
