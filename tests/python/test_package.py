@@ -74,7 +74,6 @@ mkpasswd.Policy(656000)
 mkpasswd.verify_and_update("x", stored)
 mkpasswd.crypt("x", stored)
 mkpasswd.mksalt()
-if mkpasswd.verify("x", field=stored) is None: pass
 if mkpasswd.describe(stored).state == "ok": pass
 """
     user.write_text(right + wrong)
