@@ -146,5 +146,5 @@ def test_recipe_of_ansible(tmp_path):
         *(("relocked", "password", "$1$"), ("replaced", "password", "$1$")),
     ):
         assert said[name].startswith(front) and mkpasswd.verify(word, said[name]), name
-    assert "rounds must be 1000 to 999999999, or 0 for 5000" in said["weak"]
+    assert "rounds must be 1000 to 999999999, or 0 for the default" in said["weak"]
     assert "password has a zero byte" in said["refused"] and "must be str or bytes, not int" in said["number"]
