@@ -17,9 +17,7 @@
 #include <syslog.h>
 #include <unistd.h>
 
-#define ROUNDS 656000
-#define BUDGET 253921472 /* twice what a new sha512crypt hash with these rounds can cost for a password of 64 bytes */
-#define FIELD_LIMIT 384  /* of a stored hash, in bytes */
+#define FIELD_LIMIT 384 /* of a stored hash, in bytes */
 #define ACL "system.posix_acl_access"
 
 struct options {
@@ -44,7 +42,7 @@ static int read_options(pam_handle_t *pam, int count, const char **given, struct
     struct mkpasswd_report report;
     char message[MKPASSWD_TEXT_SIZE], password[65] = "";
 
-    *options = (struct options){NULL, MKPASSWD_SHA512CRYPT, 0, BUDGET, 0, 0};
+    *options = (struct options){NULL, MKPASSWD_SHA512CRYPT, 0, MKPASSWD_TWICE, 0, 0};
     for (; count > 0; count--, given++) {
         const char *digits = strlen(*given) > 7 && strlen(*given) < 26 ? *given + 7 : "-";
         uint64_t number = digits[strspn(digits, "0123456789")] ? UINT64_MAX : strtoull(digits, NULL, 10);
@@ -67,8 +65,6 @@ static int read_options(pam_handle_t *pam, int count, const char **given, struct
         else if (strcmp(*given, "try_first_pass") != 0 && strcmp(*given, "use_first_pass") != 0) /* for pam_get_authtok(3) */
             return pam_syslog(pam, LOG_ERR, "invalid argument: %s", *given), 0;
     }
-    if (options->rounds == 0 && options->method != MKPASSWD_SCRYPT)
-        options->rounds = ROUNDS;
     if (options->is_renewing && !options->file)
         return pam_syslog(pam, LOG_ERR, "invalid argument: renew, without file="), 0;
     memset(password, 'x', sizeof password - 1);
@@ -147,6 +143,19 @@ static void renew(pam_handle_t *pam, const char *file, const char *name, const c
         close(lock);
 }
 
+/* Returns what a login may cost, in bytes. */
+static uint64_t limit_of(const struct options *options)
+{
+    struct mkpasswd_report report;
+    char setting[MKPASSWD_TEXT_SIZE];
+
+    if (options->budget != MKPASSWD_TWICE
+        || !mkpasswd_setting_str(options->method, options->rounds, 0, 0, 0, setting, sizeof setting, NULL)
+        || !mkpasswd_bound_str(setting, 64, &report))
+        return options->budget;
+    return 2 * report.cost > MKPASSWD_BUDGET ? 2 * report.cost : MKPASSWD_BUDGET;
+}
+
 /* Logs why no password can match the field; what an administrator may want so, only for debugging. It asks for the empty
  * password with the least budget: nothing is hashed, and the log says nothing of the password that was given. Returns 1 if the
  * scheme may be one of crypt(3): bsdicrypt, descrypt, or $ and what begins none of our own. Any other unknown one is damaged. */
@@ -160,7 +169,7 @@ static int is_foreign(pam_handle_t *pam, const struct options *options, const st
     int is_usual = is_foreign || report.reason == MKPASSWD_NO_HASH || report.reason == MKPASSWD_LOCKED;
 
     mkpasswd_words_str(report.reason, message, sizeof message);
-    if ((report.reason == MKPASSWD_OVER_BUDGET && report.cost <= options->budget) || (is_usual && !options->is_debugging))
+    if ((report.reason == MKPASSWD_OVER_BUDGET && report.cost <= limit_of(options)) || (is_usual && !options->is_debugging))
         return is_foreign;
     if (options->file)
         pam_syslog(pam, is_usual ? LOG_DEBUG : LOG_WARNING, "%s: line %lu: %s", options->file, field->line, message);

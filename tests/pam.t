@@ -57,8 +57,8 @@ subtest 'fields' => sub {
 
 subtest 'arguments' => sub {
     spew($file, "six:$field\nfull:" . crypt('a' x 168, '$6$rounds=656000$abcdefghijklmnop') . "\n");
-    for (['', 'no'], (map { ["file=$file $_", 'yes'] } '', 'method=scrypt', 'debug', 'rounds=1000 budget=300000', 'rounds=1000 try_first_pass renew'),
-        (map { ["file=$file $_", "$broken: invalid arguments: over budget"] } 'budget=0', 'rounds=1000 budget=100000', 'method=scrypt rounds=11'),
+    for (['', 'no'], (map { ["file=$file $_", 'yes'] } '', 'budget=0', 'method=scrypt', 'debug', 'rounds=1000 budget=300000', 'rounds=1000 try_first_pass renew'),
+        (map { ["file=$file $_", "$broken: invalid arguments: over budget"] } 'budget=1', 'rounds=1000 budget=100000', 'method=scrypt rounds=11 budget=300000000'),
         ["file=$file rounds=999", "$broken: invalid arguments: cost"], ['renew', "$broken: invalid argument: renew, without file="],
         (map { ["file=$file $_", "$broken: invalid argument: $_"] } qw(budget= budget=-1 budget=+1 budget=1x budget=18446744073709551616
             rounds=x rounds=4294967296 method= method=des renew=1 budge=1 nullok file=passwords file=)),
