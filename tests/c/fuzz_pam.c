@@ -15,12 +15,12 @@ int LLVMFuzzerTestOneInput(const uint8_t *data, size_t size);
 
 int LLVMFuzzerTestOneInput(const uint8_t *data, size_t size)
 {
-    static const char *const arguments[] = {"debug", "method=md5crypt", "method=scrypt", "rounds=6", "rounds=1001", "budget=300000", "budget=400000000"};
+    static const char *const arguments[] = {"debug", "method=md5crypt", "method=scrypt", "rounds=6", "rounds=1001", "budget=300000", "budget=1000000"};
     static char folder[] = "/dev/shm/fuzz_pam.XXXXXX", path[64], own[80];
     const char *given[] = {own, "rounds=1000", "budget=300000", "renew", arguments[size ? data[0] % 7 : 0], parts[4]}, *password = parts[3];
     size_t part = 0, place = 0, before, len, after;
     struct mkpasswd_report report;
-    int status, count;
+    int status;
     FILE *file;
 
     if (!*path)
@@ -37,10 +37,9 @@ int LLVMFuzzerTestOneInput(const uint8_t *data, size_t size)
     len = strcspn(strcat(strcpy(text + before, parts[1]), parts[2]), ":\n");
     after = strlen(text) - before - len;
     MUST((file = fopen(path, "w")) && fputs(text, file) >= 0 && fclose(file) == 0);
-    count = *parts[4] ? 6 : 5;
-    status = pam_sm_acct_mgmt((void *)left, 0, count, given);
+    status = pam_sm_acct_mgmt((void *)left, 0, *parts[4] ? 6 : 5, given);
     MUST(status == PAM_SERVICE_ERR || status == (text[before] == '!' || text[before] == '*' ? PAM_PERM_DENIED : PAM_SUCCESS));
-    status = pam_sm_authenticate((void *)left, 0, count, given);
+    status = pam_sm_authenticate((void *)left, 0, *parts[4] ? 6 : 5, given);
     MUST(status == PAM_SERVICE_ERR || status == PAM_AUTH_ERR || (status == PAM_IGNORE && len > 1) || (status == PAM_SUCCESS
         && mkpasswd_verify((uint8_t *)password, strlen(password), (uint8_t *)text + before, len, UINT64_MAX, &report)));
     MUST((file = fopen(path, "r")));
