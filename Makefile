@@ -1,6 +1,6 @@
 # make             builds ./mkpasswd, the proved program; make run also hashes a first password
 # make static      builds build/x86-64/mkpasswd, which needs nothing of the system but the kernel
-# make lib         builds the C libraries; make guard the one in front of crypt(3)
+# make lib         builds the C libraries, and with Debian's libpam0g-dev the PAM module
 # make web         builds build/mkpasswd.html, a page that makes and checks hashes in a browser, and build/mkpasswd.mjs, for node
 # make install     installs all of it below PREFIX (default /usr/local); make uninstall removes it
 # make test        tests what is built: T=tests/lines.t one file; with STRICT=1 a tool that is missing is a failure
@@ -28,19 +28,21 @@ ARCHIVE ?= mkpasswd-$(VERSION)-$(subst -,_,$(FOR))-linux.tar.gz
 # packages always have them.
 SITE := $(shell tools/site --check 2> /dev/null && echo build/site/index.html)
 WEB := $(shell tools/web --check 2> /dev/null && echo build/mkpasswd.html build/mkpasswd.mjs)
+# So is the PAM module where PAM's headers are.
+PAM := $(if $(wildcard /usr/include/security/pam_modules.h),pam_mkpasswd.so)
 COMPLETIONS = build/completions/mkpasswd.bash
-BUILT = mkpasswd $(COMPLETIONS) lib guard build/x86-64-v3/libmkpasswd.so.2 $(WEB) build/SPECIFICATION.md $(SITE)
+BUILT = mkpasswd $(COMPLETIONS) lib build/x86-64-v3/libmkpasswd.so.2 $(WEB) build/SPECIFICATION.md $(SITE)
 PACKED = $(addprefix build/$(FOR)/,mkpasswd libmkpasswd.a libmkpasswd.so.2) $(COMPLETIONS) $(WEB) build/SPECIFICATION.md \
-	$(if $(TARGET),,build/$(FOR)/libmkpasswd-crypt.so build/x86-64-v3/libmkpasswd.so.2)
+	$(if $(TARGET),,$(addprefix build/$(FOR)/,$(PAM)) build/x86-64-v3/libmkpasswd.so.2)
 ARM = $(addprefix build/aarch64/,mkpasswd libmkpasswd.a libmkpasswd.so.2)
 TRIED = $(BUILT) $(PACKED) $(if $(findstring /,$(shell aarch64-linux-gnu-gcc -print-file-name=libc.a 2> /dev/null)),$(ARM))
 # The scripts take these from the environment, whatever characters they have.
 export DESTDIR PREFIX LIBDIR ARCHIVE RT
 
-SLOW = tests/deb.t tests/arm.t tests/python tests/parallel.t tests/guard.t
+SLOW = tests/deb.t tests/arm.t tests/python tests/pam.t
 T = $(SLOW) $(filter-out $(SLOW),$(wildcard tests/*.t))
 
-.PHONY: all run static lib guard web fuzz test check layers specification site gate bench soak install uninstall dist \
+.PHONY: all run static lib web fuzz test check layers specification site gate bench soak install uninstall dist \
 	image wheel deb clean FORCE
 .DELETE_ON_ERROR .SECONDARY:
 # rt takes all cores for itself.
@@ -74,18 +76,18 @@ build/cpu: FORCE
 	@echo '$(CPU)' | cmp -s - $@ || echo '$(CPU)' > $@
 
 # The completions, from the help of a program that runs on this machine.
-$(COMPLETIONS): mkpasswd bin/mkpasswd-parallel tools/completions
+$(COMPLETIONS): mkpasswd bin/pwhash share/pwhash/command.py tools/completions
 	@mkdir -p $(@D)
-	tools/completions ./mkpasswd bin/mkpasswd-parallel $(@D)
+	tools/completions ./mkpasswd bin/pwhash $(@D)
 
 run: mkpasswd
 	@./mkpasswd -m md5crypt -S xxxxxxxx password
 
 static: build/$(FOR)/mkpasswd
 
-lib: libmkpasswd.a libmkpasswd.so.2
+lib: libmkpasswd.a libmkpasswd.so.2 $(PAM)
 
-libmkpasswd.a libmkpasswd.so.2 libmkpasswd-crypt.so: %: $(OWN)/% build/cpu
+libmkpasswd.a libmkpasswd.so.2 pam_mkpasswd.so: %: $(OWN)/% build/cpu
 	cp $< $@
 
 # One object of the proved calls, and the few lines of C that draw a salt, allocate and wipe. It offers what the version script
@@ -106,10 +108,10 @@ build/%/libmkpasswd.so.2: build/%/mkpasswd.o c/libmkpasswd.map
 	$(COMPILE) -shared -Wl,-soname,$(@F) -Wl,--version-script=c/libmkpasswd.map -Wl,--no-undefined-version -Wl,-z,defs \
 		$(LINKED) $<
 
-guard: libmkpasswd-crypt.so
-
-build/%/libmkpasswd-crypt.so: build/%/libmkpasswd.a c/guard.c c/libmkpasswd-crypt.map c/mkpasswd.h tools/guard
-	LIBRARY='$(abspath $<)' tools/guard $@
+# The library is in it, and offers nothing to the service that loads the module.
+build/%/pam_mkpasswd.so: build/%/libmkpasswd.a c/pam_mkpasswd.c c/mkpasswd.h
+	$(COMPILE) -fPIC -fstack-protector-strong -D_FORTIFY_SOURCE=2 -shared -Ic -Wl,--exclude-libs,ALL -Wl,-z,defs $(LINKED) \
+		c/pam_mkpasswd.c $< -lpam
 
 # The calls for a page, as a module of WebAssembly, and what is made around it.
 web:
@@ -133,7 +135,7 @@ build/mkpasswd.html build/mkpasswd.mjs: build/mkpasswd.wasm tools/web c/mkpasswd
 # Each target keeps what it found in build/fuzz, from where the next run begins.
 FUZZERS := $(patsubst tests/c/fuzz_%.c,build/fuzz/%,$(wildcard tests/c/fuzz_*.c))
 
-build/fuzz/%: tests/c/fuzz_%.c tests/c/fuzz.h c/guard.c c/mkpasswd.h libmkpasswd.a
+build/fuzz/%: tests/c/fuzz_%.c tests/c/fuzz.h c/pam_mkpasswd.c c/mkpasswd.h libmkpasswd.a
 	@mkdir -p $@.corpus
 	clang -std=gnu11 -Wall -Wextra -Werror -g -O1 -fsanitize=fuzzer,address,undefined -fno-sanitize-recover=all \
 		-Ic $< libmkpasswd.a -Wl,--no-as-needed -lcrypt -o $@
@@ -174,7 +176,7 @@ gate:
 	[ -e crates/program/out/program.o ] || tools/for-cpu x86-64-v2 program.o
 	install -D -m 644 -t build/x86-64-v2 crates/program/out/program.o
 
-bench: mkpasswd guard
+bench: mkpasswd libmkpasswd.a
 	tools/bench $(BENCH) ./mkpasswd
 
 soak: mkpasswd
@@ -206,5 +208,5 @@ deb:
 	tools/deb .
 
 clean:
-	rm -rf mkpasswd libmkpasswd.a libmkpasswd.so.2 libmkpasswd-crypt.so build crates/*/out mkpasswd-*-linux.tar.gz \
+	rm -rf mkpasswd libmkpasswd.a libmkpasswd.so.2 pam_mkpasswd.so build crates/*/out mkpasswd-*-linux.tar.gz \
 		mkpasswd-*-image.tar mkpasswd-*.whl *.deb

@@ -10,10 +10,9 @@ use Suite;
 # The rows of options in a help, each with all names of its option.
 sub rows_in { return run($_[0], '--help')->{out} =~ /^ +(-.*?)(?:  |$)/mg }
 
-# mkpasswd-parallel takes the options of mkpasswd too.
-my %path = (mkpasswd => program(), 'mkpasswd-parallel' => "$root/bin/mkpasswd-parallel");
+my %path = (mkpasswd => program(), pwhash => "$root/bin/pwhash");
 my @rows = rows_in($path{mkpasswd});
-my %rows = (mkpasswd => \@rows, 'mkpasswd-parallel' => [@rows, rows_in($path{'mkpasswd-parallel'})]);
+my %rows = (mkpasswd => \@rows);
 my @methods = (grep({ !/:/ } split /\n/, run($path{mkpasswd}, '-m', 'help')->{out}), 'help');
 
 # What is offered at the end of a line. The folder has the files "logins" and "sha256sums".
@@ -29,11 +28,13 @@ for my $command (keys %rows) {
     );
     $offered{"$command $_"} = [sort @{ $of_command{$_} }] for keys %of_command;
 }
+$offered{"pwhash $_->[0]"} = $_->[1] for ['au', ['audit']], ['audit lo', ['logins']], ['file --skip', ['--skip-refused']],
+    ['file --for ng', ['nginx']], ['-m sc', ['scrypt']], ['check --shadow sha', ['sha256sums']], ['check -R ', []];
 my @lines = sort keys %offered;
 
 my $made = "$scratch/made";
 mkdir $_ for $made, map { "$scratch/$_" } qw(bin home folder share share/bash-completion share/bash-completion/completions);
-is_run(run("$root/tools/completions", @path{qw(mkpasswd mkpasswd-parallel)}, $made), 0, '', '', 'they are made');
+is_run(run("$root/tools/completions", @path{qw(mkpasswd pwhash)}, $made), 0, '', '', 'they are made');
 for my $command (keys %path) {
     symlink $path{$command}, "$scratch/bin/$command";
     symlink "$made/$command.bash", "$scratch/share/bash-completion/completions/$command";
@@ -43,7 +44,7 @@ spew("$scratch/lines", join '', map { "$_\n" } @lines);
 
 # For each line a shell adds to its answers the line with all that is offered in place of the last word.
 spew("$scratch/bashrc", <<'BASH');
-if [ -n "$package" ]; then . "$package"; else . "$made/mkpasswd.bash" && . "$made/mkpasswd-parallel.bash"; fi
+if [ -n "$package" ]; then . "$package"; else for file in "$made"/*.bash; do . "$file"; done; fi
 answer() { printf '%s\n' "$READLINE_LINE" >> "$answers"; READLINE_LINE=''; }
 bind '"\t": insert-completions'
 bind -x '"\C-t": answer'

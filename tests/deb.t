@@ -8,9 +8,9 @@ use FindBin qw($Bin);
 use lib "$Bin/lib";
 use Suite;
 
-my @packages = qw(libmkpasswd-crypt libmkpasswd-dev libmkpasswd2 mkpasswd mkpasswd-parallel python3-mkpasswd);
+my @packages = qw(libmkpasswd-dev libmkpasswd2 libpam-mkpasswd mkpasswd pwhash python3-mkpasswd);
 # All but ours that the trials need. The lists of the mirror stay in the roots, since it is asked for whois again.
-my @tried = qw(autopkgtest bash-completion dpkg-dev gcc libc6-dev lintian man-db parallel pkgconf python3 sse4.2-support whois);
+my @tried = qw(autopkgtest bash-completion dpkg-dev gcc libc6-dev lintian libpam-pwdfile man-db pamtester parallel pkgconf python3 sse4.2-support whois);
 my @suites = qw(bookworm trixie);
 my $newer = 'build/x86-64-v3/libmkpasswd.so.2';
 
@@ -83,7 +83,7 @@ subtest 'bytes' => sub {
 subtest 'content' => sub {
     for (sort keys %deb) {
         output_of('sh', '-euc', 'mkdir -p "$1"; dpkg-deb -x "$0" "$1"', $deb{$_}, "$scratch/content/$_");
-        like(output_of(qw(dpkg-deb -f), $deb{$_}, 'Depends'), qr/\bsse4\.2-support\b/, "$_ refuses older processors") if /^(?:lib)?mkpasswd(?:2|-crypt)?$/;
+        like(output_of(qw(dpkg-deb -f), $deb{$_}, 'Depends'), qr/\bsse4\.2-support\b/, "$_ refuses older processors") if /^(?:libpam-|lib)?mkpasswd2?$/;
     }
     my %documents = (mkpasswd => [qw(FORMATS GUIDE README SECURITY SPECIFICATION SPEED)], 'libmkpasswd-dev' => ['SECURITY'],
         'python3-mkpasswd' => [qw(PYTHON SECURITY)]);
@@ -160,7 +160,7 @@ for my $suite (@suites) {
         is($files->(), $before, 'nothing of ours is left');
         output_of('sh', '-euc', 'mkdir "$1"; cp -R "$0/debian" "$1"', $root, "$place/source");
         my $own = inside($place, 'autopkgtest --no-built-binaries /debs/*.deb /source/ -- null 2>&1');
-        like($own->{out}, qr/^$_ +PASS$/m, "their own test: $_") for qw(program library python guard);
+        like($own->{out}, qr/^$_ +PASS$/m, "their own test: $_") for qw(program library python pam);
         is($own->{status}, 0, 'all of these') or diag($own->{out} =~ s/.*(?=\n.*: test \w+: \[)//sr);
     };
 }

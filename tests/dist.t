@@ -89,12 +89,12 @@ subtest 'README' => sub {
     is_run(run("$scratch/local/bin/mkpasswd", '--version'), 0, "mkpasswd $version\n", '', 'README.md: it is installed');
     needs(objdump => 'binutils') or return;
     unlike(run(qw(objdump -p), "$tree/bin/mkpasswd")->{out}, qr/NEEDED|INTERP/, 'the program needs no library');
-    for (['libmkpasswd.so.2', 'lib/libmkpasswd.so.2'], ['libmkpasswd-crypt.so', 'lib/mkpasswd/libmkpasswd-crypt.so']) {
+    for (['libmkpasswd.so.2', 'lib/libmkpasswd.so.2'], ['pam_mkpasswd.so', 'lib/security/pam_mkpasswd.so']) {
         my ($what, $file) = @$_;
         my $wanted = 'objdump -p "$0" | grep -o "GLIBC_[0-9.]*" | sort -Vu | tail -n 1';
         my ($glibc) = run('sh', '-c', $wanted, "$tree/$file")->{out} =~ /_(\S+)/;
         like($readme, qr/^  \Q$what\E: +glibc \Q$glibc\E or later/m, "glibc that $file needs");
-        my @rows = $what =~ /crypt/ ? () : ('C libraries', '\.whl`');
+        my @rows = $what =~ /pam/ ? () : ('C libraries', '\.whl`');
         like(slurp("$root/README.md"), qr/^\|.*$_.*\bglibc \Q$glibc\E \|$/m, "README.md: glibc that it needs: $_") for @rows;
     }
     my ($needed) = $readme =~ /^  libmkpasswd\.a: +a C library with (.*?)$(?!\n {9})/ms;

@@ -16,7 +16,7 @@ use Texts;
 
 mkdir "$scratch/bin";
 symlink program(), "$scratch/bin/mkpasswd";
-symlink "$root/bin/mkpasswd-parallel", "$scratch/bin/mkpasswd-parallel";
+symlink "$root/bin/pwhash", "$scratch/bin/pwhash";
 my %in = (env => { PATH => "$scratch/bin:$ENV{PATH}", BASH_ENV => undef });
 
 # A hash: its method and cost, its salt, its digest. Of its form the salt has only its length.
@@ -136,7 +136,8 @@ subtest 'administration' => sub {
     chmod 0755, "$scratch/bin/chpasswd";
     my $recipe = sub {
         my ($name, %with) = @_;
-        my $commands = marked($name, delete $with{language} // 'sh') =~ s{ /etc/shadow\b}{ '$system/etc/shadow'}gr =~ s/^0 6 \* \* \* root //r;
+        my $commands = marked($name, delete $with{language} // 'sh') =~ s{ /etc/shadow\b}{ '$system/etc/shadow'}gr
+            =~ s/^0 6 \* \* \* root //r =~ s{pwhash audit\K}{ '$system/etc/shadow'}r;
         return run({ %in, dir => $folder, %with }, 'sh', '-c', $commands);
     };
     my $accounts = sub {
@@ -149,10 +150,8 @@ subtest 'administration' => sub {
     my $is_made = sub { $_[0] =~ m{(\$6\$rounds=656000\$[./\w]+\$[./\w]+)\Q$_[2]\E$} && is_hash_of($1, $_[1]) };
 
     $accounts->(ann => '!', bob => '!', eve => '!');
-    is_run(run({ %in, dir => $folder }, qw(flock lock sh -c), marked($_, 'sh')), 1, '', '', "$_: one run at a time")
-        for 'new passwords', 'good lines', 'several machines', 'known passwords', 'hashes for services';
-    spew("$folder/passwords", "ann:password\nbob:" . 'x' x 83 . "\n");
-    is_run($recipe->('new passwords'), 1, '', "mkpasswd: line 2: over budget\n", 'a new password that a login would refuse');
+    spew("$folder/passwords", "ann:password\nbob:\n");
+    is($recipe->('new passwords')->{status}, 1, 'a new password that is empty');
     is(join('', slurp("$system/etc/shadow") =~ /:!:/g), ':!:' x 3, 'such a password changes no account');
     spew("$folder/passwords", "ann:password\nbob:pass:word\n");
     is_run($recipe->('new passwords'), 0, '', '', 'new passwords for many users');
@@ -160,73 +159,47 @@ subtest 'administration' => sub {
     ok($is_made->($line_of->('bob'), 'pass:word', $changed), 'the password of bob is new');
 
     $accounts->(ann => '!', bob => '!', eve => '!');
-    spew("$folder/passwords", "ann:password\nbob:\374" . 'x' x 83 . "\nsecret\neve:x\n:secret\n" . 'secret' x 11 . "\n");
-    my $loaded = $recipe->('good lines', env => { %{ $in{env} }, LC_ALL => 'C.UTF-8' });
-    my $others = "bob\nline 3: no password field\nline 5: no name\nline 6: name too long\n";
-    is_run($loaded, 0, $others, '', 'new passwords for the good lines: the names of the others, without passwords');
-    ok($is_made->($line_of->('ann'), 'password', $changed) && $line_of->('bob') eq "bob:!$aged", 'ann alone has a new one');
+    spew("$folder/passwords", "ann:password\nbob:" . 'x' x 169 . "\nsecret\neve:password\n:secret\n" . 'secret' x 11 . "\n");
+    my $loaded = $recipe->('good lines');
+    is_run({ %$loaded, err => join '', $loaded->{err} =~ /line \d|secret/g }, 0, '', 'line 3line 5line 6line 2', 'the others are shown, without passwords');
+    ok($is_made->($line_of->($_), 'password', $changed), "good lines: $_ has a new password") for qw(ann eve);
+    is($line_of->('bob'), "bob:!$aged", 'good lines: bob has none');
 
     my $costly = '$6$rounds=999999999$ab$x';
     my $old = crypt('password', '$5$rounds=1000$ab');
-    spew("$folder/copy", "ann:$old$aged\nbob:!$aged\nzoe:$costly$aged\neve:$known$aged\nmax:!$costly$aged\njoe:*$costly$aged\nsam:\$7\$C6....../..ab\$x$aged\n");
-    spew("$folder/password", '');
-    is_run($recipe->('one password'), 1, '', "no password\n", 'a file without a password');
-    ok(!-e "$folder/list", 'it makes no list');
-    spew("$folder/password", "password\r\n");
-    is_run($recipe->('one password'), 0, '', '', 'a list of one password');
-    is_run($recipe->('known passwords'), 0, "ann\neve\n", "7 of 7 lines have an account\nmkpasswd: line 6: above ceiling\nmkpasswd: line 7: over budget\n", 'who has it');
-    spew("$folder/list", "eve:guess\neve:password\r\nbob:x\nzoe:x\nann:word\neve:password\n\xef\xbb\xbfeve:x\n");
-    is_run($recipe->('known passwords'), 0, "eve\n", "5 of 6 lines have an account\nmkpasswd: line 5: over budget\n", 'who still has a password of a list');
-    like(slurp("$folder/joined"), qr/\A(?:.*\n){4}zoe:.*:x$/m, 'the line that was refused is in a file');
-
-    # The mkpasswd of whois in front of ours.
-    my $foreign = "mkpasswd: unrecognized option '--check'\nTry 'mkpasswd --help' for more information.\n";
-    mkdir "$scratch/tools";
-    spew("$scratch/tools/mkpasswd", "#!/bin/sh\ncat >&2 << 'END'\n${foreign}END\nexit 1\n");
-    chmod 0755, "$scratch/tools/mkpasswd";
-    my %env = (%{ $in{env} }, PATH => "$scratch/tools:$in{env}{PATH}");
-    is_run($recipe->($_, env => \%env), 1, '', $foreign, "$_, with the mkpasswd of whois") for 'good lines', 'known passwords', 'another method';
-    mkdir "$scratch/empty";
-    spew("$scratch/empty/password", '');
-    spew("$scratch/empty/hashes.new", "bob:$known\n");
-    isnt($recipe->($_, dir => "$scratch/empty")->{status}, 0, "$_: without its files, or with an empty one")
-        for 'good lines', 'known passwords', 'one password', 'another method', 'installer', 'cloud-init', 'Ansible';
-    is($line_of->('bob'), "bob:!$aged", 'hashes of an earlier run are not loaded');
-
     my %fields = (ann => $old, bob => "!$old", eve => $old, kim => crypt('password', '$6$rounds=656000$ab'), zoe => $costly);
     $accounts->(%fields);
+    spew("$folder/list", "eve:guess\neve:password\r\nbob:x\nzoe:x\nann:word\nnobody:x\n");
+    like($recipe->('known passwords')->{err}, qr/line 4: over budget\n.*: 1 lines of list have no account/, 'a hostile hash in a list');
+    is($recipe->('known passwords')->{out}, "eve:ok\n", 'who still has a password of a list');
+    spew("$folder/list", ":password\n");
+    is($recipe->('known passwords')->{out}, "ann:ok\neve:ok\nkim:ok\n", 'who has one password') or diag($recipe->('known passwords')->{out});
+
     spew("$folder/list", "ann:guess\nann:password\nbob:password\neve:guess\nkim:password\nzoe:password\nnobody:password\n");
-    is_run($recipe->('another method'), 0, '', "mkpasswd: line 6: over budget\n", 'accounts move to another method');
+    is($recipe->('another method')->{status}, 0, 'accounts move to another method');
     ok($is_made->($line_of->('ann'), 'password', $changed), 'the password of ann is hashed anew');
     is($line_of->($_), "$_:$fields{$_}$aged", "$_ keeps the field") for qw(bob eve kim zoe);
 
-    my ($cut, $yescrypt) = (substr($fields{kim}, 0, 60), crypt('password', '$y$j9T$abcd'));
-    $accounts->(%fields, amy => '', joe => '!', max => "!!$costly", ron => 'plain', sam => '$7$C6....../..ab$x', tim => $cut, tom => $yescrypt);
-    my %bad = (amy => 'none', ann => 'sha256crypt:1000:outdated', eve => 'sha256crypt:1000:outdated', ron => 'no scheme',
-        sam => 'malformed:above ceiling', tim => 'sha512crypt:656000:dead', zoe => 'sha512crypt:999999999:over budget');
-    my %all = (%bad, bob => 'locked', joe => 'locked', kim => 'sha512crypt:656000:current', max => 'locked', tom => 'yescrypt:unknown');
-    my $listed = sub { my %of = @_; return join '', map { "$_:$of{$_}\n" } sort keys %of };
-    my $counted = "      3 locked\n      1 malformed\n      1 no scheme\n      1 none\n      2 sha256crypt\n      3 sha512crypt\n      1 yescrypt\n";
-    my $unlocked = $listed->(%all, bob => $bad{ann}, max => $bad{zoe});
-    is($recipe->('audits')->{out} =~ s/:\d+(?=:[a-z ]+$)//mgr, $listed->(%all) . $counted . $unlocked, 'what each hash is like');
-    is($recipe->('audit by cron', language => 'text')->{out} =~ s/:\d+(?=:[a-z ]+$)//mgr, $listed->(%bad), 'cron mails which need care');
-    $accounts->(joe => '*', kim => $fields{kim}, tom => $yescrypt, des => crypt('password', 'ab'), pam => '$2b$31$x', zoe => '$y$jFT$ab$x');
-    is_run($recipe->('unknown hashes'), 0, "des:descrypt:unknown\npam:bcrypt:unknown\nzoe:yescrypt:unknown\n", '', 'other schemes than yescrypt at its usual cost');
-    is_run($recipe->('audit by cron', language => 'text'), 1, '', '', 'cron mails nothing if none does');
+    $accounts->(%fields, amy => '', joe => '!', max => "!!$costly", sam => '$7$C6....../..ab$x', tom => '$y$j9T$ab$x');
+    my $states = join '|', 'ann +sha256crypt +1000 +outdated', 'amy +none', 'sam +malformed above ceiling', 'zoe +sha512crypt +999999999 +over budget';
+    is(() = ($recipe->('audits')->{out} =~ /^(?:$states|kim +sha512crypt +656000 +current|tom +yescrypt +unknown)$/mg), 6, 'what each hash is like');
+    my $mailed = $recipe->('audit by cron', language => 'text')->{out};
+    ok((() = $mailed =~ /^(?:$states)$/mg) == 4 && $mailed !~ /^(?:kim|tom|joe|max)/m, 'cron mails which need care');
+    $accounts->(joe => '*', kim => $fields{kim}, tom => '$y$j9T$ab$x');
+    is_run($recipe->('audit by cron', language => 'text'), 0, '', '', 'cron mails nothing if none does');
 
     # A disk that is full at each command, as small as it is: nobody gets a part of a hash.
     needs('unshare, or a mount of its own,' => 'util-linux', !run(qw(unshare --mount true))->{status}) or return;
     my @users = map { "user$_" } 1 .. 60;
     spew("$folder/$_", join '', map { "$_:password\n" } @users) for qw(passwords list);
-    spew("$folder/password", "password\n");
     mkdir "$folder/full";
-    my $mount = 'mount -t tmpfs -o size=$0k none full && cd full && ln -s ../passwords ../password ../list . && sh -c "$1" 2> /dev/null; cat at.passwords; [ ! -e hash ] || echo "user0:$(cat hash)"';
-    for (['new passwords'], ['good lines'], ['another method'], ['hashes for services', 'pam_unix'], ['hashes for services', 'nginx'], ['Ansible']) {
+    my $mount = 'mount -t tmpfs -o size=$0k none full && cd full && ln -s ../passwords ../list . && sh -c "$1" 2> /dev/null; cat at.passwords';
+    for (['new passwords'], ['good lines'], ['another method'], ['hashes for services', 'nginx']) {
         my $commands = join '', map { '(' . marked($_, 'sh') . ")\n" } @$_;
-        $commands =~ s/ 656000/ 1000/g;
+        $commands =~ s/pwhash (file|check)/pwhash $1 -R 1000/g;
         $commands =~ s{ /etc/(shadow |nginx/)}{$1 eq 'nginx/' ? ' at.' : " '$system/etc/shadow' "}ge;
         my ($name, $is_done, @odd) = ("@$_, on a full disk");
-        for my $pages (1 .. 12) {
+        for my $pages (1 .. 8) {
             $accounts->(map { $_ => $old } @users);
             my $run = run({ %in, dir => $folder }, qw(unshare --mount sh -c), $mount, 4 * $pages, $commands);
             my @fields = map { /^user\d+:([^:]*)/ } split /\n/, slurp("$system/etc/shadow") . $run->{out};

@@ -25,12 +25,14 @@ sub options_in {
     return \%said;
 }
 
-for (['mkpasswd', program()], ['mkpasswd-parallel', "$root/bin/mkpasswd-parallel"]) {
-    my ($name, $command) = @$_;
-    my ($manual, $help) = (options_in(shown_manual("$root/man/$name.1")), options_in(run($command, '--help')->{out}));
-    is_deeply([sort keys %$manual], [sort keys %$help], "manual: options of $name");
-    is(substr($manual->{$_} // '', 0, length $help->{$_}), $help->{$_}, "manual: it begins with the help's words for $_ of $name") for sort keys %$help;
-}
+my ($of_manual, $of_help) = (options_in(shown_manual("$root/man/mkpasswd.1")), options_in(run(program(), '--help')->{out}));
+is_deeply([sort keys %$of_manual], [sort keys %$of_help], 'manual: options of mkpasswd');
+is(substr($of_manual->{$_} // '', 0, length $of_help->{$_}), $of_help->{$_}, "manual: it begins with the help's words for $_") for sort keys %$of_help;
+
+# That of pwhash has the options of each command's help.
+my %of_pwhash = map { $_ => 1 } map { run("$root/bin/pwhash", @$_, '--help')->{out} =~ /(?<!\S)(--[a-z][\w-]*)/g } [], ['file'], ['check'], ['audit'];
+my %in_manual = map { $_ => 1 } shown_manual("$root/man/pwhash.1") =~ /^ *(?:-\w, )?(--[a-z][\w-]*)/mg;
+is_deeply([sort grep { !$in_manual{$_} } keys %of_pwhash], [], 'manual: options of pwhash');
 
 my $manual = shown_manual("$root/man/mkpasswd.1");
 is_run(run(program(), '-m', "$2", qw(x y)), 0, run(program(), '-m', "$1", qw(x y))->{out}, '', "manual: $2") while $manual =~ /^(\w+crypt) +(md5|sha\S*) /mg;

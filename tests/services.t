@@ -1,7 +1,6 @@
 #!/usr/bin/env perl
-# Services of Debian take the hashes of each method, and refuse every other password, without the guard in front of crypt(3)
-# and with it, which has them refuse hostile fields at once; and installers and tools take the lines that the documents have
-# for them. None of the services knows a hash but through libxcrypt.
+# Services of Debian take the hashes of each method, and refuse every other password: by crypt(3), of libxcrypt, and by the PAM
+# module, which refuses hostile fields at once; and installers and tools take the lines that the documents have for them.
 #
 # The marked blocks of the documents are run as they stand, with the paths that they name: the test runs in namespaces, where
 # /etc and other folders are copies of its own (Services.pm). What a recipe leaves out, such as the port of a service, is here.
@@ -9,11 +8,8 @@ use strict;
 use warnings;
 use FindBin qw($Bin);
 use lib "$Bin/lib";
-use Guard;
 use HTTP::Tiny;
-use List::Util qw(min);
 use MIME::Base64 qw(encode_base64);
-use Model;
 use Services;
 use Suite;
 use Texts;
@@ -26,22 +22,19 @@ own_folder($_) for grep { -d } '/etc', $modules, '/var/cache/debconf';
 own_folder($_, 1) for grep { -d } qw(/run /var/log /var/lib/dovecot /var/lib/ldap /var/lib/nginx);
 own_devices();
 
-build_guard();
-
-# A user for each method, with a low cost, and ann, whose hash a recipe makes. Then other fields, by names: hashes of methods
-# that libxcrypt alone has, and what nobody gets in with.
+# A user for each method, with a low cost, and ann, whose hash a recipe makes. Then what nobody gets in with by a file.
 my %user = (md5crypt => 'one', sha256crypt => 'five', sha512crypt => 'six', scrypt => 'seven', 'the recipe' => 'ann');
 my %cost = (md5crypt => 0, sha256crypt => 1000, sha512crypt => 1000, scrypt => 6);
 my %password = map { $_ => "pass word:$_" } values %user;
-my %other = map { $_ => $hash{$_} } qw(yescrypt bcrypt descrypt);
-my %closed = (locked => "!$hash{sha512crypt}", star => '*', map { ("h$_" => $hostile[$_]) } 0 .. $#hostile);
-my @names = sort values %user, keys %other, keys %closed;
+my $secret = crypt 'secret', '$6$abcdefghijklmnop';
+my %closed = (locked => "!$secret", star => '*', hostile => '$6$rounds=999999999$abcdefgh$' . 'x' x 86,
+    yescrypt => crypt('secret', '$y$j9T$abcdefghijklmnopqrstu.'));
+my @names = sort values %user, keys %closed;
 
-my %in = (dir => "$scratch/recipes", env => { PATH => "$root:$ENV{PATH}", BASH_ENV => undef, HOME => $scratch });
+my %in = (dir => "$scratch/recipes", env => { PATH => "$root:$root/bin:$ENV{PATH}", BASH_ENV => undef, HOME => $scratch });
 mkdir $_ for $in{dir}, '/run/www';
 spew('/run/www/index.html', "in\n");
 spew("$in{dir}/passwords", "ann:$password{ann}\n");
-spew("$in{dir}/password", "$password{ann}\n");
 
 # The hashes of one method, in lines.
 sub lines_of {
@@ -51,12 +44,12 @@ sub lines_of {
 }
 my $of_methods = join '', map { lines_of($_) } sort keys %cost;
 my ($field) = $of_methods =~ /^six:(.*)/m;
-my $of_others = join '', map { "$_:" . ($other{$_} // $closed{$_}) . "\n" } sort keys %other, keys %closed;
+my $of_others = join '', map { "$_:$closed{$_}\n" } sort keys %closed;
 
 # Runs marked commands in the folder of the recipes.
 sub run_recipe {
     my ($name) = @_;
-    my $run = run(\%in, 'sh', '-euc', marked($name, 'sh'));
+    my $run = run({ %in, stdin => "$password{ann}\nmore\n" }, 'sh', '-euc', marked($name, 'sh'));
     return is($run->{status}, 0, "$name: its commands") || diag($run->{out} . $run->{err});
 }
 
@@ -82,35 +75,15 @@ sub are_taken {
     is($verdicts[$_] && $verdicts[$_][0], $rows[$_][2], "$service: $rows[$_][3]") for 0 .. $#rows;
 }
 
-# The same of a service that is started without the guard and then with it, by a command that may depend on the environment.
-# With the guard hostile fields are refused within seconds, where they would take minutes.
-sub are_guarded {
-    my ($service, $port, $command, $login) = @_;
-    for my $is_guarded (0, 1) {
-        my $env = env_of($is_guarded);
-        my @rows = map { ([$_, 'secret', 'yes', $_], [$_, 'Secret', 'no', "$_: another password"]) } sort keys %other;
-        push @rows, map { [$_, 'secret', 'no', $closed{$_}] } grep { $is_guarded || !/^h/ } sort keys %closed;
-        my $code = sub { are_taken($is_guarded ? "$service with the guard" : $service, $login, @rows) };
-        while_serving($port, [$command->(map { "$_=" . ($env->{$_} // '') } sort keys %$env)], $code, $env);
-    }
-}
-
 sub verdict { my ($got, $yes, $no) = @_; return $got eq $yes ? 'yes' : $got eq $no ? 'no' : $got }
 
-# A login over HTTP and by PAM.
+# A login over HTTP.
 sub http {
     my ($port, $name, $password) = @_;
     my $authorization = 'Basic ' . encode_base64("$name:$password", '');
     my $client = HTTP::Tiny->new(timeout => 20, default_headers => { Authorization => $authorization });
     my $got = $client->get("http://127.0.0.1:$port/");
     return verdict($got->{status} . ($got->{success} ? " $got->{content}" : ''), "200 in\n", '401') =~ s/^(?:403|500)\z/no/r;
-}
-
-sub pam {
-    my ($service, $name, $password) = @_;
-    my $run = run({ stdin => "$password\n", env => $in{env} }, 'pamtester', $service, $name, 'authenticate', 'acct_mgmt');
-    my ($told) = "$run->{out}$run->{err}" =~ /\bpamtester: (.*)/;
-    return $run->{status} == 0 ? 'yes' : verdict($told // "status $run->{status}", '', 'Authentication failure');
 }
 
 subtest 'nginx' => sub {
@@ -133,10 +106,7 @@ http {
     }
 }
 END
-    my $log = open_log();
-    are_guarded('nginx', 8080, sub { ('nginx', '-c', "$scratch/nginx.conf") }, sub { http(8080, @_) });
-    like((logged())[0], qr/^nginx\[\d+\]: mkpasswd guard: refused /, 'a line in the log, with the name at the start');
-    close $log;
+    while_serving(8080, ['nginx', '-c', "$scratch/nginx.conf"], sub { are_taken('nginx', sub { http(8080, @_) }) });
 };
 
 subtest 'Apache' => sub {
@@ -160,12 +130,17 @@ DocumentRoot /run/www
     $block
 </Location>
 END
-    while_serving(8081, ['apache2', '-D', 'FOREGROUND', '-d', '/etc/apache2', '-f', "$scratch/apache.conf"], sub {
-        are_taken('Apache', sub { http(8081, @_) });
-    });
+    my @command = ('apache2', '-D', 'FOREGROUND', '-d', '/etc/apache2', '-f', "$scratch/apache.conf");
+    while_serving(8081, \@command, sub { are_taken('Apache', sub { http(8081, @_) }) });
+    needs('mod_authnz_pam' => 'libapache2-mod-authnz-pam', -e '/usr/lib/apache2/modules/mod_authnz_pam.so') && needs_module() or return;
+    spew("$scratch/apache.conf", slurp("$scratch/apache.conf") =~ s/^AuthBasicProvider.*\n|^ *AuthUserFile.*\n//gmr
+        =~ s{</Location>}{AuthBasicProvider PAM\nAuthPAMService example\n$&}r . "LoadModule authnz_pam_module /usr/lib/apache2/modules/mod_authnz_pam.so\n");
+    prepare('pam_mkpasswd');
+    run('chgrp', 'www-data', '/etc/example.passwords');
+    chmod 0640, '/etc/example.passwords';
+    while_serving(8081, \@command, sub { are_checked('Apache by PAM', sub { http(8081, @_) }) });
 };
 
-# It gives its processes only what its configuration says.
 subtest 'Dovecot' => sub {
     needs('Dovecot 2.3' => 'dovecot-core, in Debian 12', run('dovecot', '--version')->{out} =~ /^2\.3\./) or return;
     prepare('Dovecot');
@@ -187,10 +162,13 @@ service anvil {
 }
 !include_try local.conf
 END
-    are_guarded('Dovecot', 8082, sub {
-        spew('/etc/dovecot/dovecot.conf', "import_environment = \$import_environment @_\n$configuration");
-        return qw(dovecot -F);
-    }, sub { verdict(run({ timeout => 20 }, qw(doveadm auth test), @_)->{status}, 0, 77) });
+    spew('/etc/dovecot/dovecot.conf', $configuration);
+    my $login = sub { verdict(run({ timeout => 20 }, qw(doveadm auth test), @_)->{status}, 0, 77) };
+    while_serving(8082, [qw(dovecot -F)], sub { are_taken('Dovecot', $login) });
+    needs_module() or return;
+    prepare('pam_mkpasswd');
+    spew('/etc/dovecot/local.conf', "passdb {\n  driver = pam\n  args = example\n}\n");
+    while_serving(8082, [qw(dovecot -F)], sub { are_checked('Dovecot by PAM', $login) });
 };
 
 subtest 'OpenLDAP' => sub {
@@ -219,19 +197,13 @@ END
         my @admin = ('-x', '-H', 'ldapi:///', '-D', "cn=admin,$suffix", '-y', "$in{dir}/admin");
         is(run({ stdin => $entries }, 'ldapadd', @admin)->{status}, 0, 'OpenLDAP: entries of the users');
         prepare('OpenLDAP');
-        # Names that are the same to the directory, with the hash of another password.
-        my @same = ('Six', 'six ', "\\73ix");
-        spew("$in{dir}/hashes", join '', map { "$_:" . ($of_methods =~ /^one:(.*)/m)[0] . "\n" } @same);
-        is_run(run(\%in, 'sh', '-c', marked('OpenLDAP', 'sh')), 0, '', join('', map { "$_\n" } @same), 'OpenLDAP: names that are left out');
-        unlink "$in{dir}/hashes";
-        isnt(run(\%in, 'sh', '-c', marked('OpenLDAP', 'sh'))->{status}, 0, 'OpenLDAP: without hashes');
     });
-    are_guarded('OpenLDAP', 8083, sub { @command }, sub {
+    while_serving(8083, \@command, sub { are_taken('OpenLDAP', sub {
         my ($name, $password) = @_;
         spew("$scratch/typed.$$", $password);
         my @user = ('-D', "uid=$name,ou=people,$suffix", '-y', "$scratch/typed.$$");
         return verdict(run({ timeout => 20 }, 'ldapwhoami', '-x', '-H', 'ldap://127.0.0.1:8083', @user)->{status}, 0, 49);
-    });
+    }) });
 };
 
 # Gives the users accounts with locked passwords.
@@ -249,97 +221,58 @@ subtest 'pam_unix' => sub {
     are_taken('pam_unix', sub { pam('pam_unix', @_) });
 };
 
-# It closes all descriptors from 3 on when it starts, and asks pam_unix.
-subtest 'sshd' => sub {
-    needs(sshd => 'openssh-server') && needs(ssh => 'openssh-client') && needs(chpasswd => 'passwd') or return;
-    add_accounts();
-    prepare('pam_unix');
-    mkdir '/run/sshd';
-    spew('/etc/pam.d/sshd', slurp('/etc/pam.d/pam_unix') . "session required pam_permit.so\n");
-    my @settings = ('ListenAddress 127.0.0.1', "HostKey $scratch/key", 'PidFile none', 'UsePAM yes', 'MaxStartups 99');
-    spew("$scratch/sshd_config", join "\n", 'Port 8085', @settings, '');
-    spew("$scratch/askpass", "#!/bin/sh\necho \"\$PASSWORD\"\n");
-    chmod 0755, "$scratch/askpass";
-    run(qw(ssh-keygen -q -t ed25519 -N), '', '-f', "$scratch/key");
-    my @options = map { ('-o', $_) } qw(NumberOfPasswordPrompts=1 PreferredAuthentications=password StrictHostKeyChecking=no),
-        'UserKnownHostsFile=/dev/null';
-    are_guarded('sshd', 8085, sub { ('/usr/sbin/sshd', '-De', '-f', "$scratch/sshd_config") }, sub {
+# Tests what a service says by the PAM module. With the stack for accounts pam_unix takes yescrypt. Hashing what the hostile field
+# asks for would take longer than any service here waits.
+sub are_checked {
+    my ($service, $login, $of_yescrypt) = @_;
+    return are_taken($service, $login, (map { [$_, $password{six}, 'no', "'$_'"] } 'a b', 'a:b'),
+        map { [$_, 'secret', $_ eq 'yescrypt' && $of_yescrypt || 'no', $_] } sort keys %closed);
+}
+
+# Installs the PAM module, and tells whether it is there.
+sub needs_module {
+    needs('pam_mkpasswd.so' => 'libpam0g-dev', -e "$root/pam_mkpasswd.so") or return 0;
+    run('cp', "$root/pam_mkpasswd.so", $modules);
+    return spew('/etc/pam.d/example', marked('pam_mkpasswd', 'pam'));
+}
+
+subtest 'vsftpd' => sub {
+    needs(vsftpd => 'vsftpd') && needs_module() or return;
+    prepare('pam_mkpasswd');
+    spew('/etc/example.passwords', slurp('/etc/example.passwords') . "a b:$field\na:b:$field\n");
+    spew('/etc/pam.d/example', marked('pam_mkpasswd', 'pam') =~ s/\.passwords$/.passwords renew/mr);
+    run(qw(mkdir -p /run/vsftpd/empty));
+    spew("$scratch/vsftpd.conf", join "\n", qw(listen=YES listen_address=127.0.0.1 listen_port=8086 background=NO local_enable=YES guest_enable=YES
+        guest_username=ftp anonymous_enable=NO pam_service_name=example isolate=NO isolate_network=NO seccomp_sandbox=NO delay_failed_login=0
+        local_root=/run/www secure_chroot_dir=/run/vsftpd/empty), '');
+    my $login = sub {
         my ($name, $password) = @_;
-        my %env = (PASSWORD => $password, SSH_ASKPASS => "$scratch/askpass", SSH_ASKPASS_REQUIRE => 'force');
-        my $run = run({ timeout => 20, env => \%env }, qw(ssh -qp 8085), @options, "$name\@127.0.0.1", 'true');
-        return verdict($run->{status}, 0, 255);
-    });
+        my $client = IO::Socket::INET->new(PeerAddr => '127.0.0.1:8086', Timeout => 20) or return 'no connection';
+        my @said = map { print $client "$_\r\n" if $_; scalar <$client> } '', "USER $name", "PASS $password";
+        return verdict(substr($said[2] // '', 0, 3), 230, 530);
+    };
+    while_serving(8086, ['vsftpd', "$scratch/vsftpd.conf"], sub { are_checked('vsftpd', $login) });
+    my %hash = slurp('/etc/example.passwords') =~ /^([^:\n]*):(\$6\$rounds=656000\$[^:\n]*)/mg;
+    is(crypt($password{$_}, $hash{$_} // '*'), $hash{$_} // 'new', "vsftpd: the hash of $_ is renewed") for sort values %user;
 };
 
-# What the file of pam_mkpasswd may have: a name and its field; what the right password of six comes to; what the log gets.
-my @pam_rows = (
-    ['locked', "!$field", 'no', ''], ['starred', '*', 'no', ''], ['empty', '', 'no', ''], ['word', 'x', 'no', 'unknown scheme'],
-    ['costly', '$6$rounds=999999999$saltsalt$' . 'a' x 86, 'no', 'over budget'], ['cut', substr($field, 0, -1), 'no', ''],
-    ['aged', "$field:19000:0:::::", 'no', 'bad character'], ['zero', "$field\0", 'no', 'bad character'],
-    ['carriage', "$field\r", 'no', 'bad character'], ['long', $field . 'a' x 384, 'no', 'setting too long'],
-    ['twice', '!', 'no', ''], ['twice', $field, 'no', ''], ['', $field, 'no', ''], ['a:b', $field, 'no', ''], ['last', $field, 'yes', ''],
-);
-
-subtest 'pam_mkpasswd' => sub {
-    needs(pamtester => 'pamtester') && needs('pam_modules.h' => 'libpam0g-dev', -e '/usr/include/security/pam_modules.h') or return;
-    needs(cc => 'gcc') && needs('pkg-config' => 'pkgconf') && needs('libmkpasswd.so.2' => 'none: run make lib', -e "$root/libmkpasswd.so.2")
-        or return;
-    my ($source, $libs) = ("$root/examples/pam_mkpasswd.c", '/usr/lib/x86_64-linux-gnu');
-    my ($installed, $file) = ("$scratch/installed", '/etc/example.passwords');
-    is_run(run(qw(cc -std=c99 -Wall -Wextra -Werror -pedantic -O2 -c -o), "$scratch/strict.o", "-I$root/c", $source),
-        0, '', '', 'pam_mkpasswd: the compiler has nothing to say');
-    is(run({ env => { DESTDIR => $installed, PREFIX => '/usr', LIBDIR => $libs } }, "$root/tools/install")->{status}, 0, 'it is installed');
-    local $in{env} = { %{ $in{env} }, PKG_CONFIG_SYSROOT_DIR => $installed, PKG_CONFIG_LIBDIR => "$installed$libs/pkgconfig",
-        PKG_CONFIG_ALLOW_SYSTEM_CFLAGS => 1, PKG_CONFIG_ALLOW_SYSTEM_LIBS => 1, LD_LIBRARY_PATH => "$installed$libs" };
-    symlink "$root/examples", "$in{dir}/examples";
-    prepare('pam_mkpasswd');
-    my $block = marked('pam_mkpasswd', 'pam');
-    spew('/etc/pam.d/example', $block);
-    are_taken('pam_mkpasswd', sub { pam('example', @_) });
-
-    # What the system's log gets, instead of its daemon.
-    open_log();
-    my $login = sub { join ': ', pam('example', @_), map { s/^.*?pam_mkpasswd\(example:\w+\): //sr } logged() };
-    my ($right, $number) = ($password{six}, 1 + (slurp($file) =~ tr/\n//));
-    spew($file, slurp($file) . "no colon\n" . join "\n", map { "$_->[0]:$_->[1]" } @pam_rows);
-    # With this budget a name that is unknown or locked takes no time.
-    spew('/etc/pam.d/example', $block =~ s/budget=\K\d+/1000000/r);
-    for (@pam_rows, map { [$_, '', 'no', ''] } 'nobody', 'si', "six\n") {
-        my ($name, undef, $verdict, $told) = @$_;
-        $number++;
-        my $logged = $told eq '' ? '' : ": $file: line $number: $told";
-        is_deeply([map { $login->($name, $_) } $right, substr($right, 1), '', $field, 'a' x 500], ["$verdict$logged", ("no$logged") x 4],
-            "pam_mkpasswd: '" . ($name =~ s/\n/<LF>/r) . "', with one log for all passwords");
-    }
-
-    # The arguments of the module; the least cost is that of the empty password.
-    my ($least, $cost) = map { cost(read_setting($field), $_) } 0, length $right;
-    my ($service, $information) = ('Error in service module', 'Authentication service cannot retrieve authentication info');
-    my @arguments = ([$file, 'yes'], ["$file budget=18446744073709551615", 'yes'], ["$file budget=$cost", 'yes'], ["$file budget=" . ($cost - 1), 'no'],
-        ["$file budget=$least", 'no'], (map { ["$file budget=$_", "no: $file: line 5: over budget"] } $least - 1, 0),
-        (map { ["$file $_", "$service: invalid argument: $_"] } qw(budget= budget=-1 budget=+1 budget=1x budget=18446744073709551616 budge=1 debug)),
-        ['', "$information: : No such file or directory"], ["$file.gone", "$information: $file.gone: No such file or directory"],
-        ['/etc', "$information: /etc: Is a directory"]);
-    for (@arguments) {
-        my ($given, $wanted) = @$_;
-        spew('/etc/pam.d/example', "auth required pam_mkpasswd.so file=$given\naccount required pam_permit.so\n");
-        is($login->('six', $right), $wanted, "pam_mkpasswd: file=$given");
-    }
-    spew('/etc/pam.d/example', "auth required pam_mkpasswd.so\naccount required pam_permit.so\n");
-    is($login->('six', $right), "$service: no argument file=", 'pam_mkpasswd: no arguments');
-
-    # The processor's time of a login, the least of two. On a busy machine it varies; without a hash it is a hundredth.
-    spew('/etc/pam.d/example', $block);
-    my $time = sub {
-        my ($name) = @_;
-        return min(map { my $before = (times)[2]; pam('example', $name, $right); (times)[2] - $before } 1, 2);
-    };
-    my $known = $time->('ann');
-    cmp_ok($known, '>', 0.05, 'pam_mkpasswd: a known name takes time');
-    for (qw(nobody locked empty word costly), '') {
-        my $ratio = $time->($_) / ($known || 1);
-        ok($ratio > 0.3 && $ratio < 3, "pam_mkpasswd: '$_' takes the time of a known name") or diag("$ratio times");
-    }
+subtest 'sshd' => sub {
+    needs(sshd => 'openssh-server') && needs(ssh => 'openssh-client') && needs(chpasswd => 'passwd') && needs_module() or return;
+    add_accounts();
+    prepare('pam_unix');
+    my ($stack) = grep { /pam_unix/ } slurp("$root/man/pam_mkpasswd.8") =~ /^\.Bd -literal -offset 2n\n(.*?)^\.Ed/msg;
+    spew('/etc/pam.d/sshd', ($stack =~ s/try_first_pass/nodelay/r) . "session required pam_permit.so\n");
+    mkdir '/run/sshd';
+    my @settings = ('Port 8085', 'ListenAddress 127.0.0.1', "HostKey $scratch/key", 'PidFile none', 'UsePAM yes', 'MaxStartups 99');
+    spew("$scratch/sshd_config", join "\n", @settings, '');
+    chmod 0755, spew("$scratch/askpass", "#!/bin/sh\necho \"\$PASSWORD\"\n");
+    run(qw(ssh-keygen -q -t ed25519 -N), '', '-f', "$scratch/key");
+    my @options = map { ('-o', $_) } qw(NumberOfPasswordPrompts=1 PreferredAuthentications=password StrictHostKeyChecking=no UserKnownHostsFile=/dev/null);
+    while_serving(8085, ['/usr/sbin/sshd', '-De', '-f', "$scratch/sshd_config"], sub { are_checked('sshd', sub {
+        my ($name, $password) = @_;
+        my %env = (PASSWORD => $password, SSH_ASKPASS => "$scratch/askpass", SSH_ASKPASS_REQUIRE => 'force');
+        return verdict(run({ timeout => 20, env => \%env }, qw(ssh -qp 8085 -l), $name, @options, '127.0.0.1', 'true')->{status}, 0, 255);
+    }, 'yes') });
 };
 
 # Tests that a tool has read the hash of the first line of `password`, with the cost of the recipes.
@@ -350,9 +283,8 @@ sub is_hash {
 
 subtest 'installers' => sub {
     needs('debconf-set-selections' => 'debconf') && needs('debconf-communicate' => 'debconf') or return;
-    spew("$in{dir}/password", "$password{ann}\nmore\n");
-    spew("$in{dir}/$_->[0]", $_->[1]) for ['preseed.cfg', 'd-i passwd/make-user boolean true'], ['site.ks', 'reboot'];
-    run_recipe('installer');
+    spew("$in{dir}/$_->[0]", "$_->[1]\n") for ['preseed.cfg', 'd-i passwd/make-user boolean true'], ['site.ks', 'reboot'];
+    run_recipe($_) for 'preseed', 'kickstart';
     is_run(run(\%in, qw(debconf-set-selections --checkonly preseed.cfg)), 0, '', '', 'preseed: debconf has nothing to say');
     run(\%in, qw(debconf-set-selections preseed.cfg));
     my ($hash) = run({ %in, stdin => "GET passwd/user-password-crypted\n" }, 'debconf-communicate', 'd-i')->{out} =~ /^0 (.*)\n\z/;

@@ -9,11 +9,13 @@ use warnings;
 use Exporter qw(import);
 use File::Path qw(make_path remove_tree);
 use IO::Socket::INET;
+use IO::Socket::UNIX;
 use POSIX qw(WNOHANG);
+use Socket qw(MSG_DONTWAIT);
 use Suite;
 use Time::HiRes qw(sleep);
 
-our @EXPORT = qw(enter_namespaces needs_namespaces own_folder own_devices while_serving);
+our @EXPORT = qw(enter_namespaces needs_namespaces own_folder own_devices open_log logged pam while_serving);
 
 my @unshare = qw(unshare --mount --net --pid --fork --kill-child --mount-proc);
 
@@ -67,6 +69,24 @@ sub own_devices {
         mkdir "$folder/shm";
         chmod 01777, "$folder/shm";
     });
+}
+
+# The system log, instead of its daemon: a socket in a /dev of the test's own. Then its lines since the last time, without their
+# beginning, and what else it got.
+my $log;
+sub open_log { return $log = IO::Socket::UNIX->new(Type => SOCK_DGRAM, Local => '/dev/log') || die "/dev/log: $!" }
+sub logged {
+    my ($line, @lines);
+    push @lines, $line =~ s/^.*?pam_mkpasswd\([\w-]+:\w+\): //sr while defined $log->recv($line, 2048, MSG_DONTWAIT);
+    return @lines;
+}
+
+# Logs in by PAM: yes, no, or what else it says. The command may begin with another program.
+sub pam {
+    my ($service, $name, $password, @before) = @_;
+    my $run = run({ stdin => "$password\n" }, @before, 'pamtester', $service, $name, 'authenticate', 'acct_mgmt');
+    my ($told) = "$run->{out}$run->{err}" =~ /\bpamtester: (.*)/;
+    return $run->{status} == 0 ? 'yes' : ($told // "status $run->{status}: $run->{err}") =~ s/^Authentication failure\z/no/r;
 }
 
 sub must {

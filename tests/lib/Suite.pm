@@ -71,10 +71,11 @@ sub begin {
         if (defined $env->{$_}) { $ENV{$_} = $env->{$_} } else { delete $ENV{$_} }
     }
     chdir $with->{dir} or die "$with->{dir}: $!" if $with->{dir};
-    open STDIN, '<', $with->{from} or die;
-    open STDOUT, '>', $with->{to} or die;
-    open STDERR, $with->{err} ? '>' : '>&', $with->{err} // \*STDOUT or die;
-    exec { $command[0] } @command or do { print STDERR "$command[0]: $!\n"; POSIX::_exit(127) };
+    my $fail = sub { print STDERR "$_[0]: $!\n"; POSIX::_exit(127) };
+    open STDIN, '<', $with->{from} or $fail->($with->{from});
+    open STDOUT, '>', $with->{to} or $fail->($with->{to});
+    open STDERR, $with->{err} ? '>' : '>&', $with->{err} // \*STDOUT or $fail->($with->{err} // 'standard error');
+    exec { $command[0] } @command or $fail->($command[0]);
 }
 
 # Runs a command; its first argument may be such a hash, without `err`, with `stdin` (the bytes that it reads; none by default)

@@ -1,4 +1,4 @@
-//! The audit of a stored field, without a password: is its hash whole, within the budget, and made as new hashes are?
+//! The audit of a stored field, without a password: is its hash within the budget, whole, and not outdated?
 ghost use Rattle.std.specs.Prelude.{◌≡◌, ◌<ℤ◌, pos};
 ghost use Rattle.prims_core.specs.Work.{no_work};
 ghost use Rattle.call_core.specs.Audits.{Audits, IsCurrent, standing_reason};

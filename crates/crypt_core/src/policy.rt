@@ -1,5 +1,5 @@
-//! The policy that this project recommends for new hashes, where a caller names no rounds and no budget: the rounds of each
-//! method, and for audits the budget that goes with them. The command takes it for audits alone.
+//! The policy that this project recommends: the rounds of each method, and for audits the budget that goes with them. The
+//! calls for C and audits take them where the caller names none; the command has other defaults for hashing.
 
 ghost use Rattle.std.specs.Prelude.{◌≡◌, ◌≤◌, length};
 ghost use Rattle.crypt_core.specs.MadeSettings.{TakesRounds};

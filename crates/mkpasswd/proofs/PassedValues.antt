@@ -5,7 +5,7 @@ use Rattle.std.specs.Borrow.{Bor}
 use Rattle.std.specs.List.{All, list_all, slice_index_or}
 use Rattle.std.specs.Option.{option_map}
 use Rattle.std.specs.Prelude.{slice_get, if◌then◌else◌}
-use Rattle.std.proofs.lemmas.Bool.{not-true}
+use Rattle.std.proofs.lemmas.Bool.{and_parts, not-true}
 use Rattle.std.specs.Str.{bytes_eq}
 use Rattle.std.proofs.lemmas.List.{get_or-map, length-map}
 use Rattle.std.proofs.lemmas.List.Elements.{All-get_or}
@@ -24,7 +24,6 @@ use Rattle.clap.specs.declared.parser.matches.ArgMatches.{ArgMatches}
 use Rattle.clap.specs.declared.parser.matches.MatchedArg.{MatchedArg}
 use Rattle.clap.proofs.CallerLemmas.{entry_by_id, same_rules_by_id}
 use Rattle.clap.proofs.SimpleLemmas.{is_false, is_nil, ready_simple, simple_groups}
-use Rattle.clap.proofs.WalkLemmas.{both}
 use Rattle.mkpasswd.specs.Private.Options.{HasPassed, parser_by_id}
 
 -- ---- a command whose arguments have no rule on one another
@@ -34,17 +33,17 @@ all_free = list_all (λ rule. rule.is_free)
 
 each_free : (xs : List Arg) → all_free (map rule_of xs) ≡ true → All (λ a. is_free_arg a ≡ true) xs
 each_free [] e k d lt = absurd (omega arith)
-each_free (x ∷ xs) e zero d lt = (both _ _ e).0
-each_free (x ∷ xs) e (suc k) d lt = each_free xs (both _ _ e).1 k d (omega arith)
+each_free (x ∷ xs) e zero d lt = (and_parts _ _ e).0
+each_free (x ∷ xs) e (suc k) d lt = each_free xs (and_parts _ _ e).1 k d (omega arith)
 
 excludes_nothing : (c : Command) → is_ready (shape_of c) ≡ true → HasReadyLeaves c → all_free (shape_of c).rules ≡ true → IsPlain c
 excludes_nothing c ready leaves free =
     let simple = ready_simple c ready leaves in
-    let all_simple = (both (shape_of c).is_plain _ (both (has_simple_rules (shape_of c)) _ ready).0).1 in (
+    let all_simple = (and_parts (shape_of c).is_plain _ (and_parts (has_simple_rules (shape_of c)) _ ready).0).1 in (
       λ k d lt.
           let arg = slice_index_or (args_of c) k d in
-          let own = both _ _ (each_free (args_of c) free k d lt) in
-          (is_false arg.exclusive own.0, is_nil arg.conflicts.items (both _ _ own.1).0, (simple.args k d lt).overrides, simple_groups c all_simple k d lt),
+          let own = and_parts _ _ (each_free (args_of c) free k d lt) in
+          (is_false arg.exclusive own.0, is_nil arg.conflicts.items (and_parts _ _ own.1).0, (simple.args k d lt).overrides, simple_groups c all_simple k d lt),
       simple.groups,
     )
 
@@ -145,8 +144,8 @@ not_same {a} {b} differ same = true≢false (sym ((bytes_eq-Decides a b).1 same)
 lacks_each : (id : Text) (rules : List Rule) → lacks id rules ≡ true
     → (j : ℕ) (z : Rule) → j < length rules → bytes_eq (slice_index_or rules j z).id id ≡ true → ⊥
 lacks_each id [] all j z lt same = absurd (omega arith)
-lacks_each id (rule ∷ rules) all zero z lt same = true≢false (sym same ∙ not-true (bytes_eq rule.id id) (both _ _ all).0)
-lacks_each id (rule ∷ rules) all (suc j) z lt same = lacks_each id rules (both _ _ all).1 j z (omega arith) same
+lacks_each id (rule ∷ rules) all zero z lt same = true≢false (sym same ∙ not-true (bytes_eq rule.id id) (and_parts _ _ all).0)
+lacks_each id (rule ∷ rules) all (suc j) z lt same = lacks_each id rules (and_parts _ _ all).1 j z (omega arith) same
 
 -- one of these rules alone has this id, and it has this parser
 abbrev HaveOne : List Rule → Text → ValueParser → Type 0
@@ -158,13 +157,13 @@ only_rule [] own id q is = absurd cc
 only_rule (rule ∷ rules) own id q is = go (bytes_eq rule.id id) refl (λ others. only_rule rules others id q) is
   where
     alone : lacks rule.id rules ≡ true
-    alone = (both (lacks rule.id rules) _ own).0
+    alone = (and_parts (lacks rule.id rules) _ own).0
 
     differs_from : (not (bytes_eq rule.id []) ≡ true) × ((not (bytes_eq rule.id (codes "help")) ≡ true) × ((not (bytes_eq rule.id (codes "version")) ≡ true) × (have_own_ids rules ≡ true)))
     differs_from =
-        let named = both (not (bytes_eq rule.id [])) _ (both (lacks rule.id rules) _ own).1 in
-        let no_help = both (not (bytes_eq rule.id (codes "help"))) _ named.1 in
-        (named.0, (no_help.0, both (not (bytes_eq rule.id (codes "version"))) (have_own_ids rules) no_help.1))
+        let named = and_parts (not (bytes_eq rule.id [])) _ (and_parts (lacks rule.id rules) _ own).1 in
+        let no_help = and_parts (not (bytes_eq rule.id (codes "help"))) _ named.1 in
+        (named.0, (no_help.0, and_parts (not (bytes_eq rule.id (codes "version"))) (have_own_ids rules) no_help.1))
 
     later : (k : ℕ) (r : Rule) → r.id ≡ id → bytes_eq rule.id id ≡ false → IsOnlyRule rules k r q → IsOnlyRule (rule ∷ rules) (suc k) r q
     later k r of_id differs found = record {

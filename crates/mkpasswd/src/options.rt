@@ -32,7 +32,7 @@ const SALT_HELP: &str =
     "The salt: up to 8 (md5crypt), 16 or 86 (scrypt)\nletters, digits, '.' and '/'; else a new one";
 
 const ROUNDS_HELP: &str =
-    "The cost: for sha256crypt and sha512crypt rounds\n(default 5000, with --audit 656000, which suits a hash\nto store); for scrypt 6 to 11 (default 7); 0: default";
+    "The cost: for sha256crypt and sha512crypt rounds, give\n656000 for a hash to store (default 5000, with --audit\n656000); for scrypt 6 to 11 (default 7); 0: default";
 
 const STDIN_HELP: &str =
     "The password is the first line of standard input,\nand empty without any input";

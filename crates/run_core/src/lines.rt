@@ -163,9 +163,9 @@ pub fn run_check<I: Read, O: Write, E: Write, R: Rng>(
 /// - `name:locked`: `field` begins with `!` or `*`.
 /// - `name:malformed:MESSAGE`: `field` begins with `$`, and this is the message of the first rule of a setting that it breaks
 ///   ([`SettingFault`]), which is not `UnknownScheme`.
-/// - `name:SCHEME:unknown`: any other `field` has the form of another scheme of crypt(5), such as `yescrypt`.
-/// - `name:unknown`: it doesn't, and begins with `$`.
-/// - `name:no scheme`: it doesn't, and begins with anything else.
+/// - `name:SCHEME:unknown`: any other `field` that has the form of another scheme of crypt(5), such as `yescrypt`.
+/// - `name:unknown`: any other `field` that begins with `$`.
+/// - `name:no scheme`: any other `field`.
 ///
 /// `field` ends at the second colon, or at the end of the line. METHOD is the name of the setting's method. ROUNDS is its
 /// number of rounds, or N, r and p of scrypt with `/` between them. COST is the cost of hashing a password of 1,024 bytes

@@ -26,7 +26,8 @@ pub struct Left {
     is_free: bool,
 }
 
-// Runs a command within so many I/O calls.
+// Runs the run that `plan` names within so many I/O calls, where `run_command` allows 2^40. Messages are without its
+// `mkpasswd: `.
 fn left_within(alloc: Global, words: &[&str], input: &[u8], turns: u64) -> Result<Left, Fail>
     requires { turns ≤ 2 ^ 40 }
 {

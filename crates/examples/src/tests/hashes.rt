@@ -1,4 +1,5 @@
-//! Hashes, with the counts of their work.
+//! Hashes, with the counts of their work: digests, their bytes, mixings, and bytes of the table and of scratch memory, as the
+//! standards' steps take them.
 
 use super::counts;
 use crypt_core::hash::hash;

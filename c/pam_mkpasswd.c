@@ -1,0 +1,220 @@
+/* pam_mkpasswd.so lets a user in whose password matches a stored hash within a budget; pam_mkpasswd(8) is the manual. No proof
+ * covers this file, but the calls of mkpasswd.h that check and hash are proved. The log has what an administrator can correct. It
+ * is the same whatever password was given, and has no name, since users type passwords there. */
+#define _GNU_SOURCE /* for getspnam_r */
+#include <errno.h>
+#include <fcntl.h>
+#include <limits.h>
+#include <mkpasswd.h>
+#include <security/pam_ext.h>
+#include <security/pam_modules.h>
+#include <shadow.h>
+#include <stdio.h>
+#include <stdlib.h>
+#include <sys/file.h>
+#include <sys/stat.h>
+#include <sys/xattr.h>
+#include <syslog.h>
+#include <unistd.h>
+
+#define ROUNDS 656000
+#define BUDGET 253921472 /* twice what a new sha512crypt hash with these rounds can cost for a password of 64 bytes */
+#define FIELD_LIMIT 384  /* of a stored hash, in bytes */
+#define ACL "system.posix_acl_access"
+
+struct options {
+    const char *file; /* NULL for the system's own */
+    uint32_t method, rounds;
+    uint64_t budget;
+    int is_renewing, is_debugging;
+};
+
+struct field {
+    unsigned long line; /* the number of its line, 1 in the system's own file; 0 if there is none */
+    size_t len;
+    uint8_t bytes[FIELD_LIMIT + 1]; /* one byte more, so that a longer field is refused and not cut */
+};
+
+/* Reads the arguments. Returns 0 and logs it if one is invalid, or if the budget doesn't admit a new hash of 64 bytes, without
+ * which an unknown name would cost nothing. Having no room for that hash is the last refusal before it is made. */
+static int read_options(pam_handle_t *pam, int count, const char **given, struct options *options)
+{
+    static const char *const methods[] = {[MKPASSWD_MD5CRYPT] = "method=md5crypt", [MKPASSWD_SHA256CRYPT] = "method=sha256crypt",
+        [MKPASSWD_SHA512CRYPT] = "method=sha512crypt", [MKPASSWD_SCRYPT] = "method=scrypt"};
+    struct mkpasswd_report report;
+    char message[MKPASSWD_TEXT_SIZE], password[65] = "";
+
+    *options = (struct options){NULL, MKPASSWD_SHA512CRYPT, 0, BUDGET, 0, 0};
+    for (; count > 0; count--, given++) {
+        const char *digits = strlen(*given) > 7 && strlen(*given) < 26 ? *given + 7 : "-";
+        uint64_t number = digits[strspn(digits, "0123456789")] ? UINT64_MAX : strtoull(digits, NULL, 10);
+        uint32_t method = MKPASSWD_SCRYPT;
+
+        while (method > 0 && (!methods[method] || strcmp(*given, methods[method]) != 0))
+            method--;
+        if (method)
+            options->method = method;
+        else if (strncmp(*given, "rounds=", 7) == 0 && number <= UINT32_MAX)
+            options->rounds = (uint32_t)number;
+        else if (strncmp(*given, "budget=", 7) == 0 && number != UINT64_MAX)
+            options->budget = number;
+        else if (strncmp(*given, "file=/", 6) == 0)
+            options->file = *given + 5;
+        else if (strcmp(*given, "renew") == 0)
+            options->is_renewing = 1;
+        else if (strcmp(*given, "debug") == 0)
+            options->is_debugging = 1;
+        else if (strcmp(*given, "try_first_pass") != 0 && strcmp(*given, "use_first_pass") != 0) /* for pam_get_authtok(3) */
+            return pam_syslog(pam, LOG_ERR, "invalid argument: %s", *given), 0;
+    }
+    if (options->rounds == 0 && options->method != MKPASSWD_SCRYPT)
+        options->rounds = ROUNDS;
+    if (options->is_renewing && !options->file)
+        return pam_syslog(pam, LOG_ERR, "invalid argument: renew, without file="), 0;
+    memset(password, 'x', sizeof password - 1);
+    if (mkpasswd_new_str(password, options->method, options->rounds, options->budget, NULL, 0, &report)
+        || report.reason == MKPASSWD_REFUSED_TOO_FEW_BYTES)
+        return 1;
+    mkpasswd_words_str(report.reason, message, sizeof message);
+    return pam_syslog(pam, LOG_ERR, "invalid arguments: %s", message), 0;
+}
+
+/* Finds the field of a name's first line, and reads the lines after it too. With `to` it copies them, with `hash` in place of
+ * that field. Returns 0, with errno, if a read or a write fails. */
+static int find_line(const char *path, const char *name, struct field *field, FILE *to, const char *hash)
+{
+    FILE *file = fopen(path, "re");
+    char *line = NULL, *start, *end;
+    size_t room = 0, left, name_len = strlen(name);
+    int is_done = file != NULL;
+    ssize_t len;
+
+    for (unsigned long number = 1; is_done && (len = getline(&line, &room, file)) > 0; number++) {
+        end = line; /* of what has been copied */
+        start = memchr(line, ':', (size_t)len);
+        if (!field->line && name_len > 0 && start && (size_t)(start++ - line) == name_len && memcmp(line, name, name_len) == 0) {
+            left = (size_t)(line + len - start) - (line[len - 1] == '\n');
+            end = memchr(start, ':', left) ? memchr(start, ':', left) : start + left;
+            field->line = number;
+            field->len = (size_t)(end - start) < sizeof field->bytes ? (size_t)(end - start) : sizeof field->bytes;
+            memcpy(field->bytes, start, field->len);
+            is_done = !to || fprintf(to, "%s:%s", name, hash) > 0;
+        }
+        is_done = is_done && (!to || fwrite(end, 1, (size_t)(line + len - end), to) == (size_t)(line + len - end));
+    }
+    is_done = is_done && feof(file) && (!to || (fflush(to) == 0 && fsync(fileno(to)) == 0));
+    free(line); /* keeps errno */
+    if (file)
+        fclose(file);
+    return is_done;
+}
+
+/* Puts a hash in place of the field that was checked, by a new file that takes the name of the old one, under a lock. It waits a
+ * second for that, since a process that was stopped may have it. The old file stays if field or file are other ones by now, and
+ * with a line in the log if something fails, or it has an ACL, which the new one would lack. */
+static void renew(pam_handle_t *pam, const char *file, const char *name, const char *hash, const struct field *checked)
+{
+    char path[PATH_MAX], lock_path[PATH_MAX + 8] = "", new_path[PATH_MAX + 8] = "";
+    int lock, new = -1, tries = 50, is_done;
+    struct field now = {0};
+    struct stat before, after;
+    FILE *to = NULL;
+
+    if (realpath(file, path) && snprintf(lock_path, sizeof lock_path, "%s.lock", path) > 0)
+        snprintf(new_path, sizeof new_path, "%s.renew", path);
+    lock = open(lock_path, O_RDWR | O_CREAT | O_CLOEXEC | O_NOFOLLOW, 0600);
+    while (!(is_done = lock >= 0 && flock(lock, LOCK_EX | LOCK_NB) == 0) && lock >= 0 && errno == EWOULDBLOCK && tries-- > 0)
+        usleep(20000);
+    if (is_done) {
+        unlink(new_path); /* left by a login that was killed */
+        new = open(new_path, O_WRONLY | O_CREAT | O_EXCL | O_CLOEXEC, 0600);
+        is_done = new >= 0 && stat(path, &before) == 0 && (errno = ENOTSUP, getxattr(path, ACL, NULL, 0) <= 0)
+            && (fremovexattr(new, ACL) == 0 || errno == ENODATA || errno == ENOTSUP)
+            && fchown(new, before.st_uid, before.st_gid) == 0 && fchmod(new, before.st_mode & 07777) == 0
+            && (to = fdopen(new, "w")) && find_line(path, name, &now, to, hash) && stat(path, &after) == 0
+            && (errno = 0, before.st_ino == after.st_ino && memcmp(&before.st_ctim, &after.st_ctim, sizeof after.st_ctim) == 0)
+            && now.len == checked->len && memcmp(now.bytes, checked->bytes, now.len) == 0 && rename(new_path, path) == 0;
+    }
+    if (!is_done && errno != 0)
+        pam_syslog(pam, LOG_WARNING, "%s: not renewed: %s", file, strerror(errno));
+    if (!is_done && new >= 0)
+        unlink(new_path);
+    if (to)
+        fclose(to);
+    else if (new >= 0)
+        close(new);
+    if (lock >= 0)
+        close(lock);
+}
+
+/* Logs why no password can match the field; what an administrator may want so, only for debugging. It asks for the empty
+ * password with the least budget: nothing is hashed, and the log says nothing of the password that was given. Returns 1 if the
+ * scheme may be one of crypt(3): bsdicrypt, descrypt, or $ and what begins none of our own. Any other unknown one is damaged. */
+static int is_foreign(pam_handle_t *pam, const struct options *options, const struct field *field)
+{
+    struct mkpasswd_report report;
+    char message[MKPASSWD_TEXT_SIZE];
+    int is_foreign = !mkpasswd_login(field->bytes, 0, field->bytes, field->len, options->method, options->rounds, 1, &report)
+        && report.reason == MKPASSWD_REFUSED_UNKNOWN_SCHEME && (field->bytes[0] == '_' || field->len == 13
+        || (field->bytes[0] == '$' && field->len > 1 && !memchr("1567", field->bytes[1], 4)));
+    int is_usual = is_foreign || report.reason == MKPASSWD_NO_HASH || report.reason == MKPASSWD_LOCKED;
+
+    mkpasswd_words_str(report.reason, message, sizeof message);
+    if ((report.reason == MKPASSWD_OVER_BUDGET && report.cost <= options->budget) || (is_usual && !options->is_debugging))
+        return is_foreign;
+    if (options->file)
+        pam_syslog(pam, is_usual ? LOG_DEBUG : LOG_WARNING, "%s: line %lu: %s", options->file, field->line, message);
+    else
+        pam_syslog(pam, is_usual ? LOG_DEBUG : LOG_WARNING, "shadow: %s", message);
+    return is_foreign;
+}
+
+/* Checks a password, or without one whether the name has a field that isn't locked. */
+static int check(pam_handle_t *pam, int count, const char **given, int has_password)
+{
+    const char *name, *password;
+    struct options options;
+    struct mkpasswd_report report;
+    struct field field = {0};
+    struct spwd room, *entry = NULL;
+    char buffer[8192], hash[MKPASSWD_TEXT_SIZE];
+    int error = 0;
+
+    if (!read_options(pam, count, given, &options))
+        return PAM_SERVICE_ERR;
+    if (pam_get_user(pam, &name, NULL) || (has_password && pam_get_authtok(pam, PAM_AUTHTOK, &password, NULL)))
+        return PAM_AUTH_ERR;
+    if (options.file)
+        error = find_line(options.file, name, &field, NULL, NULL) ? 0 : errno;
+    else if ((error = getspnam_r(name, &room, buffer, sizeof buffer, &entry)) == 0 && entry) {
+        field.line = 1;
+        field.len = strnlen(entry->sp_pwdp, sizeof field.bytes);
+        memcpy(field.bytes, entry->sp_pwdp, field.len);
+    }
+    if (error)
+        return pam_syslog(pam, LOG_ERR, "%s: %s", options.file ? options.file : "shadow", strerror(error)), PAM_AUTHINFO_UNAVAIL;
+    if (!has_password)
+        return !field.line ? PAM_USER_UNKNOWN : memchr("!*", field.bytes[0], 2) ? PAM_PERM_DENIED : PAM_SUCCESS;
+    if (!mkpasswd_login((const uint8_t *)password, strlen(password), field.bytes, field.len, options.method, options.rounds,
+            options.budget, &report))
+        return is_foreign(pam, &options, &field) ? PAM_IGNORE : PAM_AUTH_ERR;
+    if (options.is_renewing && report.reason == MKPASSWD_OUTDATED
+        && mkpasswd_new_str(password, options.method, options.rounds, options.budget, hash, sizeof hash, NULL))
+        renew(pam, options.file, name, hash, &field);
+    return PAM_SUCCESS;
+}
+
+int pam_sm_authenticate(pam_handle_t *pam, int flags, int count, const char **given)
+{
+    return (void)flags, check(pam, count, given, 1);
+}
+
+int pam_sm_acct_mgmt(pam_handle_t *pam, int flags, int count, const char **given)
+{
+    return (void)flags, check(pam, count, given, 0);
+}
+
+int pam_sm_setcred(pam_handle_t *pam, int flags, int count, const char **given)
+{
+    return (void)pam, (void)flags, (void)count, (void)given, PAM_SUCCESS;
+}

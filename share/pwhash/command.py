@@ -1,0 +1,122 @@
+"""The command line of pwhash: its options, and how a run ends."""
+import argparse, os, re, shlex, signal, sys
+import checking, engine, hashing
+from terminal import Stop, on_terminal, progress, say
+
+USAGE = """
+  pwhash                                    hash a password, which it asks for
+  pwhash file passwords -o hashes           hash lines name:password, for chpasswd -e
+  pwhash audit                              what is wrong with the hashes in /etc/shadow
+  pwhash check --shadow /etc/shadow list    who still has the password of a line name:password
+
+Hashes are sha512crypt with 656000 rounds. Each command has a --help. pwhash alone has:"""
+OPTIONS = {      # of argparse: the words, the default, what a value is called or which there are, and the help
+    "method": ("-m --method", "sha512crypt", "TYPE", "sha512crypt (default), sha256crypt, scrypt or md5crypt"),
+    "rounds": ("-R --rounds", None, "NUMBER", "656k by default; with scrypt 6 to 11, by default 7"),
+    "budget": ("--budget", None, "NUMBER", "what a line may cost in bytes; by default twice a new hash's for 64 bytes"),
+    "salt": ("-S --salt", None, "SALT", "up to 16 (md5crypt 8, scrypt 86) of a-zA-Z0-9./; by default new ones"),
+    "quiet": ("--quiet", False, None, "show no progress"),
+    "out": ("-o --out", None, "OUT", "write the file OUT once it is whole; until then it is OUT.part"),
+    "resume": ("--resume", False, None, "go on with the OUT.part of an earlier run"),
+    "windows": ("--windows", False, None, "leave out carriage returns at ends of lines, and a byte order mark"),
+    "csv": ("--csv", False, None, "FILE is a table, as spreadsheets export it"),
+    "columns": ("--columns", "name,password", "A,B", "its columns, by their names in its first row or by numbers"),
+    "delimiter": ("--delimiter", ",", "C", "what is between its columns; by default a comma"),
+    "skip_refused": ("--skip-refused", False, None, "leave out lines that mkpasswd refuses"),
+    "accept_doubtful": ("--accept-doubtful", False, None, "take lines as they are, even with empty passwords"),
+    "service": ("--for", None, [each for each in hashing.SERVICES if each], "doubt names that it takes for others"),
+    "shadow": ("--shadow", None, "FIELDS", "lines are name:password; the hashes are in the file FIELDS"),
+    "rehash": ("--rehash", False, None, "renew outdated hashes of right passwords; with -o for chpasswd -e"),
+    "target": ("--for", None, [each for each in hashing.PLACES if each], "print what belongs there"),
+    "name": ("--name", None, "NAME", "the user, for --for"),
+    "generate": ("--generate", False, None, "make a password, and show it once on the terminal"),
+    "only_problems": ("--only-problems", False, None, "show what needs care, and nothing if all is well"),
+    "json": ("--json", False, None, "an object a line"),
+    "locked": ("--locked", False, None, "judge the hashes of locked accounts too")}
+COMMANDS = {     # what runs it, its input by default, its options
+    None: (hashing.one, "-", "target name generate method rounds salt budget"),
+    "file": (hashing.file, "-", "out resume skip_refused accept_doubtful windows csv columns delimiter service "
+             "method rounds salt budget quiet"),
+    "check": (checking.check, "-", "shadow rehash out windows method rounds salt budget quiet"),
+    "audit": (checking.audit, "/etc/shadow", "only_problems json locked method rounds budget quiet")}
+
+def interrupt(number, frame):
+    raise KeyboardInterrupt(number)
+
+def number(text):
+    match = re.fullmatch("([0-9]{1,10})([kM]?)", text)
+    if not match:
+        raise argparse.ArgumentTypeError(f"'{text}' is no number such as 656000, 656k or 2M")
+    return int(match[1]) * {"": 1, "k": 1000, "M": 1000000}[match[2]]
+
+def arguments(words):
+    command = words[0] if words and words[0] in COMMANDS else None
+    run, default, names = COMMANDS[command]
+    parser = argparse.ArgumentParser(prog=f"pwhash {command or ''}".strip(), usage=None if command else USAGE,
+                                     description=command and run.__doc__, allow_abbrev=False)
+    if command:
+        parser.add_argument("file", nargs="?", default=default, metavar="FILE", help=f"by default {default}")
+    for each in names.split():
+        flags, value, kind, text = OPTIONS[each]
+        how = {"action": "store_true"} if kind is None else {"choices" if isinstance(kind, list) else "metavar": kind}
+        how.update({"type": number} if kind == "NUMBER" else {})
+        parser.add_argument(*flags.split(), dest=each.replace("service", "target"), help=text, **how)
+    options = argparse.Namespace(**{each: row[1] for each, row in OPTIONS.items()}, file=default, run=run, part=None)
+    parser.parse_args(words[bool(command):], options)
+    if options.resume and not options.out or options.out and command == "check" and not options.rehash:
+        raise Stop("--resume goes with -o, and -o of check with --rehash.", 2)
+    if options.out and os.path.lexists(options.out):
+        raise Stop(f"{options.out} is there already: remove it, or name another file after -o.", 2)
+    if command != "audit":      # what mkpasswd takes by itself are fewer rounds, and no budget
+        base, least, scrypt = 253921472, 656000, options.method == "scrypt"
+        options.rounds = options.rounds or (7 if scrypt else least)
+        cost = 268491592 << max(0, options.rounds - 7) if scrypt else base * max(options.rounds, least) // least
+        options.budget = options.budget or cost * (1 + options.rehash)
+    values = ((each, getattr(options, each)) for each in ("method", "rounds", "salt", "budget"))
+    options.words = [f"--{each}={value}" for each, value in values if value is not None] + ["--rehash"] * options.rehash
+    return options
+
+def tell_end(options, text):
+    """Says why the run ended early and how to go on, on the terminal too if standard error goes elsewhere."""
+    if options and options.part and options.run == hashing.file:
+        text += f" To go on:\n  {shlex.join(sys.argv + ['--resume'][options.resume:])}"
+        text += f" < {shlex.quote(os.readlink('/proc/self/fd/0'))}" if options.file == "-" else ""
+    if not os.isatty(2):
+        on_terminal(f"\r\x1b[Kpwhash: {text}\n")
+    say(text)
+
+def main():
+    while os.open("/", os.O_RDONLY) < 3:      # nothing else gets a descriptor that was closed
+        pass
+    signal.signal(signal.SIGCHLD, signal.SIG_DFL)
+    signal.pthread_sigmask(signal.SIG_SETMASK, [])
+    signals, options = (signal.SIGINT, signal.SIGTERM, signal.SIGHUP), None
+    for each in signals:
+        signal.signal(each, interrupt if signal.getsignal(each) != signal.SIG_IGN else signal.SIG_IGN)
+    try:
+        try:
+            options = arguments(sys.argv[1:])
+            progress.quiet = options.quiet
+            return int(bool(options.run(options)))
+        finally:
+            for each in signals:
+                signal.signal(each, signal.SIG_IGN)
+            for process in engine.processes:
+                process.kill()
+            progress.clear()
+    except Stop as stop:
+        sentence, status = (*stop.args, 3)[:2]
+        (tell_end(options, sentence) if status == 3 else say(sentence))
+        return status
+    except KeyboardInterrupt as interrupted:
+        [number] = interrupted.args
+        tell_end(options, f"{signal.Signals(number).name} ended the run.")
+        signal.signal(number, signal.SIG_DFL)
+        os.kill(os.getpid(), number)
+    except SystemExit as leave:      # of argparse's help
+        sys.stdout.flush()
+        return leave.code
+    except BaseException as error:
+        text = f"{error.filename or 'an input'}: {error.strerror}" if isinstance(error, OSError) else repr(error)
+        tell_end(options, f"{text}.")
+    return 3

@@ -1,0 +1,148 @@
+"""`pwhash` and `pwhash file`: new hashes."""
+import fcntl, getpass, os, re, secrets, string, time
+from engine import HASH, Engine
+from lines import MARK, Source, some_at_a_time
+from terminal import Stop, on_terminal, readable, say, write
+
+PLACES = {      # what --for prints for one hash; those with a name need --name
+    None: "{hash}", "preseed-root": "d-i passwd/root-password-crypted password {hash}",
+    "preseed-user": "d-i passwd/user-password-crypted password {hash}", "kickstart": "rootpw --iscrypted {hash}",
+    "cloud-init": "#cloud-config\nusers:\n  - name: {name}\n    lock_passwd: false\n    hashed_passwd: {hash}",
+    "ansible": 'password: "{hash}"', "htpasswd": "{name}:{hash}", "shadow": "{name}:{hash}:{day}:0:99999:7:::"}
+SERVICES = {    # the names that each service reads as they are
+    "apache": rb"[^#\s\0-\x1f\x7f][^\0-\x1f\x7f]*", "nginx": rb"[^#\s\0-\x1f\x7f][^\0-\x1f\x7f]*",
+    "dovecot": rb"[a-z0-9_.@-]+", "ldap": rb"[a-z0-9_-]+", None: rb"(?s).*"}
+NAMELESS = ("line too long", "no name", "name too long", "no password field")      # the name may be a password
+
+def new_password(options):
+    if options.generate:
+        password = "".join(secrets.choice(string.ascii_letters + string.digits) for _ in range(20))
+        if not on_terminal(f"The password, shown only here: {password}\n"):
+            raise Stop("--generate shows the password on the terminal, and there is none.")
+        return password.encode()
+    if not os.isatty(0):
+        return next((line for _, lines in Source(options).lines() for line in lines), b"")
+    password = getpass.getpass("Password: ")
+    if password != getpass.getpass("Again: "):
+        raise Stop("the two passwords differ. Start again.", 2)
+    return os.fsencode(password)
+
+def one(options):
+    """Hashes one password: asks for it, or reads the first line of standard input."""
+    if "{name}" in PLACES[options.target] and not re.fullmatch("[A-Za-z_][A-Za-z0-9_.@-]{0,63}", options.name or ""):
+        raise Stop(f"--for {options.target} needs a name of letters and digits, such as --name ann.", 2)
+    engine, password = Engine("--batch", options.words), new_password(options)
+    if not password or password.endswith(b"\r"):
+        raise Stop("the password ends with a carriage return, as lines of Windows do. Remove it." if password else
+                   "the password is empty, so Return alone would log in. Give at least one character.", 2)
+    [(_, _, [answer], refusals)] = engine.answers([([1], [b"x:" + password])])
+    if refusals:
+        raise Stop(f"{refusals[0]}. Give at most 1,024 bytes, none of them zero, or for more cost a --budget.", 2)
+    text = PLACES[options.target].format(name=options.name, hash=answer[2:].decode(), day=int(time.time() // 86400))
+    write(1, text.encode() + b"\n", "standard output")
+
+def doubts(number, name, password, names, plain):
+    """What mkpasswd hashes as it is, and hardly anybody wants."""
+    return [reason for reason, is_so in {
+        "an empty password: Return alone logs in": password in (b"", b"\r"),
+        "a carriage return ends the password; --windows leaves it out": password.endswith(b"\r"),
+        "a byte order mark begins the name; --windows leaves it out": number == 1 and name.startswith(MARK),
+        "the name came before": name in names,
+        "the service takes the name for another, or skips it": not re.fullmatch(plain, name),
+        "not UTF-8, which terminals send": (name + password).decode(errors="ignore").encode() != name + password,
+    }.items() if is_so]
+
+def look(source, options):
+    """Tells which lines mkpasswd would refuse, whose numbers it returns, and which are doubtful. By a budget of 0 good
+    lines are over budget, without work. Of these the longest are tried with the true budget, down to the first that
+    gets its hash, since shorter passwords cost less."""
+    names, refused, doubtful, by_length = set(), set(), set(), {}
+    def tell(number, name, reason, kind):
+        kind.add(number)
+        say(f"{source.name}, line {number}{'' if reason in NAMELESS else f' ({readable(name)})'}: {reason}")
+    engine = Engine("--batch", [word for word in options.words if not word.startswith("--budget=")] + ["--budget=0"])
+    for numbers, lines, _, refusals in engine.answers(source.lines(), "looking", source.total):
+        for place, reason in refusals.items():
+            number, (name, _, password) = numbers[place], lines[place].partition(b":")
+            if reason != "over budget":
+                tell(number, name, reason, refused)
+                continue
+            for reason in doubts(number, name, password, names, SERVICES[options.target]):
+                tell(number, name, reason, doubtful)
+            by_length.setdefault(len(password), [lines[place]]).append((number, name))
+            names.add(name)
+    engine = Engine("--batch", options.words)
+    for line, *same in (by_length[length] for length in sorted(by_length, reverse=True)):
+        [(_, _, _, refusals)] = engine.answers([([1], [line])])
+        if not refusals:
+            break
+        for number, name in same:
+            tell(number, name, refusals[0], refused)
+    if refused and not options.skip_refused or doubtful and not options.accept_doubtful:
+        raise Stop(f"nothing was hashed. Correct these lines and start again: {len(refused):,} would be refused "
+                   f"(--skip-refused omits them), {len(doubtful):,} are doubtful (--accept-doubtful takes them).", 1)
+    return refused
+
+class Part:
+    """OUT.part, which becomes OUT once it is whole."""
+    def __init__(self, options, source):
+        self.out, self.path, self.options = options.out, options.out + ".part", options
+        try:
+            flags = 0 if options.resume else os.O_CREAT | os.O_EXCL
+            self.fd = os.open(self.path, os.O_RDWR | os.O_NOFOLLOW | flags, 0o600)
+            fcntl.flock(self.fd, fcntl.LOCK_EX | fcntl.LOCK_NB)
+            os.chmod(self.path, 0o600)
+            options.part = self
+        except (FileExistsError, FileNotFoundError, BlockingIOError):
+            why = "is missing, or another run writes it" if options.resume else "is there: add --resume, or remove it"
+            raise Stop(f"{self.path} {why}.", 2) from None
+        if os.fstat(source.fd).st_mtime_ns > os.fstat(self.fd).st_mtime_ns and options.resume:
+            raise Stop(f"{source.name} was changed after {self.path}: remove that, and start without --resume.", 2)
+
+    def skip(self, lines, name):
+        """Skips lines that have their hashes. Each hash has to be behind the name of its line. The first and the last
+        are made again with their salts, so that other passwords or options don't go unnoticed."""
+        with open(self.path, "rb") as file:
+            made = [answer for answer in file if answer.endswith(b"\n")]
+        pairs = list(zip(made, lines))
+        for answer, (number, line) in pairs:
+            if not re.fullmatch(re.escape(line[:line.index(b":") + 1]) + HASH + b"\n", answer):
+                raise Stop(f"{self.path} is not of {name}: it has no hash for line {number}.", 2)
+        for answer, (_, line) in pairs[:1] + pairs[-1:]:
+            salt = answer.rsplit(b"$", 2)[1][11 if b":$7$" in answer else 0:].decode()
+            words = [word for word in self.options.words if not word.startswith("--salt")] + ["--salt=" + salt]
+            if [again for _, _, again, _ in Engine("--batch", words).answers([([1], [line])])] != [[answer[:-1]]]:
+                raise Stop(f"{self.path} was made with other passwords or options than these.", 2)
+        if len(pairs) < len(made):
+            raise Stop(f"{self.path} has more lines than {name}.", 2)
+        os.ftruncate(self.fd, os.lseek(self.fd, sum(map(len, made)), os.SEEK_SET))
+
+    def finish(self):
+        os.fsync(self.fd)
+        os.rename(self.path, self.out)
+
+def file(options):
+    """Hashes lines name:password. A file is read twice, first to look for problems."""
+    source = Source(options)
+    if options.out and not source.regular:
+        raise Stop("-o needs a file, which can be read twice. Give its name, or leave out -o.", 2)
+    refused, lines = look(source, options) if source.regular else set(), source.lines()
+    engine, part = Engine("--batch", options.words), Part(options, source) if options.out else None
+    if source.regular:
+        good = (pair for pieces in lines for pair in zip(*pieces) if pair[0] not in refused)
+        if options.resume:
+            part.skip(good, source.name)
+        lines = some_at_a_time(good)
+    for _, _, answers, refusals in engine.answers(lines, "hashing", source.total):
+        if source.regular and refusals:
+            raise Stop(f"{source.name} has changed since it was looked at.")
+        show(answers, refusals, *([part.fd, part.path] if part else []))
+    if part:
+        part.finish()
+    return engine.bad or refused
+
+def show(answers, refusals, fd=1, name="standard output"):
+    """Writes answers and refusals where mkpasswd does."""
+    good = [answer for place, answer in enumerate(answers) if place not in refusals] if refusals else answers
+    write(fd, b"\n".join(good + [b""]), name)
+    write(2, b"\n".join([answers[place] for place in refusals] + [b""]), "standard error")

@@ -1,0 +1,200 @@
+#!/usr/bin/env perl
+# pam_mkpasswd.so by pamtester: what it says of each field and argument, with one log for all passwords; the stacks of its
+# manual; and that a renewal loses nothing, whatever comes between. Services that load it are in services.t.
+use strict;
+use warnings;
+use FindBin qw($Bin);
+use lib "$Bin/lib";
+use List::Util qw(min);
+use Services;
+use Suite;
+use Time::HiRes qw(sleep);
+
+enter_namespaces();
+needs_namespaces() && needs(pamtester => 'pamtester') && needs('pam_mkpasswd.so' => 'libpam0g-dev', -e "$root/pam_mkpasswd.so")
+    or do { done_testing; exit };
+my $modules = '/usr/lib/x86_64-linux-gnu/security';
+own_folder($_) for '/etc', $modules;
+own_folder('/srv', 1);
+own_devices();
+open_log();
+run('cp', "$root/pam_mkpasswd.so", $modules);
+
+# Fields of the password, by libxcrypt, and the arguments by which the third is current.
+my ($file, $right, $current) = ('/srv/passwords', 'pass word', 'file=/srv/passwords rounds=1000 budget=1000000');
+my %hash = map { $_->[0] => crypt $right, $_->[1] } ['md5crypt', '$1$abcdefgh'], ['sha256crypt', '$5$rounds=1000$abcdefgh'],
+    ['sha512crypt', '$6$rounds=1000$abcdefgh'], ['scrypt', '$7$26..../....abcdefgh'], ['yescrypt', '$y$j75$abcdefghijklmnopqrstu.'],
+    ['bcrypt', '$2b$04$abcdefghijklmnopqrstuu'], ['descrypt', 'ab'], ['bsdicrypt', '_/...abcd'];
+my ($field, $hostile) = ($hash{sha512crypt}, '$6$rounds=999999999$saltsalt$' . 'a' x 86);
+my ($denied, $broken, $unavailable) = ('Permission denied', 'Error in service module', 'Authentication service cannot retrieve authentication info');
+
+# Writes a stack, or one line of arguments for both questions.
+sub stack { my ($of) = @_; return spew('/etc/pam.d/example', $of =~ /\n/ ? $of : "auth required pam_mkpasswd.so $of\naccount required pam_mkpasswd.so $of\n") }
+sub login { return join ': ', pam('example', @_), logged() }
+
+subtest 'fields' => sub {
+    my @rows = (
+        (map { [$_, $hash{$_}, /^md5|^sha|^scr/ ? ('yes', 'no') : ($denied) x 2] } sort keys %hash),
+        (map { [$_, $field, 'yes', 'no'] } 'a b', 'last', "\$5\$x"), ['more', "$field:19000:0:", 'yes', 'no'],
+        (map { [@$_, 'no', 'no'] } ['locked', "!$field"], ['starred', '*'], ['empty', ''], ['twice', '!'], ['twice', $field], ['', $field], ['a:b', $field], ['cut', substr $field, 0, -1]),
+        (map { [@$_[0, 1], ("no: $file: line LINE: $_->[2]") x 2] } ['word', 'x', 'unknown scheme'], ['dollar', '$', 'unknown scheme'],
+            ['prefix', '$6', 'unknown scheme'], ['glued', '$5x' . substr($field, 3), 'unknown scheme'], ['costly', $hostile, 'over budget'],
+            ['zero', "$field\0", 'bad character'], ['carriage', "$field\r", 'bad character'], ['bytes', "\$y\$j75\$\xff", 'bad character'],
+            ['long', $field . 'a' x 384, 'setting too long'], ['range', '$7$.6..../....abcd', 'scrypt range'], ['rounds', '$6$rounds=x$', 'bad rounds']),
+    );
+    spew($file, join "\n", map { "$_->[0]:$_->[1]" } @rows);
+    my $number = 0;
+    stack($current);
+    for (@rows, map { [$_, '', 'no', 'no'] } 'nobody', 'mor', "last\n") {
+        my ($name, undef, @wanted) = @$_;
+        $number++;
+        s/LINE/$number/ for @wanted;
+        is_deeply([map { login($name, $_) } $right, substr($right, 1), '', $field, 'a' x 500], [@wanted, ($wanted[1]) x 3],
+            "'" . ($name =~ s/\n/<LF>/r) . "', with one log for all passwords");
+    }
+    is_deeply([map { run('pamtester', 'example', $_, 'acct_mgmt')->{status} } qw(more yescrypt costly locked starred twice nobody)], [0, 0, 0, 1, 1, 1, 1], 'accounts');
+};
+
+subtest 'arguments' => sub {
+    spew($file, "six:$field\nfull:" . crypt('a' x 168, '$6$rounds=656000$abcdefghijklmnop') . "\n");
+    for (['', 'no'], (map { ["file=$file $_", 'yes'] } '', 'method=scrypt', 'debug', 'rounds=1000 budget=300000', 'rounds=1000 try_first_pass renew'),
+        (map { ["file=$file $_", "$broken: invalid arguments: over budget"] } 'budget=0', 'rounds=1000 budget=100000', 'method=scrypt rounds=11'),
+        ["file=$file rounds=999", "$broken: invalid arguments: cost"], ['renew', "$broken: invalid argument: renew, without file="],
+        (map { ["file=$file $_", "$broken: invalid argument: $_"] } qw(budget= budget=-1 budget=+1 budget=1x budget=18446744073709551616
+            rounds=x rounds=4294967296 method= method=des renew=1 budge=1 nullok file=passwords file=)),
+        ["file=$file.gone", "$unavailable: $file.gone: No such file or directory"], ['file=/etc', "$unavailable: /etc: Is a directory"]) {
+        stack($_->[0]);
+        is(login('six', $right), $_->[1], "arguments: $_->[0]");
+    }
+    stack("file=$file");
+    is_deeply([map { pam('example', 'full', 'a' x $_) } 168, 169], ['yes', 'no'], 'the default budget admits 168 bytes');
+    stack("$current debug");
+    is(login('nobody', $right), "no: $file: line 0: no hash", 'debug: an unknown name');
+    stack("auth optional pam_unix.so\n" x $_ . "auth required pam_mkpasswd.so $current use_first_pass\naccount required pam_permit.so\n"),
+        is(login('six', $right) =~ s/: .*//sr, $_ ? 'yes' : 'no', "use_first_pass after $_ modules that ask") for 0, 1;
+};
+
+# The stacks of the manual, in their order.
+my @stacks = grep { /^auth/ } slurp("$root/man/pam_mkpasswd.8") =~ /^\.Bd -literal -offset 2n\n(.*?)^\.Ed/msg;
+
+subtest 'stacks' => sub {
+    spew($file, "yes:$hash{yescrypt}\n");
+    for my $control (qw(required requisite sufficient optional), '[success=ok default=ignore]') {
+        stack("auth $control pam_mkpasswd.so $current\naccount required pam_permit.so\n");
+        is(login('yes', $_), $denied, "alone, $control: another scheme, and nobody gets in") for $right, 'x';
+    }
+    my @accounts = ((map { [$_, $hash{$_}] } grep { !/bsdi/ } sort keys %hash), ['hostile', $hostile], ['locked', "!$field"], ['empty', '']);
+    spew('/etc/passwd', slurp('/etc/passwd') . join '', map { "$_->[0]:x:4242:4242::/:/bin/sh\n" } @accounts);
+    spew('/etc/shadow', slurp('/etc/shadow') . join '', map { "$_->[0]:$_->[1]:19000:0:99999:7:::\n" } @accounts);
+    spew('/etc/pam.d/su', $stacks[1] =~ s/pam_unix\.so try/pam_unix.so nodelay nullok try/r);
+    for my $name ('nobodyhere', map { $_->[0] } @accounts) {
+        is_deeply([map { pam('su', $name, $_) } $right, 'wrong', ''], [$hash{$name} ? 'yes' : 'no', 'no', 'no'], "su: $name");
+        is(join(' ', grep { !/pam_unix/ } logged()), join(' ', ('shadow: over budget') x ($name eq 'hostile' && 3)), "su: $name: the log, without names");
+    }
+    mkdir '/srv/example';
+    for (map { ($_, "auth required pam_permit.so\n$_") } @stacks[0, 2]) {
+        my ($path) = /file=(\S+)/;
+        spew($path, "ann:$field\nyes:$hash{yescrypt}\n");
+        stack($_);
+        is_deeply([login('ann', $right), login('ann', 'x'), login('yes', $right)], ['yes', 'no', $denied], $_);
+        is(slurp($path) =~ /^ann:\$6\$rounds=656000\$/, /renew/, 'what is renewed');
+    }
+};
+
+# Tests that a line has a new hash, for logins that find 1000 rounds outdated.
+my $renews = "file=$file rounds=1001 budget=1000000 renew";
+sub is_renewed { my ($line, $name) = @_; return ok($line =~ /^\w+:(\$6\$rounds=1001\$[^:\n]*)/ && crypt($right, $1) eq $1, $name) }
+
+subtest 'renewals' => sub {
+    chmod 0640, spew($file, my $lines = "one:x\n\ntwo:$field:19000:\0\nsix:!$field\nno line\nsix:$field");
+    chown 65534, 4242, $file;
+    symlink $file, '/srv/link';
+    stack($renews =~ s/passwords/link/r);
+    is(login('two', $right), 'yes', 'a login through a link');
+    is_renewed(slurp($file) =~ s/^one:x\n\n//r, 'the hash is new');
+    is(slurp($file) =~ s/^two:[^:]*/two:$field/mr, $lines, 'all else stays');
+    is(join(' ', (stat $file)[2, 4, 5], (lstat '/srv/link')[2] & 0120000), join(' ', 0100640, 65534, 4242, 0120000), 'owner, mode, the link');
+
+    # What keeps a file as it is, with a line in the log.
+    my $remount = sub { my ($option) = @_; return sub { run(qw(mount -o), "remount,$option", '/srv') } };
+    my $holder;
+    for (['No space left on device', map { $remount->("size=$_") } '60k', '10m'], ['Read-only file system', map { $remount->($_) } 'ro', 'rw'],
+        ['Too many levels of symbolic links', sub { unlink "$file.lock"; symlink 'x', "$file.lock" }, sub { unlink "$file.lock" }],
+        ['Resource temporarily unavailable', sub { $holder = begin({ from => '/dev/null', to => '/dev/null' }, 'flock', "$file.lock", qw(sleep 99)); sleep 0.3 },
+            sub { kill KILL => -$holder; waitpid $holder, 0 }],
+        needs(setfacl => 'acl') ? ['Operation not supported', map { my @to = @$_; sub { run('setfacl', @to, $file) } } ['-m', 'u:daemon:r'], ['-b']] : ()) {
+        my ($message, $prepare, $undo) = @$_;
+        my $before = slurp(spew($file, "two:$field\n" . "# more\n" x 5000));
+        stack($renews);
+        $prepare->();
+        is(login('two', $right), "yes: $file: not renewed: $message", "$message: the user gets in");
+        $undo->();
+        ok(slurp($file) eq $before && !-e "$file.renew", "$message: the file is as it was");
+        login('two', $right);
+        is_renewed(slurp($file), "$message: renewed later");
+    }
+
+    # Somebody locks the account, or adds another one, while its outdated hash is checked, which takes long.
+    stack("file=$file renew");
+    spew("$scratch/password", "$right\n");
+    my $old = crypt $right, '$5$rounds=600000$abcdefgh';
+    for my $now ("two:!$old\n", "two:$old\nnew:$old\n") {
+        spew($file, "two:$old\n");
+        my $login = begin({ from => "$scratch/password", to => '/dev/null' }, qw(pamtester example two authenticate));
+        sleep 0.1;
+        rename spew("$file.other", $now), $file;
+        waitpid $login, 0;
+        is("$? " . slurp($file) =~ s/^two:\$6\S*/two:$old/r, "0 $now", 'a file that is replaced meanwhile: it stays, but for the same field');
+    }
+};
+
+subtest 'a thousand renewals at once, with kills' => sub {
+    my @names = map { "user$_" } 10 .. 59;
+    my %password = map { $_ => "secret of $_" } @names;
+    spew("$scratch/$_", "$password{$_}\n") for @names;
+    spew($file, join '', map { "$_:" . crypt($password{$_}, '$6$rounds=1000$abcdefgh') . "\n" } @names);
+    # Who is missing, in another place, or with a hash of another password.
+    my %is_right;
+    my $wrong = sub {
+        my @lines = split /^/, slurp($file);
+        return join ' ', @lines - @names || (), grep { my $of = $names[$_]; ($lines[$_] // '') !~ /^$of:(\S+)\n\z/ || !($is_right{$lines[$_]} //= crypt($password{$of}, $1) eq $1) } 0 .. $#names;
+    };
+    my ($watcher, $found) = (fork // die, '');
+    local $SIG{TERM} = sub { spew("$scratch/found", $found); POSIX::_exit(0) };
+    while (!$watcher) { $found ||= $wrong->(); sleep 0.0005 }
+    for my $rounds (1001 .. 1020) {
+        stack($renews =~ s/1001/$rounds/r);
+        my @ended = in_processes(12, sub {
+            my $login = begin({ from => "$scratch/$_[0][0]", to => '/dev/null' }, qw(pamtester example), $_[0][0], 'authenticate');
+            if ($_[0][1]) { sleep $_[0][1]; kill KILL => $login }
+            waitpid $login, 0;
+            return $?;
+        }, map { [$_, rand() < 0.4 && rand 0.03] } @names);
+        is(scalar(grep { $_->[0] != 9 && $_->[0] != 0 } @ended), 0, "$rounds rounds: whoever isn't killed gets in");
+    }
+    waitpid $watcher, 0 if kill TERM => $watcher;
+    is(slurp("$scratch/found") . $wrong->(), '', 'the file is whole at each moment, and each hash lets its owner in');
+};
+
+# Each kind of field and of arguments; `make fuzz` has the sanitizers.
+subtest 'valgrind' => sub {
+    needs(valgrind => 'valgrind') or return;
+    my %kind = (six => $field, seven => $hash{scrypt}, yes => $hash{yescrypt}, costly => $hostile, locked => '!', empty => '', long => 'a' x 5000, bad => "\$6\$\0");
+    for my $arguments ("file=$file rounds=1000 renew budget=300000000", 'file=/gone', 'rounds=x', 'method=md5crypt debug') {
+        spew($file, join "\n", map { "$_:$kind{$_}" } sort keys %kind);
+        stack($arguments);
+        my @said = map { (pam('example', $_, $right, qw(valgrind -q --leak-check=full --show-leak-kinds=definite --error-exitcode=99), "--log-file=$scratch/valgrind"), logged(), slurp("$scratch/valgrind")) } 'nobody', sort keys %kind;
+        is(join('', grep { /==\d+==/ } @said), '', "valgrind: $arguments");
+    }
+};
+
+# The processor's time of a login, the least of two. On a busy machine it varies; without a hash it is a hundredth.
+subtest 'time' => sub {
+    stack("file=$file");
+    my $ann = crypt $right, '$6$rounds=656000$abcdefghijklmnop';
+    spew($file, "ann:$ann\nlocked:!$ann\nempty:\nyes:$hash{yescrypt}\ncostly:$hostile\nbad:\$7\$\n");
+    my %time = map { my $name = $_; $name => min(map { my $before = (times)[2]; pam('example', $name, 'wrong'); (times)[2] - $before } 1, 2) } qw(ann locked empty yes costly bad nobody);
+    ok($time{ann} > 0.05 && $time{$_} > 0.3 * $time{ann} && $time{$_} < 3 * $time{ann}, "'$_' takes the time of a known name") or diag($time{$_}) for sort keys %time;
+};
+
+done_testing;

@@ -1,0 +1,452 @@
+"""pwhash: what it prints is mkpasswd's, whatever is in the lines, whatever ends it, and whatever fails."""
+import json
+import os
+import pathlib
+import pty
+import random
+import re
+import resource
+import shutil
+import signal
+import subprocess
+import tempfile
+import time
+
+import pytest
+from support import ROOT, libxcrypt, missing
+
+SALTED = "-m sha512crypt -R 20k -S saltsalt".split()
+QUICK = "-m md5crypt -S xxxxxxxx".split()
+
+
+@pytest.fixture
+def place():
+    """A folder that everybody can read, with pwhash and its engine; it is the current one."""
+    place = pathlib.Path(tempfile.mkdtemp())
+    place.chmod(0o755)
+    shutil.copytree(ROOT / "share/pwhash", place / "share/pwhash", ignore=lambda *_: ["__pycache__"])
+    (place / "bin").mkdir()
+    shutil.copy(ROOT / "bin/pwhash", place / "bin")
+    shutil.copy(ROOT / "mkpasswd", place / "bin")
+    before = os.getcwd()
+    os.chdir(place)
+    yield place
+    os.chdir(before)
+    shutil.rmtree(place)
+
+
+def run(*words, stdin=b"", program="bin/pwhash", **options):
+    """Status, output, standard error."""
+    done = subprocess.run([program, *map(str, words)], input=stdin, capture_output=True, start_new_session=True, timeout=120, **options)
+    return done.returncode, done.stdout, done.stderr
+
+
+def mkpasswd(*words, stdin):
+    return run(*words, stdin=stdin, program="bin/mkpasswd")
+
+
+def save(name, data):
+    pathlib.Path(name).write_bytes(data)
+    return name
+
+
+def engine(script):
+    """In mkpasswd's place: its version, and else a script of sh, in which `real` is mkpasswd."""
+    shutil.move("bin/mkpasswd", "bin/real")
+    text = f'#!/bin/sh\nreal() {{ {os.getcwd()}/bin/real "$@"; }}\n[ "$1" != -V ] || {{ echo mkpasswd 9.9.9; exit; }}\n{script}\n'
+    save("bin/mkpasswd", text.encode())
+    os.chmod("bin/mkpasswd", 0o755)
+
+
+def on_terminal(*words, keys=()):
+    """Runs it at a terminal of its own. Returns the status and what the terminal shows."""
+    child, terminal = pty.fork()
+    if not child:
+        os.execv("bin/pwhash", ["bin/pwhash", *words])
+    shown = b""
+    for prompt, key in [*keys, (None, b"")]:
+        while prompt is None or prompt not in shown:
+            try:
+                piece = os.read(terminal, 1000)
+            except OSError:
+                piece = b""
+            shown += piece
+            if not piece:
+                break
+        os.write(terminal, key) if key else None
+        shown = shown if prompt is None else b""
+    os.close(terminal)
+    return os.waitstatus_to_exitcode(os.waitpid(child, 0)[1]), shown.decode()
+
+
+# One password.
+
+
+
+def test_one(place):
+    status, out, err = run(stdin=b"correct horse\nmore\n")
+    assert (status, err) == (0, b"") and out.startswith(b"$6$rounds=656000$")
+    assert libxcrypt("correct horse", out.decode().strip()) == out.decode().strip()
+    assert run(*QUICK, stdin=b"password")[1] == b"$1$xxxxxxxx$UYCIxa628.9qXjpQCjM4a.\n"
+    assert run("-m", "scrypt", "-R", "6", stdin=b"x")[1].startswith(b"$7$BU..../....")
+
+
+@pytest.mark.parametrize("target, text", [
+    ("preseed-root", "d-i passwd/root-password-crypted password HASH"),
+    ("preseed-user", "d-i passwd/user-password-crypted password HASH"),
+    ("kickstart", "rootpw --iscrypted HASH"),
+    ("cloud-init", "#cloud-config\nusers:\n  - name: ann\n    lock_passwd: false\n    hashed_passwd: HASH"),
+    ("ansible", 'password: "HASH"'),
+    ("htpasswd", "ann:HASH"),
+    ("shadow", f"ann:HASH:{int(time.time() // 86400)}:0:99999:7:::")])
+def test_for(place, target, text):
+    out = run(*QUICK, "--for", target, "--name", "ann", stdin=b"password\n")[1].decode()
+    assert out == text.replace("HASH", "$1$xxxxxxxx$UYCIxa628.9qXjpQCjM4a.") + "\n"
+    needs_name = run(*QUICK, "--for", target, "--name", "a:b", stdin=b"x\n")
+    assert needs_name[0] == (2 if "ann" in text else 0)
+
+
+@pytest.mark.parametrize("words, password, said", [
+    ("", b"", "empty"), ("", b"\n", "empty"), ("", b"x\r\n", "carriage return"), ("", b"x" * 1025, "1,024"), ("", b"a\0b", "zero"),
+    ("", b"x" * 1024, "--budget"), ("-m yescrypt", b"x", "--method=yescrypt"), ("-m scrypt -R 12", b"x", "--rounds=12"),
+    ("-R 65x", b"x", "'65x'"), ("-m md5crypt -S 123456789", b"x", "--salt=123456789"), ("--for grub", b"x", "preseed-root")])
+def test_wrong(place, words, password, said):
+    status, out, err = run(*words.split(), stdin=password)
+    assert (status, out) == (2, b"") and said in err.decode()
+
+
+def test_terminal(place):
+    keys = [(b"Password: ", b"secret\n"), (b"Again: ", b"secret\n")]
+    status, shown = on_terminal(*QUICK, keys=keys)
+    assert status == 0 and shown.split()[-1] == libxcrypt("secret", "$1$xxxxxxxx") and "secret" not in shown
+    assert on_terminal(*QUICK, keys=[keys[0], (b"Again: ", b"other\n")])[0] == 2
+    status, shown = on_terminal("--generate", *QUICK)
+    password, made = shown.split()[-2:]
+    assert len(password) == 20 and made == libxcrypt(password, "$1$xxxxxxxx")
+    assert run("--generate", *QUICK)[0] == 3
+
+
+def test_help(place):
+    for words in [], ["file"], ["check"], ["audit"]:
+        status, out, _ = run(*words, "--help")
+        assert status == 0 and b"--method" in out and b"--budget" in out
+
+
+# Lines.
+
+
+def hostile_lines(count, seed=1):
+    """Lines of batches: passwords, each kind of refusal, long lines, what looks like an answer."""
+    rare = random.Random(seed)
+    odd = [b"", b":", b":x", b"no colon", b"n" * 64 + b":x", b"n" * 65 + b":x", b"n" * 2049, b"n:" + b"p" * 1024, b"n:" + b"p" * 1025,
+           b"n:" + b"p" * 2047, b"n:" + b"p" * 70000, b"n:a\0b", b"\0:a", b"n::", b"n:a\r", b"\xff:\xfe", b" ", b"mkpasswd: line 3: no name",
+           b"mkpasswd: out of memory", b"mkpasswd:no", b"a:ok", b"a:$1$x$y", b"\x1b[2J:x"]
+    return b"\n".join(rare.choice(odd) if rare.random() < 0.3 else b"user%d:password%d" % (n, n) for n in range(count))
+
+
+def hostile_fields(count):
+    rare, made = random.Random(2), b"$1$xxxxxxxx$UYCIxa628.9qXjpQCjM4a."
+    fields = [made, b"", b"!", b"*", b"!" + made, b"x" * 385, b"$1$a b", b"$2b$10$x", b"$5$rounds=0$a", b"$7$E/..../....a", made[:-1], made + b"$x",
+              b"$6$rounds=999999999$a$b", b"_abc", b"abcdefghijklm", b"$y$x", b"secret", b"$1$", b"\xff"]
+    lines = hostile_lines(count, 3).split(b"\n")
+    return b"\n".join(line if rare.random() < 0.1 else b"u%d:%b:password" % (n, rare.choice(fields)) for n, line in enumerate(lines))
+
+
+@pytest.mark.parametrize("words", [QUICK, "-m md5crypt".split(), "--rehash -m sha256crypt -R 1000 -S ab".split()],
+                         ids=["file", "check", "rehash"])
+def test_hostile_lines(place, words):
+    """The same bytes as one mkpasswd on 40,000 lines."""
+    command, mode, lines = ("file", "--batch", hostile_lines(40000)) if words == QUICK else ("check", "--check", hostile_fields(40000))
+    words = [*words, "--budget=300000"]
+    alone = mkpasswd(mode, *words, stdin=lines)
+    more = ["--accept-doubtful", "--skip-refused"] * (command == "file")
+    same = run(command, *words, stdin=lines) == alone
+    assert same
+    same = run(command, *words, *more, save("lines", lines))[:2] == alone[:2]
+    assert same
+
+
+def test_streams(place):
+    """Each answer comes as soon as it is there."""
+    child = subprocess.Popen(["bin/pwhash", "file", *QUICK], stdin=subprocess.PIPE, stdout=subprocess.PIPE, bufsize=0)
+    for name in b"ann", b"bob":
+        child.stdin.write(name + b":password\n")
+        assert child.stdout.readline() == name + b":$1$xxxxxxxx$UYCIxa628.9qXjpQCjM4a.\n"
+    child.stdin.close()
+    assert child.wait() == 0
+
+
+def test_look_first(place):
+    lines = b"ann:x\nbob:\n:secret\nnameless secret\ncarl:x\r\nann:y\n \xff:z\nlong:" + b"p" * 300 + b"\n"
+    status, out, err = run("file", *SALTED, "--budget", "3000000", save("lines", lines), "-o", "out")
+    assert (status, out) == (1, b"") and sorted(os.listdir()) == ["bin", "lines", "share"] and b"secret" not in err
+    said = err.decode()
+    for number, name, reason in [(2, "bob", "empty"), (3, "", "no name"), (4, "", "no password field"), (5, "carl", "carriage return"),
+                                 (6, "ann", "before"), (7, "\\xff", "UTF-8"), (8, "long", "over budget")]:
+        assert any(f"line {number}" in line and name in line and reason in line for line in said.split("\n")), (number, said)
+    words = ["file", *SALTED, "--budget", "3000000", "lines", "-o", "out"]
+    assert run(*words, "--skip-refused")[0] == run(*words, "--accept-doubtful")[0] == 1 and not os.path.exists("out")
+    assert run(*words, "--skip-refused", "--accept-doubtful")[0] == 1
+    assert [line.split(b":")[0] for line in open("out", "rb")] == [b"ann", b"bob", b"carl", b"ann", b" \xff"]
+    assert os.stat("out").st_mode & 0o777 == 0o600
+    assert run(*words)[0] == 2 and b"there already" in run(*words)[2]
+
+
+@pytest.mark.parametrize("service, names", [
+    ("apache", [" ann", "\tann", "#ann", "ann\0b"]), ("nginx", ["#ann"]), ("dovecot", ["Ann", "#a"]), ("ldap", ["Ann", " ann", "a,b", "ann "])])
+def test_services(place, service, names):
+    """A name that a service reads as somebody else's, such as Apache one with a blank in front, is never hashed unasked."""
+    for name in names:
+        status, _, err = run("file", *QUICK, "--for", service, save("lines", name.encode() + b":x\n"), "-o", "out")
+        assert status == 1 and b"service" in err and not os.path.exists("out")
+    assert run("file", *QUICK, "--for", service, save("lines", b"ann-1:x\n"), "-o", "out")[0] == 0
+
+
+def test_windows_and_tables(place):
+    expected = b"ann:$1$xxxxxxxx$UYCIxa628.9qXjpQCjM4a.\nbob:$1$xxxxxxxx$UYCIxa628.9qXjpQCjM4a.\n"
+    save("windows", b"\xef\xbb\xbfann:password\r\nbob:password\r\n")
+    save("excel.csv", b'\xef\xbb\xbfRoom;Password;Name\r\n1;"password";ann\r\n\r\n2;password;bob\r\n')
+    save("bare.csv", b"ann,password\nbob,password\n")
+    assert run("file", *QUICK, "windows")[0] == 1
+    assert run("file", *QUICK, "windows", "--windows") == (0, expected, b"")
+    assert run("file", *QUICK, "excel.csv", "--csv", "--delimiter", ";") == (0, expected, b"")
+    assert run("file", *QUICK, "bare.csv", "--csv", "--columns", "1,2") == (0, expected, b"")
+    status, _, err = run("file", *QUICK, "bare.csv", "--csv")
+    assert status == 2 and b"--columns" in err and b"password\"" not in err
+    for text in b'name,password\n"a:b",x\n', b'name,password\na,"x\ny"\n', b'name,password\n"a,x\n':
+        assert run("file", *QUICK, "--csv", save("bad.csv", text))[0] == 3
+
+
+# Interruptions.
+
+
+def begun(name="out.part", lines=0):
+    return os.path.exists(name) and open(name, "rb").read().count(b"\n") >= lines
+
+
+def test_interrupted(place):
+    """Forty signals at any moment, and workers that are killed. The command that it prints goes on, as it stands."""
+    lines = b"".join(b"user%d:password%d\n" % (n, n) if n % 17 else b"no colon\n" for n in range(300))
+    save("my lines", lines)
+    expected = mkpasswd("--batch", *SALTED[:3], "20000", *SALTED[4:], stdin=lines)[1]
+    first = "bin/pwhash file -m sha512crypt -R 20k -S saltsalt 'my lines' -o out --skip-refused"
+    rare, command, sent, finished = random.Random(5), first, 0, 0
+    while sent < 40 or not finished:
+        child = subprocess.Popen(["sh", "-c", "exec " + command], stderr=subprocess.PIPE, start_new_session=True)
+        goal = len(open("out.part", "rb").read()) + rare.randrange(6000) if os.path.exists("out.part") else rare.randrange(6000)
+        number = rare.choice([signal.SIGINT, signal.SIGTERM, signal.SIGHUP, signal.SIGKILL])
+        while child.poll() is None and sent < 40:
+            if os.path.exists("out.part") and os.path.getsize("out.part") >= goal:
+                for each in subprocess.run(["pgrep", "-P", str(child.pid)], capture_output=True).stdout.split()[:1]:
+                    subprocess.run(["kill", "-9", each], stderr=subprocess.DEVNULL)
+                child.send_signal(number)
+                sent += 1
+                break
+            time.sleep(0.01)
+        said, status = child.communicate()[1].decode(), child.returncode
+        if os.path.exists("out"):
+            assert open("out", "rb").read() == expected
+            os.remove("out")
+            command, finished = first, finished + 1
+        else:
+            assert status == -number and expected.startswith(open("out.part", "rb").read().rpartition(b"\n")[0])
+            command = said.split("To go on:\n")[1].strip() if number != signal.SIGKILL else first + " --resume"
+            assert " --resume" in command
+
+
+def test_resume_refuses(place):
+    lines = b"ann:x\nno colon\nbob:y\ncarl:z\n"
+    save("lines", lines)
+    made = mkpasswd("--batch", *QUICK, stdin=lines)[1].split(b"\n")
+    words = ["file", *QUICK, "lines", "-o", "out", "--resume", "--skip-refused"]
+    for part, status in [(made[0] + b"\n", 1), (made[0] + b"\n" + made[1][:30], 1), (b"", 1), (b"\n".join(made), 1),
+                         (made[1] + b"\n", 2), (b"ann:$1$xxxxxxxx$wrong\n", 2), (b"\n".join([*made, b"x"]), 2), (b"Welcome!\n", 2)]:
+        save("out.part", part)
+        assert run(*words)[0] == status, part
+        assert os.path.exists("out") == (status == 1)
+        if status == 1:
+            assert open("out", "rb").read() == b"\n".join(made)
+            os.remove("out")
+    save("out.part", made[0] + b"\n")
+    assert run(*words[:-2], "--skip-refused")[0] == 2      # without --resume
+    assert run("file", "-m", "sha256crypt", "lines", "-o", "out", "--resume", "--skip-refused")[0] == 2
+    time.sleep(0.05)
+    save("lines", lines)
+    assert run(*words)[0] == 2      # the input is newer
+    os.remove("out.part")
+    assert run(*words)[0] == 2 and run(*words[:4], "-o", "out", "--resume")[0] != 0
+
+
+def test_two_runs(place):
+    save("lines", b"".join(b"user%d:x\n" % n for n in range(200)))
+    words = ["file", *SALTED, "lines", "-o", "out"]
+    child = subprocess.Popen(["bin/pwhash", *words])
+    while not begun():
+        time.sleep(0.01)
+    assert run(*words)[0] == 2 and run(*words, "--resume")[0] == 2
+    assert child.wait() == 0 and open("out", "rb").read().count(b"\n") == 200
+
+
+def test_several_machines(place):
+    """GUIDE's recipe, with this machine as the only one: pwhash completes what GNU parallel made."""
+    if not shutil.which("parallel"):
+        missing("parallel is missing (Debian package parallel)")
+    recipe = re.search("<!-- tested: several machines -->\n```sh\n(.*?)```", (ROOT / "docs/GUIDE.md").read_text(), re.S)[1]
+    recipe = recipe.replace("-R 656000", "-R 1000").replace("pwhash file", "cut=$(wc -c < hashes.part); truncate -s $((cut / 2)) hashes.part; pwhash file -R 1000")
+    save("hosts", b"2/:\n")
+    save("passwords", b"".join(b"user%d:password%d\n" % (n, n) for n in range(1500)))
+    env = dict(os.environ, PATH=f"{place}/bin:{os.environ['PATH']}", HOME=str(place))
+    status, _, err = run("-euc", recipe, program="/bin/sh", env=env)
+    hashes = pathlib.Path("hashes").read_text().split("\n")[:-1]
+    assert status == 0 and len(hashes) == 1500, err
+    for n in 0, 700, 1499:
+        assert hashes[n] == f"user{n}:" + libxcrypt(f"password{n}", hashes[n].partition(":")[2])
+
+
+# Stored hashes.
+
+
+def test_known_passwords(place):
+    save("shadow", b"ann:%b:1:::\nbob:%b:1:::\neve:!:1:::\nann:*:1\n" % ((b"$1$xxxxxxxx$UYCIxa628.9qXjpQCjM4a.",) * 2))
+    save("list", b"ann:password\nbob:other\neve:x\nnobody:x\nann:second\n")
+    status, out, err = run("check", "--shadow", "shadow", "list")
+    assert (status, out) == (1, b"ann:ok\nbob:no\neve:locked\nann:no\n") and b"1 lines" in err
+    words = ["check", "--shadow", "shadow", "--rehash", "-m", "sha256crypt", "-R", "2000", "-S", "ab", "list"]
+    assert run(*words, "-o", "new")[:2] == (1, b"")
+    assert open("new").read() == "ann:" + libxcrypt("password", "$5$rounds=2000$ab") + "\n"
+
+
+SHADOW = (b"ann:$6$rounds=656000$abcdefgh$" + b"a" * 85 + b".:1:::\nbob:$6$rounds=656000$abcdefgh$short:1:::\nold:$1$xxxxxxxx$UYCIxa628.9qXjpQCjM4a.:1:::\n"
+          b"eve:$6$rounds=999999999$a$b:1:::\nopen::1:::\nshut:!:1:::\nshut2:!$1$xxxxxxxx$UYCIxa628.9qXjpQCjM4a.:1:::\n"
+          b"mal:$6$rounds=x$a$b:1:::\nbare:secret:1:::\ny:$y$j9T$a$b:1:::\n\x1b[2J:!:1:::\nsecret line\n")
+
+
+def test_audit(place):
+    save("shadow", SHADOW)
+    status, out, err = run("audit", "shadow")
+    rows = [" ".join(line.split()) for line in out.decode().split("\n")]
+    assert (status, err) == (1, b"") and rows[:13] == [
+        "NAME METHOD ROUNDS FINDING", "ann sha512crypt 656000 current", "bob sha512crypt 656000 dead", "old md5crypt 1000 outdated",
+        "eve sha512crypt 999999999 over budget", "open none", "shut locked", "shut2 locked", "mal malformed bad rounds", "bare no scheme",
+        "y yescrypt unknown", "\\x1b[2J locked", "line 12 refused no password field"]
+    assert any(row.startswith("3 locked") for row in rows) and b"secret" not in out
+    found = [json.loads(line) for line in run("audit", "--json", "--only-problems", "--locked", "shadow")[1].split(b"\n")[:-1]]
+    assert [each["name"] for each in found] == ["bob", "old", "eve", "open", "shut2", "mal", "bare", "line 12"]
+    assert found[1]["rounds"] == 1000 and found[5]["message"] == "bad rounds"
+    assert run("audit", "--only-problems", stdin=b"", program="bin/pwhash")[0] in (0, 1)      # of /etc/shadow
+    assert run("audit", "--only-problems", save("fine", SHADOW.split(b"\n")[0] + b"\n")) == (0, b"", b"")
+
+
+# What fails.
+
+
+@pytest.mark.parametrize("call, when", [
+    ("memfd_create:error=EMFILE", 1), ("memfd_create:error=ENOMEM", 6), ("pipe2:error=EMFILE", 3), ("vfork,clone,clone3:error=EAGAIN", 3),
+    ("vfork,clone,clone3:error=ENOMEM", 8), ("poll:error=ENOMEM", 2), ("flock:error=EIO", 1), ("fsync:error=EIO", 1), ("fsync:error=ENOSPC", 1),
+    ("rename:error=ENOSPC", 1), ("rename:error=EACCES", 1), ("chmod:error=EPERM", 1)])
+def test_system_calls(place, call, when):
+    """Status 3, a sentence, and no OUT, whichever call the system refuses."""
+    if not shutil.which("strace"):
+        missing("strace is missing (Debian package strace)")
+    save("lines", b"".join(b"user%d:x\n" % n for n in range(40)))
+    words = ["-qq", "-o", "/dev/null", "-e", f"inject={call}:when={when}+", "/usr/bin/python3", "-I", "bin/pwhash", "file", *SALTED, "lines", "-o", "out"]
+    status, out, err = run(*words, program="strace")
+    assert (status, out) == (3, b"") and err.startswith(b"pwhash: ") and not os.path.exists("out"), err
+
+
+@pytest.mark.parametrize("words", [["file", *QUICK], ["check"], ["audit"], []])
+def test_full_and_closed(place, words):
+    lines = b"ann:!:x\n" * 3
+    for redirected in "> /dev/full", ">&-", "<&-", "< .":
+        status, _, err = run("-c", f'exec bin/pwhash "$@" {redirected}', "sh", *words, *["-"] * (words == ["audit"]), stdin=lines, program="/bin/sh")
+        assert status == 3 and err.startswith(b"pwhash: "), (redirected, err)
+    limited = dict(preexec_fn=lambda: resource.setrlimit(resource.RLIMIT_FSIZE, (300, 300)))
+    if words[:1] == ["file"]:
+        save("lines", b"".join(b"user%d:x\n" % n for n in range(40)))
+        status, _, err = run(*words, "lines", "-o", "out", **limited)
+        assert status == 3 and b"--resume" in err and not os.path.exists("out")
+        assert run(*words, "lines", "-o", "out", "--resume")[0] == 0
+
+
+def test_a_reader_that_ends(place):
+    """Its status is 3, as that of a full disk."""
+    child = subprocess.Popen(["bin/pwhash", "file", *QUICK], stdin=subprocess.PIPE, stdout=subprocess.PIPE, stderr=subprocess.PIPE)
+    child.stdout.close()
+    assert b"standard output" in child.communicate(b"ann:x\n")[1] and child.returncode == 3
+
+
+@pytest.mark.parametrize("script", [
+    "echo 'mkpasswd: out of memory'; exit 3", "exit 3", "exit 0", "exit 1", "kill -9 $$", "kill -11 $$", "cat; exit 0", "echo Welcome!; real \"$@\"",
+    "real \"$@\" 2>&1 | sed 's/^bob/ann/'", "real \"$@\" 2>&1 | sed 's/line 1/line 7/'", "real \"$@\" 2>&1 | sed 's/$/\\r/'", "real \"$@\" 2>&1 | sed 1d", "yes mkpasswd",
+    "real \"$@\" 2>&1 | sed 's/:\\$1/:$1 /'", "real \"$@\" 2>&1 | tr '\\n' ' '", "real \"$@\"; exit 4", "real \"$@\"; echo more"])
+def test_engines(place, script):
+    """An engine that fails or lies ends the run."""
+    engine(script)
+    status, out, err = run("file", *QUICK, stdin=b"ann:x\nbob:y\ncarl:z\n")
+    assert status == 3 and err.startswith(b"pwhash: ") and out in (b"", b"ann:" + libxcrypt("x", "$1$xxxxxxxx").encode() + b"\n")
+
+
+def test_finds_its_engine(place):
+    os.rename("bin/mkpasswd", "bin/mkpasswd.proved")
+    assert run(*QUICK, stdin=b"x")[0] == 0
+    os.mkdir("elsewhere")
+    os.rename("bin/mkpasswd.proved", "elsewhere/mkpasswd.proved")
+    assert run(*QUICK, stdin=b"x", env={"PATH": f"{place}/elsewhere"})[0] == 0
+    save("bin/mkpasswd", b"#!/bin/sh\necho mkpasswd 5.5.17; echo; echo \"Copyright (C) Marco d'Itri\"\n")
+    os.chmod("bin/mkpasswd", 0o755)
+    status, _, err = run(*QUICK, stdin=b"x", env={"PATH": "/nowhere"})
+    assert status == 3 and b"whois" in err and b"bin/mkpasswd" in err
+
+
+@pytest.mark.parametrize("limit", [resource.RLIMIT_AS, resource.RLIMIT_NOFILE])
+def test_limits(place, limit):
+    """Short of memory or descriptors the status is 3, or all is done. Never is it 1, as if a line had been refused."""
+    seen = set()
+    lines = b"".join(b"user%d:x\n" % n for n in range(50))
+    expected = mkpasswd("--batch", *QUICK, stdin=lines)
+    for most in [n << 20 for n in range(1, 60, 1)] if limit == resource.RLIMIT_AS else range(1, 40):
+        status, out, _ = run("file", *QUICK, stdin=lines, preexec_fn=lambda: resource.setrlimit(limit, (most, most)))
+        assert status != 1 and (status or out == expected[1]), most
+        seen.add(status)
+    assert {0, 3} <= seen
+
+
+def test_limit_of_processes(place):
+    """It doesn't wait for ever where no process can be started."""
+    if os.getuid():
+        missing("only the superuser can become somebody without processes")
+    def nobody(most):
+        resource.setrlimit(resource.RLIMIT_NPROC, (most, most))
+        os.setgid(65534)
+        os.setuid(65534)
+    seen = [run("file", *QUICK, stdin=b"ann:x\nbob:y\n", preexec_fn=lambda: nobody(most))[0] for most in range(1, 9)]
+    assert set(seen) == {0, 3} and seen[0] == 3
+
+
+def test_inherited_state(place):
+    """Ignored and blocked signals, a hostile environment and folder."""
+    for name in "os.py", "csv.py", "command.py", "json.py":
+        save(name, b"raise SystemExit(0)\n")
+    def state():
+        signal.signal(signal.SIGCHLD, signal.SIG_IGN)
+        signal.signal(signal.SIGPIPE, signal.SIG_IGN)
+        signal.pthread_sigmask(signal.SIG_BLOCK, range(1, 32))
+    env = {"PATH": "/nowhere", "PYTHONPATH": str(place), "PYTHONSTARTUP": "os.py", "LC_ALL": "xx", "PYTHONHASHSEED": "x", "COLUMNS": "1"}
+    lines = b"ann:password\nx\n"
+    assert run("file", *QUICK, stdin=lines, preexec_fn=state, env=env) == mkpasswd("--batch", *QUICK, stdin=lines)
+
+
+def test_progress(place):
+    """In place on the terminal, even if both outputs go elsewhere; the way to resume too."""
+    save("lines", b"".join(b"user%d:x\n" % n for n in range(1500)))
+    child, terminal = pty.fork()
+    if not child:
+        os.execv("/bin/sh", ["sh", "-c", "exec bin/pwhash file -R 20k -m sha512crypt lines -o out > log 2> refused"])
+    shown = b""
+    while b"left" not in shown:
+        shown += os.read(terminal, 1000)
+    os.kill(child, signal.SIGINT)
+    while b"--resume" not in shown:
+        shown += os.read(terminal, 1000)
+    os.waitpid(child, 0)
+    assert b" of 1,500 lines" in shown and b" %" in shown and b"%" not in pathlib.Path("refused").read_bytes()
