@@ -121,7 +121,7 @@ FILTERS = {
     "verdicts": "{{ vaulted | mkpasswd_verify(stored) }} {{ 'passw0rd' | mkpasswd_verify(stored) }}",
     "refused": "{{ 's3cret\0' | mkpasswd_hash }}",
     "number": "{{ 5 | mkpasswd_hash }}",
-    "recommended": "{{ (fresh | mkpasswd_verify(fresh_hash)) and (fresh | mkpasswd_hash(current=fresh_hash)) == fresh_hash }}",
+    "recommended": "{{ fresh | mkpasswd_verify(fresh_hash) }} {{ (fresh | mkpasswd_hash(current=fresh_hash)) == fresh_hash }}",
     "long": "{{ ('x' * 169) | mkpasswd_hash }}",
 }
 
@@ -148,6 +148,6 @@ def test_recipe_of_ansible(tmp_path):
         *(("relocked", "password", "$1$"), ("replaced", "password", "$1$")),
     ):
         assert said[name].startswith(front) and mkpasswd.verify(word, field=said[name]), name
-    assert said["recommended"] == "True" and "more than 253921472" in said["long"]
+    assert said["recommended"] == "True True" and "more than 253921472" in said["long"]
     assert "rounds must be 1000 to 999999999, or 0 for 656000" in said["weak"]
     assert "password has a zero byte" in said["refused"] and "must be str or bytes, not int" in said["number"]

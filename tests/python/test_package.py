@@ -54,7 +54,7 @@ import mkpasswd
 from mkpasswd import crypt
 policy = mkpasswd.Policy("scrypt", 6, budget=2**42)
 stored: str = policy.hash(b"x")
-matches, new = policy.login("x", field=None)
+matches, new = result = policy.login("x", field=None)
 is_match: bool = mkpasswd.verify("x", field=new or stored) and mkpasswd.needs_rehash(stored)
 print(mkpasswd.cost(stored, 1), crypt.crypt("x", crypt.methods[0]), mkpasswd.describe(stored).state == "dead")
 """
@@ -75,6 +75,10 @@ mkpasswd.verify_and_update("x", stored)
 mkpasswd.crypt("x", stored)
 mkpasswd.mksalt()
 if mkpasswd.describe(stored).state == "ok": pass
+if result is False: print("no")
+if result is None: print("no")
+if result == 0: print("no")
+if mkpasswd.login: pass
 """
     user.write_text(right + wrong)
     status, said = ended(*mypy, "--warn-unreachable", user, env=dict(os.environ, MYPYPATH=str(ROOT / "python/src")))

@@ -26,7 +26,7 @@ import logging
 import re
 import sys
 from dataclasses import dataclass
-from typing import TYPE_CHECKING, Any, Callable, Dict, Iterator, Literal, NamedTuple, Optional, Tuple, TypeVar, cast
+from typing import TYPE_CHECKING, Any, Callable, Dict, Iterator, Literal, NamedTuple, Optional, Tuple, TypeVar, cast, final
 
 from . import _calls
 from ._calls import Refused, Text, TooCostly
@@ -66,6 +66,7 @@ _OLD_SCHEME = re.compile(rb"_|[./0-9A-Za-z]{13}\Z")
 _LOG = logging.getLogger("mkpasswd")
 
 
+@final
 class Verdict:
     """What login() returns: (matches, new), which is true exactly if the password matches.
 
@@ -82,11 +83,14 @@ class Verdict:
     def __bool__(self) -> bool:
         return self.matches
 
-    def __eq__(self, other: object) -> bool:
-        if isinstance(other, (tuple, Verdict)):
-            return tuple(self) == tuple(other)
-        # None counts as False, since whoever writes `== None` means a no.
-        return self.matches == (other is not None and other)
+    # mypy doesn't know this, and so finds `is False` and the like, which are wrong.
+    if not TYPE_CHECKING:
+
+        def __eq__(self, other):
+            if isinstance(other, (tuple, Verdict)):
+                return tuple(self) == tuple(other)
+            # None counts as False, since whoever writes `== None` means a no.
+            return self.matches == (other is not None and other)
 
     def __iter__(self) -> Iterator[Any]:
         return iter((self.matches, self.new))
@@ -151,8 +155,8 @@ class Policy:
 
     `budget` is the most that a hash may cost, as cost() counts it: the bytes that are digested, and for scrypt those that
     are mixed. None stands for twice what a new hash costs with a password of 64 bytes, and at least for 150,000,000. For
-    the recommended policy that is 253,921,472, on one core of 2.5 GHz 1.7 seconds of sha512crypt; it admits passwords of up to 168 bytes,
-    and 1,300,000,000 all of them.
+    the recommended policy that is 253,921,472, on one core of 2.5 GHz 1.7 seconds of sha512crypt; it admits passwords of
+    up to 168 bytes, and 1,300,000,000 all of them.
 
     Raises TypeError, also for a float or a bool; ValueError for other rounds of SHA-crypt and a budget below 1; Refused
     for an unknown method or rounds that scrypt does not take.
