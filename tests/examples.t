@@ -152,7 +152,8 @@ subtest 'administration' => sub {
     $accounts->(ann => '!', bob => '!', eve => '!');
     spew("$folder/passwords", "ann:password\nbob:" . 'x' x 169 . "\nsecret\neve:password\n:secret\n" . 'secret' x 11 . "\n");
     my $loaded = $recipe->('good lines');
-    is_run({ %$loaded, err => join '', $loaded->{err} =~ /line \d|secret/g }, 0, '', 'line 3line 5line 6line 2', 'the others are shown, without passwords');
+    # A password of 169 bytes is one byte too long for the default budget.
+    is_run({ %$loaded, err => join ' ', sort $loaded->{err} =~ /line \d|secret/g }, 0, '', 'line 2 line 3 line 5 line 6', 'the others are shown, without passwords');
     ok($is_made->($line_of->($_), 'password', $changed), "good lines: $_ has a new password") for qw(ann eve);
     is($line_of->('bob'), "bob:!$aged", 'good lines: bob has none');
 
