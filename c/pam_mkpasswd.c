@@ -23,7 +23,7 @@
 struct options {
     const char *file; /* NULL for the system's own */
     uint32_t method, rounds;
-    uint64_t budget;
+    uint64_t budget, limit; /* limit is what the budget admits, also where it is MKPASSWD_TWICE */
     int is_renewing, is_debugging;
 };
 
@@ -42,7 +42,7 @@ static int read_options(pam_handle_t *pam, int count, const char **given, struct
     struct mkpasswd_report report;
     char message[MKPASSWD_TEXT_SIZE], password[65] = "";
 
-    *options = (struct options){NULL, MKPASSWD_SHA512CRYPT, 0, MKPASSWD_TWICE, 0, 0};
+    *options = (struct options){NULL, MKPASSWD_SHA512CRYPT, 0, MKPASSWD_TWICE, 0, 0, 0};
     for (; count > 0; count--, given++) {
         const char *digits = strlen(*given) > 7 && strlen(*given) < 26 ? *given + 7 : "-";
         uint64_t number = digits[strspn(digits, "0123456789")] ? UINT64_MAX : strtoull(digits, NULL, 10);
@@ -70,7 +70,8 @@ static int read_options(pam_handle_t *pam, int count, const char **given, struct
     memset(password, 'x', sizeof password - 1);
     if (mkpasswd_new_str(password, options->method, options->rounds, options->budget, NULL, 0, &report)
         || report.reason == MKPASSWD_REFUSED_TOO_FEW_BYTES)
-        return 1;
+        return options->limit = options->budget ? options->budget
+            : report.cost > MKPASSWD_BUDGET / 2 ? 2 * report.cost : MKPASSWD_BUDGET, 1;
     mkpasswd_words_str(report.reason, message, sizeof message);
     return pam_syslog(pam, LOG_ERR, "invalid arguments: %s", message), 0;
 }
@@ -143,19 +144,6 @@ static void renew(pam_handle_t *pam, const char *file, const char *name, const c
         close(lock);
 }
 
-/* Returns what a login may cost, in bytes. */
-static uint64_t limit_of(const struct options *options)
-{
-    struct mkpasswd_report report;
-    char setting[MKPASSWD_TEXT_SIZE];
-
-    if (options->budget != MKPASSWD_TWICE
-        || !mkpasswd_setting_str(options->method, options->rounds, 0, 0, 0, setting, sizeof setting, NULL)
-        || !mkpasswd_bound_str(setting, 64, &report))
-        return options->budget;
-    return 2 * report.cost > MKPASSWD_BUDGET ? 2 * report.cost : MKPASSWD_BUDGET;
-}
-
 /* Logs why no password can match the field; what an administrator may want so, only for debugging. It asks for the empty
  * password with the least budget: nothing is hashed, and the log says nothing of the password that was given. Returns 1 if the
  * scheme may be one of crypt(3): bsdicrypt, descrypt, or $ and what begins none of our own. Any other unknown one is damaged. */
@@ -168,13 +156,15 @@ static int is_foreign(pam_handle_t *pam, const struct options *options, const st
         || (field->bytes[0] == '$' && field->len > 1 && !memchr("1567", field->bytes[1], 4)));
     int is_usual = is_foreign || report.reason == MKPASSWD_NO_HASH || report.reason == MKPASSWD_LOCKED;
 
+    if (report.reason == MKPASSWD_OVER_BUDGET && report.cost <= options->limit
+        && (mkpasswd_audit(field->bytes, field->len, options->method, options->rounds, UINT64_MAX, &report)
+            || report.reason != MKPASSWD_DEAD))
+        return 0;
     mkpasswd_words_str(report.reason, message, sizeof message);
-    if ((report.reason == MKPASSWD_OVER_BUDGET && report.cost <= limit_of(options)) || (is_usual && !options->is_debugging))
+    if (is_usual && !options->is_debugging)
         return is_foreign;
-    if (options->file)
-        pam_syslog(pam, is_usual ? LOG_DEBUG : LOG_WARNING, "%s: line %lu: %s", options->file, field->line, message);
-    else
-        pam_syslog(pam, is_usual ? LOG_DEBUG : LOG_WARNING, "shadow: %s", message);
+    options->file ? pam_syslog(pam, is_usual ? LOG_DEBUG : LOG_WARNING, "%s: line %lu: %s", options->file, field->line, message)
+                  : pam_syslog(pam, is_usual ? LOG_DEBUG : LOG_WARNING, "shadow: %s", message);
     return is_foreign;
 }
 

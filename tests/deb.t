@@ -1,14 +1,14 @@
 #!/usr/bin/env perl
 # Builds the Debian packages and tries them in roots of Debian 12 and 13, which have no toolchain: the same bytes in another
-# clone, the code that was proved, lintian, the packages' own tests; and beside whois, whose mkpasswd has to come back whenever
-# ours goes, with nothing of ours left.
+# clone, the code that was proved, lintian, the packages' own tests; and beside whois, whose mkpasswd it stays, but for
+# mkpasswd-default, and comes back whenever that goes, with nothing of ours left and nothing of an administrator's touched.
 use strict;
 use warnings;
 use FindBin qw($Bin);
 use lib "$Bin/lib";
 use Suite;
 
-my @packages = qw(libmkpasswd-dev libmkpasswd2 libpam-mkpasswd mkpasswd pwhash python3-mkpasswd);
+my @packages = qw(libmkpasswd-dev libmkpasswd2 libpam-mkpasswd mkpasswd mkpasswd-default pwhash python3-mkpasswd);
 # All but ours that the trials need. The lists of the mirror stay in the roots, since it is asked for whois again.
 my @tried = qw(autopkgtest bash-completion dpkg-dev gcc libc6-dev lintian libpam-pwdfile man-db pamtester parallel pkgconf python3 sse4.2-support whois);
 my @suites = qw(bookworm trixie);
@@ -58,13 +58,32 @@ sub works {
     return is($run->{status}, 0, $name) || diag("$run->{out}$run->{err}");
 }
 
-# A package of mkpasswd in which something is changed, in the folder /NAME of a root. It never stands in /debs.
+# One of the packages in which something is changed, in the folder /NAME of a root. It never stands in /debs.
 sub changed {
-    my ($place, $name, $script) = @_;
-    output_of('sh', '-euc', 'mkdir "$2"; dpkg-deb -R "$1" "$2/tree"; cd "$2/tree/DEBIAN"; eval "$3"; dpkg-deb -b "$2/tree" "$2/mkpasswd.deb"',
-        'sh', glob("$scratch/debs/mkpasswd_*.deb"), "$place/$name", $script);
-    return "/$name/mkpasswd.deb";
+    my ($place, $package, $name, $script) = @_;
+    output_of('sh', '-euc', 'mkdir "$2"; dpkg-deb -R "$1" "$2/tree"; cd "$2/tree/DEBIAN"; eval "$3"; dpkg-deb -b "$2/tree" "$2/changed.deb"',
+        'sh', glob("$scratch/debs/${package}_*.deb"), "$place/$name", $script);
+    return "/$name/changed.deb";
 }
+
+# What 1.3.0 did: the package mkpasswd had the three names itself.
+my $as_before = <<'SCRIPT';
+sed -i 's/^Version: .*/Version: 1.2.9/; /^Breaks:/d' control
+rm postinst
+cat > preinst <<'PREINST'
+#!/bin/sh
+set -e
+divert() { dpkg-divert --package mkpasswd --rename --divert "/usr/$2" --add "/usr/$1"; }
+divert bin/mkpasswd bin/mkpasswd.whois
+divert share/man/man1/mkpasswd.1.gz share/man/man1/mkpasswd.whois.1.gz
+divert share/bash-completion/completions/mkpasswd share/bash-completion/completions/mkpasswd.bash.whois
+PREINST
+chmod 755 preinst
+cd ../usr
+mv bin/mkpasswd.proved bin/mkpasswd
+mv share/man/man1/mkpasswd.proved.1.gz share/man/man1/mkpasswd.1.gz
+mv share/bash-completion/completions/mkpasswd.proved share/bash-completion/completions/mkpasswd
+SCRIPT
 
 output_of("$root/tools/deb", "$scratch/debs");
 my %deb = map { m{([^/_]+)_[^/]*$} => $_ } glob "$scratch/debs/*";
@@ -96,7 +115,7 @@ subtest 'content' => sub {
     my @dead = grep { !-e "$pages/$_" } map { slurp($_) =~ /(?:href|src)="(?![a-z]+:|#)([^"#]+)/g } glob "$pages/*.html";
     is("@dead", '', 'each link of the pages leads to a file');
     my $libraries = 'libmkpasswd2/usr/lib/x86_64-linux-gnu';
-    for (['mkpasswd', 'mkpasswd/usr/bin/mkpasswd'], ['libmkpasswd.so.2', "$libraries/libmkpasswd.so.2"],
+    for (['mkpasswd', 'mkpasswd/usr/bin/mkpasswd.proved'], ['libmkpasswd.so.2', "$libraries/libmkpasswd.so.2"],
         [$newer, "$libraries/glibc-hwcaps/x86-64-v3/libmkpasswd.so.2"]) {
         my ($file, $packed) = @$_;
         my @code = map { run('objcopy', qw(-O binary -j .text -j .rodata), $_, "$scratch/code"); slurp("$scratch/code") } "$root/$file", "$scratch/content/$packed";
@@ -109,58 +128,70 @@ for my $suite (@suites) {
         my $place = "$scratch/$suite";
         output_of('cp', '-R', "$scratch/debs", "$place/debs");
         my $apt = 'apt-get -q -y --no-install-recommends';
-        my $upgrade = changed($place, 'newer', 'sed -i "s/^Version: .*/&.1/" control');
-        my $broken = changed($place, 'broken', 'echo "exit 1" >> preinst');
-        works($place, 'lintian --pedantic --info --fail-on error,warning /debs/*.deb', 'lintian has no error and no warning') if $suite eq $suites[0];
-        # Whose the three files are that both packages have, how many stand aside, and how many are diverted.
-        my $is_held = sub {
-            my ($holder, $aside, $diverted, $name) = @_;
-            my $run = inside($place, 'for file in bin/mkpasswd share/man/man1/mkpasswd.1.gz share/bash-completion/completions/mkpasswd; do
+        my $older = changed($place, 'mkpasswd', 'older', $as_before);
+        my $newer = changed($place, 'mkpasswd-default', 'newer', 'sed -i "s/^Version: .*/&.1/" control');
+        my $broken = changed($place, 'mkpasswd-default', 'broken', 'echo "exit 1" >> preinst');
+        # NEWS already speaks of the next version.
+        my $lintian = 'lintian --pedantic --info --fail-on error,warning --suppress-tags debian-news-entry-has-unknown-version';
+        works($place, "$lintian /debs/*.deb", 'lintian has no error and no warning') if $suite eq $suites[0];
+        # Whose the three files are that whois has too, how many of whois' stand aside, and how many are diverted.
+        my $state = sub {
+            return inside($place, 'for file in bin/mkpasswd share/man/man1/mkpasswd.1.gz share/bash-completion/completions/mkpasswd; do
                 holder=nobody
-                for package in mkpasswd whois; do
-                    sums=/var/lib/dpkg/info/$package.md5sums
-                    ! grep -sqxF "$(md5sum < /usr/$file | cut -c 1-32)  usr/$file" $sums || holder=$package
+                for package in mkpasswd mkpasswd-default whois; do
+                    ! grep -qs "^$(md5sum < /usr/$file | cut -c 1-32) " /var/lib/dpkg/info/$package.md5sums || holder=$package
                 done
-                echo $holder
+                echo ${holder%-default}
             done 2> /dev/null | sort -u
             find /usr -name "*mkpasswd*whois*" | wc -l
-            dpkg-divert --list "*mkpasswd*" | wc -l');
-            is($run->{out}, "$holder\n$aside\n$diverted\n", $name);
+            dpkg-divert --list "*mkpasswd*" | wc -l')->{out} =~ s/\n(?=.)/ /gr =~ s/\n//r;
         };
         # All files but those that apt and dpkg write of any package.
         my $files = sub {
-            my @pruned = map { "-path $_" } qw(/proc /sys /dev /tmp /debs /newer /broken /var/cache /var/lib/apt /var/lib/dpkg /var/log);
+            my @pruned = map { "-path $_" } qw(/proc /sys /dev /tmp /debs /older /newer /broken /var/cache /var/lib/apt /var/lib/dpkg /var/log);
             return inside($place, 'find / \( ' . join(' -o ', @pruned) . ' \) -prune -o -print | sort')->{out};
         };
         my $before = $files->();
-        $is_held->('whois', 0, 0, 'at first the name is whois\'');
-        isnt(inside($place, "dpkg -i $broken")->{status}, 0, 'a package that breaks off');
-        $is_held->('whois', 0, 0, 'the name came back after it');
-        works($place, 'dpkg-divert --local --rename --add /usr/bin/mkpasswd; ! dpkg -i /debs/mkpasswd_*.deb; test -z "$(dpkg --audit)"
-            dpkg-divert --local --rename --remove /usr/bin/mkpasswd', 'a local diversion stops ours, and leaves nothing half done');
-        $is_held->('whois', 0, 0, 'the name is whois\' after it');
-        works($place, "dpkg --purge mkpasswd; $apt install /debs/*.deb", 'ours come over whois');
-        $is_held->('mkpasswd', 3, 3, 'the name is ours, and whois\' files stand aside');
-        works($place, q{mkpasswd.whois -m yescrypt x | grep -F '$y$'; man -w mkpasswd.whois}, 'whois\' command and manual are there');
-        works($place, "$apt install --reinstall whois", 'whois is installed again');
-        $is_held->('mkpasswd', 3, 3, 'the name is still ours');
-        works($place, "$apt install $upgrade", 'ours is upgraded');
-        $is_held->('mkpasswd', 3, 3, 'the name is ours after that');
-        works($place, "$apt remove mkpasswd", 'ours is removed');
-        $is_held->('whois', 0, 0, 'the name came back');
-        my $mine = '/usr/bin/mkpasswd.whois';
-        works($place, "$apt remove whois; echo mine > $mine; $apt install /debs/mkpasswd_*.deb; $apt purge mkpasswd
-            test ! -e /usr/bin/mkpasswd; grep mine $mine; rm $mine", 'a file of the administrator keeps its name');
-        works($place, "$apt install /debs/mkpasswd_*.deb", 'ours without whois');
-        $is_held->('mkpasswd', 0, 3, 'the name is ours alone');
-        works($place, "$apt install whois", 'whois comes after ours');
-        $is_held->('mkpasswd', 3, 3, 'the name stays ours');
-        works($place, "$apt purge @packages", 'ours are purged');
-        $is_held->('whois', 0, 0, 'the name came back at last');
+        is($state->(), 'whois 0 0', 'at first the name is whois\'');
+        my ($ours, $default) = ('/debs/mkpasswd_*.deb', '/debs/mkpasswd-default_*.deb');
+        my @others = map { "/debs/${_}_*.deb" } grep { $_ ne 'mkpasswd-default' } @packages;
+        my ($mine, $aside) = qw(/usr/bin/mkpasswd /usr/bin/mkpasswd.whois);
+        my $fails = "if dpkg -i $default; then exit 1; fi; test -z \"\$(dpkg --audit)\"";
+        for (
+            ['whois 0 0', 'all ours but one', "echo mine > /usr/local/bin/mkpasswd; $apt install @others; mkpasswd.proved -V"],
+            ['whois 0 0', 'mkpasswd-default breaks off', "! dpkg -i $broken"],
+            ['nobody 0 1', 'a local diversion stops it', "dpkg-divert --local --rename --add $mine; $fails"],
+            ['whois 0 0', 'that diversion goes', "test -e $mine.distrib; dpkg-divert --local --rename --remove $mine"],
+            ['mkpasswd 3 3', 'mkpasswd-default over whois', "$apt install $default"],
+            ['mkpasswd 3 3', 'whois\' command and manual', q{mkpasswd.whois -m yescrypt x | grep -F '$y$'; man -w mkpasswd.whois}],
+            ['mkpasswd 3 3', 'whois is installed again', "$apt install --reinstall whois"],
+            ['mkpasswd 3 3', 'mkpasswd-default is upgraded', "$apt install $newer"],
+            ['whois 0 0', 'mkpasswd-default is removed', "$apt remove mkpasswd-default"],
+            ['nobody 0 0', 'whois is removed', "$apt remove whois"],
+            ['nobody 0 0', 'an administrator\'s program stops it', "echo mine > $mine; $fails; grep mine $mine; rm $mine"],
+            ['mkpasswd 1 3', 'mkpasswd-default without whois, beside another program', "echo mine > $aside; $apt install $default"],
+            ['nobody 0 0', 'it goes with mkpasswd', "$apt purge mkpasswd; test ! -e $mine; grep mine $aside; rm $aside"],
+            ['mkpasswd 0 3', 'mkpasswd-default without whois', "$apt install $ours $default"],
+            ['mkpasswd 3 3', 'whois comes after it', "$apt install whois"],
+            ['whois 0 0', 'ours go', "$apt purge mkpasswd"],
+            ['mkpasswd 3 3', '1.3.0 over whois', "$apt install $older"],
+            ['whois 0 0', 'it is upgraded', "$apt install $ours; mkpasswd.proved -V"],
+            ['mkpasswd 3 3', '1.3.0 again', "dpkg -i $older"],
+            ['mkpasswd 3 3', 'it is upgraded, with mkpasswd-default', "$apt install $ours $default; mkpasswd.proved -V"],
+            ['mkpasswd 3 3', '1.3.0 in place of both', "$apt remove mkpasswd-default; dpkg -i $older"],
+            ['whois 0 0', 'an upgrade that is removed half-way', "dpkg --unpack $ours; dpkg --purge mkpasswd"],
+            ['mkpasswd 1 3', '1.3.0 without whois, beside another program', "$apt remove whois; echo mine > $aside; $apt install $older"],
+            ['nobody 1 0', 'it is upgraded', "$apt install $ours; grep mine $aside"],
+            ['whois 0 0', 'all of ours go', "rm $aside; $apt install whois; $apt purge @packages; grep mine /usr/local/bin/mkpasswd; rm /usr/local/bin/mkpasswd"],
+        ) {
+            my ($after, $name, $script) = @$_;
+            works($place, $script, $name);
+            is($state->(), $after, "whose the name is then: $after");
+        }
         is($files->(), $before, 'nothing of ours is left');
         output_of('sh', '-euc', 'mkdir "$1"; cp -R "$0/debian" "$1"', $root, "$place/source");
         my $own = inside($place, 'autopkgtest --no-built-binaries /debs/*.deb /source/ -- null 2>&1');
-        like($own->{out}, qr/^$_ +PASS$/m, "their own test: $_") for qw(program library python pam);
+        like($own->{out}, qr/^$_ +PASS$/m, "their own test: $_") for qw(program library python pam default);
         is($own->{status}, 0, 'all of these') or diag($own->{out} =~ s/.*(?=\n.*: test \w+: \[)//sr);
     };
 }

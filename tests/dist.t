@@ -145,7 +145,7 @@ subtest 'libraries' => sub {
         is(run({ env => \%env }, @command, 'password', $known)->{status}, 0, "$what: the right password");
         is(run({ env => \%env }, @command, 'passwort', $known)->{status}, 1, "$what: a wrong one");
     };
-    $login->('Python', qw(python3 -B -c), 'import sys, mkpasswd; sys.exit(not mkpasswd.login(*sys.argv[1:]))') if needs(python3 => 'python3');
+    $login->('Python', qw(python3 -B -c), 'import sys, mkpasswd; sys.exit(not mkpasswd.login(sys.argv[1], field=sys.argv[2]))') if needs(python3 => 'python3');
     needs(cc => 'gcc', $cc ne 'cc' || undef) && needs('pkg-config' => 'pkgconf') or return;
     my $config = sub { run({ env => \%env }, 'pkg-config', @_, 'mkpasswd')->{out} =~ s/\s+\z//r };
     is($config->('--modversion'), $version, 'mkpasswd.pc has the version');

@@ -80,15 +80,6 @@ subtest 'commands' => sub {
     }
 };
 
-subtest 'a password that is typed' => sub {
-    my @typed = map { /(IFS= .*? mkpasswd\b[^`\n]*)/g } slurp("$root/README.md"), shown_manual("$root/man/mkpasswd.1");
-    isnt(scalar @typed, 0, 'it is shown how');
-    for (@typed) {
-        my $typed = run({ %in, stdin => " pass\\word \n" }, 'bash', '-c', $_);
-        ok($typed->{out} =~ /^($hash)\n\z/ && is_hash_of($1, ' pass\word '), $_) or diag(%$typed);
-    }
-};
-
 # What a table says that a hash costs is the least budget that admits it.
 subtest 'costs' => sub {
     my @costs = map { slurp($_) =~ /^\|.*?`(-m [^`]*)`[^|]*\| (\d+) \|/mg } documents();

@@ -77,6 +77,9 @@ subtest 'in node' => sub {
     my @reasons = ('REFUSED_UNKNOWN_METHOD: unknown method', 'REFUSED_COST: cost', 'OVER_BUDGET: over budget');
     push @reasons, map { "$refused[$_][2]: $words[$_]" } 0 .. $#refused;
     is_deeply($told->{refused}, ['undefined: half of a character has no bytes', map { "MKPASSWD_$_" } @reasons], 'refusals by the names of C');
+    my ($limit) = slurp($page) =~ /id="budget"[^>]* value="(\d+)"/;
+    my @defaults = (('$6$rounds=656000$') x 2, JSON::PP::true, ('MKPASSWD_OVER_BUDGET: over budget') x 2, $limit);
+    is_deeply($told->{defaults}, \@defaults, 'by default the recommended rounds, and passwords of up to 168 bytes');
     # N is 64, r is 8: each other field of the report has another value, 3, 0, 66, 6884, 128, 65536 or 3072.
     is_deeply($told->{costs}, [137_956, 137_956], 'the worker and the module find the cost in the report');
     is_deeply($told->{audited}, [map { $_->[0] } @audits], 'what an audit finds');

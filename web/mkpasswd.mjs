@@ -3,7 +3,7 @@
 // settings and hashes are strings, as UTF-8, or Uint8Arrays. A call blocks its thread until it has hashed: let a worker make it.
 //
 //     import { hash, setting, verify } from './mkpasswd.mjs';
-//     const stored = hash('correct horse', setting('sha512crypt', 656000));
+//     const stored = hash('correct horse');
 //     let matches = false;
 //     try { matches = verify(password, stored); } catch (error) { console.error(error.reason ?? error.message); }
 //     if (matches) letIn();
@@ -17,7 +17,8 @@ const initial = memory.slice();
 const START = Math.ceil(Number(exports.__heap_base.value) / 16) * 16;
 const [OUT, OUT_SIZE, PASSED, MOST_BYTES] = [START + 64, 145, START + 256, 1025];
 const METHODS = { __proto__: null, md5crypt: 1, sha256crypt: 5, sha512crypt: 6 };
-const BUDGET = @BUDGET@;
+// The recommended policy: its rounds, and twice what they cost for a password of 64 bytes, so that up to 168 bytes are admitted.
+const [ROUNDS, BUDGET] = [656000, 253921472];
 const [FITS, REFUSED_METHOD, REFUSED_COST, DIFFERS] = [1, -13, -14, -17];
 const REFUSALS = { @REFUSALS@ };
 
@@ -63,18 +64,18 @@ function call(...passed) {
     if (report.reason < 0 && report.reason !== DIFFERS) throw refusal(report.reason);
     return report;
 }
-// What the module takes for a method and its rounds, which it would clamp.
+// What the module takes for a method and its rounds, which it would clamp. It takes 0 for the recommended ones.
 function made(method, rounds) {
-    if (METHODS[method] > 1 && !(rounds >= 1000 && rounds <= 999999999)) throw refusal(REFUSED_COST);
+    if (METHODS[method] > 1 && rounds !== 0 && !(rounds >= 1000 && rounds <= 999999999)) throw refusal(REFUSED_COST);
     return [METHODS[method] ?? 0, rounds];
 }
 
-// A setting with a new salt. Rounds are 1000 to 999999999; md5crypt has none.
-export function setting(method = 'sha512crypt', rounds = 656000) {
+// A setting with a new salt. Rounds are 1000 to 999999999, or 0 for the recommended ones; md5crypt has none.
+export function setting(method = 'sha512crypt', rounds = ROUNDS) {
     const salt = new BigUint64Array(crypto.getRandomValues(new Uint8Array(24)).buffer);
     return call('web_setting', ...made(method, rounds), ...salt, BigInt(OUT), BigInt(OUT_SIZE)).text;
 }
-// The hash of a password. No more bytes than the budget are hashed for it.
+// The hash of a password. No more bytes than the budget are hashed for it, by default twice what a new hash costs.
 export const hash = (password, by = setting(), budget = BUDGET) =>
     call('web_hash', bytesOf(password), bytesOf(by), within(budget), BigInt(OUT), BigInt(OUT_SIZE)).text;
 // Whether a password matches. A field that is locked, empty, malformed or of scrypt, or that can cost more than the budget, throws a
@@ -86,7 +87,7 @@ export const cost = (by, length) => call('web_cost', bytesOf(by), BigInt(Math.mi
 // What mkpasswd --audit says of a stored field, without a password: `message`, which is current, outdated, dead, over budget, locked,
 // no hash or what is wrong with its setting; `reason`, its name in mkpasswd.h; and `cost`, the most that a check can cost, or 0. Method
 // and rounds are those of new hashes; a budget of 0 is what they can cost at most, and at least 1297572512.
-export function audit(stored, method = 'sha512crypt', rounds = 656000, budget = 0) {
+export function audit(stored, method = 'sha512crypt', rounds = ROUNDS, budget = 0) {
     const { reason, cost } = reported('web_audit', bytesOf(stored), ...made(method, rounds), within(budget));
     if (reason === REFUSED_METHOD || reason === REFUSED_COST) throw refusal(reason);
     const [name, message] = REFUSALS[reason] ?? ['MKPASSWD_DONE', 'current'];

@@ -27,7 +27,7 @@ const jobs = {
     check({ password, stored, budget }) {
         tellCost(stored, password);
         const fits = verify(password, stored, budget);
-        return { fits, isDead: !fits && audit(stored, 'sha512crypt', 656000, Infinity).reason === 'MKPASSWD_DEAD' };
+        return { fits, isDead: !fits && audit(stored, 'sha512crypt', ROUNDS, Infinity).reason === 'MKPASSWD_DEAD' };
     },
 };
 

@@ -1,6 +1,7 @@
 """What each call returns and raises."""
 import array
 import copy
+import dataclasses
 import json
 import math
 import pickle
@@ -9,7 +10,8 @@ import traceback
 
 import mkpasswd
 import pytest
-from mkpasswd import Reason, Refused, TooCostly, cost, crypt, describe, hash, login, needs_rehash, verify, verify_and_update, work
+from mkpasswd import Policy, Reason, Refused, TooCostly, cost, describe, hash, login, needs_rehash, verify
+from mkpasswd.crypt import crypt, mksalt
 from support import COSTLY, MD5, ROOT, SHA512, ended, libxcrypt
 
 OTHER_SCHEMES = ["$", "$2b$05$abcdefghijklmnopqrstuu", "$y$j9T$abc$x", "ab0Z8yq2hBQEo", "_J9..Xabcsecret"]
@@ -38,12 +40,19 @@ def error_of(call, *arguments, **named):
     return raised.value
 
 
+def verify_of(password, field):
+    return verify(password, field=field)
+
+
 def with_password(word):
-    return (hash, word), (verify, word, MD5), (verify, word, "!"), (verify_and_update, word, MD5), (crypt, word, MD5)
+    return (hash, word), (verify_of, word, MD5), (verify_of, word, "!"), (crypt, word, MD5)
 
 
 def with_field(field):
-    return (verify, "x", field), (verify_and_update, "x", field), (needs_rehash, field), (cost, field, 8), (work, field, 8)
+    return (verify_of, "x", field), (needs_rehash, field), (cost, field, 8)
+
+
+QUICK = Policy(rounds=1000)
 
 
 # The setting of a stored hash, the method and rounds of the service, and how a new hash begins if the stored one is outdated.
@@ -63,21 +72,21 @@ LOGINS = [
 def test_a_login_lets_in_whom_libxcrypt_would(setting, made, front):
     stored = libxcrypt("pässword", setting)
     for field in stored, stored.encode():
-        matches, new = verdict = login("pässword", field, *made)
+        matches, new = verdict = Policy(*made).login("pässword", field=field)
         assert matches is True and verdict
         assert new is None if front is None else new.startswith(front) and new == libxcrypt("pässword", new)
     for word in "password", "pässword ", "", "!", stored:
-        assert login(word, stored, *made) == (False, None)
+        assert Policy(*made).login(word, field=stored) == (False, None)
 
 
 def test_a_login_raises_nothing_for_what_is_typed_or_stored():
     for field in [None, *LOCKED, *OTHERS, *REFUSED, COSTLY, "x" * 10**6]:
         for stored in field, field and field.encode("utf-8", "surrogatepass"):
-            assert login("password", stored, rounds=1000) == (False, None), field
+            assert QUICK.login("password", field=stored) == (False, None), field
     for word in "", "x\0", b"\0", "\ud800", b"\xff", "x" * 1025, "\u00e9" * 513, "x" * 10**6, "x" * 1024, MD5, "!":
         for field in None, "", "!", MD5, SHA512:
-            assert login(word, field, rounds=1000) == (False, None), (word, field)
-    assert login("password", MD5, budget=0) == (False, None)
+            assert QUICK.login(word, field=field) == (False, None), (word, field)
+    assert Policy(budget=1).login("password", field=MD5) == (False, None)
 
 
 def test_a_login_does_the_same_work_for_every_name(monkeypatch):
@@ -90,55 +99,114 @@ def test_a_login_does_the_same_work_for_every_name(monkeypatch):
         return done
 
     monkeypatch.setattr(mkpasswd.lib, "mkpasswd_login", counted)
-    for method, rounds in ("md5crypt", None), ("sha256crypt", 2000), ("sha512crypt", 2000), ("scrypt", 6):
+    for policy in Policy("md5crypt"), Policy("sha256crypt", 2000), Policy("sha512crypt", 2000), Policy("scrypt", 6):
         works.clear()
-        for field in hash("password", method, rounds=rounds), None, "", "!" + SHA512, "$y$j9T$salt$x", "$5$rounds=0$a$x", COSTLY:
-            assert not login("passw0rd", field, method, rounds)
+        for field in policy.hash("password"), None, "", "!" + SHA512, "$y$j9T$salt$x", "$5$rounds=0$a$x", COSTLY:
+            assert not policy.login("passw0rd", field=field)
         assert len({(work.digests, work.mixes, work.table) for work in works}) == 1 and works[0].digests > 0
         assert len({work.bytes for work in works[1:]}) == 1
-    # A password that no hash can have is refused before that, and one of 83 bytes costs too much.
+    # A password that no hash can have is refused before that, and one of 169 bytes costs too much, whatever is stored.
     works.clear()
-    for word in "x\0", "\ud800", "x" * 1025, "x" * 83:
-        for field in "$6$rounds=656000$saltsaltsaltsalt$" + "x" * 86, None, "!":
-            assert not login(word, field)
+    for word in "x\0", "\ud800", "x" * 1025, "x" * 169:
+        for field in "$6$rounds=656000$saltsaltsaltsalt$" + "x" * 86, libxcrypt("x" * 169, "$1$salt"), None, "!":
+            assert not login(word, field=field)
     assert all(work.digests == 0 for work in works)
 
 
 def test_a_login_charges_each_of_its_hashes():
     """So a service can move to a method which costs more than half of its budget."""
     stored = libxcrypt("password", "$6$rounds=900000$salt")
-    assert login("password", stored, "scrypt", 7).new.startswith("$7$CU")
+    policy = Policy("scrypt", budget=cost("$7$CU..../....salt", 8) + 5000)
+    assert policy.budget < 2 * cost(stored, 8) and policy.login("password", field=stored).new.startswith("$7$CU")
 
 
 def test_a_login_goes_on_without_a_new_hash(monkeypatch):
     """If that costs too much, or the system has no random bytes."""
-    assert login("x" * 83, libxcrypt("x" * 83, "$1$salt")) == (True, None)
+    assert Policy(budget=150_000_000).login("x" * 83, field=libxcrypt("x" * 83, "$1$salt")) == (True, None)
     reason = Reason.NO_RANDOM_WORDS.value
     monkeypatch.setattr(mkpasswd.lib, "mkpasswd_new", lambda *arguments: setattr(arguments[-1], "reason", reason))
-    assert login("password", MD5) == (True, None)
+    assert login("password", field=MD5) == (True, None)
 
 
 def test_a_login_logs_why_it_is_refused(caplog):
     caplog.set_level("DEBUG", "mkpasswd")
     fields = None, "", "!", "*", "!" + "x" * 400, "$y$x", COSTLY, MD5[:-1]
     rows = ("x", MD5), *(("password", field) for field in fields), ("\0", MD5), ("x" * 83, libxcrypt("x" * 83, "$1$salt"))
-    assert [bool(login(*row)) for row in rows] == [False] * 10 + [True] and login("password", MD5, "md5crypt")
+    small = Policy(budget=150_000_000)
+    assert [bool(small.login(word, field=field)) for word, field in rows] == [False] * 10 + [True]
+    assert Policy("md5crypt").login("password", field=MD5)
     of_fields = "no hash", "no hash", "locked", "locked", "locked", "unknown scheme", "over budget", "dead"
     refused = ["differs", *of_fields, "password has a zero byte"]
-    expected = [*("login refused: " + reason for reason in refused), "no new hash: over budget: more than 150000000"]
+    expected = [*("login refused: " + reason for reason in refused), "no new hash: over budget: the hash can cost more than 150000000"]
     assert [record.getMessage() for record in caplog.records] == expected
+
+
+def test_a_field_is_named():
+    """Swapped, password and field would open accounts. Nothing is hashed then; nor for arguments that a policy has now."""
+    for call, *named in (login, "login(password, field=stored)"), (verify, "verify(password, field=stored)"):
+        for given in ("x", COSTLY), ("x",), (), (COSTLY, "x", "md5crypt"):
+            error = error_of(call, *given)
+            assert type(error) is TypeError and named[0] in str(error)
+        for options in {"method": "md5crypt"}, {"rounds": 5000}, {"budget": 5}, {"stored": MD5}:
+            error = error_of(call, "x", **{"field": COSTLY, **options})
+            assert type(error) is TypeError and "mkpasswd.Policy(method, rounds, budget)." + named[0] in str(error)
+    for call in (hash, "x"), (needs_rehash, MD5), (describe, MD5):
+        for given, options in (("md5crypt",), {}), ((), {"rounds": 5000}), ((), {"budget": 5}):
+            error = error_of(*call, *given, **options)
+            assert type(error) is TypeError and "mkpasswd.Policy(method, rounds, budget).%s(" % call[0].__name__ in str(error)
+
+
+def test_names_that_went():
+    """Each says what stands in its place, in both forms."""
+    for name, new in (
+        ("verify_and_update", "mkpasswd.login(password, field=stored)"),
+        ("work", "mkpasswd.cost(stored, password_len)"),
+        ("DEFAULT_BUDGET", "mkpasswd.Policy(budget=None)"),
+        *((name, "mkpasswd.crypt." + name) for name in ("mksalt", "methods", "METHOD_SHA512", "METHOD_CRYPT")),
+    ):
+        assert not hasattr(mkpasswd, name)
+        assert new in str(error_of(exec, "import mkpasswd; mkpasswd." + name))
+        error = error_of(exec, "from mkpasswd import " + name)
+        assert type(error) is ImportError and new in str(error)
+    assert "mkpasswd.crypt.crypt(word, salt)" in str(error_of(mkpasswd.crypt, "x", MD5))
+    assert type(error_of(exec, "from mkpasswd import other")) is ImportError
+
+
+def test_policies():
+    assert Policy() == Policy("sha512crypt", None, None) != Policy(rounds=5000) and len({Policy(), Policy(), QUICK}) == 2
+    policy = pickle.loads(pickle.dumps(dataclasses.replace(QUICK, budget=10**6)))
+    assert policy == Policy(rounds=1000, budget=10**6) and policy.login("password", field=policy.hash("password"))
+    assert type(error_of(setattr, policy, "rounds", 5000)) is dataclasses.FrozenInstanceError
+
+
+# The last has less than 150,000,000, the least limit, and the one before a cost above the recommended policy's limit.
+@pytest.mark.parametrize("method, rounds", [(name, None) for name in mkpasswd._calls.NUMBERS] + [("scrypt", 9), ("sha512crypt", 1000)])
+def test_a_policy_lets_in_by_its_own_hashes(method, rounds):
+    policy = Policy(method, rounds)
+    stored = policy.hash("pässword")
+    assert policy.login("pässword", field=stored) == (True, None) and policy.verify("pässword", field=stored)
+    assert not policy.needs_rehash(stored) and stored == libxcrypt("pässword", stored)
+    assert policy.describe(stored).state == "current" and not policy.login("passwörd", field=stored)
+
+
+def test_long_passwords():
+    """By the recommended policy 168 bytes get in, and 169 are refused at once; with a budget of one's own all do."""
+    stored = hash("x" * 168)
+    assert login("x" * 168, field=stored) == (True, None) and not login("x" * 167 + "y", field=stored)
+    error = error_of(hash, "x" * 169)
+    assert type(error) is TooCostly and str(error) == "over budget: the hash can cost more than 253921472"
+    longest, policy = "x" * 1024, Policy(budget=1_300_000_000)
+    stored = policy.hash(longest)
+    assert stored.startswith("$6$rounds=656000$") and policy.login(longest, field=stored) == (True, None)
+    assert login(longest, field=stored) == (False, None) and type(error_of(verify_of, longest, stored)) is TooCostly
 
 
 def test_a_login_tells_its_programmer():
     for error, *arguments in (
         *((TypeError, word, MD5) for word in (None, 5, bytearray(b"x"))),
         *((TypeError, "x", field) for field in (5, True, bytearray(b"x"), [MD5])),
-        *((TypeError, "x", None, *made) for made in ((None,), (6,), ("md5crypt", "5000"), ("md5crypt", True))),
-        *((ValueError, "x", None, "sha512crypt", rounds) for rounds in (-1, 12, 999, 10**9)),
-        *((Refused, "x", field, *made) for field in (None, MD5) for made in (("bcrypt",), ("scrypt",), ("scrypt", 12))),
     ):
-        assert type(error_of(login, *arguments)) is error, arguments
-    assert type(error_of(login, "x", MD5, budget=-1)) is ValueError and type(error_of(login, "x", MD5, budget=None)) is TypeError
+        assert type(error_of(login, arguments[0], field=arguments[1])) is error, arguments
 
 
 def test_str_is_its_utf8():
@@ -146,14 +214,14 @@ def test_str_is_its_utf8():
         for setting in "$1$salt", "$5$rounds=1000$salt", "$6$rounds=1000$salt":
             expected = libxcrypt(password.encode(), setting)
             assert crypt(password, setting) == crypt(password.encode(), setting) == expected
-            assert verify(password, expected) and not verify(password.encode()[: len(password)], expected)
+            assert verify(password, field=expected) and not verify(password.encode()[: len(password)], field=expected)
     assert crypt(b"\xed\xa0", "$1$salt") == libxcrypt(b"\xed\xa0", "$1$salt")  # in Latin-1
 
 
 def test_a_careless_login_opens_for_the_right_password_alone():
-    def login(field, **budget):
+    def login(field, policy=Policy()):
         try:
-            if verify("password", field, **budget):
+            if policy.verify("password", field=field):
                 return "opened"
         except Exception:
             pass
@@ -161,18 +229,17 @@ def test_a_careless_login_opens_for_the_right_password_alone():
 
     for field in [*LOCKED, *OTHERS, *REFUSED, COSTLY, SHA512, None, 0, True]:
         assert login(field) == "closed", field
-    for budget in 0, 1, cost(MD5, 8) - 1, None, "no limit":
-        assert login(MD5, budget=budget) == "closed", budget
-    assert login(MD5) == login(MD5, budget=cost(MD5, 8)) == "opened"
+    for budget in 1, cost(MD5, 8) - 1:
+        assert login(MD5, Policy(budget=budget)) == "closed", budget
+    assert login(MD5) == login(MD5, Policy(budget=cost(MD5, 8))) == "opened"
 
 
 @pytest.mark.parametrize("field", LOCKED)
 def test_empty_and_locked_fields(field):
     for text in field, field.encode():
-        assert verify("password", text) is verify("password", text, budget=0) is needs_rehash(text) is False
-        assert verify_and_update("password", text) == (False, None)
+        assert verify("password", field=text) is Policy(budget=1).verify("password", field=text) is needs_rehash(text) is False
         assert describe(text) == (None, None, "locked" if field else "none", None)
-        assert type(error_of(cost, text, 8)) is type(error_of(work, text, 8)) is Refused
+        assert type(error_of(cost, text, 8)) is Refused
 
 
 @pytest.mark.parametrize("field", REFUSED)
@@ -181,7 +248,7 @@ def test_refused_fields_by_name(field):
         error = error_of(*call)
         assert type(error) is Refused and error.reason is REFUSED[field]
         assert str(error) == REFUSED[field].name.lower().replace("_", " ")
-    assert error_of(verify, "password", field, budget=0).reason is REFUSED[field]
+    assert error_of(Policy(budget=1).verify, "password", field=field).reason is REFUSED[field]
     state = "malformed" if field[0] == "$" else "no scheme"
     if field in OTHER_SCHEMES:
         state = "unknown"
@@ -195,23 +262,23 @@ def test_refused_methods_by_name():
     """The library says "cost", and Python names the argument."""
     rows = [*((method, 0) for method in ("bcrypt", "", "md5", "$6$")), *(("scrypt", n) for n in (1, 5, 12, 2**32 - 1))]
     for method, rounds in rows:
-        for call in (hash, "x"), (needs_rehash, MD5), (verify_and_update, "x", MD5), (describe, MD5), (describe, "!"):
-            error = error_of(*call, method, rounds=rounds)
-            assert type(error) is Refused and error.reason is (Reason.COST if rounds else Reason.UNKNOWN_METHOD)
-            assert str(error) == (BAD_ROUNDS if rounds else BAD_METHOD)
+        error = error_of(Policy, method, rounds)
+        assert type(error) is Refused and error.reason is (Reason.COST if rounds else Reason.UNKNOWN_METHOD)
+        assert str(error) == (BAD_ROUNDS if rounds else BAD_METHOD)
 
 
-RUNTIME_ERRORS = [(number, RuntimeError) for number in (0, -12, -15, -20, 1, 2, 3, 4)]
+RUNTIME_ERRORS = [(number, RuntimeError) for number in (0, -12, -15, 1, 2, 3, 4)]
 
 
 @pytest.mark.parametrize("number, kind", [(-11, MemoryError), (-19, OSError), *RUNTIME_ERRORS])
 def test_reasons_of_the_library(monkeypatch, number, kind):
     """Those that no argument brings about, and those that no call should report."""
-    for name in "verify", "new", "hash", "needs_rehash", "bound":
+    policy = Policy(budget=10**6)
+    for name in "verify", "new", "hash", "needs_rehash", "bound", "audit":
         monkeypatch.setattr(mkpasswd.lib, "mkpasswd_" + name, lambda *arguments: setattr(arguments[-1], "reason", number))
-    monkeypatch.setattr(mkpasswd.lib, "mkpasswd_audit", lambda *arguments: setattr(arguments[-1], "reason", number))
-    found = number in (Reason.DONE.value, Reason.LOCKED.value)  # of an audit
-    for failing in (hash, "x"), (crypt, "x", MD5), *with_field(MD5), *([] if found else [(describe, MD5)]):
+    calls = (policy.hash, "x"), (lambda: policy.verify("x", field=MD5),), (policy.needs_rehash, MD5), (cost, MD5, 8)
+    found = number == Reason.DONE.value  # of an audit
+    for failing in *calls, (lambda: crypt("x", MD5, budget=10**6),), *([] if found else [(policy.describe, MD5)]):
         assert type(error_of(*failing)) is kind
 
 
@@ -224,17 +291,16 @@ def test_passwords_that_are_none():
         for error in (error_of(*call) for password in passwords for call in with_password(password)):
             assert type(error) is ValueError and str(error) == words
     for password in "x" * 1024, "é" * 512, b"\xff" * 1024, "\ud7ff\ue000":
-        assert verify(password, hash(password, "md5crypt"))
+        assert verify(password, field=Policy("md5crypt").hash(password))
 
 
 def test_nothing_raised_has_the_password_in_it(capfd):
     secret = "s3cret-Pässwörd"
     words = [secret + "\0", secret + "\ud800", secret * 100, (secret + "\0").encode(), [secret], {secret: secret}]
     errors = [error_of(*call) for word in words for call in with_password(word)]
-    errors += [error_of(*call, secret, "x") for call in ((verify,), (verify_and_update,))]
-    errors += [error_of(call, secret, COSTLY) for call in (verify, verify_and_update, crypt)]
-    errors += [error_of(verify, secret, 5), error_of(verify, secret, MD5, budget=None), error_of(hash, secret, "bcrypt")]
-    errors += [error_of(hash, secret, rounds=rounds) for rounds in (-1, 10**9, 10**9 - 1, secret)]
+    errors += [error_of(verify, secret, "x"), error_of(login, "x", secret), error_of(verify_of, secret, "x")]
+    errors += [error_of(call, secret, COSTLY) for call in (verify_of, crypt)]
+    errors += [error_of(verify_of, secret, 5), error_of(hash, secret, "bcrypt"), error_of(Policy(budget=1).hash, secret)]
     for error in errors:
         shown = "".join(traceback.format_exception(type(error), error, error.__traceback__))
         while error is not None:
@@ -261,20 +327,15 @@ def lying(value, **methods):
 @pytest.mark.parametrize("password", [b"correct horse", "correct h\u00f6rse"])
 def test_subclasses_are_what_they_hold(password, length):
     """A __len__ of 0 would make a hash of nothing, and a large one would read beyond the object."""
-    secret = lying(password, __len__=lambda self: length)
-    stored = hash(secret, "md5crypt")
-    assert verify(password, stored) and verify(secret, lying(stored)) and not verify(b"", stored)
-    assert verify_and_update(secret, lying(stored), lying("md5crypt")) == (True, None)
+    secret, policy = lying(password, __len__=lambda self: length), Policy(lying("md5crypt"), lying(0), lying(10**6))
+    stored = policy.hash(secret)
+    assert verify(password, field=stored) and verify(secret, field=lying(stored)) and not verify(b"", field=stored)
+    assert policy.login(secret, field=lying(stored)) == (True, None)
     assert crypt(secret, lying(stored)) == stored and cost(lying(stored), lying(8)) == cost(stored, 8)
     for wrong in lying(password[:-1]), lying(password[:0]), lying(password * 2):
-        assert not verify(wrong, stored) and not verify_and_update(wrong, stored)
+        assert not verify(wrong, field=stored) and not policy.login(wrong, field=stored)
     assert str(error_of(hash, lying(password * 80, __len__=lambda self: 1))) == "password too long"
-    assert not verify(secret, lying("!" + stored)) and needs_rehash(lying(stored), lying("sha512crypt"))
-
-
-def with_method(method):
-    calls = (hash, "x"), (needs_rehash, MD5), (verify_and_update, "x", MD5), (verify_and_update, "x", "!"), (describe, "!")
-    return [(*call, method) for call in calls]
+    assert not verify(secret, field=lying("!" + stored)) and needs_rehash(lying(stored))
 
 
 def test_wrong_types():
@@ -283,68 +344,68 @@ def test_wrong_types():
         for call in *with_password(value), *with_field(value), (describe, value or 0), (crypt, "x", value or 0):
             error = error_of(*call)
             assert type(error) is TypeError and "must be str or bytes, not " in str(error)
-    numbers = "5000", 5000.0, b"5", [], True, False, math.nan
-    rounds = [(call, {"rounds": number}) for call in with_method("sha256crypt") + with_method("scrypt") for number in numbers]
-    limited = *with_password("x"), (describe, "!")
-    budgets = [(call, {"budget": number}) for call in limited for number in (*numbers, -math.inf, 5j)]
-    budgets += [(call, {"budget": None}) for call in with_password("x")]
-    lengths = [((call, MD5, number), {}) for call in (cost, work) for number in (*numbers, None)]
-    methods = [(call, {}) for method in (None, 6, b"md5crypt", mkpasswd.METHOD_MD5) for call in with_method(method)]
-    others = [((hash, "x", "md5crypt", 5000), {}), ((verify, "x", MD5, 5), {}), ((mkpasswd.mksalt, "6"), {})]
-    for (call, *arguments), named in rounds + budgets + lengths + methods + others:
-        assert type(error_of(call, *arguments, **named)) is TypeError
+    numbers = "5000", 5000.0, 1.3e9, math.inf, b"5", [], True, False, math.nan, 5j
+    policies = [(Policy, {name: number}) for name in ("rounds", "budget") for number in numbers]
+    policies += [(Policy, {"method": method}) for method in (None, 6, b"md5crypt", crypt)]
+    budgets = [((crypt, "x", MD5), {"budget": number}) for number in numbers]
+    lengths = [((cost, MD5, number), {}) for number in (*numbers, None)]
+    for call, named in [((call,), named) for call, named in policies] + budgets + lengths + [((mksalt, "6"), {})]:
+        assert type(error_of(*call, **named)) is TypeError
 
 
 def test_numbers_out_of_range():
     """The command and the calls of C clamp rounds, so that a hash of 12 rounds would have 1000."""
     for number in -1, 1, 12, 999, 10**9, 2**32 - 1, 2**32 + 5000, 2**64 + 5000:
-        for call in with_method("sha256crypt") + with_method("sha512crypt"):
-            assert str(error_of(*call, rounds=number)) == "rounds must be 1000 to 999999999, or 0 for the default"
+        for method in "sha256crypt", "sha512crypt":
+            assert str(error_of(Policy, method, number)) == "rounds must be 1000 to 999999999, or 0 for 656000"
     for number in -1, 2**32, 2**64 + 5000:
-        assert type(error_of(needs_rehash, MD5, "md5crypt", number)) is ValueError
-    assert needs_rehash(SHA512, rounds=999_999_999) and not needs_rehash(SHA512, rounds=1000)
+        assert type(error_of(Policy, "md5crypt", number)) is ValueError
+    assert Policy(rounds=999_999_999).needs_rehash(SHA512) and not QUICK.needs_rehash(SHA512)
     for number in -1, 1025, 2**64 + 8:
-        assert type(error_of(cost, MD5, number)) is type(error_of(work, MD5, number)) is ValueError
-    for call in *with_password("x"), (describe, "!"):
-        assert type(error_of(*call, budget=-1)) is ValueError
+        assert type(error_of(cost, MD5, number)) is ValueError
+    for number in 0, -1:
+        assert type(error_of(Policy, budget=number)) is type(error_of(crypt, "x", MD5, budget=number)) is ValueError
 
 
 def test_budgets():
     most = cost(MD5, 8)
-    for budget in most, 2**64, 2**100, math.inf:
-        assert verify("password", MD5, budget=budget) is True
-    for budget in 0, most - 1:
-        for call in verify, crypt:
-            raised = error_of(call, "password", MD5, budget=budget)
+    for budget in most, 2**64, 2**100, None:
+        assert Policy(budget=budget).verify("password", field=MD5) is True
+    for budget in 1, most - 1:
+        for call in Policy(budget=budget).verify, crypt:
+            named = {"salt": MD5, "budget": budget} if call is crypt else {"field": MD5}
+            raised = error_of(call, "password", **named)
             for error in raised, copy.copy(raised), pickle.loads(pickle.dumps(raised)):
                 assert (type(error), error.reason, error.cost, error.budget) == (TooCostly, Reason.OVER_BUDGET, most, budget)
-                assert str(error) == "over budget: more than %d" % budget
-    assert error_of(verify, "password", COSTLY).budget == mkpasswd.DEFAULT_BUDGET == 150_000_000
-    assert type(error_of(hash, "x" * 1000, rounds=1_000_000)) is TooCostly
+                assert str(error) == "over budget: the hash can cost more than %d" % budget
+    assert type(error_of(Policy(rounds=1_000_000, budget=200_000_000).hash, "x" * 1000)) is TooCostly
 
 
-def test_verify_and_update_charges_both_hashes():
-    stored = libxcrypt("pässwörd".encode(), "$1$xxxxxxxx")
-    old, new, wanted = cost(stored, 10), cost("$5$rounds=2000$" + "s" * 16, 10), ("sha256crypt", 2000)
-    matches, update = verify_and_update("pässwörd", stored, *wanted, budget=old + new)
-    assert matches is True and update.startswith("$5$rounds=2000$") and verify("pässwörd", update)
-    assert verify_and_update("pässwörd", stored, *wanted, budget=old + new - 1) == (True, None)
-    assert verify_and_update("pässwörd", stored, "md5crypt", budget=old) == (True, None)
-    for budget in old, old + new:
-        assert verify_and_update("pässw0rds", stored, *wanted, budget=budget) == (False, None)
-    for password in "pässwörd", "pässw0rds":
-        error = error_of(verify_and_update, password, stored, *wanted, budget=old - 1)
-        assert (type(error), error.cost, error.budget) == (TooCostly, old, old - 1)
+@pytest.mark.parametrize("method, rounds, limit", [("sha512crypt", None, 253_921_472), ("md5crypt", None, 150_000_000)])
+def test_the_limit_without_a_budget(method, rounds, limit):
+    """That of verify() is that of login(): a hash within it is tried, and one above isn't."""
+    policy = Policy(method, rounds)
+    number = max(n for n in range(500_000, 3_000_000, 1000) if cost("$6$rounds=%d$saltsaltsaltsalt" % n, 8) <= limit)
+    for rounds, is_tried in (number, True), (number + 1000, False):
+        stored = "$6$rounds=%d$saltsaltsaltsalt$" % rounds + "." * 86
+        report = mkpasswd.Report()
+        lib_login = mkpasswd.lib.mkpasswd_login
+        assert lib_login(b"password", 8, stored.encode(), len(stored), *policy._made, 0, report) == 0
+        assert (report.reason == Reason.DIFFERS.value) is is_tried
+        if is_tried:
+            assert policy.verify("password", field=stored) is False
+        else:
+            assert error_of(policy.verify, "password", field=stored).budget == limit
 
 
-def test_the_truth_of_verify_and_update_is_that_of_the_match():
-    """A tuple of two is always true, so that `if verify_and_update(..)` would let everybody in, as a list in JSON does."""
-    for password, stored, method, is_match, is_new in (
-        *(("password", MD5, "md5crypt", True, False), ("password", MD5, "sha256crypt", True, True)),
-        *(("passw0rd", MD5, "sha256crypt", False, False), ("", MD5, "md5crypt", False, False)),
-        *(("password", field, "sha512crypt", False, False) for field in [*LOCKED, *OTHERS]),
+def test_the_truth_of_a_login_is_that_of_the_match():
+    """A tuple of two is always true, so that `if login(..)` would let everybody in, as a list in JSON does."""
+    for password, stored, policy, is_match, is_new in (
+        *(("password", MD5, Policy("md5crypt"), True, False), ("password", MD5, QUICK, True, True)),
+        *(("passw0rd", MD5, QUICK, False, False), ("", MD5, Policy("md5crypt"), False, False)),
+        *(("password", field, QUICK, False, False) for field in [*LOCKED, *OTHERS]),
     ):
-        verdict = verify_and_update(password, stored, method)
+        verdict = policy.login(password, field=stored)
         matches, new = verdict
         assert bool(verdict) is matches is verdict.matches is verdict[0] is is_match
         assert (verdict == True) is (verdict != False) is (verdict != None) is (verdict in [True, 5, "x"]) is is_match  # noqa: E711, E712
@@ -358,19 +419,17 @@ def test_the_truth_of_verify_and_update_is_that_of_the_match():
 
 NEW = {
     "md5crypt": {None: "$1$", 5: "$1$"},
-    "sha256crypt": {None: "$5$", 0: "$5$", 1000: "$5$rounds=1000$"},
-    "sha512crypt": {None: "$6$", 0: "$6$", 5000: "$6$rounds=5000$", 12345: "$6$rounds=12345$"},
+    "sha256crypt": {None: "$5$rounds=656000$", 1000: "$5$rounds=1000$"},
+    "sha512crypt": {None: "$6$rounds=656000$", 0: "$6$rounds=656000$", 5000: "$6$rounds=5000$", 12345: "$6$rounds=12345$"},
     "scrypt": {None: "$7$CU..../....", 0: "$7$CU..../....", 6: "$7$BU..../...."},
 }
 
 
 @pytest.mark.parametrize("method, rounds, front", [(method, *row) for method, rows in NEW.items() for row in rows.items()])
 def test_new_hashes(method, rounds, front):
-    stored = hash("pässword", method, rounds=rounds)
-    assert stored.startswith(front) and stored == libxcrypt("pässword", stored)
-    assert not needs_rehash(stored, method, rounds) and not verify("passwörd", stored)
-    assert verify_and_update("pässword", stored, method, rounds) == (True, None)
-    assert hash("pässword", method, rounds=rounds) != stored
+    policy = Policy(method, rounds)
+    stored = policy.hash("pässword")
+    assert stored.startswith(front) and stored == libxcrypt("pässword", stored) and policy.hash("pässword") != stored
 
 
 SCRYPT = "$7$CU..../....s"
@@ -378,25 +437,24 @@ SCRYPT = "$7$CU..../....s"
 
 @pytest.mark.parametrize("stored, method, rounds", [(MD5, "md5crypt", 0), (SHA512, "sha512crypt", 5000), (SCRYPT, "scrypt", 7)])
 def test_needs_rehash(stored, method, rounds):
-    assert not needs_rehash(stored, method) and not needs_rehash(stored, method, rounds)
-    assert needs_rehash(stored, "sha256crypt")
+    assert not Policy(method, rounds).needs_rehash(stored) and Policy("sha256crypt").needs_rehash(stored)
+    assert Policy(method).needs_rehash(stored) is (stored is SHA512) and needs_rehash(stored)
     if rounds:
-        assert needs_rehash(stored, method, rounds + 1) and not needs_rehash(stored, method, rounds - 1)
-    assert needs_rehash(stored) is (stored is not SHA512) and needs_rehash(stored, "scrypt") is (method != "scrypt")
+        assert Policy(method, rounds + 1).needs_rehash(stored) and not Policy(method, rounds - 1).needs_rehash(stored)
 
 
-def test_cost_and_work():
+def test_costs():
     """By the messages of RFC 7914, section 6, and of md5crypt: see docs/FORMATS.md."""
-    assert work(MD5, 8) == mkpasswd.Work(digests=1002, bytes=36239, mixes=0, table=0, scratch=0)
     n, r = 2**14, 32
-    assert work("$7$CU..../....salt", 8) == (8 * r + 2, 4 * r * 168 + 164 + 128 * r, 2 * n, 128 * n * r, 384 * r)
-    assert cost("$5$saltstring", 12) == 307760 and cost(SHA512, 1024) == work(SHA512, 1024).bytes
+    assert cost("$7$CU..../....salt", 8) == 4 * r * 168 + 164 + 128 * r + 2 * n * 128 * r
+    assert (cost(MD5, 8), cost("$5$saltstring", 12)) == (36239, 307760)
 
 
 @pytest.mark.parametrize("setting", ["$1$salt", "$5$salt", "$6$rounds=656000$saltsaltsaltsalt", "$7$BU..../....salt"])
 def test_a_hash_is_dead_once_its_form_is_changed(setting):
     stored = libxcrypt("password", setting)
-    assert describe(stored, "md5crypt", budget=math.inf).state == ("current" if setting[1] == "1" else "outdated")
+    describe = Policy("md5crypt", budget=2**42).describe
+    assert describe(stored).state == ("current" if setting[1] == "1" else "outdated")
     longer = [stored + "x", stored + "$", stored + "$x", stored[:-1] + "z"]
     for field in *longer, *(stored[:length] for length in range(len(setting), len(stored))):
         method, cost, state, reason = describe(field)
@@ -408,13 +466,12 @@ def test_descriptions_by_the_recommended_rounds():
 
     def states(**made):
         fields = ("$6$rounds=%d$saltsaltsaltsalt$%s" % (number, "." * 86) for number in (655_999, 656_000, 656_001))
-        return [describe(field, **made).state for field in fields]
+        return [Policy(**made).describe(field).state for field in fields]
 
-    for made in {}, {"rounds": 0}, {"rounds": 656_000, "budget": 0}, {"budget": None}:
+    for made in {}, {"rounds": 0}, {"rounds": 656_000}:
         assert states(**made) == ["outdated", "current", "over budget"]
-    assert states(rounds=656_001, budget=math.inf) == ["outdated", "outdated", "current"]
+    assert states(rounds=656_001, budget=2**42) == ["outdated", "outdated", "current"]
     assert states(method="scrypt") == ["outdated", "outdated", "over budget"]
-    assert describe(SCRYPT + "$" + "." * 43, "scrypt").state == "current"
 
 
 # The first is what md5crypt digests of 1,024 bytes.
@@ -428,4 +485,4 @@ def test_descriptions_are_what_the_command_prints(made, budget):
     said = ended(ROOT / "mkpasswd", *options.split(), input="".join("ann:%s\n" % field for field in fields))[1]
     printed = re.sub(r"(?m)^ann:(?:(\w+:)[\d/]+:(?=\d+:)|\w+:(?=unknown$))?", r"\1", said).splitlines()
     for form in str, str.encode:
-        assert [str(describe(form(field), *made, budget=budget)) for field in fields] == printed
+        assert [str(Policy(*made, budget or None).describe(form(field))) for field in fields] == printed

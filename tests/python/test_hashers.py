@@ -1,8 +1,6 @@
 """passlib and Django take the package, with the samples of docs/PYTHON.md as they are printed."""
-import math
 import os
 import sys
-import types
 import warnings
 
 import mkpasswd
@@ -31,29 +29,37 @@ def test_recipe_of_passlib(passlib):
     assert context.verify("pässword", stored) and not context.verify("passwörd", stored)
     assert context.verify_and_update("passw0rd", MD5) == (False, None)
     assert context.verify_and_update("pässword", stored) == (True, None)
-    with pytest.raises(mkpasswd.TooCostly):
-        context.verify("password", BEYOND)
-    # The default budget admits the last two with 5000 rounds, and not with 656000. A hash of the last takes eight seconds.
-    for word in "password", "x" * 83, "\U0001f511" * 256:
-        matches, new = context.verify_and_update(word, MD5 if word == "password" else mkpasswd.hash(word))
-        assert matches and new.startswith(FRONT)
-        assert len(word) > 83 or (context.verify(word, new) and not context.verify(word[:-1] + "y", new))
-    # By hand passlib's own rounds stay, and the budget admits 82 bytes.
-    stored = mkpasswd.passlib.sha512_crypt.hash("x" * 82)
-    assert stored.startswith(FRONT) and mkpasswd.passlib.sha512_crypt.verify("x" * 82, stored)
-    for word, error in ("x" * 83, mkpasswd.TooCostly), ("x" * 1025, ValueError):
+    assert context.verify("password", BEYOND) is False
+    matches, new = context.verify_and_update("password", MD5)
+    assert matches and new.startswith(FRONT) and new == libxcrypt("password", new)
+    stored = context.hash("x" * 168)
+    assert context.verify("x" * 168, stored) and not context.verify("x" * 169, stored)
+    for word, error in ("x" * 169, mkpasswd.TooCostly), ("x" * 1025, ValueError):
         with pytest.raises(error):
-            mkpasswd.passlib.sha512_crypt.hash(word)
+            context.hash(word)
+
+
+def test_a_hash_of_passlib_is_current(passlib):
+    for name in "md5_crypt", "sha256_crypt", "sha512_crypt":
+        handler = getattr(mkpasswd.passlib, name)
+        context = passlib.context.CryptContext([handler])
+        stored = context.hash("pässword")
+        assert context.verify_and_update("pässword", stored) == (True, None) and stored == libxcrypt("pässword", stored)
+        assert mkpasswd.Policy(name.replace("_", "")).login("pässword", field=stored) == (True, None)
+    assert passlib.context.CryptContext([mkpasswd.passlib.sha512_crypt]).verify_and_update("Hello world!", SHA512)[1].startswith(FRONT)
+    # With fewer rounds of one's own those are the least, and with a budget of one's own the longest password gets in.
+    few = passlib.context.CryptContext([mkpasswd.passlib.sha512_crypt], sha512_crypt__rounds=5000, sha512_crypt__budget=10**9)
+    assert few.verify_and_update("Hello world!", SHA512) == (True, None)
+    assert few.verify("\U0001f511" * 256, few.hash("\U0001f511" * 256))
 
 
 def test_passlib_finds_the_handlers_by_name(passlib):
     """In a context that is written to a file and read again, budget and all."""
-    context = recipe("passlib")["context"]
+    context = recipe("passlib")["context"].using(sha512_crypt__budget=1_000_000_000)
     again = passlib.context.CryptContext.from_string(context.to_string())
     assert again.to_string() == context.to_string() and "NOTE" not in context.to_string()
-    assert again.handler("sha512_crypt").budget == 1_300_000_000
-    with pytest.raises(mkpasswd.TooCostly):
-        again.verify("password", BEYOND)
+    assert again.handler("sha512_crypt").budget == 1_000_000_000
+    assert again.verify("password", BEYOND) is False
     for name in "md5_crypt", "sha256_crypt", "sha512_crypt":
         assert passlib.registry.get_crypt_handler(name) is getattr(mkpasswd.passlib, name)
 
@@ -61,17 +67,16 @@ def test_passlib_finds_the_handlers_by_name(passlib):
 @pytest.mark.parametrize("name, stored, word", [("md5_crypt", MD5, "password"), ("sha256_crypt", SHA256, "Hello world!")])
 def test_budget_of_passlib(passlib, name, stored, word):
     handler, most = getattr(mkpasswd.passlib, name), mkpasswd.cost(stored, len(word))
-    for budget in most, str(most), math.inf, "inf":
+    for budget in most, str(most), 2**42:
         changed = handler.using(budget=budget)
-        assert changed.verify(word, stored) and changed.using().budget == changed.budget == float(budget)
+        assert changed.verify(word, stored) and changed.using().budget == changed.budget == int(budget)
         context = passlib.context.CryptContext([handler], **{name + "__budget": budget})
         assert context.verify(word, stored) and context.to_dict()[name + "__budget"] == budget
-    with pytest.raises(mkpasswd.TooCostly):
-        handler.using(budget=0).verify(word, stored)
-    for budget, error in (-1, ValueError), ("x", ValueError), (1.5, TypeError), (True, TypeError):
+    assert handler.using(budget=1).verify(word, stored) is False
+    for budget, error in (-1, ValueError), (0, ValueError), ("x", ValueError), (1.3e9, TypeError), (True, TypeError):
         with pytest.raises(error):
             handler.using(budget=budget)
-    assert handler.budget == handler.using().budget == mkpasswd.DEFAULT_BUDGET and "budget" not in handler.parsehash(stored)
+    assert handler.budget == handler.using().budget is None and "budget" not in handler.parsehash(stored)
 
 
 # Fields of a database of Django, and those that can't be checked: of another scheme, without a valid setting, too costly, locked.
@@ -89,11 +94,8 @@ def hashers():
 
     if not settings.configured:
         names = {}
-        exec(BLOCKS["Django"][1], names)
+        exec(BLOCKS["Django"][0], names)
         settings.configure(PASSWORD_HASHERS=names["PASSWORD_HASHERS"])
-        for name in "mysite", "mysite.hashers":
-            sys.modules[name] = types.ModuleType(name)
-        exec(BLOCKS["Django"][0], vars(sys.modules["mysite.hashers"]))
     from django.contrib.auth import hashers
 
     return hashers
@@ -125,7 +127,7 @@ def test_recipe_of_django(hashers, monkeypatch):
 
 @pytest.mark.parametrize(
     "method, rounds, made, longest",
-    [("md5crypt", None, 8, 8), ("sha256crypt", 3000, 16, 16), ("sha512crypt", None, 16, 16), ("scrypt", 6, 22, 86)],
+    [("md5crypt", None, 8, 8), ("sha256crypt", 3000, 16, 16), ("sha512crypt", None, 16, 16), ("scrypt", None, 22, 86)],
 )
 def test_hasher_of_django(hashers, method, rounds, made, longest):
     hasher = hasher_with(method=method, rounds=rounds)
@@ -133,9 +135,10 @@ def test_hasher_of_django(hashers, method, rounds, made, longest):
         encoded = hasher.encode("password", salt)
         assert encoded[8:] == libxcrypt("password", encoded[8:]) and encoded.endswith("%s$%s" % (salt, hasher.decode(encoded)["hash"]))
         assert hasher.verify("password", encoded) and not hasher.verify("passw0rd", encoded) and not hasher.must_update(encoded)
+        assert mkpasswd.Policy(method, rounds).login("password", field=encoded[8:]) == (True, None)
         decoded, summary = hasher.decode(encoded), hasher.safe_summary(encoded)
         assert (decoded["algorithm"], decoded["method"], decoded["salt"]) == ("mkpasswd", method, salt)
-        assert decoded["rounds"] == {"sha256crypt": 3000, "sha512crypt": 5000}.get(method)
+        assert decoded["rounds"] == {"sha256crypt": 3000, "sha512crypt": 656_000}.get(method)
         assert list(summary)[1:] == ["method", "rounds", "salt", "hash"] and decoded["hash"] not in summary.values()
     assert len(hasher.salt()) == made
     # None is cut, as no other call of the package cuts one.
@@ -163,22 +166,34 @@ def test_django_does_the_same_work_for_every_name(hashers, monkeypatch):
     for field in [stored, *UNCHECKED]:
         digests.clear()
         assert not hashers.check_password("passw0rd", field) and sum(digests) == unknown > 1000, field
-    # A password that costs more than the budget is a failed login for both.
-    hasher = hasher_with(rounds=656_000)
-    assert not hasher.verify("x" * 83, "mkpasswd" + FRONT + "a" * 16 + "$" + "x" * 86)
+    # A password that costs more than the limit is a failed login for both, at once, whatever is stored.
+    hasher = hasher_with(rounds=None)
+    digests.clear()
+    for stored in "mkpasswd" + FRONT + "a" * 16 + "$" + "x" * 86, "mkpasswd" + SHA512, "mkpasswd" + MD5:
+        assert not hasher.verify("x" * 169, stored)
+        hasher.harden_runtime("x" * 169, stored)
     with pytest.raises(sys.modules["mkpasswd.django"].InvalidPassword):
-        hasher.encode("x" * 83, "a" * 16)
+        hasher.encode("x" * 169, "a" * 16)
+    assert sum(digests) == 0
 
 
 def test_django_spends_what_is_missing(hashers, monkeypatch):
     hasher, spent = hasher_with(rounds=8000), []
-    monkeypatch.setattr("mkpasswd.django.hash", lambda word, method, rounds, budget: spent.append((method, rounds)))
+    monkeypatch.setattr(mkpasswd.Policy, "hash", lambda policy, password: spent.append((policy.method, policy.rounds)))
     for field in "mkpasswd" + SHA512, "mkpasswd" + MD5:
         assert hasher.must_update(field)
         hasher.harden_runtime("x", field)
-    assert spent == [("sha512crypt", 3000), ("sha512crypt", 8000)]
+    hasher_with().harden_runtime("x", "mkpasswd" + SHA512)
+    assert spent == [("sha512crypt", 3000), ("sha512crypt", 8000), ("sha512crypt", 651_000)]
 
 
+def test_django_refuses_a_wrong_policy_at_once(hashers):
+    for attributes in {"budget": 1.3e9}, {"rounds": "656000"}, {"rounds": 12}, {"method": "bcrypt"}, {"budget": 0}:
+        with pytest.raises((TypeError, ValueError)):
+            hasher_with(**attributes)
+
+
+REFUSALS = "over budget: the hash can cost more than 253921472\npassword too long\n"
 SITE = """
 import django
 django.setup()
@@ -188,30 +203,31 @@ from django.core.management import call_command
 from django.forms import CharField
 
 call_command("migrate", verbosity=0)
-users, long, longest = get_user_model().objects, "x" * 83, "\U0001f511" * 256
+users, long, longest = get_user_model().objects, "x" * 168, "\U0001f511" * 42
 for name, password in ("ann", long), ("bob", longest):
-    users.create(username=name, password="mkpasswd" + mkpasswd.hash(password))
+    users.create(username=name, password="mkpasswd" + mkpasswd.Policy(rounds=5000).hash(password))
     assert authenticate(username=name, password=password).username == name
     assert users.get(username=name).password.startswith("mkpasswd$6$rounds=656000$")
 assert authenticate(username="ann", password=long).username == "ann"
-for password in "y" * 83, "y" * 256:
+for password in "y" * 168, "y" * 169, "y" * 256:
     for name in "ann", "nobody":
         assert authenticate(username=name, password=password) is None
 
 class LoginForm(forms.AuthenticationForm):
-    password = CharField(max_length=256)
+    password = CharField(max_length=168)
 
-for password in "y" * 257, "y" * 1025, "y\\0":
+for password in "y" * 169, "y" * 1025, "y\\0":
     for name in "ann", "nobody":
         assert not LoginForm(data={"username": name, "password": password}).is_valid()
 assert LoginForm(data={"username": "ann", "password": long}).is_valid()
 for password in "y" * 1025, "y\\0", "\\ud800":
     for name in "ann", "nobody":
         assert authenticate(username=name, password=password) is None
-try:
-    users.get(username="ann").set_password("y" * 1025)
-except ValueError as error:
-    print(error)
+for password in "y" * 169, "y" * 1025:
+    try:
+        users.get(username="ann").set_password(password)
+    except ValueError as error:
+        print(error)
 for field in %r:
     summary = forms.ReadOnlyPasswordHashWidget().get_context("password", field, {})["summary"]
     assert "UYCIxa628" not in str(summary), summary
@@ -222,11 +238,10 @@ def test_site_of_django(tmp_path):
     """With the hasher and the settings of docs/PYTHON.md, the login is the same for each name."""
     needs("django", "python3-django")
     (tmp_path / "mysite").mkdir()
-    (tmp_path / "mysite/hashers.py").write_text(BLOCKS["Django"][0])
     (tmp_path / "mysite/settings.py").write_text(
-        BLOCKS["Django"][1] + "INSTALLED_APPS = ['django.contrib.auth', 'django.contrib.contenttypes']\nSECRET_KEY = 'x'\n"
+        BLOCKS["Django"][0] + "INSTALLED_APPS = ['django.contrib.auth', 'django.contrib.contenttypes']\nSECRET_KEY = 'x'\n"
         "DATABASES = {'default': {'ENGINE': 'django.db.backends.sqlite3', 'NAME': ':memory:'}}\n"
         "DEFAULT_AUTO_FIELD = 'django.db.models.AutoField'\n"
     )
     environment = dict(os.environ, DJANGO_SETTINGS_MODULE="mysite.settings")
-    assert run_python(SITE % ODD_FIELDS, cwd=str(tmp_path), env=environment) == "password too long\n"
+    assert run_python(SITE % ODD_FIELDS, cwd=str(tmp_path), env=environment) == REFUSALS

@@ -71,7 +71,7 @@ def test_recipe_of_an_audit(database, capsys):
 def test_recipe_of_logging(capsys):
     names = recipe("Logging")
     names["user"].set("ann\n")
-    mkpasswd.login("password", "!")
+    mkpasswd.login("password", field="!")
     names["logger"].removeHandler(names["handler"])
     assert capsys.readouterr().err.endswith(" 'ann\\n': login refused: locked\n")
 
@@ -121,6 +121,8 @@ FILTERS = {
     "verdicts": "{{ vaulted | mkpasswd_verify(stored) }} {{ 'passw0rd' | mkpasswd_verify(stored) }}",
     "refused": "{{ 's3cret\0' | mkpasswd_hash }}",
     "number": "{{ 5 | mkpasswd_hash }}",
+    "recommended": "{{ fresh | mkpasswd_verify(fresh_hash) }} {{ (fresh | mkpasswd_hash(current=fresh_hash)) == fresh_hash }}",
+    "long": "{{ ('x' * 169) | mkpasswd_hash }}",
 }
 
 
@@ -133,7 +135,7 @@ def test_recipe_of_ansible(tmp_path):
     (tmp_path / "vault.yml").write_text(vault[vault.index("vaulted:") :].split("\nEncryption")[0])
     (tmp_path / "filter_plugins").mkdir()
     (tmp_path / "filter_plugins/mkpasswd.py").write_text(BLOCKS["Ansible"][0])
-    play = {"hosts": "localhost", "gather_facts": False, "vars": {"stored": MD5}, "vars_files": ["vault.yml"]}
+    play = {"hosts": "localhost", "gather_facts": False, "vars": {"stored": MD5, "fresh": "x" * 168, "fresh_hash": mkpasswd.hash("x" * 168)}, "vars_files": ["vault.yml"]}
     play["tasks"] = [{"name": name, "debug": {"msg": words}, "ignore_errors": True} for name, words in FILTERS.items()]
     (tmp_path / "play.yml").write_text(json.dumps([play]))
     place = dict(cwd=str(tmp_path), env=dict(os.environ, HOME=str(tmp_path), LC_ALL="C.UTF-8"))
@@ -142,9 +144,10 @@ def test_recipe_of_ansible(tmp_path):
     said = {name: json.loads(message) for name, message in said}
     assert said["kept"] == MD5 and said["verdicts"] == "True False" and said["unlocked"] == "False False True"
     for name, word, front in (
-        *(("new", "pässword", "$6$rounds=6000$"), ("renewed", "password", "$6$"), ("changed", "passw0rd", "$1$")),
+        *(("new", "pässword", "$6$rounds=6000$"), ("renewed", "password", "$6$rounds=656000$"), ("changed", "passw0rd", "$1$")),
         *(("relocked", "password", "$1$"), ("replaced", "password", "$1$")),
     ):
-        assert said[name].startswith(front) and mkpasswd.verify(word, said[name]), name
-    assert "rounds must be 1000 to 999999999, or 0 for the default" in said["weak"]
+        assert said[name].startswith(front) and mkpasswd.verify(word, field=said[name]), name
+    assert said["recommended"] == "True True" and "more than 253921472" in said["long"]
+    assert "rounds must be 1000 to 999999999, or 0 for 656000" in said["weak"]
     assert "password has a zero byte" in said["refused"] and "must be str or bytes, not int" in said["number"]

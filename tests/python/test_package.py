@@ -12,8 +12,8 @@ from support import LIBRARY, MD5, ROOT, ended, missing, needs, run
 
 TRY = """
 import doctest, mkpasswd
-assert mkpasswd.verify("password", "%s") is True and mkpasswd.verify("passw0rd", "%s") is False
-assert not doctest.testmod(mkpasswd).failed
+assert mkpasswd.verify("password", field="%s") and not mkpasswd.verify("passw0rd", field="%s")
+assert not doctest.testmod(mkpasswd).failed and not doctest.testmod(mkpasswd.crypt).failed
 print(mkpasswd.lib._name)
 """ % (MD5, MD5)
 # What an interpreter has that was never told of this tree.
@@ -25,20 +25,21 @@ def test_numbers_are_the_headers():
     defined = dict(re.findall(r"^#define MKPASSWD_(\w+) \(*(?:uint64_t\))?(-?\d+)\)?", header, re.M))
     assert int(defined["TEXT_SIZE"]) == _library.TEXT_SIZE
     assert int(defined["PASSWORD_LIMIT"]) == _library.PASSWORD_LIMIT
-    assert int(defined["BUDGET"]) == mkpasswd.DEFAULT_BUDGET
+    assert mkpasswd.crypt.mksalt().split("$")[2] == "rounds=%d" % mkpasswd._calls.RECOMMENDED_ROUNDS
     reasons = re.findall(r"^#define MKPASSWD_(?:REFUSED_)?(\w+) \(?(-?\d+)\)? +/\* ([a-z ]+?)(?::| \*/)", header, re.M)
     assert {(reason.name, reason.value, reason.words) for reason in mkpasswd.Reason} == {
         (name, int(number), words) for name, number, words in reasons
     }
-    assert [int(defined[name.upper()]) for name in mkpasswd._NUMBERS] == list(mkpasswd._NUMBERS.values())
+    assert [int(defined[name.upper()]) for name in mkpasswd._calls.NUMBERS] == list(mkpasswd._calls.NUMBERS.values())
     fields = re.search(r"struct mkpasswd_report \{(.*?)\};", header, re.S).group(1)
     assert re.findall(r"^    (?:\w+_t|struct \w+) (\w+);", fields, re.M) == [name for name, _ in _library.Report._fields_]
     assert mkpasswd.__version__ == run(ROOT / "tools/version").strip()
 
 
 def test_doctests():
-    result = doctest.testmod(mkpasswd)
-    assert result.failed == 0 and result.attempted > 15
+    for module, least in (mkpasswd, 15), (mkpasswd.crypt, 3):
+        result = doctest.testmod(module)
+        assert result.failed == 0 and result.attempted > least
 
 
 def test_types(tmp_path):
@@ -48,14 +49,41 @@ def test_types(tmp_path):
     mypy = ["/usr/bin/mypy", "--strict", "--no-site-packages", "--cache-dir", tmp_path / "cache"]
     run(*mypy, "--ignore-missing-imports", "--allow-subclassing-any", "--follow-imports=silent", ROOT / "python/src/mkpasswd")
     user = tmp_path / "user.py"
-    user.write_text(
-        "import math, mkpasswd\nstored: str = mkpasswd.hash(b'x', 'scrypt', rounds=6)\n"
-        "match, new = mkpasswd.verify_and_update('x', stored, budget=math.inf)\nmatch = mkpasswd.verify('x', new or stored)\n"
-        "print(mkpasswd.cost(stored, 1) + mkpasswd.work(stored, 1).bytes, mkpasswd.crypt('x', mkpasswd.methods[0]))\n"
-        "mkpasswd.verify('x', None)\nmkpasswd.verify('x', 'y', budget=None)\nmkpasswd.hash(5)\n"
-    )
-    status, said = ended(*mypy, user, env=dict(os.environ, MYPYPATH=str(ROOT / "python/src")))
-    assert status == 1 and "Found 3 errors" in said and set(re.findall(r"user.py:(\d+)", said)) == {"6", "7", "8"}
+    right = """
+import mkpasswd
+from mkpasswd import crypt
+policy = mkpasswd.Policy("scrypt", 6, budget=2**42)
+stored: str = policy.hash(b"x")
+matches, new = result = policy.login("x", field=None)
+is_match: bool = mkpasswd.verify("x", field=new or stored) and mkpasswd.needs_rehash(stored)
+print(mkpasswd.cost(stored, 1), crypt.crypt("x", crypt.methods[0]), mkpasswd.describe(stored).state == "dead")
+"""
+    # What somebody careless writes, and what 1.3.0 took.
+    wrong = """
+mkpasswd.verify("x", field=None)
+mkpasswd.hash(5)
+mkpasswd.login("x", stored)
+mkpasswd.login("x")
+mkpasswd.login(stored, "x", field=stored)
+mkpasswd.verify("x", stored)
+mkpasswd.verify("x", field=stored, budget=150000000)
+mkpasswd.hash("x", rounds=5000)
+mkpasswd.Policy(budget=1.3e9)
+mkpasswd.Policy(rounds=5e3)
+mkpasswd.Policy(656000)
+mkpasswd.verify_and_update("x", stored)
+mkpasswd.crypt("x", stored)
+mkpasswd.mksalt()
+if mkpasswd.describe(stored).state == "ok": pass
+if result is False: print("no")
+if result is None: print("no")
+if result == 0: print("no")
+if mkpasswd.login: pass
+"""
+    user.write_text(right + wrong)
+    status, said = ended(*mypy, "--warn-unreachable", user, env=dict(os.environ, MYPYPATH=str(ROOT / "python/src")))
+    lines = range(right.count("\n") + 2, (right + wrong).count("\n") + 1)
+    assert status == 1 and sorted(set(map(int, re.findall(r"user.py:(\d+): error", said)))) == list(lines), said
 
 
 @pytest.fixture(scope="module")
@@ -90,7 +118,7 @@ def test_wheel_in_a_fresh_environment(wheel, tmp_path):
     assert "--no-index" in commands
     shutil.copy(str(wheel), str(tmp_path))
     said = run("sh", "-ec", commands, cwd=str(tmp_path), env=dict(ELSEWHERE, PATH="/usr/bin:/bin")).split("\n")[-2]
-    assert said.startswith("$6$") and mkpasswd.verify("x", said)
+    assert said.startswith("$6$") and mkpasswd.verify("x", field=said)
     at = run("v/bin/python", "-c", TRY, cwd=str(tmp_path), env=ELSEWHERE).strip()
     assert at.startswith(str(tmp_path / "v/lib")) and "site-packages/mkpasswd/libmkpasswd.so.2" in at
 

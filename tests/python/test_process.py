@@ -13,11 +13,11 @@ from support import MD5, ended, run_python
 
 def test_other_threads_run_while_a_hash_is_made():
     """With the interpreter's lock kept, this thread would get next to no processor time."""
-    stored, spent = mkpasswd.hash("password", rounds=1_000_000), []
+    stored, spent = mkpasswd.Policy(rounds=1_000_000).hash("password"), []
 
     def verify():
         began = time.thread_time()
-        assert mkpasswd.verify("password", stored)
+        assert mkpasswd.verify("password", field=stored)
         spent.append(time.thread_time() - began)
 
     thread, began = threading.Thread(target=verify), time.thread_time()
@@ -28,10 +28,10 @@ def test_other_threads_run_while_a_hash_is_made():
 
 
 def test_threads_get_their_own_answers():
-    stored = [mkpasswd.hash("password %d" % n, "md5crypt") for n in range(40)]
+    stored = [mkpasswd.Policy("md5crypt").hash("password %d" % n) for n in range(40)]
     pairs = [(n, m) for n in range(40) for m in range(40)]
     with ThreadPoolExecutor(8) as pool:
-        answers = list(pool.map(lambda pair: mkpasswd.verify("password %d" % pair[0], stored[pair[1]]), pairs))
+        answers = list(pool.map(lambda pair: mkpasswd.verify("password %d" % pair[0], field=stored[pair[1]]), pairs))
     assert answers == [n == m for n, m in pairs]
 
 
@@ -40,13 +40,15 @@ import resource, mkpasswd
 used = int(open("/proc/self/statm").read().split()[0]) * resource.getpagesize()
 resource.setrlimit(resource.RLIMIT_AS, (used + (32 << 20),) * 2)
 setting = "$7$CU..../....salt"
-for call, *words in (mkpasswd.hash, "x", "scrypt"), (mkpasswd.verify, "x", setting), (mkpasswd.crypt, "x", setting):
+policy = mkpasswd.Policy("scrypt")
+calls = lambda: policy.hash("x"), lambda: policy.verify("x", field=setting), lambda: mkpasswd.crypt.crypt("x", setting)
+for call in calls:
     try:
-        print(call(*words))
+        print(call())
     except MemoryError as error:
         print(error)
 for field in setting, None, "%s":
-    print(*mkpasswd.login("password", field, "scrypt", 7))
+    print(*policy.login("password", field=field))
 """
 
 

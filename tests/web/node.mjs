@@ -17,6 +17,11 @@ const audited = JSON.parse(audits).map((given) => why(() => {
     const found = audit(...given);
     return `${found.message} ${found.reason} ${found.cost}`;
 }));
+// By default, and by the module's own recommended rounds.
+const [most, long] = ['x'.repeat(168), 'x'.repeat(169)];
+const standard = hash(most);
+const defaults = [standard.slice(0, 17), setting('sha512crypt', 0).slice(0, 17), verify(most, standard), why(() => hash(long)),
+    why(() => verify(long, standard)), String(2 * cost(setting('sha512crypt', 0), 64))];
 const made = ['sha512crypt', 'sha256crypt', 'md5crypt'].map((method) => hash('password', setting(method, 1234)));
 
 const worker = new Worker(new URL('check.mjs', `file://${file}`), { stderr: true });
@@ -52,4 +57,4 @@ let count = 0;
         if (++count < 1500) throw error;
     }
 })();
-console.log(JSON.stringify({ refused, made, after: why(() => verify('password', made[2])), answers, audited, costs, checked }));
+console.log(JSON.stringify({ refused, defaults, made, after: why(() => verify('password', made[2])), answers, audited, costs, checked }));

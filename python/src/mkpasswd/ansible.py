@@ -6,35 +6,36 @@ from typing import Any, Callable, Dict, Optional
 
 from ansible.errors import AnsibleFilterError
 
-from . import Refused, hash, needs_rehash, verify
+from . import Policy, Refused
 
 __all__ = ["FilterModule"]
 
 
 def mkpasswd_hash(
-    password: Any, method: str = "sha512crypt", rounds: Optional[int] = None, current: Optional[str] = None
+    password: Any,
+    method: str = "sha512crypt",
+    rounds: Optional[int] = None,
+    current: Optional[str] = None,
+    budget: Optional[int] = None,
 ) -> str:
-    """A hash of the password: `current`, if that matches and is not outdated, so that a task changes nothing then.
-
-    Give rounds, 656000: without them there are 5000, too few today.
-    """
+    """A hash of the password: `current`, if that matches and is not outdated, so that a task changes nothing then."""
     try:
-        word = _text(password)
+        word, policy = _text(password), Policy(method, rounds, budget)
         if current is not None:
             try:
-                if not needs_rehash(current, method, rounds) and verify(word, current):
+                if not policy.needs_rehash(current) and policy.verify(word, field=current):
                     return current
             except Refused:
                 pass
-        return hash(word, method, rounds=rounds)
+        return policy.hash(word)
     except (TypeError, ValueError) as fault:
         raise AnsibleFilterError("mkpasswd_hash: %s" % fault) from None
 
 
-def mkpasswd_verify(password: Any, stored: str) -> bool:
+def mkpasswd_verify(password: Any, stored: str, budget: Optional[int] = None) -> bool:
     """Whether the password matches the stored hash."""
     try:
-        return verify(_text(password), stored)
+        return Policy(budget=budget).verify(_text(password), field=stored)
     except (TypeError, ValueError) as fault:
         raise AnsibleFilterError("mkpasswd_verify: %s" % fault) from None
 

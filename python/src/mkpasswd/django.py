@@ -1,12 +1,10 @@
-"""A password hasher for Django.
+"""A password hasher for Django, by the recommended policy, or by that of a class of your own:
 
     class SitePasswordHasher(MkpasswdPasswordHasher):
-        rounds = 656000
-        budget = 1300000000
+        rounds = 1000000
 
-PASSWORD_HASHERS has the name of such a class: the one here makes hashes of 5000 rounds. Django reads the algorithm in front
-of the first "$", so a hash is stored as "mkpasswd$6$..". Put "mkpasswd" in front of hashes of these methods that come from
-elsewhere.
+Django reads the algorithm in front of the first "$", so a hash is stored as "mkpasswd$6$..". Put "mkpasswd" in front of hashes
+of these methods that come from elsewhere.
 """
 import re
 from contextlib import suppress
@@ -16,7 +14,8 @@ from django.contrib.auth.hashers import BasePasswordHasher, mask_hash
 from django.core.exceptions import PermissionDenied
 from django.utils.translation import gettext_noop as _
 
-from . import DEFAULT_BUDGET, Refused, _limit, _login, _method, _password, _setting, cost, crypt, hash, needs_rehash
+from . import Policy, Refused, _calls, cost
+from .crypt import crypt
 
 __all__ = ["InvalidPassword", "MkpasswdPasswordHasher"]
 
@@ -41,7 +40,15 @@ class MkpasswdPasswordHasher(BasePasswordHasher):
     algorithm = "mkpasswd"
     method = "sha512crypt"
     rounds: Optional[int] = None
-    budget: float = DEFAULT_BUDGET
+    budget: Optional[int] = None
+
+    def __init_subclass__(cls, **options: Any) -> None:
+        super().__init_subclass__(**options)
+        Policy(cls.method, cls.rounds, cls.budget)  # refuses a wrong one when the class is made
+
+    @property
+    def _policy(self) -> Policy:
+        return Policy(self.method, self.rounds, self.budget)
 
     def salt(self) -> str:
         return self._new_setting()[1]
@@ -51,7 +58,7 @@ class MkpasswdPasswordHasher(BasePasswordHasher):
             raise ValueError("salt must be provided and must not have a $")
         setting = self._new_setting()[0] + salt
         try:
-            encoded = crypt(password, setting, budget=self.budget)
+            encoded = crypt(password, setting, budget=self._policy._limit)
         except (MemoryError, ValueError) as fault:
             raise InvalidPassword(str(fault)) from None
         # A long salt would be cut, and of a bad one there is no hash.
@@ -61,25 +68,27 @@ class MkpasswdPasswordHasher(BasePasswordHasher):
 
     def verify(self, password: str, encoded: str) -> bool:
         # As login(), at the cost of a new hash where nothing can be checked; the new hash is Django's to make.
-        made = _method(self.method, self.rounds)
-        return _login(password, self._field(encoded), made, _limit(self.budget)) is not None
+        return self._policy._login(password, self._field(encoded)) is not None
 
     def must_update(self, encoded: str) -> bool:
         with suppress(Refused):
-            return needs_rehash(self._field(encoded), self.method, self.rounds)
+            return self._policy.needs_rehash(self._field(encoded))
         return False
 
     def harden_runtime(self, password: str, encoded: str) -> None:
         # The rounds that the stored hash has less than a new one; with another method or scrypt a whole new hash.
-        rounds = self.rounds
-        with suppress(ValueError):
-            if cost(self._field(encoded), len(_password(password))) > self.budget:
-                return  # verify() has done all of the work
-            decoded = self.decode(encoded)
-            if decoded["method"] == self.method and self.method.startswith("sha"):
-                rounds = max((rounds or 5000) - decoded["rounds"], 1000)
+        field, rounds, limit = self._field(encoded), self.rounds, self._policy._limit
         with suppress(MemoryError, ValueError):
-            hash(password, self.method, rounds=rounds, budget=self.budget)
+            length = len(_calls.password_bytes(password))
+            if cost("".join(self._new_setting()), length) > limit:
+                return  # as for an unknown name
+            with suppress(ValueError):
+                if cost(field, length) > limit:
+                    return  # verify() has done all of the work
+                decoded = self.decode(encoded)
+                if decoded["method"] == self.method and self.method.startswith("sha"):
+                    rounds = max((rounds or _calls.RECOMMENDED_ROUNDS) - decoded["rounds"], 1000)
+            Policy(self.method, rounds, limit).hash(password)
 
     def decode(self, encoded: str) -> Dict[str, Any]:
         field = self._field(encoded)
@@ -116,6 +125,6 @@ class MkpasswdPasswordHasher(BasePasswordHasher):
 
     def _new_setting(self) -> Tuple[str, str]:
         """A setting up to its salt, and the salt. scrypt's begins after eleven characters of cost."""
-        setting = _setting(_method(self.method, self.rounds))
+        setting = _calls.new_setting(self._policy._made)
         at = 14 if setting.startswith("$7$") else setting.rindex("$") + 1
         return setting[:at], setting[at:]

@@ -2,44 +2,75 @@
 
     context = passlib.context.CryptContext([mkpasswd.passlib.sha512_crypt, mkpasswd.passlib.md5_crypt], deprecated="auto")
 
-They take passlib's options (`sha512_crypt__rounds`, ..), and their hashes are the same. A hash that costs more than the
-budget raises TooCostly, a ValueError. The option `budget` sets another one: `sha512_crypt__budget` of a CryptContext, or
-`sha512_crypt.using(budget=..)`.
+They take passlib's options (`sha512_crypt__rounds`, ..), and their hashes are the same. By default they make the recommended
+rounds, and hashes with fewer are outdated. What a hash may cost is mkpasswd.Policy's limit for the handler's rounds, or the
+option `budget`: `sha512_crypt__budget` of a CryptContext, or `sha512_crypt.using(budget=..)`. Above that verify() is false,
+and hash() raises TooCostly, a ValueError.
 
 They are registered in place of passlib's own, so that CryptContext.from_string() and others that know a name alone find
 them.
 """
-import math
-from typing import Any, Union
+import logging
+from typing import Any, Optional, Union
 
 from passlib.handlers import md5_crypt as _md5, sha2_crypt as _sha2
 from passlib.registry import register_crypt_handler
 
-from . import DEFAULT_BUDGET, _limit, crypt
+from . import Policy, TooCostly
+from ._calls import RECOMMENDED_ROUNDS
+from .crypt import crypt
 
 __all__ = ["md5_crypt", "sha256_crypt", "sha512_crypt"]
 
+_LOG = logging.getLogger("mkpasswd")
+
 
 class _Crypt:
-    budget: float = DEFAULT_BUDGET
+    budget: Optional[int] = None
+    name: str
     to_string: Any
 
     # Otherwise passlib's parsehash() would read a budget from a hash.
     _unparsed_settings = (*getattr(_md5.md5_crypt, "_unparsed_settings", ()), "budget")
 
     @classmethod
-    def using(cls, budget: Union[float, str, None] = None, **options: Any) -> Any:
+    def using(cls, budget: Union[int, str, None] = None, **options: Any) -> Any:
         """As passlib's, with the option `budget`, which in a file of options is a str."""
         changed = super().using(**options)  # type: ignore[misc]
         if budget is not None:
-            if isinstance(budget, str):
-                budget = math.inf if budget == "inf" else int(budget)
-            _limit(budget)
-            changed.budget = budget
+            changed.budget = int(budget) if isinstance(budget, str) else budget
+        changed._policy()
         return changed
 
+    @classmethod
+    def verify(cls, secret: Any, hash: Any, **context: Any) -> bool:
+        """As passlib's, but false above the budget: anybody can type a password that costs more."""
+        try:
+            return super().verify(secret, hash, **context)  # type: ignore[misc, no-any-return]
+        except TooCostly as fault:
+            _LOG.debug("login refused: %s", fault)
+            return False
+
+    @classmethod
+    def _policy(cls) -> Policy:
+        return Policy(cls.name.replace("_", ""), getattr(cls, "default_rounds", None), cls.budget)
+
     def _calc_checksum(self, secret: Any) -> str:
-        return crypt(secret, self.to_string(), budget=self.budget).rpartition("$")[2]
+        return crypt(secret, self.to_string(), budget=self._policy()._limit).rpartition("$")[2]
+
+
+class _Rounds(_Crypt):
+    default_rounds: int = RECOMMENDED_ROUNDS
+    min_desired_rounds: Optional[int]
+    vary_rounds: Any
+    rounds: int
+
+    def _calc_needs_update(self, **options: Any) -> bool:
+        # For passlib any rounds will do, unless it is given the least.
+        is_given = self.min_desired_rounds is not None or self.vary_rounds is not None
+        if not is_given and self.rounds < self.default_rounds:
+            return True
+        return super()._calc_needs_update(**options)  # type: ignore[misc, no-any-return]
 
 
 class md5_crypt(_Crypt, _md5.md5_crypt):
@@ -48,13 +79,13 @@ class md5_crypt(_Crypt, _md5.md5_crypt):
     setting_kwds = (*_md5.md5_crypt.setting_kwds, "budget")
 
 
-class sha256_crypt(_Crypt, _sha2.sha256_crypt):
+class sha256_crypt(_Rounds, _sha2.sha256_crypt):
     """passlib.hash.sha256_crypt, hashed by mkpasswd."""
 
     setting_kwds = (*_sha2.sha256_crypt.setting_kwds, "budget")
 
 
-class sha512_crypt(_Crypt, _sha2.sha512_crypt):
+class sha512_crypt(_Rounds, _sha2.sha512_crypt):
     """passlib.hash.sha512_crypt, hashed by mkpasswd."""
 
     setting_kwds = (*_sha2.sha512_crypt.setting_kwds, "budget")
