@@ -136,10 +136,11 @@ for my $suite (@suites) {
         works($place, "$lintian /debs/*.deb", 'lintian has no error and no warning') if $suite eq $suites[0];
         # Whose the three files are that whois has too, how many of whois' stand aside, and how many are diverted.
         my $state = sub {
-            return inside($place, 'for file in bin/mkpasswd share/man/man1/mkpasswd.1.gz share/bash-completion/completions/mkpasswd; do
+            return inside($place, 'cd /usr
+            for file in bin/mkpasswd share/man/man1/mkpasswd.1.gz share/bash-completion/completions/mkpasswd; do
                 holder=nobody
                 for package in mkpasswd mkpasswd-default whois; do
-                    ! grep -qs "^$(md5sum < /usr/$file | cut -c 1-32) " /var/lib/dpkg/info/$package.md5sums || holder=$package
+                    ! grep -qs "^$(md5sum < $file | cut -c 1-32) " /var/lib/dpkg/info/$package.md5sums || holder=$package
                 done
                 echo ${holder%-default}
             done 2> /dev/null | sort -u
@@ -155,12 +156,12 @@ for my $suite (@suites) {
         is($state->(), 'whois 0 0', 'at first the name is whois\'');
         my ($ours, $default) = ('/debs/mkpasswd_*.deb', '/debs/mkpasswd-default_*.deb');
         my @others = map { "/debs/${_}_*.deb" } grep { $_ ne 'mkpasswd-default' } @packages;
-        my ($mine, $aside) = qw(/usr/bin/mkpasswd /usr/bin/mkpasswd.whois);
+        my ($mine, $aside, $local) = qw(/usr/bin/mkpasswd /usr/bin/mkpasswd.whois /usr/local/bin/mkpasswd);
         my $fails = "if dpkg -i $default; then exit 1; fi; test -z \"\$(dpkg --audit)\"";
         for (
-            ['whois 0 0', 'all ours but one', "echo mine > /usr/local/bin/mkpasswd; $apt install @others; mkpasswd.proved -V"],
+            ['whois 0 0', 'all ours but one', "echo mine > $local; $apt install @others; mkpasswd.proved -V"],
             ['whois 0 0', 'mkpasswd-default breaks off', "! dpkg -i $broken"],
-            ['nobody 0 1', 'a local diversion stops it', "dpkg-divert --local --rename --add $mine; $fails"],
+            ['nobody whois 0 1', 'a local diversion stops it', "dpkg-divert --local --rename --add $mine; $fails"],
             ['whois 0 0', 'that diversion goes', "test -e $mine.distrib; dpkg-divert --local --rename --remove $mine"],
             ['mkpasswd 3 3', 'mkpasswd-default over whois', "$apt install $default"],
             ['mkpasswd 3 3', 'whois\' command and manual', q{mkpasswd.whois -m yescrypt x | grep -F '$y$'; man -w mkpasswd.whois}],
@@ -180,9 +181,10 @@ for my $suite (@suites) {
             ['mkpasswd 3 3', 'it is upgraded, with mkpasswd-default', "$apt install $ours $default; mkpasswd.proved -V"],
             ['mkpasswd 3 3', '1.3.0 in place of both', "$apt remove mkpasswd-default; dpkg -i $older"],
             ['whois 0 0', 'an upgrade that is removed half-way', "dpkg --unpack $ours; dpkg --purge mkpasswd"],
-            ['mkpasswd 1 3', '1.3.0 without whois, beside another program', "$apt remove whois; echo mine > $aside; $apt install $older"],
+            ['nobody 1 0', 'another program in the place of whois', "$apt remove whois; echo mine > $aside"],
+            ['mkpasswd 1 3', '1.3.0 beside it', "$apt install $older"],
             ['nobody 1 0', 'it is upgraded', "$apt install $ours; grep mine $aside"],
-            ['whois 0 0', 'all of ours go', "rm $aside; $apt install whois; $apt purge @packages; grep mine /usr/local/bin/mkpasswd; rm /usr/local/bin/mkpasswd"],
+            ['whois 0 0', 'all of ours go', "rm $aside; $apt install whois; $apt purge @packages; grep mine $local; rm $local"],
         ) {
             my ($after, $name, $script) = @$_;
             works($place, $script, $name);
