@@ -203,7 +203,6 @@ pub extern "C" fn mkpasswd_new_from(
     ensures then_opens { result ≡ pos 1 → Opens password.now (take report.new.length out.new) (limit_of method rounds budget (length password.now)) }
     ensures then_current { result ≡ pos 1 → Rehashes (take report.new.length out.new) method rounds (refused Current 0) }
 {
-    let limit = limit_of(method, rounds, budget, password.len());
     tell(
         report,
         put_new_hash(
@@ -212,7 +211,7 @@ pub extern "C" fn mkpasswd_new_from(
             method,
             rounds,
             numbers,
-            limit,
+            limit_of(method, rounds, budget, password.len()),
             out,
             &mut Meter::new(),
         ),

@@ -8,7 +8,7 @@ use Rattle.call_core.proofs.PutNewHashes.{written}
 use Rattle.crypt_c.proofs.mkpasswd_new_from.Goals as goal
 
 pub returns-clause-hashes : goal.returns-clause-hashes
-returns-clause-hashes c = rw c.tell.ensures.told (rw c.limit_of-limit.ensures.limit at c.put_new_hash.ensures.hashes)
+returns-clause-hashes c = rw c.tell.ensures.told (rw c.limit_of.ensures.limit at c.put_new_hash.ensures.hashes)
 
 pub returns-clause-then_current : goal.returns-clause-then_current
 returns-clause-then_current c = λ one.
@@ -23,8 +23,8 @@ returns-clause-locked c = λ zero. c.put_new_hash.ensures.locked (λ positive.
 pub returns-clause-writes : goal.returns-clause-writes
 returns-clause-writes c = λ scheme made twice is within three room.
     let len = length c.args.password.now in
-    let limit = c.limit_of-limit.result in
-    let admits = admitting scheme len limit (c.limit_of-limit.ensures.by_scheme scheme made twice) is.0 within in
+    let limit = c.limit_of.result in
+    let admits = admitting scheme len limit (c.limit_of.ensures.by_scheme scheme made twice) is.0 within in
     let below : nat_lt limit (new_cost scheme len) ≡ false = grind (arith, admits, within) in
     let low : nat_lt limit (cost (salted scheme c.args.numbers.now) len) ≡ false =
     ap (nat_lt limit) (salted-cost scheme c.args.numbers.now len) ∙ below in
