@@ -46,18 +46,25 @@ my $of_methods = join '', map { lines_of($_) } sort keys %cost;
 my ($field) = $of_methods =~ /^six:(.*)/m;
 my $of_others = join '', map { "$_:$closed{$_}\n" } sort keys %closed;
 
-# Runs marked commands in the folder of the recipes.
+# Runs commands, by default marked ones, in the folder of the recipes.
 sub run_recipe {
-    my ($name) = @_;
-    my $run = run({ %in, stdin => "$password{ann}\nmore\n" }, 'sh', '-euc', marked($name, 'sh'));
-    return is($run->{status}, 0, "$name: its commands") || diag($run->{out} . $run->{err});
+    my ($name, @commands) = @_;
+    for (@commands ? @commands : marked($name, 'sh')) {
+        my $run = run({ %in, stdin => "$password{ann}\nmore\n" }, 'sh', '-euc', $_);
+        is($run->{status}, 0, "$name: its commands") or diag($run->{out} . $run->{err});
+    }
 }
 
 # Makes `hashes` of `passwords` as the recipe does, with the other users behind, and runs the recipe of a service.
 sub prepare {
     my ($name) = @_;
     run_recipe('hashes for services');
-    spew("$in{dir}/hashes", slurp("$in{dir}/hashes") . $of_methods . $of_others);
+    my $hashes = slurp("$in{dir}/hashes") . $of_methods . $of_others;
+    spew("$in{dir}/hashes", $hashes);
+    if ($name eq 'OpenLDAP') {
+        my $entry = marked($name, 'ldif');
+        spew("$in{dir}/changes", join "\n", map { my ($user, $hash) = split /:/; $entry =~ s/ann/$user/r =~ s/HASH/$hash/r } split /\n/, $hashes);
+    }
     return run_recipe($name);
 }
 
@@ -284,11 +291,14 @@ sub is_hash {
 subtest 'installers' => sub {
     needs('debconf-set-selections' => 'debconf') && needs('debconf-communicate' => 'debconf') or return;
     spew("$in{dir}/$_->[0]", "$_->[1]\n") for ['preseed.cfg', 'd-i passwd/make-user boolean true'], ['site.ks', 'reboot'];
-    run_recipe($_) for 'preseed', 'kickstart';
+    run_recipe('preseed', split /^/, marked('preseed', 'sh'));
+    run_recipe('kickstart');
     is_run(run(\%in, qw(debconf-set-selections --checkonly preseed.cfg)), 0, '', '', 'preseed: debconf has nothing to say');
     run(\%in, qw(debconf-set-selections preseed.cfg));
-    my ($hash) = run({ %in, stdin => "GET passwd/user-password-crypted\n" }, 'debconf-communicate', 'd-i')->{out} =~ /^0 (.*)\n\z/;
-    is_hash($hash // '', 'preseed: the hash in debconf');
+    for (qw(root user)) {
+        my ($hash) = run({ %in, stdin => "GET passwd/$_-password-crypted\n" }, 'debconf-communicate', 'd-i')->{out} =~ /^0 (.*)\n\z/;
+        is_hash($hash // '', "preseed: the hash of $_ in debconf");
+    }
 
     my ($of_kickstart) = slurp("$in{dir}/site.ks") =~ /^rootpw --iscrypted (\S+)\n\z/m;
     is_hash($of_kickstart // '', 'kickstart: the hash');
@@ -310,9 +320,9 @@ subtest 'Ansible' => sub {
     add_accounts();
     spew("$in{dir}/inventory", "localhost ansible_connection=local ansible_python_interpreter=/usr/bin/python3\n");
     spew("$in{dir}/users.yml", marked('Ansible', 'yaml'));
-    run_recipe('Ansible');
+    run_recipe('Ansible', 'pwhash > hash');
     is_hash(slurp("$in{dir}/hash") =~ s/\n\z//r, 'Ansible: the hash');
-    my $play = marked('playbook', 'sh');
+    my $play = 'ansible-playbook -i inventory --check users.yml';
     my $before = slurp('/etc/shadow');
     for ($play, $play =~ s/ --check//r) {
         is(slurp('/etc/shadow'), $before, 'Ansible: nothing has changed before');
