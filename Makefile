@@ -61,7 +61,10 @@ build/%/libcrypt_c.a: $(SOURCES) tools/for-cpu
 TOOLS = $(if $(filter build/aarch64/%,$@),aarch64-linux-gnu-)
 COMPILE = $(if $(TOOLS),$(TOOLS)gcc,$(CC)) -std=c99 -Wall -Wextra -O2
 RUNTIME = $(if $(TOOLS),c/runtime.c,$$(dirname $$($(RT) doc))/c/libos_c.a)
-LINKED = -Wl,-z,relro -Wl,-z,now $(LDFLAGS) -o $@
+# The level of x86-64 that a file needs, so that glibc refuses it on a lesser processor.
+comma := ,
+LEVEL = $(addprefix -Wl$(comma)-z$(comma),$(filter x86-64-v%,$(subst /, ,$(if $(filter build/%,$@),$@,$(OWN)))))
+LINKED = -Wl,-z,relro -Wl,-z,now $(LEVEL) $(LDFLAGS) -o $@
 
 # The program that takes the system's C library, and the one that brings its own.
 mkpasswd: $(OWN)/program.o c/heap.c build/cpu

@@ -604,6 +604,13 @@ subtest 'what is installed' => sub {
         is_deeply([sort $names =~ /^\S+ \w (\S+)$/mg], \@declared, 'the static library has just these');
         is_deeply([$parts =~ /(?:SONAME|NEEDED) +(\S+)/g], ['libc.so.6', 'libmkpasswd.so.2'], 'the soname, and the C library alone is needed');
     }
+    if (needs(readelf => 'binutils')) {
+        like(run('readelf', '-n', "$libs/libmkpasswd.so.2")->{out}, qr/x86 ISA needed: .*x86-64-v2/, 'glibc knows what processor the library needs');
+    }
+    if (needs('qemu-x86_64-static' => 'qemu-user-static')) {
+        my $refused = run(qw(qemu-x86_64-static -cpu core2duo), "$installed/usr/bin/mkpasswd", '-V');
+        like("$refused->{status} $refused->{err}", qr/^127 .*: CPU ISA level is lower than required$/, 'and refuses the program on a lesser one');
+    }
     my ($version) = slurp("$libs/pkgconfig/mkpasswd.pc") =~ /^Version: (.*)$/m;
     my $number = sprintf '%d%02d%02d', split /\./, $version;
     is($defined{VERSION}, $number, 'the header has the version of mkpasswd.pc');
