@@ -8,6 +8,7 @@
 # make bench       measures against libxcrypt, with the options in BENCH
 # make soak        answers LINES random lines of each kind, by SEED; make fuzz makes random calls, for FUZZ_SECONDS each
 # make specification    writes build/SPECIFICATION.md; make site all documents as web pages
+# make evidence    measures a commit for docs/EVIDENCE.md, for some hours
 # make dist        packs an archive; make image one for containers; make wheel a Python wheel; make deb Debian packages
 #
 # CPU=x86-64-v3 builds for such processors. The default is x86-64-v2, and x86-64 for make static, dist, image and wheel. Say it
@@ -42,7 +43,7 @@ export DESTDIR PREFIX LIBDIR ARCHIVE RT
 SLOW = tests/deb.t tests/arm.t tests/python tests/pam.t
 T = $(SLOW) $(filter-out $(SLOW),$(wildcard tests/*.t))
 
-.PHONY: all run static lib web fuzz test check layers specification site gate bench soak install uninstall dist \
+.PHONY: all run static lib web fuzz test check layers specification site gate evidence bench soak install uninstall dist \
 	image wheel deb clean FORCE
 .DELETE_ON_ERROR .SECONDARY:
 # rt takes all cores for itself.
@@ -178,6 +179,9 @@ gate:
 	tools/gate $(if $(ANEW),--anew)
 	[ -e crates/program/out/program.o ] || tools/for-cpu x86-64-v2 program.o
 	install -D -m 644 -t build/x86-64-v2 crates/program/out/program.o
+
+evidence:
+	tools/evidence
 
 bench: mkpasswd libmkpasswd.a
 	tools/bench $(BENCH) ./mkpasswd
