@@ -69,7 +69,7 @@ declined_agrees : (password : List ℕ) (scheme : Scheme) (budget : ℕ) (refusa
 declined_agrees password scheme budget refusal report declines =
     (ap (λ (r : Report). r.cost) declines.0, inl (ap (λ (r : Report). r.reason) declines.0))
 
-miss_is : (field : List ℕ) (kept : SettingValue) (misses : Refusal) → IsMiss field kept misses → (misses ≡ Differs) ⊎ (misses ≡ Dead)
+pub miss_is : (field : List ℕ) (kept : SettingValue) (misses : Refusal) → IsMiss field kept misses → (misses ≡ Differs) ⊎ (misses ≡ Dead)
 miss_is field kept Differs miss = inl refl
 miss_is field kept Dead miss = inr refl
 miss_is field kept misses miss = absurd miss
