@@ -90,7 +90,8 @@ extern "C" {
  * hash would cost more is refused at once, whatever is stored; FORMATS.md in share/doc has the lengths. With a large enough
  * budget of your own all MKPASSWD_PASSWORD_LIMIT bytes work; one of -1 is the greatest, and protects against nothing.
  *
- * Only scrypt needs memory: for each concurrent call at most half as many bytes as the budget, and 64 MiB by default. */
+ * Only scrypt needs memory: each concurrent call 64 MiB for a new hash by default, and never more than half as many bytes as
+ * the budget. */
 #ifdef __cplusplus
 #define MKPASSWD_TWICE static_cast<uint64_t>(0)
 #define MKPASSWD_BUDGET static_cast<uint64_t>(150000000)
@@ -174,11 +175,12 @@ MKPASSWD_EXPORT MKPASSWD_CHECKED MKPASSWD_NONNULL(6) int32_t mkpasswd_verify(con
     MKPASSWD_READS(password, 1, 2) MKPASSWD_READS(stored, 3, 4);
 
 /* Checks the password of a login. If method and rounds are valid, it returns 1 exactly if mkpasswd_verify() with this budget
- * does. The reason is then MKPASSWD_FITS, or MKPASSWD_OUTDATED if mkpasswd_needs_rehash() with this method and these rounds
- * returns 1 too: then store what mkpasswd_new() makes of the password, if the field is still the one that was checked. Give
- * the method, rounds and budget that the service gives mkpasswd_new(): what that makes, this call opens without
- * MKPASSWD_OUTDATED. `field` is what is stored for the name, and empty for an unknown name. If password and field are swapped,
- * whoever types a hash of the field gets in: of `!`, of a stored hash, or of nothing.
+ * does, or for MKPASSWD_TWICE with the number of bytes that it stands for, unless the password is too long for that. The
+ * reason is then MKPASSWD_FITS, or MKPASSWD_OUTDATED if mkpasswd_needs_rehash() with this method and these rounds returns 1
+ * too: then store what mkpasswd_new() makes of the password, if the field is still the one that was checked. Give the method,
+ * rounds and budget that the service gives mkpasswd_new(): what that makes, this call opens without MKPASSWD_OUTDATED.
+ * `field` is what is stored for the name, and empty for an unknown name. If password and field are swapped, whoever types a
+ * hash of the field gets in: of `!`, of a stored hash, or of nothing.
  *
  * If the field is empty, locked, of another scheme or without a valid setting, or can cost more than the budget, the call
  * hashes the password with this method, these rounds and a fixed salt, drops the hash, and returns 0 with the reason of

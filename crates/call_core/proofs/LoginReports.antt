@@ -9,11 +9,13 @@ use Rattle.crypt_core.specs.Methods.{method_numbered}
 use Rattle.crypt_core.specs.Passwords.{IsPassword, IsPasswordRefused}
 use Rattle.crypt_core.specs.Replacements.{is_replaced_by}
 use Rattle.crypt_core.specs.Settings.{SettingValue, Spells}
-use Rattle.crypt_core.specs.Work.{cost, work}
+use Rattle.crypt_core.specs.Work.{cost, cost_by, work}
 use Rattle.crypt_core.specs.declared.method.Method.{Method}
 use Rattle.crypt_core.specs.declared.password.PasswordFault.{PasswordFault}
 use Rattle.crypt_core.specs.declared.password.PasswordFault.TheVariants.{TooLong, HasNul}
 use Rattle.crypt_core.specs.declared.scheme.Scheme.{Scheme}
+use Rattle.crypt_core.specs.declared.scheme.Scheme.TheVariants.{Md5crypt, Shacrypt, Scrypt}
+use Rattle.crypt_core.proofs.BytesWithinCost.{bytes_within}
 use Rattle.call_core.specs.Arguments.{IsFieldRefusal, IsSchemeMade, IsSchemeReading, TakesNewRounds}
 use Rattle.call_core.specs.Checks.{Compares, IsDead, Verifies}
 use Rattle.call_core.specs.Private.Checks.{IsCheckRefused}
@@ -27,7 +29,7 @@ use Rattle.call_core.specs.declared.reason.Refusal.TheVariants.{Cost, Dead, Diff
 use Rattle.call_core.specs.declared.report.Report.{Report}
 use Rattle.call_core.proofs.MadeSchemes.{made_once, never_refused}
 use Rattle.call_core.proofs.ReasonNumbers.{reason_once}
-use Rattle.call_core.specs.Logins.{Agrees, Declines, IsHashWork, IsLoginWork, IsMiss, IsUncheckable, LogsIn, decoy}
+use Rattle.call_core.specs.Logins.{Agrees, Declines, IsHashWork, IsLoginWork, IsMiss, IsUncheckable, LogsIn, decoy, spent}
 
 -- ---- The report, by the branches of a login
 
@@ -69,7 +71,7 @@ declined_agrees : (password : List ℕ) (scheme : Scheme) (budget : ℕ) (refusa
 declined_agrees password scheme budget refusal report declines =
     (ap (λ (r : Report). r.cost) declines.0, inl (ap (λ (r : Report). r.reason) declines.0))
 
-miss_is : (field : List ℕ) (kept : SettingValue) (misses : Refusal) → IsMiss field kept misses → (misses ≡ Differs) ⊎ (misses ≡ Dead)
+pub miss_is : (field : List ℕ) (kept : SettingValue) (misses : Refusal) → IsMiss field kept misses → (misses ≡ Differs) ⊎ (misses ≡ Dead)
 miss_is field kept Differs miss = inl refl
 miss_is field kept Dead miss = inr refl
 miss_is field kept misses miss = absurd miss
@@ -117,6 +119,38 @@ agrees password field number rounds budget scheme report makes (inl (is, inl (ot
 
 -- ---- Its work
 
+-- a hash spends at most its cost
+work_spent : (scheme : Scheme) (password salt : List ℕ)
+    → spent scheme (work password (record { scheme = scheme; salt = salt })) ≤ cost_by scheme (length password) (length salt)
+work_spent Md5crypt password salt = bytes_within password (record { scheme = Md5crypt; salt = salt })
+work_spent (Shacrypt sha rounds) password salt = bytes_within password (record { scheme = Shacrypt sha rounds; salt = salt })
+work_spent (Scrypt params) password salt = omega arith
+
+none_spent : (scheme : Scheme) → spent scheme no_work ≡ 0
+none_spent Md5crypt = refl
+none_spent (Shacrypt sha rounds) = refl
+none_spent (Scrypt params) = omega arith
+
+refused_spent : (scheme : Scheme) (done : Work) → IsAfterRefusedGrowth no_work scheme done → spent scheme done ≡ 0
+refused_spent (Scrypt params) done (inl e) = rw e (none_spent (Scrypt params))
+refused_spent (Scrypt params) done (inr (inl e)) = rw e (none_spent (Scrypt params))
+refused_spent (Scrypt params) done (inr (inr e)) = rw e (none_spent (Scrypt params))
+refused_spent Md5crypt done never = absurd never
+refused_spent (Shacrypt sha rounds) done never = absurd never
+
+-- so what is hashed within a budget spends at most that
+spent_within : (password : List ℕ) (kept : SettingValue) (budget : ℕ) (done : Work) → IsHashWork password kept budget done
+    → spent kept.scheme done ≤ budget
+spent_within password kept budget done hashed = go (nat_lt budget (cost kept (length password))) refl hashed where
+  go : (above : Bool) → nat_lt budget (cost kept (length password)) ≡ above
+      → MatchBool above (done ≡ no_work) ((done ≡ work password kept) ⊎ IsAfterRefusedGrowth no_work kept.scheme done)
+      → spent kept.scheme done ≤ budget
+  go true e none = rw (none, none_spent kept.scheme) (omega arith)
+  go false e (inl is) =
+      let low : cost kept (length password) ≤ budget = grind (arith, e) in
+      rw is (omega (arith, work_spent kept.scheme password kept.salt, low))
+  go false e (inr refused) = rw (refused_spent kept.scheme done refused) (omega arith)
+
 checked_work : (above : Bool) (password field : List ℕ) (budget : ℕ) (scheme : Scheme) (kept : SettingValue) (reason : Reason) (report : Report)
     → nat_lt budget (cost kept (length password)) ≡ above
     → MatchBool above (Declines password scheme budget (refused OverBudget (cost kept (length password))) report)
@@ -134,12 +168,12 @@ one_hash password field number rounds budget report (inr (fault, is, e)) = inl (
 one_hash password field number rounds budget report (inl (is, inr (inl (none, e)))) = inl (ap (λ (r : Report). r.work) e)
 one_hash password field number rounds budget report (inl (is, inr (inr (method, named, never, e)))) = inl (ap (λ (r : Report). r.work) e)
 one_hash password field number rounds budget report (inl (is, inl (scheme, makes, inr (fault, broken, declines)))) =
-    inr (decoy scheme, inr (scheme, makes, refl), declines.1)
+    inr (decoy scheme, inr (scheme, makes, refl), declines.1, spent_within password (decoy scheme) budget _ declines.1)
 one_hash password field number rounds budget report (inl (is, inl (scheme, makes, inl (kept, spells, checked)))) =
     elim (checked_work (nat_lt budget (cost kept (length password))) password field budget scheme kept
     (if is_replaced_by kept.scheme scheme then Outdated else Fits) report refl checked) [
-      | inl new ↦ inr (decoy scheme, inr (scheme, makes, refl), new)
-      | inr old ↦ inr (kept, inl spells, old)
+      | inl new ↦ inr (decoy scheme, inr (scheme, makes, refl), new, spent_within password (decoy scheme) budget _ new)
+      | inr old ↦ inr (kept, inl spells, old, spent_within password kept budget _ old)
     ]
 
 -- a stored hash that can't be checked costs what a new hash costs

@@ -101,9 +101,9 @@ pub none_logs_in : (password field : List ℕ) (number rounds : ℕ) (scheme : S
     → IsSchemeMade TakesNewRounds number rounds scheme → policy_limit scheme < new_cost scheme (length password)
     → IsLoginWork password field number rounds 0 done → done ≡ no_work
 none_logs_in password field number rounds scheme done makes above (inl none) = none
-none_logs_in password field number rounds scheme done makes above (inr (kept, inl spells, hashed)) =
+none_logs_in password field number rounds scheme done makes above (inr (kept, inl spells, hashed, _)) =
     none_made password kept done (spelled_positive field kept (length password) spells) hashed
-none_logs_in password field number rounds scheme done makes above (inr (kept, inr (other, also, is), hashed)) =
+none_logs_in password field number rounds scheme done makes above (inr (kept, inr (other, also, is), hashed, _)) =
     let one : other ≡ scheme = made_once TakesNewRounds TakesNewRounds number rounds other scheme also makes in
     let price : cost kept (length password) ≡ new_cost scheme (length password) =
     ap (λ (own : SettingValue). cost own (length password)) is ∙ salted-cost other (0 ∷ 0 ∷ 0 ∷ []) (length password)

@@ -2,7 +2,7 @@
 --
 -- A password is the list of its bytes, `kept` is the setting that a text spells, and `most` is the cost of a hash: the most
 -- bytes that it digests and mixes.
-use Rattle.std.specs.Prelude.{◌≡◌, ◌⊎◌, ◌<◌, if◌then◌else◌, ℕ, nat_lt, MatchBool, List, [], ◌∷◌, length}
+use Rattle.std.specs.Prelude.{◌≡◌, ◌⊎◌, ◌<◌, ◌≤◌, ◌+◌, ◌*◌, if◌then◌else◌, ℕ, nat_lt, MatchBool, List, [], ◌∷◌, length}
 use Rattle.prims_core.specs.Work.{no_work}
 use Rattle.prims_core.specs.declared.meter.Work.{Work}
 use Rattle.crypt_core.specs.Crypt.{IsAfterRefusedGrowth}
@@ -12,6 +12,7 @@ use Rattle.crypt_core.specs.Settings.{SettingValue, Spells}
 use Rattle.crypt_core.specs.StoredFields.{IsWhole}
 use Rattle.crypt_core.specs.Work.{cost, work}
 use Rattle.crypt_core.specs.declared.scheme.Scheme.{Scheme}
+use Rattle.crypt_core.specs.declared.scheme.Scheme.TheVariants.{Scrypt}
 use Rattle.call_core.specs.Arguments.{IsSchemeMade, OnField, OnPassword, OnScheme, Refuses, TakesNewRounds}
 use Rattle.call_core.specs.Checks.{Compares}
 use Rattle.call_core.specs.Reasons.{reason_row}
@@ -59,12 +60,18 @@ LogsIn password field number rounds budget report =
     ((misses : Refusal) × IsMiss field kept misses
     × Compares password kept field (if is_replaced_by kept.scheme scheme then Outdated else Fits) misses report))))
 
--- The work of a login: none, or that of one hash, with the stored setting or with the decoy.
+-- What the work of a hash with this scheme cost: the bytes that were digested, and for scrypt those that were mixed, 2r
+-- blocks of 64 bytes in each mixing.
+abbrev pub spent : Scheme → Work → ℕ
+spent (Scrypt params) done = done.bytes + done.mixes * (128 * params.r)
+spent scheme done = done.bytes
+
+-- The work of a login: none, or that of one hash, with the stored setting or with the decoy. It costs at most the budget.
 abbrev pub IsLoginWork : List ℕ → List ℕ → ℕ → ℕ → ℕ → Work → Type 0
 IsLoginWork password field number rounds budget done =
     (done ≡ no_work) ⊎ ((kept : SettingValue)
     × (Spells field kept ⊎ ((scheme : Scheme) × IsSchemeMade TakesNewRounds number rounds scheme × (kept ≡ decoy scheme)))
-    × IsHashWork password kept budget done)
+    × IsHashWork password kept budget done × (spent kept.scheme done ≤ budget))
 
 -- A stored hash that a login can't check: each setting that it spells, if any, costs more than the budget.
 abbrev pub IsUncheckable : List ℕ → List ℕ → ℕ → Type 0

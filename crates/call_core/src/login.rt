@@ -85,7 +85,6 @@ pub fn log_in<M: Memory>(
 // Returns the refusal of a password that doesn't match the stored hash: `Dead` if no password does.
 fn miss_of(stored: &StoredHash<'_>) -> Refusal
     ensures miss { IsMiss stored.now.text stored.now.setting result }
-    ensures either { (result ≡ Refusal.Differs) ⊎ (result ≡ Refusal.Dead) }
 {
     if stored.is_whole() {
         Refusal::Differs

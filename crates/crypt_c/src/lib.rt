@@ -89,11 +89,12 @@ pub extern "C" fn mkpasswd_verify(
     )
 }
 
-/// Returns 1 exactly if a new hash can have the method and the rounds, and [`mkpasswd_verify`] returns 1. The reason then
-/// tells whether [`mkpasswd_needs_rehash`] would return 1.
+/// Returns 1 exactly if a new hash can have the method and the rounds, and [`mkpasswd_verify`] returns 1 within the same
+/// limit. The reason then tells whether [`mkpasswd_needs_rehash`] would return 1.
 ///
 /// If the field has no setting, or one above the budget, the call hashes the password with the method, the rounds and a
 /// fixed salt, and returns 0. So such a name does the work of a new hash. A name that is not known has an empty field.
+/// Whatever the field is, the call makes at most one hash, and digests and mixes no more bytes than the budget.
 ///
 /// Rounds of 0 are the recommended ones. A budget of 0 is the limit of the policy: twice what a new hash with the method and
 /// the rounds costs for a password of 64 bytes, and at least 150000000. It admits a new hash of each such password. A

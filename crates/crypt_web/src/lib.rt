@@ -104,8 +104,8 @@ pub extern "C" fn web_hash(
 /// Makes a setting with a method, the rounds and three random numbers, and writes it and a byte 0 to `out`.
 ///
 /// The method is 1 for md5crypt, 5 for sha256crypt, 6 for sha512crypt or 7 for scrypt, as in their hashes. The rounds are
-/// those of `mkpasswd -R`: 0 is the method's default, and others are clamped to 1000 to 999999999. After a refusal `out`
-/// has the token `*0`, cut to the capacity of `out`.
+/// those of `mkpasswd -R`, but 0 is the recommended ones. After a refusal `out` has the token `*0`, cut to the capacity of
+/// `out`.
 ///
 /// # Errors
 ///

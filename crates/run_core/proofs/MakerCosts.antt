@@ -1,9 +1,7 @@
 -- What a method and rounds break without a salt, and what a setting costs before random numbers are drawn for its salt,
 -- since those make salts of one length.
 use Rattle.std.specs.Prelude.{◌↔◌}
-use Rattle.std.proofs.Common.{◌≡◌, ℕ, true, false, List, length, Option, Some, None, inl, inr, refl, sym, ap, subst}
-use Rattle.std.proofs.lemmas.List.FromFn.{length-map-range_with_len}
-use Rattle.crypt_core.specs.MadeSalts.{made_salt}
+use Rattle.std.proofs.Common.{◌≡◌, ℕ, true, false, List, Option, Some, None, inl, inr, refl, sym, ap, subst}
 use Rattle.crypt_core.specs.MadeSettings.{BreaksMake, IsMakeRefused, TakesRounds}
 use Rattle.crypt_core.specs.MethodLimits.{made_salt_length}
 use Rattle.crypt_core.specs.Schemes.{method_of}
@@ -11,6 +9,7 @@ use Rattle.crypt_core.specs.Work.{cost, cost_by}
 use Rattle.crypt_core.specs.declared.method.Method.{Method}
 use Rattle.crypt_core.specs.declared.setting.fault.MakeFault.{MakeFault}
 use Rattle.crypt_core.specs.declared.setting.fault.MakeFault.TheVariants.{Cost}
+use Rattle.crypt_core.proofs.MadeSaltLemmas.{length-made_salt}
 use Rattle.run_core.specs.Makers.{Recipe, made_cost_by, setting_by}
 
 -- without a salt, rounds that the method does not take are refused for themselves alone
@@ -34,12 +33,8 @@ refused_for_cost m rounds f is takes = subst (IsMakeRefused m rounds None) (sym 
 
 -- ---- the cost of a made setting
 
-made_salt-length : (numbers : List ℕ) (n : ℕ) → length (made_salt numbers n) ≡ n
-unfolding made_salt
-made_salt-length numbers n = length-map-range_with_len _ 0 n
-
 pub made_cost : (recipe : Recipe) (numbers : List ℕ) (password : ℕ) → cost (setting_by recipe numbers) password ≡ made_cost_by recipe password
 made_cost recipe numbers password = go recipe.salt where
   go : (salt : Option (List ℕ)) → cost (setting_by (record recipe { salt = salt }) numbers) password ≡ made_cost_by (record recipe { salt = salt }) password
-  go None = ap (cost_by recipe.scheme password) (made_salt-length numbers (made_salt_length (method_of recipe.scheme)))
+  go None = ap (cost_by recipe.scheme password) (length-made_salt numbers (made_salt_length (method_of recipe.scheme)))
   go (Some salt) = refl

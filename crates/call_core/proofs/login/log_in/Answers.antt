@@ -8,7 +8,7 @@ use Rattle.call_core.specs.declared.reason.Reason.{Reason}
 use Rattle.call_core.specs.declared.reason.Reason.TheVariants.{Fits, Outdated}
 use Rattle.call_core.specs.declared.reason.Refusal.TheVariants.{Dead}
 use Rattle.call_core.proofs.CheckReports.{dead_fits}
-use Rattle.call_core.proofs.LoginReports.{compared, declined, outdated_fits}
+use Rattle.call_core.proofs.LoginReports.{compared, declined, miss_is, outdated_fits}
 use Rattle.call_core.proofs.MadeSchemes.{made_once}
 use Rattle.call_core.proofs.login.log_in.Goals as goal
 use Rattle.call_core.proofs.login.log_in.Goals.{then-is_replaced_by, else-is_replaced_by}
@@ -67,7 +67,7 @@ returns-after-is_replaced_by-clause-dead g c = λ scheme kept made is spells dea
     let own = (c.in-Ok-checkable.stored).setting in
     let same : own ≡ kept = c.in-Ok-checkable.ensures.only kept spells in
     let miss : IsMiss c.args.field.now kept c.miss_of.result = rw (found.is_text, same) at c.miss_of.ensures.miss in
-    let is_dead : c.miss_of.result ≡ Dead = elim c.miss_of.ensures.either [
+    let is_dead : c.miss_of.result ≡ Dead = elim (miss_is _ kept _ miss) [
       | inl differs ↦ absurd (dead (rw differs at miss))
       | inr told ↦ told
     ] in
