@@ -2,6 +2,7 @@
 # make static      builds build/x86-64/mkpasswd, which needs nothing of the system but the kernel
 # make lib         builds the C libraries, and with Debian's libpam0g-dev the PAM module
 # make web         builds build/mkpasswd.html, a page that makes and checks hashes in a browser, and build/mkpasswd.mjs, for node
+# make npm         makes build/npm, the package of it for npm pack
 # make install     installs all of it below PREFIX (default /usr/local); make uninstall removes it
 # make test        tests what is built: T=tests/lines.t one file; with STRICT=1 a tool that is missing is a failure
 # make check       every check there is: layers, gate, tests; with ANEW=1 the gate proves everything anew
@@ -29,6 +30,7 @@ ARCHIVE ?= mkpasswd-$(VERSION)-$(subst -,_,$(FOR))-linux.tar.gz
 # packages always have them.
 SITE := $(shell tools/site --check 2> /dev/null && echo build/site/index.html)
 WEB := $(shell tools/web --check 2> /dev/null && echo build/mkpasswd.html build/mkpasswd.mjs)
+NPM = $(addprefix build/npm/,package.json README.md mkpasswd.mjs mkpasswd.d.ts)
 # So is the PAM module where PAM's headers are.
 PAM := $(if $(wildcard /usr/include/security/pam_modules.h),pam_mkpasswd.so)
 COMPLETIONS = build/completions/mkpasswd.bash
@@ -36,14 +38,14 @@ BUILT = mkpasswd $(COMPLETIONS) lib build/x86-64-v3/libmkpasswd.so.2 $(WEB) buil
 PACKED = $(addprefix build/$(FOR)/,mkpasswd libmkpasswd.a libmkpasswd.so.2) $(COMPLETIONS) $(WEB) build/SPECIFICATION.md \
 	$(if $(TARGET),,$(addprefix build/$(FOR)/,$(PAM)) build/x86-64-v3/libmkpasswd.so.2)
 ARM = $(addprefix build/aarch64/,mkpasswd libmkpasswd.a libmkpasswd.so.2)
-TRIED = $(BUILT) $(PACKED) $(if $(findstring /,$(shell aarch64-linux-gnu-gcc -print-file-name=libc.a 2> /dev/null)),$(ARM))
+TRIED = $(BUILT) $(PACKED) $(if $(WEB),$(NPM)) $(if $(findstring /,$(shell aarch64-linux-gnu-gcc -print-file-name=libc.a 2> /dev/null)),$(ARM))
 # The scripts take these from the environment, whatever characters they have.
 export DESTDIR PREFIX LIBDIR ARCHIVE RT
 
 SLOW = tests/deb.t tests/arm.t tests/python tests/pam.t
 T = $(SLOW) $(filter-out $(SLOW),$(wildcard tests/*.t))
 
-.PHONY: all run static lib web fuzz test check layers specification site gate evidence bench soak install uninstall dist \
+.PHONY: all run static lib web npm fuzz test check layers specification site gate evidence bench soak install uninstall dist \
 	image wheel deb clean FORCE
 .DELETE_ON_ERROR .SECONDARY:
 # rt takes all cores for itself.
@@ -122,6 +124,10 @@ web:
 	tools/web --check
 	$(MAKE) build/mkpasswd.html build/mkpasswd.mjs
 
+npm:
+	tools/web --check
+	$(MAKE) $(NPM)
+
 build/wasm64/libcrypt_web.a: $(SOURCES) tools/for-cpu
 	tools/for-cpu wasm64 $(@F)
 
@@ -133,7 +139,8 @@ build/mkpasswd.wasm: build/wasm64/mkpasswd.wasm
 	wasm-opt --enable-memory64 --enable-bulk-memory --memory64-lowering --strip-debug --strip-producers \
 		--strip-target-features $< -o $@
 
-build/mkpasswd.html build/mkpasswd.mjs: build/mkpasswd.wasm tools/web c/mkpasswd.h $(wildcard web/*)
+build/mkpasswd.html build/mkpasswd.mjs $(NPM): build/mkpasswd.wasm tools/web c/mkpasswd.h $(wildcard web/*)
+	@mkdir -p $(@D)
 	tools/web $< $@
 
 # Each target keeps what it found in build/fuzz, from where the next run begins.

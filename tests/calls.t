@@ -303,7 +303,7 @@ subtest 'the recommended rounds' => sub {
     my ($rounds) = (printed($driver, 'setting - - 145 6 0 1 2 3'))[0] =~ /rounds=(\d+)/;
     my %said = map { my ($path, $pattern) = @$_; $path => join ' ', uniq(map { tr/_//dr } map { slurp($_) =~ /$pattern/g } glob "$root/$path") }
         ['c/mkpasswd.h', qr/^#define MKPASSWD_ROUNDS (\d+)$/m], ['python/src/mkpasswd/*.py', qr/\b(?:RECOMMENDED_ROUNDS|rounds: Optional\[int\]) = (\d[\d_]*)/],
-        ['web/mkpasswd.mjs', qr/\[ROUNDS, \w+\] = \[(\d+)/];
+        ['web/calls.js', qr/\[ROUNDS, \w+\] = \[(\d+)/];
     is_deeply(\%said, { map { $_ => $rounds } keys %said }, 'are the same in C, Python and JavaScript');
 };
 

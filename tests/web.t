@@ -9,7 +9,6 @@ use HTTP::Tiny;
 use IO::Socket::INET;
 use JSON::PP qw(decode_json encode_json);
 use Suite;
-use Texts;
 use Time::HiRes qw(sleep);
 
 my ($page, $module) = map { "$root/build/mkpasswd.$_" } qw(html mjs);
@@ -62,30 +61,31 @@ subtest 'in node' => sub {
     my $longest = 'x' x 1024;
     push @cases, [$longest, run({ stdin => $longest }, program(), qw(-m sha512crypt -S xxxxxxxx))->{out} =~ s/\n//r];
     spew("$scratch/mkpasswd.mjs", slurp($module));
-    spew("$scratch/check.mjs", marked('worker', 'js'));
     my %with = (stdin => join '', map { join(' ', map { unpack 'H*', $_ } @$_) . "\n" } @cases);
     # Costs are what md5crypt digests of 1,024 bytes, and what 656000 rounds of sha512crypt do.
     my ($old, $new) = map { crypt 'password', $_ } '$1$xxxxxxxx', '$6$rounds=656000$saltsaltsaltsalt';
-    my @audits = (['current MKPASSWD_DONE 1297572512', $new], ['outdated MKPASSWD_REPLACED 1927022', $old], ['current MKPASSWD_DONE 1927022', $old, 'md5crypt'],
-        ['outdated MKPASSWD_REPLACED 1297572512', $new, 'sha512crypt', 656_001], ['over budget MKPASSWD_OVER_BUDGET 1927022', $old, 'md5crypt', 0, 1_927_021],
-        ['dead MKPASSWD_DEAD 1297572512', substr $new, 0, 99], ['dead MKPASSWD_DEAD 1927022', "$old."], ['locked MKPASSWD_LOCKED 0', "!$old"], ['no hash MKPASSWD_NO_HASH 0', ''],
-        ['unknown scheme MKPASSWD_REFUSED_UNKNOWN_SCHEME 0', '$2b$05$x'], ['MKPASSWD_REFUSED_COST: cost', $new, 'sha512crypt', 12], ['MKPASSWD_REFUSED_UNKNOWN_METHOD: unknown method', $new, 'bcrypt']);
+    my @audits = (['sha512crypt:1297572512:current', $new], ['md5crypt:1927022:outdated', $old], ['md5crypt:1927022:current', $old, 'md5crypt'],
+        ['sha512crypt:1297572512:outdated', $new, 'sha512crypt', 656_001], ['md5crypt:1927022:over budget', $old, 'md5crypt', 0, 1_927_021],
+        ['sha512crypt:1297572512:dead', substr $new, 0, 99], ['md5crypt:1927022:dead', "$old."], ['locked', "!$old"], ['none', ''],
+        ['unknown', '$2b$05$x'], ['unknown', 'abJnggxhB/yWI'], ['no scheme', 'hello'], ['malformed:bad rounds', '$5$rounds=$x'],
+        ['MKPASSWD_REFUSED_COST', $new, 'sha512crypt', 12], ['MKPASSWD_REFUSED_UNKNOWN_METHOD', $new, 'bcrypt']);
     my $audits = encode_json([map { [@$_[1 .. $#$_]] } @audits]);
     my $run = run(\%with, 'node', "$root/tests/web/node.mjs", "$scratch/mkpasswd.mjs", $page, $rows, '$7$46..../....SodiumChloride', $audits);
     my $told = eval { decode_json($run->{out}) } or return fail("node: $run->{err}");
     is($told->{after}, JSON::PP::true, 'the module works after a call for which the stack was too short');
-    my @reasons = ('REFUSED_UNKNOWN_METHOD: unknown method', 'REFUSED_COST: cost', 'OVER_BUDGET: over budget');
-    push @reasons, map { "$refused[$_][2]: $words[$_]" } 0 .. $#refused;
-    is_deeply($told->{refused}, ['undefined: half of a character has no bytes', map { "MKPASSWD_$_" } @reasons], 'refusals by the names of C');
+    my $no = JSON::PP::false;
+    my @reasons = map { "MKPASSWD_$_" } qw(REFUSED_UNKNOWN_METHOD REFUSED_COST OVER_BUDGET), map { $_->[2] } @refused;
+    @reasons[-2, -1] = ($no, $no);    # to a locked and an empty field no password belongs
+    is_deeply([@{ $told->{refused} }[1 .. @reasons]], \@reasons, 'refusals by the names of C');
+    like($told->{refused}[0], qr/half of a character/, 'half of a character is refused');
     my ($limit) = slurp($page) =~ /id="budget"[^>]* value="(\d+)"/;
-    my @defaults = (('$6$rounds=656000$') x 2, JSON::PP::true, ('MKPASSWD_OVER_BUDGET: over budget') x 2, $limit);
+    my @defaults = (('$6$rounds=656000$') x 2, JSON::PP::true, ('MKPASSWD_OVER_BUDGET') x 2, $limit);
     is_deeply($told->{defaults}, \@defaults, 'by default the recommended rounds, and passwords of up to 168 bytes');
     # N is 64, r is 8: each other field of the report has another value, 3, 0, 66, 6884, 128, 65536 or 3072.
     is_deeply($told->{costs}, [137_956, 137_956], 'the worker and the module find the cost in the report');
     is_deeply($told->{audited}, [map { $_->[0] } @audits], 'what an audit finds');
     is_deeply($told->{checked}, [map { "true true false false $_->[1]" } @cases], 'the module and the worker say what libcrypt does');
     is_deeply([map { crypt 'password', $_ } @{ $told->{made} }], $told->{made}, 'libcrypt makes the hashes with new salts');
-    is_deeply([map { $_->{matches} ? 1 : 0 } @{ $told->{answers} }], [1, 0, 0], 'the worker of GUIDE');
 };
 
 # Starts a server on a free port, and returns its address once it takes a call.

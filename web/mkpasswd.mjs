@@ -1,95 +1,238 @@
-// mkpasswd @VERSION@: hashes of crypt(5) by sha512crypt, sha256crypt and md5crypt, for web pages and node 20, or 18 with its option
-// --experimental-global-webcrypto. The proved code was compiled by LLVM and lowered by Binaryen; this script is tested. Passwords,
-// settings and hashes are strings, as UTF-8, or Uint8Arrays. A call blocks its thread until it has hashed: let a worker make it.
+// mkpasswd @VERSION@: hashes of crypt(5) by sha512crypt, sha256crypt and md5crypt, for node 20 and web pages. LLVM compiled the
+// proved code, and Binaryen lowered it; this script is tested. mkpasswd.d.ts says what each call does.
 //
-//     import { hash, setting, verify } from './mkpasswd.mjs';
+//     import { hash, loginAsync } from './mkpasswd.mjs';
 //     const stored = hash('correct horse');
-//     let matches = false;
-//     try { matches = verify(password, stored); } catch (error) { console.error(error.reason ?? error.message); }
-//     if (matches) letIn();
-const module = Uint8Array.from(atob('@MODULE@'), (character) => character.charCodeAt(0));
-const compiled = new WebAssembly.Module(module);
-let { exports } = new WebAssembly.Instance(compiled);
-let memory = new Uint8Array(exports.memory.buffer);
-const initial = memory.slice();
+//     const result = await loginAsync(password, stored);    // stored: null for an unknown name
+//     if (result.matches) letIn();
+@CALLS@
+const compiled = @COMPILED@;
+const calls = callsOf(compiled);
 
-// In the free memory are the report, `out`, and then what is passed: of a password that is too long, a byte too many.
-const START = Math.ceil(Number(exports.__heap_base.value) / 16) * 16;
-const [OUT, OUT_SIZE, PASSED, MOST_BYTES] = [START + 64, 145, START + 256, 1025];
-const METHODS = { __proto__: null, md5crypt: 1, sha256crypt: 5, sha512crypt: 6 };
-// The recommended policy: its rounds, and twice what they cost for a password of 64 bytes, so that up to 168 bytes are admitted.
-const [ROUNDS, BUDGET] = [656000, 253921472];
-const [FITS, REFUSED_METHOD, REFUSED_COST, DIFFERS] = [1, -13, -14, -17];
-const REFUSALS = { @REFUSALS@ };
+// ---- Workers
 
-// An error whose `reason` is the name that mkpasswd.h has for a refusal, such as MKPASSWD_OVER_BUDGET.
-const refusal = (number) => Object.assign(new Error(REFUSALS[number][1]), { reason: REFUSALS[number][0] });
-
-function bytesOf(text) {
-    if (text instanceof Uint8Array) return text;
-    if (typeof text !== 'string') throw new TypeError('neither a string nor a Uint8Array');
-    if (/\p{Surrogate}/u.test(text)) throw new TypeError('half of a character has no bytes');
-    return new TextEncoder().encode(text);
+// Makes a call in a worker. The pool is started by the first one.
+let pool;
+async function inWorker(name, given) {
+    const ask = await (pool ??= startPool());
+    return ask({ name, given });
 }
-const within = (budget) => BigInt(Math.max(0, Math.min(budget, Number.MAX_SAFE_INTEGER)));
 
-// Calls the module with bytes and numbers, wipes its memory, and returns what it reports.
-function reported(name, ...passed) {
-    if (!exports) {
-        const { exports: anew } = new WebAssembly.Instance(compiled);
-        [exports, memory] = [anew, new Uint8Array(anew.memory.buffer)];
+// Returns a call that has a worker make each call, in turn. There is at most a worker for each core. An idle one doesn't keep
+// node running. One that dies fails its own call, and the next call starts another.
+async function startPool() {
+    const { most, start } = await (globalThis.process?.versions?.node ? nodeWorkers() : webWorkers());
+    const [idle, waiting] = [[], []];
+    let count = 0;
+
+    function distribute() {
+        while (waiting.length > 0 && (idle.length > 0 || count < most)) {
+            const { asked, ...job } = waiting.shift();
+            try {
+                const worker = idle.pop() ?? started();
+                worker.job = job;
+                worker.ref?.();
+                worker.postMessage(asked);
+            } catch (error) { job.reject(error); }
+        }
     }
-    let end = PASSED;
-    const words = passed.flatMap((value) => {
-        if (!(value instanceof Uint8Array)) return [value];
-        const [from, bytes] = [end, value.subarray(0, MOST_BYTES)];
-        memory.set(bytes, from);
-        end += bytes.length;
-        return [BigInt(from), BigInt(bytes.length)];
+    function started() {
+        const worker = start(
+            (answer) => {
+                worker.unref?.();
+                idle.push(worker);
+                worker.job.resolve(answer);
+                worker.job = undefined;
+                distribute();
+            },
+            (error) => {
+                if (worker.isGone) return;
+                worker.isGone = true;
+                count--;
+                if (idle.includes(worker)) idle.splice(idle.indexOf(worker), 1);
+                worker.terminate();
+                worker.job?.reject(error);
+                distribute();
+            },
+        );
+        count++;
+        worker.postMessage({ compiled });
+        return worker;
+    }
+    return (asked) => new Promise((resolve, reject) => {
+        waiting.push({ asked, resolve, reject });
+        distribute();
     });
-    try { exports[name](...words, BigInt(START)); } catch (error) {    // the stack ended
-        exports = undefined;
-        memory.fill(0);
-        throw error;
-    }
-    const report = new DataView(memory.buffer, START);
-    const [reason, length, cost] = [report.getInt32(0, true), report.getUint32(4, true), Number(report.getBigUint64(8, true))];
-    const text = String.fromCharCode(...memory.subarray(OUT, OUT + length));
-    memory.set(initial);
-    return { reason, cost, text };
-}
-// The same, but a refusal is thrown.
-function call(...passed) {
-    const report = reported(...passed);
-    if (report.reason < 0 && report.reason !== DIFFERS) throw refusal(report.reason);
-    return report;
-}
-// What the module takes for a method and its rounds, which it would clamp. It takes 0 for the recommended ones.
-function made(method, rounds) {
-    if (METHODS[method] > 1 && rounds !== 0 && !(rounds >= 1000 && rounds <= 999999999)) throw refusal(REFUSED_COST);
-    return [METHODS[method] ?? 0, rounds];
 }
 
-// A setting with a new salt. Rounds are 1000 to 999999999, or 0 for the recommended ones; md5crypt has none.
-export function setting(method = 'sha512crypt', rounds = ROUNDS) {
-    const salt = new BigUint64Array(crypto.getRandomValues(new Uint8Array(24)).buffer);
-    return call('web_setting', ...made(method, rounds), ...salt, BigInt(OUT), BigInt(OUT_SIZE)).text;
+// How many workers there may be, and a call that starts one, which tells its answers and its end.
+const HASHER = @HASHER@;
+const ENDED = 'the worker that made this call has ended';
+async function nodeWorkers() {
+    const found = ['node:os', 'node:worker_threads'].map((name) =>
+        process.getBuiltinModule?.(name) ?? import(/* webpackIgnore: true */ /* @vite-ignore */ name));
+    const [os, { Worker }] = await Promise.all(found);
+    // Neither options nor variables of the process are for it.
+    const options = { eval: true, execArgv: [], env: {} };
+    const start = (tell, end) => new Worker(HASHER, options)
+        .on('message', tell).on('error', end).on('exit', () => end(new Error(ENDED)));
+    return { most: os.availableParallelism(), start };
 }
-// The hash of a password. No more bytes than the budget are hashed for it, by default twice what a new hash costs.
-export const hash = (password, by = setting(), budget = BUDGET) =>
-    call('web_hash', bytesOf(password), bytesOf(by), within(budget), BigInt(OUT), BigInt(OUT_SIZE)).text;
-// Whether a password matches. A field that is locked, empty, malformed or of scrypt, or that can cost more than the budget, throws a
-// refusal, and so does a password of more than 1,024 bytes or with a zero byte. Half a character throws a TypeError.
-export const verify = (password, stored, budget = BUDGET) =>
-    call('web_verify', bytesOf(password), bytesOf(stored), within(budget)).reason === FITS;
-// The most bytes that a hash with this setting can cost, for a password of so many bytes.
-export const cost = (by, length) => call('web_cost', bytesOf(by), BigInt(Math.min(length, MOST_BYTES))).cost;
-// What mkpasswd --audit says of a stored field, without a password: `message`, which is current, outdated, dead, over budget, locked,
-// no hash or what is wrong with its setting; `reason`, its name in mkpasswd.h; and `cost`, the most that a check can cost, or 0. Method
-// and rounds are those of new hashes; a budget of 0 is what they can cost at most, and at least 1297572512.
-export function audit(stored, method = 'sha512crypt', rounds = ROUNDS, budget = 0) {
-    const { reason, cost } = reported('web_audit', bytesOf(stored), ...made(method, rounds), within(budget));
-    if (reason === REFUSED_METHOD || reason === REFUSED_COST) throw refusal(reason);
-    const [name, message] = REFUSALS[reason] ?? ['MKPASSWD_DONE', 'current'];
-    return { message, reason: name, cost };
+function webWorkers() {
+    const url = URL.createObjectURL(new Blob([HASHER], { type: 'text/javascript' }));
+    const start = (tell, end) => Object.assign(new Worker(url), {
+        onmessage: ({ data }) => tell(data),
+        onerror: ({ message }) => end(new Error(message ?? ENDED)),
+    });
+    return { most: navigator.hardwareConcurrency ?? 1, start };
 }
+
+// ---- Refusals
+
+export class Refused extends Error {
+    constructor(reason, message) {
+        super(message);
+        this.reason = reason;
+    }
+}
+export class TooCostly extends Refused {}
+
+// Messages that say what is allowed, where mkpasswd's own don't.
+const MESSAGES = {
+    MKPASSWD_REFUSED_PASSWORD_TOO_LONG: 'password too long: it may have 1024 bytes',
+    MKPASSWD_REFUSED_OUT_OF_MEMORY: 'scrypt is not supported here: only sha512crypt, sha256crypt and md5crypt are',
+    MKPASSWD_REFUSED_UNKNOWN_METHOD: 'method must be sha512crypt, sha256crypt or md5crypt',
+    MKPASSWD_REFUSED_COST: `rounds must be 1000 to 999999999, or 0 for ${ROUNDS}`,
+};
+function failure({ reason, message }, limit) {
+    if (!reason) return new Error(message);
+    if (reason !== 'MKPASSWD_OVER_BUDGET') return new Refused(reason, MESSAGES[reason] ?? message);
+    return new TooCostly(reason, `${message}: the hash can cost more than ${limit}`);
+}
+// Makes a call in this thread.
+function inThread(name, given, limit) {
+    try { return calls[name](...given); } catch (error) { throw error.reason ? failure(error, limit) : error; }
+}
+
+// ---- Arguments
+
+function integer(value, name, kind = 'an integer') {
+    if (Number.isInteger(value)) return value;
+    throw new TypeError(`${name} must be ${kind}, not ${typeof value === 'number' ? value : typeof value}`);
+}
+// Refuses another number of arguments: method, rounds and budget, which were arguments, are a policy's.
+function taken(form, given) {
+    if (given.length === form.split(',').length) return given;
+    throw new TypeError(`call ${form}, or new Policy({ method, rounds, budget }).${form}, not with ${given.length} arguments`);
+}
+// The bytes of a login's password. No password has a zero byte, so that stands for one with half of a character.
+const typedBytes = (password) => hasHalfCharacter(password) ? new Uint8Array(1) : bytesOf(password, 'password');
+const fieldBytes = (field) => bytesOf(field ?? '', 'field', 'a string, a Uint8Array or null');
+
+// ---- Results
+
+class Match {
+    matches = true;
+    // Logs and JSON have no hash.
+    constructor(renewed) { Object.defineProperty(this, 'new', { value: renewed }); }
+}
+const verdict = (result) => result && new Match(result.renewed);
+
+const STATES = {
+    MKPASSWD_DONE: 'current', MKPASSWD_REPLACED: 'outdated', MKPASSWD_DEAD: 'dead', MKPASSWD_OVER_BUDGET: 'over budget',
+    MKPASSWD_LOCKED: 'locked', MKPASSWD_NO_HASH: 'none',
+};
+// A hash of bsdicrypt or descrypt, the schemes whose hashes begin with no "$".
+const OLD_SCHEME = /^(_|[./0-9A-Za-z]{13}$)/;
+
+class Description {
+    #message;
+
+    constructor(method, cost, state, reason = null, message = null) {
+        Object.assign(this, { method, cost, state, reason });
+        this.#message = message;
+    }
+    toString() { return [this.method, this.cost, this.state, this.#message].filter((part) => part !== null).join(':'); }
+}
+
+// ---- The calls
+
+export class Policy {
+    #limit;
+
+    constructor({ method = 'sha512crypt', rounds, budget, ...others } = {}) {
+        for (const name of Object.keys(others)) throw new TypeError(`a policy has method, rounds and budget, but no ${name}`);
+        if (typeof method !== 'string') throw new TypeError(`method must be a string, not ${typeof method}`);
+        integer(rounds ?? 0, 'rounds');
+        if (integer(budget ?? 1, 'budget', 'an integer (2 ** 42 for no limit)') < 1) {
+            throw new RangeError('budget must be above 0, or null for twice what a new hash costs');
+        }
+        Object.freeze(Object.assign(this, { method, rounds: rounds ?? 0, budget: budget ?? null }));
+        const fixed = inThread('setting', [method, this.rounds, [0n, 0n, 0n]]);
+        this.#limit = this.budget ?? Math.max(150000000, 2 * calls.cost(fixed, 64));
+    }
+
+    hash(...given) {
+        return inThread('newHash', this.#toHash(given), this.#limit);
+    }
+    async hashAsync(...given) {
+        const { result, fault } = await inWorker('newHash', this.#toHash(given));
+        if (fault) throw failure(fault, this.#limit);
+        return result;
+    }
+    #toHash(given) {
+        const [password] = taken('hash(password)', given);
+        return [passwordBytes(password), this.method, this.rounds, this.#limit];
+    }
+
+    login(...given) {
+        return verdict(inThread('login', this.#toLogin(given)));
+    }
+    async loginAsync(...given) {
+        const { result, fault } = await inWorker('login', this.#toLogin(given));
+        if (fault) throw failure(fault);
+        return verdict(result);
+    }
+    #toLogin(given) {
+        const [password, field] = taken('login(password, field)', given);
+        return [typedBytes(password), fieldBytes(field), this.method, this.rounds, this.budget ?? 0, this.#limit];
+    }
+
+    verify(...given) {
+        const [password, field] = taken('verify(password, field)', given);
+        try { return inThread('verify', [password, bytesOf(field, 'field'), this.#limit], this.#limit); } catch (error) {
+            if (['MKPASSWD_LOCKED', 'MKPASSWD_NO_HASH'].includes(error.reason)) return false;
+            throw error;
+        }
+    }
+
+    needsRehash(...given) {
+        const [stored] = taken('needsRehash(stored)', given);
+        return inThread('needsRehash', [bytesOf(stored, 'stored'), this.method, this.rounds]);
+    }
+
+    describe(...given) {
+        const bytes = fieldBytes(...taken('describe(field)', given));
+        const { message, reason, cost } = calls.audit(bytes, this.method, this.rounds, this.budget ?? 0);
+        const [text, state] = [new TextDecoder('latin1').decode(bytes), STATES[reason]];
+        const method = { 1: 'md5crypt', 5: 'sha256crypt', 6: 'sha512crypt', 7: 'scrypt' }[text[1]];
+        if (state) return cost > 0 ? new Description(method, cost, state) : new Description(null, null, state);
+        if (!text.startsWith('$')) return new Description(null, null, OLD_SCHEME.test(text) ? 'unknown' : 'no scheme');
+        if (reason === 'MKPASSWD_REFUSED_UNKNOWN_SCHEME') return new Description(null, null, 'unknown');
+        return new Description(null, null, 'malformed', reason, message);
+    }
+}
+
+const recommended = new Policy();
+const bound = (name) => recommended[name].bind(recommended);
+export const [hash, hashAsync, login, loginAsync] = ['hash', 'hashAsync', 'login', 'loginAsync'].map(bound);
+export const [verify, needsRehash, describe] = ['verify', 'needsRehash', 'describe'].map(bound);
+
+export function cost(stored, passwordLength) {
+    if (integer(passwordLength, 'passwordLength') < 0) throw new RangeError('passwordLength must be 0 or more');
+    return inThread('cost', [bytesOf(stored, 'stored'), passwordLength]);
+}
+export const setting = (method = 'sha512crypt', rounds = 0) => inThread('setting', [method, rounds]);
+export const crypt = (password, by, budget = BUDGET) =>
+    inThread('hash', [password, bytesOf(by), integer(budget, 'budget', 'an integer (2 ** 42 for no limit)')], budget);
+export const version = '@VERSION@';

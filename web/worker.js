@@ -1,4 +1,4 @@
-// Runs one job with the calls of mkpasswd.mjs, which tools/web puts before this. The page makes a worker for each job and drops it.
+// Runs one job with the calls of calls.js, which tools/web puts before this. The page makes a worker for each job and drops it.
 
 // Tells the cost of a hash before it is made: it says how long that takes. A refusal is told by the call that hashes.
 function tellCost(by, password) {

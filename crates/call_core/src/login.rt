@@ -1,6 +1,6 @@
 //! A login: a password against a stored hash, which may be outdated. If the stored hash can't be checked, the password is
 //! hashed as a new one is, so that the call costs the same.
-ghost use Rattle.std.specs.Prelude.{◌≡◌, ◌≤◌, ◌⊎◌, ◌<ℤ◌, pos, length, true};
+ghost use Rattle.std.specs.Prelude.{◌≡◌, ◌≤◌, ◌⊎◌, ◌<ℤ◌, pos, length, false, true};
 ghost use Rattle.prims_core.specs.Work.{no_work};
 ghost use Rattle.crypt_core.specs.Crypt.{allocates};
 ghost use Rattle.crypt_core.specs.Passwords.{IsPassword};
@@ -9,8 +9,8 @@ ghost use Rattle.crypt_core.specs.StoredFields.{IsWhole};
 ghost use Rattle.crypt_core.specs.Work.{cost, work};
 ghost use Rattle.crypt_core.specs.declared.scheme.Scheme.{Scheme as Made};
 ghost use Rattle.call_core.specs.Arguments.{IsSchemeMade, TakesNewRounds};
-ghost use Rattle.call_core.specs.Checks.{IsDead, Opens};
-ghost use Rattle.call_core.specs.Logins.{IsHashWork, IsMiss, LogsIn};
+ghost use Rattle.call_core.specs.Checks.{IsDead, NeedsNoMemory, Opens};
+ghost use Rattle.call_core.specs.Logins.{IsHashWork, IsMiss, IsUncheckable, LogsIn};
 ghost use Rattle.call_core.specs.Reasons.{reason_row};
 ghost use Rattle.call_core.specs.Rehashes.{IsOutdated};
 ghost use Rattle.call_core.specs.Reports.{reported};
@@ -42,7 +42,8 @@ pub fn log_in<M: Memory>(
     ensures logs_in { LogsIn password.now field.now method rounds budget result }
     ensures lets_in { pos 0 <ℤ result.reason → Opens password.now field.now budget }
     ensures opens { (scheme : Made) → IsSchemeMade TakesNewRounds method rounds scheme → Opens password.now field.now budget
-        → (pos 0 <ℤ result.reason) ⊎ (result.reason ≡ (reason_row (Reason.Refused Refusal.OutOfMemory)).0) }
+        → (pos 0 <ℤ result.reason)
+        ⊎ ((result.reason ≡ (reason_row (Reason.Refused Refusal.OutOfMemory)).0) × ¬ NeedsNoMemory field.now) }
     ensures shut { IsDead field.now → ¬ (pos 0 <ℤ result.reason) }
     ensures dead { (scheme : Made) → (kept : SettingValue) → IsSchemeMade TakesNewRounds method rounds scheme
         → IsPassword password.now → Spells field.now kept → ¬ IsWhole field.now kept → cost kept (length password.now) ≤ budget
@@ -51,6 +52,11 @@ pub fn log_in<M: Memory>(
     ensures outdated { result.reason ≡ (reason_row Reason.Outdated).0 → IsOutdated field.now method rounds }
     ensures replaced { pos 0 <ℤ result.reason → IsOutdated field.now method rounds
         → result.reason ≡ (reason_row Reason.Outdated).0 }
+    ensures granted { (kept : SettingValue) → Spells field.now kept → cost kept (length password.now) ≤ budget
+        → allocates kept.scheme ≡ true → M.HasSome ⊎ ((¬ (pos 0 <ℤ result.reason)) × (result.work ≡ no_work)) }
+    ensures granted_decoy { (scheme : Made) → IsSchemeMade TakesNewRounds method rounds scheme
+        → IsUncheckable password.now field.now budget → allocates scheme ≡ true → M.HasSome ⊎ (result.work ≡ no_work) }
+    ensures bytes { result.work.bytes ≤ budget }
     ensures counted { meter.new ≡ result.work }
     ensures reserved { result.reserved ≡ 0 }
 {
@@ -106,6 +112,8 @@ fn decline<M: Memory>(
     requires refused { (¬ (pos 0 <ℤ refused.reason)) × (refused.work ≡ no_work) × (refused.reserved ≡ 0) }
     ensures declines { (result ≡ record refused { work = result.work })
         × IsHashWork password.now decoy.now budget result.work }
+    ensures granted { (allocates decoy.now.scheme ≡ false) ⊎ (M.HasSome ⊎ (result.work ≡ no_work)) }
+    ensures bytes { result.work.bytes ≤ budget }
     ensures counted { meter.new ≡ result.work }
 {
     if cost_within(password, decoy, budget).is_err() {

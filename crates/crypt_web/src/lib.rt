@@ -5,24 +5,42 @@
 //!
 //! Each call returns 1 if it did what its name says, and 0 otherwise. It writes the whole report, which has the reason: above
 //! 0 in the first case, else the number of the first refusal that applies, in the order password, setting, method, rounds,
-//! budget, capacity, memory; of an audit method, rounds, field, budget. [`web_verify`] and [`web_audit`] read a stored field: a
-//! locked one is `Locked` and an empty one `NoHash`, where the other calls report what is wrong with it as a setting. These
-//! numbers, the report's other fields and what is left in `out` are those of the calls for C. scrypt needs memory, so the calls
-//! that hash refuse it with `OutOfMemory`.
+//! budget, capacity, memory; of a login and an audit method and rounds come before the field. [`web_verify`], [`web_login`] and
+//! [`web_audit`] read a stored field: a locked one is `Locked` and an empty one `NoHash`, where the other calls report what is
+//! wrong with it as a setting. These numbers, the report's other fields and what is left in `out` are those of the calls for C.
+//! scrypt needs memory, so the calls that hash refuse it with `OutOfMemory`.
 #![tactic(auto)]
 
-ghost use Rattle.std.specs.Prelude.{◌≡◌, ◌≢◌, ◌≤◌, ◌↔◌, pos, [], ◌∷◌, take};
+ghost use Rattle.std.specs.Prelude.{◌≡◌, ◌≢◌, ◌⊎◌, ◌<◌, ◌≤◌, ◌↔◌, true, pos, [], ◌∷◌, Err, length, take};
 ghost use Rattle.prims_core.specs.Work.{no_work};
+ghost use Rattle.crypt_core.specs.Crypt.{IsAfterRefusedGrowth, allocates};
+ghost use Rattle.crypt_core.specs.Passwords.{IsPassword, IsPasswordRefused};
 ghost use Rattle.crypt_core.specs.Settings.{SettingValue, Spells};
+ghost use Rattle.crypt_core.specs.StoredFields.{IsWhole};
+ghost use Rattle.crypt_core.specs.Work.{cost, work};
+ghost use Rattle.crypt_core.specs.declared.password.PasswordFault.{PasswordFault};
+ghost use Rattle.crypt_core.specs.declared.scheme.Scheme.{Scheme};
+ghost use Rattle.call_core.specs.Arguments.{IsSchemeMade, IsSchemeReading, TakesNewRounds};
 ghost use Rattle.call_core.specs.Audits.{Audits, IsCurrent};
 ghost use Rattle.call_core.specs.Checks.{IsDead, NeedsNoMemory, Opens, Verifies};
 ghost use Rattle.call_core.specs.Hashes.{Hashes};
-ghost use Rattle.call_core.specs.Reports.{Answers, put, token};
+ghost use Rattle.call_core.specs.Limits.{limit_of, new_cost, policy_limit, twice};
+ghost use Rattle.call_core.specs.Logins.{Agrees, IsHashWork, IsLoginWork, IsUncheckable, LogsIn, decoy};
+ghost use Rattle.call_core.specs.Reasons.{reason_row};
+ghost use Rattle.call_core.specs.Rehashes.{IsOutdated, Rehashes};
+ghost use Rattle.call_core.specs.Reports.{Answers, put, refused, reported, token};
 ghost use Rattle.call_core.specs.Settings.{Bounds, PutsSetting};
+ghost use Rattle.call_core.specs.declared.reason.Reason.TheVariants.{Outdated, Refused};
+ghost use Rattle.call_core.specs.declared.reason.Refusal.{Refusal};
+ghost use Rattle.call_core.specs.declared.reason.Refusal.TheVariants.{Dead, OutOfMemory, Password};
+ghost use Rattle.call_core.specs.declared.report.Report.{Report as Told};
 
 use call_core::audit::report_audit;
 use call_core::bound::report_bound;
 use call_core::hash::put_hash;
+use call_core::limit::limit_of;
+use call_core::login::log_in;
+use call_core::rehash::report_rehash;
 use call_core::report::{Report, tell};
 use call_core::setting::put_setting;
 use call_core::verify::verify;
@@ -64,6 +82,109 @@ pub extern "C" fn web_verify(
         report,
         verify(&NoHeap, password, stored, budget, &mut Meter::new()),
     )
+}
+
+/// Checks the password of a login, as `mkpasswd_login` does for C. Returns 1 exactly if a new hash can have the method and the
+/// rounds, and [`web_verify`] returns 1. The reason then tells whether [`web_needs_rehash`] would return 1.
+///
+/// If the field has no setting, or one above the budget, the call hashes the password with the method, the rounds and a
+/// fixed salt, and returns 0. So such a name does the work of a new hash. A name that is not known has an empty field. The
+/// caller makes such a call for a stored hash of scrypt too: it is refused without work.
+///
+/// Rounds of 0 are the recommended ones. A budget of 0 is the limit of the policy: twice what a new hash with the method and
+/// the rounds costs for a password of 64 bytes, and at least 150000000. A password whose new hash would be above it is
+/// refused without work, whatever the field is.
+///
+/// # Errors
+///
+/// - `Password`: the password is invalid. The field makes no difference.
+/// - `UnknownMethod`, `Cost`: no method has the number, or a new hash cannot have the rounds. Here too the field makes no
+///   difference.
+/// - `Locked`, `NoHash`: the field begins with `!` or `*`, or is empty.
+/// - `Setting`, `OverBudget`: any other field has no valid hash, or one that can cost more than the budget. After these
+///   four the work is that of the new hash: none if that can cost more than the budget, or is of scrypt.
+/// - `OutOfMemory`: the stored hash is of scrypt.
+/// - `Differs`: the password does not match.
+/// - `Dead`: no password matches the stored hash, because it is not whole. The work is that of `Differs`.
+#[unsafe(no_mangle)]
+pub extern "C" fn web_login(
+    password: &[u8],
+    field: &[u8],
+    method: u32,
+    rounds: u32,
+    budget: u64,
+    report: &mut Report,
+) -> i32
+    ensures answers { Answers result report.new }
+    ensures lets_in { result ≡ pos 1
+        → Opens password.now field.now (limit_of method rounds budget (length password.now)) × NeedsNoMemory field.now }
+    ensures opens { (scheme : Scheme) → IsSchemeMade TakesNewRounds method rounds scheme
+        → Opens password.now field.now (limit_of method rounds budget (length password.now)) → NeedsNoMemory field.now → result ≡ pos 1 }
+    ensures shut { IsDead field.now → result ≡ pos 0 }
+    ensures dead { (scheme : Scheme) → (kept : SettingValue) → IsSchemeMade TakesNewRounds method rounds scheme
+        → IsPassword password.now → Spells field.now kept → ¬ IsWhole field.now kept → cost kept (length password.now) ≤ limit_of method rounds budget (length password.now)
+        → (report.new ≡ reported (Refused Dead) 0 (cost kept (length password.now)) (work password.now kept))
+        ⊎ ((report.new.reason ≡ (reason_row (Refused OutOfMemory)).0) × (allocates kept.scheme ≡ true)) }
+    ensures tells { report.new.reason ≡ (reason_row (Refused Dead)).0 → IsDead field.now }
+    ensures outdated { report.new.reason ≡ (reason_row Outdated).0 ↔ (result ≡ pos 1) × IsOutdated field.now method rounds }
+    ensures as_verify { (scheme : Scheme) → IsSchemeMade TakesNewRounds method rounds scheme
+        → (verified : Told) × Verifies password.now field.now (limit_of method rounds budget (length password.now)) verified × Agrees report.new verified }
+    ensures decoy { (scheme : Scheme) → IsSchemeMade TakesNewRounds method rounds scheme → IsPassword password.now
+        → IsUncheckable password.now field.now (limit_of method rounds budget (length password.now))
+        → IsHashWork password.now (decoy scheme) (limit_of method rounds budget (length password.now)) report.new.work }
+    ensures decoy_made { (scheme : Scheme) → IsSchemeMade TakesNewRounds method rounds scheme → budget ≡ twice → IsPassword password.now
+        → new_cost scheme (length password.now) ≤ policy_limit scheme → IsUncheckable password.now field.now (policy_limit scheme)
+        → (report.new.work ≡ work password.now (decoy scheme)) ⊎ IsAfterRefusedGrowth no_work scheme report.new.work }
+    ensures alike_long { (scheme : Scheme) → IsSchemeMade TakesNewRounds method rounds scheme → budget ≡ twice
+        → policy_limit scheme < new_cost scheme (length password.now) → (result ≡ pos 0) × (report.new.work ≡ no_work) }
+    ensures alike { (fault : PasswordFault) → IsPasswordRefused password.now fault → report.new ≡ refused (Password fault) 0 }
+    ensures alike_rounds { (refusal : Refusal) → IsPassword password.now → IsSchemeReading TakesNewRounds method rounds (Err refusal)
+        → report.new ≡ refused refusal 0 }
+    ensures one_hash { IsLoginWork password.now field.now method rounds (limit_of method rounds budget (length password.now)) report.new.work }
+    ensures logs_in { LogsIn password.now field.now method rounds (limit_of method rounds budget (length password.now)) report.new }
+    ensures scrypt { (kept : SettingValue) → Spells field.now kept → cost kept (length password.now) ≤ limit_of method rounds budget (length password.now)
+        → allocates kept.scheme ≡ true → (result ≡ pos 0) × (report.new.work ≡ no_work) }
+    ensures scrypt_decoy { (scheme : Scheme) → IsSchemeMade TakesNewRounds method rounds scheme
+        → IsUncheckable password.now field.now (limit_of method rounds budget (length password.now))
+        → allocates scheme ≡ true → report.new.work ≡ no_work }
+    ensures bytes { report.new.work.bytes ≤ limit_of method rounds budget (length password.now) }
+{
+    let limit = limit_of(method, rounds, budget, password.len());
+    tell(
+        report,
+        log_in(
+            &NoHeap,
+            password,
+            field,
+            method,
+            rounds,
+            limit,
+            &mut Meter::new(),
+        ),
+    )
+}
+
+/// Returns 1 if a new hash with the method and the rounds would replace the stored one, as `mkpasswd_needs_rehash` does for C.
+///
+/// It hashes nothing.
+///
+/// # Errors
+///
+/// - `Setting`: the stored hash is invalid.
+/// - `UnknownMethod`, `Cost`: no method has the number, or the method does not accept the rounds.
+/// - `Current`: the stored hash needs no replacement.
+#[unsafe(no_mangle)]
+pub extern "C" fn web_needs_rehash(
+    stored: &[u8],
+    method: u32,
+    rounds: u32,
+    report: &mut Report,
+) -> i32
+    ensures answers { Answers result report.new }
+    ensures outdated { result ≡ pos 1 ↔ IsOutdated stored.now method rounds }
+    ensures rehashes { Rehashes stored.now method rounds report.new }
+{
+    tell(report, report_rehash(stored, method, rounds))
 }
 
 /// Hashes a password with a setting, and writes the hash and a byte 0 to `out`. [`web_verify`] accepts it for the password

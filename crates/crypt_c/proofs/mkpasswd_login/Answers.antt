@@ -10,7 +10,7 @@ returns-clause-opens c = λ scheme made opens.
     let opened = rw c.limit_of-limit.ensures.limit at c.log_in.ensures.opens in
     elim (opened scheme made opens) [
       | inl positive ↦ inl (search (rules, c.tell.ensures.positive.1 positive))
-      | inr lacks ↦ inr (rw c.tell.ensures.told lacks)
+      | inr lacks ↦ inr (rw c.tell.ensures.told lacks.0)
     ]
 
 pub returns-clause-dead : goal.returns-clause-dead

@@ -1,6 +1,8 @@
-use Rattle.std.proofs.Common.{◌≡◌, ◌∙◌, if◌then◌else◌, false, true, ap, arith, inl, inr}
+use Rattle.std.proofs.Common.{◌≡◌, ◌∙◌, if◌then◌else◌, false, true, ap, arith, inl, inr, sym}
+use Rattle.crypt_core.specs.Crypt.{allocates}
 use Rattle.crypt_core.specs.MadeSettings.{TakesRounds}
 use Rattle.crypt_core.specs.Replacements.{is_replaced_by}
+use Rattle.crypt_core.specs.Settings.{SettingValue}
 use Rattle.call_core.specs.Arguments.{TakesNewRounds}
 use Rattle.call_core.specs.Logins.{IsMiss}
 use Rattle.call_core.specs.Reasons.{reason_row}
@@ -75,4 +77,42 @@ returns-after-is_replaced_by-clause-dead g c = λ scheme kept made is spells dea
     elim missed [
       | inl told ↦ inl (rw (is_dead, c.in-Ok-checkable.ensures.within.0, c.in-Ok.ensures.password.0, same) at told)
       | inr lacks ↦ inr (rw same at lacks)
+    ]
+
+pub returns-in-Err-clause-granted : goal.returns-in-Err-clause-granted
+returns-in-Err-clause-granted g c = λ kept spells low costly. let idle = c.in-Err.ensures.idle in inr (idle.0, idle.1)
+
+pub returns-in-Err-checkable-clause-granted : goal.returns-in-Err-checkable-clause-granted
+returns-in-Err-checkable-clause-granted g c = λ kept spells low costly.
+    absurd (cc (c.in-Err-checkable.ensures.admits kept spells (rw c.in-Ok.ensures.password.0 low)))
+
+pub returns-after-is_replaced_by-clause-granted : goal.returns-after-is_replaced_by-clause-granted
+returns-after-is_replaced_by-clause-granted g c = λ kept spells low costly.
+    let same : (c.in-Ok-checkable.stored).setting ≡ kept = c.in-Ok-checkable.ensures.only kept spells in
+    elim (rw same at c.compare.ensures.granted) [
+      | inl free ↦ absurd (cc (free, costly))
+      | inr rest ↦ rest
+    ]
+
+pub returns-in-Err-clause-opens : goal.returns-in-Err-clause-opens
+returns-in-Err-clause-opens g c = λ scheme made opens. absurd (cc (c.in-Err.ensures.admits scheme opens.0 made))
+
+pub returns-in-Err-checkable-clause-opens : goal.returns-in-Err-checkable-clause-opens
+returns-in-Err-checkable-clause-opens g c = λ scheme made opens.
+    absurd (cc (c.in-Err-checkable.ensures.admits opens.1.0 opens.1.1 (rw c.in-Ok.ensures.password.0 opens.1.3)))
+
+pub returns-after-is_replaced_by-clause-opens : goal.returns-after-is_replaced_by-clause-opens
+returns-after-is_replaced_by-clause-opens g c = λ scheme made opens.
+    let kept = (c.in-Ok-checkable.stored).setting in
+    let found = c.in-Ok-checkable.ensures.found in
+    let only = c.in-Ok-checkable.ensures.only in
+    let same : kept ≡ opens.1.0 = only opens.1.0 opens.1.1 in
+    elim (c.compare.ensures.opens (rw (c.in-Ok.ensures.password.0, same, found.is_text) opens.1.2)) [
+      | inl positive ↦ inl positive
+      | inr lacks ↦ inr (
+        lacks.0,
+        λ free.
+            let also : kept ≡ free.0 = only free.0 free.1 in
+            cc (sym (ap (λ (k : SettingValue). allocates k.scheme) also) ∙ lacks.1, free.2),
+      )
     ]

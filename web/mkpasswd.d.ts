@@ -1,0 +1,141 @@
+// Password hashes of crypt(5) by sha512crypt, sha256crypt and md5crypt. scrypt needs memory, which the module doesn't have.
+
+/** A password, a setting or a stored hash. A string is encoded as UTF-8. */
+export type Text = string | Uint8Array;
+
+export type Method = 'sha512crypt' | 'sha256crypt' | 'md5crypt';
+
+/** What a login returns for a password that matches. */
+export interface Match {
+    readonly matches: true;
+    /** A new hash, to be stored over the one that was checked, or null. Logs and JSON don't show it. */
+    readonly new: string | null;
+}
+
+/**
+ * What a login returns: false, or a match, which is true. Test `matches`: a promise has none, so nobody gets in where an
+ * `await` was forgotten. The promise itself is always true.
+ */
+export type Verdict = Match | (false & { readonly matches?: undefined; readonly new?: undefined });
+
+export type State =
+    'current' | 'outdated' | 'dead' | 'over budget' | 'locked' | 'none' | 'no scheme' | 'unknown' | 'malformed';
+
+/** What `mkpasswd --audit` says of a stored field. As a string it is these parts, such as `md5crypt:1927022:outdated`. */
+export interface Description {
+    /** null if there is no valid setting. */
+    readonly method: Method | 'scrypt' | null;
+    /** The most that a hash with this setting costs, for a password of 1,024 bytes; or null. */
+    readonly cost: number | null;
+    readonly state: State;
+    /** The first broken rule if the state is malformed, by its name in mkpasswd.h; otherwise null. */
+    readonly reason: string | null;
+    toString(): string;
+}
+
+/** Thrown for a hash, a password or a policy that is refused. Nothing was hashed. */
+export class Refused extends Error {
+    /** The name that mkpasswd.h has for it, such as MKPASSWD_REFUSED_BAD_ROUNDS. */
+    readonly reason: string;
+}
+
+/** Thrown if a hash can cost more than the budget. */
+export class TooCostly extends Refused {}
+
+/**
+ * The method and rounds of a service's new hashes, and what a hash may cost. The functions below are those of `new Policy()`.
+ *
+ * `rounds` is 1000 to 999999999; undefined, null and 0 stand for 656000. md5crypt has none. `budget` is the most that a hash
+ * may cost, as `cost` counts it: the bytes that are digested. Without one that is twice what a new hash costs with a password
+ * of 64 bytes, and at least 150,000,000; for the recommended policy it is 253,921,472, which admits passwords of up to 168
+ * bytes, and 1,300,000,000 admits all of them.
+ *
+ * Throws Refused for an unknown method or other rounds, RangeError for a budget below 1, and TypeError.
+ */
+export class Policy {
+    readonly method: Method;
+    readonly rounds: number;
+    readonly budget: number | null;
+
+    constructor(policy?: { method?: Method; rounds?: number | null; budget?: number | null });
+
+    /**
+     * Hashes a new password, with a new salt. What it returns is always true: to check a password, call `loginAsync`.
+     *
+     * Throws TooCostly if the hash costs more than the budget, so `login` opens what this makes; and Refused for a password
+     * of more than 1,024 bytes or with a zero byte. Half of a character, which has no bytes, is a TypeError.
+     */
+    hash(password: Text): string;
+
+    /** The same in a worker, so the caller's thread goes on. */
+    hashAsync(password: Text): Promise<string>;
+
+    /**
+     * Checks the password of a login, at the same cost for every name. The field is what is stored for the name, and null for
+     * a name that doesn't exist. The password comes first: swapped, whoever types a hash of what is stored gets in.
+     *
+     * It is a match only if the password matches. If `needsRehash` is true of the field, `new` is a hash to store in its
+     * place. All else is false: a locked, malformed or empty field, another scheme, scrypt, a hash above the budget, and a
+     * password that no hash can have. No string, bytes or null throws; anything else is a TypeError.
+     *
+     * A field that can't be checked costs what a new hash costs, so the time doesn't tell which names exist, as long as all
+     * hashes are made by this policy. It blocks the thread for that time: a server calls `loginAsync`.
+     */
+    login(password: Text, field: Text | null | undefined): Verdict;
+
+    /**
+     * The same in a worker, so a server goes on. There is at most one for each core; other calls wait. If the worker
+     * ends early, the promise is rejected.
+     */
+    loginAsync(password: Text, field: Text | null | undefined): Promise<Verdict>;
+
+    /**
+     * Whether the password matches the stored hash. It is false for a locked or empty field, and for a hash that was cut. It
+     * isn't for logins: its time tells which names exist, and it throws.
+     *
+     * Throws TooCostly if the hash can cost more than the budget; Refused for scrypt, another scheme, an invalid setting and a
+     * password of more than 1,024 bytes or with a zero byte. Half of a character is a TypeError.
+     */
+    verify(password: Text, field: Text): boolean;
+
+    /**
+     * Whether a new hash by this policy would replace the stored one: it is of another method, or has fewer rounds. A locked or
+     * empty field has none. Throws Refused if the setting is invalid or of another scheme.
+     */
+    needsRehash(stored: Text): boolean;
+
+    /**
+     * What `mkpasswd --audit` says of a stored field, without any password. Nothing is hashed. No string, bytes or null throws.
+     *
+     * The state is the first of these: `locked`, `none` (empty or null), `no scheme` (no hash at all, such as a password
+     * that was stored as it is), `unknown` (another scheme), `malformed`, `over budget` (without a budget: that of an
+     * audit), `dead` (cut or changed, so no password matches it), `outdated` (as `needsRehash` says), `current`.
+     */
+    describe(field: Text | null | undefined): Description;
+}
+
+export const hash: Policy['hash'];
+export const hashAsync: Policy['hashAsync'];
+export const login: Policy['login'];
+export const loginAsync: Policy['loginAsync'];
+export const verify: Policy['verify'];
+export const needsRehash: Policy['needsRehash'];
+export const describe: Policy['describe'];
+
+/**
+ * The most that a hash with this setting costs, for any password of so many bytes. Throws Refused for a field without a valid
+ * setting, and for more than 1,024 bytes.
+ */
+export function cost(stored: Text, passwordLength: number): number;
+
+/** A setting with a new salt. Throws Refused for an unknown method and rounds that it doesn't have. */
+export function setting(method?: Method, rounds?: number): string;
+
+/**
+ * The hash of a password with a setting or a stored hash, whose salt it takes. Throws TooCostly if it can cost more than the
+ * budget, by default that of the recommended policy; and Refused.
+ */
+export function crypt(password: Text, setting: Text, budget?: number): string;
+
+/** The version, such as "1.3.0". */
+export const version: string;
