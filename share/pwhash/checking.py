@@ -1,30 +1,28 @@
 """`pwhash check` and `pwhash audit`: stored hashes."""
 import collections, json, os, re
 from engine import Engine
-from hashing import Part, show
+from hashing import accepted, finish, open_part
 from lines import Source
 from terminal import readable, say, write
 
 def check(options):
     """Checks lines name:field:password."""
-    source, engine = Source(options), Engine("--check", options.words)
-    part, made = Part(options, source) if options.out else None, []
-    for _, _, answers, refusals in engine.answers(source.lines(), "checking", source.total):
-        if part:
+    source, engine, made = Source(options), Engine("--check", options.words), []
+    for block in engine.answers(source.lines(), "checking", source.total):
+        answers = accepted(block)
+        if options.out:
             made += [answer.replace(b":ok:", b":", 1) for answer in answers if b":ok:$" in answer]
-            answers = [answers[place] for place in refusals]
-            refusals = range(len(answers))
-        show(answers, refusals)
-    if part:
-        show(made, (), part.fd, part.path)
-        part.finish()
+        else:
+            write(1, answers, "standard output")
+    if options.out:
+        fd = open_part(options, source)
+        write(fd, made, options.part)
+        finish(fd, options)
     if source.absent:
         say(f"{source.absent:,} lines of {source.name} have no account in {options.shadow}.")
     return engine.bad
 
-FINE = ("unknown", "current", "locked")
-HEAD = "NAME                  METHOD             ROUNDS  FINDING\n"
-ROW = "{name:20}  {method:12}  {rounds:>11}  {finding} {message}"
+HEAD = b"NAME                  METHOD             ROUNDS  FINDING"
 FINDINGS = {      # the colour of each, and what to do
     "none": (31, "no password is asked for: set one, or lock the account with passwd -l NAME"),
     "over budget": (31, "a login can take minutes: set a new password, or lock the account"),
@@ -34,36 +32,44 @@ FINDINGS = {      # the colour of each, and what to do
     "outdated": (33, "few rounds or another method: a new password renews it, and chage -d 0 NAME asks for one"),
     "refused": (33, "no line of an account"), "unknown": (36, "another scheme, which is not judged"),
     "current": (32, "as it should be"), "locked": (0, "no password logs in")}
+FINE = ("unknown", "current", "locked")
 
-def found(number, line, answer, refusal):
-    """An answer by its columns: METHOD:ROUNDS:COST:finding, METHOD:unknown, malformed:MESSAGE, or a finding alone."""
-    (*columns, finding), message = answer[line.find(b":") + 1:].decode().split(":"), ""
+def judged(number, answer, refusal):
+    """What METHOD:ROUNDS:COST:FINDING, METHOD:unknown, malformed:MESSAGE or a finding alone says behind the name."""
+    (name, *columns, finding), message = readable(answer).split(":"), ""
     if refusal or columns == ["malformed"]:
-        columns, message, finding = [], refusal or finding, "refused" if refusal else "malformed"
+        columns, finding, message = [], "refused" if refusal else "malformed", refusal or finding
     method, rounds, cost = [int(each) if each.isdecimal() else each for each in columns] + [""] * (3 - len(columns))
-    return {"line": number, "name": f"line {number}" if refusal else readable(line.partition(b":")[0]),
-            "method": method, "rounds": rounds, "cost": cost, "finding": finding, "message": message}
+    return {"line": number, "name": f"line {number}" if refusal else name, "method": method, "rounds": rounds,
+            "cost": cost, "finding": finding, "message": message}
+
+def coloured(finding, text):
+    colour = os.isatty(1) and "NO_COLOR" not in os.environ
+    return (f"\x1b[{FINDINGS[finding][0]}m{text}\x1b[m" if colour else text).encode()
 
 def audit(options):
     """Shows what is wrong with stored hashes."""
-    source, engine, counts = Source(options), Engine("--audit", options.words), collections.Counter()
-    colour, head = os.isatty(1) and "NO_COLOR" not in os.environ, HEAD
-    def row(finding, text):
-        return f"\x1b[{FINDINGS[finding][0]}m{text}\x1b[m\n" if colour else text + "\n"
-    lock = rb"^([^:]*:)[!*]+(?=\$)" if options.locked else rb"^()"      # in front of a locked hash
-    pieces = ((numbers, [re.sub(lock, rb"\1", line) for line in lines]) for numbers, lines in source.lines())
-    for numbers, lines, answers, refusals in engine.answers(pieces, "auditing", source.total):
-        text = ""
-        for place, each in enumerate(zip(numbers, lines, answers)):
-            this = found(*each, refusals.get(place))
-            counts[this["finding"]] += 1
-            if options.json and not (options.only_problems and this["finding"] in FINE):
-                text += json.dumps(this) + "\n"
-            elif not (options.only_problems and this["finding"] in FINE):
-                text += head + row(this["finding"], ROW.format(**this).rstrip())
-                head = ""
-        write(1, text.encode(), "standard output")
+    source, engine, counts, head = Source(options), Engine("--audit", options.words), collections.Counter(), [HEAD]
+    pieces = source.lines()
+    if options.locked:      # without what is in front of a locked hash
+        pieces = ((numbers, [re.sub(rb"^([^:]*:)[!*]+(?=\$)", rb"\1", line) for line in lines])
+                  for numbers, lines in pieces)
+    for block in engine.answers(pieces, "auditing", source.total):
+        rows = []
+        for place, answer in enumerate(block.answers):
+            found = judged(block.numbers[place], answer, block.refusals.get(place))
+            counts[found["finding"]] += 1
+            if options.only_problems and found["finding"] in FINE:
+                continue
+            if options.json:
+                rows.append(json.dumps(found).encode())
+            else:
+                row = "{name:20}  {method:12}  {rounds:>11}  {finding} {message}".format(**found)
+                rows += [*head, coloured(found["finding"], row.rstrip())]
+                head = []
+        if rows:
+            write(1, rows, "standard output")
     if not options.json and not (options.only_problems and head):
-        rows = [row(each, f"{counts[each]:7,} {each:12} {FINDINGS[each][1]}") for each in FINDINGS if counts[each]]
-        write(1, f"\n{sum(counts.values()):,} lines:\n{''.join(rows)}".encode(), "standard output")
+        rows = [coloured(each, f"{counts[each]:7,} {each:12} {FINDINGS[each][1]}") for each in FINDINGS if counts[each]]
+        write(1, [f"\n{sum(counts.values()):,} lines:".encode(), *rows], "standard output")
     return engine.bad

@@ -40,8 +40,7 @@ COMMANDS = {     # what runs it, its input by default, its options
     "check": (checking.check, "-", "shadow rehash out windows method rounds salt budget quiet"),
     "audit": (checking.audit, "/etc/shadow", "only_problems json locked method rounds budget quiet")}
 
-def interrupt(number, frame):
-    raise KeyboardInterrupt(number)
+SIGNALS = (signal.SIGINT, signal.SIGTERM, signal.SIGHUP)
 
 def number(text):
     match = re.fullmatch("([0-9]{1,10})([kM]?)", text)
@@ -65,8 +64,10 @@ def arguments(words):
     parser.parse_args(words[bool(command):], options)
     if options.resume and not options.out or options.out and command == "check" and not options.rehash:
         raise Stop("--resume goes with -o, and -o of check with --rehash.", 2)
-    if options.out and os.path.lexists(options.out):
-        raise Stop(f"{options.out} is there already: remove it, or name another file after -o.", 2)
+    for path, wanted in [(options.out, False), (options.out + ".part", options.resume)] if options.out else []:
+        if os.path.lexists(path) != wanted:
+            raise Stop(f"there is no {path} to go on with: leave out --resume." if wanted else
+                       f"{path} is there already: remove it, or name another file after -o.", 2)
     if command != "audit":      # what mkpasswd takes by itself are fewer rounds, and no budget
         base, least, scrypt = 253921472, 656000, options.method == "scrypt"
         options.rounds = options.rounds or (7 if scrypt else least)
@@ -76,47 +77,49 @@ def arguments(words):
     options.words = [f"--{each}={value}" for each, value in values if value is not None] + ["--rehash"] * options.rehash
     return options
 
-def tell_end(options, text):
+def tell_end(options, stop):
     """Says why the run ended early and how to go on, on the terminal too if standard error goes elsewhere."""
-    if options and options.part and options.run == hashing.file:
+    text, early = stop.sentence, stop.status not in (1, 2)
+    if early and options and options.part and options.run == hashing.file:
         text += f" To go on:\n  {shlex.join(sys.argv + ['--resume'][options.resume:])}"
         text += f" < {shlex.quote(os.readlink('/proc/self/fd/0'))}" if options.file == "-" else ""
-    if not os.isatty(2):
-        on_terminal(f"\r\x1b[Kpwhash: {text}\n")
+    progress.clear()
+    if early and not os.isatty(2):
+        on_terminal(f"pwhash: {text}\n")
     say(text)
 
+def interrupt(number, frame):
+    for each in SIGNALS:
+        signal.signal(each, signal.SIG_IGN)
+    raise Stop(f"{signal.Signals(number).name} ended the run.", -number)
+
 def main():
+    """Runs a command, and returns its status."""
     while os.open("/", os.O_RDONLY) < 3:      # nothing else gets a descriptor that was closed
         pass
     signal.signal(signal.SIGCHLD, signal.SIG_DFL)
-    signal.pthread_sigmask(signal.SIG_SETMASK, [])
-    signals, options = (signal.SIGINT, signal.SIGTERM, signal.SIGHUP), None
-    for each in signals:
-        signal.signal(each, interrupt if signal.getsignal(each) != signal.SIG_IGN else signal.SIG_IGN)
+    signal.pthread_sigmask(signal.SIG_SETMASK, [signal.SIGCHLD])      # for which engine.py waits
+    for each in SIGNALS:
+        if signal.getsignal(each) != signal.SIG_IGN:
+            signal.signal(each, interrupt)
+    options = None
     try:
-        try:
-            options = arguments(sys.argv[1:])
-            progress.quiet = options.quiet
-            return int(bool(options.run(options)))
-        finally:
-            for each in signals:
-                signal.signal(each, signal.SIG_IGN)
-            for process in engine.processes:
-                process.kill()
-            progress.clear()
-    except Stop as stop:
-        sentence, status = (*stop.args, 3)[:2]
-        (tell_end(options, sentence) if status == 3 else say(sentence))
-        return status
-    except KeyboardInterrupt as interrupted:
-        [number] = interrupted.args
-        tell_end(options, f"{signal.Signals(number).name} ended the run.")
-        signal.signal(number, signal.SIG_DFL)
-        os.kill(os.getpid(), number)
+        options = arguments(sys.argv[1:])
+        progress.quiet = options.quiet
+        return int(bool(options.run(options)))
     except SystemExit as leave:      # of argparse's help
         sys.stdout.flush()
         return leave.code
+    except OSError as error:
+        stop = Stop(": ".join(filter(None, [error.strerror, error.filename])) + ".")
+    except Stop as stopped:
+        stop = stopped
     except BaseException as error:
-        text = f"{error.filename or 'an input'}: {error.strerror}" if isinstance(error, OSError) else repr(error)
-        tell_end(options, f"{text}.")
-    return 3
+        stop = Stop(f"{error!r}.")
+    for process in engine.processes:
+        process.kill()
+    tell_end(options, stop)
+    if stop.status < 0:
+        signal.signal(-stop.status, signal.SIG_DFL)
+        os.kill(os.getpid(), -stop.status)
+    return stop.status

@@ -1,15 +1,13 @@
 """Runs mkpasswd over lines, and takes nothing but its answers to them: each has the name of its line, or the number.
 
-A block of lines goes to a mkpasswd in memory, so that nobody waits for room in a pipe. Both outputs come back in one,
-so that there is an answer for each line, in order. If a mkpasswd is killed, another one answers its block.
+A mkpasswd reads a block of lines from memory and writes into memory, so that nobody waits for room in a pipe. Both of
+its outputs are one, so that there is an answer for each line, in order. If it is killed, another one begins again.
 """
-import collections, functools, os, re, subprocess, time, types
-from lines import ready
+import collections, fcntl, functools, os, re, signal, subprocess, time, types
 from terminal import Stop, progress, readable
 
-SECONDS = 0.25      # what a block should take
+SECONDS = 0.5       # what a block should take; in less, scrypt's memory would be a tenth of it
 MOST = 1 << 15      # lines of a block
-NAMES = re.compile(rb"^([^:\n]+:).*\n?", re.M)
 REFUSAL = re.compile(rb"mkpasswd: line ([1-9][0-9]*): ([a-z ]+)")
 HASH = rb"\$[!-9;-~]+"
 FORMS = {      # all that mkpasswd can write behind a name
@@ -30,87 +28,96 @@ def find_mkpasswd():
             others += f" {path} is {'that of the package whois' if b'Marco' in said else 'another program'}."
     raise Stop(f"there is no proved mkpasswd beside pwhash or on the PATH.{others} Install its package, mkpasswd.")
 
+def in_memory(size, data=b""):
+    """A file in memory, with data at its beginning, that nobody can make longer than size."""
+    file = open(os.memfd_create("lines", os.MFD_CLOEXEC | os.MFD_ALLOW_SEALING), "w+b")
+    file.truncate(size)
+    fcntl.fcntl(file, fcntl.F_ADD_SEALS, fcntl.F_SEAL_GROW)
+    file.write(data)
+    file.seek(0)
+    return file
+
 class Engine:
+    bad = False      # whether the status is 1
+
     def __init__(self, mode, words):
         self.command, self.jobs, self.size = [find_mkpasswd(), mode, *words], len(os.sched_getaffinity(0)), 1
-        form = FORMS["--rehash" if "--rehash" in words else mode]
-        self.form, self.bad = re.compile(rb"^([^:\n]+:)(?:%b)(?:\n|\Z)" % form, re.M), False
+        self.is_answer = functools.lru_cache()(re.compile(FORMS["--rehash" if "--rehash" in words else mode]).fullmatch)
         list(self.answers([([1], [b""])]))      # wrong words end the run here
-        self.bad = False                        # whether the status is 1
+        self.bad = False
 
     def start(self, block):
         """Gives the lines of a block to a mkpasswd, which Ctrl-C doesn't reach."""
-        with open(os.memfd_create("lines"), "w+b", 0) as file:
-            file.write(b"\n".join(block.lines + [b""]))
-            file.seek(0)
+        data = b"\n".join([*block.lines, b""])
+        block.said, block.begun = in_memory(4096 + 256 * len(block.lines)), time.monotonic()
+        with in_memory(len(data), data) as lines:
             words = [*self.command, f"--first-line={block.numbers[0]}"]
-            block.process = subprocess.Popen(words, stdin=file, stdout=subprocess.PIPE, stderr=subprocess.STDOUT,
-                                             bufsize=0, env={}, start_new_session=True)
+            block.process = subprocess.Popen(words, stdin=lines, stdout=block.said, stderr=subprocess.STDOUT, env={},
+                                             start_new_session=True)
         processes.add(block.process)
-        block.text, block.begun = b"", time.monotonic()
 
-    def read(self, block):
-        """Reads some of what a mkpasswd says. At its end the block has its answers, or another one begins again."""
-        piece = os.read(block.process.stdout.fileno(), 1 << 16)
-        block.text += piece
-        if piece and len(block.text) < 1 << 24:
-            return
-        block.process.stdout.close()
-        code, count = block.process.wait(), len(block.lines)
+    def is_done(self, block):
+        """Whether its mkpasswd has ended and the block has the answers. If it was killed, another one begins again."""
+        code, count = block.process.poll(), len(block.lines)
+        if code is None:
+            return False
         processes.discard(block.process)
-        *block.answers, rest = block.text.split(b"\n")
+        with block.said as file:
+            *answers, rest = os.pread(file.fileno(), os.lseek(file.fileno(), 0, os.SEEK_CUR), 0).split(b"\n")
         if code < 0 and block.deaths < 2:
             block.deaths += 1
-            return self.start(block)
-        said = readable((rest or b"".join(block.answers[-1:]))[:200])
+            self.start(block)
+            return False
+        said = readable((rest or b"".join(answers[-1:]))[:200])
         if code == 2:
-            raise Stop(f"{said} ({' '.join(self.command[2:])}). pwhash --help says what is allowed.", 2)
-        if code not in (0, 1) or rest or len(block.answers) != count:
-            at = block.numbers[min(len(block.answers), count - 1)]
+            raise Stop(f"{said}, for {' '.join(self.command[2:])}. Methods are sha512crypt, sha256crypt, md5crypt and "
+                       "scrypt (-R 6 to 11). A salt has up to 16 letters, digits, '.' or '/' (md5crypt 8, scrypt 86).", 2)
+        if code not in (0, 1) or rest or len(answers) != count:
+            at = block.numbers[min(len(answers), count - 1)]
             raise Stop(f"mkpasswd ended with status {code} near line {at}, and said last: {said}")
-        block.refusals = self.refusals(block)
+        block.answers, block.refusals = answers, self.refusals(block, answers)
         self.bad |= code == 1 or bool(block.refusals)
-        seconds = max(time.monotonic() - block.begun, 1e-3)
-        self.size = max(1, min(MOST, int(count * min(8, SECONDS / seconds))))
+        self.size = max(1, min(MOST, int(count * min(64, SECONDS / max(time.monotonic() - block.begun, 1e-3)))))
+        return True
 
-    def refusals(self, block):
+    def refusals(self, block, answers):
         """The refusals by place. Whatever is no answer to its line ends the run."""
-        refusals, names = {}, self.form.findall(b"\n".join(block.answers))
-        if len(names) == len(block.lines) and names == NAMES.findall(b"\n".join(block.lines)):
-            return refusals      # each answer has the form and its line's name
-        for place, (number, line, answer) in enumerate(zip(block.numbers, block.lines, block.answers)):
-            refusal = REFUSAL.fullmatch(answer)
-            if refusal and int(refusal[1]) == block.numbers[0] + place:
-                refusals[place] = refusal[2].decode()
-                block.answers[place] = b"mkpasswd: line %d: %b" % (number, refusal[2])
-            elif not self.form.match(answer) or self.form.findall(answer) != NAMES.findall(line):
+        refusals, first = {}, block.numbers[0]
+        for place, (line, answer) in enumerate(zip(block.lines, answers)):
+            name, colon, verdict = answer.partition(b":")
+            if name and line.startswith(name + colon) and self.is_answer(verdict):
+                continue
+            refusal, number = REFUSAL.fullmatch(answer), block.numbers[place]
+            if not refusal or int(refusal[1]) != first + place:
                 raise Stop(f"line {number} got no answer of its own: {readable(answer[:200])}")
+            refusals[place] = refusal[2].decode()
+            answers[place] = b"mkpasswd: line %d: %b" % (number, refusal[2])
         return refusals
 
     def answers(self, pieces, word=None, total=0):
-        """Gives numbers, lines, answers, and refusals by place, in order, as soon as they are there. pieces gives
-        numbers and lines, or none of these where they come slowly. word and total are for the progress."""
+        """Gives blocks with their answers, in order, as soon as these are there. pieces gives numbers and lines, or none
+        of these where they come slowly. word and total are for the progress."""
         order = collections.deque()
         progress.begin(word, total)
         for numbers, lines in pieces:
-            while lines:
-                size = self.size
-                block = types.SimpleNamespace(numbers=numbers[:size], lines=lines[:size], deaths=0, refusals=None)
+            while lines:      # the last blocks are smaller, so that all processes end at once
+                fair = (total - numbers[0]) // self.jobs if total else MOST
+                size = max(1, self.size // 8, min(self.size, fair))
+                block = types.SimpleNamespace(numbers=numbers[:size], lines=lines[:size], deaths=0, answers=None)
                 numbers, lines = numbers[size:], lines[size:]
                 self.start(block)
                 order.append(block)
-                while sum(each.refusals is None for each in order) >= self.jobs or len(order) >= 4 * self.jobs:
-                    yield from self.finished(order, 500)
+                while sum(not each.answers for each in order) >= self.jobs or len(order) >= 4 * self.jobs:
+                    yield from self.finished(order, 1)
             yield from self.finished(order, 0)
         while order:
-            yield from self.finished(order, 500)
+            yield from self.finished(order, 1)
 
-    def finished(self, order, milliseconds):
-        """Waits for what the processes say, and gives the blocks that are done, in order."""
-        running = {block.process.stdout.fileno(): block for block in order if block.refusals is None}
-        for each in ready(running, milliseconds):
-            self.read(running[each])
-        while order and order[0].refusals is not None:
+    def finished(self, order, seconds):
+        """Gives the blocks that are done, in order. If none has become so, it waits for the end of a process."""
+        if not [block for block in order if not block.answers and self.is_done(block)]:
+            signal.sigtimedwait([signal.SIGCHLD], seconds)
+        while order and order[0].answers:
             block = order.popleft()
-            yield block.numbers, block.lines, block.answers, block.refusals
+            yield block
             progress.count(block.numbers)

@@ -1,5 +1,5 @@
 """`pwhash` and `pwhash file`: new hashes."""
-import fcntl, getpass, os, re, secrets, string, time
+import fcntl, os, re, string, time
 from engine import HASH, Engine
 from lines import MARK, Source, some_at_a_time
 from terminal import Stop, on_terminal, readable, say, write
@@ -15,6 +15,7 @@ SERVICES = {    # the names that each service reads as they are
 NAMELESS = ("line too long", "no name", "name too long", "no password field")      # the name may be a password
 
 def new_password(options):
+    import getpass, secrets      # only here, since they are slow to begin
     if options.generate:
         password = "".join(secrets.choice(string.ascii_letters + string.digits) for _ in range(20))
         if not on_terminal(f"The password, shown only here: {password}\n"):
@@ -35,11 +36,12 @@ def one(options):
     if not password or password.endswith(b"\r"):
         raise Stop("the password ends with a carriage return, as lines of Windows do. Remove it." if password else
                    "the password is empty, so Return alone would log in. Give at least one character.", 2)
-    [(_, _, [answer], refusals)] = engine.answers([([1], [b"x:" + password])])
-    if refusals:
-        raise Stop(f"{refusals[0]}. Give at most 1,024 bytes, none of them zero, or for more cost a --budget.", 2)
-    text = PLACES[options.target].format(name=options.name, hash=answer[2:].decode(), day=int(time.time() // 86400))
-    write(1, text.encode() + b"\n", "standard output")
+    [block] = engine.answers([([1], [b"x:" + password])])
+    if block.refusals:
+        raise Stop(f"{block.refusals[0]}. Give at most 1,024 bytes, none of them zero, or for more cost a --budget.", 2)
+    made = block.answers[0][2:].decode()
+    text = PLACES[options.target].format(name=options.name, hash=made, day=int(time.time() // 86400))
+    write(1, [text.encode()], "standard output")
 
 def doubts(number, name, password, names, plain):
     """What mkpasswd hashes as it is, and hardly anybody wants."""
@@ -52,7 +54,7 @@ def doubts(number, name, password, names, plain):
         "not UTF-8, which terminals send": (name + password).decode(errors="ignore").encode() != name + password,
     }.items() if is_so]
 
-def look(source, options):
+def look(source, options, engine):
     """Tells which lines mkpasswd would refuse, whose numbers it returns, and which are doubtful. By a budget of 0 good
     lines are over budget, without work. Of these the longest are tried with the true budget, down to the first that
     gets its hash, since shorter passwords cost less."""
@@ -60,89 +62,90 @@ def look(source, options):
     def tell(number, name, reason, kind):
         kind.add(number)
         say(f"{source.name}, line {number}{'' if reason in NAMELESS else f' ({readable(name)})'}: {reason}")
-    engine = Engine("--batch", [word for word in options.words if not word.startswith("--budget=")] + ["--budget=0"])
-    for numbers, lines, _, refusals in engine.answers(source.lines(), "looking", source.total):
-        for place, reason in refusals.items():
-            number, (name, _, password) = numbers[place], lines[place].partition(b":")
+    free = Engine("--batch", [word for word in options.words if not word.startswith("--budget=")] + ["--budget=0"])
+    for block in free.answers(source.lines(), "looking", source.total):
+        for place, reason in block.refusals.items():
+            number, (name, _, password) = block.numbers[place], block.lines[place].partition(b":")
             if reason != "over budget":
                 tell(number, name, reason, refused)
                 continue
             for reason in doubts(number, name, password, names, SERVICES[options.target]):
                 tell(number, name, reason, doubtful)
-            by_length.setdefault(len(password), [lines[place]]).append((number, name))
+            by_length.setdefault(len(password), []).append((number, block.lines[place]))
             names.add(name)
-    engine = Engine("--batch", options.words)
-    for line, *same in (by_length[length] for length in sorted(by_length, reverse=True)):
-        [(_, _, _, refusals)] = engine.answers([([1], [line])])
-        if not refusals:
+    for _, same in sorted(by_length.items(), reverse=True):
+        [block] = engine.answers([([1], [same[0][1]])])
+        if not block.refusals:
             break
-        for number, name in same:
-            tell(number, name, refusals[0], refused)
+        for number, line in same:
+            tell(number, line.partition(b":")[0], block.refusals[0], refused)
+    engine.bad = bool(refused)
     if refused and not options.skip_refused or doubtful and not options.accept_doubtful:
         raise Stop(f"nothing was hashed. Correct these lines and start again: {len(refused):,} would be refused "
                    f"(--skip-refused omits them), {len(doubtful):,} are doubtful (--accept-doubtful takes them).", 1)
     return refused
 
-class Part:
-    """OUT.part, which becomes OUT once it is whole."""
-    def __init__(self, options, source):
-        self.out, self.path, self.options = options.out, options.out + ".part", options
-        try:
-            flags = 0 if options.resume else os.O_CREAT | os.O_EXCL
-            self.fd = os.open(self.path, os.O_RDWR | os.O_NOFOLLOW | flags, 0o600)
-            fcntl.flock(self.fd, fcntl.LOCK_EX | fcntl.LOCK_NB)
-            os.chmod(self.path, 0o600)
-            options.part = self
-        except (FileExistsError, FileNotFoundError, BlockingIOError):
-            why = "is missing, or another run writes it" if options.resume else "is there: add --resume, or remove it"
-            raise Stop(f"{self.path} {why}.", 2) from None
-        if os.fstat(source.fd).st_mtime_ns > os.fstat(self.fd).st_mtime_ns and options.resume:
-            raise Stop(f"{source.name} was changed after {self.path}: remove that, and start without --resume.", 2)
+def open_part(options, source):
+    """Opens OUT.part, for this run alone. It becomes OUT once it is whole."""
+    options.part = options.out + ".part"
+    fd = os.open(options.part, os.O_RDWR | os.O_NOFOLLOW | (0 if options.resume else os.O_CREAT | os.O_EXCL), 0o600)
+    try:
+        fcntl.flock(fd, fcntl.LOCK_EX | fcntl.LOCK_NB)
+    except BlockingIOError:
+        raise Stop(f"another run writes {options.part}.", 2) from None
+    os.chmod(options.part, 0o600)
+    if os.fstat(source.fd).st_mtime_ns > os.fstat(fd).st_mtime_ns and options.resume:
+        raise Stop(f"{source.name} was changed after {options.part}: remove that, and start without --resume.", 2)
+    return fd
 
-    def skip(self, lines, name):
-        """Skips lines that have their hashes. Each hash has to be behind the name of its line. The first and the last
-        are made again with their salts, so that other passwords or options don't go unnoticed."""
-        with open(self.path, "rb") as file:
-            made = [answer for answer in file if answer.endswith(b"\n")]
-        pairs = list(zip(made, lines))
-        for answer, (number, line) in pairs:
-            if not re.fullmatch(re.escape(line[:line.index(b":") + 1]) + HASH + b"\n", answer):
-                raise Stop(f"{self.path} is not of {name}: it has no hash for line {number}.", 2)
-        for answer, (_, line) in pairs[:1] + pairs[-1:]:
-            salt = answer.rsplit(b"$", 2)[1][11 if b":$7$" in answer else 0:].decode()
-            words = [word for word in self.options.words if not word.startswith("--salt")] + ["--salt=" + salt]
-            if [again for _, _, again, _ in Engine("--batch", words).answers([([1], [line])])] != [[answer[:-1]]]:
-                raise Stop(f"{self.path} was made with other passwords or options than these.", 2)
-        if len(pairs) < len(made):
-            raise Stop(f"{self.path} has more lines than {name}.", 2)
-        os.ftruncate(self.fd, os.lseek(self.fd, sum(map(len, made)), os.SEEK_SET))
+def skip(fd, lines, options, name):
+    """Skips lines that have their hashes in OUT.part. Each hash has to be behind the name of its line. The first and
+    the last are made again with their salts, so that other passwords or options don't go unnoticed."""
+    with open(options.part, "rb") as file:
+        made = [answer for answer in file if answer.endswith(b"\n")]
+    pairs = list(zip(made, lines))
+    for answer, (number, line) in pairs:
+        if not re.fullmatch(re.escape(line[:line.index(b":") + 1]) + HASH + b"\n", answer):
+            raise Stop(f"{options.part} is not of {name}: it has no hash for line {number}.", 2)
+    for answer, (_, line) in pairs[:1] + pairs[-1:]:
+        salt = answer.rsplit(b"$", 2)[1][11 if b":$7$" in answer else 0:].decode()
+        words = [word for word in options.words if not word.startswith("--salt")] + ["--salt=" + salt]
+        [block] = Engine("--batch", words).answers([([1], [line])])
+        if block.answers[0] + b"\n" != answer:
+            raise Stop(f"{options.part} was made with other passwords or options than these.", 2)
+    if len(pairs) < len(made):
+        raise Stop(f"{options.part} has more lines than {name}.", 2)
+    os.ftruncate(fd, os.lseek(fd, sum(map(len, made)), os.SEEK_SET))
 
-    def finish(self):
-        os.fsync(self.fd)
-        os.rename(self.path, self.out)
+def finish(fd, options):
+    os.fsync(fd)
+    os.rename(options.part, options.out)
 
 def file(options):
     """Hashes lines name:password. A file is read twice, first to look for problems."""
-    source = Source(options)
-    if options.out and not source.regular:
-        raise Stop("-o needs a file, which can be read twice. Give its name, or leave out -o.", 2)
-    refused, lines = look(source, options) if source.regular else set(), source.lines()
-    engine, part = Engine("--batch", options.words), Part(options, source) if options.out else None
+    source, engine = Source(options), Engine("--batch", options.words)
+    fd, name, lines = 1, "standard output", source.lines()
     if source.regular:
-        good = (pair for pieces in lines for pair in zip(*pieces) if pair[0] not in refused)
+        refused = look(source, options, engine)
+        good = (pair for pieces in source.lines() for pair in zip(*pieces) if pair[0] not in refused)
+        if options.out:
+            fd, name = open_part(options, source), options.part
         if options.resume:
-            part.skip(good, source.name)
+            skip(fd, good, options, source.name)
         lines = some_at_a_time(good)
-    for _, _, answers, refusals in engine.answers(lines, "hashing", source.total):
-        if source.regular and refusals:
+    elif options.out:
+        raise Stop("-o needs a file, which can be read twice. Give its name, or leave out -o.", 2)
+    for block in engine.answers(lines, "hashing", source.total):
+        if source.regular and block.refusals:
             raise Stop(f"{source.name} has changed since it was looked at.")
-        show(answers, refusals, *([part.fd, part.path] if part else []))
-    if part:
-        part.finish()
-    return engine.bad or refused
+        write(fd, accepted(block), name)
+    if options.out:
+        finish(fd, options)
+    return engine.bad
 
-def show(answers, refusals, fd=1, name="standard output"):
-    """Writes answers and refusals where mkpasswd does."""
-    good = [answer for place, answer in enumerate(answers) if place not in refusals] if refusals else answers
-    write(fd, b"\n".join(good + [b""]), name)
-    write(2, b"\n".join([answers[place] for place in refusals] + [b""]), "standard error")
+def accepted(block):
+    """The answers without the refusals, which it writes where mkpasswd does."""
+    if not block.refusals:
+        return block.answers
+    write(2, [block.answers[place] for place in block.refusals], "standard error")
+    return [answer for place, answer in enumerate(block.answers) if place not in block.refusals]

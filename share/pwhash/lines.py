@@ -5,13 +5,6 @@ from terminal import Stop, say
 LONGEST = 2050      # bytes of a line: what mkpasswd takes, what is too much, and a carriage return
 MARK = b"\xef\xbb\xbf"
 
-def ready(descriptors, milliseconds):
-    """Those that can be read, as soon as some can."""
-    poll = select.poll()
-    for each in descriptors:
-        poll.register(each, select.POLLIN)
-    return [each for each, _ in poll.poll(milliseconds)]
-
 def some_at_a_time(pairs):
     """Pairs of a number and a line as numbers and lines."""
     while some := list(itertools.islice(pairs, 1 << 12)):
@@ -26,7 +19,8 @@ class Source:
             say("reading lines from the terminal; Ctrl-D ends them.")
         if self.regular:
             self.start = os.lseek(self.fd, 0, os.SEEK_CUR)
-            self.total = sum(piece.count(b"\n") for piece in iter(lambda: os.read(self.fd, 1 << 19), b""))
+            if not options.quiet:
+                self.total = sum(piece.count(b"\n") for piece in iter(lambda: os.read(self.fd, 1 << 19), b""))
 
     def lines(self):
         """Numbers and lines, some at a time, from the beginning; none where they come slowly."""
@@ -41,9 +35,9 @@ class Source:
             os.lseek(self.fd, self.start, os.SEEK_SET)
         number, rest, piece = 1, b"", b"\n"
         while piece:
-            while not ready([self.fd], 50):
+            while not select.select([self.fd], [], [], 0.05)[0]:
                 yield (), []
-            piece = os.read(self.fd, 1 << 19)
+            piece = os.read(self.fd, 1 << 22)
             *lines, rest = (rest + piece).split(b"\n")
             lines += [rest] if rest and not piece else []
             if windows:
@@ -67,7 +61,7 @@ class Source:
                 fields = [row[each] for each in columns if row[each] is not None]
                 if ":" in "".join(fields[:1]) or "\n" in "".join(fields):
                     raise Stop(f"{self.name}, line {rows.line_num}: a colon in a name, or a line feed in a field.")
-                yield rows.line_num, ":".join(fields).encode("latin-1")
+                yield rows.line_num, ":".join(fields)[:LONGEST].encode("latin-1")
         except csv.Error as error:
             raise Stop(f"{self.name}, line {rows.line_num}: this is not CSV: {error}.") from None
 
@@ -80,6 +74,7 @@ class Source:
         for numbers, lines in pieces:
             parts = [(number, *line.partition(b":")[::2]) for number, line in zip(numbers, lines)]
             self.absent += sum(name != b"" and name not in fields for _, name, _ in parts)
-            some = [(number, b"%b:%b:%b" % (each, fields[each], password)) for number, name, password in parts
-                    for each in ([name] if name else fields) if each in fields]
-            yield [number for number, _ in some], [line for _, line in some]
+            yield (), []
+            yield from some_at_a_time((number, b"%b:%b:%b" % (each, fields[each], password))
+                                      for number, name, password in parts
+                                      for each in ([name] if name else fields) if each in fields)

@@ -360,12 +360,17 @@ def test_full_and_closed(place, words):
     for redirected in "> /dev/full", ">&-", "<&-", "< .":
         status, _, err = run("-c", f'exec bin/pwhash "$@" {redirected}', "sh", *words, *["-"] * (words == ["audit"]), stdin=lines, program="/bin/sh")
         assert status == 3 and err.startswith(b"pwhash: "), (redirected, err)
-    limited = dict(preexec_fn=lambda: resource.setrlimit(resource.RLIMIT_FSIZE, (300, 300)))
-    if words[:1] == ["file"]:
-        save("lines", b"".join(b"user%d:x\n" % n for n in range(40)))
-        status, _, err = run(*words, "lines", "-o", "out", **limited)
-        assert status == 3 and b"--resume" in err and not os.path.exists("out")
-        assert run(*words, "lines", "-o", "out", "--resume")[0] == 0
+
+
+def test_full_disk(place):
+    """On a full disk it ends with the command that goes on once there is room."""
+    save("lines", b"".join(b"user%d:x\n" % n for n in range(1000)))
+    script = """mkdir full; mount -t tmpfs -o size=16k none full || exit 77
+        bin/pwhash file -m md5crypt -S xxxxxxxx lines -o full/out 2> said; echo $?; mount -o remount,size=1m full; sh -c "$(tail -n 1 said)"; cat full/out"""
+    status, out, _ = run("--user", "--map-root-user", "--mount", "sh", "-c", script, program="unshare")
+    if status == 77:
+        missing("a namespace of its own for a file system is missing")
+    assert out == b"3\n" + mkpasswd("--batch", *QUICK, stdin=pathlib.Path("lines").read_bytes())[1]
 
 
 def test_a_reader_that_ends(place):
@@ -377,13 +382,21 @@ def test_a_reader_that_ends(place):
 
 @pytest.mark.parametrize("script", [
     "echo 'mkpasswd: out of memory'; exit 3", "exit 3", "exit 0", "exit 1", "kill -9 $$", "kill -11 $$", "cat; exit 0", "echo Welcome!; real \"$@\"",
-    "real \"$@\" 2>&1 | sed 's/^bob/ann/'", "real \"$@\" 2>&1 | sed 's/line 1/line 7/'", "real \"$@\" 2>&1 | sed 's/$/\\r/'", "real \"$@\" 2>&1 | sed 1d", "yes mkpasswd",
+    "real \"$@\" 2>&1 | sed 's/^bob/ann/'", "real \"$@\" 2>&1 | sed 's/line 1/line 7/'", "real \"$@\" 2>&1 | sed 's/$/\\r/'", "real \"$@\" 2>&1 | sed 1d",
     "real \"$@\" 2>&1 | sed 's/:\\$1/:$1 /'", "real \"$@\" 2>&1 | tr '\\n' ' '", "real \"$@\"; exit 4", "real \"$@\"; echo more"])
 def test_engines(place, script):
     """An engine that fails or lies ends the run."""
     engine(script)
     status, out, err = run("file", *QUICK, stdin=b"ann:x\nbob:y\ncarl:z\n")
     assert status == 3 and err.startswith(b"pwhash: ") and out in (b"", b"ann:" + libxcrypt("x", "$1$xxxxxxxx").encode() + b"\n")
+
+
+def test_an_engine_that_fills_memory(place):
+    """What is written into memory has a limit, and a process of the engine's own can't pass it either."""
+    engine("(head -c 30000000 /dev/zero && touch filled)")
+    status, _, _ = run("file", *QUICK, stdin=b"ann:x\n")
+    time.sleep(0.5)
+    assert status == 3 and not os.path.exists("filled")
 
 
 def test_finds_its_engine(place):
