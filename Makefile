@@ -2,6 +2,7 @@
 # make static      builds build/x86-64/mkpasswd, which needs nothing of the system but the kernel
 # make lib         builds the C libraries, and with Debian's libpam0g-dev the PAM module
 # make web         builds build/mkpasswd.html, a page that makes and checks hashes in a browser, and build/mkpasswd.mjs, for node
+# make pictures    takes docs/page.png, the picture of that page
 # make install     installs all of it below PREFIX (default /usr/local); make uninstall removes it
 # make test        tests what is built: T=tests/lines.t one file; with STRICT=1 a tool that is missing is a failure
 # make check       every check there is: layers, gate, tests; with ANEW=1 the gate proves everything anew
@@ -42,7 +43,7 @@ export DESTDIR PREFIX LIBDIR ARCHIVE RT
 SLOW = tests/deb.t tests/arm.t tests/python tests/pam.t
 T = $(SLOW) $(filter-out $(SLOW),$(wildcard tests/*.t))
 
-.PHONY: all run static lib web fuzz test check layers specification site gate bench soak install uninstall dist \
+.PHONY: all run static lib web pictures fuzz test check layers specification site gate bench soak install uninstall dist \
 	image wheel deb clean FORCE
 .DELETE_ON_ERROR .SECONDARY:
 # rt takes all cores for itself.
@@ -131,6 +132,9 @@ build/mkpasswd.wasm: build/wasm64/mkpasswd.wasm
 
 build/mkpasswd.html build/mkpasswd.mjs: build/mkpasswd.wasm tools/web c/mkpasswd.h $(wildcard web/*)
 	tools/web $< $@
+
+pictures: web
+	tools/pictures
 
 # Each target keeps what it found in build/fuzz, from where the next run begins.
 FUZZERS := $(patsubst tests/c/fuzz_%.c,build/fuzz/%,$(wildcard tests/c/fuzz_*.c))
