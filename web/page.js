@@ -12,8 +12,9 @@ const METHODS = { 1: 'md5crypt', 5: 'sha256crypt', 6: 'sha512crypt' };    // by 
 const LENGTHS = { 1: 22, 5: 43, 6: 86 };    // of what is behind the salt
 // Schemes that can't be checked here, by their prefixes.
 const OTHERS = {
-    $y$: 'yescrypt', $gy$: 'gost-yescrypt', $2a$: 'bcrypt', $2b$: 'bcrypt', $2x$: 'bcrypt', $2y$: 'bcrypt', $7$: 'scrypt', $3$: 'NT',
-    $apr1$: 'Apache’s MD5', $sha1$: 'sha1crypt', $md5$: 'SunMD5', $argon2i$: 'Argon2', $argon2id$: 'Argon2', '{SHA}': 'SHA-1 without a salt',
+    $y$: 'yescrypt', $gy$: 'gost-yescrypt', $2a$: 'bcrypt', $2b$: 'bcrypt', $2x$: 'bcrypt', $2y$: 'bcrypt', $7$: 'scrypt',
+    $argon2i$: 'Argon2', $argon2id$: 'Argon2', $apr1$: 'Apache’s MD5', $sha1$: 'sha1crypt', $md5$: 'SunMD5', $3$: 'NT',
+    '{SHA}': 'SHA-1 without a salt',
 };
 const CHARACTERS = 'ABCDEFGHIJKLMNOPQRSTUVWXYZabcdefghijklmnopqrstuvwxyz0123456789';
 
@@ -25,17 +26,20 @@ const storedNote = element('stored-note').textContent;
 let otherRounds = 1000;    // what the field has of md5crypt, and with that of the other methods
 let made, running;
 
-// How long something took, and how long it is going to take.
+// A time: how long something took, and about how long it will take.
+function inUnits(seconds) {
+    if (seconds < 120) return `${Math.round(seconds)} seconds`;
+    return seconds < 7200 ? `${Math.round(seconds / 60)} minutes` : `${Math.round(seconds / 3600)} hours`;
+}
 function took(milliseconds) {
     if (milliseconds < 100) return 'less than 0.1 s';
-    return milliseconds < 9950 ? `${(milliseconds / 1000).toFixed(1)} s` : about(milliseconds).slice(6);
+    return milliseconds < 9950 ? `${(milliseconds / 1000).toFixed(1)} s` : inUnits(milliseconds / 1000);
 }
 function about(milliseconds) {
     const seconds = milliseconds / 1000;
     if (seconds < 0.15) return 'a moment';
-    const [part] = [[0.37, 'a quarter of a second'], [0.75, 'half a second'], [1.5, 'a second']].filter(([most]) => seconds < most);
-    const [value, unit] = seconds < 120 ? [seconds, 'seconds'] : seconds < 7200 ? [seconds / 60, 'minutes'] : [seconds / 3600, 'hours'];
-    return `about ${part?.[1] ?? `${Math.round(value)} ${unit}`}`;
+    const parts = [[0.37, 'a quarter of a second'], [0.75, 'half a second'], [1.5, 'a second'], [Infinity, inUnits(seconds)]];
+    return `about ${parts.find(([end]) => seconds < end)[1]}`;
 }
 
 // How long a hash of this cost takes here, if hashes with the method were measured.
@@ -46,10 +50,12 @@ function tellEstimate() {
     const [method, rounds] = [valueOf('method'), element('rounds')];
     const isFixed = method === 'md5crypt';
     if (rounds.disabled !== isFixed) [rounds.value, otherRounds, rounds.disabled] = [otherRounds, rounds.value, isFixed];
-    const time = rates[method] && rates[method].time * (isFixed ? 1 : rounds.value / 5000);
-    const text = !rounds.validity.valid ? 'Give 1000 to 999999999 rounds.'
-        : isFixed ? 'md5crypt is weak. Take it only where nothing else works.' : time ? `Takes ${about(time)}.` : '\u00a0';
-    if (element('estimate').textContent !== text) element('estimate').textContent = text;
+    const time = rates[method] && rates[method].time * rounds.value / 5000;
+    const warning = !rounds.validity.valid ? 'Give 1000 to 999999999 rounds.'
+        : isFixed ? 'md5crypt is weak. Take it only where nothing else works.' : '';
+    const textContent = warning || (time ? `Takes ${about(time)}.` : '\u00a0');
+    if (element('estimate').textContent === textContent) return;    // it is announced
+    Object.assign(element('estimate'), { textContent, className: warning ? 'refused' : '' });
 }
 
 // Shows what becomes of a form's job.
@@ -91,7 +97,8 @@ function showMade() {
     const [form, name] = [valueOf('place'), element('name')];
     element('made').hidden = !made;
     element('named').hidden = !form.includes('{name}');
-    element('snippet').textContent = form.replace('{name}', name.validity.valid ? name.value : 'NAME').replace('{hash}', () => made);
+    const named = form.replace('{name}', name.validity.valid ? name.value : 'NAME');
+    element('snippet').textContent = named.replace('{hash}', () => made ?? '');
     element('made').querySelector('[role=status]').textContent = '';
 }
 
@@ -155,23 +162,22 @@ function refusal({ reason, message }) {
     const { cost, stored } = running;
     if (stored && !/^\$[156]\$/.test(stored) && /REFUSED_(?!PASSWORD)/.test(reason)) return otherScheme(stored);
     if (reason !== 'MKPASSWD_OVER_BUDGET') return SENTENCES[reason] ?? `${message[0].toUpperCase()}${message.slice(1)}.`;
-    element('budget').closest('details').open = true;
     const time = expected(running);
-    return `Checking this hash can take ${time ? about(time) : 'long'}, so it was refused. If you trust it, raise the budget to ${cost}.`;
+    return `Checking this hash can take ${time ? about(time) : 'long'}, so it was refused. `
+        + `If you trust it, raise the budget to ${cost}.`;
 }
 
 // Shows what a job has come to: a hash, whether a password matches, or why neither.
 function tellResult({ text, fits, isDead, time, ...refused }) {
-    if (refused.message) return end(refusal(refused), 'refused');
-    if (text) {
-        made = text;
-        end(`Made in ${took(time)}.`, 'good');
-        showMade();
-        return element('made').scrollIntoView({ block: 'nearest' });
-    }
-    const answer = isDead ? `This hash is ${flaw(running.stored)}. No password matches it: copy it again, or set a new password.`
-        : `The password ${fits ? 'matches' : 'does not match'}. Checked in ${took(time)}.`;
-    return end(answer, fits ? 'good' : 'refused');
+    element('more').open ||= refused.reason === 'MKPASSWD_OVER_BUDGET';
+    const answer = refused.message ? refusal(refused) : text ? `Made in ${took(time)}.`
+        : isDead ? `This hash is ${flaw(running.stored)}. No password matches it: copy it again, or set a new password.`
+            : `The password ${fits ? 'matches' : 'does not match'}. Checked in ${took(time)}.`;
+    end(answer, text || fits ? 'good' : 'refused');
+    if (!text) return;
+    made = text;
+    showMade();
+    element('made').scrollIntoView({ block: 'nearest' });
 }
 
 // Shows or hides a password. One that can be seen needn't be typed twice.
@@ -200,7 +206,8 @@ const clicks = {
         show(id, true);
         element(id).dispatchEvent(new Event('input', { bubbles: true }));
         element('generated').hidden = false;
-        element('generated').querySelector('[role=status]').textContent = '20 random characters.';
+        const place = element('generated').querySelector('[role=status]');
+        Object.assign(place, { textContent: '20 random characters.', className: '' });
     },
     copy(button, id) {
         const [copied, name, place] = [element(id), element('name'), button.nextElementSibling];
@@ -215,7 +222,8 @@ const clicks = {
             getSelection().removeAllRanges();
             button.focus();
         }
-        return Object.assign(place, { textContent: isCopied ? 'Copied.' : 'It is selected: press Ctrl+C.', className: isCopied ? 'good' : '' });
+        return Object.assign(place, isCopied ? { textContent: 'Copied.', className: 'good' }
+            : { textContent: 'It is selected: press Ctrl+C.', className: '' });
     },
 };
 document.addEventListener('click', ({ target }) => {
@@ -241,7 +249,7 @@ for (const form of document.forms) {
         made = undefined;
         showMade();
     });
-    form.addEventListener('invalid', ({ target }) => { for (const more of form.querySelectorAll('details')) more.open ||= more.contains(target); }, true);
+    form.addEventListener('invalid', ({ target }) => { element('more').open ||= element('more').contains(target); }, true);
 }
 
 // Shows the forms, or why the module doesn't run here.

@@ -94,9 +94,9 @@ async function visit() {
         const answer = await ended('check', { stored: line, guess: password });
         told.lines.push([answer, element('stored').value === told.stored, element('stored-note').textContent]);
     }
-    told.hidden = !document.querySelector('details').open;
+    told.hidden = !element('more').open;
     for (const [stored, guess] of @ROWS@) told.refused.push(await ended('check', { stored: stored || ' ', guess }));    // an empty field isn't sent
-    told.hidden &&= document.querySelector('details').open;
+    told.hidden &&= element('more').open;
     told.mistyped = [await ended('make', { repeat: 'K\u00e4se' }), isShown(element('made'))];
     start('make', { password, repeat: password, method: 'sha512crypt', rounds: 999999999 });
     const stop = element('make').querySelector('[data-stop]');
