@@ -40,7 +40,7 @@ my @said = (
     ['!$6$s$x', 'x', 'This account is locked, so no password matches. To check the hash behind ! or *, remove that.'],
     ['', 'x', 'This account has no hash. Set a password, or lock it.'],
     ['ann::19000:0:99999:7:::', '', 'This account has no hash. Set a password, or lock it.'],
-    ['$6$rounds=999999999$s$x', 'x', qr/^Checking this hash can take about \d+ (?:minutes|hours), so it was refused\. If you trust it, raise the budget to \d+\.$/],
+    ['$6$rounds=999999999$s$x', 'x', 'Checking this hash can take about N, so it was refused. If you trust it, raise the budget to N.'],
     ['$2b$05$x', 'x', "\$2b\$ is bcrypt, $elsewhere"], ['ann:$y$j9T$x$y:19000::::::', 'x', "\$y\$ is yescrypt, $elsewhere"],
     ['$7$46..../....s', 'x', "\$7\$ is scrypt, which can\x{2019}t be checked here. Give the line to mkpasswd --check."],
     ['$apr1$s$x', 'x', "\$apr1\$ is Apache\x{2019}s MD5, $elsewhere"], ['$argon2id$v=19$x', 'x', "\$argon2id\$ is Argon2, $elsewhere"],
@@ -172,16 +172,18 @@ for my $name (sort keys %browsers) {
             my @fits = map { map { s/ Checked in .* s\.$//r } @$_[1, 2] } @{ $told->{made} };
             is_deeply(\@fits, [('The password matches.', 'The password does not match.') x 3], 'their passwords match, and others do not');
             like($told->{estimate}, qr/^Takes (?:a moment|about (?:a|a quarter of a|half a|\d+) seconds?)\.$/, 'how long a hash takes');
-            my @flaws = map { my $length = $_; map { "This hash is $_. No password matches it: copy it again, or set a new password." } "cut: 0 of $length characters",
-                'cut: ' . ($length - 9) . " of $length characters", 'too long: ' . ($length + 2) . " characters in place of $length", 'damaged' } 86, 43, 22;
-            is_deeply($told->{dead}, \@flaws, 'why no password matches a hash');
-            my @refused = map { my $said = $told->{refused}[$_]; ref $said[$_][2] && $said =~ $said[$_][2] ? $said[$_][2] : $said } 0 .. $#said;
+            my @flaws = map { ("cut: 0 of $_ characters", 'cut: ' . ($_ - 9) . " of $_ characters",
+                'too long: ' . ($_ + 2) . " characters in place of $_", 'damaged') } 86, 43, 22;
+            my $dead = 'No password matches it: copy it again, or set a new password.';
+            is_deeply($told->{dead}, [map { "This hash is $_. $dead" } @flaws], 'why no password matches a hash');
+            my @refused = map { s/(?<=about )\d+ (?:minutes|hours)|(?<=budget to )\d+/N/gr } @{ $told->{refused} };
             is_deeply(\@refused, [map { $_->[2] } @said], 'what can\'t be checked, and what to do');
             my ($yes, $no) = (JSON::PP::true, JSON::PP::false);
             is_deeply($told->{hidden}, $yes, 'the budget is hidden until a hash is above it');
             $_->[0] =~ s/ Checked in .*// for @{ $told->{lines} };
             is_deeply($told->{lines}, [(['The password matches.', $yes, 'From the line of ann.']) x 2], 'lines are taken apart');
-            is_deeply([@$told{qw(fixed free)}], [[$yes, '1000', 'md5crypt is weak. Take it only where nothing else works.'], [$no, '1234']], 'md5crypt has no rounds');
+            my $weak = 'md5crypt is weak. Take it only where nothing else works.';
+            is_deeply([@$told{qw(fixed free)}], [[$yes, '1000', $weak], [$no, '1234']], 'the rounds of md5crypt are fixed');
             my $differ = 'The two passwords differ. Type them again, or show the first.';
             is_deeply($told->{mistyped}, [$differ, $no], 'a password that was mistyped once makes no hash, and leaves none');
             is_deeply([@$told{qw(left stopped sent icon)}], [$no, 'Stopped.', ['refused', 'refused'], $yes], 'nothing left or sent; stopped; the icon');
@@ -189,11 +191,13 @@ for my $name (sort keys %browsers) {
             cmp_ok($told->{phone}{height}, '<=', 1800, 'on a telephone the page is not too long');
             my ($generated, @shown) = @{ $told->{generated} };
             like($generated, qr/^[A-Za-z0-9]{20}$/, 'a generated password');
-            is_deeply([@shown[0 .. 3], $told->{concealed}], ['Hide the password', 'text', $yes, $yes, ['Show the password', 'password', $no]], 'it is shown, until it is hidden');
+            my @hidden = ('Show the password', 'password', $no);
+            is_deeply([@shown[0 .. 3], $told->{concealed}], ['Hide the password', 'text', $yes, $yes, \@hidden], 'it is shown, until it is hidden');
             like($shown[4], qr/^The password matches\./, 'it is what was hashed');
             is_deeply([sort { $a <=> $b } values %{ $told->{frequencies} }], [(10) x 62], 'each character is equally probable');
             my %places = %{ $told->{places} };
-            my %line = (plain => $told->{stored}, 'kickstart-user' => "user --name=ann --iscrypted --password=$told->{stored}", chpasswd => "ann:$told->{stored}");
+            my %line = (plain => $told->{stored}, chpasswd => "ann:$told->{stored}",
+                'kickstart-user' => "user --name=ann --iscrypted --password=$told->{stored}");
             my ($salt) = $told->{stored} =~ /([^\$]+)\$[^\$]+$/;
             for my $place (grep { !exists $line{$_} } keys %places) {
                 my @pwhash = ("$root/bin/pwhash", '--for', $place, qw(--name ann -R 1234 -S), $salt);
@@ -203,7 +207,8 @@ for my $name (sort keys %browsers) {
             is_deeply({ map { $_ => $places{$_}[1] } keys %places }, \%line, 'is what is copied');
             my @named = grep { $places{$_}[2] } sort keys %places;
             is_deeply(\@named, [qw(chpasswd cloud-init htpasswd kickstart-user)], 'some need a name');
-            is_deeply([map { $places{$_}[2] } @named], [([$yes, "First type the user\x{2019}s name."]) x @named], 'without which nothing is copied');
+            my @nameless = ("First type the user\x{2019}s name.", 'A name has letters, digits and _.@-');
+            is_deeply([map { $places{$_}[2] } @named], [([@nameless]) x @named], 'without which nothing is copied');
         }
         is(scalar keys %salts, 6, 'each salt is another');
         my @unable = map { [$_->{unable} =~ /\b(WebAssembly|script)\b/, $_->{forms}] } @told;

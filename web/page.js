@@ -116,12 +116,14 @@ function takeApart() {
 // What the fields of a form give to its job.
 const given = {
     make: () => ({ password: valueOf('password'), method: valueOf('method'), rounds: Number(valueOf('rounds')) }),
-    check: () => ({ password: valueOf('guess'), stored: hashIn(valueOf('stored')), budget: Number(valueOf('budget')) }),
+    check() {
+        takeApart();
+        return { password: valueOf('guess'), stored: hashIn(valueOf('stored')), budget: Number(valueOf('budget')) };
+    },
 };
 
 // Runs a form's job and shows what it reports.
 function start(form) {
-    takeApart();
     const values = given[form.id]();
     if (form.id === 'make') {
         made = undefined;
@@ -213,7 +215,8 @@ const clicks = {
         const [copied, name, place] = [element(id), element('name'), button.nextElementSibling];
         if (id === 'snippet' && !element('named').hidden && !name.validity.valid) {
             name.focus();
-            return Object.assign(place, { textContent: 'First type the user’s name.', className: 'refused' });
+            const textContent = name.value ? 'A name has letters, digits and _.@-' : 'First type the user’s name.';
+            return Object.assign(place, { textContent, className: 'refused' });
         }
         if (id === 'snippet') getSelection().selectAllChildren(copied);
         else copied.select();
@@ -242,7 +245,7 @@ for (const form of document.forms) {
         tellEstimate();
         if (target.id === 'password') element('generated').hidden = true;
         if (target.id === 'stored') element('stored-note').textContent = storedNote;
-        if (target.id === 'stored' && inputType !== 'insertText') takeApart();
+        if (target.id === 'stored' && (inputType ?? 'insertFromScript').startsWith('insertFrom')) takeApart();
         if (running?.form === form) end('Stopped.');
         else say(form, '');
         if (form.id !== 'make') return;

@@ -30,16 +30,18 @@ function places() {
     const told = {};
     for (const { id, index } of element('place').options) {
         element('place').selectedIndex = index;
-        set({ name: '' });
-        const nameless = isShown(element('name')) && element('snippet').textContent;
-        button('copy=snippet').click();
-        const refused = button('copy=snippet').nextElementSibling.textContent;
+        const refused = ['', 'a b'].map((name) => {
+            set({ name });
+            button('copy=snippet').click();
+            return button('copy=snippet').nextElementSibling.textContent;
+        });
+        const isNamed = isShown(element('name')) && element('snippet').textContent.includes('NAME');
         set({ name: 'ann' });
         let copied;
         document.addEventListener('copy', () => { copied = getSelection().toString(); }, { once: true });
         button('copy=snippet').click();
         copied ??= getSelection().toString();    // where no person clicked
-        told[id] = [element('snippet').textContent, copied, nameless && [/NAME/.test(nameless), refused]];
+        told[id] = [element('snippet').textContent, copied, isNamed && refused];
     }
     return told;
 }
