@@ -168,8 +168,8 @@ for my $name (sort keys %browsers) {
             $salts{ (split /\$/)[-2] }++ for @made;
             my $sha = qr{\$rounds=1234\$[./\w]{16}\$\S+};
             like("@made", qr{^\$6$sha \$5$sha \$1\$[./\w]{8}\$\S+$}, 'of the methods, with the rounds and with salts');
-            like($_->[3], qr/^Made in (?:less than 0\.1|\d+\.\d) s\.$/, 'and says how long it took') for @{ $told->{made} };
-            my @fits = map { map { s/ Checked in .* s\.$//r } @$_[1, 2] } @{ $told->{made} };
+            like($_->[3], qr/^Made in (?:less than 0\.1|\d+\.\d)\x{a0}s\.$/, 'and says how long it took') for @{ $told->{made} };
+            my @fits = map { map { s/ Checked in .*\x{a0}s\.$//r } @$_[1, 2] } @{ $told->{made} };
             is_deeply(\@fits, [('The password matches.', 'The password does not match.') x 3], 'their passwords match, and others do not');
             like($told->{estimate}, qr/^Takes (?:a moment|about (?:a|a quarter of a|half a|\d+) seconds?)\.$/, 'how long a hash takes');
             my @flaws = map { ("cut: 0 of $_ characters", 'cut: ' . ($_ - 9) . " of $_ characters",

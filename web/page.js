@@ -32,8 +32,8 @@ function inUnits(seconds) {
     return seconds < 7200 ? `${Math.round(seconds / 60)} minutes` : `${Math.round(seconds / 3600)} hours`;
 }
 function took(milliseconds) {
-    if (milliseconds < 100) return 'less than 0.1 s';
-    return milliseconds < 9950 ? `${(milliseconds / 1000).toFixed(1)} s` : inUnits(milliseconds / 1000);
+    if (milliseconds < 100) return 'less than 0.1\u00a0s';
+    return milliseconds < 9950 ? `${(milliseconds / 1000).toFixed(1)}\u00a0s` : inUnits(milliseconds / 1000);
 }
 function about(milliseconds) {
     const seconds = milliseconds / 1000;
