@@ -1,8 +1,9 @@
 # make             builds ./mkpasswd, the proved program; make run also hashes a first password
 # make static      builds build/x86-64/mkpasswd, which needs nothing of the system but the kernel
 # make lib         builds the C libraries, and with Debian's libpam0g-dev the PAM module
-# make web         builds build/mkpasswd.html, a page that makes and checks hashes in a browser, and build/mkpasswd.mjs, for node
+# make web         builds build/mkpasswd.html, a page that makes and checks hashes, and build/mkpasswd.mjs, for node
 # make npm         makes build/npm, the package of it for npm pack
+# make pictures    takes docs/page.png, the picture of that page
 # make install     installs all of it below PREFIX (default /usr/local); make uninstall removes it
 # make test        tests what is built: T=tests/lines.t one file; with STRICT=1 a tool that is missing is a failure
 # make check       every check there is: layers, gate, tests; with ANEW=1 the gate proves everything anew
@@ -38,15 +39,16 @@ BUILT = mkpasswd $(COMPLETIONS) lib build/x86-64-v3/libmkpasswd.so.2 $(WEB) buil
 PACKED = $(addprefix build/$(FOR)/,mkpasswd libmkpasswd.a libmkpasswd.so.2) $(COMPLETIONS) $(WEB) build/SPECIFICATION.md \
 	$(if $(TARGET),,$(addprefix build/$(FOR)/,$(PAM)) build/x86-64-v3/libmkpasswd.so.2)
 ARM = $(addprefix build/aarch64/,mkpasswd libmkpasswd.a libmkpasswd.so.2)
-TRIED = $(BUILT) $(PACKED) $(if $(WEB),$(NPM)) $(if $(findstring /,$(shell aarch64-linux-gnu-gcc -print-file-name=libc.a 2> /dev/null)),$(ARM))
+HAS_ARM = $(findstring /,$(shell aarch64-linux-gnu-gcc -print-file-name=libc.a 2> /dev/null))
+TRIED = $(BUILT) $(PACKED) $(if $(WEB),$(NPM)) $(if $(HAS_ARM),$(ARM))
 # The scripts take these from the environment, whatever characters they have.
 export DESTDIR PREFIX LIBDIR ARCHIVE RT
 
 SLOW = tests/deb.t tests/arm.t tests/python tests/pam.t
 T = $(SLOW) $(filter-out $(SLOW),$(wildcard tests/*.t))
 
-.PHONY: all run static lib web npm fuzz test check layers specification site gate evidence bench soak install uninstall dist \
-	image wheel deb clean FORCE
+.PHONY: all run static lib web npm pictures fuzz test check layers specification site gate evidence bench soak install \
+	uninstall dist image wheel deb clean FORCE
 .DELETE_ON_ERROR .SECONDARY:
 # rt takes all cores for itself.
 .NOTPARALLEL:
@@ -142,6 +144,9 @@ build/mkpasswd.wasm: build/wasm64/mkpasswd.wasm
 build/mkpasswd.html build/mkpasswd.mjs $(NPM): build/mkpasswd.wasm tools/web c/mkpasswd.h $(wildcard web/*)
 	@mkdir -p $(@D)
 	tools/web $< $@
+
+pictures: web
+	tools/pictures
 
 # Each target keeps what it found in build/fuzz, from where the next run begins.
 FUZZERS := $(patsubst tests/c/fuzz_%.c,build/fuzz/%,$(wildcard tests/c/fuzz_*.c))
