@@ -6,6 +6,7 @@
 # make test        tests what is built: T=tests/lines.t one file; with STRICT=1 a tool that is missing is a failure
 # make check       every check there is: layers, gate, tests; with ANEW=1 the gate proves everything anew
 # make bench       measures against libxcrypt, with the options in BENCH
+# make pictures    makes the picture of a terminal in docs again
 # make soak        answers LINES random lines of each kind, by SEED; make fuzz makes random calls, for FUZZ_SECONDS each
 # make specification    writes build/SPECIFICATION.md; make site all documents as web pages
 # make dist        packs an archive; make image one for containers; make wheel a Python wheel; make deb Debian packages
@@ -42,8 +43,8 @@ export DESTDIR PREFIX LIBDIR ARCHIVE RT
 SLOW = tests/deb.t tests/arm.t tests/python tests/pam.t
 T = $(SLOW) $(filter-out $(SLOW),$(wildcard tests/*.t))
 
-.PHONY: all run static lib web fuzz test check layers specification site gate bench soak install uninstall dist \
-	image wheel deb clean FORCE
+.PHONY: all run static lib web fuzz test check layers specification site gate bench pictures soak install uninstall \
+	dist image wheel deb clean FORCE
 .DELETE_ON_ERROR .SECONDARY:
 # rt takes all cores for itself.
 .NOTPARALLEL:
@@ -178,6 +179,9 @@ gate:
 
 bench: mkpasswd libmkpasswd.a
 	tools/bench $(BENCH) ./mkpasswd
+
+pictures: mkpasswd
+	tools/terminal
 
 soak: mkpasswd
 	tools/soak $(if $(LINES),--lines $(LINES)) $(if $(SEED),--seed $(SEED)) ./mkpasswd
