@@ -5,8 +5,8 @@
 # make install     installs all of it below PREFIX (default /usr/local); make uninstall removes it
 # make test        tests what is built: T=tests/lines.t one file; with STRICT=1 a tool that is missing is a failure
 # make check       every check there is: layers, gate, tests; with ANEW=1 the gate proves everything anew
-# make bench       measures against libxcrypt, with the options in BENCH
-# make pictures    makes the picture of a terminal in docs again
+# make bench       measures beside other programs, with the options in BENCH, and writes what docs/SPEED.md shows
+# make pictures    makes the plots and the picture of a terminal in docs again
 # make soak        answers LINES random lines of each kind, by SEED; make fuzz makes random calls, for FUZZ_SECONDS each
 # make specification    writes build/SPECIFICATION.md; make site all documents as web pages
 # make dist        packs an archive; make image one for containers; make wheel a Python wheel; make deb Debian packages
@@ -177,10 +177,12 @@ gate:
 	[ -e crates/program/out/program.o ] || tools/for-cpu x86-64-v2 program.o
 	install -D -m 644 -t build/x86-64-v2 crates/program/out/program.o
 
-bench: mkpasswd libmkpasswd.a
-	tools/bench $(BENCH) ./mkpasswd
+bench: mkpasswd libmkpasswd.a build/x86-64/mkpasswd build/x86-64-v3/mkpasswd build/mkpasswd.mjs
+	tools/bench $(BENCH) docs/speed.json
+	tools/bench-page
 
 pictures: mkpasswd
+	tools/bench-page
 	tools/terminal
 
 soak: mkpasswd
