@@ -3,11 +3,11 @@
 # make lib         builds the C libraries, and with Debian's libpam0g-dev the PAM module
 # make web         builds build/mkpasswd.html, a page that makes and checks hashes, and build/mkpasswd.mjs, for node
 # make npm         makes build/npm, the package of it for npm pack
-# make pictures    takes docs/page.png, the picture of that page
 # make install     installs all of it below PREFIX (default /usr/local); make uninstall removes it
 # make test        tests what is built: T=tests/lines.t one file; with STRICT=1 a tool that is missing is a failure
 # make check       every check there is: layers, gate, tests; with ANEW=1 the gate proves everything anew
-# make bench       measures against libxcrypt, with the options in BENCH
+# make bench       measures beside other programs, with the options in BENCH, and writes what docs/SPEED.md shows
+# make pictures    makes the pictures in docs again: the page, a terminal, the plots
 # make soak        answers LINES random lines of each kind, by SEED; make fuzz makes random calls, for FUZZ_SECONDS each
 # make specification    writes build/SPECIFICATION.md; make site all documents as web pages
 # make evidence    measures a commit for docs/EVIDENCE.md, for some hours
@@ -147,6 +147,8 @@ build/mkpasswd.html build/mkpasswd.mjs $(NPM): build/mkpasswd.wasm tools/web c/m
 
 pictures: web
 	tools/pictures
+	tools/bench-page
+	tools/terminal
 
 # Each target keeps what it found in build/fuzz, from where the next run begins.
 FUZZERS := $(patsubst tests/c/fuzz_%.c,build/fuzz/%,$(wildcard tests/c/fuzz_*.c))
@@ -195,8 +197,10 @@ gate:
 evidence:
 	tools/evidence
 
-bench: mkpasswd libmkpasswd.a
-	tools/bench $(BENCH) ./mkpasswd
+bench: mkpasswd libmkpasswd.a build/x86-64/mkpasswd build/x86-64-v3/mkpasswd build/mkpasswd.mjs
+	tools/bench $(BENCH) docs/speed.json
+	tools/bench-page
+
 
 soak: mkpasswd
 	tools/soak $(if $(LINES),--lines $(LINES)) $(if $(SEED),--seed $(SEED)) ./mkpasswd

@@ -70,7 +70,7 @@ int main(int argc, char **argv)
         }
     for (kind = 0; kind < 8; kind++) {
         qsort(times[kind], (size_t)logins, sizeof **times, by_time);
-        printf("%-16s %8.3f ms (%.3f to %.3f)\n", names[kind], times[kind][logins / 2], times[kind][logins / 4],
+        printf("%-16s %9.4f ms (%.4f to %.4f)\n", names[kind], times[kind][logins / 2], times[kind][logins / 4],
             times[kind][logins * 3 / 4]);
     }
     return 0;
