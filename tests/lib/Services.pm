@@ -15,7 +15,7 @@ use Socket qw(MSG_DONTWAIT);
 use Suite;
 use Time::HiRes qw(sleep);
 
-our @EXPORT = qw(enter_namespaces needs_namespaces own_folder own_devices open_log logged pam while_serving);
+our @EXPORT = qw(enter_namespaces needs_namespaces own_folder own_devices open_log logged pam once_read while_serving);
 
 my @unshare = qw(unshare --mount --net --pid --fork --kill-child --mount-proc);
 
@@ -94,8 +94,18 @@ sub must {
     $run->{status} and die "@_: status $run->{status}: $run->{err}";
 }
 
+# Runs the code, and waits until somebody has read the file, whose time of reading is set back before. Returns what the code
+# returned.
+sub once_read {
+    my ($path, $code) = @_;
+    utime 1, time, $path;
+    my ($result, $until) = ($code->(), time + 20);
+    sleep 0.001 while (stat $path)[8] == 1 && time < $until;
+    return $result;
+}
+
 # Starts a service that stays in the foreground, also with an environment as `begin` takes it, runs the code once its port takes
-# connections, and ends the service by its number. Fails a test where it doesn't serve.
+# connections, with its number, and ends the service by its number. Fails a test where it doesn't serve.
 sub while_serving {
     my ($port, $command, $code, $env) = @_;
     my ($log, $until) = ("$scratch/service.log", time + 20);
@@ -107,7 +117,7 @@ sub while_serving {
         sleep 0.05 if !$is_serving;
     }
     $is_serving &&= close $is_serving;
-    $code->() if $is_serving;
+    $code->($pid) if $is_serving;
     $is_ended ||= waitpid $pid, WNOHANG;
     ok($is_serving && !$is_ended, "$command->[0] serves") or diag(slurp($log));
     kill TERM => $pid if !$is_ended;
