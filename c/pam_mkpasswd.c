@@ -99,7 +99,7 @@ static int find_line(const char *path, const char *name, struct field *field, FI
         }
         is_done = is_done && (!to || fwrite(end, 1, (size_t)(line + len - end), to) == (size_t)(line + len - end));
     }
-    is_done = is_done && feof(file) && (!to || fflush(to) == 0);
+    is_done = is_done && feof(file) && !ferror(file) && (!to || fflush(to) == 0);
     free(line); /* keeps errno */
     if (file)
         fclose(file);

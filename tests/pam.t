@@ -77,9 +77,6 @@ subtest 'arguments' => sub {
         is(login('six', $right) =~ s/: .*//sr, $_ ? 'yes' : 'no', "use_first_pass after $_ modules that ask") for 0, 1;
 };
 
-# The stacks of the manual, in their order.
-my @stacks = grep { /^auth/ } slurp("$root/man/pam_mkpasswd.8") =~ /^\.Bd -literal -offset 2n\n(.*?)^\.Ed/msg;
-
 subtest 'stacks' => sub {
     my %field = (costly => $hostile, locked => "!$field", cut => substr($field, 0, -1), prefix => '$1xxxxxxxxxxx', empty => '', map { $_ => $hash{$_} } grep { !/bsdi/ } keys %hash);
     my %said = (costly => 'over budget', cut => 'dead', prefix => 'unknown scheme');
@@ -150,18 +147,6 @@ subtest 'renewals' => sub {
         ok(slurp($file) eq $before && !-e "$file.renew", "$message: the file is as it was");
         login('two', $right);
         is_renewed(slurp($file), "$message: renewed later");
-    }
-
-    # Somebody locks the account, or adds another one, while its outdated hash is checked, which takes long.
-    stack("file=$file renew");
-    spew("$scratch/password", "$right\n");
-    my $old = crypt $right, '$5$rounds=600000$abcdefgh';
-    for my $now ("two:!$old\n", "two:$old\nnew:$old\n") {
-        spew("$file.other", $now);
-        my $login = once_read(spew($file, "two:$old\n"), sub { begin({ from => "$scratch/password", to => '/dev/null' }, qw(pamtester example two authenticate)) });
-        rename "$file.other", $file;
-        waitpid $login, 0;
-        is("$? " . slurp($file) =~ s/^two:\$6\S*/two:$old/r, "0 $now", 'a file that is replaced meanwhile: it stays, but for the same field');
     }
 };
 

@@ -13,7 +13,6 @@ use MIME::Base64 qw(encode_base64);
 use Services;
 use Suite;
 use Texts;
-use Time::HiRes qw(sleep);
 
 enter_namespaces();
 needs_namespaces() or do { done_testing; exit };
@@ -133,10 +132,9 @@ DocumentRoot /run/www
 END
     my @command = ('apache2', '-D', 'FOREGROUND', '-d', '/etc/apache2', '-f', "$scratch/apache.conf");
     while_serving(8081, \@command, sub { are_taken('Apache', sub { http(8081, @_) }) });
-    needs('mod_authnz_pam' => 'libapache2-mod-authnz-pam', -e '/usr/lib/apache2/modules/mod_authnz_pam.so') && needs_module() or return;
+    needs('mod_authnz_pam' => 'libapache2-mod-authnz-pam', -e '/usr/lib/apache2/modules/mod_authnz_pam.so') && install_module() or return;
     spew("$scratch/apache.conf", slurp("$scratch/apache.conf") =~ s/^AuthBasicProvider.*\n|^ *AuthUserFile.*\n//gmr
         =~ s{</Location>}{AuthBasicProvider PAM\nAuthPAMService example\n$&}r . "LoadModule authnz_pam_module /usr/lib/apache2/modules/mod_authnz_pam.so\n");
-    prepare_module();
     run('chgrp', 'www-data', '/etc/example.passwords');
     chmod 0640, '/etc/example.passwords';
     while_serving(8081, \@command, sub { are_checked('Apache by PAM', sub { http(8081, @_) }, 'a b' => 'yes') });
@@ -166,8 +164,7 @@ END
     spew('/etc/dovecot/dovecot.conf', $configuration);
     my $login = sub { verdict(run({ timeout => 20 }, qw(doveadm auth test), @_)->{status}, 0, 77) };
     while_serving(8082, [qw(dovecot -F)], sub { are_taken('Dovecot', $login) });
-    needs_module() or return;
-    prepare_module();
+    install_module() or return;
     spew('/etc/dovecot/local.conf', "passdb {\n  driver = pam\n  args = example\n}\n");
     while_serving(8082, [qw(dovecot -F)], sub { are_checked('Dovecot by PAM', $login) });
 };
@@ -229,29 +226,19 @@ sub are_checked {
     return are_taken($service, $login, map { [$_, $closed{$_} ? 'secret' : $password{six}, $verdict{$_} // 'no', "'$_'"] } 'a b', 'a:b', sort keys %closed);
 }
 
-# Installs the PAM module, and tells whether it is there.
-sub needs_module {
+# Installs the PAM module and, by its recipe, a file, also with names that few services take. Tells whether the module is there.
+sub install_module {
     needs('pam_mkpasswd.so' => 'libpam0g-dev', -e "$root/pam_mkpasswd.so") or return 0;
     run('cp', "$root/pam_mkpasswd.so", $modules);
-    return spew('/etc/pam.d/example', marked('pam_mkpasswd', 'pam'));
-}
-
-# Makes its file, also with names that few services take.
-sub prepare_module {
+    spew('/etc/pam.d/example', marked('pam_mkpasswd', 'pam'));
     prepare('pam_mkpasswd');
     return spew('/etc/example.passwords', slurp('/etc/example.passwords') . "a b:$field\na:b:$field\n");
 }
 
-# The stack of its manual that has a word.
-sub stack_with {
-    my ($word) = @_;
-    return (grep { /\b$word\b/ } slurp("$root/man/pam_mkpasswd.8") =~ /^\.Bd -literal -offset 2n\n(.*?)^\.Ed/msg)[0];
-}
-
 subtest 'vsftpd' => sub {
-    needs(vsftpd => 'vsftpd') && needs(pkill => 'procps') && needs_module() or return;
-    my ($file) = spew('/etc/pam.d/example', stack_with('renew')) && stack_with('renew') =~ /file=(\S+)/;
-    run('install', '-D', prepare_module(), $file);
+    needs(vsftpd => 'vsftpd') && needs(pkill => 'procps') && install_module() or return;
+    my ($file) = slurp(spew('/etc/pam.d/example', $stacks[2])) =~ /file=(\S+)/;
+    run(qw(install -D /etc/example.passwords), $file);
     run(qw(mkdir -p /run/vsftpd/empty /srv/ftp));
     spew("$scratch/vsftpd.conf", join "\n", qw(listen=YES listen_address=127.0.0.1 listen_port=8086 background=NO local_enable=YES guest_enable=YES
         guest_username=ftp anonymous_enable=NO pam_service_name=example isolate=NO isolate_network=NO seccomp_sandbox=NO delay_failed_login=0
@@ -267,55 +254,47 @@ subtest 'vsftpd' => sub {
         my ($hash) = slurp($file) =~ /^$name:(\$6\$rounds=656000\$[^:\n]*)/m;
         return is(crypt($password{$name}, $hash // '*'), $hash // 'new', "vsftpd: $when: the hash of $name is renewed");
     };
-    # Begins a login of six, of which nobody waits for the end.
-    my $begin = sub {
-        my $pid = open(my $said, '-|') // die "fork: $!";
-        return $said if $pid;
-        syswrite STDOUT, $login->('six', $password{six});
-        POSIX::_exit(0);
+    # What six's login by a file says, while the code runs, and the file afterwards.
+    my $login_while = sub {
+        my ($lines, $code) = @_;
+        utime 1, time, spew($file, $lines);
+        my ($said) = in_processes(2, sub { $_[0]->() }, sub { $login->('six', $password{six}) }, $code);
+        return ($said->[0], slurp($file));
     };
     while_serving(8086, ['vsftpd', "$scratch/vsftpd.conf"], sub {
         my ($pid) = @_;
         are_checked('vsftpd', $login);
         $is_renewed->($_, 'logins') for sort values %user;
 
-        # A second's work, so that logins meet, and that there is time to change the file.
-        my %slow = map { $_ => crypt $password{$_}, '$5$rounds=1500000$abcdefgh' } qw(one six);
-        spew($file, join '', map { "$_:$slow{$_}\n" } sort keys %slow);
+        # A second's work, so that logins meet, and that there is time to change the file once it was read.
+        my ($one, $six) = map { "$_:" . crypt($password{$_}, '$5$rounds=1500000$abcdefgh') . "\n" } qw(one six);
+        spew($file, $one . $six);
         is_deeply([map { $_->[0] } in_processes(3, sub { $login->($_[0], $password{$_[0]}) }, qw(one six six))], [('yes') x 3], 'vsftpd: three logins at once');
-        $is_renewed->($_, 'three logins at once') for sort keys %slow;
-
-        for (['no', "six:!$slow{six}\n"], ['yes', "one:$slow{one}\nsix:$slow{six}\n"]) {
+        $is_renewed->($_, 'three logins at once') for qw(one six);
+        for (['no', $six =~ s/:/:!/r], ['yes', $one . $six]) {
             my ($verdict, $now) = @$_;
             spew("$file.other", $now);
-            my $said = once_read(spew($file, "six:$slow{six}\n"), $begin);
-            rename "$file.other", $file;
-            is(<$said> . ' ' . slurp($file) =~ s/^six:\$6\S+/six:$slow{six}/mr, "$verdict $now", 'vsftpd: a file that is replaced meanwhile stays, but for the hash that was checked');
+            my ($said, $left) = $login_while->($six, sub { wait_until(sub { (stat $file)[8] != 1 }) && rename "$file.other", $file });
+            is("$said " . $left =~ s/^six:\$6\S+\n/$six/mr, "$verdict $now", 'vsftpd: a file that is replaced meanwhile stays, but for the hash that was checked');
         }
-
-        my $lines = slurp(spew($file, "six:$field\n" . "# more\n" x 5000));
-        run(qw(mount -o), 'remount,size=60k', '/srv');
-        is($login->('six', $password{six}), 'yes', 'vsftpd: a full disk: the user gets in');
-        ok(slurp($file) eq $lines && !-e "$file.renew", 'vsftpd: a full disk: the file is as it was');
-        run(qw(mount -o), 'remount,size=50%', '/srv');
-
-        # A file that takes a while to be copied, and SIGKILL meanwhile.
-        $lines = slurp(spew($file, "six:$field\n" . "# more\n" x 1_000_000));
-        my ($said, $until) = ($begin->(), time + 20);
-        sleep 0.001 until -e "$file.renew" || time > $until;
-        run(qw(pkill -KILL -P), $pid);
-        ok(slurp($file) =~ s/^six:\$6\$rounds=656000\$\S+/six:$field/r eq $lines, 'vsftpd: SIGKILL while it renews: the file is whole') or diag(<$said>);
-        is($login->('six', $password{six}), 'yes', 'vsftpd: after SIGKILL: the user gets in');
+        my $lines = "six:$field\n" . "# more\n" x 5000;
+        my @remount = (qw(mount -o), 'remount,size=60k', '/srv');
+        run(@remount);
+        is_deeply([$login_while->($lines, sub { })], ['yes', $lines], 'vsftpd: a full disk');
+        run(map { s/60k/50%/r } @remount);
+        $lines .= "# more\n" x 1_000_000;
+        my ($said, $left) = $login_while->($lines, sub { wait_until(sub { -e "$file.renew" }) && run(qw(pkill -KILL -P), $pid) });
+        ok($left =~ s/^six:\S+/six:$field/r eq $lines, 'vsftpd: SIGKILL while it renews: the file is whole') or diag($said);
+        is($login->('six', $password{six}), 'yes', 'vsftpd: after SIGKILL');
         $is_renewed->('six', 'after SIGKILL');
-        ok(slurp($file) =~ s/^six:\S+/six:$field/r eq $lines && !-e "$file.renew", 'vsftpd: after SIGKILL: all else is as it was');
     });
 };
 
 subtest 'sshd' => sub {
-    needs(sshd => 'openssh-server') && needs(ssh => 'openssh-client') && needs(chpasswd => 'passwd') && needs_module() or return;
+    needs(sshd => 'openssh-server') && needs(ssh => 'openssh-client') && needs(chpasswd => 'passwd') && install_module() or return;
     add_accounts();
     prepare('pam_unix');
-    spew('/etc/pam.d/sshd', (stack_with('pam_unix') =~ s/try_first_pass/nodelay/r) . "session required pam_permit.so\n");
+    spew('/etc/pam.d/sshd', ($stacks[1] =~ s/try_first_pass/nodelay/r) . "session required pam_permit.so\n");
     mkdir '/run/sshd';
     my @settings = ('Port 8085', 'ListenAddress 127.0.0.1', "HostKey $scratch/key", 'PidFile none', 'UsePAM yes', 'MaxStartups 99');
     spew("$scratch/sshd_config", join "\n", @settings, '');
