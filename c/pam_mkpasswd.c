@@ -17,7 +17,6 @@
 #include <syslog.h>
 #include <unistd.h>
 
-#define FIELD_LIMIT 384 /* of a stored hash, in bytes */
 #define ACL "system.posix_acl_access"
 
 struct options {
@@ -30,7 +29,8 @@ struct options {
 struct field {
     unsigned long line; /* the number of its line, 1 in the system's own file; 0 if there is none */
     size_t len;
-    uint8_t bytes[FIELD_LIMIT + 1]; /* one byte more, so that a longer field is refused and not cut */
+    uint8_t bytes[385]; /* one more than a stored hash may have, so that a longer field is refused and not cut */
+    struct stat file;   /* what the file was before it was read */
 };
 
 /* Reads the arguments. Returns 0 and logs it if one is invalid, or if the budget doesn't admit a new hash of 64 bytes, without
@@ -56,7 +56,7 @@ static int read_options(pam_handle_t *pam, int count, const char **given, struct
             options->rounds = (uint32_t)number;
         else if (strncmp(*given, "budget=", 7) == 0 && number != UINT64_MAX)
             options->budget = number;
-        else if (strncmp(*given, "file=/", 6) == 0)
+        else if (strncmp(*given, "file=/", 6) == 0 && !options->file)
             options->file = *given + 5;
         else if (strcmp(*given, "renew") == 0)
             options->is_renewing = 1;
@@ -83,7 +83,7 @@ static int find_line(const char *path, const char *name, struct field *field, FI
     FILE *file = fopen(path, "re");
     char *line = NULL, *start, *end;
     size_t room = 0, left, name_len = strlen(name);
-    int is_done = file != NULL;
+    int is_done = file && fstat(fileno(file), &field->file) == 0;
     ssize_t len;
 
     for (unsigned long number = 1; is_done && (len = getline(&line, &room, file)) > 0; number++) {
@@ -99,7 +99,7 @@ static int find_line(const char *path, const char *name, struct field *field, FI
         }
         is_done = is_done && (!to || fwrite(end, 1, (size_t)(line + len - end), to) == (size_t)(line + len - end));
     }
-    is_done = is_done && feof(file) && (!to || (fflush(to) == 0 && fsync(fileno(to)) == 0));
+    is_done = is_done && feof(file) && !ferror(file) && (!to || fflush(to) == 0);
     free(line); /* keeps errno */
     if (file)
         fclose(file);
@@ -114,7 +114,7 @@ static void renew(pam_handle_t *pam, const char *file, const char *name, const c
     char path[PATH_MAX], lock_path[PATH_MAX + 8] = "", new_path[PATH_MAX + 8] = "";
     int lock, new = -1, tries = 50, is_done;
     struct field now = {0};
-    struct stat before, after;
+    struct stat after;
     FILE *to = NULL;
 
     if (realpath(file, path) && snprintf(lock_path, sizeof lock_path, "%s.lock", path) > 0)
@@ -125,11 +125,12 @@ static void renew(pam_handle_t *pam, const char *file, const char *name, const c
     if (is_done) {
         unlink(new_path); /* left by a login that was killed */
         new = open(new_path, O_WRONLY | O_CREAT | O_EXCL | O_CLOEXEC, 0600);
-        is_done = new >= 0 && stat(path, &before) == 0 && (errno = ENOTSUP, getxattr(path, ACL, NULL, 0) <= 0)
+        is_done = new >= 0 && (to = fdopen(new, "w")) && find_line(path, name, &now, to, hash)
+            && (errno = ENOTSUP, getxattr(path, ACL, NULL, 0) <= 0)
             && (fremovexattr(new, ACL) == 0 || errno == ENODATA || errno == ENOTSUP)
-            && fchown(new, before.st_uid, before.st_gid) == 0 && fchmod(new, before.st_mode & 07777) == 0
-            && (to = fdopen(new, "w")) && find_line(path, name, &now, to, hash) && stat(path, &after) == 0
-            && (errno = 0, before.st_ino == after.st_ino && memcmp(&before.st_ctim, &after.st_ctim, sizeof after.st_ctim) == 0)
+            && fchown(new, now.file.st_uid, now.file.st_gid) == 0 && fchmod(new, now.file.st_mode & 07777) == 0
+            && fsync(new) == 0 && stat(path, &after) == 0 && (errno = 0, after.st_ino == now.file.st_ino)
+            && memcmp(&after.st_ctim, &now.file.st_ctim, sizeof after.st_ctim) == 0
             && now.len == checked->len && memcmp(now.bytes, checked->bytes, now.len) == 0 && rename(new_path, path) == 0;
     }
     if (!is_done && errno != 0)
@@ -145,24 +146,23 @@ static void renew(pam_handle_t *pam, const char *file, const char *name, const c
 }
 
 /* Logs why no password can match the field; what an administrator may want so, only for debugging. It asks for the empty
- * password with the least budget: nothing is hashed, and the log says nothing of the password that was given. Returns 1 if the
- * scheme may be one of crypt(3): bsdicrypt, descrypt, or $ and what begins none of our own. Any other unknown one is damaged. */
-static int is_foreign(pam_handle_t *pam, const struct options *options, const struct field *field)
+ * password with the least budget: nothing is hashed, and the log says nothing of the given password. Returns 1 if pam_unix may
+ * know the field: one of the system, of bsdicrypt, descrypt, or $ and what begins none of our own. No other module reads a file. */
+static int is_for_pam_unix(pam_handle_t *pam, const struct options *options, const struct field *field)
 {
     struct mkpasswd_report report;
     char message[MKPASSWD_TEXT_SIZE];
     int is_foreign = !mkpasswd_login(field->bytes, 0, field->bytes, field->len, options->method, options->rounds, 1, &report)
-        && report.reason == MKPASSWD_REFUSED_UNKNOWN_SCHEME && (field->bytes[0] == '_' || field->len == 13
-        || (field->bytes[0] == '$' && field->len > 1 && !memchr("1567", field->bytes[1], 4)));
+        && report.reason == MKPASSWD_REFUSED_UNKNOWN_SCHEME && !options->file
+        && (field->bytes[0] == '$' ? !strchr("1567", field->bytes[1]) : field->len == (field->bytes[0] == '_' ? 20 : 13));
     int is_usual = is_foreign || report.reason == MKPASSWD_NO_HASH || report.reason == MKPASSWD_LOCKED;
 
-    if (report.reason == MKPASSWD_OVER_BUDGET && report.cost <= options->limit
-        && (mkpasswd_audit(field->bytes, field->len, options->method, options->rounds, UINT64_MAX, &report)
-            || report.reason != MKPASSWD_DEAD))
-        return 0;
-    mkpasswd_words_str(report.reason, message, sizeof message);
-    if (is_usual && !options->is_debugging)
+    if ((is_usual && !options->is_debugging)
+        || (report.reason == MKPASSWD_OVER_BUDGET && report.cost <= options->limit
+            && (mkpasswd_audit(field->bytes, field->len, options->method, options->rounds, UINT64_MAX, &report)
+                || report.reason != MKPASSWD_DEAD)))
         return is_foreign;
+    mkpasswd_words_str(report.reason, message, sizeof message);
     options->file ? pam_syslog(pam, is_usual ? LOG_DEBUG : LOG_WARNING, "%s: line %lu: %s", options->file, field->line, message)
                   : pam_syslog(pam, is_usual ? LOG_DEBUG : LOG_WARNING, "shadow: %s", message);
     return is_foreign;
@@ -196,7 +196,8 @@ static int check(pam_handle_t *pam, int count, const char **given, int has_passw
         return !field.line ? PAM_USER_UNKNOWN : memchr("!*", field.bytes[0], 2) ? PAM_PERM_DENIED : PAM_SUCCESS;
     if (!mkpasswd_login((const uint8_t *)password, strlen(password), field.bytes, field.len, options.method, options.rounds,
             options.budget, &report))
-        return is_foreign(pam, &options, &field) ? PAM_IGNORE : PAM_AUTH_ERR;
+        return report.reason == MKPASSWD_REFUSED_OUT_OF_MEMORY ? pam_syslog(pam, LOG_ERR, "out of memory"), PAM_AUTH_ERR
+            : is_for_pam_unix(pam, &options, &field) ? PAM_IGNORE : PAM_AUTH_ERR;
     if (options.is_renewing && report.reason == MKPASSWD_OUTDATED
         && mkpasswd_new_str(password, options.method, options.rounds, options.budget, hash, sizeof hash, NULL))
         renew(pam, options.file, name, hash, &field);

@@ -34,7 +34,7 @@ sub login { return join ': ', pam('example', @_), logged() }
 
 subtest 'fields' => sub {
     my @rows = (
-        (map { [$_, $hash{$_}, /^md5|^sha|^scr/ ? ('yes', 'no') : ($denied) x 2] } sort keys %hash),
+        (map { [$_, $hash{$_}, /^md5|^sha|^scr/ ? ('yes', 'no') : ("no: $file: line LINE: unknown scheme") x 2] } sort keys %hash),
         (map { [$_, $field, 'yes', 'no'] } 'a b', 'last', "\$5\$x"), ['more', "$field:19000:0:", 'yes', 'no'],
         (map { [@$_, 'no', 'no'] } ['locked', "!$field"], ['starred', '*'], ['empty', ''], ['twice', '!'], ['twice', $field], ['', $field], ['a:b', $field]),
         (map { [@$_[0, 1], ("no: $file: line LINE: $_->[2]") x 2] } ['word', 'x', 'unknown scheme'], ['dollar', '$', 'unknown scheme'],
@@ -61,43 +61,58 @@ subtest 'arguments' => sub {
         (map { ["file=$file $_", "$broken: invalid arguments: over budget"] } 'budget=1', 'rounds=1000 budget=100000'),
         ["file=$file rounds=999", "$broken: invalid arguments: cost"], ['renew', "$broken: invalid argument: renew, without file="],
         (map { ["file=$file $_", "$broken: invalid argument: $_"] } qw(budget= budget=-1 budget=+1 budget=1x budget=18446744073709551616
-            rounds=x rounds=4294967296 method= method=des renew=1 budge=1 nullok file=passwords file=)),
+            rounds=x rounds=4294967296 method= method=des renew=1 budge=1 nullok file=passwords file=), "file=$file"),
         ["file=$file.gone", "$unavailable: $file.gone: No such file or directory"], ['file=/etc', "$unavailable: /etc: Is a directory"]) {
         stack($_->[0]);
         is(login('six', $right), $_->[1], "arguments: $_->[0]");
     }
     stack("file=$file");
     is_deeply([map { pam('example', 'full', 'a' x $_) } 168, 169], ['yes', 'no'], 'the default budget admits 168 bytes');
+    spew($file, 'seven:' . crypt $right, '$7$CU..../....abcdefgh');
+    is(login('seven', $right, 'prlimit', '--as=60000000'), 'no: out of memory', 'scrypt without its memory');
+    spew($file, "six:$field\n");
     stack("$current debug");
     is(login('nobody', $right), "no: $file: line 0: no hash", 'debug: an unknown name');
     stack("auth optional pam_unix.so\n" x $_ . "auth required pam_mkpasswd.so $current use_first_pass\naccount required pam_permit.so\n"),
         is(login('six', $right) =~ s/: .*//sr, $_ ? 'yes' : 'no', "use_first_pass after $_ modules that ask") for 0, 1;
 };
 
-# The stacks of the manual, in their order.
-my @stacks = grep { /^auth/ } slurp("$root/man/pam_mkpasswd.8") =~ /^\.Bd -literal -offset 2n\n(.*?)^\.Ed/msg;
-
 subtest 'stacks' => sub {
-    spew($file, "yes:$hash{yescrypt}\n");
-    for my $control (qw(required requisite sufficient optional), '[success=ok default=ignore]') {
-        stack("auth $control pam_mkpasswd.so $current\naccount required pam_permit.so\n");
-        is(login('yes', $_), $denied, "alone, $control: another scheme, and nobody gets in") for $right, 'x';
-    }
-    my @accounts = ((map { [$_, $hash{$_}] } grep { !/bsdi/ } sort keys %hash), ['hostile', $hostile], ['locked', "!$field"], ['empty', '']);
-    spew('/etc/passwd', slurp('/etc/passwd') . join '', map { "$_->[0]:x:4242:4242::/:/bin/sh\n" } @accounts);
-    spew('/etc/shadow', slurp('/etc/shadow') . join '', map { "$_->[0]:$_->[1]:19000:0:99999:7:::\n" } @accounts);
+    my %field = (costly => $hostile, locked => "!$field", cut => substr($field, 0, -1), prefix => '$1xxxxxxxxxxx', empty => '', map { $_ => $hash{$_} } grep { !/bsdi/ } keys %hash);
+    my %said = (costly => 'over budget', cut => 'dead', prefix => 'unknown scheme');
+    spew('/etc/passwd', slurp('/etc/passwd') . join '', map { "$_:x:4242:4242::/:/bin/sh\n" } sort keys %field);
+    spew('/etc/shadow', slurp('/etc/shadow') . join '', map { "$_:$field{$_}:19000:0:99999:7:::\n" } sort keys %field);
     spew('/etc/pam.d/su', $stacks[1] =~ s/pam_unix\.so try/pam_unix.so nodelay nullok try/r);
-    for my $name ('nobodyhere', map { $_->[0] } @accounts) {
+    for my $name ('nobodyhere', sort keys %field) {
         is_deeply([map { pam('su', $name, $_) } $right, 'wrong', ''], [$hash{$name} ? 'yes' : 'no', 'no', 'no'], "su: $name");
-        is(join(' ', grep { !/pam_unix/ } logged()), join(' ', ('shadow: over budget') x ($name eq 'hostile' && 3)), "su: $name: the log, without names");
+        is(join(' ', grep { !/pam_unix/ } logged()), join(' ', $said{$name} ? ("shadow: $said{$name}") x 3 : ()), "su: $name: the log, without names");
     }
+    # Without pam_unix behind it, or with one that can't be loaded.
+    for (['Module is unknown', $stacks[1] =~ s/pam_unix/pam_gone/r],
+        map { [$denied, "auth $_ pam_mkpasswd.so\naccount required pam_permit.so\n"] } qw(required requisite sufficient optional), $stacks[1] =~ /(\[.*?\])/) {
+        my ($says, $stack) = @$_;
+        stack($stack);
+        is_deeply([map { pam('example', 'yescrypt', $_) } $right, 'x'], [$says, $says], 'nobody gets in by another scheme: ' . $stack =~ s/\n.*//sr);
+    }
+    logged();
+
+    # Those of a file, and after a module that lets everybody in.
     mkdir '/srv/example';
-    for (map { ($_, "auth required pam_permit.so\n$_") } @stacks[0, 2]) {
-        my ($path) = /file=(\S+)/;
-        spew($path, "ann:$field\nyes:$hash{yescrypt}\n");
-        stack($_);
-        is_deeply([login('ann', $right), login('ann', 'x'), login('yes', $right)], ['yes', 'no', $denied], $_);
-        is(slurp($path) =~ /^ann:\$6\$rounds=656000\$/, /renew/, 'what is renewed');
+    delete @field{qw(md5crypt sha256crypt scrypt bcrypt descrypt prefix empty)};
+    $field{current} = crypt $right, '$6$rounds=656000$abcdefghijklmnop';
+    for my $stack (@stacks[0, 2]) {
+        my ($path) = $stack =~ /file=(\S+)/;
+        for my $before ('', "auth required pam_permit.so\n") {
+            spew($path, my $lines = join '', map { "$_:$field{$_}\n" } sort keys %field);
+            stack($before . $stack);
+            my %got = map { $_ => login($_, $right) =~ s/:.*: /: /sr } 'nobodyhere', keys %field;
+            my %wanted = ((map { $_ => 'no' } 'nobodyhere', keys %field), sha512crypt => 'yes', current => 'yes', costly => 'no: over budget', cut => 'no: dead', yescrypt => 'no: unknown scheme');
+            is_deeply(\%got, \%wanted, $path . ($before && ' after pam_permit'));
+            is(login('current', 'x'), 'no', 'another password');
+            my $now = slurp($path);
+            is($now ne $lines, $stack =~ /renew/, 'what is renewed');
+            ok($now =~ s/^sha512crypt:\$6\$rounds=656000\$\S+/sha512crypt:$field/mr eq $lines, 'all else stays');
+        }
     }
 };
 
@@ -132,19 +147,6 @@ subtest 'renewals' => sub {
         ok(slurp($file) eq $before && !-e "$file.renew", "$message: the file is as it was");
         login('two', $right);
         is_renewed(slurp($file), "$message: renewed later");
-    }
-
-    # Somebody locks the account, or adds another one, while its outdated hash is checked, which takes long.
-    stack("file=$file renew");
-    spew("$scratch/password", "$right\n");
-    my $old = crypt $right, '$5$rounds=600000$abcdefgh';
-    for my $now ("two:!$old\n", "two:$old\nnew:$old\n") {
-        spew($file, "two:$old\n");
-        my $login = begin({ from => "$scratch/password", to => '/dev/null' }, qw(pamtester example two authenticate));
-        sleep 0.1;
-        rename spew("$file.other", $now), $file;
-        waitpid $login, 0;
-        is("$? " . slurp($file) =~ s/^two:\$6\S*/two:$old/r, "0 $now", 'a file that is replaced meanwhile: it stays, but for the same field');
     }
 };
 

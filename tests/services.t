@@ -19,7 +19,7 @@ needs_namespaces() or do { done_testing; exit };
 $ENV{PATH} .= ':/usr/sbin:/sbin';
 my $modules = '/usr/lib/x86_64-linux-gnu/security';
 own_folder($_) for grep { -d } '/etc', $modules, '/var/cache/debconf';
-own_folder($_, 1) for grep { -d } qw(/run /var/log /var/lib/dovecot /var/lib/ldap /var/lib/nginx);
+own_folder($_, 1) for grep { -d } qw(/run /srv /var/log /var/lib/dovecot /var/lib/ldap /var/lib/nginx);
 own_devices();
 
 # A user for each method, with a low cost, and ann, whose hash a recipe makes. Then what nobody gets in with by a file.
@@ -27,7 +27,7 @@ my %user = (md5crypt => 'one', sha256crypt => 'five', sha512crypt => 'six', scry
 my %cost = (md5crypt => 0, sha256crypt => 1000, sha512crypt => 1000, scrypt => 6);
 my %password = map { $_ => "pass word:$_" } values %user;
 my $secret = crypt 'secret', '$6$abcdefghijklmnop';
-my %closed = (locked => "!$secret", star => '*', hostile => '$6$rounds=999999999$abcdefgh$' . 'x' x 86,
+my %closed = (locked => "!$secret", star => '*', cut => $secret =~ s/.\z//r, hostile => '$6$rounds=999999999$abcdefgh$' . 'x' x 86,
     yescrypt => crypt('secret', '$y$j9T$abcdefghijklmnopqrstu.'));
 my @names = sort values %user, keys %closed;
 
@@ -139,13 +139,12 @@ DocumentRoot /run/www
 END
     my @command = ('apache2', '-D', 'FOREGROUND', '-d', '/etc/apache2', '-f', "$scratch/apache.conf");
     while_serving(8081, \@command, sub { are_taken('Apache', sub { http(8081, @_) }) });
-    needs('mod_authnz_pam' => 'libapache2-mod-authnz-pam', -e '/usr/lib/apache2/modules/mod_authnz_pam.so') && needs_module() or return;
+    needs('mod_authnz_pam' => 'libapache2-mod-authnz-pam', -e '/usr/lib/apache2/modules/mod_authnz_pam.so') && install_module() or return;
     spew("$scratch/apache.conf", slurp("$scratch/apache.conf") =~ s/^AuthBasicProvider.*\n|^ *AuthUserFile.*\n//gmr
         =~ s{</Location>}{AuthBasicProvider PAM\nAuthPAMService example\n$&}r . "LoadModule authnz_pam_module /usr/lib/apache2/modules/mod_authnz_pam.so\n");
-    prepare('pam_mkpasswd');
     run('chgrp', 'www-data', '/etc/example.passwords');
     chmod 0640, '/etc/example.passwords';
-    while_serving(8081, \@command, sub { are_checked('Apache by PAM', sub { http(8081, @_) }) });
+    while_serving(8081, \@command, sub { are_checked('Apache by PAM', sub { http(8081, @_) }, 'a b' => 'yes') });
 };
 
 subtest 'Dovecot' => sub {
@@ -172,8 +171,7 @@ END
     spew('/etc/dovecot/dovecot.conf', $configuration);
     my $login = sub { verdict(run({ timeout => 20 }, qw(doveadm auth test), @_)->{status}, 0, 77) };
     while_serving(8082, [qw(dovecot -F)], sub { are_taken('Dovecot', $login) });
-    needs_module() or return;
-    prepare('pam_mkpasswd');
+    install_module() or return;
     spew('/etc/dovecot/local.conf', "passdb {\n  driver = pam\n  args = example\n}\n");
     while_serving(8082, [qw(dovecot -F)], sub { are_checked('Dovecot by PAM', $login) });
 };
@@ -228,27 +226,27 @@ subtest 'pam_unix' => sub {
     are_taken('pam_unix', sub { pam('pam_unix', @_) });
 };
 
-# Tests what a service says by the PAM module. With the stack for accounts pam_unix takes yescrypt. Hashing what the hostile field
-# asks for would take longer than any service here waits.
+# Tests what a service says by the PAM module, which is no for these, unless given otherwise: with the stack for accounts pam_unix
+# takes yescrypt. Hashing what the hostile field asks for would take longer than any service here waits.
 sub are_checked {
-    my ($service, $login, $of_yescrypt) = @_;
-    return are_taken($service, $login, (map { [$_, $password{six}, 'no', "'$_'"] } 'a b', 'a:b'),
-        map { [$_, 'secret', $_ eq 'yescrypt' && $of_yescrypt || 'no', $_] } sort keys %closed);
+    my ($service, $login, %verdict) = @_;
+    return are_taken($service, $login, map { [$_, $closed{$_} ? 'secret' : $password{six}, $verdict{$_} // 'no', "'$_'"] } 'a b', 'a:b', sort keys %closed);
 }
 
-# Installs the PAM module, and tells whether it is there.
-sub needs_module {
+# Installs the PAM module and, by its recipe, a file, also with names that few services take. Tells whether the module is there.
+sub install_module {
     needs('pam_mkpasswd.so' => 'libpam0g-dev', -e "$root/pam_mkpasswd.so") or return 0;
     run('cp', "$root/pam_mkpasswd.so", $modules);
-    return spew('/etc/pam.d/example', marked('pam_mkpasswd', 'pam'));
+    spew('/etc/pam.d/example', marked('pam_mkpasswd', 'pam'));
+    prepare('pam_mkpasswd');
+    return spew('/etc/example.passwords', slurp('/etc/example.passwords') . "a b:$field\na:b:$field\n");
 }
 
 subtest 'vsftpd' => sub {
-    needs(vsftpd => 'vsftpd') && needs_module() or return;
-    prepare('pam_mkpasswd');
-    spew('/etc/example.passwords', slurp('/etc/example.passwords') . "a b:$field\na:b:$field\n");
-    spew('/etc/pam.d/example', marked('pam_mkpasswd', 'pam') =~ s/\.passwords$/.passwords renew/mr);
-    run(qw(mkdir -p /run/vsftpd/empty));
+    needs(vsftpd => 'vsftpd') && needs(pkill => 'procps') && install_module() or return;
+    my ($file) = slurp(spew('/etc/pam.d/example', $stacks[2])) =~ /file=(\S+)/;
+    run(qw(install -D /etc/example.passwords), $file);
+    run(qw(mkdir -p /run/vsftpd/empty /srv/ftp));
     spew("$scratch/vsftpd.conf", join "\n", qw(listen=YES listen_address=127.0.0.1 listen_port=8086 background=NO local_enable=YES guest_enable=YES
         guest_username=ftp anonymous_enable=NO pam_service_name=example isolate=NO isolate_network=NO seccomp_sandbox=NO delay_failed_login=0
         local_root=/run/www secure_chroot_dir=/run/vsftpd/empty), '');
@@ -258,17 +256,52 @@ subtest 'vsftpd' => sub {
         my @said = map { print $client "$_\r\n" if $_; scalar <$client> } '', "USER $name", "PASS $password";
         return verdict(substr($said[2] // '', 0, 3), 230, 530);
     };
-    while_serving(8086, ['vsftpd', "$scratch/vsftpd.conf"], sub { are_checked('vsftpd', $login) });
-    my %hash = slurp('/etc/example.passwords') =~ /^([^:\n]*):(\$6\$rounds=656000\$[^:\n]*)/mg;
-    is(crypt($password{$_}, $hash{$_} // '*'), $hash{$_} // 'new', "vsftpd: the hash of $_ is renewed") for sort values %user;
+    my $is_renewed = sub {
+        my ($name, $when) = @_;
+        my ($hash) = slurp($file) =~ /^$name:(\$6\$rounds=656000\$[^:\n]*)/m;
+        return is(crypt($password{$name}, $hash // '*'), $hash // 'new', "vsftpd: $when: the hash of $name is renewed");
+    };
+    # What six's login by a file says, while the code runs, and the file afterwards.
+    my $login_while = sub {
+        my ($lines, $code) = @_;
+        utime 1, time, spew($file, $lines);
+        my ($said) = in_processes(2, sub { $_[0]->() }, sub { $login->('six', $password{six}) }, $code);
+        return ($said->[0], slurp($file));
+    };
+    while_serving(8086, ['vsftpd', "$scratch/vsftpd.conf"], sub {
+        my ($pid) = @_;
+        are_checked('vsftpd', $login);
+        $is_renewed->($_, 'logins') for sort values %user;
+
+        # A second's work, so that logins meet, and that there is time to change the file once it was read.
+        my ($one, $six) = map { "$_:" . crypt($password{$_}, '$5$rounds=1500000$abcdefgh') . "\n" } qw(one six);
+        spew($file, $one . $six);
+        is_deeply([map { $_->[0] } in_processes(3, sub { $login->($_[0], $password{$_[0]}) }, qw(one six six))], [('yes') x 3], 'vsftpd: three logins at once');
+        $is_renewed->($_, 'three logins at once') for qw(one six);
+        for (['no', $six =~ s/:/:!/r], ['yes', $one . $six]) {
+            my ($verdict, $now) = @$_;
+            spew("$file.other", $now);
+            my ($said, $left) = $login_while->($six, sub { wait_until(sub { (stat $file)[8] != 1 }) && rename "$file.other", $file });
+            is("$said " . $left =~ s/^six:\$6\S+\n/$six/mr, "$verdict $now", 'vsftpd: a file that is replaced meanwhile stays, but for the hash that was checked');
+        }
+        my $lines = "six:$field\n" . "# more\n" x 5000;
+        my @remount = (qw(mount -o), 'remount,size=60k', '/srv');
+        run(@remount);
+        is_deeply([$login_while->($lines, sub { })], ['yes', $lines], 'vsftpd: a full disk');
+        run(map { s/60k/50%/r } @remount);
+        $lines .= "# more\n" x 1_000_000;
+        my ($said, $left) = $login_while->($lines, sub { wait_until(sub { -e "$file.renew" }) && run(qw(pkill -KILL -P), $pid) });
+        ok($left =~ s/^six:\S+/six:$field/r eq $lines, 'vsftpd: SIGKILL while it renews: the file is whole') or diag($said);
+        is($login->('six', $password{six}), 'yes', 'vsftpd: after SIGKILL');
+        $is_renewed->('six', 'after SIGKILL');
+    });
 };
 
 subtest 'sshd' => sub {
-    needs(sshd => 'openssh-server') && needs(ssh => 'openssh-client') && needs(chpasswd => 'passwd') && needs_module() or return;
+    needs(sshd => 'openssh-server') && needs(ssh => 'openssh-client') && needs(chpasswd => 'passwd') && install_module() or return;
     add_accounts();
     prepare('pam_unix');
-    my ($stack) = grep { /pam_unix/ } slurp("$root/man/pam_mkpasswd.8") =~ /^\.Bd -literal -offset 2n\n(.*?)^\.Ed/msg;
-    spew('/etc/pam.d/sshd', ($stack =~ s/try_first_pass/nodelay/r) . "session required pam_permit.so\n");
+    spew('/etc/pam.d/sshd', ($stacks[1] =~ s/try_first_pass/nodelay/r) . "session required pam_permit.so\n");
     mkdir '/run/sshd';
     my @settings = ('Port 8085', 'ListenAddress 127.0.0.1', "HostKey $scratch/key", 'PidFile none', 'UsePAM yes', 'MaxStartups 99');
     spew("$scratch/sshd_config", join "\n", @settings, '');
@@ -279,7 +312,7 @@ subtest 'sshd' => sub {
         my ($name, $password) = @_;
         my %env = (PASSWORD => $password, SSH_ASKPASS => "$scratch/askpass", SSH_ASKPASS_REQUIRE => 'force');
         return verdict(run({ timeout => 20, env => \%env }, qw(ssh -qp 8085 -l), $name, @options, '127.0.0.1', 'true')->{status}, 0, 255);
-    }, 'yes') });
+    }, yescrypt => 'yes') });
 };
 
 # Tests that a tool has read the hash of the first line of `password`, with the cost of the recipes.

@@ -15,7 +15,7 @@ use Socket qw(MSG_DONTWAIT);
 use Suite;
 use Time::HiRes qw(sleep);
 
-our @EXPORT = qw(enter_namespaces needs_namespaces own_folder own_devices open_log logged pam while_serving);
+our @EXPORT = qw(enter_namespaces needs_namespaces own_folder own_devices open_log logged pam @stacks wait_until while_serving);
 
 my @unshare = qw(unshare --mount --net --pid --fork --kill-child --mount-proc);
 
@@ -94,28 +94,31 @@ sub must {
     $run->{status} and die "@_: status $run->{status}: $run->{err}";
 }
 
+# The stacks of the PAM module's manual, in their order.
+our @stacks = grep { /^auth/ } slurp("$root/man/pam_mkpasswd.8") =~ /^\.Bd -literal -offset 2n\n(.*?)^\.Ed/msg;
+
+# Runs code until it returns what is true, for at most twenty seconds, and returns that.
+sub wait_until {
+    my ($code) = @_;
+    my ($is, $until) = (0, time + 20);
+    sleep 0.002 until ($is = $code->()) || time > $until;
+    return $is;
+}
+
 # Starts a service that stays in the foreground, also with an environment as `begin` takes it, runs the code once its port takes
-# connections, and ends the service by its number. Fails a test where it doesn't serve.
+# connections, with its number, and ends the service by its number. Fails a test where it doesn't serve.
 sub while_serving {
     my ($port, $command, $code, $env) = @_;
-    my ($log, $until) = ("$scratch/service.log", time + 20);
+    my $log = "$scratch/service.log";
     my $pid = begin({ from => '/dev/null', to => $log, env => $env }, @$command);
     my ($is_ended, $is_serving) = (0, 0);
-    while (time < $until && !$is_serving && !$is_ended) {
-        $is_ended = waitpid $pid, WNOHANG;
-        $is_serving = !$is_ended && IO::Socket::INET->new(PeerAddr => "127.0.0.1:$port");
-        sleep 0.05 if !$is_serving;
-    }
+    wait_until(sub { ($is_ended = waitpid $pid, WNOHANG) || ($is_serving = IO::Socket::INET->new(PeerAddr => "127.0.0.1:$port")) });
     $is_serving &&= close $is_serving;
-    $code->() if $is_serving;
+    $code->($pid) if $is_serving;
     $is_ended ||= waitpid $pid, WNOHANG;
     ok($is_serving && !$is_ended, "$command->[0] serves") or diag(slurp($log));
     kill TERM => $pid if !$is_ended;
-    for (1 .. 100) {
-        last if $is_ended ||= waitpid $pid, WNOHANG;
-        sleep 0.05;
-    }
-    return $is_ended || kill KILL => -$pid;
+    return wait_until(sub { $is_ended ||= waitpid $pid, WNOHANG }) || kill KILL => -$pid;
 }
 
 1;
