@@ -49,7 +49,7 @@ function places() {
 // How far the widest part of the page reaches beyond this width, and how high the page is.
 function sizes(width) {
     document.documentElement.style.width = `${width}px`;
-    const beyond = Math.max(...[...document.querySelectorAll('main *')].map((part) => part.getBoundingClientRect().right)) - width;
+    const beyond = Math.max(...[...document.querySelectorAll('body *')].map((part) => part.getBoundingClientRect().right)) - width;
     return { beyond, height: document.body.getBoundingClientRect().height };
 }
 
