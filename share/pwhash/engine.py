@@ -1,12 +1,11 @@
 """Runs mkpasswd over lines, and takes nothing but its answers to them: each has the name of its line, or the number.
 
 A mkpasswd reads a block of lines from memory and writes into memory, so that nobody waits for room in a pipe. Both of
-its outputs are one, so that there is an answer for each line, in order. If it is killed, another one begins again.
-"""
-import collections, fcntl, functools, os, re, signal, subprocess, time, types
-from terminal import Stop, progress, readable
+its outputs are one, so that there is an answer for each line, in order."""
+import collections, fcntl, functools, os, re, subprocess, types
+from lines import Stop, readable
 
-SECONDS = 0.5       # what a block should take; in less, scrypt's memory would be a tenth of it
+SECONDS = 0.5       # of a processor for a block; in less, scrypt's memory would be a tenth of it
 MOST = 1 << 15      # lines of a block
 REFUSAL = re.compile(rb"mkpasswd: line ([1-9][0-9]*): ([a-z ]+)")
 HASH = rb"\$[!-9;-~]+"
@@ -38,47 +37,38 @@ def in_memory(size, data=b""):
     return file
 
 class Engine:
-    bad = False      # whether the status is 1
-
     def __init__(self, mode, words):
         self.command, self.jobs, self.size = [find_mkpasswd(), mode, *words], len(os.sched_getaffinity(0)), 1
+        self.bad = False      # whether the status is 1
         self.is_answer = functools.lru_cache()(re.compile(FORMS["--rehash" if "--rehash" in words else mode]).fullmatch)
-        list(self.answers([([1], [b""])]))      # wrong words end the run here
-        self.bad = False
 
-    def start(self, block):
-        """Gives the lines of a block to a mkpasswd, which Ctrl-C doesn't reach."""
-        data = b"\n".join([*block.lines, b""])
-        block.said, block.begun = in_memory(4096 + 256 * len(block.lines)), time.monotonic()
-        with in_memory(len(data), data) as lines:
-            words = [*self.command, f"--first-line={block.numbers[0]}"]
-            block.process = subprocess.Popen(words, stdin=lines, stdout=block.said, stderr=subprocess.STDOUT, env={},
-                                             start_new_session=True)
-        processes.add(block.process)
+    def start(self, numbers, lines):
+        """Gives a block of lines to a mkpasswd, which Ctrl-C doesn't reach."""
+        data, said = b"\n".join([*lines, b""]), in_memory(4096 + 256 * len(lines))
+        with in_memory(len(data), data) as file:
+            process = subprocess.Popen([*self.command, f"--first-line={numbers[0]}"], stdin=file, stdout=said,
+                                       stderr=subprocess.STDOUT, env={}, start_new_session=True)
+        processes.add(process)
+        return types.SimpleNamespace(numbers=numbers, lines=lines, process=process, said=said)
 
-    def is_done(self, block):
-        """Whether its mkpasswd has ended and the block has the answers. If it was killed, another one begins again."""
-        code, count = block.process.poll(), len(block.lines)
-        if code is None:
-            return False
+    def answered(self, block):
+        """Waits for a mkpasswd, and gives its block the answers."""
+        _, status, used = os.wait4(block.process.pid, 0)
+        code = block.process.returncode = os.waitstatus_to_exitcode(status)
         processes.discard(block.process)
         with block.said as file:
             *answers, rest = os.pread(file.fileno(), os.lseek(file.fileno(), 0, os.SEEK_CUR), 0).split(b"\n")
-        if code < 0 and block.deaths < 2:
-            block.deaths += 1
-            self.start(block)
-            return False
         said = readable((rest or b"".join(answers[-1:]))[:200])
         if code == 2:
-            raise Stop(f"{said}, for {' '.join(self.command[2:])}. Methods are sha512crypt, sha256crypt, md5crypt and "
-                       "scrypt (-R 6 to 11). A salt has up to 16 letters, digits, '.' or '/' (md5crypt 8, scrypt 86).", 2)
-        if code not in (0, 1) or rest or len(answers) != count:
-            at = block.numbers[min(len(answers), count - 1)]
+            raise Stop(f"{said} (its arguments: {' '.join(self.command[2:])}).", 2)
+        if code not in (0, 1) or rest or len(answers) != len(block.lines):
+            at = block.numbers[min(len(answers), len(block.lines) - 1)]
             raise Stop(f"mkpasswd ended with status {code} near line {at}, and said last: {said}")
         block.answers, block.refusals = answers, self.refusals(block, answers)
         self.bad |= code == 1 or bool(block.refusals)
-        self.size = max(1, min(MOST, int(count * min(64, SECONDS / max(time.monotonic() - block.begun, 1e-3)))))
-        return True
+        growth = min(64, SECONDS / max(used.ru_utime + used.ru_stime, 1e-3))
+        self.size = max(1, min(MOST, int(len(answers) * growth)))
+        return block
 
     def refusals(self, block, answers):
         """The refusals by place. Whatever is no answer to its line ends the run."""
@@ -94,30 +84,23 @@ class Engine:
             answers[place] = b"mkpasswd: line %d: %b" % (number, refusal[2])
         return refusals
 
-    def answers(self, pieces, word=None, total=0):
-        """Gives blocks with their answers, in order, as soon as these are there. pieces gives numbers and lines, or none
-        of these where they come slowly. word and total are for the progress."""
-        order = collections.deque()
-        progress.begin(word, total)
+    def answers(self, pieces, total=0):
+        """Gives blocks with their answers, in order, as soon as they are there. pieces gives numbers and lines, or none
+        where they come slowly. If their total is known, the last blocks are smaller, so that all processes end at once.
+        """
+        order, most = collections.deque(), 2 * self.jobs      # all processors work while the first block is waited for
         for numbers, lines in pieces:
-            while lines:      # the last blocks are smaller, so that all processes end at once
-                fair = (total - numbers[0]) // self.jobs if total else MOST
+            while lines:
+                fair = (total - numbers[0]) // most if total else MOST
                 size = max(1, self.size // 8, min(self.size, fair))
-                block = types.SimpleNamespace(numbers=numbers[:size], lines=lines[:size], deaths=0, answers=None)
+                order.append(self.start(numbers[:size], lines[:size]))
                 numbers, lines = numbers[size:], lines[size:]
-                self.start(block)
-                order.append(block)
-                while sum(not each.answers for each in order) >= self.jobs or len(order) >= 4 * self.jobs:
-                    yield from self.finished(order, 1)
-            yield from self.finished(order, 0)
-        while order:
-            yield from self.finished(order, 1)
+                yield from self.finished(order, most - 1)
+            yield from self.finished(order, most)
+        yield from self.finished(order, 0)
 
-    def finished(self, order, seconds):
-        """Gives the blocks that are done, in order. If none has become so, it waits for the end of a process."""
-        if not [block for block in order if not block.answers and self.is_done(block)]:
-            signal.sigtimedwait([signal.SIGCHLD], seconds)
-        while order and order[0].answers:
-            block = order.popleft()
-            yield block
-            progress.count(block.numbers)
+    def finished(self, order, most):
+        """Gives the first blocks as long as their processes have ended, or there are more than so many."""
+        ended = os.WEXITED | os.WNOHANG | os.WNOWAIT
+        while order and (len(order) > most or os.waitid(os.P_PID, order[0].process.pid, ended)):
+            yield self.answered(order.popleft())

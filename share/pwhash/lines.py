@@ -1,6 +1,7 @@
-"""The input as numbers and lines. These are bytes, since names and passwords have no encoding."""
-import csv, itertools, os, select, stat
-from terminal import Stop, say
+"""Lines that come in, with their numbers, lines that go out, and what people see on the terminal.
+
+Lines are bytes, since names and passwords have no encoding."""
+import contextlib, csv, itertools, os, re, select, stat, time
 
 LONGEST = 2050      # bytes of a line: what mkpasswd takes, what is too much, and a carriage return
 MARK = b"\xef\xbb\xbf"
@@ -41,8 +42,10 @@ class Source:
             *lines, rest = (rest + piece).split(b"\n")
             lines += [rest] if rest and not piece else []
             if windows:
-                lines = [line[:-1] if line.endswith(b"\r") else line for line in lines]
-                lines[:1] = [line[3 if number == 1 and line.startswith(MARK) else 0:] for line in lines[:1]]
+                lines = [line.removesuffix(b"\r") for line in lines]
+                lines[:1] = [line.removeprefix(MARK) if number == 1 else line for line in lines[:1]]
+            if self.options.locked:      # without what is in front of a locked hash
+                lines = [re.sub(rb"^([^:]*:)[!*]+(?=\$)", rb"\1", line) for line in lines]
             yield range(number, number + len(lines)), lines
             number, rest = number + len(lines), rest[:longest]
 
@@ -69,12 +72,58 @@ class Source:
         """Lines `name:password` as `name:field:password`, with the fields of a file such as /etc/shadow, if that has
         the name; without a name, one for each that it has."""
         with open(self.options.shadow, "rb") as file:      # the first line of a name counts
-            pairs = [line.rstrip(b"\n").split(b":")[:2] for line in file if b":" in line]
-            fields = {**dict(pairs), **dict(reversed(pairs))}
+            fields = dict(reversed([line.rstrip(b"\n").split(b":")[:2] for line in file if b":" in line]))
         for numbers, lines in pieces:
             parts = [(number, *line.partition(b":")[::2]) for number, line in zip(numbers, lines)]
             self.absent += sum(name != b"" and name not in fields for _, name, _ in parts)
             yield (), []
             yield from some_at_a_time((number, b"%b:%b:%b" % (each, fields[each], password))
                                       for number, name, password in parts
-                                      for each in ([name] if name else fields) if each in fields)
+                                      for each in ([name] if name else reversed(fields)) if each in fields)
+
+shown = False      # whether the terminal shows the progress
+
+class Stop(Exception):
+    """Ends the run: a whole sentence, and the status if it isn't 3, or a signal as a negative number."""
+
+def readable(data):
+    """Bytes from outside for a terminal, which no character of them can command."""
+    text = data.decode("utf-8", "backslashreplace")
+    return text if text.isprintable() else "".join(each if each.isprintable() else ascii(each)[1:-1] for each in text)
+
+def write(fd, lines):
+    """Writes all of them, also where somebody made the descriptor non-blocking."""
+    data = b"\n".join([*lines, b""])
+    if os.isatty(fd):
+        clear()
+    while data:
+        try:
+            data = data[os.write(fd, data):]
+        except BlockingIOError:
+            time.sleep(0.02)
+
+def say(sentence):
+    write(2, [f"pwhash: {sentence}".encode("utf-8", "surrogateescape")])
+
+def on_terminal(text):
+    """Writes on the terminal, if there is one and this is not in the background. Returns whether it did."""
+    with contextlib.suppress(OSError), open("/dev/tty", "wb", 0) as terminal:
+        in_front = os.tcgetpgrp(terminal.fileno()) == os.getpgrp()
+        return in_front and bool(terminal.write(text.encode("utf-8", "surrogateescape")))
+
+def clear():
+    global shown
+    shown = shown and not on_terminal("\r\x1b[K")
+
+def progress(blocks, word, total):
+    """Gives the blocks, and shows how far they are, in place, at most twice a second."""
+    global shown
+    begun, first, wait = time.monotonic(), None, 1
+    for block in blocks:
+        yield block
+        first, done, seconds = first or block.numbers[0], block.numbers[-1], time.monotonic() - begun
+        if total and seconds >= wait and done > first:
+            rate, shown, wait = (done - first) / seconds, True, seconds + 0.5
+            left = max(0, int((total - done) / rate))
+            on_terminal(f"\r{word}: {done:,} of {total:,} lines, {100 * done // total} %, {rate:,.1f} a second, "
+                        f"{left // 3600}:{left // 60 % 60:02}:{left % 60:02} left\x1b[K")

@@ -108,7 +108,7 @@ def test_for(place, target, text):
 
 @pytest.mark.parametrize("words, password, said", [
     ("", b"", "empty"), ("", b"\n", "empty"), ("", b"x\r\n", "carriage return"), ("", b"x" * 1025, "1,024"), ("", b"a\0b", "zero"),
-    ("", b"x" * 1024, "--budget"), ("-m yescrypt", b"x", "--method=yescrypt"), ("-m scrypt -R 12", b"x", "--rounds=12"),
+    ("", b"x" * 1024, "--budget"), ("-m yescrypt", b"x", "sha512crypt"), ("-m scrypt -R 12", b"x", "-R 12"), ("-R 10", b"x", "1000"), ("-m scrypt -R 9999999999", b"x", "11"),
     ("-R 65x", b"x", "'65x'"), ("-m md5crypt -S 123456789", b"x", "--salt=123456789"), ("--for grub", b"x", "preseed-root")])
 def test_wrong(place, words, password, said):
     status, out, err = run(*words.split(), stdin=password)
@@ -249,7 +249,7 @@ def test_interrupted(place):
             os.remove("out")
             command, finished = first, finished + 1
         else:
-            assert status == -number and expected.startswith(open("out.part", "rb").read().rpartition(b"\n")[0])
+            assert status in (-number, 3) and expected.startswith(open("out.part", "rb").read().rpartition(b"\n")[0])
             command = said.split("To go on:\n")[1].strip() if number != signal.SIGKILL else first + " --resume"
             assert " --resume" in command
 
@@ -342,7 +342,7 @@ def test_audit(place):
 
 @pytest.mark.parametrize("call, when", [
     ("memfd_create:error=EMFILE", 1), ("memfd_create:error=ENOMEM", 6), ("pipe2:error=EMFILE", 3), ("vfork,clone,clone3:error=EAGAIN", 3),
-    ("vfork,clone,clone3:error=ENOMEM", 8), ("poll:error=ENOMEM", 2), ("flock:error=EIO", 1), ("fsync:error=EIO", 1), ("fsync:error=ENOSPC", 1),
+    ("vfork,clone,clone3:error=ENOMEM", 5), ("poll:error=ENOMEM", 2), ("flock:error=EIO", 1), ("fsync:error=EIO", 1), ("fsync:error=ENOSPC", 1),
     ("rename:error=ENOSPC", 1), ("rename:error=EACCES", 1), ("chmod:error=EPERM", 1)])
 def test_system_calls(place, call, when):
     """Status 3, a sentence, and no OUT, whichever call the system refuses."""
@@ -377,7 +377,7 @@ def test_a_reader_that_ends(place):
     """Its status is 3, as that of a full disk."""
     child = subprocess.Popen(["bin/pwhash", "file", *QUICK], stdin=subprocess.PIPE, stdout=subprocess.PIPE, stderr=subprocess.PIPE)
     child.stdout.close()
-    assert b"standard output" in child.communicate(b"ann:x\n")[1] and child.returncode == 3
+    assert b"Broken pipe" in child.communicate(b"ann:x\n")[1] and child.returncode == 3
 
 
 @pytest.mark.parametrize("script", [
@@ -387,8 +387,9 @@ def test_a_reader_that_ends(place):
 def test_engines(place, script):
     """An engine that fails or lies ends the run."""
     engine(script)
-    status, out, err = run("file", *QUICK, stdin=b"ann:x\nbob:y\ncarl:z\n")
-    assert status == 3 and err.startswith(b"pwhash: ") and out in (b"", b"ann:" + libxcrypt("x", "$1$xxxxxxxx").encode() + b"\n")
+    status, out, err = run("file", *QUICK, stdin=b"no colon\nann:x\nbob:x\n")
+    hashed = libxcrypt("x", "$1$xxxxxxxx").encode()
+    assert status == 3 and b"pwhash: " in err and (b"ann:%b\nbob:%b\n" % (hashed, hashed)).startswith(out)
 
 
 def test_an_engine_that_fills_memory(place):
