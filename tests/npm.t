@@ -147,6 +147,6 @@ subtest 'a server' => sub {
     waitpid $pid, 0;
     ok($told->{right}, '200 logins at once are answered');
     ok($told->{well}, 'and health checks meanwhile');
-    cmp_ok($told->{blocked}, '<', $told->{hash}, 'the event loop goes on while hashes are made');
+    cmp_ok($told->{blocked}, '<', 0.5, 'the event loop goes on while hashes are made');
 };
 done_testing;
