@@ -7,6 +7,7 @@ use FindBin qw($Bin);
 use lib "$Bin/lib";
 use JSON::PP ();
 use Suite;
+use Time::HiRes qw(sleep);
 
 my $package = "$root/build/npm";
 needs('build/npm' => 'binaryen', -e "$package/package.json") && needs(node => 'nodejs') && needs(npm => 'npm')
@@ -62,8 +63,12 @@ END
     return @{ told('program.mjs', '', $name, $password) };
 }
 
-subtest 'the program of the README' => sub {
-    my ($program) = slurp("$site/node_modules/mkpasswd/README.md") =~ /^```js\n(.*?)^```$/ms;
+# The README's, and GUIDE's once it has one.
+my $block = qr/```js\n(.*?)^```$/ms;
+my ($readme) = slurp("$package/README.md") =~ /^$block/m;
+my ($guide) = slurp("$root/docs/GUIDE.md") =~ /^<!-- tested: login in node -->\n+$block/m;
+subtest "a document's program" => sub {
+    my ($program) = @_;
     is_deeply((program_told($program, 'ann', 'correct horse'))[0], ['ann'], 'the right password');
     is_deeply((program_told($program, 'ann', 'wrong horse'))[0], [], 'a wrong one');
     is_deeply((program_told($program, 'nobody', 'x'))[0], [], 'an unknown name');
@@ -73,7 +78,7 @@ subtest 'the program of the README' => sub {
     my $careless = $program =~ s/await (?=loginAsync)//r;
     isnt($careless, $program, 'it awaits the result');
     is_deeply((program_told($careless, 'ann', 'wrong horse'))[0], [], 'without that nobody gets in');
-};
+}, s{'\./mkpasswd\.mjs'}{'mkpasswd'}r for grep { defined } $readme, $guide;
 
 # Passwords with what is stored, and whether they match. Further what verify says where that isn't the same, and whether login
 # then makes as many digests as a new hash (hidden) or none (idle).
@@ -141,7 +146,7 @@ subtest 'a worker that is killed' => sub {
 subtest 'a server' => sub {
     my $port = spew("$scratch/port", '');
     my $pid = begin({ %there, from => '/dev/null', to => $port }, 'node', 'server.mjs');
-    for (1 .. 300) { last if slurp($port) =~ /\n/; select undef, undef, undef, 0.1 }
+    for (1 .. 300) { last if slurp($port) =~ /\n/; sleep 0.1 }
     my $told = told('clients.mjs', '', slurp($port) =~ s/\n//r);
     kill KILL => -$pid;
     waitpid $pid, 0;
