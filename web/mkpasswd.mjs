@@ -1,5 +1,5 @@
 // mkpasswd @VERSION@: hashes of crypt(5) by sha512crypt, sha256crypt and md5crypt, for node 20 and web pages. LLVM compiled the
-// proved code, and Binaryen lowered it; this script is tested. mkpasswd.d.ts says what each call does.
+// proved code, and Binaryen lowered it; this script is tested. mkpasswd.d.ts, in the package of npm, describes each call.
 //
 //     import { hash, loginAsync } from './mkpasswd.mjs';
 //     const stored = hash('correct horse');

@@ -1,0 +1,28 @@
+// Reads rows of JSON, [password, field], and tells for each what a policy's login, loginAsync and verify say, how many digests
+// login made by the module's reports, and what it gave to store. tests/npm.t knows the answers.
+import { readFileSync } from 'node:fs';
+
+let digests = 0n;
+const { Instance } = WebAssembly;
+WebAssembly.Instance = function (compiled) {
+    const { exports } = new Instance(compiled);
+    const counting = (call) => (...words) => {
+        call(...words);
+        digests += new DataView(exports.memory.buffer, Number(words.at(-1))).getBigUint64(16, true);
+    };
+    const calls = Object.entries(exports).filter(([, value]) => typeof value === 'function');
+    return { exports: { ...exports, ...Object.fromEntries(calls.map(([name, call]) => [name, counting(call)])) } };
+};
+const { Policy } = await import('mkpasswd');
+
+const policy = new Policy({ rounds: 5000 });
+const why = (call) => { try { return call(); } catch ({ name, message, reason }) { return reason ?? `${name}: ${message}`; } };
+const rows = JSON.parse(readFileSync(0, 'utf8')).map(([password, field]) => {
+    digests = 0n;
+    const result = why(() => policy.login(password, field));
+    const row = { result, digests: Number(digests), renewed: result.new, verified: why(() => policy.verify(password, field)) };
+    return policy.loginAsync(password, field).then(
+        (verdict) => ({ ...row, alike: JSON.stringify(verdict) === JSON.stringify(result) && !verdict.new === !result.new }),
+        ({ name, message }) => ({ ...row, alike: result === `${name}: ${message}` }));
+});
+console.log(JSON.stringify(await Promise.all(rows)));
