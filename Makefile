@@ -3,6 +3,7 @@
 # make lib         builds the C libraries, and with Debian's libpam0g-dev the PAM module
 # make web         builds build/mkpasswd.html, a page that makes and checks hashes in a browser, and build/mkpasswd.mjs, for node
 # make npm         makes build/npm, the package of it for npm pack
+# make pictures    takes docs/page.png, the picture of that page
 # make install     installs all of it below PREFIX (default /usr/local); make uninstall removes it
 # make test        tests what is built: T=tests/lines.t one file; with STRICT=1 a tool that is missing is a failure
 # make check       every check there is: layers, gate, tests; with ANEW=1 the gate proves everything anew
@@ -44,8 +45,8 @@ export DESTDIR PREFIX LIBDIR ARCHIVE RT
 SLOW = tests/deb.t tests/arm.t tests/python tests/pam.t
 T = $(SLOW) $(filter-out $(SLOW),$(wildcard tests/*.t))
 
-.PHONY: all run static lib web npm fuzz test check layers specification site gate bench soak install uninstall dist \
-	image wheel deb clean FORCE
+.PHONY: all run static lib web npm pictures fuzz test check layers specification site gate bench soak install uninstall \
+	dist image wheel deb clean FORCE
 .DELETE_ON_ERROR .SECONDARY:
 # rt takes all cores for itself.
 .NOTPARALLEL:
@@ -138,6 +139,9 @@ build/mkpasswd.wasm: build/wasm64/mkpasswd.wasm
 build/mkpasswd.html build/mkpasswd.mjs $(NPM): build/mkpasswd.wasm tools/web c/mkpasswd.h $(wildcard web/*)
 	@mkdir -p $(@D)
 	tools/web $< $@
+
+pictures: web
+	tools/pictures
 
 # Each target keeps what it found in build/fuzz, from where the next run begins.
 FUZZERS := $(patsubst tests/c/fuzz_%.c,build/fuzz/%,$(wildcard tests/c/fuzz_*.c))

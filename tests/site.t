@@ -26,6 +26,7 @@ if (needs(xmllint => 'libxml2-utils')) {
         $is_place{$_} = 1 for $name, map { "$name#$_" } values_of('//@id', $page);
         push @links, map { [$name, /^#/ ? "$name$_" : $_] } values_of('//@href | //@src', $page);
     }
+    push @links, map { ['mkpasswd.html', $_] } map { slurp($_) =~ /<a href="([^"]*)"/g } glob "$scratch/site/mkpasswd.html";
     my @dead = grep { $_->[1] !~ /^https?:/ && !$is_place{ $_->[1] } && !-f "$scratch/site/$_->[1]" } @links;
     ok(@links > 100 && !@dead, 'no dead links') or diag(map { "@$_\n" } @dead);
 }

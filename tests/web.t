@@ -5,19 +5,12 @@ use strict;
 use warnings;
 use FindBin qw($Bin);
 use lib "$Bin/lib";
-use HTTP::Tiny;
-use IO::Socket::INET;
+use Browsers;
 use JSON::PP qw(decode_json encode_json);
 use Suite;
-use Time::HiRes qw(sleep);
 
 my ($page, $module) = map { "$root/build/mkpasswd.$_" } qw(html mjs);
 needs('build/mkpasswd.html' => 'binaryen', -e $page) or do { done_testing; exit };
-
-# What is left to end, latest first.
-my @closing;
-END { local $?; close_all() }
-sub close_all { (pop @closing)->() while @closing }
 
 # Stored hashes and passwords that are refused, and the reasons' names. The program says the same of them.
 my @refused = (
@@ -33,6 +26,28 @@ is(scalar @words, scalar @refused, 'the program refuses all of them');
 push @refused, ['!x', 'x', 'LOCKED'], ['', 'x', 'NO_HASH'];    # for these it has an answer
 push @words, 'locked', 'no hash';
 my $rows = JSON::PP->new->ascii->encode(\@refused);
+
+# What the page says of such.
+my $elsewhere = "which can\x{2019}t be checked here. Log in on the system that stored it.";
+my $again = 'is no hash. Paste a hash, or its whole line.';
+my @said = (
+    ['$6$s$x', 'x' x 1025, 'The password has more than 1024 bytes. Take a shorter one.'],
+    ['$6$s$x', "x\0y", 'The password has a zero byte, which no login takes. Type it again.'],
+    ['$6$' . 'x' x 400, 'x', 'This is longer than any hash. Copy the hash alone, or its whole line.'],
+    ["\$6\$s\x{e4}lt\$x", 'x', 'This has a character that is in no hash. Copy the hash again.'],
+    ['$5$rounds=$x', 'x', 'No valid number follows rounds= in this hash. Copy it again.'],
+    ['!$6$s$x', 'x', 'This account is locked, so no password matches. To check the hash behind ! or *, remove that.'],
+    ['', 'x', 'This account has no hash. Set a password, or lock it.'],
+    ['ann::19000:0:99999:7:::', '', 'This account has no hash. Set a password, or lock it.'],
+    ['$6$rounds=999999999$s$x', 'x', 'Checking this hash can take about N, so it was refused. If you trust it, raise the budget to N.'],
+    ['$2b$05$x', 'x', "\$2b\$ is bcrypt, $elsewhere"], ['ann:$y$j9T$x$y:19000::::::', 'x', "\$y\$ is yescrypt, $elsewhere"],
+    ['$7$46..../....s', 'x', "\$7\$ is scrypt, which can\x{2019}t be checked here. Give the line to mkpasswd --check."],
+    ['$apr1$s$x', 'x', "\$apr1\$ is Apache\x{2019}s MD5, $elsewhere"], ['$argon2id$v=19$x', 'x', "\$argon2id\$ is Argon2, $elsewhere"],
+    ['ann:{SHA}x=', 'x', "{SHA} is SHA-1 without a salt, $elsewhere"], ['$new$x', 'x', "\$new\$ is another scheme, $elsewhere"],
+    ['abJnggxhB/yWI', 'x', "This is descrypt, $elsewhere"], ['hello', 'x', "hello $again"],
+    ['correct horse battery staple', 'x', "correct horse batter\x{2026} $again"],
+);
+my $asked = JSON::PP->new->ascii->encode([map { [@$_[0, 1]] } @said]);
 
 # Binaryen wraps addresses and lengths, and marks code that is never reached. It has nothing else to do.
 subtest 'lowered' => sub {
@@ -88,44 +103,22 @@ subtest 'in node' => sub {
     is_deeply([map { crypt 'password', $_ } @{ $told->{made} }], $told->{made}, 'libcrypt makes the hashes with new salts');
 };
 
-# Starts a server on a free port, and returns its address once it takes a call.
-sub started {
-    my ($log, @command) = @_;
-    my $port = IO::Socket::INET->new(Listen => 1, LocalAddr => '127.0.0.1')->sockport;
-    my $pid = fork // die "can't fork: $!";
-    if (!$pid) {
-        open $_, '>', $log or die for *STDOUT, *STDERR;
-        exec map { s/PORT/$port/r } @command or POSIX::_exit(127);
-    }
-    push @closing, sub { kill KILL => $pid; waitpid $pid, 0 };
-    IO::Socket::INET->new("127.0.0.1:$port") and return "http://127.0.0.1:$port" or sleep 0.1 for 1 .. 300;
-    die "$command[0] doesn't start: " . slurp($log);
-}
-
-# Starts a driver and its browser, and returns a call that opens an address and runs a script there.
-my %timeouts = (script => 100_000);
+# Returns a call that opens an address in a session and runs a script there.
 sub driven {
-    my ($options, @driver) = @_;
-    my $to = started("$scratch/$driver[0].log", @driver) . '/session';
-    my $http = HTTP::Tiny->new(timeout => 120);
-    my $ask = sub { decode_json($http->post("$to$_[0]", { content => encode_json($_[1]) })->{content})->{value} };
-    my $id = '/' . $ask->('', { capabilities => { alwaysMatch => { timeouts => \%timeouts, %$options } } })->{sessionId};
-    push @closing, sub { $http->delete($to . $id) };
-    return sub { $ask->("$id/url", { url => $_[0] }); $ask->("$id/execute/sync", { script => $_[1], args => [] }) };
+    my ($session) = @_;
+    return sub { $session->(url => { url => $_[0] }); $session->('execute/sync', { script => $_[1], args => [] }) };
 }
 
 # The browsers, each with what has to be there and its Debian package, and how it is started.
 my %browsers = (
-    Chromium => [{ chromium => 'chromium', chromedriver => 'chromium-driver' }, sub {
-        driven({ 'goog:chromeOptions' => { args => [qw(--headless=new --no-sandbox)] } }, qw(chromedriver --port=PORT));
-    }],
+    Chromium => [{ chromium => 'chromium', chromedriver => 'chromium-driver' }, sub { driven(chromium()) }],
     Firefox => [{ 'firefox-esr' => 'firefox-esr', 'Firefox/Marionette.pm' => 'libfirefox-marionette-perl' }, sub {
         my $timeouts = Firefox::Marionette::Timeouts->new(%timeouts, page_load => 100_000, implicit => 0);
         my $firefox = Firefox::Marionette->new(binary => '/usr/bin/firefox-esr', timeouts => $timeouts);
         return sub { $firefox->go($_[0]); $firefox->script($_[1]) };
     }],
     WebKit => [{ WebKitWebDriver => 'webkit2gtk-driver', 'xvfb-run' => 'xvfb', xauth => 'xauth' }, sub {
-        driven({}, qw(xvfb-run -a WebKitWebDriver --port=PORT));
+        driven(session({}, qw(xvfb-run -a WebKitWebDriver --port=PORT)));
     }],
 );
 
@@ -138,7 +131,6 @@ sub visit {
     setpgrp;
     local $SIG{ALRM} = sub { kill KILL => -$$ };
     alarm 300;
-    @closing = ();
     $ENV{TMPDIR} = $scratch;
     eval {
         my $visit = $open->();
@@ -161,7 +153,7 @@ for my $name (sort keys %browsers) {
         needs($_ => $needed->{$_}, /\.pm$/ ? eval { require $_ } : undef) or return for sort keys %$needed;
         my $server = started("$scratch/$name.server", qw(python3 -u -m http.server PORT --bind 127.0.0.1 --directory), "$root/build");
         my %salts;
-        my %value = (SERVER => $server, ROWS => $rows);
+        my %value = (SERVER => $server, ROWS => $asked);
         my $script = slurp("$root/tests/web/page.js") =~ s/@(\w+)@/$value{$1}/gr;
         my @addresses = ("$server/mkpasswd.html", map { "file://$_" } $page, @unable);
         visit("$scratch/$name", $open, $script, @addresses);
@@ -176,17 +168,47 @@ for my $name (sort keys %browsers) {
             $salts{ (split /\$/)[-2] }++ for @made;
             my $sha = qr{\$rounds=1234\$[./\w]{16}\$\S+};
             like("@made", qr{^\$6$sha \$5$sha \$1\$[./\w]{8}\$\S+$}, 'of the methods, with the rounds and with salts');
-            my @fits = map { map { /^The password (matches|does not match)\b/ } @$_[1, 2] } @{ $told->{made} };
-            is_deeply(\@fits, [('matches', 'does not match') x 3], 'their passwords match, and others do not');
-            my @flaws = map { my $length = $_; map { "This hash is $_. No password matches it." } "cut: 0 of $length characters",
-                'cut: ' . ($length - 9) . " of $length characters", 'too long: ' . ($length + 2) . " characters in place of $length", 'damaged' } 86, 43, 22;
-            is_deeply([map { s/ Cost: .*//r } @{ $told->{dead} }], \@flaws, 'why no password matches a hash');
-            is_deeply([map { /^([^:.]+)/ } @{ $told->{refused} }], \@words, 'the refusals of the program');
-            my $no = JSON::PP::false;
-            is_deeply($told->{mistyped}, ['The two passwords differ.', $no], 'a password that was mistyped once makes no hash, and leaves none');
-            is_deeply([@$told{qw(left beyond stopped sent)}], [$no, [], 'Stopped.', ['refused', 'refused']], 'nothing left, too wide or sent; stopped');
-            my @lines = map { ["d-i passwd/user-password-crypted password $_", "rootpw --iscrypted $_", "lock_passwd: false\nhashed_passwd: $_", "password: \"$_\""] } @made;
-            is_deeply([map { $_->[3] } @{ $told->{made} }], \@lines, 'lines for installers, with the hash');
+            like($_->[3], qr/^Made in (?:less than 0\.1|\d+\.\d)\x{a0}s\.$/, 'and says how long it took') for @{ $told->{made} };
+            my @fits = map { map { s/ Checked in .*\x{a0}s\.$//r } @$_[1, 2] } @{ $told->{made} };
+            is_deeply(\@fits, [('The password matches.', 'The password does not match.') x 3], 'their passwords match, and others do not');
+            like($told->{estimate}, qr/^Takes (?:a moment|about (?:a|a quarter of a|half a|\d+) seconds?)\.$/, 'how long a hash takes');
+            my @flaws = map { ("cut: 0 of $_ characters", 'cut: ' . ($_ - 9) . " of $_ characters",
+                'too long: ' . ($_ + 2) . " characters in place of $_", 'damaged') } 86, 43, 22;
+            my $dead = 'No password matches it: copy it again, or set a new password.';
+            is_deeply($told->{dead}, [map { "This hash is $_. $dead" } @flaws], 'why no password matches a hash');
+            my @refused = map { s/(?<=about )\d+ (?:minutes|hours)|(?<=budget to )\d+/N/gr } @{ $told->{refused} };
+            is_deeply(\@refused, [map { $_->[2] } @said], 'what can\'t be checked, and what to do');
+            my ($yes, $no) = (JSON::PP::true, JSON::PP::false);
+            is_deeply($told->{hidden}, $yes, 'the budget is hidden until a hash is above it');
+            $_->[0] =~ s/ Checked in .*// for @{ $told->{lines} };
+            is_deeply($told->{lines}, [(['The password matches.', $yes, 'From the line of ann.']) x 2], 'lines are taken apart');
+            my $weak = 'md5crypt is weak. Take it only where nothing else works.';
+            is_deeply([@$told{qw(fixed free)}], [[$yes, '1000', $weak], [$no, '1234']], 'the rounds of md5crypt are fixed');
+            my $differ = 'The two passwords differ. Type them again, or show the first.';
+            is_deeply($told->{mistyped}, [$differ, $no], 'a password that was mistyped once makes no hash, and leaves none');
+            is_deeply([@$told{qw(left stopped sent icon)}], [$no, 'Stopped.', ['refused', 'refused'], $yes], 'nothing left or sent; stopped; the icon');
+            ok($told->{phone}{beyond} <= 0 && $told->{wide} <= 0, 'nothing is too wide');
+            cmp_ok($told->{phone}{height}, '<=', 1800, 'on a telephone the page is not too long');
+            my ($generated, @shown) = @{ $told->{generated} };
+            like($generated, qr/^[A-Za-z0-9]{20}$/, 'a generated password');
+            my @hidden = ('Show the password', 'password', $no);
+            is_deeply([@shown[0 .. 3], $told->{concealed}], ['Hide the password', 'text', $yes, $yes, \@hidden], 'it is shown, until it is hidden');
+            like($shown[4], qr/^The password matches\./, 'it is what was hashed');
+            is_deeply([sort { $a <=> $b } values %{ $told->{frequencies} }], [(10) x 62], 'each character is equally probable');
+            my %places = %{ $told->{places} };
+            my %line = (plain => $told->{stored}, chpasswd => "ann:$told->{stored}",
+                'kickstart-user' => "user --name=ann --iscrypted --password=$told->{stored}");
+            my ($salt) = $told->{stored} =~ /([^\$]+)\$[^\$]+$/;
+            for my $place (grep { !exists $line{$_} } keys %places) {
+                my @pwhash = ("$root/bin/pwhash", '--for', $place, qw(--name ann -R 1234 -S), $salt);
+                $line{$place} = run({ stdin => "$password\n", env => { PATH => "$root:$ENV{PATH}" } }, @pwhash)->{out} =~ s/\n\z//r;
+            }
+            is_deeply({ map { $_ => $places{$_}[0] } keys %places }, \%line, 'what pwhash prints for each place');
+            is_deeply({ map { $_ => $places{$_}[1] } keys %places }, \%line, 'is what is copied');
+            my @named = grep { $places{$_}[2] } sort keys %places;
+            is_deeply(\@named, [qw(chpasswd cloud-init htpasswd kickstart-user)], 'some need a name');
+            my @nameless = ("First type the user\x{2019}s name.", 'A name has letters, digits and _.@-');
+            is_deeply([map { $places{$_}[2] } @named], [([@nameless]) x @named], 'without which nothing is copied');
         }
         is(scalar keys %salts, 6, 'each salt is another');
         my @unable = map { [$_->{unable} =~ /\b(WebAssembly|script)\b/, $_->{forms}] } @told;

@@ -1,26 +1,46 @@
-// What the page says after mkpasswd's own message, by the names of mkpasswd.h.
-const MORE = {
-    MKPASSWD_REFUSED_PASSWORD_TOO_LONG: 'it has more than 1024 bytes',
-    MKPASSWD_REFUSED_SETTING_TOO_LONG: 'a stored hash has at most 384 bytes',
-    MKPASSWD_REFUSED_BAD_CHARACTER: 'take what stands between the first two colons',
-    MKPASSWD_REFUSED_UNKNOWN_SCHEME: 'it begins with none of $1$, $5$ and $6$; yescrypt, $y$, cannot be checked here',
-    MKPASSWD_REFUSED_BAD_ROUNDS: 'no valid number follows rounds=',
-    MKPASSWD_REFUSED_OUT_OF_MEMORY: 'scrypt, $7$, needs more than this page has; mkpasswd --check checks it',
-    MKPASSWD_OVER_BUDGET: 'nothing was hashed; if you trust the hash, raise the budget to its cost',
-    MKPASSWD_LOCKED: 'it begins with ! or *, and no password matches it',
-    MKPASSWD_NO_HASH: 'the field is empty',
+// What the page says in place of mkpasswd's message, by the names of mkpasswd.h, where the message doesn't say what to do.
+const SENTENCES = {
+    MKPASSWD_REFUSED_PASSWORD_TOO_LONG: 'The password has more than 1024 bytes. Take a shorter one.',
+    MKPASSWD_REFUSED_PASSWORD_ZERO_BYTE: 'The password has a zero byte, which no login takes. Type it again.',
+    MKPASSWD_REFUSED_SETTING_TOO_LONG: 'This is longer than any hash. Copy the hash alone, or its whole line.',
+    MKPASSWD_REFUSED_BAD_CHARACTER: 'This has a character that is in no hash. Copy the hash again.',
+    MKPASSWD_REFUSED_BAD_ROUNDS: 'No valid number follows rounds= in this hash. Copy it again.',
+    MKPASSWD_LOCKED: 'This account is locked, so no password matches. To check the hash behind ! or *, remove that.',
+    MKPASSWD_NO_HASH: 'This account has no hash. Set a password, or lock it.',
 };
 const METHODS = { 1: 'md5crypt', 5: 'sha256crypt', 6: 'sha512crypt' };    // by their prefixes
 const LENGTHS = { 1: 22, 5: 43, 6: 86 };    // of what is behind the salt
+// Schemes that can't be checked here, by their prefixes.
+const OTHERS = {
+    $y$: 'yescrypt', $gy$: 'gost-yescrypt', $2a$: 'bcrypt', $2b$: 'bcrypt', $2x$: 'bcrypt', $2y$: 'bcrypt', $7$: 'scrypt',
+    $argon2i$: 'Argon2', $argon2id$: 'Argon2', $apr1$: 'Apache’s MD5', $sha1$: 'sha1crypt', $md5$: 'SunMD5', $3$: 'NT',
+    '{SHA}': 'SHA-1 without a salt',
+};
+const CHARACTERS = 'ABCDEFGHIJKLMNOPQRSTUVWXYZabcdefghijklmnopqrstuvwxyz0123456789';
 
 const element = (id) => document.getElementById(id);
 const valueOf = (id) => element(id).value;
 const source = URL.createObjectURL(new Blob([element('worker').textContent], { type: 'text/javascript' }));
 const rates = {};
-let running;
+const storedNote = element('stored-note').textContent;
+let otherRounds = 1000;    // what the field has of md5crypt, and with that of the other methods
+let made, running;
 
-const shown = (milliseconds) => (milliseconds < 1000 ? `${Math.max(1, Math.round(milliseconds))} ms`
-    : milliseconds < 120000 ? `${(milliseconds / 1000).toPrecision(2)} s` : `${Math.round(milliseconds / 60000)} minutes`);
+// A time: how long something took, and about how long it will take.
+function inUnits(seconds) {
+    if (seconds < 120) return `${Math.round(seconds)} seconds`;
+    return seconds < 7200 ? `${Math.round(seconds / 60)} minutes` : `${Math.round(seconds / 3600)} hours`;
+}
+function took(milliseconds) {
+    if (milliseconds < 100) return 'less than 0.1\u00a0s';
+    return milliseconds < 9950 ? `${(milliseconds / 1000).toFixed(1)}\u00a0s` : inUnits(milliseconds / 1000);
+}
+function about(milliseconds) {
+    const seconds = milliseconds / 1000;
+    if (seconds < 0.15) return 'a moment';
+    const parts = [[0.37, 'a quarter of a second'], [0.75, 'half a second'], [1.5, 'a second'], [Infinity, inUnits(seconds)]];
+    return `about ${parts.find(([end]) => seconds < end)[1]}`;
+}
 
 // How long a hash of this cost takes here, if hashes with the method were measured.
 const expected = ({ method, cost }) => rates[method] && cost * rates[method].time / rates[method].cost;
@@ -28,15 +48,19 @@ const expected = ({ method, cost }) => rates[method] && cost * rates[method].tim
 // Shows how long the hash takes that is to be made.
 function tellEstimate() {
     const [method, rounds] = [valueOf('method'), element('rounds')];
-    rounds.disabled = method === 'md5crypt';
-    const time = rates[method] && rates[method].time * (rounds.disabled ? 1 : rounds.value / 5000);
-    const text = rounds.validity.valid ? (time ? `Takes about ${shown(time)} here.` : '\u00a0') : 'From 1000 to 999999999.';
-    if (element('estimate').textContent !== text) element('estimate').textContent = text;
+    const isFixed = method === 'md5crypt';
+    if (rounds.disabled !== isFixed) [rounds.value, otherRounds, rounds.disabled] = [otherRounds, rounds.value, isFixed];
+    const time = rates[method] && rates[method].time * rounds.value / 5000;
+    const warning = !rounds.validity.valid ? 'Give 1000 to 999999999 rounds.'
+        : isFixed ? 'md5crypt is weak. Take it only where nothing else works.' : '';
+    const textContent = warning || (time ? `Takes ${about(time)}.` : '\u00a0');
+    if (element('estimate').textContent === textContent) return;    // it is announced
+    Object.assign(element('estimate'), { textContent, className: warning ? 'refused' : '' });
 }
 
 // Shows what becomes of a form's job.
 function say(form, text, kind = '') {
-    const place = Object.assign(form.querySelector('[role=status]'), { textContent: text, className: kind });
+    const place = Object.assign(form.querySelector('p[role=status]'), { textContent: text, className: kind });
     if (text) place.scrollIntoView({ block: 'nearest' });
 }
 
@@ -53,7 +77,7 @@ function work(job, given, tell) {
 function showProgress({ form }) {
     const [bar, begin, whole] = [form.querySelector('progress'), performance.now(), expected(running)];
     for (const part of form.querySelectorAll('progress, [data-stop]')) part.hidden = false;
-    say(form, whole ? `Hashing, which takes about ${shown(whole)}.` : 'Hashing.');
+    say(form, whole ? `Hashing takes ${about(whole)}.` : 'Hashing.');
     running.ticks = setInterval(() => { bar.value = whole ? Math.min(0.99, (performance.now() - begin) / whole) : 0; }, 50);
 }
 
@@ -68,19 +92,46 @@ function end(text, kind) {
     running = undefined;
 }
 
-// What the fields of a form give to its job: of a stored hash not the blanks around it.
+// Shows a new hash as the place wants it that it is for, or nothing where there is no hash.
+function showMade() {
+    const [form, name] = [valueOf('place'), element('name')];
+    element('made').hidden = !made;
+    element('named').hidden = !form.includes('{name}');
+    const named = form.replace('{name}', name.validity.valid ? name.value : 'NAME');
+    element('snippet').textContent = named.replace('{hash}', () => made ?? '');
+    element('made').querySelector('[role=status]').textContent = '';
+}
+
+// The hash in a stored field, or in a line of /etc/shadow or of an htpasswd file between its first two colons, without blanks.
+const hashIn = (line) => (line.includes(':') ? line.split(':')[1] : line).trim();
+
+// Takes a line with a hash apart.
+function takeApart() {
+    const [line, hash] = [valueOf('stored'), hashIn(valueOf('stored'))];
+    if (!line.includes(':') || !hash) return;
+    element('stored').value = hash;
+    element('stored-note').textContent = `From the line of ${line.split(':')[0]}.`;
+}
+
+// What the fields of a form give to its job.
 const given = {
     make: () => ({ password: valueOf('password'), method: valueOf('method'), rounds: Number(valueOf('rounds')) }),
-    check: () => ({ password: valueOf('guess'), stored: valueOf('stored').trim(), budget: Number(valueOf('budget')) }),
+    check() {
+        takeApart();
+        return { password: valueOf('guess'), stored: hashIn(valueOf('stored')), budget: Number(valueOf('budget')) };
+    },
 };
 
 // Runs a form's job and shows what it reports.
 function start(form) {
-    const [values, isNew] = [given[form.id](), form.id === 'make'];
-    element('made').hidden ||= isNew;
-    if (isNew && !element('repeat').disabled && valueOf('repeat') !== values.password) {
-        element('repeat').focus();
-        return say(form, 'The two passwords differ.', 'refused');
+    const values = given[form.id]();
+    if (form.id === 'make') {
+        made = undefined;
+        showMade();
+        if (!element('repeat').disabled && valueOf('repeat') !== values.password) {
+            element('repeat').focus();
+            return say(form, 'The two passwords differ. Type them again, or show the first.', 'refused');
+        }
     }
     running = { form, method: values.method ?? METHODS[values.stored[1]], stored: values.stored };
     running.worker = work(form.id, values, ({ cost, isLast, ...result }) => {
@@ -98,38 +149,91 @@ function flaw(stored) {
     return length > LENGTHS[method] ? `too long: ${length} characters in place of ${LENGTHS[method]}` : 'damaged';
 }
 
+// What a field is that has the prefix of no method here.
+function otherScheme(stored) {
+    const [, dollars, id, braces] = stored.match(/^(\$(\w+)[$,])|^({[\w-]+})/) ?? [];
+    const prefix = braces ?? (dollars && `$${id}$`);
+    const name = OTHERS[prefix] ?? (/^[./0-9A-Za-z]{13}$/.test(stored) ? 'descrypt' : prefix && 'another scheme');
+    if (!name) return `${stored.slice(0, 20)}${stored.length > 20 ? '…' : ''} is no hash. Paste a hash, or its whole line.`;
+    return `${prefix ?? 'This'} is ${name}, which can’t be checked here. `
+        + (name === 'scrypt' ? 'Give the line to mkpasswd --check.' : 'Log in on the system that stored it.');
+}
+
+// Why a password was neither hashed nor checked, and what to do next.
+function refusal({ reason, message }) {
+    const { cost, stored } = running;
+    if (stored && !/^\$[156]\$/.test(stored) && /REFUSED_(?!PASSWORD)/.test(reason)) return otherScheme(stored);
+    if (reason !== 'MKPASSWD_OVER_BUDGET') return SENTENCES[reason] ?? `${message[0].toUpperCase()}${message.slice(1)}.`;
+    const time = expected(running);
+    return `Checking this hash can take ${time ? about(time) : 'long'}, so it was refused. `
+        + `If you trust it, raise the budget to ${cost}.`;
+}
+
 // Shows what a job has come to: a hash, whether a password matches, or why neither.
-function tellResult({ text, fits, isDead, reason, message, time }) {
-    const what = text ? 'Made' : fits ? 'The password matches'
-        : isDead ? `This hash is ${flaw(running.stored)}. No password matches it` : 'The password does not match';
-    const [why, whole] = [MORE[reason] ? `: ${MORE[reason]}` : '', expected(running)];
-    const takes = !message ? `, ${shown(time)}` : whole ? `, which takes about ${shown(whole)}` : '';
-    const price = !message || reason === 'MKPASSWD_OVER_BUDGET' ? ` Cost: ${running.cost} bytes${takes}.` : '';
-    if (text) {
-        for (const place of document.querySelectorAll('.hash')) place.textContent = text;
-        for (const place of document.querySelectorAll('#made [role=status]')) place.textContent = '';
-        element('made').hidden = false;
+function tellResult({ text, fits, isDead, time, ...refused }) {
+    element('more').open ||= refused.reason === 'MKPASSWD_OVER_BUDGET';
+    const answer = refused.message ? refusal(refused) : text ? `Made in ${took(time)}.`
+        : isDead ? `This hash is ${flaw(running.stored)}. No password matches it: copy it again, or set a new password.`
+            : `The password ${fits ? 'matches' : 'does not match'}. Checked in ${took(time)}.`;
+    end(answer, text || fits ? 'good' : 'refused');
+    if (!text) return;
+    made = text;
+    showMade();
+    element('made').scrollIntoView({ block: 'nearest' });
+}
+
+// Shows or hides a password. One that can be seen needn't be typed twice.
+function show(id, isShown) {
+    element(id).type = isShown ? 'text' : 'password';
+    document.querySelector(`[data-show=${id}]`).firstChild.data = isShown ? 'Hide' : 'Show';
+    if (id !== 'password') return;
+    Object.assign(element('repeat'), { disabled: isShown, placeholder: isShown ? 'Not needed while it is shown' : '' });
+}
+
+// 20 characters, each as probable as any other: bytes from 248, four times their number, are left out.
+function generated() {
+    let text = '';
+    while (text.length < 20) {
+        const [byte] = crypto.getRandomValues(new Uint8Array(1));
+        if (byte < 248) text += CHARACTERS[byte % 62];
     }
-    end(`${message ? message + why : what}.${price}`, text || fits ? 'good' : 'refused');
+    return text;
 }
 
 const clicks = {
     stop: () => end('Stopped.'),
-    show(button, id) {
-        const isShown = element(id).type === 'password';
-        element(id).type = isShown ? 'text' : 'password';
-        button.setAttribute('aria-pressed', isShown);
-        if (id === 'password') element('repeat').disabled = isShown;
+    show: (_, id) => show(id, element(id).type === 'password'),
+    generate(_, id) {
+        element(id).value = generated();
+        show(id, true);
+        element(id).dispatchEvent(new Event('input', { bubbles: true }));
+        element('generated').hidden = false;
+        const place = element('generated').querySelector('[role=status]');
+        Object.assign(place, { textContent: '20 random characters.', className: '' });
     },
     copy(button, id) {
-        getSelection().selectAllChildren(element(id));
-        button.nextElementSibling.textContent = document.execCommand('copy') ? 'Copied.' : 'Selected: copy it with Ctrl+C.';
+        const [copied, name, place] = [element(id), element('name'), button.nextElementSibling];
+        if (id === 'snippet' && !element('named').hidden && !name.validity.valid) {
+            name.focus();
+            const textContent = name.value ? 'A name has letters, digits and _.@-' : 'First type the user’s name.';
+            return Object.assign(place, { textContent, className: 'refused' });
+        }
+        if (id === 'snippet') getSelection().selectAllChildren(copied);
+        else copied.select();
+        const isCopied = document.execCommand('copy');
+        if (isCopied) {
+            getSelection().removeAllRanges();
+            button.focus();
+        }
+        return Object.assign(place, isCopied ? { textContent: 'Copied.', className: 'good' }
+            : { textContent: 'It is selected: press Ctrl+C.', className: '' });
     },
 };
 document.addEventListener('click', ({ target }) => {
     const button = target.closest('button');
     for (const [name, value] of Object.entries(button?.dataset ?? {})) clicks[name](button, value);
 });
+element('made').addEventListener('input', showMade);
 
 for (const form of document.forms) {
     form.addEventListener('submit', (event) => {
@@ -137,19 +241,25 @@ for (const form of document.forms) {
         if (!running) start(form);
         else if (running.form !== form) say(form, 'The other form is hashing: wait, or stop it.', 'refused');
     });
-    form.addEventListener('input', () => {    // what was told is no longer of what stands in the fields
+    form.addEventListener('input', ({ target, inputType }) => {    // what was told is no longer of what stands in the fields
         tellEstimate();
+        if (target.id === 'password') element('generated').hidden = true;
+        if (target.id === 'stored') element('stored-note').textContent = storedNote;
+        if (target.id === 'stored' && (inputType ?? 'insertFromScript').startsWith('insertFrom')) takeApart();
         if (running?.form === form) end('Stopped.');
         else say(form, '');
-        element('made').hidden ||= form.id === 'make';
+        if (form.id !== 'make') return;
+        made = undefined;
+        showMade();
     });
+    form.addEventListener('invalid', ({ target }) => { element('more').open ||= element('more').contains(target); }, true);
 }
 
 // Shows the forms, or why the module doesn't run here.
-function showForms(refusal) {
-    for (const form of document.forms) form.hidden = Boolean(refusal);
-    element('unsupported').hidden = !refusal;
-    element('unsupported').querySelector('span').textContent = `a worker with WebAssembly (${refusal})`;
+function showForms(refused) {
+    for (const form of document.forms) form.parentNode.hidden = Boolean(refused);
+    element('unsupported').hidden = !refused;
+    element('unsupported').querySelector('span').textContent = `a worker with WebAssembly (${refused})`;
 }
 
 // Measures methods, one after another.
