@@ -138,7 +138,7 @@ subtest 'a worker that is killed' => sub {
     is_deeply($told->{failed}, [$yes], 'fails its own call');
     is($told->{matched}, 3 * $told->{cores} - 1, 'the others are answered');
     is_deeply($told->{later}, [{ matches => $yes }, $no], 'and later ones');
-    cmp_ok($told->{workers}, '<=', $told->{cores} + 1, 'there is at most one for each core, and one for the killed one');
+    cmp_ok($told->{workers}, '<=', $told->{cores} + 1, 'there is at most one for each core, and one more after the killed one');
     is_deeply($told->{refused}, ['MKPASSWD_OVER_BUDGET', ('TypeError') x 3], 'refusals are errors of the call');
 };
 

@@ -8,7 +8,6 @@ use lib "$Bin/lib";
 use Browsers;
 use JSON::PP qw(decode_json encode_json);
 use Suite;
-use Texts;
 
 my ($page, $module) = map { "$root/build/mkpasswd.$_" } qw(html mjs);
 needs('build/mkpasswd.html' => 'binaryen', -e $page) or do { done_testing; exit };
@@ -148,6 +147,33 @@ my @unable = map { "$scratch/without-$_.html" } qw(WebAssembly script);
 spew($unable[0], slurp($page) =~ s/ 'wasm-unsafe-eval'//r);
 spew($unable[1], slurp($page) =~ s/script-src [^;]*/script-src 'none'/r);
 
+# mkpasswd.mjs in one file with a script that calls it, whose title becomes what it was told.
+my $bundle = "$scratch/bundle.html";
+spew($bundle, <<'BEGIN' . slurp($module) . <<'END');
+<!DOCTYPE html><meta charset="utf-8"><title>bundle</title>
+<meta http-equiv="Content-Security-Policy" content="default-src 'none'; script-src 'unsafe-inline' 'wasm-unsafe-eval'; worker-src blob:">
+<script type="module">
+BEGIN
+async function visit() {
+    const policy = new Policy({ rounds: 1234 });
+    const stored = await policy.hashAsync('password');
+    const old = '$1$xxxxxxxx$UYCIxa628.9qXjpQCjM4a.';
+    const logins = [['password', stored], ['passwort', stored], ['password', null], ['password', old]];
+    const results = await Promise.all(logins.map((login) => policy.loginAsync(...login)));
+    const refused = await policy.hashAsync('x\0').catch(({ reason }) => reason);
+    return { stored, results, renewed: results[3].new, refused };
+}
+document.title = JSON.stringify(await visit().catch(String));
+</script>
+END
+my $title = <<'END';
+const title = async () => {
+    while (document.title === 'bundle') await new Promise((next) => setTimeout(next, 20));
+    return document.title;
+};
+if (document.querySelector('script[type=module]')) return title();
+END
+
 for my $name (sort keys %browsers) {
     subtest $name => sub {
         my ($needed, $open) = @{ $browsers{$name} };
@@ -155,11 +181,18 @@ for my $name (sort keys %browsers) {
         my $server = started("$scratch/$name.server", qw(python3 -u -m http.server PORT --bind 127.0.0.1 --directory), "$root/build");
         my %salts;
         my %value = (SERVER => $server, ROWS => $asked);
-        my $script = slurp("$root/tests/web/page.js") =~ s/@(\w+)@/$value{$1}/gr;
-        my @addresses = ("$server/mkpasswd.html", map { "file://$_" } $page, @unable);
+        my $script = $title . slurp("$root/tests/web/page.js") =~ s/@(\w+)@/$value{$1}/gr;
+        my @addresses = ("$server/mkpasswd.html", map { "file://$_" } $page, @unable, $bundle);
         visit("$scratch/$name", $open, $script, @addresses);
         needs("$name, started," => join(', ', sort values %$needed), -e "$scratch/$name") or return;
         my @told = map { decode_json($_) } split /\n/, slurp("$scratch/$name") or return fail("$name answers in five minutes");
+        my $logins = pop @told;
+        ref $logins or return fail("$bundle: $logins");
+        my ($no, $matches) = (JSON::PP::false, { matches => JSON::PP::true });
+        is_deeply($logins->{results}, [$matches, $no, $no, $matches], 'logins by workers of mkpasswd.mjs');
+        my @new = @$logins{qw(stored renewed)};
+        is_deeply([map { crypt 'password', $_ } @new], \@new, 'libcrypt makes the same hashes');
+        is($logins->{refused}, 'MKPASSWD_REFUSED_PASSWORD_ZERO_BYTE', 'and what they refuse');
         for my $address (@addresses[0, 1]) {
             my $told = shift @told;
             ref $told or return fail("$address: $told");

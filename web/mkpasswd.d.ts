@@ -84,8 +84,8 @@ export class Policy {
     login(password: Text, field: Text | null | undefined): Verdict;
 
     /**
-     * The same in a worker, so a server goes on. There is at most one for each core; other calls wait. If the worker
-     * ends early, the promise is rejected.
+     * The same in a worker, so a server goes on. There are as many as cores, but for one that is left to the server, and at
+     * least one; further calls wait. If a worker dies, its call's promise is rejected.
      */
     loginAsync(password: Text, field: Text | null | undefined): Promise<Verdict>;
 

@@ -18,11 +18,11 @@ async function inWorker(name, given) {
     return ask({ name, given });
 }
 
-// Returns a call that has a worker make each call, in turn. There is at most a worker for each core. An idle one doesn't keep
-// node running. One that dies fails its own call, and the next call starts another.
+// Returns a call that has a worker make each call, in turn. There are at most as many workers as cores, but for the caller's
+// one. An idle worker doesn't keep node running. One that dies fails its own call, and the next call starts another.
 async function startPool() {
-    const { most, start } = await (globalThis.process?.versions?.node ? nodeWorkers() : webWorkers());
-    const [idle, waiting] = [[], []];
+    const { cores, start } = await (globalThis.process?.versions?.node ? nodeWorkers() : webWorkers());
+    const [most, idle, waiting] = [Math.max(1, cores - 1), [], []];
     let count = 0;
 
     function distribute() {
@@ -65,7 +65,7 @@ async function startPool() {
     });
 }
 
-// How many workers there may be, and a call that starts one, which tells its answers and its end.
+// The number of cores, and a call that starts a worker, which tells its answers and its end.
 const HASHER = @HASHER@;
 const ENDED = 'the worker that made this call has ended';
 async function nodeWorkers() {
@@ -76,7 +76,7 @@ async function nodeWorkers() {
     const options = { eval: true, execArgv: [], env: {} };
     const start = (tell, end) => new Worker(HASHER, options)
         .on('message', tell).on('error', end).on('exit', () => end(new Error(ENDED)));
-    return { most: os.availableParallelism(), start };
+    return { cores: os.availableParallelism(), start };
 }
 function webWorkers() {
     const url = URL.createObjectURL(new Blob([HASHER], { type: 'text/javascript' }));
@@ -84,7 +84,7 @@ function webWorkers() {
         onmessage: ({ data }) => tell(data),
         onerror: ({ message }) => end(new Error(message ?? ENDED)),
     });
-    return { most: navigator.hardwareConcurrency ?? 1, start };
+    return { cores: navigator.hardwareConcurrency ?? 1, start };
 }
 
 // ---- Refusals
