@@ -66,6 +66,8 @@ def arguments(words):
     parser.parse_args(words[bool(command):], options)
     if options.resume and not options.out or options.out and command == "check" and not options.rehash:
         error("--resume goes with -o, and -o of check with --rehash")
+    if len(options.delimiter) != 1:
+        error(f"--delimiter {options.delimiter}: give one character, such as ';'")
     for path, wanted in [(options.out, False), (f"{options.out}.part", options.resume)] if options.out else []:
         if os.path.lexists(path) != wanted:
             other = "name another file after -o" if path == options.out else "add --resume"

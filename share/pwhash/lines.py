@@ -1,6 +1,4 @@
-"""Lines that come in, with their numbers, lines that go out, and what people see on the terminal.
-
-Lines are bytes, since names and passwords have no encoding."""
+"""Lines that come in and go out, as bytes, since names and passwords have no encoding, and what the terminal shows."""
 import contextlib, csv, itertools, os, re, select, stat, time
 
 LONGEST = 2050      # bytes of a line: what mkpasswd takes, what is too much, and a carriage return

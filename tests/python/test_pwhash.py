@@ -213,6 +213,7 @@ def test_windows_and_tables(place):
     assert run("file", *QUICK, "bare.csv", "--csv", "--columns", "1,2") == (0, expected, b"")
     status, _, err = run("file", *QUICK, "bare.csv", "--csv")
     assert status == 2 and b"--columns" in err and b"password\"" not in err
+    assert run("file", *QUICK, "excel.csv", "--csv", "--delimiter", ";;")[0] == 2
     for text in b'name,password\n"a:b",x\n', b'name,password\na,"x\ny"\n', b'name,password\n"a,x\n':
         assert run("file", *QUICK, "--csv", save("bad.csv", text))[0] == 3
 
