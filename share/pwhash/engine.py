@@ -63,7 +63,8 @@ class Engine:
             raise Stop(f"{said} (its arguments: {' '.join(self.command[2:])}).", 2)
         if code not in (0, 1) or rest or len(answers) != len(block.lines):
             at = block.numbers[min(len(answers), len(block.lines) - 1)]
-            raise Stop(f"mkpasswd ended with status {code} near line {at}, and said last: {said}")
+            how = f"status {code}, and said {said or 'nothing'}" if code >= 0 else f"signal {-code}"
+            raise Stop(f"mkpasswd ended near line {at} with {how}.")
         block.answers, block.refusals = answers, {}      # refusals by place
         for place, (line, answer) in enumerate(zip(block.lines, answers)):
             name, colon, verdict = answer.partition(b":")

@@ -207,6 +207,8 @@ def test_windows_and_tables(place):
     save("windows", b"\xef\xbb\xbfann:password\r\nbob:password\r\n")
     save("excel.csv", b'\xef\xbb\xbfRoom;Password;Name\r\n1;"password";ann\r\n\r\n2;password;bob\r\n')
     save("bare.csv", b"ann,password\nbob,password\n")
+    save("spanish.csv", "Usuario,Contraseña\nann,password\nbob,password\n".encode())
+    assert run("file", *QUICK, "spanish.csv", "--csv", "--columns", "usuario,contraseña") == (0, expected, b"")
     assert run("file", *QUICK, "windows")[0] == 1
     assert run("file", *QUICK, "windows", "--windows") == (0, expected, b"")
     assert run("file", *QUICK, "excel.csv", "--csv", "--delimiter", ";") == (0, expected, b"")
