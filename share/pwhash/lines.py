@@ -56,8 +56,8 @@ class Source:
         try:
             rows.fieldnames = [each.strip().lower() for each in rows.fieldnames or ()]
             if [each for each in columns if rows.fieldnames.count(each) != 1]:      # what the row has may be a password
-                raise Stop(f"the first row of {self.name} doesn't have each of {self.options.columns} once. Name those it "
-                           "has, --columns user,secret; in a table without names, --columns 1,2. See --delimiter.", 2)
+                raise Stop(f"the first row of {self.name} doesn't have each of {self.options.columns} once. Name those "
+                           "it has, --columns user,secret; if it has no names, --columns 1,2. See --delimiter.", 2)
             for row in rows:
                 fields = [row[each] for each in columns if row[each] is not None]
                 if ":" in "".join(fields[:1]) or "\n" in "".join(fields):
