@@ -15,7 +15,6 @@ FORMS = {      # all that mkpasswd can write behind a name
                rb"locked|none|(?:[A-Za-z0-9-]+:)?unknown|malformed:[a-z ]+|no scheme"}
 processes = set()      # those that run
 
-@functools.lru_cache()
 def find_mkpasswd():
     """The proved program, beside this one or on the PATH. The package whois has another of this name."""
     folders, others = [os.path.join(os.path.dirname(os.path.realpath(__file__)), "../../bin"), *os.get_exec_path()], ""

@@ -176,6 +176,22 @@ def test_streams(place):
     assert child.wait() == 0
 
 
+def test_slow_reader(place):
+    """While nobody takes its answers it reads no further, so its memory doesn't grow."""
+    child = subprocess.Popen(["bin/pwhash", "check"], stdin=subprocess.PIPE, stdout=subprocess.PIPE, bufsize=0)
+    os.set_blocking(child.stdin.fileno(), False)
+    written = waited = 0
+    while waited < 2 and written < 1 << 26:
+        try:
+            written, waited = written + os.write(child.stdin.fileno(), b"ann:!:x\n" * 1000), 0
+        except BlockingIOError:
+            time.sleep(0.02)
+            waited += 0.02
+    child.kill()
+    child.communicate()
+    assert written < 1 << 26
+
+
 def test_look_first(place):
     lines = b"ann:x\nbob:\n:secret\nnameless secret\ncarl:x\r\nann:y\n \xff:z\nlong:" + b"p" * 300 + b"\n"
     status, out, err = run("file", *SALTED, "--budget", "3000000", save("lines", lines), "-o", "out")
