@@ -23,7 +23,7 @@ OPTIONS = {      # of argparse: the words, the default, what a value is called o
     "delimiter": ("--delimiter", ",", "C", "what is between its columns; by default a comma"),
     "skip_refused": ("--skip-refused", False, None, "leave out lines that mkpasswd refuses"),
     "accept_doubtful": ("--accept-doubtful", False, None, "take lines as they are, even with empty passwords"),
-    "service": ("--for", None, [each for each in tasks.SERVICES if each], "doubt names that it takes for others"),
+    "service": ("--for", None, list(tasks.SERVICES), "doubt names that it takes for others"),
     "shadow": ("--shadow", None, "FIELDS", "lines are name:password; the hashes are in the file FIELDS"),
     "rehash": ("--rehash", False, None, "renew outdated hashes of right passwords; with -o for chpasswd -e"),
     "target": ("--for", None, [each for each in tasks.PLACES if each], "print its line; htpasswd serves chpasswd -e"),
@@ -66,9 +66,11 @@ def arguments(words):
     parser.parse_args(words[bool(command):], options)
     if options.resume and not options.out or options.out and command == "check" and not options.rehash:
         error("--resume goes with -o, and -o of check with --rehash")
+    if len(options.delimiter) != 1:
+        error(f"--delimiter {options.delimiter}: give one character, such as ';'")
     for path, wanted in [(options.out, False), (f"{options.out}.part", options.resume)] if options.out else []:
         if os.path.lexists(path) != wanted:
-            other = "name another file after -o" if path == options.out else "add --resume"
+            other = "name another file after -o" if path == options.out or command == "check" else "add --resume"
             error(f"there is no {path} to go on with: leave out --resume" if wanted else
                   f"{path} is there already: remove it, or {other}")
     least, usual, most = ROUNDS.get(options.method) or error(f"-m {options.method}: choose {', '.join(ROUNDS)}")

@@ -15,7 +15,6 @@ FORMS = {      # all that mkpasswd can write behind a name
                rb"locked|none|(?:[A-Za-z0-9-]+:)?unknown|malformed:[a-z ]+|no scheme"}
 processes = set()      # those that run
 
-@functools.lru_cache()
 def find_mkpasswd():
     """The proved program, beside this one or on the PATH. The package whois has another of this name."""
     folders, others = [os.path.join(os.path.dirname(os.path.realpath(__file__)), "../../bin"), *os.get_exec_path()], ""
@@ -52,7 +51,7 @@ class Engine:
         return types.SimpleNamespace(numbers=numbers, lines=lines, process=process, said=said)
 
     def answered(self, block):
-        """Waits for a mkpasswd, and gives its block the answers."""
+        """Waits for a mkpasswd, and gives its block the answers. Whatever is no answer to its line ends the run."""
         _, status, used = os.wait4(block.process.pid, 0)
         code = block.process.returncode = os.waitstatus_to_exitcode(status)
         processes.discard(block.process)
@@ -63,31 +62,26 @@ class Engine:
             raise Stop(f"{said} (its arguments: {' '.join(self.command[2:])}).", 2)
         if code not in (0, 1) or rest or len(answers) != len(block.lines):
             at = block.numbers[min(len(answers), len(block.lines) - 1)]
-            raise Stop(f"mkpasswd ended with status {code} near line {at}, and said last: {said}")
-        block.answers, block.refusals = answers, self.refusals(block, answers)
-        self.bad |= code == 1 or bool(block.refusals)
-        growth = min(64, SECONDS / max(used.ru_utime + used.ru_stime, 1e-3))
-        self.size = max(1, min(MOST, int(len(answers) * growth)))
-        return block
-
-    def refusals(self, block, answers):
-        """The refusals by place. Whatever is no answer to its line ends the run."""
-        refusals, first = {}, block.numbers[0]
+            how = f"status {code}, and said {said or 'nothing'}" if code >= 0 else f"signal {-code}"
+            raise Stop(f"mkpasswd ended near line {at} with {how}.")
+        block.answers, block.refusals = answers, {}      # refusals by place
         for place, (line, answer) in enumerate(zip(block.lines, answers)):
             name, colon, verdict = answer.partition(b":")
             if name and line.startswith(name + colon) and self.is_answer(verdict):
                 continue
             refusal, number = REFUSAL.fullmatch(answer), block.numbers[place]
-            if not refusal or int(refusal[1]) != first + place:
+            if not refusal or int(refusal[1]) != block.numbers[0] + place:
                 raise Stop(f"line {number} got no answer of its own: {readable(answer[:200])}")
-            refusals[place] = refusal[2].decode()
+            block.refusals[place] = refusal[2].decode()
             answers[place] = b"mkpasswd: line %d: %b" % (number, refusal[2])
-        return refusals
+        self.bad |= code == 1 or bool(block.refusals)
+        growth = min(64, SECONDS / max(used.ru_utime + used.ru_stime, 1e-3))
+        self.size = max(1, min(MOST, int(len(answers) * growth)))
+        return block
 
     def answers(self, pieces, total=0):
         """Gives blocks with their answers, in order, as soon as they are there. pieces gives numbers and lines, or none
-        where they come slowly. If their total is known, the last blocks are smaller, so that all processes end at once.
-        """
+        where they come slowly. If their total is known, the last blocks are smaller, so that processes end at once."""
         order, most = collections.deque(), 2 * self.jobs      # all processors work while the first block is waited for
         for numbers, lines in pieces:
             while lines:

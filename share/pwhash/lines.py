@@ -1,9 +1,7 @@
-"""Lines that come in, with their numbers, lines that go out, and what people see on the terminal.
-
-Lines are bytes, since names and passwords have no encoding."""
+"""Lines that come in and go out, as bytes, since names and passwords have no encoding, and what the terminal shows."""
 import contextlib, csv, itertools, os, re, select, stat, time
 
-LONGEST = 2050      # bytes of a line: what mkpasswd takes, what is too much, and a carriage return
+LONGEST = 1 << 17      # bytes of a line: more than mkpasswd or csv takes
 MARK = b"\xef\xbb\xbf"
 
 def some_at_a_time(pairs):
@@ -27,10 +25,10 @@ class Source:
         """Numbers and lines, some at a time, from the beginning; none where they come slowly."""
         if self.options.csv:
             return some_at_a_time(self.rows())
-        lines = self.whole_lines(self.options.windows, LONGEST)
+        lines = self.whole_lines(self.options.windows)
         return self.with_fields(lines) if self.options.shadow else lines
 
-    def whole_lines(self, windows, longest):
+    def whole_lines(self, windows):
         """Lines as they come, of a long one only what makes it too long."""
         if self.regular:
             os.lseek(self.fd, self.start, os.SEEK_SET)
@@ -47,24 +45,24 @@ class Source:
             if self.options.locked:      # without what is in front of a locked hash
                 lines = [re.sub(rb"^([^:]*:)[!*]+(?=\$)", rb"\1", line) for line in lines]
             yield range(number, number + len(lines)), lines
-            number, rest = number + len(lines), rest[:longest]
+            number, rest = number + len(lines), rest[:LONGEST]
 
     def rows(self):
         """Rows of a table as numbers and lines `name:password`."""
-        texts = (line.decode("latin-1") + "\n" for _, lines in self.whole_lines(True, 1 << 17) for line in lines)
-        columns = self.options.columns.lower().split(",")
+        texts = (line.decode("latin-1") + "\n" for _, lines in self.whole_lines(True) for line in lines)
+        columns = os.fsencode(self.options.columns).decode("latin-1").lower().split(",")
         numbers = [str(each) for each in range(1, 1000)] if columns[0].isdecimal() else None
         rows = csv.DictReader(texts, numbers, delimiter=self.options.delimiter, strict=True)
         try:
             rows.fieldnames = [each.strip().lower() for each in rows.fieldnames or ()]
             if [each for each in columns if rows.fieldnames.count(each) != 1]:      # what the row has may be a password
-                raise Stop(f"the first row of {self.name} doesn't have each of {','.join(columns)} once. Name those it "
-                           "has, --columns user,secret; in a table without names, --columns 1,2. See --delimiter.", 2)
+                raise Stop(f"the first row of {self.name} doesn't have each of {self.options.columns} once. Name those "
+                           "it has, --columns user,secret; if it has no names, --columns 1,2. See --delimiter.", 2)
             for row in rows:
                 fields = [row[each] for each in columns if row[each] is not None]
                 if ":" in "".join(fields[:1]) or "\n" in "".join(fields):
                     raise Stop(f"{self.name}, line {rows.line_num}: a colon in a name, or a line feed in a field.")
-                yield rows.line_num, ":".join(fields)[:LONGEST].encode("latin-1")
+                yield rows.line_num, ":".join(fields).encode("latin-1")
         except csv.Error as error:
             raise Stop(f"{self.name}, line {rows.line_num}: this is not CSV: {error}.") from None
 

@@ -9,8 +9,7 @@ PLACES = {      # what --for prints for one hash; those with a name need --name
     "cloud-init": "#cloud-config\nusers:\n  - name: {name}\n    lock_passwd: false\n    hashed_passwd: {hash}",
     "ansible": 'password: "{hash}"', "htpasswd": "{name}:{hash}", "shadow": "{name}:{hash}:{day}:0:99999:7:::"}
 SERVICES = {    # the names that each service reads as they are
-    "apache": rb"[^#\s\0-\x1f\x7f][^\0-\x1f\x7f]*", "dovecot": rb"[a-z0-9_.@-]+", "ldap": rb"[a-z0-9_-]+",
-    None: rb"(?s).*"}
+    "apache": rb"[^#\s\0-\x1f\x7f][^\0-\x1f\x7f]*", "dovecot": rb"[a-z0-9_.@-]+", "ldap": rb"[a-z0-9_-]+"}
 SERVICES["nginx"] = SERVICES["apache"]
 
 def new_password(options):
@@ -33,8 +32,7 @@ def one(options):
         raise Stop(f"--for {options.target} needs a name of letters and digits, such as --name ann.", 2)
     engine, password = Engine("--batch", options.words), new_password(options)
     if not password or password.endswith(b"\r"):
-        raise Stop("the password ends with a carriage return, as lines of Windows do. Remove it." if password else
-                   "the password is empty, so Return alone would log in. Give at least one character.", 2)
+        raise Stop("the password is empty, or ends with a carriage return as lines of Windows do. Give another.", 2)
     [block] = engine.answers([([1], [b"x:" + password])])
     if block.refusals:
         raise Stop(f"{block.refusals[0]}. Give at most 1,024 bytes, none of them zero, or for more cost a --budget.", 2)
@@ -70,7 +68,7 @@ def look(source, options, engine):
             if reason != "over budget":
                 tell(number, line, reason, refused)
                 continue
-            for reason in doubts(number, name, password, names, SERVICES[options.target]):
+            for reason in doubts(number, name, password, names, SERVICES.get(options.target, rb"(?s).*")):
                 tell(number, line, reason, doubtful)
             by_length.setdefault(len(password), []).append((number, line))
             names.add(name)
@@ -150,16 +148,13 @@ def accepted(block):
 
 def check(options):
     """Checks lines name:field:password, where the field is what is stored: a hash, ! or nothing."""
-    source, engine, made = Source(options), Engine("--check", options.words), []
-    for block in progress(engine.answers(source.lines(), source.total), "checking", source.total):
-        answers = accepted(block)
-        if options.out:
-            made += [answer.replace(b":ok:", b":", 1) for answer in answers if b":ok:$" in answer]
-        else:
-            write(1, answers)
-    if options.out:
-        with output(options, source) as fd:
-            write(fd, made)
+    source, engine = Source(options), Engine("--check", options.words)
+    with output(options, source) as fd:
+        for block in progress(engine.answers(source.lines(), source.total), "checking", source.total):
+            answers = accepted(block)
+            if options.out:      # new hashes alone
+                answers = [answer.replace(b":ok:", b":", 1) for answer in answers if b":ok:$" in answer]
+            write(fd, answers)
     if source.absent:
         say(f"{source.absent:,} lines of {source.name} have no account in {options.shadow}.")
     return engine.bad

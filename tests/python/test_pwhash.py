@@ -176,6 +176,22 @@ def test_streams(place):
     assert child.wait() == 0
 
 
+def test_slow_reader(place):
+    """While nobody takes its answers it reads no further, so its memory doesn't grow."""
+    child = subprocess.Popen(["bin/pwhash", "check"], stdin=subprocess.PIPE, stdout=subprocess.PIPE, bufsize=0)
+    os.set_blocking(child.stdin.fileno(), False)
+    written = waited = 0
+    while waited < 2 and written < 1 << 26:
+        try:
+            written, waited = written + os.write(child.stdin.fileno(), b"ann:!:x\n" * 1000), 0
+        except BlockingIOError:
+            time.sleep(0.02)
+            waited += 0.02
+    child.kill()
+    child.communicate()
+    assert written < 1 << 26
+
+
 def test_look_first(place):
     lines = b"ann:x\nbob:\n:secret\nnameless secret\ncarl:x\r\nann:y\n \xff:z\nlong:" + b"p" * 300 + b"\n"
     status, out, err = run("file", *SALTED, "--budget", "3000000", save("lines", lines), "-o", "out")
@@ -207,12 +223,15 @@ def test_windows_and_tables(place):
     save("windows", b"\xef\xbb\xbfann:password\r\nbob:password\r\n")
     save("excel.csv", b'\xef\xbb\xbfRoom;Password;Name\r\n1;"password";ann\r\n\r\n2;password;bob\r\n')
     save("bare.csv", b"ann,password\nbob,password\n")
+    save("spanish.csv", "Usuario,Contraseña\nann,password\nbob,password\n".encode())
+    assert run("file", *QUICK, "spanish.csv", "--csv", "--columns", "usuario,contraseña") == (0, expected, b"")
     assert run("file", *QUICK, "windows")[0] == 1
     assert run("file", *QUICK, "windows", "--windows") == (0, expected, b"")
     assert run("file", *QUICK, "excel.csv", "--csv", "--delimiter", ";") == (0, expected, b"")
     assert run("file", *QUICK, "bare.csv", "--csv", "--columns", "1,2") == (0, expected, b"")
     status, _, err = run("file", *QUICK, "bare.csv", "--csv")
     assert status == 2 and b"--columns" in err and b"password\"" not in err
+    assert run("file", *QUICK, "excel.csv", "--csv", "--delimiter", ";;")[0] == 2
     for text in b'name,password\n"a:b",x\n', b'name,password\na,"x\ny"\n', b'name,password\n"a,x\n':
         assert run("file", *QUICK, "--csv", save("bad.csv", text))[0] == 3
 
