@@ -38,7 +38,6 @@ COMMANDS = {     # what runs it, its input by default, its options
              "method rounds salt budget quiet"),
     "check": (tasks.check, "-", "shadow rehash out windows method rounds salt budget quiet"),
     "audit": (tasks.audit, "/etc/shadow", "only_problems json locked method rounds budget quiet")}
-
 ROUNDS = {      # of each method: the least, the usual, the most
     **dict.fromkeys(("sha512crypt", "sha256crypt", "md5crypt"), (1000, 656000, 999999999)), "scrypt": (6, 7, 11)}
 SIGNALS = (signal.SIGINT, signal.SIGTERM, signal.SIGHUP)
@@ -79,8 +78,7 @@ def arguments(words):
         if not least <= options.rounds <= most:
             error(f"-R {options.rounds} with -m {options.method} isn't from {least} to {most}, by default {usual}")
         times = 1 << max(0, options.rounds - 7) if most == 11 else max(options.rounds, usual) / usual
-        cost = int((268491592 if most == 11 else 253921472) * times)
-        options.budget = options.budget or cost * (1 + options.rehash)
+        options.budget = options.budget or int((268491592 if most == 11 else 253921472) * times) * (1 + options.rehash)
     values = ((each, getattr(options, each)) for each in ("method", "rounds", "salt", "budget"))
     options.words = [f"--{each}={value}" for each, value in values if value is not None] + ["--rehash"] * options.rehash
     return options
@@ -106,7 +104,7 @@ def end(options, text, status=3):
         os.kill(os.getpid(), -status)
     return status
 
-def main():
+def main(options=None):
     """Runs a command, and returns its status."""
     while os.open("/", os.O_RDONLY) < 3:      # nothing else gets a descriptor that was closed
         pass
@@ -115,7 +113,6 @@ def main():
     for each in SIGNALS:
         if signal.getsignal(each) != signal.SIG_IGN:
             signal.signal(each, interrupt)
-    options = None
     try:
         options = arguments(sys.argv[1:])
         return int(bool(options.run(options)))
@@ -124,7 +121,6 @@ def main():
         return leave.code
     except Stop as stop:
         return end(options, *stop.args)
-    except OSError as error:
-        return end(options, ": ".join(filter(None, [error.filename, error.strerror])) + ".")
     except BaseException as error:
-        return end(options, f"{error!r}.")
+        what = [error.filename, error.strerror] if isinstance(error, OSError) else [repr(error)]
+        return end(options, ": ".join(filter(None, what)) + ".")

@@ -1,7 +1,5 @@
-"""Runs mkpasswd over lines, and takes nothing but its answers to them: each has the name of its line, or the number.
-
-A mkpasswd reads a block of lines from memory and writes into memory, so that nobody waits for room in a pipe. Both of
-its outputs are one, so that there is an answer for each line, in order."""
+"""Runs mkpasswd over blocks of lines, and takes nothing but an answer for each, in order, with its name or its number.
+Blocks and answers are in memory, so that nobody waits for room in a pipe."""
 import collections, fcntl, functools, os, re, subprocess, types
 from lines import Stop, readable
 
@@ -31,14 +29,13 @@ def in_memory(size, data=b""):
     file = open(os.memfd_create("lines", os.MFD_CLOEXEC | os.MFD_ALLOW_SEALING), "w+b")
     file.truncate(size)
     fcntl.fcntl(file, fcntl.F_ADD_SEALS, fcntl.F_SEAL_GROW)
-    file.write(data)
-    file.seek(0)
+    os.pwrite(file.fileno(), data, 0)
     return file
 
 class Engine:
     def __init__(self, mode, words):
-        self.command, self.jobs, self.size = [find_mkpasswd(), mode, *words], len(os.sched_getaffinity(0)), 1
-        self.bad = False      # whether the status is 1
+        self.command, self.jobs = [find_mkpasswd(), mode, *words], len(os.sched_getaffinity(0))
+        self.bad, self.size = False, 1      # whether the status is 1, and the lines of a block
         self.is_answer = functools.lru_cache()(re.compile(FORMS["--rehash" if "--rehash" in words else mode]).fullmatch)
 
     def start(self, numbers, lines):
@@ -80,13 +77,11 @@ class Engine:
         return block
 
     def answers(self, pieces, total=0):
-        """Gives blocks with their answers, in order, as soon as they are there. pieces gives numbers and lines, or none
-        where they come slowly. If their total is known, the last blocks are smaller, so that processes end at once."""
+        """Gives blocks with their answers, in order; the last ones are smaller, so that processes end at once."""
         order, most = collections.deque(), 2 * self.jobs      # all processors work while the first block is waited for
         for numbers, lines in pieces:
             while lines:
-                fair = (total - numbers[0]) // most if total else MOST
-                size = max(1, self.size // 8, min(self.size, fair))
+                size = max(1, self.size // 8, min(self.size, (total - numbers[0]) // most if total else MOST))
                 order.append(self.start(numbers[:size], lines[:size]))
                 numbers, lines = numbers[size:], lines[size:]
                 yield from self.finished(order, most - 1)

@@ -3,6 +3,7 @@ import contextlib, csv, itertools, os, re, select, stat, time
 
 LONGEST = 1 << 17      # bytes of a line: more than mkpasswd or csv takes
 MARK = b"\xef\xbb\xbf"
+shown = False      # whether the terminal shows the progress
 
 def some_at_a_time(pairs):
     """Pairs of a number and a line as numbers and lines."""
@@ -67,8 +68,7 @@ class Source:
             raise Stop(f"{self.name}, line {rows.line_num}: this is not CSV: {error}.") from None
 
     def with_fields(self, pieces):
-        """Lines `name:password` as `name:field:password`, with the fields of a file such as /etc/shadow, if that has
-        the name; without a name, one for each that it has."""
+        """Lines `name:password` as `name:field:password`; one without a name for each field of the file."""
         with open(self.options.shadow, "rb") as file:      # the first line of a name counts
             fields = dict(reversed([line.rstrip(b"\n").split(b":")[:2] for line in file if b":" in line]))
         for numbers, lines in pieces:
@@ -78,8 +78,6 @@ class Source:
             yield from some_at_a_time((number, b"%b:%b:%b" % (each, fields[each], password))
                                       for number, name, password in parts
                                       for each in ([name] if name else reversed(fields)) if each in fields)
-
-shown = False      # whether the terminal shows the progress
 
 class Stop(Exception):
     """Ends the run: a whole sentence, and the status if it isn't 3, or a signal as a negative number."""

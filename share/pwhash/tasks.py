@@ -36,9 +36,8 @@ def one(options):
     [block] = engine.answers([([1], [b"x:" + password])])
     if block.refusals:
         raise Stop(f"{block.refusals[0]}. Give at most 1,024 bytes, none of them zero, or for more cost a --budget.", 2)
-    made = block.answers[0][2:].decode()
-    text = PLACES[options.target].format(name=options.name, hash=made, day=int(time.time() // 86400))
-    write(1, [text.encode()])
+    values = {"name": options.name, "hash": block.answers[0][2:].decode(), "day": int(time.time() // 86400)}
+    write(1, [PLACES[options.target].format(**values).encode()])
 
 def doubts(number, name, password, names, plain):
     """What mkpasswd hashes as it is, and hardly anybody wants."""
@@ -52,9 +51,8 @@ def doubts(number, name, password, names, plain):
     }.items() if is_so]
 
 def look(source, options, engine):
-    """Tells which lines mkpasswd would refuse, whose numbers it returns, and which are doubtful. By a budget of 0 good
-    lines are over budget, without work. Of these the longest are tried with the true budget, down to the first that
-    gets its hash, since shorter passwords cost less."""
+    """Tells which lines mkpasswd would refuse, whose numbers it returns, and which are doubtful. A budget of 0 refuses
+    good lines without work. Of these the longest are tried with the true one, down to the first that gets its hash."""
     names, refused, doubtful, by_length = set(), set(), set(), {}
     def tell(number, line, reason, kind):      # a line without a colon may be a password
         kind.add(number)
@@ -86,10 +84,7 @@ def look(source, options, engine):
 
 @contextlib.contextmanager
 def output(options, source):
-    """Opens OUT.part, for this run alone, which becomes OUT at the end; or without -o gives standard output."""
-    if not options.out:
-        yield 1
-        return
+    """Opens OUT.part, for this run alone, which becomes OUT at the end."""
     options.part = options.out + ".part"
     fd = os.open(options.part, os.O_RDWR | os.O_NOFOLLOW | (0 if options.resume else os.O_CREAT | os.O_EXCL), 0o600)
     try:
@@ -126,7 +121,7 @@ def file(options):
     if options.out and not source.regular:
         raise Stop("-o needs a file, which can be read twice. Give its name, or leave out -o.", 2)
     refused = look(source, options, engine) if source.regular else ()
-    with output(options, source) as fd:
+    with output(options, source) if options.out else contextlib.nullcontext(1) as fd:
         lines = source.lines()
         if source.regular:
             good = (pair for pieces in lines for pair in zip(*pieces) if pair[0] not in refused)
@@ -141,15 +136,14 @@ def file(options):
 
 def accepted(block):
     """The answers without the refusals, which it writes where mkpasswd does."""
-    if not block.refusals:
-        return block.answers
-    write(2, [block.answers[place] for place in block.refusals])
+    if block.refusals:
+        write(2, [block.answers[place] for place in block.refusals])
     return [answer for place, answer in enumerate(block.answers) if place not in block.refusals]
 
 def check(options):
     """Checks lines name:field:password, where the field is what is stored: a hash, ! or nothing."""
     source, engine = Source(options), Engine("--check", options.words)
-    with output(options, source) as fd:
+    with output(options, source) if options.out else contextlib.nullcontext(1) as fd:
         for block in progress(engine.answers(source.lines(), source.total), "checking", source.total):
             answers = accepted(block)
             if options.out:      # new hashes alone
@@ -180,8 +174,8 @@ def judged(number, answer, refusal):
             "cost": cost, "finding": finding, "message": message}
 
 def coloured(finding, text):
-    colour = os.isatty(1) and "NO_COLOR" not in os.environ
-    return (f"\x1b[{FINDINGS[finding][0]}m{text}\x1b[m" if colour else text).encode()
+    in_colour = os.isatty(1) and "NO_COLOR" not in os.environ
+    return (f"\x1b[{FINDINGS[finding][0]}m{text}\x1b[m" if in_colour else text).encode()
 
 def audit(options):
     """Shows what is wrong with stored hashes."""
@@ -193,12 +187,9 @@ def audit(options):
             counts[found["finding"]] += 1
             if options.only_problems and FINDINGS[found["finding"]][0] not in (31, 33):
                 continue
-            if options.json:
-                rows.append(json.dumps(found).encode())
-            else:
-                row = "{name:20}  {method:12}  {rounds:>11}  {finding} {message}".format(**found)
-                rows += [*head, coloured(found["finding"], row.rstrip())]
-                head = []
+            row = "{name:20}  {method:12}  {rounds:>11}  {finding} {message}".format(**found).rstrip()
+            rows += [json.dumps(found).encode()] if options.json else [*head, coloured(found["finding"], row)]
+            head = []
         write(1, rows)
     if not options.json and not (options.only_problems and head):
         rows = [coloured(each, f"{counts[each]:7,} {each:12} {FINDINGS[each][1]}") for each in FINDINGS if counts[each]]
