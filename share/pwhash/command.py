@@ -105,7 +105,6 @@ def end(options, text, status=3):
     return status
 
 def main(options=None):
-    """Runs a command, and returns its status."""
     while os.open("/", os.O_RDONLY) < 3:      # nothing else gets a descriptor that was closed
         pass
     signal.signal(signal.SIGCHLD, signal.SIG_DFL)

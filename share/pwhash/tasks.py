@@ -131,24 +131,24 @@ def file(options):
         for block in progress(engine.answers(lines, source.total), "hashing", source.total):
             if source.regular and block.refusals:
                 raise Stop(f"{source.name} has changed since it was looked at.")
-            write(fd, accepted(block))
+            show(fd, block)
     return engine.bad
 
-def accepted(block):
-    """The answers without the refusals, which it writes where mkpasswd does."""
-    if block.refusals:
-        write(2, [block.answers[place] for place in block.refusals])
-    return [answer for place, answer in enumerate(block.answers) if place not in block.refusals]
+def show(fd, block, new=False):
+    """Writes answers, or of them only new hashes, and refusals where mkpasswd does, in the order of their lines."""
+    begin = 0
+    for place in [*block.refusals, len(block.answers)]:
+        answers = [each for each in block.answers[begin:place] if not new or b":ok:$" in each]
+        write(fd, [each.replace(b":ok:", b":", 1) for each in answers] if new else answers)
+        write(2, block.answers[place:place + 1])
+        begin = place + 1
 
 def check(options):
     """Checks lines name:field:password, where the field is what is stored: a hash, ! or nothing."""
     source, engine = Source(options), Engine("--check", options.words)
     with output(options, source) if options.out else contextlib.nullcontext(1) as fd:
         for block in progress(engine.answers(source.lines(), source.total), "checking", source.total):
-            answers = accepted(block)
-            if options.out:      # new hashes alone
-                answers = [answer.replace(b":ok:", b":", 1) for answer in answers if b":ok:$" in answer]
-            write(fd, answers)
+            show(fd, block, options.out)
     if source.absent:
         say(f"{source.absent:,} lines of {source.name} have no account in {options.shadow}.")
     return engine.bad
