@@ -21,12 +21,12 @@ my %there = (dir => $site, env => { HOME => $scratch, NODE_OPTIONS => undef, NOD
 spew("$site/" . s{.*/}{}r, slurp($_)) for glob "$root/tests/npm/*";
 spew("$site/package.json", '{ "private": true, "type": "module" }');
 
-# What a script of the site prints.
+# What a script of the site prints, if it then ends by itself.
 sub told {
     my ($script, $stdin, @arguments) = @_;
     my $run = run({ %there, stdin => $stdin, timeout => 1500 }, 'node', $script, @arguments);
-    my $told = eval { $json->decode($run->{out}) };
-    return $told // fail("$script: $run->{status} $run->{err}") // {};
+    my $told = $run->{status} == 0 && eval { $json->decode($run->{out}) };
+    return $told || fail("$script: $run->{status} $run->{err}") || {};
 }
 
 subtest 'packed and installed' => sub {

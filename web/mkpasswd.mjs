@@ -94,8 +94,11 @@ export class Refused extends Error {
         super(message);
         this.reason = reason;
     }
+    get name() { return 'Refused'; }
 }
-export class TooCostly extends Refused {}
+export class TooCostly extends Refused {
+    get name() { return 'TooCostly'; }
+}
 
 // Messages that say what is allowed, where mkpasswd's own don't.
 const MESSAGES = {
