@@ -8,7 +8,7 @@ USAGE = """
   pwhash file passwords -o hashes           hash lines name:password, for chpasswd -e
   pwhash audit                              what is wrong with the hashes in /etc/shadow
 
-Hashes are sha512crypt with 656000 rounds. Each command has a --help. pwhash alone has:"""
+Hashes are sha512crypt with 656000 rounds. file, check and audit have a --help each. pwhash alone has:"""
 OPTIONS = {      # of argparse: the words, the default, what a value is called or which there are, and the help
     "method": ("-m --method", "sha512crypt", "TYPE", "sha512crypt (default), sha256crypt, scrypt or md5crypt"),
     "rounds": ("-R --rounds", None, "NUMBER", "from 1000, by default 656k; with scrypt 6 to 11, by default 7"),
@@ -38,8 +38,7 @@ COMMANDS = {     # what runs it, its input by default, its options
              "method rounds salt budget quiet"),
     "check": (tasks.check, "-", "shadow rehash out windows method rounds salt budget quiet"),
     "audit": (tasks.audit, "/etc/shadow", "only_problems json locked method rounds budget quiet")}
-ROUNDS = {      # of each method: the least, the usual, the most
-    **dict.fromkeys(("sha512crypt", "sha256crypt", "md5crypt"), (1000, 656000, 999999999)), "scrypt": (6, 7, 11)}
+ROUNDS = dict.fromkeys(("sha512crypt", "sha256crypt", "md5crypt"), (1000, 656000, 999999999)) | {"scrypt": (6, 7, 11)}
 SIGNALS = (signal.SIGINT, signal.SIGTERM, signal.SIGHUP)
 
 def number(text):
@@ -53,6 +52,8 @@ def arguments(words):
     def error(message):
         raise Stop(f"{message}. See {parser.prog} --help.", 2)
     parser.error = error
+    if not command and words and words[0][:1] != "-":
+        error(f"there is no command {words[0]}: choose file, check or audit")
     if command:
         parser.add_argument("file", nargs="?", default=default, metavar="FILE",
                             help=f"by default {default} (- is standard input)")
@@ -67,11 +68,8 @@ def arguments(words):
         error("--resume goes with -o, and -o of check with --rehash")
     if len(options.delimiter) != 1:
         error(f"--delimiter {options.delimiter}: give one character, such as ';'")
-    for path, wanted in [(options.out, False), (f"{options.out}.part", options.resume)] if options.out else []:
-        if os.path.lexists(path) != wanted:
-            other = "name another file after -o" if path == options.out or command == "check" else "add --resume"
-            error(f"there is no {path} to go on with: leave out --resume" if wanted else
-                  f"{path} is there already: remove it, or {other}")
+    if options.out and os.path.lexists(options.out):
+        error(f"{options.out} is there already, and whole: name another file after -o, or remove it")
     least, usual, most = ROUNDS.get(options.method) or error(f"-m {options.method}: choose {', '.join(ROUNDS)}")
     if command != "audit":      # what mkpasswd takes by itself are fewer rounds, and no budget
         options.rounds = options.rounds or usual
@@ -121,5 +119,5 @@ def main(options=None):
     except Stop as stop:
         return end(options, *stop.args)
     except BaseException as error:
-        what = [error.filename, error.strerror] if isinstance(error, OSError) else [repr(error)]
-        return end(options, ": ".join(filter(None, what)) + ".")
+        path = getattr(error, "filename", None) or options and options.part
+        return end(options, f"{path}: " * bool(path) + f"{getattr(error, 'strerror', None) or repr(error)}.")

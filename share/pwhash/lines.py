@@ -15,12 +15,18 @@ class Source:
         self.options, self.absent, self.total, is_stdin = options, 0, 0, options.file == "-"
         self.name, self.fd = ("standard input", 0) if is_stdin else (options.file, os.open(options.file, os.O_RDONLY))
         self.regular = stat.S_ISREG(os.fstat(self.fd).st_mode)
+        self.begun = self.changed()
         if os.isatty(self.fd):
             say("reading lines from the terminal; Ctrl-D ends them.")
         if self.regular:
             self.start = os.lseek(self.fd, 0, os.SEEK_CUR)
             if not options.quiet:
                 self.total = sum(piece.count(b"\n") for piece in iter(lambda: os.read(self.fd, 1 << 19), b""))
+
+    def changed(self):
+        """When a file was changed last, in nanoseconds."""
+        status = os.fstat(self.fd)
+        return max(status.st_mtime_ns, status.st_ctime_ns) if self.regular else 0
 
     def lines(self):
         """Numbers and lines, some at a time, from the beginning; none where they come slowly."""
@@ -72,7 +78,8 @@ class Source:
         with open(self.options.shadow, "rb") as file:      # the first line of a name counts
             fields = dict(reversed([line.rstrip(b"\n").split(b":")[:2] for line in file if b":" in line]))
         for numbers, lines in pieces:
-            parts = [(number, *line.partition(b":")[::2]) for number, line in zip(numbers, lines)]
+            named = (line if b":" in line else b":" + line for line in lines)      # a word is for every name
+            parts = [(number, *line.partition(b":")[::2]) for number, line in zip(numbers, named)]
             self.absent += sum(name != b"" and name not in fields for _, name, _ in parts)
             yield (), []
             yield from some_at_a_time((number, b"%b:%b:%b" % (each, fields[each], password))
@@ -114,12 +121,14 @@ def clear():
 def progress(blocks, word, total):
     """Gives the blocks, and shows how far they are, in place, at most twice a second."""
     global shown
-    begun, first, wait = time.monotonic(), None, 1
+    begun, first, wait = None, None, 1
     for block in blocks:
         yield block
-        first, done, seconds = first or block.numbers[0], block.numbers[-1], time.monotonic() - begun
+        begun, first, done = begun or time.monotonic(), first or block.numbers[-1], block.numbers[-1]
+        seconds = time.monotonic() - begun
         if total and seconds >= wait and done > first:
             rate, shown, wait = (done - first) / seconds, True, seconds + 0.5
             left = max(0, int((total - done) / rate))
             on_terminal(f"\r{word}: {done:,} of {total:,} lines, {100 * done // total} %, {rate:,.1f} a second, "
                         f"{left // 3600}:{left // 60 % 60:02}:{left % 60:02} left\x1b[K")
+    clear()

@@ -47,17 +47,19 @@ def doubts(number, name, password, names, plain):
         "a byte order mark begins the name; --windows leaves it out": number == 1 and name.startswith(MARK),
         "the name came before": name in names,
         "the service takes the name for another, or skips it": not re.fullmatch(plain, name),
-        "not UTF-8, which terminals send": (name + password).decode(errors="ignore").encode() != name + password,
+        "not UTF-8, which terminals send (see iconv)": (name + password).decode(errors="ignore").encode() != name + password,
     }.items() if is_so]
 
 def look(source, options, engine):
     """Tells which lines mkpasswd would refuse, whose numbers it returns, and which are doubtful. A budget of 0 refuses
     good lines without work. Of these the longest are tried with the true one, down to the first that gets its hash."""
-    names, refused, doubtful, by_length = set(), set(), set(), {}
+    names, refused, doubtful, by_length, times = set(), set(), set(), {}, collections.Counter()
     def tell(number, line, reason, kind):      # a line without a colon may be a password
         kind.add(number)
+        times[reason] += 1
         name = f" ({readable(line.partition(b':')[0][:64])})" if b":" in line[1:] else ""
-        say(f"{source.name}, line {number}{name}: {reason}")
+        if times[reason] <= 20:
+            say(f"{source.name}, line {number}{name}: {reason}")
     free = Engine("--batch", [word for word in options.words if not word.startswith("--budget=")] + ["--budget=0"])
     for block in progress(free.answers(source.lines()), "looking", source.total):
         for place, reason in block.refusals.items():
@@ -76,27 +78,41 @@ def look(source, options, engine):
             break
         for number, line in same:
             tell(number, line, block.refusals[0], refused)
+    for reason, count in times.items():
+        if count > 20:
+            say(f"{source.name}, {count - 20:,} more lines: {reason}")
     engine.bad = bool(refused)
-    if refused and not options.skip_refused or doubtful and not options.accept_doubtful:
-        raise Stop(f"nothing was hashed. Correct these lines and start again: {len(refused):,} would be refused "
-                   f"(--skip-refused omits them), {len(doubtful):,} are doubtful (--accept-doubtful takes them).", 1)
+    wrong = [f"{len(refused):,} would be refused (--skip-refused omits them)"] * (bool(refused) > options.skip_refused)
+    if doubtful and not options.accept_doubtful:
+        wrong.append(f"doubtful are {len(doubtful):,} (--accept-doubtful takes them)")
+    if wrong:
+        raise Stop(f"nothing was hashed. Correct these lines and start again: {', '.join(wrong)}.", 1)
     return refused
 
 @contextlib.contextmanager
 def output(options, source):
     """Opens OUT.part, for this run alone, which becomes OUT at the end."""
     options.part = options.out + ".part"
-    fd = os.open(options.part, os.O_RDWR | os.O_NOFOLLOW | (0 if options.resume else os.O_CREAT | os.O_EXCL), 0o600)
+    fd = os.open(options.part, os.O_RDWR | os.O_NOFOLLOW | os.O_CREAT, 0o600)
     try:
         fcntl.flock(fd, fcntl.LOCK_EX | fcntl.LOCK_NB)
     except BlockingIOError:
-        raise Stop(f"another run writes {options.part}.", 2) from None
-    os.chmod(options.part, 0o600)
-    if os.fstat(source.fd).st_mtime_ns > os.fstat(fd).st_mtime_ns and options.resume:
-        raise Stop(f"{source.name} was changed after {options.part}: remove that, and start without --resume.", 2)
+        raise Stop(f"another run is writing {options.part}: wait for it.", 2) from None
+    part = os.fstat(fd)
+    if part.st_size and not options.resume:
+        raise Stop(f"{options.part} is there already: {'add --resume, or ' * (options.run == file)}remove it.", 2)
+    if part.st_size and source.begun > part.st_mtime_ns:
+        raise Stop(f"{source.name} was changed after {options.part}: remove {options.part}, and start anew.", 2)
+    os.fchmod(fd, 0o600)
     yield fd
     os.fsync(fd)
+    if source.changed() != source.begun:
+        raise Stop(f"{source.name} was changed meanwhile: remove {options.part}, and start anew.", 2)
+    if not os.path.lexists(options.part) or not os.path.samestat(part, os.lstat(options.part)):
+        raise Stop(f"somebody has removed {options.part}: start anew.", 2)
     os.rename(options.part, options.out)
+    if os.isatty(2):
+        say(f"{options.out} is whole.")
 
 def skip(fd, lines, options, name):
     """Skips lines that have their hashes in OUT.part. Each hash has to be behind the name of its line. The first and
@@ -112,7 +128,7 @@ def skip(fd, lines, options, name):
             [block] = Engine("--batch", words).answers([([1], [line])])
             fits = block.answers == [answer[:-1]]
         if not fits:
-            raise Stop(f"{options.part} wasn't made of {name} by these options: see line {number} of that.", 2)
+            raise Stop(f"line {place + 1} of {options.part} isn't made of line {number} of {name} by these options.", 2)
     os.ftruncate(fd, os.lseek(fd, sum(map(len, made)), os.SEEK_SET))
 
 def file(options):
@@ -129,8 +145,6 @@ def file(options):
                 skip(fd, good, options, source.name)
             lines = some_at_a_time(good)
         for block in progress(engine.answers(lines, source.total), "hashing", source.total):
-            if source.regular and block.refusals:
-                raise Stop(f"{source.name} has changed since it was looked at.")
             show(fd, block)
     return engine.bad
 
@@ -155,7 +169,7 @@ def check(options):
 
 HEAD = b"NAME                  METHOD             ROUNDS  FINDING"
 FINDINGS = {      # the colour of each, red or yellow for a problem, and what to do
-    "none": (31, "no password is asked for: set one, or lock the account with passwd -l NAME"),
+    "no password": (31, "no password is asked for: set one, or lock the account with passwd -l NAME"),
     "over budget": (31, "a login can take minutes: set a new password, or lock the account"),
     "malformed": (31, "no password matches, and a login can fail badly: set a new password"),
     "dead": (31, "no password matches, since the hash was cut or changed: set a new password"),
@@ -169,6 +183,7 @@ def judged(number, answer, refusal):
     (name, *columns, finding), message = readable(answer).split(":"), ""
     if refusal or columns == ["malformed"]:
         columns, finding, message = [], "refused" if refusal else "malformed", refusal or finding
+    finding = finding.replace("none", "no password")
     method, rounds, cost = [int(each) if each.isdecimal() else each for each in columns] + [""] * (3 - len(columns))
     return {"line": number, "name": f"line {number}" if refusal else name, "method": method, "rounds": rounds,
             "cost": cost, "finding": finding, "message": message}
@@ -193,5 +208,5 @@ def audit(options):
         write(1, rows)
     if not options.json and not (options.only_problems and head):
         rows = [coloured(each, f"{counts[each]:7,} {each:12} {FINDINGS[each][1]}") for each in FINDINGS if counts[each]]
-        write(1, [f"\n{sum(counts.values()):,} lines:".encode(), *rows])
+        write(1, [f"\n{sum(counts.values()):,} lines of {source.name}:".encode(), *rows])
     return engine.bad

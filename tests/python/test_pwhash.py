@@ -293,7 +293,8 @@ def test_resume_refuses(place):
     save("lines", lines)
     assert run(*words)[0] == 2      # the input is newer
     os.remove("out.part")
-    assert run(*words)[0] == 2 and run(*words[:4], "-o", "out", "--resume")[0] != 0
+    assert run(*words)[0] == 1 and open("out", "rb").read() == b"\n".join(made)      # there was nothing to go on with
+    assert run(*words)[0] == 2      # it is whole
 
 
 def test_two_runs(place):
@@ -302,8 +303,20 @@ def test_two_runs(place):
     child = subprocess.Popen(["bin/pwhash", *words])
     while not begun():
         time.sleep(0.01)
-    assert run(*words)[0] == 2 and run(*words, "--resume")[0] == 2
+    assert b"another run" in run(*words)[2] and run(*words, "--resume")[0] == 2
     assert child.wait() == 0 and open("out", "rb").read().count(b"\n") == 200
+
+
+@pytest.mark.parametrize("change", [lambda: os.remove("out.part"), lambda: os.rename(save("other", b""), "out.part"),
+                                    lambda: open("lines", "ab").write(b"x"), lambda: os.rename(save("new", b""), "lines")])
+def test_changed_meanwhile(place, change):
+    """Nobody takes a part for the whole, or old passwords for new ones."""
+    save("lines", b"".join(b"user%d:x\n" % n for n in range(200)))
+    child = subprocess.Popen(["bin/pwhash", "file", *SALTED, "lines", "-o", "out"])
+    while not begun():
+        time.sleep(0.01)
+    change()
+    assert child.wait() == 2 and not os.path.exists("out")
 
 
 def test_several_machines(place):
@@ -346,7 +359,7 @@ def test_audit(place):
     rows = [" ".join(line.split()) for line in out.decode().split("\n")]
     assert (status, err) == (1, b"") and rows[:13] == [
         "NAME METHOD ROUNDS FINDING", "ann sha512crypt 656000 current", "bob sha512crypt 656000 dead", "old md5crypt 1000 outdated",
-        "eve sha512crypt 999999999 over budget", "open none", "shut locked", "shut2 locked", "mal malformed bad rounds", "bare no scheme",
+        "eve sha512crypt 999999999 over budget", "open no password", "shut locked", "shut2 locked", "mal malformed bad rounds", "bare no scheme",
         "y yescrypt unknown", "\\x1b[2J locked", "line 12 refused no password field"]
     assert any(row.startswith("3 locked") for row in rows) and b"secret" not in out
     found = [json.loads(line) for line in run("audit", "--json", "--only-problems", "--locked", "shadow")[1].split(b"\n")[:-1]]
@@ -362,7 +375,7 @@ def test_audit(place):
 @pytest.mark.parametrize("call, when", [
     ("memfd_create:error=EMFILE", 1), ("memfd_create:error=ENOMEM", 6), ("pipe2:error=EMFILE", 3), ("vfork,clone,clone3:error=EAGAIN", 3),
     ("vfork,clone,clone3:error=ENOMEM", 5), ("poll:error=ENOMEM", 2), ("flock:error=EIO", 1), ("fsync:error=EIO", 1), ("fsync:error=ENOSPC", 1),
-    ("rename:error=ENOSPC", 1), ("rename:error=EACCES", 1), ("chmod:error=EPERM", 1)])
+    ("rename:error=ENOSPC", 1), ("rename:error=EACCES", 1), ("fchmod:error=EPERM", 1)])
 def test_system_calls(place, call, when):
     """Status 3, a sentence, and no OUT, whichever call the system refuses."""
     if not shutil.which("strace"):
