@@ -14,14 +14,12 @@ mod stored;
 
 use prims_core::meter::Meter;
 use std::alloc::{AllocError, Global};
+use std::fmt::Debug;
+use std::process::Abort;
 
-// Returns the bytes in hexadecimal, as the standards print them.
-fn hexadecimal(alloc: Global, bytes: &[u8]) -> Result<String, AllocError> {
-    let mut text = String::new(alloc);
-    for byte in bytes {
-        text.push_str(&format!(in alloc; "{byte:02x}")?)?;
-    }
-    Ok(text)
+// Asserts that a call told what was wanted, in the case that `what` names.
+fn want<T: Debug + Drop + PartialEq>(rt: &impl Abort, told: T, wanted: T, what: &str) {
+    assert_eq!(rt; told, wanted, "{what}");
 }
 
 // Returns the five counts of a meter: digests, bytes, mixings, bytes of the table and of scratch memory.

@@ -1,12 +1,13 @@
 //! Crypt's alphabet, and numbers as bytes.
 
+use super::want;
 use arrayvec::ArrayVec;
 use prims_core::alphabet::{char_of, put_group, read_30, value_of};
 use prims_core::words::{load_words, number_be, store_words};
 
 #[test]
 fn characters_and_values(rt: HostRuntime) {
-    for (value, character) in [
+    for &(value, character) in &[
         (0, b'.'),
         (1, b'/'),
         (2, b'0'),
@@ -23,7 +24,7 @@ fn characters_and_values(rt: HostRuntime) {
             "{value}"
         );
     }
-    for outside in [b'$', b'-', b':', b'@', b'[', b'`', b'{', 0, 255] {
+    for &outside in &[b'$', b'-', b':', b'@', b'[', b'`', b'{', 0, 255] {
         assert_eq!(rt; value_of(outside), None, "of {outside}");
     }
 }
@@ -38,24 +39,23 @@ fn groups(rt: HostRuntime) {
 
 #[test]
 fn numbers_of_five_characters(rt: HostRuntime) {
-    let cases: [(&[u8], Option<u32>); 8] = [
-        (b"6....", Some(8)),
-        (b"U....", Some(32)),
-        (b"zzzzz", Some(1_073_741_823)),
-        (b"./...", Some(64)),
-        (b"6...", None),
-        (b"6...$", None),
-        (b"6.....", None),
-        (b"", None),
-    ];
-    for (digits, number) in cases {
-        assert_eq!(rt; read_30(digits), number, "of {digits:?}");
+    for &(digits, number) in &[
+        ("6....", Some(8)),
+        ("U....", Some(32)),
+        ("zzzzz", Some(1_073_741_823)),
+        ("./...", Some(64)),
+        ("6...", None),
+        ("6...$", None),
+        ("6.....", None),
+        ("", None),
+    ] {
+        want(&rt, read_30(digits.as_bytes()), number, digits);
     }
 }
 
 #[test]
 fn numbers_with_the_highest_byte_first(rt: HostRuntime) {
-    for (number, bytes) in [
+    for &(number, bytes) in &[
         (1, [0, 0, 0, 1]),
         (0x0123_4567, [0x01, 0x23, 0x45, 0x67]),
         (0xffff_ffff, [0xff, 0xff, 0xff, 0xff]),
@@ -66,7 +66,7 @@ fn numbers_with_the_highest_byte_first(rt: HostRuntime) {
 
 #[test]
 fn words_with_the_lowest_byte_first(rt: HostRuntime) {
-    for (bytes, words) in [
+    for &(bytes, words) in &[
         ([1, 0, 0, 0, 0, 0, 0, 0], [1, 0]),
         (
             [0x67, 0x45, 0x23, 0x01, 0xef, 0xcd, 0xab, 0x89],

@@ -1,23 +1,18 @@
-//! Whole commands: the plan of the arguments, and then the run that it names, over memory.
+//! Whole commands, over memory.
 
 ghost use Rattle.std.specs.Prelude.{◌^◌, ◌≤◌};
 
-use super::padded;
-use mkpasswd::options::plan;
-use mkpasswd::plan::Plan;
+use super::{padded, want};
+use mkpasswd::command::run_command;
 use prims_core::meter::Meter;
 use rand::SeedableRng;
 use rand::rngs::StdRng;
 use run_core::device::{Input, Output};
-use run_core::lines::{run_audit, run_batch, run_check};
-use run_core::methods::run_methods;
-use run_core::one::run_one;
 use std::alloc::Global;
 use std::process::Abort;
 use std::test::Fail;
 
-// What a command leaves: its exit status, its output and its messages, of which that of a fault is the last, and whether it
-// hashed anything.
+// What a command leaves: its exit status, its output and its messages, and whether it hashed anything.
 #[derive(Drop)]
 pub struct Left {
     status: u8,
@@ -26,56 +21,34 @@ pub struct Left {
     is_free: bool,
 }
 
-// Runs the run that `plan` names within so many I/O calls, where `run_command` allows 2^40. Messages are without its
-// `mkpasswd: `.
+// Runs a command within so many I/O calls.
 fn left_within(alloc: Global, words: &[&str], input: &[u8], turns: u64) -> Result<Left, Fail>
     requires { turns ≤ 2 ^ 40 }
 {
-    let mut owned = Vec::new(alloc);
+    let mut arguments = Vec::new(alloc);
     for word in words {
-        owned.push(String::from_str(alloc, word)?)?;
+        arguments.push(String::from_str(alloc, word)?)?;
     }
-    let planned = match plan(alloc, owned.as_slice()) {
-        Ok(planned) => planned,
-        Err(fault) => {
-            return Ok(Left {
-                status: fault.status(),
-                out: Vec::new(alloc),
-                faults: Vec::from_slice(alloc, fault.text().as_bytes())?,
-                is_free: true,
-            });
-        }
-    };
-    let mut input = Input::new(input);
     let mut out = Output::new(Vec::new(alloc));
     let mut faults = Output::new(Vec::new(alloc));
-    let mut rng = StdRng::seed_from_u64(1);
+    let mut generator = None;
+    let mut make = || Some(StdRng::seed_from_u64(1));
     let mut meter = Meter::new();
-    let outcome = {
-        let (input, out, faults) = (&mut input, &mut out, &mut faults);
-        let (rng, meter) = (&mut rng, &mut meter);
-        match &planned {
-            Plan::Methods => run_methods(out, turns),
-            Plan::One(job, from) => {
-                run_one(alloc, job, from, input, out, faults, rng, meter, turns)
-            }
-            Plan::Batch(job) => run_batch(alloc, job, input, out, faults, rng, meter, turns),
-            Plan::Check(job) => run_check(alloc, job, input, out, faults, rng, meter, turns),
-            Plan::Audit(job) => run_audit(alloc, job, input, out, faults, meter, turns),
-        }
-    };
-    let mut faults = faults.into_inner();
-    let status = match outcome {
-        Ok(tally) => tally.status(),
-        Err(fault) => {
-            faults.extend_from_slice(fault.text().as_bytes())?;
-            fault.status()
-        }
-    };
+    let status = run_command(
+        alloc,
+        arguments.as_slice(),
+        &mut Input::new(input),
+        &mut out,
+        &mut faults,
+        &mut generator,
+        &mut make,
+        &mut meter,
+        turns,
+    );
     Ok(Left {
         status,
         out: out.into_inner(),
-        faults,
+        faults: faults.into_inner(),
         is_free: meter.digests() == 0 && meter.bytes() == 0 && meter.table() == 0,
     })
 }
@@ -88,12 +61,28 @@ pub fn left_by(alloc: Global, words: &[&str], input: &[u8]) -> Result<Left, Fail
 impl Left {
     /// Asserts the status and what both outputs have.
     pub fn want(&self, rt: &impl Abort, what: &str, status: u8, out: &str, faults: &str) {
-        assert_eq!(rt;
-            (self.status, self.out.as_slice(), self.faults.as_slice()),
-            (status, out.as_bytes(), faults.as_bytes()),
-            "{what}"
-        );
+        let told = (self.status, self.out.as_slice(), self.faults.as_slice());
+        want(rt, told, (status, out.as_bytes(), faults.as_bytes()), what);
     }
+
+    /// Asserts that the first line was refused with this message, and nothing else was done.
+    pub fn want_refused(&self, rt: &impl Abort, alloc: Global, message: &str) -> Result<(), Fail> {
+        let faults = format!(in alloc; "mkpasswd: line 1: {message}\n")?;
+        self.want(rt, message, 1, "", faults.as_str());
+        Ok(())
+    }
+}
+
+// The arguments of a command and its input, and then the status, the output and the messages that it leaves.
+type Row<'a> = (&'a [&'a str], &'a str, u8, &'a str, &'a str);
+
+// Asserts what each row's command leaves.
+fn want_all(rt: &impl Abort, alloc: Global, rows: &[Row]) -> Result<(), Fail> {
+    for &(words, input, status, out, faults) in rows {
+        let left = left_by(alloc, words, input.as_bytes())?;
+        left.want(rt, input, status, out, faults);
+    }
+    Ok(())
 }
 
 const BATCH: &[&str] = &["--batch", "-m", "md5crypt", "-S", "xxxxxxxx"];
@@ -109,7 +98,7 @@ const HASHES: &str =
 // The other hashes are Drepper's and libxcrypt's.
 #[test]
 fn one_password(rt: HostRuntime) -> Result<(), Fail> {
-    let rows: [(&[&str], &str, &str); 8] = [
+    let rows: &[(&[&str], &str, &str)] = &[
         (&["-m", "md5crypt", "-S", "xxxxxxxx", "password"], "", HASH),
         (&["-m", "md5", "password", "xxxxxxxx"], "", HASH),
         (
@@ -143,7 +132,7 @@ fn one_password(rt: HostRuntime) -> Result<(), Fail> {
             "Available methods:\nmd5crypt\nsha256crypt\nsha512crypt\nscrypt\n",
         ),
     ];
-    for (words, input, out) in rows {
+    for &(words, input, out) in rows {
         let left = left_by(rt.alloc(), words, input.as_bytes())?;
         left.want(&rt, out, 0, out, "");
     }
@@ -152,18 +141,25 @@ fn one_password(rt: HostRuntime) -> Result<(), Fail> {
 
 #[test]
 fn refused_arguments(rt: HostRuntime) -> Result<(), Fail> {
-    let rows: [(&[&str], &str); 9] = [
-        (&["-m", "sha1", "x"], "unknown method"),
-        (&["-m", "sha1", "-S", "ab", "x"], "unknown method"),
-        (&["-m", "sha1", "-S", "ab", "x", "cd"], "unknown method"),
-        (&["-S", "ab", "x", "cd"], "two salts"),
-        (&["--batch", "--check"], "two modes"),
-        (&["-s", "x"], "two modes"),
-        (&["-m", "md5", "-S", "123456789", "x"], "salt length"),
-        (&["-m", "md5", "-S", "a-b", "x"], "salt character"),
-        (&["-m", "scrypt", "-R", "12", "x"], "cost"),
+    const UNKNOWN: &str = "mkpasswd: unknown method\n";
+    let rows: &[(&[&str], &str)] = &[
+        (&["-m", "sha1", "x"], UNKNOWN),
+        (&["-m", "sha1", "-S", "ab", "x"], UNKNOWN),
+        (&["-m", "sha1", "-S", "ab", "x", "cd"], UNKNOWN),
+        (&["-S", "ab", "x", "cd"], "mkpasswd: two salts\n"),
+        (&["--batch", "--check"], "mkpasswd: two modes\n"),
+        (&["-s", "x"], "mkpasswd: two modes\n"),
+        (
+            &["-m", "md5", "-S", "123456789", "x"],
+            "mkpasswd: salt length\n",
+        ),
+        (
+            &["-m", "md5", "-S", "a-b", "x"],
+            "mkpasswd: salt character\n",
+        ),
+        (&["-m", "scrypt", "-R", "12", "x"], "mkpasswd: cost\n"),
     ];
-    for (words, message) in rows {
+    for &(words, message) in rows {
         let left = left_by(rt.alloc(), words, b"")?;
         left.want(&rt, message, 2, "", message);
     }
@@ -172,18 +168,18 @@ fn refused_arguments(rt: HostRuntime) -> Result<(), Fail> {
 
 #[test]
 fn lines_to_hash(rt: HostRuntime) -> Result<(), Fail> {
-    let no_name = "mkpasswd: line 2: no name\n";
-    let counted: &[&str] = &["--batch", "--work", "-m", "md5crypt", "-S", "xxxxxxxx"];
-    let rows: [(&[&str], &str, u8, &str, &str); 7] = [
-        (BATCH, "ann:password\n:x\nbob:password", 1, HASHES, no_name),
+    const NO_NAME: &str = "mkpasswd: line 2: no name\n";
+    const COUNTED: &[&str] = &["--batch", "--work", "-m", "md5crypt", "-S", "xxxxxxxx"];
+    let rows: &[Row] = &[
+        (BATCH, "ann:password\n:x\nbob:password", 1, HASHES, NO_NAME),
         (
             BATCH,
             "ann:password\n:x\nbob:password\n",
             1,
             HASHES,
-            no_name,
+            NO_NAME,
         ),
-        (BATCH, "ann:password\n\n", 1, ANN, no_name),
+        (BATCH, "ann:password\n\n", 1, ANN, NO_NAME),
         (BATCH, "ann:password\n", 0, ANN, ""),
         (BATCH, "", 0, "", ""),
         (
@@ -194,64 +190,60 @@ fn lines_to_hash(rt: HostRuntime) -> Result<(), Fail> {
             "",
         ),
         (
-            counted,
+            COUNTED,
             "ann:password\nann:password\n",
             0,
             "ann:$1$xxxxxxxx$UYCIxa628.9qXjpQCjM4a.:1002:36239:0:0\nann:$1$xxxxxxxx$UYCIxa628.9qXjpQCjM4a.:1002:36239:0:0\n",
             "",
         ),
     ];
-    for (words, input, status, out, faults) in rows {
-        let left = left_by(rt.alloc(), words, input.as_bytes())?;
-        left.want(&rt, input, status, out, faults);
-    }
-    Ok(())
+    want_all(&rt, rt.alloc(), rows)
 }
 
 #[test]
 fn lines_to_check(rt: HostRuntime) -> Result<(), Fail> {
-    let check: &[&str] = &["--check"];
-    let counted: &[&str] = &["--check", "--work"];
-    let rehash: &[&str] = &["--check", "--rehash"];
-    let rows: [(&[&str], &str, u8, &str, &str); 10] = [
+    const CHECK: &[&str] = &["--check"];
+    const COUNTED: &[&str] = &["--check", "--work"];
+    const REHASH: &[&str] = &["--check", "--rehash"];
+    let rows: &[Row] = &[
         (
-            counted,
+            COUNTED,
             "ann:$1$xxxxxxxx$UYCIxa628.9qXjpQCjM4a.:password",
             0,
             "ann:ok:1002:36239:0:0\n",
             "",
         ),
         (
-            counted,
+            COUNTED,
             "s:$7$2/..../....$rNxJWVHNv/mCNcgE/f6/L4zO6Fos5c2uTzhyzoisI62:",
             0,
             "s:ok:10:948:32:2048\n",
             "",
         ),
         (
-            check,
+            CHECK,
             "b:!:x\nc::x\nd:$1$xxxxxxxx$UYCIxa628.9qXjpQCjM4a.:Password\ne\n",
             1,
             "b:locked\nc:none\nd:no\n",
             "mkpasswd: line 4: no password field\n",
         ),
-        (check, "b:!:x\nc::x\n", 0, "b:locked\nc:none\n", ""),
+        (CHECK, "b:!:x\nc::x\n", 0, "b:locked\nc:none\n", ""),
         (
-            counted,
+            COUNTED,
             "b:!:x\nc::x\n",
             0,
             "b:locked:0:0:0:0\nc:none:0:0:0:0\n",
             "",
         ),
         (
-            check,
+            CHECK,
             "a:$6$rounds=10$roundstoolow$kUMsbe306n21p9R.FRkW3IGn.S9NPN0x50YhH1xhLsPuWGsUSklZt58jaTfF4ZEQpyUNGc0dqbpBYYBaHHrsX.:the minimum number is still observed",
             1,
             "a:no\n",
             "",
         ),
         (
-            rehash,
+            REHASH,
             "a:$6$rounds=5000$toolongsaltstrin$lQ8jolhgVRVhY4b5pZKaysCLi0QBxGoNeKQzQ3glMhwllF7oGDZxUhx1yxdYcz/e1JSbq3y6JMxxl8audkUEm0:This is just a test",
             0,
             "a:ok\n",
@@ -296,61 +288,46 @@ fn lines_to_check(rt: HostRuntime) -> Result<(), Fail> {
             "",
         ),
     ];
-    for (words, input, status, out, faults) in rows {
-        let left = left_by(rt.alloc(), words, input.as_bytes())?;
-        left.want(&rt, input, status, out, faults);
-    }
-    Ok(())
+    want_all(&rt, rt.alloc(), rows)
 }
 
 // A line over budget is not hashed.
 #[test]
 fn budgets(rt: HostRuntime) -> Result<(), Fail> {
-    let ann = "ann:$1$xxxxxxxx$UYCIxa628.9qXjpQCjM4a.:password";
-    let s = "s:$7$2/..../....$rNxJWVHNv/mCNcgE/f6/L4zO6Fos5c2uTzhyzoisI62:";
-    let z = "z:$7$86....E....NaCl$xffjQo7Bm/.SKRS4B2EuynbOLjAmXU5AbDbRXhoBl64:password";
-    let wrong = "z:$7$86....E....NaCl$xffjQo7Bm/.SKRS4B2EuynbOLjAmXU5AbDbRXhoBl64:Password";
-    let rehash: &[&str] = &[
-        "--check", "--rehash", "--work", "-m", "md5crypt", "-S", "xxxxxxxx",
+    const ANN_LINE: &str = "ann:$1$xxxxxxxx$UYCIxa628.9qXjpQCjM4a.:password";
+    const S: &str = "s:$7$2/..../....$rNxJWVHNv/mCNcgE/f6/L4zO6Fos5c2uTzhyzoisI62:";
+    const Z: &str = "z:$7$86....E....NaCl$xffjQo7Bm/.SKRS4B2EuynbOLjAmXU5AbDbRXhoBl64:password";
+    const WRONG: &str = "z:$7$86....E....NaCl$xffjQo7Bm/.SKRS4B2EuynbOLjAmXU5AbDbRXhoBl64:Password";
+    const TOO_LITTLE: &[&str] = &[
+        "--check", "--rehash", "--work", "-m", "md5crypt", "-S", "xxxxxxxx", "--budget", "33693234",
     ];
-    let rows: [(&[&str], &str, &str, u8, &str); 10] = [
-        (&["--check"], "36238", ann, 1, ""),
-        (&["--check"], "36239", ann, 0, "ann:ok\n"),
-        (&["--check"], "5043", s, 1, ""),
-        (&["--check"], "5044", s, 0, "s:ok\n"),
-        (&["--check"], "0", "b:!:x", 0, "b:locked\n"),
+    const ENOUGH: &[&str] = &[
+        "--check", "--rehash", "--work", "-m", "md5crypt", "-S", "xxxxxxxx", "--budget", "33693235",
+    ];
+    let rows: &[(&[&str], &str, u8, &str)] = &[
+        (&["--check", "--budget", "36238"], ANN_LINE, 1, ""),
+        (&["--check", "--budget", "36239"], ANN_LINE, 0, "ann:ok\n"),
+        (&["--check", "--budget", "5043"], S, 1, ""),
+        (&["--check", "--budget", "5044"], S, 0, "s:ok\n"),
+        (&["--check", "--budget", "0"], "b:!:x", 0, "b:locked\n"),
         (
-            &["--batch", "-m", "md5crypt"],
-            "36238",
+            &["--batch", "-m", "md5crypt", "--budget", "36238"],
             "ann:password",
             1,
             "",
         ),
-        (rehash, "33693234", z, 1, ""),
+        (TOO_LITTLE, Z, 1, ""),
         (
-            rehash,
-            "33693235",
-            z,
+            ENOUGH,
+            Z,
             0,
             "z:ok:$1$xxxxxxxx$UYCIxa628.9qXjpQCjM4a.:2028:138803:32768:1048576\n",
         ),
-        (rehash, "33693234", wrong, 1, ""),
-        (
-            rehash,
-            "33693235",
-            wrong,
-            1,
-            "z:no:1026:102564:32768:1048576\n",
-        ),
+        (TOO_LITTLE, WRONG, 1, ""),
+        (ENOUGH, WRONG, 1, "z:no:1026:102564:32768:1048576\n"),
     ];
-    for (words, budget, input, status, out) in rows {
-        let mut all = Vec::new(rt.alloc());
-        for word in words {
-            all.push(*word)?;
-        }
-        all.push("--budget")?;
-        all.push(budget)?;
-        let left = left_by(rt.alloc(), all.as_slice(), input.as_bytes())?;
+    for &(words, input, status, out) in rows {
+        let left = left_by(rt.alloc(), words, input.as_bytes())?;
         let faults = if out.is_empty() {
             "mkpasswd: line 1: over budget\n"
         } else {
@@ -358,7 +335,7 @@ fn budgets(rt: HostRuntime) -> Result<(), Fail> {
         };
         left.want(&rt, input, status, out, faults);
         let is_free = out.is_empty() || out == "b:locked\n";
-        assert_eq!(rt; left.is_free, is_free, "{input}");
+        want(&rt, left.is_free, is_free, input);
     }
     Ok(())
 }
@@ -366,16 +343,16 @@ fn budgets(rt: HostRuntime) -> Result<(), Fail> {
 // Each limit, and one byte more.
 #[test]
 fn long_inputs(rt: HostRuntime) -> Result<(), Fail> {
-    let one: &[&str] = &["-s"];
-    let long_line = "mkpasswd: line 1: line too long\n";
-    let long_name = "mkpasswd: line 1: name too long\n";
-    let rows: [(&[&str], usize, &str, u8, &str, &str); 4] = [
-        (BATCH, 2048, "\nann:password", 1, ANN, long_name),
-        (BATCH, 2049, "\nann:password", 1, ANN, long_line),
-        (BATCH, 1_048_576, "\nann:password", 1, ANN, long_line),
-        (one, 1025, "", 2, "", "password too long"),
+    const ONE: &[&str] = &["-s"];
+    const LONG_LINE: &str = "mkpasswd: line 1: line too long\n";
+    const LONG_NAME: &str = "mkpasswd: line 1: name too long\n";
+    let rows: &[(&[&str], usize, &str, u8, &str, &str)] = &[
+        (BATCH, 2048, "\nann:password", 1, ANN, LONG_NAME),
+        (BATCH, 2049, "\nann:password", 1, ANN, LONG_LINE),
+        (BATCH, 1_048_576, "\nann:password", 1, ANN, LONG_LINE),
+        (ONE, 1025, "", 2, "", "mkpasswd: password too long\n"),
     ];
-    for (words, count, back, status, out, faults) in rows {
+    for &(words, count, back, status, out, faults) in rows {
         let input = padded(rt.alloc(), b"", b'a', count, back.as_bytes())?;
         let left = left_by(rt.alloc(), words, input.as_slice())?;
         left.want(&rt, faults, status, out, faults);
@@ -406,16 +383,16 @@ fn a_long_password(rt: HostRuntime) -> Result<(), Fail> {
 
 #[test]
 fn turns(rt: HostRuntime) -> Result<(), Fail> {
-    let one: &[&str] = &["-m", "md5crypt", "-S", "xxxxxxxx", "password"];
-    let none = "too many turns";
-    let rows: [(&[&str], &str, u64, u8, &str, &str); 5] = [
-        (BATCH, "ann:password", 0, 3, "", none),
-        (BATCH, "", 0, 3, "", none),
+    const ONE: &[&str] = &["-m", "md5crypt", "-S", "xxxxxxxx", "password"];
+    const NONE: &str = "mkpasswd: too many turns\n";
+    let rows: &[(&[&str], &str, u64, u8, &str, &str)] = &[
+        (BATCH, "ann:password", 0, 3, "", NONE),
+        (BATCH, "", 0, 3, "", NONE),
         (BATCH, "", 1, 0, "", ""),
-        (one, "", 0, 3, "", none),
-        (one, "", 1, 0, HASH, ""),
+        (ONE, "", 0, 3, "", NONE),
+        (ONE, "", 1, 0, HASH, ""),
     ];
-    for (words, input, turns, status, out, faults) in rows {
+    for &(words, input, turns, status, out, faults) in rows {
         assert!(rt; turns <= 1);
         let left = left_within(rt.alloc(), words, input.as_bytes(), turns)?;
         left.want(&rt, input, status, out, faults);

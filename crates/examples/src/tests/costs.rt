@@ -1,12 +1,13 @@
 //! What a hash can cost, known before it is made.
 
+use super::want;
 use crypt_core::setting::Setting;
 use crypt_core::work::{bound, cost};
 use std::test::Fail;
 
 #[test]
 fn bounds(rt: HostRuntime) -> Result<(), Fail> {
-    for (text, length, wanted) in [
+    for &(text, length, wanted) in &[
         ("$1$xxxxxxxx", 0, [1002, 21347, 0, 0, 0]),
         ("$1$xxxxxxxx", 8, [1002, 36239, 0, 0, 0]),
         ("$1$xxxxxxxx", 512, [1002, 974189, 0, 0, 0]),
@@ -40,17 +41,14 @@ fn bounds(rt: HostRuntime) -> Result<(), Fail> {
     ] {
         assert!(rt; length <= 1024);
         let work = bound(&Setting::read(text.as_bytes())?, length);
-        assert_eq!(rt;
-            [
-                work.digests,
-                work.bytes,
-                work.mixes,
-                work.table,
-                work.scratch
-            ],
-            wanted,
-            "{text} {length}"
-        );
+        let told = [
+            work.digests,
+            work.bytes,
+            work.mixes,
+            work.table,
+            work.scratch,
+        ];
+        want(&rt, told, wanted, text);
     }
     Ok(())
 }
@@ -67,7 +65,7 @@ fn digests_of_many_rounds(rt: HostRuntime) -> Result<(), Fail> {
 
 #[test]
 fn costs(rt: HostRuntime) -> Result<(), Fail> {
-    for (text, length, wanted) in [
+    for &(text, length, wanted) in &[
         ("$1$xxxxxxxx", 8, 36239),
         ("$5$saltstring", 12, 307760),
         ("$7$2/..../....", 0, 5044),
@@ -76,7 +74,7 @@ fn costs(rt: HostRuntime) -> Result<(), Fail> {
     ] {
         assert!(rt; length <= 1024);
         let setting = Setting::read(text.as_bytes())?;
-        assert_eq!(rt; cost(&setting, length), wanted, "{text} {length}");
+        want(&rt, cost(&setting, length), wanted, text);
     }
     Ok(())
 }

@@ -1,6 +1,6 @@
 //! HMAC, PBKDF2 and scrypt, each with its work.
 
-use super::{counts, hexadecimal};
+use super::{counts, want};
 use kdf_core::hmac::HmacKey;
 use kdf_core::params::Params;
 use kdf_core::pbkdf2::pbkdf2;
@@ -12,7 +12,7 @@ use std::process::Abort;
 use std::test::Fail;
 
 // RFC 4231, section 4: cases 1 to 4, 6 and 7.
-const TAGS: [(&[u8], &[u8], &str); 6] = [
+const TAGS: &[(&[u8], &[u8], &str)] = &[
     (
         &[0x0b; 20],
         b"Hi There",
@@ -48,26 +48,44 @@ const TAGS: [(&[u8], &[u8], &str); 6] = [
     ),
 ];
 
+// Returns a key, and asserts the work that it took.
+fn want_key(rt: &impl Abort, key: &[u8], digests: u128, bytes: u128) -> HmacKey {
+    assert!(rt; key.len() <= 131);
+    let mut meter = Meter::new();
+    let hmac = HmacKey::new(key, &mut meter);
+    want(rt, counts(&meter), [digests, bytes, 0, 0, 0], "a key");
+    hmac
+}
+
+// Asserts the tag of two pieces, and its work.
+fn want_tag(
+    rt: &impl Abort,
+    alloc: Global,
+    key: &HmacKey,
+    (front, back): (&[u8], &[u8]),
+    wanted: &str,
+) -> Result<(), Fail> {
+    assert!(rt; front.len() <= 152 && back.len() <= 152);
+    let mut meter = Meter::new();
+    let tag = hex::encode(alloc, key.tag(front, back, &mut meter))?;
+    want(rt, tag.as_str(), wanted, "a tag");
+    let bytes = 160 + front.len() as u128 + back.len() as u128;
+    want(rt, counts(&meter), [2, bytes, 0, 0, 0], wanted);
+    Ok(())
+}
+
 // However the text is cut, and as often as one key is used.
 #[test]
 fn tags(rt: HostRuntime) -> Result<(), Fail> {
     for (key, text, wanted) in TAGS {
-        let len = text.len();
-        assert!(rt; key.len() <= 131 && len <= 152);
-        let mut meter = Meter::new();
-        let hmac = HmacKey::new(key, &mut meter);
         let (digests, bytes) = if key.len() > 64 {
             (1, key.len() as u128)
         } else {
             (0, 0)
         };
-        assert_eq!(rt; counts(&meter), [digests, bytes, 0, 0, 0], "a key");
-        let whole = hexadecimal(rt.alloc(), &hmac.tag(b"", text, &mut meter))?;
-        let (a, b) = text.split_at(len / 2);
-        let halves = hexadecimal(rt.alloc(), &hmac.tag(a, b, &mut meter))?;
-        assert_eq!(rt; (whole.as_str(), halves.as_str()), (wanted, wanted));
-        let fed = bytes + 2 * (160 + len as u128);
-        assert_eq!(rt; counts(&meter), [digests + 4, fed, 0, 0, 0], "two tags");
+        let key = want_key(&rt, key, digests, bytes);
+        want_tag(&rt, rt.alloc(), &key, (b"", text), wanted)?;
+        want_tag(&rt, rt.alloc(), &key, text.split_at(text.len() / 2), wanted)?;
     }
     Ok(())
 }
@@ -77,27 +95,20 @@ fn a_tag_in_two_pieces(rt: HostRuntime) -> Result<(), Fail> {
     let key = HmacKey::new(b"Jefe", &mut Meter::new());
     let mut meter = Meter::new();
     let tag = key.tag(b"what do ya want ", b"for nothing?", &mut meter);
-    assert_eq!(rt;
-        hexadecimal(rt.alloc(), &tag)?.as_str(),
-        "5bdcc146bf60754e6a042426089575c75a003f089d2739839dec58b964ec3843"
-    );
-    assert_eq!(rt; counts(&meter), [2, 188, 0, 0, 0]);
+    let tag = hex::encode(rt.alloc(), tag)?;
+    let wanted = "5bdcc146bf60754e6a042426089575c75a003f089d2739839dec58b964ec3843";
+    want(&rt, tag.as_str(), wanted, "a tag");
+    want(&rt, counts(&meter), [2, 188, 0, 0, 0], "its work");
     Ok(())
 }
 
 // The bytes of a block are not digested before; one more is.
 #[test]
 fn keys_of_a_block(rt: HostRuntime) {
-    let keys: [(&[u8], u128, u128); 2] = [(&[b'k'; 64], 0, 0), (&[b'k'; 65], 1, 65)];
-    for (key, digests, bytes) in keys {
-        assert!(rt; key.len() <= 65);
-        let mut meter = Meter::new();
-        let _ = HmacKey::new(key, &mut meter);
-        assert_eq!(rt; counts(&meter), [digests, bytes, 0, 0, 0]);
-    }
+    let _ = want_key(&rt, &[b'k'; 64], 0, 0);
+    let _ = want_key(&rt, &[b'k'; 65], 1, 65);
 }
 
-#[derive(Clone, Copy)]
 struct Derivation {
     password: &'static [u8],
     salt: &'static [u8],
@@ -110,7 +121,7 @@ struct Derivation {
 // The first vector is from RFC 7914, section 11. The other vector of that section has 80000 rounds, too many for a
 // test. The next ones have the inputs of RFC 6070, except the one with 16777216 rounds, and then one has a block that is
 // cut, and one no bytes. RFC 6070 has outputs for SHA-1, so theirs are from Python's `hashlib`.
-const DERIVATIONS: [Derivation; 8] = [
+const DERIVATIONS: &[Derivation] = &[
     Derivation {
         password: b"passwd",
         salt: b"salt",
@@ -177,23 +188,27 @@ const DERIVATIONS: [Derivation; 8] = [
     },
 ];
 
+// Asserts the bytes that a row derives, and their work.
+fn want_derived(rt: &impl Abort, alloc: Global, row: &Derivation) -> Result<(), Fail> {
+    let count = row.wanted.len() / 2;
+    let rounds = row.rounds;
+    assert!(rt; row.password.len() <= 64 && row.salt.len() <= 64);
+    assert!(rt; 1 <= rounds && count <= 64);
+    let mut out = vec![in alloc; 0; count]?;
+    let mut meter = Meter::new();
+    let key = HmacKey::new(row.password, &mut meter);
+    pbkdf2(&key, row.salt, rounds, &mut out, &mut meter);
+    let told = hex::encode(alloc, out.as_slice())?;
+    want(rt, told.as_str(), row.wanted, "bytes from a password");
+    let work = [row.digests, row.bytes, 0, 0, 0];
+    want(rt, counts(&meter), work, row.wanted);
+    Ok(())
+}
+
 #[test]
 fn bytes_from_a_password(rt: HostRuntime) -> Result<(), Fail> {
     for row in DERIVATIONS {
-        let count = row.wanted.len() / 2;
-        let rounds = row.rounds;
-        assert!(rt; row.password.len() <= 64 && row.salt.len() <= 64);
-        assert!(rt; 1 <= rounds && count <= 64);
-        let mut out = vec![in rt.alloc(); 0; count]?;
-        let mut meter = Meter::new();
-        let key = HmacKey::new(row.password, &mut meter);
-        pbkdf2(&key, row.salt, rounds, &mut out, &mut meter);
-        let told = hexadecimal(rt.alloc(), &out)?;
-        assert_eq!(rt;
-            (told.as_str(), counts(&meter)),
-            (row.wanted, [row.digests, row.bytes, 0, 0, 0]),
-            "{rounds} rounds, {count} bytes"
-        );
+        want_derived(&rt, rt.alloc(), row)?;
     }
     Ok(())
 }
@@ -201,7 +216,7 @@ fn bytes_from_a_password(rt: HostRuntime) -> Result<(), Fail> {
 // The corners of the range and of the ceiling.
 #[test]
 fn parameters(rt: HostRuntime) {
-    let rows = [
+    for &(log_n, r, p, wanted) in &[
         (4, 1, 1, Ok(16)),
         (15, 1, 256, Ok(32_768)),
         (0, 1, 1, Err("scrypt range")),
@@ -212,19 +227,18 @@ fn parameters(rt: HostRuntime) {
         (15, 1, 257, Err("above ceiling")),
         (14, 1_073_741_823, 1_073_741_823, Err("above ceiling")),
         (255, 4_294_967_295, 4_294_967_295, Err("above ceiling")),
-    ];
-    for (log_n, r, p, wanted) in rows {
-        let told = Params::new(log_n, r, p);
-        assert_eq!(rt;
-            told.map(|params| (params.log_n(), params.row_count(), params.r(), params.p()))
-                .map_err(|fault| fault.text()),
-            wanted.map(|row_count| (log_n, row_count, r, p)),
-            "log2 N = {log_n}, r = {r}, p = {p}"
-        );
+    ] {
+        match Params::new(log_n, r, p) {
+            Ok(params) => {
+                let told = (params.log_n(), params.r(), params.p());
+                want(&rt, told, (log_n, r, p), "parameters");
+                want(&rt, Ok(params.row_count()), wanted, "N");
+            }
+            Err(fault) => want(&rt, Err(fault.text()), wanted, "an error"),
+        }
     }
 }
 
-#[derive(Clone, Copy)]
 struct Row {
     password: &'static [u8],
     salt: &'static [u8],
@@ -240,7 +254,7 @@ struct Row {
 // test. The fourth is the first one, cut. The others are from Python's `hashlib`: a password at the end
 // of a block and one past it, three parts of more than one block, N of 2, a last block that is cut, no bytes, many parts,
 // and a part of many blocks.
-const ROWS: [Row; 11] = [
+const ROWS: &[Row] = &[
     Row {
         password: b"",
         salt: b"",
@@ -343,7 +357,7 @@ const ROWS: [Row; 11] = [
 ];
 
 // Asserts a row's bytes, and its work, known before and counted.
-fn want(rt: &impl Abort, alloc: Global, row: &Row) -> Result<(), Fail> {
+fn want_bytes(rt: &impl Abort, alloc: Global, row: &Row) -> Result<(), Fail> {
     let (log_n, r, p, count) = (row.log_n, row.r, row.p, row.wanted.len() / 2);
     assert!(rt; count <= 128 && row.password.len() <= 65 && row.salt.len() <= 70);
     let params = Params::new(log_n, r, p)?;
@@ -356,29 +370,25 @@ fn want(rt: &impl Abort, alloc: Global, row: &Row) -> Result<(), Fail> {
         row.salt.len() as u64,
         count as u64,
     );
-    let told = hexadecimal(alloc, &out)?;
-    assert_eq!(rt;
-        (
-            told.as_str(),
-            [
-                work.digests,
-                work.bytes,
-                work.mixes,
-                work.table,
-                work.scratch
-            ]
-        ),
-        (row.wanted, row.work),
-        "of {log_n}, {r}, {p}, {count} bytes"
-    );
-    assert_eq!(rt; counts(&meter), row.work.map(|count| u128::from(count)));
+    let told = hex::encode(alloc, out.as_slice())?;
+    want(rt, told.as_str(), row.wanted, "bytes by scrypt");
+    let known = [
+        work.digests,
+        work.bytes,
+        work.mixes,
+        work.table,
+        work.scratch,
+    ];
+    want(rt, known, row.work, row.wanted);
+    let work = row.work.map(|count| u128::from(count));
+    want(rt, counts(&meter), work, row.wanted);
     Ok(())
 }
 
 #[test]
 fn bytes_by_scrypt(rt: HostRuntime) -> Result<(), Fail> {
     for row in ROWS {
-        want(&rt, rt.alloc(), &row)?;
+        want_bytes(&rt, rt.alloc(), row)?;
     }
     Ok(())
 }

@@ -1,6 +1,6 @@
 //! Digests that a meter counts.
 
-use super::{counts, hexadecimal};
+use super::{counts, want};
 use prims_core::counted::{Counted, CountedMd5, CountedSha256, CountedSha512};
 use prims_core::meter::Meter;
 use std::alloc::Global;
@@ -9,11 +9,11 @@ use std::test::Fail;
 
 #[test]
 fn a_new_meter(rt: HostRuntime) {
-    assert_eq!(rt; counts(&Meter::new()), [0; 5]);
+    want(&rt, counts(&Meter::new()), [0; 5], "a new meter");
 }
 
 // Asserts the digest of two pieces, and that it is counted.
-fn want<C: Counted>(
+fn want_digest<C: Counted>(
     rt: &impl Abort,
     alloc: Global,
     (first, second): (&[u8], &[u8]),
@@ -24,13 +24,10 @@ fn want<C: Counted>(
     let mut running = C::begin();
     running.feed(&mut meter, first);
     running.feed(&mut meter, second);
-    let digest = hexadecimal(alloc, &running.finish(&mut meter))?;
+    let digest = hex::encode(alloc, running.finish(&mut meter).as_slice())?;
     let len = first.len() as u128 + second.len() as u128;
-    assert_eq!(rt;
-        (digest.as_str(), counts(&meter)),
-        (wanted, [1, len, 0, 0, 0]),
-        "{first:?} and {second:?}"
-    );
+    want(rt, digest.as_str(), wanted, "a digest");
+    want(rt, counts(&meter), [1, len, 0, 0, 0], wanted);
     Ok(())
 }
 
@@ -39,14 +36,14 @@ fn want<C: Counted>(
 fn digests_of_the_standards(rt: HostRuntime) -> Result<(), Fail> {
     let alloc = rt.alloc();
     let empty = "d41d8cd98f00b204e9800998ecf8427e";
-    want::<CountedMd5>(&rt, alloc, (b"", b""), empty)?;
+    want_digest::<CountedMd5>(&rt, alloc, (b"", b""), empty)?;
     let md5 = "900150983cd24fb0d6963f7d28e17f72";
-    want::<CountedMd5>(&rt, alloc, (b"ab", b"c"), md5)?;
+    want_digest::<CountedMd5>(&rt, alloc, (b"ab", b"c"), md5)?;
     let sha256 = "ba7816bf8f01cfea414140de5dae2223b00361a396177a9cb410ff61f20015ad";
-    want::<CountedSha256>(&rt, alloc, (b"a", b"bc"), sha256)?;
+    want_digest::<CountedSha256>(&rt, alloc, (b"a", b"bc"), sha256)?;
     let sha512 = "ddaf35a193617abacc417349ae20413112e6fa4e89a97ea20a9eeee64b55d39a\
         2192992a274fc1a836ba3c23a3feebbd454d4423643ce80e2a9ac94fa54ca49f";
-    want::<CountedSha512>(&rt, alloc, (b"abc", b""), sha512)
+    want_digest::<CountedSha512>(&rt, alloc, (b"abc", b""), sha512)
 }
 
 // A meter adds up, and tells what came after a reading.
@@ -59,10 +56,7 @@ fn work_since_a_reading(rt: HostRuntime) {
     running.feed(&mut meter, b"abc");
     let _ = running.finish(&mut meter);
     let work = meter.work_since(&reading);
-    assert_eq!(rt;
-        (work.digests, work.bytes, work.mixes),
-        (1, 3, 0),
-        "since then"
-    );
-    assert_eq!(rt; counts(&meter), [2, 3, 0, 0, 0], "in all");
+    let since = (work.digests, work.bytes, work.mixes);
+    want(&rt, since, (1, 3, 0), "since then");
+    want(&rt, counts(&meter), [2, 3, 0, 0, 0], "in all");
 }

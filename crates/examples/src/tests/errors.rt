@@ -1,5 +1,6 @@
 //! The errors of each call: what `{}` shows, and the exit status of those that end the program.
 
+use super::want;
 use crypt_core::fits::FitFault;
 use crypt_core::hash::HashFault;
 use crypt_core::password::PasswordFault;
@@ -15,7 +16,7 @@ use std::process::Abort;
 use std::test::Fail;
 
 // Asserts that an error shows a message, which is its text too.
-fn want<F: Display>(
+fn want_shown<F: Display>(
     rt: &impl Abort,
     alloc: Global,
     fault: &F,
@@ -23,30 +24,30 @@ fn want<F: Display>(
     wanted: &str,
 ) -> Result<(), Fail> {
     let shown = format!(in alloc; "{fault}")?;
-    assert_eq!(rt; (shown.as_str(), text), (wanted, wanted));
+    want(rt, (shown.as_str(), text), (wanted, wanted), "an error");
     Ok(())
 }
 
 #[test]
 fn errors_of_passwords_and_numbers(rt: HostRuntime) -> Result<(), Fail> {
-    for (fault, wanted) in [
+    for (fault, wanted) in &[
         (ParamFault::Range, "scrypt range"),
         (ParamFault::AboveCeiling, "above ceiling"),
     ] {
-        want(&rt, rt.alloc(), &fault, fault.text(), wanted)?;
+        want_shown(&rt, rt.alloc(), fault, fault.text(), wanted)?;
     }
-    for (fault, wanted) in [
+    for (fault, wanted) in &[
         (PasswordFault::TooLong, "password too long"),
         (PasswordFault::HasNul, "password has a zero byte"),
     ] {
-        want(&rt, rt.alloc(), &fault, fault.text(), wanted)?;
+        want_shown(&rt, rt.alloc(), fault, fault.text(), wanted)?;
     }
     Ok(())
 }
 
 #[test]
 fn errors_of_settings(rt: HostRuntime) -> Result<(), Fail> {
-    for (fault, wanted) in [
+    for (fault, wanted) in &[
         (SettingFault::TooLong, "setting too long"),
         (SettingFault::BadCharacter, "bad character"),
         (SettingFault::UnknownScheme, "unknown scheme"),
@@ -56,14 +57,14 @@ fn errors_of_settings(rt: HostRuntime) -> Result<(), Fail> {
         (SettingFault::AboveCeiling, "above ceiling"),
         (SettingFault::BadSalt, "bad salt"),
     ] {
-        want(&rt, rt.alloc(), &fault, fault.text(), wanted)?;
+        want_shown(&rt, rt.alloc(), fault, fault.text(), wanted)?;
     }
-    for (fault, wanted) in [
+    for (fault, wanted) in &[
         (MakeFault::SaltLength, "salt length"),
         (MakeFault::SaltCharacter, "salt character"),
         (MakeFault::Cost, "cost"),
     ] {
-        want(&rt, rt.alloc(), &fault, fault.text(), wanted)?;
+        want_shown(&rt, rt.alloc(), fault, fault.text(), wanted)?;
     }
     Ok(())
 }
@@ -71,19 +72,19 @@ fn errors_of_settings(rt: HostRuntime) -> Result<(), Fail> {
 #[test]
 fn errors_of_hashes(rt: HostRuntime) -> Result<(), Fail> {
     let fault = HashFault::OutOfMemory;
-    want(&rt, rt.alloc(), &fault, fault.text(), "out of memory")?;
-    for (fault, wanted) in [
+    want_shown(&rt, rt.alloc(), &fault, fault.text(), "out of memory")?;
+    for (fault, wanted) in &[
         (FitFault::Setting(SettingFault::BadCost), "bad cost"),
         (FitFault::OutOfMemory, "out of memory"),
     ] {
-        want(&rt, rt.alloc(), &fault, fault.text(), wanted)?;
+        want_shown(&rt, rt.alloc(), fault, fault.text(), wanted)?;
     }
     Ok(())
 }
 
 #[test]
 fn errors_of_lines(rt: HostRuntime) -> Result<(), Fail> {
-    for (fault, wanted) in [
+    for (fault, wanted) in &[
         (LineFault::LineTooLong, "line too long"),
         (LineFault::NoName, "no name"),
         (LineFault::NameTooLong, "name too long"),
@@ -95,14 +96,14 @@ fn errors_of_lines(rt: HostRuntime) -> Result<(), Fail> {
         (LineFault::Setting(SettingFault::BadSalt), "bad salt"),
         (LineFault::OverBudget, "over budget"),
     ] {
-        want(&rt, rt.alloc(), &fault, fault.text(), wanted)?;
+        want_shown(&rt, rt.alloc(), fault, fault.text(), wanted)?;
     }
     Ok(())
 }
 
 #[test]
 fn errors_of_runs(rt: HostRuntime) -> Result<(), Fail> {
-    for (fault, wanted, status) in [
+    for (fault, wanted, status) in &[
         (RunFault::Read, "read fault", 3),
         (RunFault::Write, "write fault", 3),
         (RunFault::OutOfMemory, "out of memory", 3),
@@ -113,58 +114,61 @@ fn errors_of_runs(rt: HostRuntime) -> Result<(), Fail> {
             2,
         ),
     ] {
-        want(&rt, rt.alloc(), &fault, fault.text(), wanted)?;
-        assert_eq!(rt; fault.status(), status, "{wanted}");
+        want_shown(&rt, rt.alloc(), fault, fault.text(), wanted)?;
+        want(&rt, fault.status(), *status, wanted);
     }
     Ok(())
 }
 
 #[test]
 fn errors_of_arguments(rt: HostRuntime) -> Result<(), Fail> {
-    for (fault, wanted, status) in [
+    for (fault, wanted, status) in &[
         (UsageFault::Method, "unknown method", 2),
         (UsageFault::TwoSalts, "two salts", 2),
         (UsageFault::TwoModes, "two modes", 2),
         (UsageFault::Make(MakeFault::Cost), "cost", 2),
         (UsageFault::OutOfMemory, "out of memory", 3),
     ] {
-        want(&rt, rt.alloc(), &fault, fault.text(), wanted)?;
-        assert_eq!(rt; fault.status(), status, "{wanted}");
+        want_shown(&rt, rt.alloc(), fault, fault.text(), wanted)?;
+        want(&rt, fault.status(), *status, wanted);
     }
     Ok(())
 }
 
-// An error of `clap` shows clap's message. The program prints that, so the text is empty.
+// Asserts what an error of `clap` for this argument shows. The program prints that, so the text is empty.
+fn want_clap(
+    rt: &impl Abort,
+    alloc: Global,
+    word: &str,
+    front: &str,
+    status: u8,
+) -> Result<(), Fail> {
+    let words = [String::from_str(alloc, word)?];
+    let Err(fault) = plan(alloc, &words) else {
+        panic!(rt; "a plan for {word}");
+    };
+    let shown = format!(in alloc; "{fault}")?;
+    let is_message = shown.as_str().starts_with(front) && shown.len() > 10;
+    want(rt, is_message, true, shown.as_str());
+    want(rt, (fault.text(), fault.status()), ("", status), word);
+    Ok(())
+}
+
 #[test]
 fn errors_of_clap(rt: HostRuntime) -> Result<(), Fail> {
-    for (word, front, status) in [
-        ("--such", "error: unexpected argument '--such' found", 2),
-        ("-V", "mkpasswd ", 0),
-        ("--help", "", 0),
-    ] {
-        let words = [String::from_str(rt.alloc(), word)?];
-        match plan(rt.alloc(), &words) {
-            Ok(_) => panic!(rt; "a plan for {word}"),
-            Err(fault) => {
-                let shown = format!(in rt.alloc(); "{fault}")?;
-                assert!(rt;
-                    shown.as_str().starts_with(front) && shown.len() > 10,
-                    "{shown}"
-                );
-                assert_eq!(rt; (fault.text(), fault.status()), ("", status), "{word}");
-            }
-        }
-    }
-    Ok(())
+    let unexpected = "error: unexpected argument '--such' found";
+    want_clap(&rt, rt.alloc(), "--such", unexpected, 2)?;
+    want_clap(&rt, rt.alloc(), "-V", "mkpasswd ", 0)?;
+    want_clap(&rt, rt.alloc(), "--help", "", 0)
 }
 
 #[test]
 fn errors_that_end_the_program(rt: HostRuntime) {
-    for (fault, text, status) in [
+    for (fault, text, status) in &[
         (Fault::Start, "start fault", 3),
         (Fault::Usage(UsageFault::TwoSalts), "two salts", 2),
         (Fault::Run(RunFault::Read), "read fault", 3),
     ] {
-        assert_eq!(rt; (fault.text(), fault.status()), (text, status));
+        want(&rt, (fault.text(), fault.status()), (*text, *status), text);
     }
 }

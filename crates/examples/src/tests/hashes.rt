@@ -1,7 +1,7 @@
 //! Hashes, with the counts of their work: digests, their bytes, mixings, and bytes of the table and of scratch memory, as the
 //! standards' steps take them.
 
-use super::counts;
+use super::{counts, want};
 use crypt_core::hash::hash;
 use crypt_core::md5crypt::md5crypt;
 use crypt_core::method::Method;
@@ -11,12 +11,13 @@ use crypt_core::setting::Setting;
 use crypt_core::shacrypt::shacrypt;
 use prims_core::counted::{CountedSha256, CountedSha512};
 use prims_core::meter::Meter;
+use std::process::Abort;
 use std::test::Fail;
 
 // Digests of rising bytes and of zeros. The characters in between are those of a Python program.
 #[test]
 fn packed_digests(rt: HostRuntime) -> Result<(), Fail> {
-    for (method, length, step, wanted) in [
+    for &(method, length, step, wanted) in &[
         (Method::Md5crypt, 16, 1, "AM..BQE.CUU.DYk.3c./9."),
         (Method::Md5crypt, 16, 0, "......................"),
         (
@@ -40,7 +41,7 @@ fn packed_digests(rt: HostRuntime) -> Result<(), Fail> {
     ] {
         let mut digest = Vec::new(rt.alloc());
         for n in 0..length as u8 {
-            digest.push(n * step)?;
+            digest.push(n.wrapping_mul(step))?;
         }
         assert!(rt; digest.len() == length);
         let known = matches!(
@@ -51,7 +52,7 @@ fn packed_digests(rt: HostRuntime) -> Result<(), Fail> {
         );
         assert!(rt; known);
         let text = pack(method, digest.as_slice());
-        assert_eq!(rt; text.as_slice(), wanted.as_bytes(), "{method:?}");
+        want(&rt, text.as_slice(), wanted.as_bytes(), wanted);
     }
     Ok(())
 }
@@ -60,7 +61,7 @@ fn packed_digests(rt: HostRuntime) -> Result<(), Fail> {
 // SHA-crypt that depend on a digest are of a Python program.
 #[test]
 fn hashes(rt: HostRuntime) -> Result<(), Fail> {
-    for (setting, password, wanted, work) in [
+    for &(setting, password, wanted, work) in &[
         (
             "$1$xxxxxxxx",
             "password",
@@ -120,41 +121,50 @@ fn hashes(rt: HostRuntime) -> Result<(), Fail> {
         let password = Password::new(password.as_bytes())?;
         let mut meter = Meter::new();
         let hashed = hash(rt.alloc(), &password, &setting, &mut meter)?;
-        assert_eq!(rt; hashed.text(), wanted.as_bytes());
-        assert_eq!(rt; counts(&meter), work, "{wanted}");
+        want(&rt, hashed.text(), wanted.as_bytes(), wanted);
+        want(&rt, counts(&meter), work, wanted);
     }
     Ok(())
 }
 
-// The digests that the hashes above pack, without a setting.
+// Asserts a digest's text, which a hash above has too, and its work.
+fn want_packed(rt: &impl Abort, text: &[u8], meter: &Meter, wanted: &str, work: [u128; 5]) {
+    want(rt, text, wanted.as_bytes(), wanted);
+    want(rt, counts(meter), work, wanted);
+}
+
 #[test]
-fn digests_of_passwords(rt: HostRuntime) -> Result<(), Fail> {
+fn digests_by_md5crypt(rt: HostRuntime) -> Result<(), Fail> {
+    let password = Password::new(b"password")?;
     let mut meter = Meter::new();
-    let md5 = md5crypt(&Password::new(b"password")?, b"xxxxxxxx", &mut meter);
-    assert_eq!(rt;
-        pack(Method::Md5crypt, &md5).as_slice(),
-        b"UYCIxa628.9qXjpQCjM4a.".as_slice()
-    );
-    assert_eq!(rt; counts(&meter), [1002, 36239, 0, 0, 0]);
+    let digest = md5crypt(&password, b"xxxxxxxx", &mut meter);
+    let text = pack(Method::Md5crypt, &digest);
+    let wanted = "UYCIxa628.9qXjpQCjM4a.";
+    want_packed(&rt, text.as_slice(), &meter, wanted, [1002, 36239, 0, 0, 0]);
+    Ok(())
+}
+
+#[test]
+fn digests_by_sha256crypt(rt: HostRuntime) -> Result<(), Fail> {
+    let password = Password::new(b"Hello world!")?;
     let mut meter = Meter::new();
-    let sha256 = shacrypt::<CountedSha256>(
-        &Password::new(b"Hello world!")?,
-        b"saltstring",
-        5000,
-        &mut meter,
-    );
-    assert_eq!(rt;
-        pack(Method::Sha256crypt, &sha256).as_slice(),
-        b"5B8vYYiY.CVt1RlTTf8KbXBH3hsxY/GNooZaBBGWEc5".as_slice()
-    );
-    assert_eq!(rt; counts(&meter), [5004, 307620, 0, 0, 0]);
-    let mut meter = Meter::new();
+    let digest = shacrypt::<CountedSha256>(&password, b"saltstring", 5000, &mut meter);
+    let text = pack(Method::Sha256crypt, &digest);
+    let wanted = "5B8vYYiY.CVt1RlTTf8KbXBH3hsxY/GNooZaBBGWEc5";
+    let work = [5004, 307620, 0, 0, 0];
+    want_packed(&rt, text.as_slice(), &meter, wanted, work);
+    Ok(())
+}
+
+#[test]
+fn digests_by_sha512crypt(rt: HostRuntime) -> Result<(), Fail> {
     let password = Password::new(b"This is just a test")?;
-    let sha512 = shacrypt::<CountedSha512>(&password, b"toolongsaltstrin", 5000, &mut meter);
-    assert_eq!(rt;
-        pack(Method::Sha512crypt, &sha512).as_slice(),
-        b"lQ8jolhgVRVhY4b5pZKaysCLi0QBxGoNeKQzQ3glMhwllF7oGDZxUhx1yxdYcz/e1JSbq3y6JMxxl8audkUEm0".as_slice()
-    );
-    assert_eq!(rt; counts(&meter), [5004, 553274, 0, 0, 0]);
+    let mut meter = Meter::new();
+    let digest = shacrypt::<CountedSha512>(&password, b"toolongsaltstrin", 5000, &mut meter);
+    let text = pack(Method::Sha512crypt, &digest);
+    let wanted =
+        "lQ8jolhgVRVhY4b5pZKaysCLi0QBxGoNeKQzQ3glMhwllF7oGDZxUhx1yxdYcz/e1JSbq3y6JMxxl8audkUEm0";
+    let work = [5004, 553274, 0, 0, 0];
+    want_packed(&rt, text.as_slice(), &meter, wanted, work);
     Ok(())
 }

@@ -1,14 +1,34 @@
 //! The rules that a line can break, in their order.
 
 use super::commands::left_by;
-use super::padded;
+use super::{padded, want};
 use run_core::line::{Kind, inspect};
+use std::alloc::Global;
+use std::process::Abort;
 use std::test::Fail;
 
-// What `inspect` finds is the message of a run. Otherwise these fields are locked.
+// Asserts the rule that a line breaks: what `inspect` finds is the message of a run. A line that breaks none is locked.
+fn want_rule(
+    rt: &impl Abort,
+    alloc: Global,
+    line: &[u8],
+    wanted: Option<&str>,
+) -> Result<(), Fail> {
+    let fault = inspect(Kind::Check, line);
+    want(rt, fault.map(|fault| fault.text()), wanted, "a rule");
+    let left = left_by(alloc, &["--check"], line)?;
+    match wanted {
+        Some(message) => left.want_refused(rt, alloc, message),
+        None => {
+            left.want(rt, "no rule", 0, "a:locked\n", "");
+            Ok(())
+        }
+    }
+}
+
 #[test]
 fn rules_of_a_check(rt: HostRuntime) -> Result<(), Fail> {
-    for (front, letter, count, back, wanted) in [
+    for &(front, letter, count, back, wanted) in &[
         (":", b'a', 2048, "", Some("line too long")),
         ("", b'a', 0, ":!:x", Some("no name")),
         ("", b'a', 65, "", Some("name too long")),
@@ -29,23 +49,14 @@ fn rules_of_a_check(rt: HostRuntime) -> Result<(), Fail> {
         ("a:$7$2/..../....a_b:x", b'a', 0, "", Some("bad salt")),
     ] {
         let line = padded(rt.alloc(), front.as_bytes(), letter, count, back.as_bytes())?;
-        let fault = inspect(Kind::Check, line.as_slice());
-        assert_eq!(rt; fault.map(|fault| fault.text()), wanted, "{front} {count}");
-        let left = left_by(rt.alloc(), &["--check"], line.as_slice())?;
-        match wanted {
-            Some(text) => {
-                let message = format!(in rt.alloc(); "mkpasswd: line 1: {text}\n")?;
-                left.want(&rt, front, 1, "", message.as_str());
-            }
-            None => left.want(&rt, front, 0, "a:locked\n", ""),
-        }
+        want_rule(&rt, rt.alloc(), line.as_slice(), wanted)?;
     }
     Ok(())
 }
 
 #[test]
 fn rules_of_other_lines(rt: HostRuntime) {
-    let rows: [(Kind, &[u8], Option<&str>); 7] = [
+    let rows: &[(Kind, &[u8], Option<&str>)] = &[
         (Kind::Batch, b"ann:a:b", None),
         (Kind::Batch, b"ann", Some("no password field")),
         (Kind::Batch, b":x", Some("no name")),
@@ -54,8 +65,8 @@ fn rules_of_other_lines(rt: HostRuntime) {
         (Kind::Audit, b"a:$7$J6..../....a_b", None),
         (Kind::Audit, b"a", Some("no password field")),
     ];
-    for (kind, line, text) in rows {
+    for &(kind, line, wanted) in rows {
         let fault = inspect(kind, line);
-        assert_eq!(rt; fault.map(|fault| fault.text()), text, "{line:?}");
+        want(&rt, fault.map(|fault| fault.text()), wanted, "a line");
     }
 }

@@ -1,6 +1,8 @@
 //! Salsa20/8 and scrypt's mixing of blocks, and the memory that scrypt works in.
+ghost use Rattle.std.specs.Prelude.{◌≡◌, ◌+◌, ◌*◌, ◌≤◌, length, IfOk};
+ghost use Rattle.prims_core.specs.Memory.{HasShape};
 
-use super::{counts, hexadecimal};
+use super::{counts, want};
 use prims_core::counted::{Counted, CountedSha256};
 use prims_core::meter::Meter;
 use prims_core::mix::{block_mix, from_diagonals, mix_xor_diagonals, to_diagonals};
@@ -8,7 +10,7 @@ use prims_core::salsa::salsa8;
 use prims_core::scratch::{ByteScratch, WordScratch};
 use prims_core::table::Table;
 use prims_core::words::{load_words, store_words};
-use std::alloc::Global;
+use std::alloc::{AllocError, Global};
 use std::process::Abort;
 use std::test::Fail;
 
@@ -20,22 +22,23 @@ const BLOCK: [u8; 64] = [
     0x76, 0x02, 0x1d, 0x29, 0x09, 0xc7, 0x48, 0x29, 0xed, 0xeb, 0xc6, 0x8d, 0xb8, 0xb8, 0xc2, 0x5e,
 ];
 
-#[test]
-fn a_block(rt: HostRuntime) -> Result<(), Fail> {
+// Returns a block after Salsa20/8.
+fn salsa8_of(block: &[u8; 64]) -> [u8; 64] {
     let mut words = [0; 16];
-    load_words(&BLOCK, &mut words);
+    load_words(block, &mut words);
     salsa8(&mut words);
     let mut bytes = [0; 64];
     store_words(&words, &mut bytes);
-    assert_eq!(rt;
-        hexadecimal(rt.alloc(), &bytes)?.as_str(),
-        "a41f859c6608cc993b81cacb020cef05044b2181a2fd337dfd7b1c6396682f29\
-         b4393168e3c9e6bcfe6bc5b7a06d96bae424cc102c91745c24ad673dc7618f81",
-        "RFC 7914, section 8"
-    );
-    let mut zeros = [0; 16];
-    salsa8(&mut zeros);
-    assert_eq!(rt; zeros, [0; 16]);
+    bytes
+}
+
+#[test]
+fn a_block(rt: HostRuntime) -> Result<(), Fail> {
+    let told = hex::encode(rt.alloc(), salsa8_of(&BLOCK))?;
+    let wanted = "a41f859c6608cc993b81cacb020cef05044b2181a2fd337dfd7b1c6396682f29\
+        b4393168e3c9e6bcfe6bc5b7a06d96bae424cc102c91745c24ad673dc7618f81";
+    want(&rt, told.as_str(), wanted, "RFC 7914, section 8");
+    want(&rt, salsa8_of(&[0; 64]), [0; 64], "zeros");
     Ok(())
 }
 
@@ -109,18 +112,26 @@ const MIXED: [u8; 128] = [
     0x5d, 0x2a, 0x22, 0x58, 0x77, 0xd5, 0xed, 0xf5, 0x84, 0x2c, 0xb9, 0xf1, 0x4e, 0xef, 0xe4, 0x25,
 ];
 
-#[test]
-fn blocks(rt: HostRuntime) {
+// Mixes two blocks.
+fn mixed(blocks: &[u8; 128], meter: &mut Meter) -> [u8; 128]
+    requires { meter.old.mixes ≡ 0 }
+{
     let mut words = [0; 32];
-    load_words(&BLOCKS, &mut words);
+    load_words(blocks, &mut words);
     let mut mixed = [7; 32];
-    block_mix(&words, &mut mixed, &mut Meter::new());
+    block_mix(&words, &mut mixed, meter);
     let mut bytes = [0; 128];
     store_words(&mixed, &mut bytes);
-    assert_eq!(rt; bytes, MIXED, "RFC 7914, section 9");
+    bytes
+}
+
+#[test]
+fn blocks(rt: HostRuntime) {
+    let told = mixed(&BLOCKS, &mut Meter::new());
+    want(&rt, told, MIXED, "RFC 7914, section 9");
     let mut meter = Meter::new();
-    block_mix(&[0; 32], &mut mixed, &mut meter);
-    assert_eq!(rt; (mixed, counts(&meter)), ([0; 32], [0, 0, 1, 0, 0]));
+    want(&rt, mixed(&[0; 128], &mut meter), [0; 128], "zeros");
+    want(&rt, counts(&meter), [0, 0, 1, 0, 0], "a mixing");
 }
 
 // Returns the SHA-256 of words, lowest byte first.
@@ -132,47 +143,67 @@ fn digest_of(alloc: Global, words: &[u32]) -> Result<String, Fail> {
     let mut meter = Meter::new();
     let mut running = CountedSha256::begin();
     running.feed(&mut meter, bytes.as_slice());
-    Ok(hexadecimal(alloc, &running.finish(&mut meter))?)
+    Ok(hex::encode(alloc, running.finish(&mut meter).as_slice())?)
 }
 
-// Asserts the mixing of 2r blocks of the bytes 3, 10, 17 and so on: of the blocks themselves, and of two whose XOR they are.
-fn want_mixed(rt: &impl Abort, alloc: Global, r: usize, wanted: &str) -> Result<(), Fail> {
-    assert!(rt; 1 <= r && r <= 6);
+// Returns the words of 2r blocks of the bytes 3, 10, 17 and so on.
+fn rising_blocks(alloc: Global, r: usize) -> Result<Vec<u32>, AllocError>
+    requires { r ≤ 6 }
+    ensures { IfOk result (λ words. length words.items ≡ 32 * r) }
+{
     let mut bytes = vec![in alloc; 3u8; 128 * r]?;
-    let mut next = 3u8;
-    for byte in bytes.iter_mut() {
-        *byte = next;
-        next = next.wrapping_add(7);
+    for i in 1..128 * r {
+        bytes[i] = bytes[i - 1].wrapping_add(7);
     }
     let mut words = vec![in alloc; 0; 32 * r]?;
     load_words(&bytes, &mut words);
+    Ok(words)
+}
+
+// Asserts the mixing of 2r blocks.
+fn want_mixed(rt: &impl Abort, alloc: Global, r: usize, wanted: &str) -> Result<(), Fail> {
+    assert!(rt; 1 <= r && r <= 6);
+    let words = rising_blocks(alloc, r)?;
     let mut mixed = vec![in alloc; 7; 32 * r]?;
     block_mix(&words, &mut mixed, &mut Meter::new());
-    assert_eq!(rt; digest_of(alloc, &mixed)?.as_str(), wanted, "r = {r}");
-    let mut row = vec![in alloc; 0; 32 * r]?;
+    want(rt, digest_of(alloc, &mixed)?.as_str(), wanted, "blocks");
+    want_xor_mixed(rt, alloc, r, wanted)
+}
+
+// Replaces words by their XOR with others, which go to `row`.
+fn split(words: &mut [u32], row: &mut [u32])
+    requires { length words.old ≡ length row.old }
+{
     let mut next = 0x9e37_79b9u32;
-    for (word, other) in words.iter_mut().zip(row.iter_mut()) {
-        *other = next;
-        *word ^= next;
+    for i in 0..words.len() {
+        row[i] = next;
+        words[i] ^= next;
         next = next.wrapping_mul(0x0019_660d).wrapping_add(1);
     }
+}
+
+// Asserts the same mixing of two pieces whose XOR the blocks are, by diagonals.
+fn want_xor_mixed(rt: &impl Abort, alloc: Global, r: usize, wanted: &str) -> Result<(), Fail>
+    requires { (1 ≤ r) × (r ≤ 6) }
+{
+    let mut words = rising_blocks(alloc, r)?;
+    let mut row = vec![in alloc; 0; 32 * r]?;
+    split(&mut words, &mut row);
     to_diagonals(&mut words);
     to_diagonals(&mut row);
+    let mut mixed = vec![in alloc; 7; 32 * r]?;
     let mut meter = Meter::new();
     mix_xor_diagonals(&words, &row, &mut mixed, &mut meter);
     from_diagonals(&mut mixed);
-    assert_eq!(rt;
-        (digest_of(alloc, &mixed)?.as_str(), counts(&meter)),
-        (wanted, [0, 0, 1, 0, 0]),
-        "by diagonals, r = {r}"
-    );
+    want(rt, digest_of(alloc, &mixed)?.as_str(), wanted, "diagonals");
+    want(rt, counts(&meter), [0, 0, 1, 0, 0], "a mixing");
     Ok(())
 }
 
 // The SHA-256 of what a Python program mixes, which gives the vector above too.
 #[test]
 fn more_blocks(rt: HostRuntime) -> Result<(), Fail> {
-    for (r, wanted) in [
+    for &(r, wanted) in &[
         (
             2,
             "badb34e22ec69e60102ad17ee68c6e2632abcc7ec97dd3c296864606254f62bf",
@@ -198,26 +229,21 @@ fn a_block_by_its_diagonals(rt: HostRuntime) {
     let mut words = rows;
     to_diagonals(&mut words);
     let diagonals = [0, 5, 10, 15, 4, 9, 14, 3, 8, 13, 2, 7, 12, 1, 6, 11];
-    assert_eq!(rt; words, diagonals);
+    want(&rt, words, diagonals, "diagonals");
     from_diagonals(&mut words);
-    assert_eq!(rt; words, rows);
+    want(&rt, words, rows, "rows");
 }
 
 #[test]
 fn a_table(rt: HostRuntime) -> Result<(), Fail> {
     let mut meter = Meter::new();
     let mut table = Table::new(rt.alloc(), 3, 32, &mut meter)?;
-    let mut row = [0; 32];
-    for (i, word) in row.iter_mut().enumerate() {
-        *word = i as u32 + 1;
-    }
+    let (zeros, row) = ([0; 32], on_diagonals(&BLOCKS));
     table.set_row(1, &row);
-    let zeros = [0; 32];
-    assert_eq!(rt;
-        (table.row(0), table.row(1), table.row(2)),
-        (zeros.as_slice(), row.as_slice(), zeros.as_slice())
-    );
-    assert_eq!(rt; counts(&meter), [0, 0, 0, 384, 0]);
+    want(&rt, table.row(0), zeros.as_slice(), "row 0");
+    want(&rt, table.row(1), row.as_slice(), "row 1");
+    want(&rt, table.row(2), zeros.as_slice(), "row 2");
+    want(&rt, counts(&meter), [0, 0, 0, 384, 0], "memory");
     Ok(())
 }
 
@@ -226,46 +252,55 @@ fn a_table_of_long_rows(rt: HostRuntime) -> Result<(), Fail> {
     let mut table = Table::new(rt.alloc(), 3, 1025, &mut Meter::new())?;
     let (zeros, ones) = ([0; 1025], [1; 1025]);
     table.set_row(1, &ones);
-    assert_eq!(rt;
-        (table.row(0), table.row(1), table.row(2)),
-        (zeros.as_slice(), ones.as_slice(), zeros.as_slice())
-    );
+    want(&rt, table.row(0), zeros.as_slice(), "row 0");
+    want(&rt, table.row(1), ones.as_slice(), "row 1");
+    want(&rt, table.row(2), zeros.as_slice(), "row 2");
     Ok(())
+}
+
+// Returns the words of two blocks, diagonal by diagonal.
+fn on_diagonals(blocks: &[u8; 128]) -> [u32; 32] {
+    let mut words = [0; 32];
+    load_words(blocks, &mut words);
+    to_diagonals(&mut words);
+    words
+}
+
+// Fills a table of two rows, and returns the blocks after them.
+fn fill(table: &mut Table, blocks: &[u32; 32], meter: &mut Meter) -> [u32; 32]
+    requires shape { HasShape table.old 2 32 }
+    requires room { meter.old.mixes ≤ 2 }
+    ensures shape { HasShape table.new 2 32 }
+    ensures count { meter.new ≡ record meter.old { mixes = meter.old.mixes + 2 } }
+{
+    let (mut x, mut y) = (*blocks, [7; 32]);
+    table.fill_by_mixing(&mut x, &mut y, meter);
+    x
+}
+
+// Asserts the rows of a table of two.
+fn want_rows(rt: &impl Abort, table: &Table, first: &[u32; 32], second: &[u32; 32], what: &str)
+    requires { length table.now ≡ 2 }
+{
+    want(rt, table.row(0), first.as_slice(), what);
+    want(rt, table.row(1), second.as_slice(), what);
 }
 
 // The first loop of scryptROMix, twice over the same table. The blocks are those of RFC 7914, section 9.
 #[test]
 fn a_table_filled_by_mixing(rt: HostRuntime) -> Result<(), Fail> {
-    let (mut first, mut second) = ([0; 32], [0; 32]);
-    load_words(&BLOCKS, &mut first);
-    load_words(&MIXED, &mut second);
-    let mut third = [0; 32];
-    block_mix(&second, &mut third, &mut Meter::new());
-    to_diagonals(&mut first);
-    to_diagonals(&mut second);
-    to_diagonals(&mut third);
+    let (first, second) = (on_diagonals(&BLOCKS), on_diagonals(&MIXED));
+    let third = on_diagonals(&mixed(&MIXED, &mut Meter::new()));
     let mut meter = Meter::new();
     let mut table = Table::new(rt.alloc(), 2, 32, &mut meter)?;
-    let (mut x, mut y) = (first, [7; 32]);
-    table.fill_by_mixing(&mut x, &mut y, &mut meter);
-    assert_eq!(rt;
-        (table.row(0), table.row(1), x),
-        (first.as_slice(), second.as_slice(), third)
-    );
-    let mut x = second;
-    table.fill_by_mixing(&mut x, &mut y, &mut meter);
-    assert_eq!(rt;
-        (table.row(0), table.row(1)),
-        (second.as_slice(), third.as_slice()),
-        "filled already"
-    );
+    let next = fill(&mut table, &first, &mut meter);
+    want(&rt, next, third, "after the rows");
+    want_rows(&rt, &table, &first, &second, "filled");
+    let _ = fill(&mut table, &second, &mut meter);
+    want_rows(&rt, &table, &second, &third, "filled already");
     table.set_row(0, &first);
-    assert_eq!(rt;
-        (table.row(0), table.row(1)),
-        (first.as_slice(), third.as_slice()),
-        "a row that is set then"
-    );
-    assert_eq!(rt; counts(&meter), [0, 0, 4, 256, 0]);
+    want_rows(&rt, &table, &first, &third, "a row that is set then");
+    want(&rt, counts(&meter), [0, 0, 4, 256, 0], "work");
     Ok(())
 }
 
@@ -275,21 +310,29 @@ fn memory_that_is_counted(rt: HostRuntime) -> Result<(), Fail> {
     let table = Table::new(rt.alloc(), 2, 32, &mut meter)?;
     let mut bytes = ByteScratch::new(rt.alloc(), 128, &mut meter)?;
     let mut words = WordScratch::new(rt.alloc(), 64, &mut meter)?;
-    assert_eq!(rt; counts(&meter), [0, 0, 0, 256, 128 + 256]);
-    assert_eq!(rt;
-        (table.row(1), bytes.bytes(), words.words()),
-        ([0; 32].as_slice(), [0; 128].as_slice(), [0; 64].as_slice())
-    );
-    bytes.bytes_mut()[127] = 255;
-    words.words_mut()[63] = 0xffff_ffff;
-    assert_eq!(rt;
-        (
-            bytes.bytes()[126],
-            bytes.bytes()[127],
-            words.words()[62],
-            words.words()[63]
-        ),
-        (0, 255, 0, 0xffff_ffff)
-    );
+    want(&rt, counts(&meter), [0, 0, 0, 256, 128 + 256], "memory");
+    want(&rt, table.row(1), [0; 32].as_slice(), "a row");
+    want_bytes(&rt, &mut bytes);
+    want_words(&rt, &mut words);
     Ok(())
+}
+
+// Asserts that bytes of scratch memory are zeros, and keep what is written.
+fn want_bytes(rt: &impl Abort, bytes: &mut ByteScratch)
+    requires { length bytes.old ≡ 128 }
+{
+    want(rt, bytes.bytes(), [0; 128].as_slice(), "bytes");
+    bytes.bytes_mut()[127] = 255;
+    let last = (bytes.bytes()[126], bytes.bytes()[127]);
+    want(rt, last, (0, 255), "bytes");
+}
+
+// Asserts the same of words.
+fn want_words(rt: &impl Abort, words: &mut WordScratch)
+    requires { length words.old ≡ 64 }
+{
+    want(rt, words.words(), [0; 64].as_slice(), "words");
+    words.words_mut()[63] = 0xffff_ffff;
+    let last = (words.words()[62], words.words()[63]);
+    want(rt, last, (0, 0xffff_ffff), "words");
 }

@@ -1,6 +1,6 @@
 //! Methods, passwords and settings: what is read, what is made, and what replaces what.
 
-use super::padded;
+use super::{padded, want};
 use arrayvec::ArrayVec;
 use crypt_core::made_salt::salt_of;
 use crypt_core::method::Method;
@@ -12,44 +12,47 @@ use std::test::Fail;
 
 #[test]
 fn methods(rt: HostRuntime) {
-    let rows: [(&[u8], Option<Method>); 9] = [
-        (b"md5crypt", Some(Method::Md5crypt)),
-        (b"md5", Some(Method::Md5crypt)),
-        (b"sha256crypt", Some(Method::Sha256crypt)),
-        (b"sha-256", Some(Method::Sha256crypt)),
-        (b"sha512crypt", Some(Method::Sha512crypt)),
-        (b"sha-512", Some(Method::Sha512crypt)),
-        (b"scrypt", Some(Method::Scrypt)),
-        (b"help", None),
-        (b"sha1", None),
-    ];
-    for (name, method) in rows {
-        assert_eq!(rt; Method::named(name), method, "{name:?}");
+    for &(name, method) in &[
+        ("md5crypt", Some(Method::Md5crypt)),
+        ("md5", Some(Method::Md5crypt)),
+        ("sha256crypt", Some(Method::Sha256crypt)),
+        ("sha-256", Some(Method::Sha256crypt)),
+        ("sha512crypt", Some(Method::Sha512crypt)),
+        ("sha-512", Some(Method::Sha512crypt)),
+        ("scrypt", Some(Method::Scrypt)),
+        ("help", None),
+        ("sha1", None),
+    ] {
+        want(&rt, Method::named(name.as_bytes()), method, name);
     }
+}
+
+// Asserts that a password keeps its bytes, or the message of the error.
+fn want_password(rt: &impl Abort, bytes: &[u8], wanted: Option<&str>) {
+    let fault = match Password::new(bytes) {
+        Ok(password) => {
+            want(rt, password.bytes(), bytes, "the bytes of a password");
+            None
+        }
+        Err(fault) => Some(fault.text()),
+    };
+    want(rt, fault, wanted, "a password");
 }
 
 #[test]
 fn passwords(rt: HostRuntime) -> Result<(), Fail> {
-    for (letter, count, wanted) in [
-        (b'a', 0, Ok(())),
-        (b'a', 512, Ok(())),
-        (b'a', 513, Ok(())),
-        (b'a', 1024, Ok(())),
-        (b'a', 1025, Err("password too long")),
-        (0, 1, Err("password has a zero byte")),
-        (0, 513, Err("password has a zero byte")),
-        (0, 1025, Err("password too long")),
+    for &(letter, count, wanted) in &[
+        (b'a', 0, None),
+        (b'a', 512, None),
+        (b'a', 513, None),
+        (b'a', 1024, None),
+        (b'a', 1025, Some("password too long")),
+        (0, 1, Some("password has a zero byte")),
+        (0, 513, Some("password has a zero byte")),
+        (0, 1025, Some("password too long")),
     ] {
         let bytes = padded(rt.alloc(), b"", letter, count, b"")?;
-        let password = Password::new(bytes.as_slice());
-        let told = match &password {
-            Ok(password) => {
-                assert_eq!(rt; password.bytes(), bytes.as_slice());
-                Ok(())
-            }
-            Err(fault) => Err(fault.text()),
-        };
-        assert_eq!(rt; told, wanted, "{count} times {letter}");
+        want_password(&rt, bytes.as_slice(), wanted);
     }
     Ok(())
 }
@@ -72,7 +75,7 @@ fn read(text: &[u8]) -> ArrayVec<u8, TEXT_CAPACITY> {
 
 #[test]
 fn settings_that_are_read(rt: HostRuntime) {
-    for (text, wanted) in [
+    for &(text, wanted) in &[
         ("$5$rounds=123456789012$ab", "$5$rounds=999999999$ab"),
         ("$6$rounds=999$", "$6$rounds=1000$"),
         ("$6$rounds=10$roundstoolow", "$6$rounds=1000$roundstoolow"),
@@ -111,34 +114,27 @@ fn settings_that_are_read(rt: HostRuntime) {
         ("$7$.zzzzzzzzzz", "scrypt range"),
         ("$7$/...../....", "scrypt range"),
     ] {
-        assert_eq!(rt;
-            read(text.as_bytes()).as_slice(),
-            wanted.as_bytes(),
-            "{text}"
-        );
+        let told = read(text.as_bytes());
+        want(&rt, told.as_slice(), wanted.as_bytes(), text);
     }
 }
 
 #[test]
 fn what_a_setting_keeps(rt: HostRuntime) -> Result<(), Fail> {
-    let rows: [(&[u8], Method, &[u8]); 5] = [
-        (b"$5$rounds", Method::Sha256crypt, b"rounds"),
-        (b"$1$", Method::Md5crypt, b""),
-        (b"$5$rounds=1000$rounds=5", Method::Sha256crypt, b"rounds=5"),
+    for &(text, method, salt) in &[
+        ("$5$rounds", Method::Sha256crypt, "rounds"),
+        ("$1$", Method::Md5crypt, ""),
+        ("$5$rounds=1000$rounds=5", Method::Sha256crypt, "rounds=5"),
         (
-            b"$6$toolongsaltstring",
+            "$6$toolongsaltstring",
             Method::Sha512crypt,
-            b"toolongsaltstrin",
+            "toolongsaltstrin",
         ),
-        (b"$7$2/..../....NaCl$", Method::Scrypt, b"NaCl"),
-    ];
-    for (text, method, salt) in rows {
-        let setting = Setting::read(text)?;
-        assert_eq!(rt;
-            (setting.method(), setting.salt()),
-            (method, salt),
-            "{text:?}"
-        );
+        ("$7$2/..../....NaCl$", Method::Scrypt, "NaCl"),
+    ] {
+        let setting = Setting::read(text.as_bytes())?;
+        want(&rt, setting.method(), method, text);
+        want(&rt, setting.salt(), salt.as_bytes(), text);
     }
     Ok(())
 }
@@ -146,7 +142,7 @@ fn what_a_setting_keeps(rt: HostRuntime) -> Result<(), Fail> {
 // Each limit, and one byte more.
 #[test]
 fn long_settings(rt: HostRuntime) -> Result<(), Fail> {
-    for (front, letter, count, wanted) in [
+    for &(front, letter, count, wanted) in &[
         ("$7$2/..../....", b'a', 86, None),
         ("$7$2/..../....", b'a', 87, Some("bad salt")),
         ("$1$", b'a', 381, None),
@@ -156,11 +152,7 @@ fn long_settings(rt: HostRuntime) -> Result<(), Fail> {
     ] {
         let text = padded(rt.alloc(), front.as_bytes(), letter, count, b"")?;
         let fault = Setting::read(text.as_slice()).err();
-        assert_eq!(rt;
-            fault.map(|fault| fault.text()),
-            wanted,
-            "{front} and {count}"
-        );
+        want(&rt, fault.map(|fault| fault.text()), wanted, front);
     }
     Ok(())
 }
@@ -195,7 +187,7 @@ fn prefixes_with_rounds(rt: HostRuntime) {
 
 #[test]
 fn settings_that_are_made(rt: HostRuntime) {
-    for (method, cost, salt, wanted) in [
+    for &(method, cost, salt, wanted) in &[
         (
             Method::Sha512crypt,
             0,
@@ -213,11 +205,8 @@ fn settings_that_are_made(rt: HostRuntime) {
         (Method::Scrypt, 5, "", "salt length"),
     ] {
         let made = Setting::make(method, cost, salt.as_bytes());
-        assert_eq!(rt;
-            told(made.map_err(|fault| fault.text())).as_slice(),
-            wanted.as_bytes(),
-            "{cost} {salt}"
-        );
+        let told = told(made.map_err(|fault| fault.text()));
+        want(&rt, told.as_slice(), wanted.as_bytes(), salt);
     }
 }
 
@@ -229,7 +218,8 @@ fn salts_from_random_numbers(rt: HostRuntime) {
         ([most, most, most], 16, "zzzzzzzzzzzzzzzz"),
         ([most, most, most], 0, ""),
     ] {
-        assert_eq!(rt; salt_of(numbers, length).as_slice(), wanted.as_bytes());
+        let salt = salt_of(numbers, length);
+        want(&rt, salt.as_slice(), wanted.as_bytes(), wanted);
     }
 }
 
@@ -244,12 +234,12 @@ fn want_maker(
 ) {
     let text = match Maker::new(method, cost, salt) {
         Ok(maker) => {
-            assert_eq!(rt; maker.draws(), draws, "{wanted}");
+            want(rt, maker.draws(), draws, wanted);
             told(Ok(maker.setting([129, 0, 0])))
         }
         Err(fault) => told(Err(fault.text())),
     };
-    assert_eq!(rt; text.as_slice(), wanted.as_bytes());
+    want(rt, text.as_slice(), wanted.as_bytes(), wanted);
 }
 
 #[test]
@@ -267,10 +257,17 @@ fn makers(rt: HostRuntime) {
     want_maker(&rt, Method::Md5crypt, 0, Some(b""), false, "salt length");
 }
 
+// Returns whether a setting is replaced by another.
+fn is_replaced(old: &str, new: &str) -> Result<bool, Fail> {
+    let setting = Setting::read(old.as_bytes())?;
+    let other = Setting::read(new.as_bytes())?;
+    Ok(setting.replaced_by(&other))
+}
+
 // Rounds or the product of scrypt's numbers decide, not salts or how the rounds are written.
 #[test]
 fn settings_that_replace_others(rt: HostRuntime) -> Result<(), Fail> {
-    for (old, new, wanted) in [
+    for &(old, new, wanted) in &[
         ("$1$a", "$1$b", false),
         ("$1$a", "$5$b", true),
         ("$6$rounds=999999999$a", "$1$b", true),
@@ -284,9 +281,7 @@ fn settings_that_replace_others(rt: HostRuntime) -> Result<(), Fail> {
         ("$7$CU..../....a", "$7$C6..../....a", false),
         ("$7$CU..../....a", "$6$a", true),
     ] {
-        let setting = Setting::read(old.as_bytes())?;
-        let other = Setting::read(new.as_bytes())?;
-        assert_eq!(rt; setting.replaced_by(&other), wanted, "{old} by {new}");
+        want(&rt, is_replaced(old, new)?, wanted, old);
     }
     Ok(())
 }

@@ -1,13 +1,34 @@
 //! Stored hashes: what a field holds, and which passwords match it.
 
-use super::counts;
+use super::{counts, want};
 use crypt_core::fits::fits;
 use crypt_core::password::Password;
 use crypt_core::stored::StoredField;
 use prims_core::meter::Meter;
+use std::alloc::Global;
+use std::process::Abort;
 use std::test::Fail;
 
-// The hashes are those of openssl-passwd(1), Drepper's specification and RFC 7914. A field that is refused costs nothing.
+// Asserts whether a password matches a stored hash, or the message of the error, and the digests that it takes. A field
+// that is refused costs nothing.
+fn want_fit(
+    rt: &impl Abort,
+    alloc: Global,
+    (word, stored): (&str, &str),
+    wanted: Result<bool, &str>,
+    digests: u128,
+) -> Result<(), Fail> {
+    let password = Password::new(word.as_bytes())?;
+    let mut meter = Meter::new();
+    let told = fits(alloc, &password, stored.as_bytes(), &mut meter);
+    want(rt, told.map_err(|fault| fault.text()), wanted, stored);
+    let work = counts(&meter);
+    want(rt, work[0], digests, stored);
+    want(rt, work == [0; 5], digests == 0, stored);
+    Ok(())
+}
+
+// The hashes are those of openssl-passwd(1), Drepper's specification and RFC 7914.
 #[test]
 fn passwords_that_match(rt: HostRuntime) -> Result<(), Fail> {
     let (md5crypt, scrypt) = (
@@ -17,7 +38,7 @@ fn passwords_that_match(rt: HostRuntime) -> Result<(), Fail> {
     let observed = "the minimum number is still observed";
     let long =
         "$1$aaaaaaaaaaaaaaaaaaaaaaaaaaaaaaaaaaaaaaaaaaaaaaaaaaaaaaaaaaaaaaaaaaaaaaaaaaaaaaaaaaaaaaaaaaaaaaaaaaaaaaaaaaaaaaaaaaaaaaaaaaaaaaaaaaaaaaaaaaaaaaaaaaaaaaaaaaaaaaaaaaaaaaaaaaaaaaaaaaaaaaaaaaaaaaaaaaaaaaaaaaaaaaaaaaaaaaaaaaaaaaaaaaaaaaaaaaaaaaaaaaaaaaaaaaaaaaaaaaaaaaaaaaaaaaaaaaaaaaaaaaaaaaaaaaaaaaaaaaaaaaaaaaaaaaaaaaaaaaaaaaaaaaaaaaaaaaaaaaaaaaaaaaaaaaaaaaaaaaaaaaaaaaaaaaaaaaaaaaaaaaaaaaaaaaaaaaaaaaaaaaa";
-    for (word, stored, wanted, digests) in [
+    for &(word, stored, wanted, digests) in &[
         ("password", md5crypt, Ok(true), 1002),
         ("Password", md5crypt, Ok(false), 1002),
         ("password", "$1$xxxxxxxx", Ok(false), 1002),
@@ -44,27 +65,14 @@ fn passwords_that_match(rt: HostRuntime) -> Result<(), Fail> {
         ("x", "$7$J6..../....", Err("above ceiling"), 0),
         ("x", "$7$2/..../....a_b", Err("bad salt"), 0),
     ] {
-        let password = Password::new(word.as_bytes())?;
-        let mut meter = Meter::new();
-        let told = fits(rt.alloc(), &password, stored.as_bytes(), &mut meter);
-        assert_eq!(rt;
-            told.map_err(|fault| fault.text()),
-            wanted,
-            "{word} and {stored}"
-        );
-        let work = counts(&meter);
-        assert_eq!(rt;
-            (work[0], work == [0; 5]),
-            (digests, digests == 0),
-            "{stored}"
-        );
+        want_fit(&rt, rt.alloc(), (word, stored), wanted, digests)?;
     }
     Ok(())
 }
 
 #[test]
 fn fields_of_password_files(rt: HostRuntime) {
-    for (field, wanted) in [
+    for &(field, wanted) in &[
         ("", "empty"),
         ("!", "locked"),
         ("!$1$a b", "locked"),
@@ -78,6 +86,6 @@ fn fields_of_password_files(rt: HostRuntime) {
             Ok(StoredField::Hash(_)) => "a hash",
             Err(fault) => fault.text(),
         };
-        assert_eq!(rt; told, wanted, "{field}");
+        want(&rt, told, wanted, field);
     }
 }
