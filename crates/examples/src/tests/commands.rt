@@ -1,4 +1,4 @@
-//! Whole commands: the plan of the arguments, and then the run that it names, over memory.
+//! Whole commands, over memory.
 
 ghost use Rattle.std.specs.Prelude.{◌^◌, ◌≤◌};
 
@@ -61,9 +61,8 @@ pub fn left_by(alloc: Global, words: &[&str], input: &[u8]) -> Result<Left, Fail
 impl Left {
     /// Asserts the status and what both outputs have.
     pub fn want(&self, rt: &impl Abort, what: &str, status: u8, out: &str, faults: &str) {
-        want(rt, self.status, status, what);
-        want(rt, self.out.as_slice(), out.as_bytes(), what);
-        want(rt, self.faults.as_slice(), faults.as_bytes(), what);
+        let told = (self.status, self.out.as_slice(), self.faults.as_slice());
+        want(rt, told, (status, out.as_bytes(), faults.as_bytes()), what);
     }
 
     /// Asserts that the first line was refused with this message, and nothing else was done.
@@ -77,6 +76,7 @@ impl Left {
 // The arguments of a command and its input, and then the status, the output and the messages that it leaves.
 type Row<'a> = (&'a [&'a str], &'a str, u8, &'a str, &'a str);
 
+// Asserts what each row's command leaves.
 fn want_all(rt: &impl Abort, alloc: Global, rows: &[Row]) -> Result<(), Fail> {
     for &(words, input, status, out, faults) in rows {
         let left = left_by(alloc, words, input.as_bytes())?;
@@ -294,7 +294,7 @@ fn lines_to_check(rt: HostRuntime) -> Result<(), Fail> {
 // A line over budget is not hashed.
 #[test]
 fn budgets(rt: HostRuntime) -> Result<(), Fail> {
-    const ANN: &str = "ann:$1$xxxxxxxx$UYCIxa628.9qXjpQCjM4a.:password";
+    const ANN_LINE: &str = "ann:$1$xxxxxxxx$UYCIxa628.9qXjpQCjM4a.:password";
     const S: &str = "s:$7$2/..../....$rNxJWVHNv/mCNcgE/f6/L4zO6Fos5c2uTzhyzoisI62:";
     const Z: &str = "z:$7$86....E....NaCl$xffjQo7Bm/.SKRS4B2EuynbOLjAmXU5AbDbRXhoBl64:password";
     const WRONG: &str = "z:$7$86....E....NaCl$xffjQo7Bm/.SKRS4B2EuynbOLjAmXU5AbDbRXhoBl64:Password";
@@ -305,8 +305,8 @@ fn budgets(rt: HostRuntime) -> Result<(), Fail> {
         "--check", "--rehash", "--work", "-m", "md5crypt", "-S", "xxxxxxxx", "--budget", "33693235",
     ];
     let rows: &[(&[&str], &str, u8, &str)] = &[
-        (&["--check", "--budget", "36238"], ANN, 1, ""),
-        (&["--check", "--budget", "36239"], ANN, 0, "ann:ok\n"),
+        (&["--check", "--budget", "36238"], ANN_LINE, 1, ""),
+        (&["--check", "--budget", "36239"], ANN_LINE, 0, "ann:ok\n"),
         (&["--check", "--budget", "5043"], S, 1, ""),
         (&["--check", "--budget", "5044"], S, 0, "s:ok\n"),
         (&["--check", "--budget", "0"], "b:!:x", 0, "b:locked\n"),

@@ -41,7 +41,7 @@ fn packed_digests(rt: HostRuntime) -> Result<(), Fail> {
     ] {
         let mut digest = Vec::new(rt.alloc());
         for n in 0..length as u8 {
-            digest.push(n * step)?;
+            digest.push(n.wrapping_mul(step))?;
         }
         assert!(rt; digest.len() == length);
         let known = matches!(
