@@ -164,7 +164,7 @@ subtest 'administration' => sub {
     spew("$folder/list", "eve:guess\neve:password\r\nbob:x\nzoe:x\nann:word\nnobody:x\n");
     like($recipe->('known passwords')->{err}, qr/line 4: over budget\n.*: 1 lines of list have no account/, 'a hostile hash in a list');
     is($recipe->('known passwords')->{out}, "eve:ok\n", 'who still has a password of a list');
-    spew("$folder/list", ":password\n");
+    spew("$folder/list", "password\n");
     is($recipe->('known passwords')->{out}, "ann:ok\neve:ok\nkim:ok\n", 'who has one password') or diag($recipe->('known passwords')->{out});
 
     spew("$folder/list", "ann:guess\nann:password\nbob:password\neve:guess\nkim:password\nzoe:password\nnobody:password\n");
@@ -173,7 +173,7 @@ subtest 'administration' => sub {
     is($line_of->($_), "$_:$fields{$_}$aged", "$_ keeps the field") for qw(bob eve kim zoe);
 
     $accounts->(%fields, amy => '', joe => '!', max => "!!$costly", sam => '$7$C6....../..ab$x', tom => '$y$j9T$ab$x');
-    my $states = join '|', 'ann +sha256crypt +1000 +outdated', 'amy +none', 'sam +malformed above ceiling', 'zoe +sha512crypt +999999999 +over budget';
+    my $states = join '|', 'ann +sha256crypt +1000 +outdated', 'amy +no password', 'sam +malformed above ceiling', 'zoe +sha512crypt +999999999 +over budget';
     is(() = ($recipe->('audits')->{out} =~ /^(?:$states|kim +sha512crypt +656000 +current|tom +yescrypt +unknown)$/mg), 6, 'what each hash is like');
     my $mailed = $recipe->('audit by cron', language => 'text')->{out};
     ok((() = $mailed =~ /^(?:$states)$/mg) == 4 && $mailed !~ /^(?:kim|tom|joe|max)/m, 'cron mails which need care');
