@@ -461,10 +461,10 @@ def test_limit_of_processes(place):
     """It doesn't wait for ever where no process can be started."""
     if os.getuid():
         missing("only the superuser can become somebody without processes")
-    def nobody(most):
+    def nobody(most):      # whom no other process is counted for
         resource.setrlimit(resource.RLIMIT_NPROC, (most, most))
         os.setgid(65534)
-        os.setuid(65534)
+        os.setuid(60000 + os.getpid() % 5000)
     seen = [run("file", *QUICK, stdin=b"ann:x\nbob:y\n", preexec_fn=lambda: nobody(most))[0] for most in range(1, 9)]
     assert set(seen) == {0, 3} and seen[0] == 3
 
@@ -484,15 +484,20 @@ def test_inherited_state(place):
 
 def test_progress(place):
     """In place on the terminal, even if both outputs go elsewhere; the way to resume too."""
-    save("lines", b"".join(b"user%d:x\n" % n for n in range(1500)))
+    save("lines", b"".join(b"user%d:x\n" % n for n in range(5000)))
     child, terminal = pty.fork()
     if not child:
         os.execv("/bin/sh", ["sh", "-c", "exec bin/pwhash file -R 20k -m sha512crypt lines -o out > log 2> refused"])
     shown = b""
-    while b"left" not in shown:
-        shown += os.read(terminal, 1000)
+    def read_until(word):
+        nonlocal shown
+        while word not in shown:
+            try:
+                shown += os.read(terminal, 1000)
+            except OSError:      # it has ended
+                pytest.fail(f"{shown} {pathlib.Path('refused').read_bytes()}")
+    read_until(b"left")
     os.kill(child, signal.SIGINT)
-    while b"--resume" not in shown:
-        shown += os.read(terminal, 1000)
+    read_until(b"--resume")
     os.waitpid(child, 0)
-    assert b" of 1,500 lines" in shown and b" %" in shown and b"%" not in pathlib.Path("refused").read_bytes()
+    assert b" of 5,000 lines" in shown and b" %" in shown and b"%" not in pathlib.Path("refused").read_bytes()
