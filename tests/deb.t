@@ -127,11 +127,11 @@ for my $suite (@suites) {
     subtest $suite => sub {
         my $place = "$scratch/$suite";
         output_of('cp', '-R', "$scratch/debs", "$place/debs");
-        my $apt = 'apt-get -q -y --no-install-recommends';
+        # Without its cache, which apt takes for true for a second after dpkg has changed something.
+        my $apt = 'apt-get -q -y --no-install-recommends -o Dir::Cache::pkgcache=';
         my $older = changed($place, 'mkpasswd', 'older', $as_before);
         my $newer = changed($place, 'mkpasswd-default', 'newer', 'sed -i "s/^Version: .*/&.1/" control');
         my $broken = changed($place, 'mkpasswd-default', 'broken', 'echo "exit 1" >> preinst');
-        # NEWS already speaks of the next version.
         my $lintian = 'lintian --pedantic --info --fail-on error,warning';
         works($place, "$lintian /debs/*.deb", 'lintian has no error and no warning') if $suite eq $suites[0];
         # Whose the three files are that whois has too, how many of whois' stand aside, and how many are diverted.
